@@ -1,0 +1,59 @@
+//! Packets as they arrive.
+ghost use Rattle.std.specs.Prelude.{◌≡◌, ◌++◌, ◌∷◌, [], length, OnOk, OnErr};
+
+use gal_io::{Bytes, NoMemory};
+use std::alloc::Global;
+use std::marker::Model;
+
+/// A packet: the port by which it arrives, and its bytes.
+#[derive(Debug, Drop)]
+pub struct Packet {
+    pub port: u8,
+    pub bytes: Bytes,
+}
+
+/// A list of packets, in order of arrival.
+#[derive(Debug, Drop)]
+pub struct Packets {
+    items: Vec<Packet>,
+}
+
+impl Model for Packets {
+    ghost use Rattle.std.specs.Prelude.{List};
+    ghost use Rattle.packet_fields.specs.declared.packet.Packet.{Packet};
+
+    ghost Value = { List Packet };
+
+    ghost view = { λ packets. packets.items.items };
+}
+
+impl Packets {
+    pub fn new(alloc: Global) -> Packets
+        ensures { result ≡ [] }
+    {
+        Packets {
+            items: Vec::new(alloc),
+        }
+    }
+
+    pub fn as_slice(&self) -> &[Packet]
+        ensures { result.now ≡ self.now }
+    {
+        self.items.as_slice()
+    }
+
+    pub fn len(&self) -> usize
+        ensures { result ≡ length self.now }
+    {
+        self.items.len()
+    }
+
+    /// Puts a packet last.
+    pub fn push(&mut self, packet: Packet) -> Result<(), NoMemory>
+        ensures ok { OnOk result (self.new ≡ self.old ++ packet ∷ []) }
+        ensures err { OnErr result (self.new ≡ self.old) }
+    {
+        self.items.push(packet)?;
+        Ok(())
+    }
+}

@@ -1,0 +1,12 @@
+//! What becomes of a packet.
+
+use gal_io::Bytes;
+
+/// What a middlebox does with a packet.
+#[derive(Debug, Drop)]
+pub enum Verdict {
+    /// The packet goes no further.
+    Drop,
+    /// These bytes leave by this port.
+    Send(u8, Bytes),
+}
