@@ -1,0 +1,77 @@
+-- The text of a report.
+use Rattle.std.specs.Prelude.{ℕ, suc, Bool, true, false, List, [], ◌∷◌, ◌++◌, length, codes, decimal}
+use Rattle.hex.specs.Hex.{encode_lower}
+use Rattle.packet_fields.specs.declared.verdict.Verdict.{Verdict}
+use Rattle.packet_fields.specs.declared.verdict.Verdict.TheVariants.{Drop, Send}
+use Rattle.run_text.specs.declared.fate.Fate.{Fate}
+use Rattle.run_text.specs.declared.fate.Fate.TheVariants.{Up, Held, Slow, Fast}
+use Rattle.run_text.specs.declared.run.Run.{Run}
+
+-- every line ends with LF
+abbrev pub line_end : List ℕ
+line_end = 10 ∷ []
+
+-- the bytes of a packet in lower-case hexadecimal digits, or `-` for none
+abbrev pub body_text : List ℕ → List ℕ
+body_text [] = codes "-"
+body_text (b ∷ bs) = encode_lower (b ∷ bs)
+
+abbrev pub verdict_text : Verdict → List ℕ
+verdict_text Drop = codes "drop"
+verdict_text (Send port bytes) = codes "send " ++ (decimal port ++ (codes " " ++ body_text bytes))
+
+-- how a packet was decided
+abbrev pub decided_text : List ℕ → ℕ → ℕ → ℕ → List ℕ
+decided_text path admitted decided version =
+    path ++ (codes " admitted " ++ (decimal admitted ++ (codes " decided " ++ (decimal decided ++ (codes " version " ++ decimal version)))))
+
+-- how it was released
+abbrev pub released_text : ℕ → Verdict → List ℕ
+released_text released verdict = codes " released " ++ (decimal released ++ (codes " " ++ verdict_text verdict))
+
+abbrev pub fate_text : Fate → List ℕ
+fate_text (Up admitted) = codes "up admitted " ++ decimal admitted
+fate_text (Held admitted decided version) = decided_text (codes "slow") admitted decided version ++ codes " held"
+fate_text (Slow admitted decided version released verdict) = decided_text (codes "slow") admitted decided version ++ released_text released verdict
+fate_text (Fast admitted decided version released verdict) = decided_text (codes "fast") admitted decided version ++ released_text released verdict
+
+abbrev pub fate_line : ℕ → Fate → List ℕ
+fate_line number fate = codes "packet " ++ (decimal number ++ (codes " " ++ (fate_text fate ++ line_end)))
+
+-- the lines of the packets from this number on
+abbrev pub fate_lines : ℕ → List Fate → List ℕ
+fate_lines number [] = []
+fate_lines number (f ∷ fs) = fate_line number f ++ fate_lines (suc number) fs
+
+-- each number after a space
+abbrev pub numbers_text : List ℕ → List ℕ
+numbers_text [] = []
+numbers_text (n ∷ ns) = codes " " ++ (decimal n ++ numbers_text ns)
+
+abbrev pub order_text : List ℕ → List ℕ
+order_text [] = codes " -"
+order_text (n ∷ ns) = numbers_text (n ∷ ns)
+
+abbrev pub order_line : List ℕ → List ℕ
+order_line order = codes "order" ++ (order_text order ++ line_end)
+
+abbrev pub packets_line : Run → List ℕ
+packets_line run =
+    codes "packets " ++ (decimal run.total ++ (codes " admitted " ++ (decimal (length run.fates)
+    ++ (codes " decided " ++ (decimal run.decided ++ (codes " released " ++ (decimal run.released ++ line_end)))))))
+
+abbrev pub events_line : Run → List ℕ
+events_line run = codes "events " ++ (decimal run.events ++ (codes " idle " ++ (decimal run.idle ++ line_end)))
+
+abbrev pub version_line : Run → List ℕ
+version_line run = codes "version " ++ (decimal run.version ++ (codes " visible " ++ (decimal run.visible ++ line_end)))
+
+abbrev pub drained_line : Bool → List ℕ
+drained_line true = codes "drained yes" ++ line_end
+drained_line false = codes "drained no" ++ line_end
+
+-- the whole report
+abbrev pub report_of : Run → List ℕ
+report_of run =
+    (codes "report 1" ++ line_end) ++ (packets_line run ++ (events_line run ++ (version_line run ++ (drained_line run.drained
+    ++ (fate_lines 0 run.fates ++ (order_line run.order ++ (codes "end" ++ line_end)))))))

@@ -1,0 +1,93 @@
+-- The text of a trace, and of a schedule: which values a text spells, or why it is refused.
+use Rattle.std.specs.Prelude.{ℕ, suc, ◌+◌, ◌-◌, ◌^◌, Bool, true, false, List, [], ◌∷◌, length, nat_le, ◌==◌, if◌then◌else◌, Option, Some, None, Result, Ok, Err, codes}
+use Rattle.std.specs.Str.{bytes_eq}
+use Rattle.std.specs.List.{before_first, after_first, list_any}
+use Rattle.hex.specs.Hex.{decode_of}
+use Rattle.hex.specs.declared.error.FromHexError.{FromHexError}
+use Rattle.gal_io.specs.Lines.{lines, is_skipped}
+use Rattle.gal_io.specs.Number.{number_up_to}
+use Rattle.packet_fields.specs.declared.packet.Packet.{Packet}
+use Rattle.run_text.specs.declared.event.Event.{Event}
+use Rattle.run_text.specs.declared.event.Event.TheVariants.{Admit, Serve, Hold, Down}
+use Rattle.run_text.specs.declared.refusal.LineKind.{LineKind}
+use Rattle.run_text.specs.declared.refusal.LineKind.TheVariants.{Form, Number, Hex, Long}
+use Rattle.run_text.specs.declared.refusal.LinesError.{LinesError}
+use Rattle.run_text.specs.declared.refusal.LinesError.TheVariants.{Line, TooMany}
+use Rattle.run_text.specs.declared.TheConstants.{MAX_PACKETS, MAX_PACKET_BYTES, MAX_EVENTS}
+
+-- a value in front of those of the lines behind
+abbrev pub in_front : {X : Type 0} → X → Result (List X) LinesError → Result (List X) LinesError
+in_front x (Ok xs) = Ok (x ∷ xs)
+in_front x (Err e) = Err e
+
+-- what a line gives, in front of what the lines behind it give; a refused line comes before any behind it
+abbrev pub with_line : {X : Type 0} → ℕ → Result X LineKind → Result (List X) LinesError → Result (List X) LinesError
+with_line n (Ok x) behind = in_front x behind
+with_line n (Err kind) behind = Err (Line n kind)
+
+-- the values of lines that are numbered from n on, one for each line that isn't skipped, or the first refused line
+abbrev pub line_values : {X : Type 0} → (List ℕ → Result X LineKind) → ℕ → List (List ℕ) → Result (List X) LinesError
+line_values value n [] = Ok []
+line_values value n (l ∷ ls) =
+    if is_skipped l then line_values value (suc n) ls else with_line n (value l) (line_values value (suc n) ls)
+
+-- at most so many values; their number is tested where no line is refused
+abbrev pub at_most : {X : Type 0} → ℕ → Result (List X) LinesError → Result (List X) LinesError
+at_most most (Ok xs) = if nat_le (length xs) most then Ok xs else Err (TooMany (length xs) most)
+at_most most (Err e) = Err e
+
+-- the bytes that the body of a line spells: `-` for none, or pairs of hexadecimal digits
+abbrev pub body_bytes : Result (List ℕ) FromHexError → Result (List ℕ) LineKind
+body_bytes (Ok bytes) = if nat_le (length bytes) MAX_PACKET_BYTES then Ok bytes else Err Long
+body_bytes (Err e) = Err Hex
+
+abbrev pub body_of : List ℕ → Result (List ℕ) LineKind
+body_of [] = Err Hex
+body_of (b ∷ bs) = if bytes_eq (b ∷ bs) (codes "-") then Ok [] else body_bytes (decode_of (b ∷ bs))
+
+abbrev pub packet_with : ℕ → Result (List ℕ) LineKind → Result Packet LineKind
+packet_with port (Ok bytes) = Ok (record { port = port; bytes = bytes })
+packet_with port (Err kind) = Err kind
+
+abbrev pub packet_by : Option ℕ → List ℕ → Result Packet LineKind
+packet_by None body = Err Number
+packet_by (Some port) body = packet_with port (body_of body)
+
+abbrev pub is_space : ℕ → Bool
+is_space b = b == 32
+
+-- A line of a trace is a port, a space and a body. The first space divides.
+abbrev pub packet_line : List ℕ → Result Packet LineKind
+packet_line line =
+    if list_any is_space line then packet_by (number_up_to 255 (before_first is_space line)) (after_first is_space line)
+    else Err Form
+
+-- the packets that the text of a trace spells
+abbrev pub trace_of : List ℕ → Result (List Packet) LinesError
+trace_of text = at_most MAX_PACKETS (line_values packet_line 1 (lines text))
+
+abbrev pub numbered : (ℕ → Event) → Option ℕ → Result Event LineKind
+numbered event None = Err Number
+numbered event (Some j) = Ok (event j)
+
+-- the largest number of an item
+abbrev pub largest : ℕ
+largest = 2 ^ 32 - 1
+
+-- a space and a number below 2 ^ 32 behind the first letter
+abbrev pub item_line : (ℕ → Event) → List ℕ → Result Event LineKind
+item_line event line = if list_any is_space line then numbered event (number_up_to largest (after_first is_space line)) else Err Form
+
+-- A line of a schedule is `a`, or one of `u`, `h` and `d`, a space and a number below 2 ^ 32.
+abbrev pub event_line : List ℕ → Result Event LineKind
+event_line line =
+    let letter = before_first is_space line in
+    if bytes_eq line (codes "a") then Ok Admit
+    else (if bytes_eq letter (codes "u") then item_line Serve line
+    else (if bytes_eq letter (codes "h") then item_line Hold line
+    else (if bytes_eq letter (codes "d") then item_line Down line
+    else Err Form)))
+
+-- the events that the text of a schedule spells
+abbrev pub schedule_of : List ℕ → Result (List Event) LinesError
+schedule_of text = at_most MAX_EVENTS (line_values event_line 1 (lines text))

@@ -1,0 +1,66 @@
+//! What a report says of each packet.
+ghost use Rattle.std.specs.Prelude.{◌≡◌};
+
+use packet_fields::Verdict;
+use std::marker::Model;
+
+/// How far an admitted packet has come. `admitted`, `decided` and `released` are the numbers of events, counted from 1, and
+/// `version` is the version of the switch's tables that the decision belongs to.
+#[derive(Debug, Drop)]
+pub enum Fate {
+    /// It is on its way up to the server.
+    Up { admitted: u32 },
+    /// The server ran it, and it isn't released yet.
+    Held {
+        admitted: u32,
+        decided: u32,
+        version: u32,
+    },
+    /// The server ran it, and it was released.
+    Slow {
+        admitted: u32,
+        decided: u32,
+        version: u32,
+        released: u32,
+        verdict: Verdict,
+    },
+    /// The switch finished it without the server.
+    Fast {
+        admitted: u32,
+        decided: u32,
+        version: u32,
+        released: u32,
+        verdict: Verdict,
+    },
+}
+
+/// The fates of the admitted packets, by number.
+#[derive(Debug, Drop)]
+pub struct Fates {
+    items: Vec<Fate>,
+}
+
+impl Model for Fates {
+    ghost use Rattle.std.specs.Prelude.{List};
+    ghost use Rattle.run_text.specs.declared.fate.Fate.{Fate};
+
+    ghost Value = { List Fate };
+
+    ghost view = { λ fates. fates.items.items };
+}
+
+impl Fates {
+    pub fn as_slice(&self) -> &[Fate]
+        ensures { result.now ≡ self.now }
+    {
+        self.items.as_slice()
+    }
+}
+
+impl From<Vec<Fate>> for Fates {
+    ghost from_gives = { λ items fates. fates ≡ items.items };
+
+    fn from(items: Vec<Fate>) -> Fates {
+        Fates { items }
+    }
+}

@@ -1,0 +1,13 @@
+//! The texts of a replay: the trace of packets, the schedule of events, and the report of a run.
+#![tactic(auto)]
+
+mod event;
+mod fate;
+mod order;
+mod refusal;
+mod run;
+
+pub use event::{Event, Events};
+pub use fate::{Fate, Fates};
+pub use refusal::{LineKind, LinesError, MAX_EVENTS, MAX_PACKET_BYTES, MAX_PACKETS};
+pub use run::{Order, Run};

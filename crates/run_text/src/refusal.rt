@@ -1,0 +1,39 @@
+//! Why the text of a trace or a schedule is refused.
+
+use thiserror::Error;
+
+/// The most packets of a trace.
+pub const MAX_PACKETS: usize = 16_384;
+
+/// The most bytes of a packet.
+pub const MAX_PACKET_BYTES: usize = 9_216;
+
+/// The most events of a schedule.
+pub const MAX_EVENTS: usize = 1_048_576;
+
+/// What is wrong with a line: the first of these that holds.
+#[derive(Clone, Copy, Debug, PartialEq, Eq)]
+pub enum LineKind {
+    /// It hasn't the parts of a line.
+    Form,
+    /// Its number isn't a decimal in range.
+    Number,
+    /// Its body isn't `-` or pairs of hexadecimal digits.
+    Hex,
+    /// Its packet has more than 9,216 bytes.
+    Long,
+}
+
+/// Why a text of lines is refused.
+#[derive(Clone, Copy, Debug, PartialEq, Eq, Error)]
+pub enum LinesError {
+    /// The first line that is outside the grammar. Lines count from 1, skipped ones too.
+    #[error("line {number} is refused")]
+    Line { number: usize, kind: LineKind },
+    /// All lines are in the grammar, and there are too many values.
+    #[error("have {have}, allowed {allowed}")]
+    TooMany { have: usize, allowed: usize },
+    /// No memory was found.
+    #[error("no memory")]
+    NoMemory,
+}
