@@ -1,5 +1,5 @@
 //! Packets as they arrive.
-ghost use Rattle.std.specs.Prelude.{◌≡◌, ◌++◌, ◌∷◌, [], length, OnOk, OnErr};
+ghost use Rattle.std.specs.Prelude.{◌≡◌, ◌↔◌, ◌++◌, ◌∷◌, [], length, IfOk, IsTrue, OnOk, OnErr};
 
 use gal_io::{Bytes, NoMemory};
 use std::alloc::Global;
@@ -10,6 +10,19 @@ use std::marker::Model;
 pub struct Packet {
     pub port: u8,
     pub bytes: Bytes,
+}
+
+impl Packet {
+    /// Another packet with the same port and bytes.
+    pub fn copy(&self, alloc: Global) -> Result<Self, NoMemory>
+        ensures { IfOk result (λ made. made ≡ self.now) }
+    {
+        let bytes = self.bytes.copy(alloc)?;
+        Ok(Packet {
+            port: self.port,
+            bytes,
+        })
+    }
 }
 
 /// A list of packets, in order of arrival.
@@ -46,6 +59,23 @@ impl Packets {
         ensures { result ≡ length self.now }
     {
         self.items.len()
+    }
+
+    pub fn is_empty(&self) -> bool
+        ensures { IsTrue result ↔ (self.now ≡ []) }
+    {
+        self.items.is_empty()
+    }
+
+    /// Another list of the same packets.
+    pub fn copy(&self, alloc: Global) -> Result<Self, NoMemory>
+        ensures { IfOk result (λ made. made ≡ self.now) }
+    {
+        let mut packets = Packets::new(alloc);
+        for packet in &self.items {
+            packets.push(packet.copy(alloc)?)?;
+        }
+        Ok(packets)
     }
 
     /// Puts a packet last.

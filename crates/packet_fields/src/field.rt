@@ -1,0 +1,148 @@
+//! The fields of a packet, from one table.
+ghost use Rattle.std.specs.Prelude.{◌≡◌, ◌≢◌, MatchOption, Some};
+ghost use Rattle.packet_fields.specs.declared.field.Field.{Field};
+ghost use Rattle.packet_fields.specs.Table.{row, field_named};
+
+/// A header of a packet.
+#[derive(Clone, Copy, Debug, PartialEq, Eq)]
+pub enum Header {
+    /// No header: what is known of the packet besides its bytes.
+    Meta,
+    /// The MAC addresses and the type of an Ethernet frame (IEEE 802.3).
+    Ethernet,
+    /// IPv4 (RFC 791).
+    Ip,
+    /// TCP (RFC 9293).
+    Tcp,
+    /// UDP (RFC 768).
+    Udp,
+}
+
+/// A field of a packet. The variants stand in field order.
+#[derive(Clone, Copy, Debug, PartialEq, Eq)]
+pub enum Field {
+    /// The port by which the packet arrived.
+    MetaPort,
+    /// How many bytes the packet has.
+    MetaLen,
+    /// 1 where the packet has an IPv4 header, else 0.
+    HasIp,
+    /// 1 where the packet has a TCP header, else 0.
+    HasTcp,
+    /// 1 where the packet has a UDP header, else 0.
+    HasUdp,
+    EthDst,
+    EthSrc,
+    EthType,
+    IpVersion,
+    /// The length of the IPv4 header, in words of 4 bytes.
+    IpIhl,
+    IpTos,
+    IpLen,
+    IpId,
+    /// The three flag bits in front of the fragment offset.
+    IpFlags,
+    /// The fragment offset, in units of 8 bytes.
+    IpFrag,
+    IpTtl,
+    IpProto,
+    IpSum,
+    IpSrc,
+    IpDst,
+    TcpSport,
+    TcpDport,
+    TcpSeq,
+    TcpAck,
+    /// The data offset, in words of 4 bytes.
+    TcpOff,
+    /// The four bits behind the data offset.
+    TcpRes,
+    TcpFlags,
+    TcpWin,
+    TcpSum,
+    TcpUrg,
+    UdpSport,
+    UdpDport,
+    UdpLen,
+    UdpSum,
+}
+
+// Hands the table to the macro `then`, behind what is given. A row has a field, its name, the header that it stands in,
+// its first bit there (counted from the highest bit of the header's first byte), how many bits it has, and whether it
+// may be written.
+macro_rules! field_table {
+    ($then:ident $($given:tt)*) => {
+        $then! {
+            [$($given)*]
+            MetaPort "meta.port" Meta 0 8 false,
+            MetaLen "meta.len" Meta 0 16 false,
+            HasIp "has.ip" Meta 0 1 false,
+            HasTcp "has.tcp" Meta 0 1 false,
+            HasUdp "has.udp" Meta 0 1 false,
+            EthDst "eth.dst" Ethernet 0 48 true,
+            EthSrc "eth.src" Ethernet 48 48 true,
+            EthType "eth.type" Ethernet 96 16 false,
+            IpVersion "ip.version" Ip 0 4 false,
+            IpIhl "ip.ihl" Ip 4 4 false,
+            IpTos "ip.tos" Ip 8 8 true,
+            IpLen "ip.len" Ip 16 16 true,
+            IpId "ip.id" Ip 32 16 true,
+            IpFlags "ip.flags" Ip 48 3 true,
+            IpFrag "ip.frag" Ip 51 13 false,
+            IpTtl "ip.ttl" Ip 64 8 true,
+            IpProto "ip.proto" Ip 72 8 false,
+            IpSum "ip.sum" Ip 80 16 true,
+            IpSrc "ip.src" Ip 96 32 true,
+            IpDst "ip.dst" Ip 128 32 true,
+            TcpSport "tcp.sport" Tcp 0 16 true,
+            TcpDport "tcp.dport" Tcp 16 16 true,
+            TcpSeq "tcp.seq" Tcp 32 32 true,
+            TcpAck "tcp.ack" Tcp 64 32 true,
+            TcpOff "tcp.off" Tcp 96 4 true,
+            TcpRes "tcp.res" Tcp 100 4 true,
+            TcpFlags "tcp.flags" Tcp 104 8 true,
+            TcpWin "tcp.win" Tcp 112 16 true,
+            TcpSum "tcp.sum" Tcp 128 16 true,
+            TcpUrg "tcp.urg" Tcp 144 16 true,
+            UdpSport "udp.sport" Udp 0 16 true,
+            UdpDport "udp.dport" Udp 16 16 true,
+            UdpLen "udp.len" Udp 32 16 true,
+            UdpSum "udp.sum" Udp 48 16 true,
+        }
+    };
+}
+
+macro_rules! all {
+    ([] $($name:ident $text:literal $header:ident $at:literal $width:literal $writable:literal,)*) => {
+        [$(Field::$name),*]
+    };
+}
+
+macro_rules! name {
+    ([$field:ident] $($name:ident $text:literal $header:ident $at:literal $width:literal $writable:literal,)*) => {
+        match $field {
+            $(Field::$name => $text,)*
+        }
+    };
+}
+
+/// All fields, in field order.
+pub const FIELDS: [Field; 34] = field_table!(all);
+
+/// The name of the field in sources and listings.
+pub fn field_name(field: Field) -> &'static str
+    ensures { result.now ≡ (row field).name }
+{
+    field_table!(name field)
+}
+
+/// The field of that name, if there is one.
+#[tactic(auto, unfolding(crate::specs::Table::all_fields))]
+pub fn field_of(name: &[u8]) -> Option<Field>
+    ensures named { result ≡ field_named name.now }
+{
+    FIELDS
+        .iter()
+        .copied()
+        .find(|field| field_name(*field).as_bytes() == name)
+}
