@@ -1,7 +1,7 @@
 -- Which texts are sources, and of which middlebox.
 use Rattle.std.specs.Prelude.{ℕ, ◌+◌, ◌-◌, ◌≤◌, max, List, [], ◌∷◌, map, IsTrue, IsUtf8}
 use Rattle.element_lang.specs.declared.mark.Mark.TheVariants.{LeftParen, RightParen, LeftBracket, RightBracket, LeftBrace, RightBrace}
-use Rattle.element_lang.specs.declared.TheConstants.{MAX_DEPTH}
+use Rattle.element_lang.specs.declared.sizes.TheConstants.{MAX_DEPTH}
 use Rattle.element_lang.specs.Token.{Token, fixed, Placed, AreTokens}
 use Rattle.element_lang.specs.Tree.{Tree}
 use Rattle.element_lang.specs.Grammar.{Spells}

@@ -5,7 +5,7 @@ use Rattle.std.specs.Str.{bytes_eq}
 use Rattle.packet_fields.specs.declared.field.Field.{Field}
 use Rattle.packet_fields.specs.Table.{field_named}
 use Rattle.element_lang.specs.declared.mark.Mark.{Mark}
-use Rattle.element_lang.specs.declared.TheConstants.{KEYWORDS, SYMBOLS}
+use Rattle.element_lang.specs.declared.mark.TheConstants.{KEYWORDS, SYMBOLS}
 use Rattle.element_lang.specs.Mark.{spelling}
 
 pub data Token : Type 0 where

@@ -2,7 +2,9 @@
 #![tactic(auto)]
 
 mod mark;
+mod sizes;
 mod tree;
 
 pub use mark::{KEYWORDS, Mark, SYMBOLS};
+pub use sizes::MAX_DEPTH;
 pub use tree::{Body, Expr, Middlebox, Stmt};

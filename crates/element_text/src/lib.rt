@@ -1,0 +1,4 @@
+//! The reader of sources: tokens, then grammar, then rules.
+#![tactic(auto)]
+
+mod token;
