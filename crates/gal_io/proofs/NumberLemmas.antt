@@ -1,0 +1,64 @@
+-- The value of digits, and numbers as they are printed.
+use Rattle.std.proofs.Common.{◌≡◌, ℕ, zero, suc, ◌+◌, ◌*◌, ◌^◌, ◌≤◌, ◌<◌, Bool, true, false, cond, not, ◌&&◌, ◌||◌, eqb, leb, List, [], ◌∷◌, length, get_or, drop, Option, Some, None, option_and_then, drop-cons, refl, sym, ap, ◌∙◌, subst, lit<, arith, rules, tests}
+use Rattle.std.specs.Char.{digit_value}
+use Rattle.std.specs.Fmt.{decimal}
+use Rattle.std.specs.Str.{all_ascii_digits}
+use Rattle.std.specs.Str.Parse.{digits_value, digits_value_after}
+use Rattle.std.proofs.lemmas.Str.Parse.{IsNumeralModel, numerals_by_value, tells_all_ascii_digits}
+use Rattle.std.proofs.lemmas.Fmt.{decimal-digits_value, digits_decimal, digits_value-decimal, decimal_nonempty, first_decimal, decimal_digit}
+use Rattle.std.proofs.lemmas.Bool.Decides.{nat_tests}
+use Rattle.gal_io.specs.Number.{is_number, number_of, number_up_to}
+
+-- further digits make a number no less
+value_at_least : (value : ℕ) (digits : List ℕ) → value ≤ digits_value_after 10 value digits
+value_at_least value [] = omega arith
+value_at_least value (digit ∷ digits) = omega (arith, value_at_least (value * 10 + digit_value digit) digits)
+
+pub value_with_next : (value : ℕ) (digits : List ℕ) (at : ℕ) → at < length digits → value * 10 + digit_value (get_or digits at 0) ≤ digits_value_after 10 value (drop at digits)
+value_with_next value digits at inside = rw (drop-cons digits at 0) (value_at_least (value * 10 + digit_value (get_or digits at 0)) (drop (suc at) digits))
+
+own : IsNumeralModel (λ digits. all_ascii_digits digits ≡ true) (digits_value 10)
+own = numerals_by_value _ tells_all_ascii_digits
+
+-- what a number's text is, and what it isn't
+record Numeral (text : List ℕ) : Type 0 where
+  some : 0 < length text
+  digits : all_ascii_digits text ≡ true
+  unpadded : get_or text 0 0 ≡ 48 → length text ≡ 1
+
+is_numeral : (text : List ℕ) → is_number text ≡ true → Numeral text
+is_numeral [] h = cc
+is_numeral (first ∷ rest) h = record { some = omega arith; digits = grind (arith, nat_tests); unpadded = grind (arith, nat_tests) }
+
+numeral_is : (text : List ℕ) → Numeral text → is_number text ≡ true
+numeral_is [] h = absurd (omega (arith, h.some))
+numeral_is (first ∷ rest) h = grind (arith, nat_tests, h.digits, h.unpadded)
+
+decimal_unpadded : (number : ℕ) → number < 2 ^ 64 → get_or (decimal number) 0 0 ≡ 48 → length (decimal number) ≡ 1
+decimal_unpadded zero fits h = ap length (decimal_digit 0 (lit< tt))
+decimal_unpadded (suc before) fits h = absurd (omega (arith, first_decimal (suc before) (omega arith) fits, h))
+
+decimal_is_numeral : (number : ℕ) → number < 2 ^ 64 → Numeral (decimal number)
+decimal_is_numeral number fits = record {
+  some = decimal_nonempty number fits;
+  digits = digits_decimal own number fits;
+  unpadded = decimal_unpadded number fits;
+}
+
+found_in : (is : Bool) (value most number : ℕ) → option_and_then (λ number. cond (leb number most) (Some number) None) (cond is (Some value) None) ≡ Some number → (is ≡ true) × (value ≡ number)
+found_in true value most number h = grind (arith, nat_tests)
+found_in false value most number h = cc
+
+-- a number that is read is printed as it stood
+pub printed_again : (text : List ℕ) (most number : ℕ) → number_up_to most text ≡ Some number → number < 2 ^ 64 → text ≡ decimal number
+printed_again text most number h fits =
+    let found = found_in (is_number text) (digits_value 10 text) most number h in
+    let numeral = is_numeral text found.0 in
+    sym (ap decimal (sym found.1) ∙ decimal-digits_value own text numeral.digits numeral.some numeral.unpadded (omega (arith, found.1)))
+
+-- a number that is printed is read again
+pub read_again : (text : List ℕ) (most number : ℕ) → text ≡ decimal number → number ≤ most → most < 2 ^ 64 → number_up_to most text ≡ Some number
+read_again text most number h small fits =
+    let is : is_number (decimal number) ≡ true = numeral_is (decimal number) (decimal_is_numeral number (omega arith)) in
+    let value : digits_value 10 (decimal number) ≡ number = digits_value-decimal own number (omega arith) in
+    rw (h, is, value) (grind (arith, nat_tests))
