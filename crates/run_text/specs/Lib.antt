@@ -1,3 +1,4 @@
+pub mod Fate
 pub mod Trace
 pub mod Order
 pub mod Report

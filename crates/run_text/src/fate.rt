@@ -34,6 +34,24 @@ pub enum Fate {
     },
 }
 
+impl Fate {
+    ghost use Rattle.run_text.specs.Fate.{is_decided, is_released};
+
+    /// Whether its verdict stands.
+    pub fn is_decided(&self) -> bool
+        ensures { result ≡ is_decided self.now }
+    {
+        !matches!(self, Fate::Up { .. })
+    }
+
+    /// Whether its packet was released.
+    pub fn is_released(&self) -> bool
+        ensures { result ≡ is_released self.now }
+    {
+        matches!(self, Fate::Slow { .. } | Fate::Fast { .. })
+    }
+}
+
 /// The fates of the admitted packets, by number.
 #[derive(Debug, Drop)]
 pub struct Fates {
