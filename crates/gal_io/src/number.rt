@@ -1,0 +1,34 @@
+//! Numbers in a text.
+ghost use Rattle.std.specs.Prelude.{◌≡◌, ◌≤◌, ℕ, IsTrue, IfSome, Some};
+ghost use Rattle.std.specs.Option.{SomeIff};
+ghost use Rattle.std.specs.Str.{all_ascii_digits};
+ghost use Rattle.std.specs.Str.Parse.{digits_value};
+ghost use Rattle.gal_io.specs.Number.{number_up_to};
+
+// The value of digits, leading zeros or not, where it is at most `most`.
+#[tactic(auto, using(crate::proofs::NumberLemmas::value_with_next))]
+fn value_up_to(digits: &[u8], most: u64) -> Option<u64>
+    ensures { SomeIff result (IsTrue (all_ascii_digits digits.now) × (digits_value 10 digits.now ≤ most)) (digits_value 10 digits.now) }
+{
+    let mut value: u64 = 0;
+    for digit in digits {
+        if !digit.is_ascii_digit() {
+            return None;
+        }
+        value = value
+            .checked_mul(10)?
+            .checked_add(u64::from(*digit - b'0'))?;
+    }
+    (value <= most).then_some(value)
+}
+
+/// The number that the bytes write in decimal, where it is at most `most`. A sign, a blank, a zero in front of
+/// another digit or no byte at all makes no number.
+pub fn number_up_to(digits: &[u8], most: u64) -> Option<u64>
+    ensures { result ≡ number_up_to most digits.now }
+{
+    match digits {
+        [] | [b'0', _, ..] => None,
+        _ => value_up_to(digits, most),
+    }
+}
