@@ -1,6 +1,6 @@
 -- The serial order of a run.
 use Rattle.std.specs.Prelude.{ℕ, Bool, true, false, List, [], ◌∷◌, Option, Some, None, map, nat_lt, if◌then◌else◌, suc}
-use Rattle.run_text.specs.declared.order.Decided.{Decided}
+use Rattle.run_text.specs.declared.serial.Decided.{Decided}
 use Rattle.run_text.specs.declared.fate.Fate.{Fate}
 use Rattle.run_text.specs.declared.fate.Fate.TheVariants.{Up, Held, Slow, Fast}
 

@@ -9,7 +9,9 @@ use std::marker::Model;
 #[derive(Debug, Drop)]
 pub enum Fate {
     /// It is on its way up to the server.
-    Up { admitted: u32 },
+    Up {
+        admitted: u32,
+    },
     /// The server ran it, and it isn't released yet.
     Held {
         admitted: u32,

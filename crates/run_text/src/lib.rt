@@ -3,11 +3,12 @@
 
 mod event;
 mod fate;
-mod order;
 mod refusal;
 mod run;
+mod serial;
 
 pub use event::{Event, Events};
 pub use fate::{Fate, Fates};
 pub use refusal::{LineKind, LinesError, MAX_EVENTS, MAX_PACKET_BYTES, MAX_PACKETS};
 pub use run::{Order, Run};
+pub use serial::order;
