@@ -1,0 +1,114 @@
+-- When each refusal comes, and what each end leaves on out and err.
+use Rattle.std.specs.Prelude.{◌≡◌, ◌<◌, ◌≤◌, ◌⊎◌, ℕ, List, [], ◌∷◌, length, take, Option, Some, None, IfSome, Result, Ok, Err}
+use Rattle.std.specs.Io.KnownBytes.{append_known}
+use Rattle.gal_io.specs.Count.{Rose}
+use Rattle.gal_io.specs.Files.{FilesState}
+use Rattle.gal_io.specs.Sink.{SinkState, Writes}
+use Rattle.gal_io.specs.declared.sink.SinkEnd.{SinkEnd}
+use Rattle.gal_io.specs.declared.sink.SinkEnd.TheVariants as ends
+use Rattle.packet_fields.specs.declared.packet.Packet.{Packet}
+use Rattle.element_lang.specs.Tree.{Tree}
+use Rattle.element_lang.specs.Accepted.{IsSource}
+use Rattle.run_text.specs.declared.event.Event.{Event}
+use Rattle.run_text.specs.Trace.{trace_of, schedule_of}
+use Rattle.run_text.specs.Report.{report_of}
+use Rattle.schedule_replay.specs.Run.{job_run}
+use Rattle.gallium_cli.specs.declared.status.Status.{Status}
+use Rattle.gallium_cli.specs.declared.status.Status.TheVariants as statuses
+use Rattle.gallium_cli.specs.declared.refusal.Refusal.{Refusal}
+use Rattle.gallium_cli.specs.declared.refusal.Refusal.TheVariants.{Usage, Source, Trace, Schedule, TooLong, ReadFault, WriteFault, NoMemory}
+use Rattle.gallium_cli.specs.declared.load.TheConstants.{MAX_SOURCE, MAX_TEXT}
+use Rattle.gallium_cli.specs.Words.{Request, Replay}
+use Rattle.gallium_cli.specs.Lines.{status_of, line_of}
+
+-- what a file is read as
+pub data Role : Type 0 where
+  source : Role
+  trace : Role
+  schedule : Role
+
+-- the most bytes of such a file
+abbrev pub size_of : Role → ℕ
+size_of source = MAX_SOURCE
+size_of trace = MAX_TEXT
+size_of schedule = MAX_TEXT
+
+-- the text of such a file spells a value
+abbrev pub IsSpelled : Role → List ℕ → Type 0
+IsSpelled source text = (m : Tree) × IsSource text m
+IsSpelled trace text = (packets : List Packet) × (trace_of text ≡ Ok packets)
+IsSpelled schedule text = (events : List Event) × (schedule_of text ≡ Ok events)
+
+-- the files of a request by name, in the order in which they are dealt with
+abbrev pub files_of : Request → List (List ℕ × Role)
+files_of (Replay s t c) = (s, source) ∷ (t, trace) ∷ (c, schedule) ∷ []
+
+-- a text of this role is within its size and spells a value
+abbrev pub IsGood : Role → List ℕ → Type 0
+IsGood role text = (length text ≤ size_of role) × IsSpelled role text
+
+-- it is within its size and spells none
+abbrev pub IsBad : Role → List ℕ → Type 0
+IsBad role text = (length text ≤ size_of role) × ¬ (IsSpelled role text)
+
+-- Why a file is refused. What is said of its text is said where that is told.
+abbrev pub IsFileRefused : Refusal → Role → List ℕ → FilesState → FilesState → Type 0
+IsFileRefused Source source name f f' = IfSome (f.told name) (IsBad source)
+IsFileRefused Trace trace name f f' = IfSome (f.told name) (IsBad trace)
+IsFileRefused Schedule schedule name f f' = IfSome (f.told name) (IsBad schedule)
+IsFileRefused (TooLong blamed) role name f f' =
+    (blamed.now ≡ name) × IfSome (f.told name) (λ text. size_of role < length text) × (f'.overlong_name ≡ Some name) × Rose f.overlong f'.overlong
+IsFileRefused (ReadFault blamed) role name f f' = (blamed.now ≡ name) × (f'.fault_name ≡ Some name) × Rose f.faults f'.faults
+IsFileRefused NoMemory role name f f' = Unit {0}
+IsFileRefused _ role name f f' = ⊥
+
+-- the files before one are good, and that one is refused
+abbrev pub IsFirstRefused : Refusal → List (List ℕ × Role) → FilesState → FilesState → Type 0
+IsFirstRefused refusal [] f f' = ⊥
+IsFirstRefused refusal (file ∷ files) f f' =
+    IsFileRefused refusal file.1 file.0 f f' ⊎ (IfSome (f.told file.0) (IsGood file.1) × IsFirstRefused refusal files f f')
+
+-- the told contents spell this middlebox, these packets and these events, each within its size
+pub record IsJob (told : List ℕ → Option (List ℕ)) (s t c : List ℕ) (m : Tree) (packets : List Packet) (events : List Event) : Type 0 where
+  pub source : IfSome (told s) (λ text. (length text ≤ MAX_SOURCE) × IsSource text m)
+  pub trace : IfSome (told t) (λ text. (length text ≤ MAX_TEXT) × (trace_of text ≡ Ok packets))
+  pub schedule : IfSome (told c) (λ text. (length text ≤ MAX_TEXT) × (schedule_of text ≡ Ok events))
+
+-- a text that answers a request: the report of the run of the job that the files spell
+abbrev pub IsAnswer : List ℕ → Request → (List ℕ → Option (List ℕ)) → Type 0
+IsAnswer text (Replay s t c) told =
+    (m : Tree) × (packets : List Packet) × (events : List Event) × IsJob told s t c m packets events × (text ≡ report_of (job_run m packets events))
+
+-- the answer was taken whole by out
+abbrev pub IsDone : Option Request → FilesState → SinkState → SinkState → Type 0
+IsDone None f o o' = ⊥
+IsDone (Some request) f o o' = (text : List ℕ) × IsAnswer text request f.told × (o'.taken ≡ append_known o.taken text)
+
+-- Why an answer wasn't written: only some first bytes were taken, and the count of faults of out rose, or no memory was found.
+abbrev pub IsNotWritten : Refusal → Request → FilesState → SinkState → SinkState → Type 0
+IsNotWritten WriteFault request f o o' =
+    Rose o.faults o'.faults × (text : List ℕ) × IsAnswer text request f.told × (n : ℕ) × (o'.taken ≡ append_known o.taken (take n text))
+IsNotWritten NoMemory request f o o' = o'.taken ≡ o.taken
+IsNotWritten _ request f o o' = ⊥
+
+-- Why the words were refused, and what out then holds: what it held, but where a write failed.
+abbrev pub HasCause : Refusal → Option Request → FilesState → FilesState → SinkState → SinkState → Type 0
+HasCause refusal None f f' o o' = (refusal ≡ Usage) × (o'.taken ≡ o.taken)
+HasCause refusal (Some request) f f' o o' =
+    (IsFirstRefused refusal (files_of request) f f' × (o'.taken ≡ o.taken)) ⊎ IsNotWritten refusal request f o o'
+
+-- the status that is answered where the line of a refusal ends so
+abbrev pub after_line : Refusal → SinkEnd → Status
+after_line refusal ends.Done = status_of refusal
+after_line refusal ends.Failed = statuses.WriteFault
+after_line refusal ends.NoMemory = statuses.NoMemory
+
+-- what the line of a refusal leaves on err, and the status that is answered
+abbrev pub IsTold : Refusal → Status → SinkState → SinkState → Type 0
+IsTold refusal status e e' = (end : SinkEnd) × (status ≡ after_line refusal end) × Writes end (line_of refusal) e e'
+
+-- A whole call: it is done, and err is as before; or there is a refusal with its cause, and its line goes to err.
+abbrev pub Ends : Status → Option Request → FilesState → FilesState → SinkState → SinkState → SinkState → SinkState → Type 0
+Ends status request f f' o o' e e' =
+    ((status ≡ statuses.Done) × IsDone request f o o' × (e'.taken ≡ e.taken))
+    ⊎ ((refusal : Refusal) × HasCause refusal request f f' o o' × IsTold refusal status e e')

@@ -1,0 +1,15 @@
+-- The exit code of each status.
+use Rattle.std.specs.Prelude.{ℕ}
+use Rattle.gallium_cli.specs.declared.status.Status.{Status}
+use Rattle.gallium_cli.specs.declared.status.Status.TheVariants.{Done, Usage, Source, Trace, Schedule, TooLong, ReadFault, WriteFault, NoMemory}
+
+abbrev pub code_of : Status → ℕ
+code_of Done = 0
+code_of Usage = 2
+code_of Source = 3
+code_of Trace = 7
+code_of Schedule = 8
+code_of TooLong = 9
+code_of ReadFault = 10
+code_of WriteFault = 11
+code_of NoMemory = 13

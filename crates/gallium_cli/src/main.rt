@@ -1,0 +1,35 @@
+//! The program: reads a middlebox, a trace and a schedule, and writes the report of the replay.
+#![tactic(auto)]
+
+mod load;
+mod refusal;
+mod status;
+mod top;
+mod words;
+
+use gal_io::{HostFiles, HostSink};
+use std::process::ExitCode;
+use std::{env, io};
+
+/// The code where the words can't be had from the system for want of memory.
+const NO_MEMORY: u8 = 13;
+
+/// The code where the words can't be had for another cause. No status has it.
+const NO_WORDS: u8 = 18;
+
+fn main(rt: HostRuntime) -> ExitCode {
+    let alloc = rt.alloc();
+    let words = match env::args(&rt) {
+        Ok(words) => words.skip(1).collect::<Vec<String>>(alloc),
+        Err(error) if error.kind() == io::ErrorKind::OutOfMemory => return ExitCode::from(NO_MEMORY),
+        Err(_) => return ExitCode::from(NO_WORDS),
+    };
+    let Ok(words) = words else {
+        return ExitCode::from(NO_MEMORY);
+    };
+    let mut files = HostFiles::new(&rt);
+    let mut out = HostSink::new(rt.stdout());
+    let mut err = HostSink::new(rt.stderr());
+    let status = top::gallium(alloc, &words, &mut files, &mut out, &mut err);
+    ExitCode::from(status.code())
+}

@@ -1,0 +1,46 @@
+//! How the program ends.
+
+/// How a call of the program ends.
+#[derive(Clone, Copy, Debug, PartialEq, Eq)]
+pub enum Status {
+    /// The report was written.
+    Done,
+    /// The words have no known form.
+    Usage,
+    /// The source is refused.
+    Source,
+    /// The trace is refused.
+    Trace,
+    /// The schedule is refused.
+    Schedule,
+    /// A file has more bytes than its size allows.
+    TooLong,
+    /// A file can't be read.
+    ReadFault,
+    /// The report or a line can't be written.
+    WriteFault,
+    /// No memory was found.
+    NoMemory,
+}
+
+impl Status {
+    ghost use Rattle.std.specs.Prelude.{◌≡◌};
+    ghost use Rattle.gallium_cli.specs.Status.{code_of};
+
+    /// The exit code of the process.
+    pub fn code(&self) -> u8
+        ensures { result ≡ code_of self.now }
+    {
+        match self {
+            Status::Done => 0,
+            Status::Usage => 2,
+            Status::Source => 3,
+            Status::Trace => 7,
+            Status::Schedule => 8,
+            Status::TooLong => 9,
+            Status::ReadFault => 10,
+            Status::WriteFault => 11,
+            Status::NoMemory => 13,
+        }
+    }
+}

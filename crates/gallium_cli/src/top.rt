@@ -1,0 +1,129 @@
+//! The whole program.
+ghost use Rattle.std.specs.Prelude.{◌≡◌, ◌≤◌, Some, IsTrue, map, length, string_bytes, IfOk, IfErr, OnOk};
+ghost use Rattle.element_lang.specs.View.{tree};
+ghost use Rattle.element_lang.specs.Rules.{is_good};
+ghost use Rattle.run_text.specs.declared.refusal.TheConstants.{MAX_PACKETS, MAX_EVENTS};
+ghost use Rattle.run_text.specs.Report.{report_of};
+ghost use Rattle.schedule_replay.specs.Run.{job_run};
+ghost use Rattle.gallium_cli.specs.Words.{request_of, Replay};
+ghost use Rattle.gallium_cli.specs.Causes.{HasCause, IsDone, IsJob, IsFirstRefused, Ends, files_of};
+ghost use Rattle.gallium_cli.specs.Puts.{IsPut, IsNotPut};
+
+use crate::load::{load_schedule, load_source, load_trace};
+use crate::refusal::{Refusal, tell};
+use crate::status::Status;
+use crate::words::{Form, form_of};
+use gal_io::{Files, NoMemory, Sink, SinkEnd, Text};
+use run_text::print_run;
+use schedule_replay::{Job, replay};
+use std::alloc::Global;
+
+// Writes a text to out.
+fn put<O: Sink>(out: &mut O, text: &[u8]) -> Result<(), Refusal<'static>>
+    ensures ok { OnOk result (IsPut text.now (O.seen out.old) (O.seen out.new)) }
+    ensures err { IfErr result (λ refusal. IsNotPut refusal text.now (O.seen out.old) (O.seen out.new)) }
+{
+    match out.write(text) {
+        SinkEnd::Done => Ok(()),
+        SinkEnd::Failed => Err(Refusal::WriteFault),
+        SinkEnd::NoMemory => Err(Refusal::NoMemory),
+    }
+}
+
+// The job that three files spell.
+fn load_job<'a, F: Files>(
+    alloc: Global,
+    source: &'a str,
+    trace: &'a str,
+    schedule: &'a str,
+    files: &mut F,
+) -> Result<Job, Refusal<'a>>
+    ensures ok { IfOk result (λ job. IsJob (F.seen files.old).told source.now trace.now schedule.now (tree job.middlebox) job.packets job.events) }
+    ensures good { IfOk result (λ job. IsTrue (is_good (tree job.middlebox))) }
+    ensures few_packets { IfOk result (λ job. length job.packets ≤ MAX_PACKETS) }
+    ensures few_events { IfOk result (λ job. length job.events ≤ MAX_EVENTS) }
+    ensures err { IfErr result (λ refusal. IsFirstRefused refusal (files_of (Replay source.now trace.now schedule.now)) (F.seen files.old) (F.seen files.new)) }
+{
+    let middlebox = load_source(alloc, files, source)?;
+    let packets = load_trace(alloc, files, trace)?;
+    match load_schedule(alloc, files, schedule) {
+        Ok(events) => Ok(Job {
+            middlebox,
+            packets,
+            events,
+        }),
+        Err(refusal) => Err(refusal),
+    }
+}
+
+// The report of the run of a job.
+fn report(alloc: Global, job: &Job) -> Result<Text, NoMemory>
+    requires good { IsTrue (is_good (tree job.now.middlebox)) }
+    requires few_packets { length job.now.packets ≤ MAX_PACKETS }
+    requires few_events { length job.now.events ≤ MAX_EVENTS }
+    ensures { IfOk result (λ text. text ≡ report_of (job_run (tree job.now.middlebox) job.now.packets job.now.events)) }
+{
+    let run = replay(alloc, job)?;
+    print_run(alloc, &run)
+}
+
+// Replays what three files spell, and writes the report.
+fn perform_replay<'a, F: Files, O: Sink>(
+    alloc: Global,
+    source: &'a str,
+    trace: &'a str,
+    schedule: &'a str,
+    files: &mut F,
+    out: &mut O,
+) -> Result<(), Refusal<'a>>
+    ensures ok { OnOk result (IsDone (Some (Replay source.now trace.now schedule.now)) (F.seen files.old) (O.seen out.old) (O.seen out.new)) }
+    ensures err { IfErr result (λ refusal. HasCause refusal (Some (Replay source.now trace.now schedule.now))
+        (F.seen files.old) (F.seen files.new) (O.seen out.old) (O.seen out.new)) }
+{
+    let job = load_job(alloc, source, trace, schedule, files)?;
+    let Ok(text) = report(alloc, &job) else {
+        return Err(Refusal::NoMemory);
+    };
+    put(out, text.as_slice())
+}
+
+// Does what the words ask for.
+fn perform<'a, F: Files, O: Sink>(
+    alloc: Global,
+    words: &'a [String],
+    files: &mut F,
+    out: &mut O,
+) -> Result<(), Refusal<'a>>
+    ensures ok { OnOk result (IsDone (request_of (map string_bytes words.now)) (F.seen files.old) (O.seen out.old) (O.seen out.new)) }
+    ensures err { IfErr result (λ refusal. HasCause refusal (request_of (map string_bytes words.now))
+        (F.seen files.old) (F.seen files.new) (O.seen out.old) (O.seen out.new)) }
+{
+    match form_of(words) {
+        Some(
+            Form::Replay {
+                source,
+                trace,
+                schedule,
+            },
+        ) => perform_replay(alloc, source, trace, schedule, files, out),
+        None => Err(Refusal::Usage),
+    }
+}
+
+/// Does what the words after the program's name ask for, and answers how that ended. On Done, `out` has received one whole
+/// text. With every other status `err` receives one line.
+pub fn gallium<F: Files, O: Sink, E: Sink>(
+    alloc: Global,
+    words: &[String],
+    files: &mut F,
+    out: &mut O,
+    err: &mut E,
+) -> Status
+    ensures cause { Ends result (request_of (map string_bytes words.now))
+        (F.seen files.old) (F.seen files.new) (O.seen out.old) (O.seen out.new) (E.seen err.old) (E.seen err.new) }
+{
+    match perform(alloc, words, files, out) {
+        Ok(()) => Status::Done,
+        Err(refusal) => tell(alloc, refusal, err),
+    }
+}
