@@ -1,0 +1,18 @@
+-- The internet checksum of 16-bit words, in one's complement arithmetic.
+use Rattle.std.specs.Prelude.{◌≡◌, ℕ, ◌+◌, ◌-◌, ◌/◌, ◌%◌}
+
+-- the word with each bit turned
+abbrev pub complement : ℕ → ℕ
+complement x = 65535 - x
+
+-- the one's complement sum of two words: what is carried out at the top comes in at the bottom
+abbrev pub carried_sum : ℕ → ℕ → ℕ
+carried_sum x y = (x + y) % 65536 + (x + y) / 65536
+
+-- the checksum after a word under it has changed from old to new, by RFC 1624, equation 3
+unfoldable pub adjusted : ℕ → ℕ → ℕ → ℕ
+adjusted sum old new = complement (carried_sum (carried_sum (complement sum) (complement old)) new)
+
+-- both stand for one number in one's complement
+abbrev pub IsCongruent : ℕ → ℕ → Type 0
+IsCongruent x y = x % 65535 ≡ y % 65535
