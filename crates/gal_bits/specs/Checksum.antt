@@ -1,5 +1,5 @@
 -- The internet checksum of 16-bit words, in one's complement arithmetic.
-use Rattle.std.specs.Prelude.{◌≡◌, ℕ, ◌+◌, ◌-◌, ◌/◌, ◌%◌}
+use Rattle.std.specs.Prelude.{◌≡◌, ℕ, ◌+◌, ◌-◌, ◌/◌, ◌%◌, ◌<◌, List, ◌∷◌, ◌++◌, fold, All, Any}
 
 -- the word with each bit turned
 abbrev pub complement : ℕ → ℕ
@@ -16,3 +16,17 @@ adjusted sum old new = complement (carried_sum (carried_sum (complement sum) (co
 -- both stand for one number in one's complement
 abbrev pub IsCongruent : ℕ → ℕ → Type 0
 IsCongruent x y = x % 65535 ≡ y % 65535
+
+-- each has 16 bits
+abbrev pub AreWords : List ℕ → Type 0
+AreWords words = All (λ word. word < 65536) words
+
+-- the checksum of the words, by RFC 1071
+abbrev pub checksum_of : List ℕ → ℕ
+checksum_of words = complement (fold carried_sum 0 words)
+
+-- where sum was the checksum of some words, one of which was old, result is that of the words with new in its place, unless these are all 0
+abbrev pub IsRecomputed : ℕ → ℕ → ℕ → ℕ → Type 0
+IsRecomputed sum old new result =
+    (before after : List ℕ) → AreWords before → AreWords after → Any (λ word. 0 < word) (before ++ new ∷ after)
+    → sum ≡ checksum_of (before ++ old ∷ after) → result ≡ checksum_of (before ++ new ∷ after)

@@ -3,12 +3,11 @@
 
 mod checksum;
 mod op;
+#[cfg(test)]
+mod tests;
 mod values;
 mod width;
 mod widths;
-
-
-
 
 pub use checksum::adjust;
 pub use op::{Op, arity, eval, on_switch, op_name};

@@ -177,13 +177,21 @@ fn remainder(x: u64, y: u64) -> u64
 fn shifted_up(width: Width, x: u64, count: u64) -> u64
     ensures { result ≡ (if nat_lt count width then x * 2 ^ count else 0) % 2 ^ 64 }
 {
-    if count < u64::from(width.bits()) { x << count } else { 0 }
+    if count < u64::from(width.bits()) {
+        x << count
+    } else {
+        0
+    }
 }
 
 fn shifted_down(width: Width, x: u64, count: u64) -> u64
     ensures { result ≡ (if nat_lt count width then x / 2 ^ count else 0) }
 {
-    if count < u64::from(width.bits()) { x >> count } else { 0 }
+    if count < u64::from(width.bits()) {
+        x >> count
+    } else {
+        0
+    }
 }
 
 fn chosen(condition: u64, x: u64, y: u64) -> u64
