@@ -1,7 +1,6 @@
 -- The updated checksum is the one that computing it anew gives.
-use Rattle.std.proofs.Common.{◌≡◌, ℕ, zero, suc, ◌+◌, ◌-◌, ◌/◌, ◌%◌, ◌<◌, ◌≤◌, List, [], ◌∷◌, ◌++◌, length, refl, sym, ap, ◌∙◌, subst, arith, add-zero, zero-add, add_assoc}
-use Rattle.std.specs.Prelude.{fold, All, Any, slice_index_or}
-use Rattle.std.proofs.lemmas.List.Sums.{fold-append}
+use Rattle.std.proofs.Common.{◌≡◌, ℕ, zero, suc, ◌+◌, ◌%◌, ◌<◌, ◌≤◌, List, [], ◌∷◌, ◌++◌, length, refl, sym, ap, ◌∙◌, subst, arith, add-zero, zero-add, add_assoc}
+use Rattle.std.specs.Prelude.{fold, slice_index_or}
 use Rattle.std.proofs.lemmas.List.Elements.{All-append, All-cons}
 use Rattle.gal_bits.specs.Checksum.{adjusted, carried_sum, complement, AreWords, IsRecomputed}
 
@@ -11,9 +10,11 @@ record Carries (n s : ℕ) : Type 0 where
   pub congruent : s % 65535 ≡ n % 65535
   pub some : 0 < n → 0 < s
 
+-- one word is its own sum
 start : (s : ℕ) → s < 65536 → Carries s s
 start s fits = record { fits = fits; congruent = refl; some = λ p. p }
 
+-- one more word
 carries_one : (n s x : ℕ) → Carries n s → x < 65536 → Carries (n + x) (carried_sum s x)
 carries_one n s x h fits = record {
   fits = omega (arith, h.fits, fits);
@@ -26,6 +27,7 @@ abbrev total : List ℕ → ℕ
 total [] = 0
 total (x ∷ xs) = x + total xs
 
+-- more words, one after another
 carries_all : (words : List ℕ) (n s : ℕ) → AreWords words → Carries n s → Carries (n + total words) (fold carried_sum s words)
 carries_all [] n s fit h = subst (λ m. Carries m s) (sym (add-zero n)) h
 carries_all (x ∷ xs) n s fit h =
@@ -52,6 +54,7 @@ carries_same n m s t h k same first second = omega (arith, h.fits, h.congruent, 
 among : (before after : List ℕ) (x : ℕ) → AreWords before → AreWords after → x < 65536 → AreWords (before ++ x ∷ after)
 among before after x front back fits = All-append (λ word. word < 65536) before (x ∷ after) front (All-cons (λ word. word < 65536) x after fits back)
 
+-- words from the first on
 carries_words : (words : List ℕ) → AreWords words → Carries (total words) (fold carried_sum 0 words)
 carries_words words fit =
     subst (λ m. Carries m (fold carried_sum 0 words)) (zero-add (total words)) (carries_all words 0 0 fit (start 0 (omega arith)))
@@ -70,6 +73,7 @@ updated rest sum old new s t old_fits new_fits is was now some =
     ap (λ n. complement (carried_sum (carried_sum n (complement old)) new)) turned
     ∙ ap complement (carries_same _ _ _ _ step now same more some)
 
+-- the whole law, for words in any place
 pub recomputed : (sum old new : ℕ) → old < 65536 → new < 65536 → IsRecomputed sum old new (adjusted sum old new)
 recomputed sum old new old_fits new_fits before after front back any is =
     let rest : ℕ = total before + total after in

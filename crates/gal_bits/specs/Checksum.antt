@@ -25,7 +25,7 @@ AreWords words = All (λ word. word < 65536) words
 abbrev pub checksum_of : List ℕ → ℕ
 checksum_of words = complement (fold carried_sum 0 words)
 
--- where sum was the checksum of some words, one of which was old, result is that of the words with new in its place, unless these are all 0
+-- if sum is the checksum of words among them old, result is that with new in its place, unless then all are 0
 abbrev pub IsRecomputed : ℕ → ℕ → ℕ → ℕ → Type 0
 IsRecomputed sum old new result =
     (before after : List ℕ) → AreWords before → AreWords after → Any (λ word. 0 < word) (before ++ new ∷ after)

@@ -4,17 +4,18 @@ use Rattle.gal_bits.specs.Checksum.{adjusted}
 use Rattle.gal_bits.specs.declared.op.Op.{Op}
 use Rattle.gal_bits.specs.declared.op.Op.TheVariants.{Add, Sub, Mul, Div, Rem, And, Or, Xor, Not, Shl, Shr, Eq, Ne, Lt, Le, Cast, Select, Adjust}
 
--- what is said of an operator; its number at width w, of up to three arguments, is still to be cut to that width
+-- what is said of an operator; its number, at a width and of up to three arguments, is not yet cut to the width
 pub record Row : Type 0 where
   pub name : List ℕ
   pub arity : ℕ
   pub on_switch : Bool
   pub number : ℕ → ℕ → ℕ → ℕ → ℕ
 
+-- one row of the table
 abbrev pub row : List ℕ → ℕ → Bool → (ℕ → ℕ → ℕ → ℕ → ℕ) → Row
 row name arity on_switch number = record { name = name; arity = arity; on_switch = on_switch; number = number }
 
--- the table
+-- the table; w is the width, and x, y and z are the arguments
 abbrev pub row_of : Op → Row
 row_of Add = row (codes "add") 2 true (λ w x y z. x + y)
 row_of Sub = row (codes "sub") 2 true (λ w x y z. x + (2 ^ w - y % 2 ^ w))
@@ -35,6 +36,6 @@ row_of Cast = row (codes "cast") 1 true (λ w x y z. x)
 row_of Select = row (codes "select") 3 true (λ w x y z. if x == 1 then y else z)
 row_of Adjust = row (codes "adjust") 3 true (λ w x y z. adjusted (x % 65536) (y % 65536) (z % 65536))
 
--- the operator's value of the arguments at width w
+-- the operator's value at width w of the arguments
 unfoldable pub value_of : Op → ℕ → List ℕ → ℕ
 value_of op w args = (row_of op).number w (slice_index args 0) (slice_index args 1) (slice_index args 2) % 2 ^ w
