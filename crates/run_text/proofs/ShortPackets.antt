@@ -1,5 +1,5 @@
 -- No packet of a trace is long.
-use Rattle.std.proofs.Common.{◌≡◌, ℕ, suc, ◌≤◌, true, false, inl, inr, List, [], ◌∷◌, length, arith}
+use Rattle.std.proofs.Common.{ℕ, suc, ◌≤◌, true, false, inl, inr, List, [], ◌∷◌, length, arith}
 use Rattle.std.specs.Prelude.{All, IfOk, Option, Some, None, Result, Ok, Err, codes, nat_le, if◌then◌else◌}
 use Rattle.std.specs.List.{after_first, before_first, list_any}
 use Rattle.std.specs.Str.{bytes_eq}
@@ -11,9 +11,9 @@ use Rattle.hex.specs.declared.error.FromHexError.{FromHexError}
 use Rattle.gal_io.specs.Lines.{is_skipped, lines}
 use Rattle.gal_io.specs.Number.{number_up_to}
 use Rattle.packet_fields.specs.declared.packet.Packet.{Packet}
-use Rattle.run_text.specs.Trace.{at_most, body_bytes, body_of, in_front, is_space, line_values, packet_by, packet_line, packet_with, trace_of, with_line}
+use Rattle.run_text.specs.Trace.{at_most, body_bytes, body_of, is_space, line_values, packet_by, packet_line, packet_with, trace_of, with_line}
 use Rattle.run_text.specs.declared.refusal.LineKind.{LineKind}
-use Rattle.run_text.specs.declared.refusal.LineKind.TheVariants.{Form, Long}
+use Rattle.run_text.specs.declared.refusal.LineKind.TheVariants.{Form}
 use Rattle.run_text.specs.declared.refusal.LinesError.{LinesError}
 use Rattle.run_text.specs.declared.refusal.LinesError.TheVariants.{TooMany}
 use Rattle.run_text.specs.declared.refusal.TheConstants.{MAX_PACKETS, MAX_PACKET_BYTES}

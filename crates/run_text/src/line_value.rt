@@ -32,7 +32,9 @@ fn space_at(line: &[u8]) -> usize
 #[tactic(auto, using(std::proofs::lemmas::Grind::common_steps, crate::proofs::LineSteps::any_space))]
 pub(crate) fn split_at_space(line: &[u8]) -> Option<(&[u8], &[u8])>
     ensures { MatchOption result (list_any is_space line.now ≡ false)
-        (λ parts. (list_any is_space line.now ≡ true) × (parts.0.now ≡ before_first is_space line.now) × (parts.1.now ≡ after_first is_space line.now)) }
+        (λ parts. (list_any is_space line.now ≡ true)
+        × (parts.0.now ≡ before_first is_space line.now)
+        × (parts.1.now ≡ after_first is_space line.now)) }
 {
     let at = space_at(line);
     if at == line.len() {
@@ -48,7 +50,8 @@ pub(crate) fn read_values<V: LineValue>(
     most: usize,
 ) -> Result<Vec<V>, LinesError>
     ensures ok { IfOk result (λ values. at_most most (line_values V.line_gives 1 (lines text.now)) ≡ Ok values.items) }
-    ensures err { IfErr result (λ e. (e ≡ LinesError.NoMemory) ⊎ (at_most most (line_values V.line_gives 1 (lines text.now)) ≡ Err e)) }
+    ensures err { IfErr result (λ e.
+        (e ≡ LinesError.NoMemory) ⊎ (at_most most (line_values V.line_gives 1 (lines text.now)) ≡ Err e)) }
 {
     let mut values = Vec::new(alloc);
     let mut have = 0;

@@ -10,7 +10,8 @@ use gal_io::{NoMemory, number_up_to};
 use std::alloc::Global;
 
 fn read_item(item: &[u8]) -> Result<u32, LineKind>
-    ensures { MatchResult result (λ number. number_up_to largest item.now ≡ Some number) (λ kind. (kind ≡ LineKind.Number) × (number_up_to largest item.now ≡ None)) }
+    ensures { MatchResult result (λ number. number_up_to largest item.now ≡ Some number)
+        (λ kind. (kind ≡ LineKind.Number) × (number_up_to largest item.now ≡ None)) }
 {
     match number_up_to(item, u64::from(u32::MAX)) {
         None => Err(LineKind::Number),

@@ -1,4 +1,4 @@
-use Rattle.std.proofs.Common.{◌+◌, ◌≤◌, ◌<◌, length}
+use Rattle.std.proofs.Common.{◌+◌, ◌≤◌, length}
 use Rattle.gal_io.specs.Lines.{lines}
 use Rattle.run_text.specs.Trace.{line_values}
 use Rattle.run_text.proofs.LineSteps.{Stands}
