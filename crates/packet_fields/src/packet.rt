@@ -87,3 +87,11 @@ impl Packets {
         Ok(())
     }
 }
+
+impl From<Vec<Packet>> for Packets {
+    ghost from_gives = { λ items packets. packets ≡ items.items };
+
+    fn from(items: Vec<Packet>) -> Packets {
+        Packets { items }
+    }
+}

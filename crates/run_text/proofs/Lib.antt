@@ -1,1 +1,3 @@
 pub mod SerialOrder
+pub mod LineSteps
+pub mod ShortPackets

@@ -76,3 +76,11 @@ impl Events {
         Ok(Events { items })
     }
 }
+
+impl From<Vec<Event>> for Events {
+    ghost from_gives = { λ items events. events ≡ items.items };
+
+    fn from(items: Vec<Event>) -> Events {
+        Events { items }
+    }
+}

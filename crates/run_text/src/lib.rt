@@ -3,14 +3,22 @@
 
 mod event;
 mod fate;
+mod line_value;
 mod refusal;
 mod report;
 mod run;
+mod schedule;
 mod serial;
+mod trace;
 
 pub use event::{Event, Events};
 pub use fate::{Fate, Fates};
 pub use refusal::{LineKind, LinesError, MAX_EVENTS, MAX_PACKET_BYTES, MAX_PACKETS};
 pub use report::print_run;
 pub use run::{Order, Run};
+pub use schedule::read_schedule;
 pub use serial::order;
+pub use trace::read_trace;
+
+#[cfg(test)]
+mod tests;

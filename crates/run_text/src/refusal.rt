@@ -1,5 +1,8 @@
 //! Why the text of a trace or a schedule is refused.
+ghost use Rattle.std.specs.Prelude.{◌≡◌};
 
+use gal_io::NoMemory;
+use std::alloc::AllocFailed;
 use thiserror::Error;
 
 /// The most packets of a trace.
@@ -36,4 +39,24 @@ pub enum LinesError {
     /// No memory was found.
     #[error("no memory")]
     NoMemory,
+}
+
+impl From<NoMemory> for LinesError {
+    ghost use Rattle.run_text.specs.declared.refusal.LinesError.{LinesError};
+
+    ghost from_gives = { λ _ e. e ≡ LinesError.NoMemory };
+
+    fn from(_: NoMemory) -> LinesError {
+        LinesError::NoMemory
+    }
+}
+
+impl<T: Drop> From<AllocFailed<T>> for LinesError {
+    ghost use Rattle.run_text.specs.declared.refusal.LinesError.{LinesError};
+
+    ghost from_gives = { λ _ e. e ≡ LinesError.NoMemory };
+
+    fn from(_: AllocFailed<T>) -> LinesError {
+        LinesError::NoMemory
+    }
 }

@@ -1,6 +1,7 @@
 //! The text of a report.
 ghost use Rattle.std.specs.Prelude.{◌≡◌, ◌++◌, IfOk, OnOk, string_bytes};
-ghost use Rattle.run_text.specs.Report.{body_text, decided_text, drained_line, events_line, fate_line, fate_lines, fate_text, numbers_text, order_line, order_text, packets_line, released_text, report_of, verdict_text, version_line};
+ghost use Rattle.run_text.specs.Report.{body_text, decided_text, drained_line, events_line, fate_line, fate_lines, fate_text};
+ghost use Rattle.run_text.specs.Report.{numbers_text, order_line, packets_line, released_text, report_of, verdict_text, version_line};
 
 use crate::fate::Fate;
 use crate::run::Run;
@@ -58,9 +59,9 @@ fn fate_text(alloc: Global, fate: &Fate) -> Result<String, NoMemory>
             decided,
             version,
         } => {
-            let mut text = decided_text(alloc, "slow", *admitted, *decided, *version)?;
-            text.push_str(" held")?;
-            Ok(text)
+            let mut held = decided_text(alloc, "slow", *admitted, *decided, *version)?;
+            held.push_str(" held")?;
+            Ok(held)
         }
         Fate::Slow {
             admitted,
@@ -69,9 +70,9 @@ fn fate_text(alloc: Global, fate: &Fate) -> Result<String, NoMemory>
             released,
             verdict,
         } => {
-            let mut text = decided_text(alloc, "slow", *admitted, *decided, *version)?;
-            text.push_str(released_text(alloc, *released, verdict)?.as_str())?;
-            Ok(text)
+            let mut slow = decided_text(alloc, "slow", *admitted, *decided, *version)?;
+            slow.push_str(released_text(alloc, *released, verdict)?.as_str())?;
+            Ok(slow)
         }
         Fate::Fast {
             admitted,
@@ -80,9 +81,9 @@ fn fate_text(alloc: Global, fate: &Fate) -> Result<String, NoMemory>
             released,
             verdict,
         } => {
-            let mut text = decided_text(alloc, "fast", *admitted, *decided, *version)?;
-            text.push_str(released_text(alloc, *released, verdict)?.as_str())?;
-            Ok(text)
+            let mut fast = decided_text(alloc, "fast", *admitted, *decided, *version)?;
+            fast.push_str(released_text(alloc, *released, verdict)?.as_str())?;
+            Ok(fast)
         }
     }
 }
@@ -126,23 +127,25 @@ fn put_order(alloc: Global, order: &[u32], text: &mut Text) -> Result<(), NoMemo
 fn packets_line(alloc: Global, run: &Run) -> Result<String, NoMemory>
     ensures { IfOk result (λ line. string_bytes line ≡ packets_line run.now) }
 {
+    let (total, decided, released) = (run.total, run.decided, run.released);
     let admitted = run.fates.as_slice().len();
     Ok(format!(in alloc;
-        "packets {} admitted {admitted} decided {} released {}\n",
-        run.total, run.decided, run.released
+        "packets {total} admitted {admitted} decided {decided} released {released}\n"
     )?)
 }
 
 fn events_line(alloc: Global, run: &Run) -> Result<String, NoMemory>
     ensures { IfOk result (λ line. string_bytes line ≡ events_line run.now) }
 {
-    Ok(format!(in alloc; "events {} idle {}\n", run.events, run.idle)?)
+    let (events, idle) = (run.events, run.idle);
+    Ok(format!(in alloc; "events {events} idle {idle}\n")?)
 }
 
 fn version_line(alloc: Global, run: &Run) -> Result<String, NoMemory>
     ensures { IfOk result (λ line. string_bytes line ≡ version_line run.now) }
 {
-    Ok(format!(in alloc; "version {} visible {}\n", run.version, run.visible)?)
+    let (version, visible) = (run.version, run.visible);
+    Ok(format!(in alloc; "version {version} visible {visible}\n")?)
 }
 
 fn drained_line(drained: bool) -> &'static [u8]

@@ -1,0 +1,78 @@
+-- No packet of a trace is long.
+use Rattle.std.proofs.Common.{ℕ, suc, ◌≤◌, true, false, inl, inr, List, [], ◌∷◌, length, arith}
+use Rattle.std.specs.Prelude.{All, IfOk, Option, Some, None, Result, Ok, Err, codes, nat_le, if◌then◌else◌}
+use Rattle.std.specs.List.{after_first, before_first, list_any}
+use Rattle.std.specs.Str.{bytes_eq}
+use Rattle.std.proofs.lemmas.Bool.Decides.{nat_tests}
+use Rattle.std.proofs.lemmas.Bool.{cases_Bool}
+use Rattle.std.proofs.lemmas.List.Elements.{All-nil, All-cons}
+use Rattle.hex.specs.Hex.{decode_of}
+use Rattle.hex.specs.declared.error.FromHexError.{FromHexError}
+use Rattle.gal_io.specs.Lines.{is_skipped, lines}
+use Rattle.gal_io.specs.Number.{number_up_to}
+use Rattle.packet_fields.specs.declared.packet.Packet.{Packet}
+use Rattle.run_text.specs.Trace.{at_most, body_bytes, body_of, is_space, line_values, packet_by, packet_line, packet_with, trace_of, with_line}
+use Rattle.run_text.specs.declared.refusal.LineKind.{LineKind}
+use Rattle.run_text.specs.declared.refusal.LineKind.TheVariants.{Form}
+use Rattle.run_text.specs.declared.refusal.LinesError.{LinesError}
+use Rattle.run_text.specs.declared.refusal.LinesError.TheVariants.{TooMany}
+use Rattle.run_text.specs.declared.refusal.TheConstants.{MAX_PACKETS, MAX_PACKET_BYTES}
+
+-- ---- what holds of the value of each line holds of all values
+
+behind_line : {X : Type 0} (P : X → Type 0) (n : ℕ) (given : Result X LineKind) (behind : Result (List X) LinesError) → IfOk given P → IfOk behind (All P) → IfOk (with_line n given behind) (All P)
+behind_line P n (Ok x) (Ok xs) first rest = All-cons P x xs first rest
+behind_line P n (Ok x) (Err e) first rest = tt
+behind_line P n (Err kind) behind first rest = tt
+
+all_lines : {X : Type 0} (P : X → Type 0) (value : List ℕ → Result X LineKind) → ((line : List ℕ) → IfOk (value line) P) → (n : ℕ) (ls : List (List ℕ)) → IfOk (line_values value n ls) (All P)
+all_lines P value each n [] = All-nil P
+all_lines P value each n (l ∷ ls) =
+    let rest = all_lines P value each (suc n) ls in
+    elim (is_skipped l) as (λ b. IfOk (if b then line_values value (suc n) ls else with_line n (value l) (line_values value (suc n) ls)) (All P)) [
+      | true ↦ rest
+      | false ↦ behind_line P n (value l) (line_values value (suc n) ls) (each l) rest
+    ]
+
+all_of_most : {X : Type 0} (P : X → Type 0) (most : ℕ) (given : Result (List X) LinesError) → IfOk given (All P) → IfOk (at_most most given) (All P)
+all_of_most P most (Ok xs) h = elim (nat_le (length xs) most) as (λ b. IfOk (if b then Ok xs else Err (TooMany (length xs) most)) (All P)) [ true ↦ h | false ↦ tt ]
+all_of_most P most (Err e) h = tt
+
+-- ---- a line of a trace
+
+abbrev IsShort : List ℕ → Type 0
+IsShort bytes = length bytes ≤ MAX_PACKET_BYTES
+
+abbrev IsShortPacket : Packet → Type 0
+IsShortPacket packet = IsShort packet.bytes
+
+short_bytes : (given : Result (List ℕ) FromHexError) → IfOk (body_bytes given) IsShort
+short_bytes (Err e) = tt
+short_bytes (Ok bytes) = elim (cases_Bool (nat_le (length bytes) MAX_PACKET_BYTES)) [
+  | inl short ↦ rw short (grind (arith, nat_tests))
+  | inr long ↦ rw long tt
+]
+
+short_body : (body : List ℕ) → IfOk (body_of body) IsShort
+short_body [] = tt
+short_body (b ∷ bs) = elim (bytes_eq (b ∷ bs) (codes "-")) as (λ dash. IfOk (if dash then Ok [] else body_bytes (decode_of (b ∷ bs))) IsShort) [
+  | true ↦ omega arith
+  | false ↦ short_bytes (decode_of (b ∷ bs))
+]
+
+short_with : (port : ℕ) (given : Result (List ℕ) LineKind) → IfOk given IsShort → IfOk (packet_with port given) IsShortPacket
+short_with port (Ok bytes) h = h
+short_with port (Err kind) h = tt
+
+short_by : (port : Option ℕ) (body : List ℕ) → IfOk (packet_by port body) IsShortPacket
+short_by None body = tt
+short_by (Some port) body = short_with port (body_of body) (short_body body)
+
+short_line : (line : List ℕ) → IfOk (packet_line line) IsShortPacket
+short_line line = elim (list_any is_space line) as (λ b. IfOk (if b then packet_by (number_up_to 255 (before_first is_space line)) (after_first is_space line) else Err Form) IsShortPacket) [
+  | true ↦ short_by (number_up_to 255 (before_first is_space line)) (after_first is_space line)
+  | false ↦ tt
+]
+
+pub short_trace : (text : List ℕ) → IfOk (trace_of text) (All IsShortPacket)
+short_trace text = all_of_most IsShortPacket MAX_PACKETS (line_values packet_line 1 (lines text)) (all_lines IsShortPacket packet_line short_line 1 (lines text))

@@ -1,0 +1,5 @@
+use Rattle.run_text.proofs.ShortPackets.{short_trace}
+use Rattle.run_text.proofs.trace.read_trace.Goals as goal
+
+pub returns-clause-short : goal.returns-clause-short
+returns-clause-short c = rw c.from.ensures (rw c.in_ok-packets.ensures.ok at (short_trace c.args.text.now))

@@ -1,0 +1,229 @@
+//! Texts of a replay, read and written.
+
+use super::*;
+use gal_io::Bytes;
+use packet_fields::{Packets, Verdict};
+use std::test::Fail;
+
+// How many packets a text spells.
+fn count(packets: Result<Packets, LinesError>) -> Result<usize, LinesError> {
+    Ok(packets?.len())
+}
+
+fn refused(number: usize, kind: LineKind) -> Result<usize, LinesError> {
+    Err(LinesError::Line { number, kind })
+}
+
+#[test]
+fn lines_of_a_trace(rt: HostRuntime) {
+    let alloc = rt.alloc();
+    for (text, want) in [
+        (b"".as_slice(), Ok(0)),
+        (b"0 -", Ok(1)),
+        (b"0 -\n", Ok(1)),
+        (b"0 -\r\n255 00\r\n", Ok(2)),
+        (b"# 0 -\n\n\r\n7 0aFf\n", Ok(1)),
+        (b"0 -\r\r\n", refused(1, LineKind::Hex)),
+        (b"0  -", refused(1, LineKind::Hex)),
+        (b"0 ", refused(1, LineKind::Hex)),
+        (b"0 0", refused(1, LineKind::Hex)),
+        (b"0 0g", refused(1, LineKind::Hex)),
+        (b" 0 -", refused(1, LineKind::Number)),
+        (b"00 -", refused(1, LineKind::Number)),
+        (b"+1 -", refused(1, LineKind::Number)),
+        (b"0 -\n256 00\nx", refused(2, LineKind::Number)),
+        (b"256 0", refused(1, LineKind::Number)),
+        (b"0\t-", refused(1, LineKind::Form)),
+        (b"#\n\n\r\n-\n", refused(4, LineKind::Form)),
+    ] {
+        assert_eq!(rt; count(read_trace(alloc, text)), want, "{text:?}");
+    }
+}
+
+#[test]
+fn packets_of_a_trace(rt: HostRuntime) -> Result<(), Fail> {
+    let alloc = rt.alloc();
+    let Ok(packets) = read_trace(alloc, b"# two packets\n255 0aFf\n0 -") else {
+        return Err(Fail::from("refused"));
+    };
+    match packets.as_slice() {
+        [first, second] => {
+            assert_eq!(rt; first.port, 255);
+            assert_eq!(rt; first.bytes.as_slice(), b"\n\xff".as_slice());
+            assert_eq!(rt; second.port, 0);
+            assert_eq!(rt; second.bytes.len(), 0);
+        }
+        _ => return Err(Fail::from("not two packets")),
+    }
+    Ok(())
+}
+
+#[test]
+fn sizes_of_a_trace(rt: HostRuntime) -> Result<(), Fail> {
+    let alloc = rt.alloc();
+    let mut line = vec![in alloc; b'0'; 18_434]?;
+    line[1] = b' ';
+    assert_eq!(rt; count(read_trace(alloc, &line)), Ok(1));
+    line.extend_from_slice(b"00")?;
+    assert_eq!(rt; count(read_trace(alloc, &line)), refused(1, LineKind::Long));
+    let mut text = Vec::new(alloc);
+    for _ in 0..16_384 {
+        text.extend_from_slice(b"0 -\n")?;
+    }
+    assert_eq!(rt; count(read_trace(alloc, &text)), Ok(16_384));
+    text.extend_from_slice(b"0 -\n")?;
+    let many = LinesError::TooMany {
+        have: 16_385,
+        allowed: 16_384,
+    };
+    assert_eq!(rt; count(read_trace(alloc, &text)), Err(many));
+    text.extend_from_slice(b"0 0\n")?;
+    assert_eq!(rt;
+        count(read_trace(alloc, &text)),
+        refused(16_386, LineKind::Hex)
+    );
+    Ok(())
+}
+
+#[test]
+fn lines_of_a_schedule(rt: HostRuntime) {
+    let alloc = rt.alloc();
+    for (text, want) in [
+        (b"".as_slice(), Ok(0)),
+        (b"a", Ok(1)),
+        (b"a\r\n# a\n\nu 4294967295\n", Ok(2)),
+        (b"u 05", refused(1, LineKind::Number)),
+        (b"u 4294967296", refused(1, LineKind::Number)),
+        (b"h ", refused(1, LineKind::Number)),
+        (b"d  1", refused(1, LineKind::Number)),
+        (b"u", refused(1, LineKind::Form)),
+        (b"u\t0", refused(1, LineKind::Form)),
+        (b"a\nx", refused(2, LineKind::Form)),
+        (b"x 0", refused(1, LineKind::Form)),
+        (b"A", refused(1, LineKind::Form)),
+        (b" a", refused(1, LineKind::Form)),
+        (b"a ", refused(1, LineKind::Form)),
+    ] {
+        let have = read_schedule(alloc, text).map(|events| events.len());
+        assert_eq!(rt; have, want, "{text:?}");
+    }
+}
+
+#[test]
+fn events_of_a_schedule(rt: HostRuntime) -> Result<(), Fail> {
+    let alloc = rt.alloc();
+    let Ok(read) = read_schedule(alloc, b"a\nu 0\nh 1\nd 2\n") else {
+        return Err(Fail::from("refused"));
+    };
+    let mut events = Events::new(alloc);
+    for event in [
+        Event::Admit,
+        Event::Serve(0),
+        Event::Hold(1),
+        Event::Down(2),
+    ] {
+        assert!(rt; events.push(event).is_ok());
+    }
+    assert_eq!(rt; read.as_slice(), events.as_slice());
+    let Ok(copy) = events.copy(alloc) else {
+        return Err(Fail::from("no copy"));
+    };
+    assert_eq!(rt; copy.as_slice(), read.as_slice());
+    Ok(())
+}
+
+#[test]
+fn report_of_nothing(rt: HostRuntime) -> Result<(), Fail> {
+    let alloc = rt.alloc();
+    let run = Run {
+        total: 0,
+        decided: 0,
+        released: 0,
+        events: 0,
+        idle: 0,
+        version: 0,
+        visible: 0,
+        drained: true,
+        fates: Fates::from(Vec::new(alloc)),
+        order: Order::from(Vec::new(alloc)),
+    };
+    let Ok(text) = print_run(alloc, &run) else {
+        return Err(Fail::from("no memory"));
+    };
+    let want = "report 1\npackets 0 admitted 0 decided 0 released 0\nevents 0 idle 0\n\
+        version 0 visible 0\ndrained yes\norder -\nend\n";
+    assert_eq!(rt; text.as_slice(), want.as_bytes());
+    Ok(())
+}
+
+#[test]
+fn report_of_all_fates(rt: HostRuntime) -> Result<(), Fail> {
+    let alloc = rt.alloc();
+    let (Ok(two), Ok(none)) = (
+        Bytes::from_slice(alloc, b"\n\xff"),
+        Bytes::from_slice(alloc, b""),
+    ) else {
+        return Err(Fail::from("no memory"));
+    };
+    let fates = Fates::from(vec![in alloc;
+        Fate::Up { admitted: 1 },
+        Fate::Held {
+            admitted: 2,
+            decided: 5,
+            version: 2
+        },
+        Fate::Slow {
+            admitted: 3,
+            decided: 9,
+            version: 1,
+            released: 10,
+            verdict: Verdict::Send(255, none)
+        },
+        Fate::Fast {
+            admitted: 6,
+            decided: 6,
+            version: 0,
+            released: 6,
+            verdict: Verdict::Drop
+        },
+        Fate::Slow {
+            admitted: 7,
+            decided: 8,
+            version: 1,
+            released: 11,
+            verdict: Verdict::Send(1, two)
+        },
+    ]?);
+    let Ok(order) = order(alloc, &fates) else {
+        return Err(Fail::from("no memory"));
+    };
+    let run = Run {
+        total: 6,
+        decided: 4,
+        released: 3,
+        events: 12,
+        idle: 1,
+        version: 2,
+        visible: 1,
+        drained: false,
+        fates,
+        order,
+    };
+    let Ok(text) = print_run(alloc, &run) else {
+        return Err(Fail::from("no memory"));
+    };
+    let want = "report 1\n\
+        packets 6 admitted 5 decided 4 released 3\n\
+        events 12 idle 1\n\
+        version 2 visible 1\n\
+        drained no\n\
+        packet 0 up admitted 1\n\
+        packet 1 slow admitted 2 decided 5 version 2 held\n\
+        packet 2 slow admitted 3 decided 9 version 1 released 10 send 255 -\n\
+        packet 3 fast admitted 6 decided 6 version 0 released 6 drop\n\
+        packet 4 slow admitted 7 decided 8 version 1 released 11 send 1 0aff\n\
+        order 3 4 2 1\n\
+        end\n";
+    assert_eq!(rt; text.as_slice(), want.as_bytes());
+    Ok(())
+}

@@ -1,0 +1,61 @@
+//! The text of a trace.
+ghost use Rattle.std.specs.Prelude.{◌≡◌, ◌≤◌, ◌⊎◌, length, All, IfOk, IfErr, Ok, Err};
+ghost use Rattle.run_text.specs.Trace.{body_of, packet_line, trace_of};
+
+use crate::line_value::{LineValue, read_values, split_at_space};
+use crate::refusal::{LineKind, LinesError, MAX_PACKET_BYTES, MAX_PACKETS};
+use gal_io::{Bytes, NoMemory, number_up_to};
+use hex::FromHexError;
+use packet_fields::{Packet, Packets};
+use std::alloc::Global;
+
+// The bytes of a body: `-` for none, or pairs of hexadecimal digits of either case.
+fn read_body(alloc: Global, body: &[u8]) -> Result<Result<Bytes, LineKind>, NoMemory>
+    ensures { IfOk result (λ given. given ≡ body_of body.now) }
+{
+    if body.is_empty() {
+        return Ok(Err(LineKind::Hex));
+    }
+    if body == b"-".as_slice() {
+        return Ok(Ok(Bytes::new(alloc)));
+    }
+    match hex::decode(alloc, body) {
+        Ok(bytes) if bytes.len() <= MAX_PACKET_BYTES => {
+            Ok(Ok(Bytes::from_slice(alloc, &bytes)?))
+        }
+        Ok(_) => Ok(Err(LineKind::Long)),
+        Err(FromHexError::OutOfMemory) => Err(NoMemory),
+        Err(_) => Ok(Err(LineKind::Hex)),
+    }
+}
+
+impl LineValue for Packet {
+    ghost line_gives = { packet_line };
+
+    fn from_line(alloc: Global, line: &[u8]) -> Result<Result<Packet, LineKind>, NoMemory> {
+        let Some((port, body)) = split_at_space(line) else {
+            return Ok(Err(LineKind::Form));
+        };
+        let Some(port) = number_up_to(port, 255) else {
+            return Ok(Err(LineKind::Number));
+        };
+        match read_body(alloc, body)? {
+            Ok(bytes) => Ok(Ok(Packet {
+                port: port as u8,
+                bytes,
+            })),
+            Err(kind) => Ok(Err(kind)),
+        }
+    }
+}
+
+/// The packets of a trace. Each line has a port in decimal, a space and a body; the empty body is `-`.
+pub fn read_trace(alloc: Global, text: &[u8]) -> Result<Packets, LinesError>
+    ensures ok { IfOk result (λ packets. trace_of text.now ≡ Ok packets) }
+    ensures err { IfErr result (λ e. (e ≡ LinesError.NoMemory) ⊎ (trace_of text.now ≡ Err e)) }
+    ensures few { IfOk result (λ packets. length packets ≤ MAX_PACKETS) }
+    ensures short { IfOk result (λ packets. All (λ p. length p.bytes ≤ MAX_PACKET_BYTES) packets) }
+{
+    let packets = read_values(alloc, text, MAX_PACKETS)?;
+    Ok(Packets::from(packets))
+}
