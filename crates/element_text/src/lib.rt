@@ -1,4 +1,7 @@
 //! The reader of sources: tokens, then grammar, then rules.
 #![tactic(auto)]
 
+mod lexeme;
+mod number;
+mod scan;
 mod token;
