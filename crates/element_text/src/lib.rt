@@ -5,3 +5,4 @@ mod lexeme;
 mod number;
 mod scan;
 mod token;
+mod tokens;
