@@ -7,7 +7,7 @@ ghost use Rattle.element_text.specs.Tokens.{spelled, token_of};
 ghost use Rattle.element_text.specs.Lexemes.{lexeme_of};
 
 use crate::number::number_value;
-use crate::scan::{is_digit, is_letter, number_len, word_len};
+use crate::scan::{is_digit, is_letter, number_len, rest_of, word_len};
 use crate::token::{Span, Token};
 use element_lang::{KEYWORDS, Mark, SYMBOLS};
 use packet_fields::field_of;
@@ -42,14 +42,6 @@ fn mark_in_front(marks: &[Mark], bytes: &[u8]) -> Option<Mark>
         }
     }
     None
-}
-
-// The bytes from a place on.
-pub(crate) fn rest_of(text: &[u8], offset: usize) -> &[u8]
-    requires { offset ≤ length text.now }
-    ensures { result.now ≡ drop offset text.now }
-{
-    &text[offset..]
 }
 
 // The bytes of a span.

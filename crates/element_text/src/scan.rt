@@ -1,5 +1,5 @@
 //! The bytes of a source: which divide tokens, and over which a token goes on.
-ghost use Rattle.std.specs.Prelude.{◌≡◌, ◌≤◌, length, false};
+ghost use Rattle.std.specs.Prelude.{◌≡◌, ◌≤◌, length, drop, false};
 ghost use Rattle.std.specs.List.{prefix_len};
 ghost use Rattle.element_lang.specs.Token as lang;
 
@@ -31,6 +31,14 @@ fn is_word_byte(byte: u8) -> bool
     ensures { result ≡ lang.is_word_byte byte }
 {
     is_number_byte(byte) || byte == b'.'
+}
+
+// The bytes from a place on.
+pub(crate) fn rest_of(text: &[u8], offset: usize) -> &[u8]
+    requires { offset ≤ length text.now }
+    ensures { result.now ≡ drop offset text.now }
+{
+    &text[offset..]
 }
 
 // How many bytes of blanks and comments stand in front.
