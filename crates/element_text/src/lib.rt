@@ -1,4 +1,8 @@
 //! The reader of sources: tokens, then grammar, then rules.
 #![tactic(auto)]
 
+mod lexeme;
+mod number;
+mod scan;
 mod token;
+mod tokens;
