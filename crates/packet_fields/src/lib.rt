@@ -1,6 +1,7 @@
 //! Packets, their fields, and what becomes of a packet.
 #![tactic(auto)]
 
+mod bits;
 mod field;
 mod packet;
 mod verdict;
