@@ -166,7 +166,7 @@ number_at-with_apart bytes start width value s w apart =
     spelled-same (bit_of (bytes_of row (length bytes))) (bit_of bytes) s w
     (λ n from below. elim (cases_lt n (8 * length bytes)) as (λ _. bit_of (bytes_of row (length bytes)) n ≡ bit_of bytes n) [
       | inl inside ↦ bit_of-bytes_of row (length bytes) n bits inside
-      ∙ elim apart [ inl behind ↦ replaced_behind (bit_of bytes) start width value n (omega arith) | inr before ↦ replaced_before (bit_of bytes) start width value n (omega arith) ]
+          ∙ elim apart [ inl behind ↦ replaced_behind (bit_of bytes) start width value n (omega arith) | inr before ↦ replaced_before (bit_of bytes) start width value n (omega arith) ]
       | inr past ↦ bit_of_past (bytes_of row (length bytes)) n (omega (arith, len)) ∙ sym (bit_of_past bytes n past)
     ])
 

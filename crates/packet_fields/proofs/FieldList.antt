@@ -1,6 +1,6 @@
 -- The list of all fields: each stands in it, and what a test says of its members holds of every field.
-use Rattle.std.proofs.Common.{◌≡◌, ◌≢◌, ℕ, zero, suc, ◌<◌, ◌≤◌, ◌&&◌, ◌||◌, ◌==◌, Bool, true, false, not, List, [], ◌∷◌, get_or, length, nat_le, refl, sym, ap, ◌∙◌, subst, lit<, arith, cond, Option, Some, None, MatchOption, find, unwrap_or, ⊎_elim}
-use Rattle.std.proofs.lemmas.Bool.{leb-true, and_parts, or_cases, false≢true, not-true, eqb-true, cases_Bool, cond-true, cond-false}
+use Rattle.std.proofs.Common.{◌≡◌, ◌≢◌, ℕ, zero, suc, ◌<◌, ◌≤◌, ◌&&◌, ◌==◌, Bool, true, false, List, [], ◌∷◌, get_or, length, nat_le, refl, sym, ap, ◌∙◌, subst, lit<, arith, Option, Some, None, MatchOption, find, unwrap_or, ⊎_elim}
+use Rattle.std.proofs.lemmas.Bool.{leb-true, and_parts, false≢true, eqb-true, cases_Bool, cond-true, cond-false}
 use Rattle.std.proofs.lemmas.Slice.Eq.{bytes_eq-Decides}
 use Rattle.std.specs.Option.{option_map}
 use Rattle.std.specs.Str.{bytes_eq}

@@ -1,6 +1,6 @@
 -- Where the fields of a packet are: no two that are there overlap.
-use Rattle.std.proofs.Common.{◌≡◌, ◌≢◌, ℕ, ◌+◌, ◌*◌, ◌^◌, ◌<◌, ◌≤◌, ◌⊎◌, ◌&&◌, ◌||◌, ◌==◌, Bool, true, false, not, cond, List, length, nat_le, refl, sym, ap, ◌∙◌, inl, inr, arith, lit≤, subst, Option, Some, None}
-use Rattle.std.proofs.lemmas.Bool.{leb-true, and_parts}
+use Rattle.std.proofs.Common.{◌≡◌, ◌≢◌, ℕ, ◌+◌, ◌*◌, ◌≤◌, ◌⊎◌, ◌||◌, ◌==◌, Bool, true, not, cond, nat_le, refl, sym, inl, inr, arith, lit≤, subst, Option, Some, None}
+use Rattle.std.proofs.lemmas.Bool.{leb-true}
 use Rattle.std.proofs.lemmas.Bool.Decides.{nat_tests}
 use Rattle.std.proofs.lemmas.Option.{cond_some}
 use Rattle.std.specs.Option.{option_map}
@@ -9,7 +9,7 @@ use Rattle.packet_fields.specs.declared.field.Header.{Header}
 use Rattle.packet_fields.specs.declared.field.Header.TheVariants.{Meta, Ethernet, Ip, Tcp, Udp}
 use Rattle.packet_fields.specs.declared.shape.Shape.{Shape}
 use Rattle.packet_fields.specs.Fields.{place, NoneOverlap}
-use Rattle.packet_fields.specs.Shape.{Outline, outline_of, after_ip, has_ip, carries, shape_from, shape_of, start_of}
+use Rattle.packet_fields.specs.Shape.{Outline, after_ip, has_ip, carries, shape_from, start_of}
 use Rattle.packet_fields.specs.Table.{row, all_fields}
 use Rattle.packet_fields.proofs.FieldList.{rank, same_rank, each_of, of_each, of_each_pair}
 
@@ -76,7 +76,7 @@ pub record Stands (shape : Shape) (bytes : ℕ) : Type 0 where
   pub udp : (s : ℕ) → shape.udp ≡ Some s → (34 ≤ s) × (s ≤ bytes) × (s + 8 ≤ bytes)
   pub apart : (s t : ℕ) → shape.tcp ≡ Some s → shape.udp ≡ Some t → ⊥
 
-ip_facts : (o : Outline) → has_ip o ≡ true → (34 ≤ o.bytes) × (5 ≤ o.ihl)
+pub ip_facts : (o : Outline) → has_ip o ≡ true → (34 ≤ o.bytes) × (34 ≤ after_ip o) × (after_ip o ≤ o.bytes)
 ip_facts o test = grind (arith, nat_tests)
 
 next_facts : (o : Outline) (protocol bytes : ℕ) → carries o protocol bytes ≡ true → (34 ≤ after_ip o) × (after_ip o + bytes ≤ o.bytes) × (o.protocol ≡ protocol)
@@ -95,9 +95,9 @@ stands o =
       tcp = λ s there. next 6 20 s there;
       udp = λ s there. next 17 8 s there;
       apart = λ s t tcp udp.
-      let one = next_facts o 6 20 (cond_some (carries o 6 20) (after_ip o) s tcp).0 in
-      let other = next_facts o 17 8 (cond_some (carries o 17 8) (after_ip o) t udp).0 in
-      absurd (omega (arith, one.2, other.2));
+          let one = next_facts o 6 20 (cond_some (carries o 6 20) (after_ip o) s tcp).0 in
+          let other = next_facts o 17 8 (cond_some (carries o 17 8) (after_ip o) t udp).0 in
+          absurd (omega (arith, one.2, other.2));
     }
 
 -- where a header is, or would be

@@ -1,5 +1,5 @@
 -- A range of bits within the whole bytes that hold it.
-use Rattle.std.proofs.Common.{◌≡◌, ℕ, ◌+◌, ◌-◌, ◌*◌, ◌/◌, ◌%◌, ◌^◌, ◌<◌, ◌≤◌, List, get_or, length, take, drop, refl, sym, ap, ◌∙◌, inl, inr, arith, lit<, mod-eq_of_lt, length-take, length-drop, get_or-take, get_or-drop, pow-add, zero-add}
+use Rattle.std.proofs.Common.{◌≡◌, ℕ, ◌+◌, ◌-◌, ◌*◌, ◌/◌, ◌%◌, ◌^◌, ◌<◌, ◌≤◌, List, get_or, length, take, drop, sym, ap, ◌∙◌, inl, inr, arith, lit<, mod-eq_of_lt, length-take, length-drop, get_or-take, get_or-drop, pow-add, zero-add}
 use Rattle.std.proofs.Math.Nat.{pow-le-pow_right}
 use Rattle.std.proofs.lemmas.Nat.{one_shl}
 use Rattle.std.proofs.lemmas.Bool.{cases_lt}

@@ -1,5 +1,5 @@
 -- The headers that a packet has: Ethernet (IEEE 802.3), IPv4 (RFC 791), TCP (RFC 9293), UDP (RFC 768).
-use Rattle.std.specs.Prelude.{◌≡◌, ℕ, ◌+◌, ◌*◌, Bool, List, length, Option, Some, None, ◌&&◌, ◌==◌, nat_le, if◌then◌else◌}
+use Rattle.std.specs.Prelude.{ℕ, ◌+◌, ◌*◌, Bool, List, length, Option, Some, None, ◌&&◌, ◌==◌, nat_le, if◌then◌else◌}
 use Rattle.packet_fields.specs.declared.field.Field.{Field}
 use Rattle.packet_fields.specs.declared.field.Field.TheVariants.{EthType, IpVersion, IpIhl, IpFrag, IpProto}
 use Rattle.packet_fields.specs.declared.field.Header.{Header}

@@ -1,8 +1,7 @@
 //! The headers of a packet.
-ghost use Rattle.std.specs.Prelude.{◌≡◌, ℕ, ◌+◌, ◌*◌, ◌^◌, ◌<◌, ◌≤◌, length, true};
-ghost use Rattle.packet_fields.specs.declared.field.Field.TheVariants.{IpIhl};
+ghost use Rattle.std.specs.Prelude.{◌≡◌, ℕ, ◌+◌, ◌*◌, ◌^◌, ◌<◌, ◌≤◌, length, true, Some, None, if◌then◌else◌};
 ghost use Rattle.packet_fields.specs.Fields.{NoneOverlap};
-ghost use Rattle.packet_fields.specs.Shape.{outline_of, in_header, has_ip, carries, shape_of, start_of};
+ghost use Rattle.packet_fields.specs.Shape.{outline_of, in_header, after_ip, has_ip, carries, shape_of, start_of};
 ghost use Rattle.packet_fields.specs.Table.{row};
 
 use crate::bits::number_at;
@@ -12,6 +11,10 @@ use crate::field::{Field, Header, bits_of, first_bit};
 const AFTER_ETHERNET: usize = 14;
 // The type of a frame that holds IPv4.
 const IPV4: u64 = 0x0800;
+// The protocols of RFC 9293 and RFC 768.
+const TCP: u64 = 6;
+
+const UDP: u64 = 17;
 
 /// The headers that a packet has: for each the byte of the packet at which it starts, if it is there.
 #[derive(Clone, Copy, Debug, PartialEq, Eq)]
@@ -38,7 +41,11 @@ impl Shape {
         requires { length packet.now ≤ 9216 }
         ensures { result ≡ shape_of packet.now }
     {
-        let ethernet = if packet.len() >= AFTER_ETHERNET { Some(0) } else { None };
+        let ethernet = if packet.len() >= AFTER_ETHERNET {
+            Some(0)
+        } else {
+            None
+        };
         if !starts_ip(packet) {
             return Shape {
                 ethernet,
@@ -47,12 +54,13 @@ impl Shape {
                 udp: None,
             };
         }
-        let after_ip = AFTER_ETHERNET + 4 * in_header(packet, AFTER_ETHERNET, Field::IpIhl) as usize;
+        let after_ip = AFTER_ETHERNET
+            + 4 * in_header(packet, AFTER_ETHERNET, Field::IpIhl) as usize;
         Shape {
             ethernet,
             ip: Some(AFTER_ETHERNET),
-            tcp: if carries(packet, after_ip, 6, 20) { Some(after_ip) } else { None },
-            udp: if carries(packet, after_ip, 17, 8) { Some(after_ip) } else { None },
+            tcp: next_header(packet, after_ip, TCP, 20),
+            udp: next_header(packet, after_ip, UDP, 8),
         }
     }
 
@@ -97,15 +105,17 @@ fn starts_ip(packet: &[u8]) -> bool
         && AFTER_ETHERNET + 4 * words <= packet.len()
 }
 
-// Whether a header of that protocol, of so many bytes, follows the IPv4 header.
-fn carries(packet: &[u8], after_ip: usize, protocol: u64, bytes: usize) -> bool
+// Where the header of that protocol starts, which has so many bytes, if it follows the IPv4 header.
+#[tactic(auto, using(crate::proofs::Places::ip_facts))]
+fn next_header(packet: &[u8], start: usize, protocol: u64, bytes: usize) -> Option<usize>
+    requires size { length packet.now ≤ 9216 }
     requires ip { has_ip (outline_of packet.now) ≡ true }
-    requires after { after_ip ≡ 14 + 4 * in_header packet.now 14 IpIhl }
+    requires start { start ≡ after_ip (outline_of packet.now) }
     requires short { bytes ≤ 20 }
-    requires near { after_ip ≤ 74 }
-    ensures { result ≡ carries (outline_of packet.now) protocol bytes }
+    ensures { result ≡ (if carries (outline_of packet.now) protocol bytes then Some start else None) }
 {
-    in_header(packet, AFTER_ETHERNET, Field::IpFrag) == 0
+    let is_carried = in_header(packet, AFTER_ETHERNET, Field::IpFrag) == 0
         && in_header(packet, AFTER_ETHERNET, Field::IpProto) == protocol
-        && after_ip + bytes <= packet.len()
+        && start + bytes <= packet.len();
+    if is_carried { Some(start) } else { None }
 }

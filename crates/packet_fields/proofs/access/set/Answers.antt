@@ -1,4 +1,4 @@
-use Rattle.std.proofs.Common.{sym, ◌∙◌, ap, false, is_some, rules}
+use Rattle.std.proofs.Common.{rules}
 use Rattle.packet_fields.proofs.SetFields.{field_set}
 use Rattle.packet_fields.proofs.access.set.Goals as goal
 

@@ -1,4 +1,4 @@
-use Rattle.std.proofs.Common.{arith, ℕ}
+use Rattle.std.proofs.Common.{arith}
 use Rattle.packet_fields.proofs.Windows.{number_written, packet_written}
 use Rattle.packet_fields.proofs.bits.set_number_at.Goals as goal
 
