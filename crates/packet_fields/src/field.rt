@@ -69,7 +69,7 @@ pub enum Field {
     UdpSum,
 }
 
-// Hands the table to the macro `then`, behind what is given. A row has a field, its name, the header that it stands in,
+// The table, which is handed to the macro `then` behind what is given. A row has a field, its name, the header that it stands in,
 // its first bit there (counted from the highest bit of the header's first byte), how many bits it has, and whether it
 // may be written.
 macro_rules! field_table {
@@ -114,54 +114,32 @@ macro_rules! field_table {
     };
 }
 
-macro_rules! all {
+// The fields of the table as a list.
+macro_rules! listed {
     ([] $($name:ident $text:literal $header:ident $at:literal $width:literal $writable:literal,)*) => {
         [$(Field::$name),*]
     };
 }
 
-macro_rules! name {
-    ([$field:ident] $($name:ident $text:literal $header:ident $at:literal $width:literal $writable:literal,)*) => {
+// What one column of the table has for a field.
+macro_rules! column {
+    ([$column:ident $field:ident] $($name:ident $text:literal $header:ident $at:literal $width:literal $writable:literal,)*) => {
         match $field {
-            $(Field::$name => $text,)*
+            $(Field::$name => cell!($column $text $header $at $width $writable),)*
         }
     };
 }
 
-macro_rules! header {
-    ([$field:ident] $($name:ident $text:literal $header:ident $at:literal $width:literal $writable:literal,)*) => {
-        match $field {
-            $(Field::$name => Header::$header,)*
-        }
-    };
-}
-
-macro_rules! at {
-    ([$field:ident] $($name:ident $text:literal $header:ident $at:literal $width:literal $writable:literal,)*) => {
-        match $field {
-            $(Field::$name => $at,)*
-        }
-    };
-}
-
-macro_rules! width {
-    ([$field:ident] $($name:ident $text:literal $header:ident $at:literal $width:literal $writable:literal,)*) => {
-        match $field {
-            $(Field::$name => $width,)*
-        }
-    };
-}
-
-macro_rules! writable {
-    ([$field:ident] $($name:ident $text:literal $header:ident $at:literal $width:literal $writable:literal,)*) => {
-        match $field {
-            $(Field::$name => $writable,)*
-        }
-    };
+macro_rules! cell {
+    (name $text:literal $header:ident $at:literal $width:literal $writable:literal) => { $text };
+    (header $text:literal $header:ident $at:literal $width:literal $writable:literal) => { Header::$header };
+    (at $text:literal $header:ident $at:literal $width:literal $writable:literal) => { $at };
+    (width $text:literal $header:ident $at:literal $width:literal $writable:literal) => { $width };
+    (writable $text:literal $header:ident $at:literal $width:literal $writable:literal) => { $writable };
 }
 
 /// All fields, in field order.
-pub const FIELDS: [Field; 34] = field_table!(all);
+pub const FIELDS: [Field; 34] = field_table!(listed);
 
 /// The name of the field in sources and listings.
 #[tactic(auto, unfolding(crate::specs::Table::all_fields))]
@@ -169,7 +147,7 @@ pub fn field_name(field: Field) -> &'static str
     ensures value { result.now ≡ (row field).name }
     ensures found { field_named result.now ≡ Some field }
 {
-    field_table!(name field)
+    field_table!(column name field)
 }
 
 /// The field of that name, if there is one.
@@ -203,26 +181,26 @@ pub fn width(field: Field) -> Width
 pub fn writable(field: Field) -> bool
     ensures { result ≡ (row field).writable }
 {
-    field_table!(writable field)
+    field_table!(column writable field)
 }
 
-/// How many bits the field has.
+// How many bits the field has.
 pub(crate) fn bits_of(field: Field) -> usize
     ensures { result ≡ (row field).width }
 {
-    field_table!(width field)
+    field_table!(column width field)
 }
 
-/// The header that the field stands in.
+// The header that the field stands in.
 pub(crate) fn header_of(field: Field) -> Header
     ensures { result ≡ (row field).header }
 {
-    field_table!(header field)
+    field_table!(column header field)
 }
 
-/// The field's first bit in its header.
+// The field's first bit in its header.
 pub(crate) fn first_bit(field: Field) -> usize
     ensures { result ≡ (row field).at }
 {
-    field_table!(at field)
+    field_table!(column at field)
 }

@@ -11,9 +11,9 @@ use crate::field::{Field, Header, bits_of, first_bit};
 const AFTER_ETHERNET: usize = 14;
 // The type of a frame that holds IPv4.
 const IPV4: u64 = 0x0800;
-// The protocols of RFC 9293 and RFC 768.
+// TCP's number in an IPv4 header.
 const TCP: u64 = 6;
-
+// UDP's number there.
 const UDP: u64 = 17;
 
 /// The headers that a packet has: for each the byte of the packet at which it starts, if it is there.
