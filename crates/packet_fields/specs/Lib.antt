@@ -1,1 +1,4 @@
+pub mod Bits
+pub mod Fields
+pub mod Shape
 pub mod Table

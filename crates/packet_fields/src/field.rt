@@ -3,6 +3,8 @@ ghost use Rattle.std.specs.Prelude.{◌≡◌, ◌≢◌, MatchOption, Some};
 ghost use Rattle.packet_fields.specs.declared.field.Field.{Field};
 ghost use Rattle.packet_fields.specs.Table.{row, field_named};
 
+use gal_bits::Width;
+
 /// A header of a packet.
 #[derive(Clone, Copy, Debug, PartialEq, Eq)]
 pub enum Header {
@@ -67,7 +69,7 @@ pub enum Field {
     UdpSum,
 }
 
-// Hands the table to the macro `then`, behind what is given. A row has a field, its name, the header that it stands in,
+// The table, which is handed to the macro `then` behind what is given. A row has a field, its name, the header that it stands in,
 // its first bit there (counted from the highest bit of the header's first byte), how many bits it has, and whether it
 // may be written.
 macro_rules! field_table {
@@ -112,37 +114,93 @@ macro_rules! field_table {
     };
 }
 
-macro_rules! all {
+// The fields of the table as a list.
+macro_rules! listed {
     ([] $($name:ident $text:literal $header:ident $at:literal $width:literal $writable:literal,)*) => {
         [$(Field::$name),*]
     };
 }
 
-macro_rules! name {
-    ([$field:ident] $($name:ident $text:literal $header:ident $at:literal $width:literal $writable:literal,)*) => {
+// What one column of the table has for a field.
+macro_rules! column {
+    ([$column:ident $field:ident] $($name:ident $text:literal $header:ident $at:literal $width:literal $writable:literal,)*) => {
         match $field {
-            $(Field::$name => $text,)*
+            $(Field::$name => cell!($column $text $header $at $width $writable),)*
         }
     };
 }
 
+macro_rules! cell {
+    (name $text:literal $header:ident $at:literal $width:literal $writable:literal) => { $text };
+    (header $text:literal $header:ident $at:literal $width:literal $writable:literal) => { Header::$header };
+    (at $text:literal $header:ident $at:literal $width:literal $writable:literal) => { $at };
+    (width $text:literal $header:ident $at:literal $width:literal $writable:literal) => { $width };
+    (writable $text:literal $header:ident $at:literal $width:literal $writable:literal) => { $writable };
+}
+
 /// All fields, in field order.
-pub const FIELDS: [Field; 34] = field_table!(all);
+pub const FIELDS: [Field; 34] = field_table!(listed);
 
 /// The name of the field in sources and listings.
+#[tactic(auto, unfolding(crate::specs::Table::all_fields))]
 pub fn field_name(field: Field) -> &'static str
-    ensures { result.now ≡ (row field).name }
+    ensures value { result.now ≡ (row field).name }
+    ensures found { field_named result.now ≡ Some field }
 {
-    field_table!(name field)
+    field_table!(column name field)
 }
 
 /// The field of that name, if there is one.
-#[tactic(auto, unfolding(crate::specs::Table::all_fields))]
+#[tactic(auto, using(crate::proofs::FieldList::is_exact))]
 pub fn field_of(name: &[u8]) -> Option<Field>
-    ensures named { result ≡ field_named name.now }
+    ensures value { result ≡ field_named name.now }
+    ensures exact { MatchOption result ((field : Field) → (row field).name ≢ name.now) (λ field. (row field).name ≡ name.now) }
+{
+    find_named(name)
+}
+
+#[tactic(auto, unfolding(crate::specs::Table::all_fields))]
+fn find_named(name: &[u8]) -> Option<Field>
+    ensures { result ≡ field_named name.now }
 {
     FIELDS
         .iter()
         .copied()
         .find(|field| field_name(*field).as_bytes() == name)
+}
+
+/// How wide the field's values are.
+#[tactic(auto, using(crate::proofs::FieldList::width_range))]
+pub fn width(field: Field) -> Width
+    ensures { result ≡ (row field).width }
+{
+    Width::new(bits_of(field) as u32).unwrap()
+}
+
+/// Whether `set` may write the field.
+pub fn writable(field: Field) -> bool
+    ensures { result ≡ (row field).writable }
+{
+    field_table!(column writable field)
+}
+
+// How many bits the field has.
+pub(crate) fn bits_of(field: Field) -> usize
+    ensures { result ≡ (row field).width }
+{
+    field_table!(column width field)
+}
+
+// The header that the field stands in.
+pub(crate) fn header_of(field: Field) -> Header
+    ensures { result ≡ (row field).header }
+{
+    field_table!(column header field)
+}
+
+// The field's first bit in its header.
+pub(crate) fn first_bit(field: Field) -> usize
+    ensures { result ≡ (row field).at }
+{
+    field_table!(column at field)
 }
