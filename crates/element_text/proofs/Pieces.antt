@@ -167,11 +167,11 @@ sofar_none {ts = ts} e = record {
   none = λ h. h;
 }
 
-onto_more : (ss : List StmtTree) (s : StmtTree) (b : BodyTree) → onto (ss ++ s ∷ []) b ≡ onto ss (stmt s b)
+pub onto_more : (ss : List StmtTree) (s : StmtTree) (b : BodyTree) → onto (ss ++ s ∷ []) b ≡ onto ss (stmt s b)
 onto_more [] s b = refl
 onto_more (u ∷ ss) s b = ap (stmt u) (onto_more ss s b)
 
-onto_done : (ss : List StmtTree) → onto ss done ≡ body_of ss
+pub onto_done : (ss : List StmtTree) → onto ss done ≡ body_of ss
 onto_done [] = refl
 onto_done (u ∷ ss) = ap (stmt u) (onto_done ss)
 

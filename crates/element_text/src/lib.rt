@@ -1,8 +1,10 @@
 //! The reader of sources: tokens, then grammar, then rules.
 #![tactic(auto)]
 
+mod depth;
 mod error;
 mod grammar;
+mod rules;
 mod surface;
 mod token;
 
