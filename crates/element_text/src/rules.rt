@@ -87,20 +87,19 @@ fn always_ends(source: &SurfaceStmt) -> bool
 }
 
 /// Statements, of which none follows one that always ends.
-#[tactic(auto, using(crate::proofs::Ruled::resolved_all))]
 fn block(alloc: Global, source: &[SurfaceStmt]) -> Result<Body, TextError>
     ensures ok { IfOk result (λ made. body_tree made.items ≡ surface_body source.now) }
     ensures good { OnOk result (IsTrue (is_good_body (surface_body source.now))) }
     ensures refused { IfErr result (λ e. e ≡ TextError.Refused → is_good_body (surface_body source.now) ≡ false) }
 {
     let mut body = Vec::new(alloc);
-    let mut left = source;
-    'statements: while let [next, rest @ ..] = left {
-        if always_ends(next) && !rest.is_empty() {
+    let mut ended = false;
+    for next in source {
+        if ended {
             return Err(TextError::Refused);
         }
         push_statement(&mut body, next)?;
-        left = rest;
+        ended = always_ends(next);
     }
     Ok(body)
 }
