@@ -1,7 +1,6 @@
 -- How the greatest number of open brackets is found from front to back.
-use Rattle.std.proofs.Common.{◌≡◌, ℕ, ◌+◌, ◌<◌, ◌≤◌, max, List, [], ◌∷◌, length, drop, get_or, sym, ap, ◌∙◌, arith}
+use Rattle.std.proofs.Common.{◌≡◌, ℕ, ◌+◌, ◌<◌, ◌≤◌, max, List, [], ◌∷◌, length, drop, get_or, ap, arith}
 use Rattle.std.proofs.lemmas.List.{at_drop_more}
-use Rattle.element_lang.specs.declared.mark.Mark.{Mark}
 use Rattle.element_lang.specs.declared.mark.Mark.TheVariants.{LeftParen, RightParen, LeftBracket, RightBracket, LeftBrace, RightBrace}
 use Rattle.element_lang.specs.Token.{Token, fixed}
 use Rattle.element_lang.specs.Accepted.{open_after, deepest}

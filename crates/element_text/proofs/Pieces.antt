@@ -19,7 +19,7 @@ use Rattle.element_text.specs.declared.error.TextError.TheVariants.{Refused, NoM
 use Rattle.element_text.specs.declared.surface.SurfaceStmt.{SurfaceStmt}
 use Rattle.element_text.specs.Surface.{surface_stmt}
 use Rattle.element_text.specs.Misses.{NoMark, NoNumber, MissesExpr, MissesStmt, MissesBody, MissesAll}
-use Rattle.element_text.proofs.Unique.{one_expr, one_stmt, one_body, no_close, body_from, tail_of}
+use Rattle.element_text.proofs.OneTree.{one_expr, one_stmt, one_body, no_close, body_from, tail_of}
 
 head_of : {t u : Token} {ts us : List Token} → t ∷ ts ≡ u ∷ us → t ≡ u
 head_of e = cc

@@ -1,11 +1,11 @@
 -- How the rules of statements are tested from front to back.
-use Rattle.std.proofs.Common.{◌≡◌, ℕ, ◌+◌, ◌<◌, ◌≤◌, Bool, true, false, not, ◌&&◌, ◌||◌, IsTrue, List, [], ◌∷◌, ◌++◌, length, drop, get_or, map, refl, sym, ap, ◌∙◌}
+use Rattle.std.proofs.Common.{◌≡◌, ℕ, ◌+◌, ◌<◌, Bool, true, false, not, ◌&&◌, ◌||◌, List, [], ◌∷◌, ◌++◌, length, drop, get_or, map, refl, sym, ap, ◌∙◌}
 use Rattle.std.proofs.lemmas.List.{at_drop_more}
 use Rattle.element_lang.specs.declared.tree.Stmt.{Stmt}
 use Rattle.element_lang.specs.Tree.{StmtTree, BodyTree}
 use Rattle.element_lang.specs.Tree.BodyTree.{done, stmt}
 use Rattle.element_lang.specs.Rules.{is_good_stmt, always_ends, is_empty, is_good_body}
-use Rattle.element_lang.specs.View.{stmt_tree, body_of, body_tree}
+use Rattle.element_lang.specs.View.{stmt_tree, body_tree}
 use Rattle.element_text.specs.declared.surface.SurfaceStmt.{SurfaceStmt}
 use Rattle.element_text.specs.declared.surface.SurfaceStmt.TheVariants.{Drop}
 use Rattle.element_text.specs.Surface.{surface_stmt, surface_body}

@@ -1,48 +1,43 @@
--- Tokens spell one tree.
-use Rattle.std.proofs.Common.{◌≡◌, List, [], ◌∷◌, refl, sym, ap, subst}
-use Rattle.element_lang.specs.declared.mark.Mark.TheVariants.{RightBrace}
-use Rattle.element_lang.specs.Token.{Token, fixed}
-use Rattle.element_lang.specs.Tree.{ExprTree, StmtTree, BodyTree, Tree}
-use Rattle.element_lang.specs.Grammar.{IsExpr, IsStmt, IsBody, IsMiddlebox, Spells}
-use Rattle.element_lang.specs.Grammar.IsExpr.{is_literal, is_in_brackets}
-use Rattle.element_lang.specs.Grammar.IsStmt.{is_send, is_drop}
-use Rattle.element_lang.specs.Grammar.IsBody.{is_end, is_more}
-use Rattle.element_lang.specs.Grammar.IsMiddlebox.{is_middlebox}
+-- A text has one list of tokens, and none where a token is refused.
+use Rattle.std.proofs.Common.{◌≡◌, ◌+◌, ℕ, false, List, [], ◌∷◌, length, drop, Some, None, refl, sym, ap, subst, ◌∙◌}
+use Rattle.element_lang.specs.Token.{Lexeme, Placed, gap, lexeme, HasTokens, AreTokens, IsNoToken}
 
--- the same tree, and the same rest
-pub record Same {A : Type 0} (a b : A) (ts us : List Token) : Type 0 where
-  pub tree : a ≡ b
-  pub rest : ts ≡ us
+none_in_empty : (bs : List ℕ) (x : Lexeme) → [] ≡ bs → lexeme bs ≡ Some x → ⊥
+none_in_empty [] x e f = cc
+none_in_empty (b ∷ bs) x e f = cc
 
-pub tail_of : {t u : Token} {ts us : List Token} → t ∷ ts ≡ u ∷ us → ts ≡ us
-tail_of e = cc
+lexeme_is : {x y : Lexeme} → Some x ≡ Some y → x ≡ y
+lexeme_is e = cc
 
-pub body_from : {b : BodyTree} {ts us r : List Token} → ts ≡ us → IsBody b us r → IsBody b ts r
-body_from {b = b} {r = r} same p = let P : List Token → Type 0 = λ l. IsBody b l r in subst P (sym same) p
+-- what stands behind the same lexeme
+behind : (offset : ℕ) (bs : List ℕ) (x y : Lexeme) (us : List Placed) (stop : ℕ) (rest : List ℕ) → y ≡ x → HasTokens (offset + y.len) (drop y.len bs) us stop rest → HasTokens (offset + x.len) (drop x.len bs) us stop rest
+behind offset bs x y us stop rest e h =
+    let P : Lexeme → Type 0 = λ y. HasTokens (offset + y.len) (drop y.len bs) us stop rest in
+    subst P e h
 
-pub one_expr : {e d : ExprTree} {ts r s : List Token} → IsExpr e ts r → IsExpr d ts s → Same e d r s
-one_expr is_literal is_literal = record { tree = refl; rest = refl }
-one_expr (is_in_brackets p) (is_in_brackets q) =
-    let h = one_expr p q in record { tree = h.tree; rest = tail_of h.rest }
+one_list : (ts us : List Placed) (offset : ℕ) (bs : List ℕ) (stop stop' : ℕ) → HasTokens offset bs ts stop [] → HasTokens offset bs us stop' [] → ts ≡ us
+one_list [] [] offset bs stop stop' h k = refl
+one_list [] (u ∷ us) offset bs stop stop' (a, b) (y, g, n, k) = absurd (none_in_empty (drop (gap false bs) bs) y b g)
+one_list (t ∷ ts) [] offset bs stop stop' (x, f, m, h) (a, b) = absurd (none_in_empty (drop (gap false bs) bs) x b f)
+one_list (t ∷ ts) (u ∷ us) offset bs stop stop' (x, f, m, h) (y, g, n, k) =
+    let start : ℕ = offset + gap false bs in
+    let here : List ℕ = drop (gap false bs) bs in
+    let same : y ≡ x = lexeme_is (sym g ∙ f) in
+    let others : ts ≡ us = one_list ts us (start + x.len) (drop x.len here) stop stop' h (behind start here x y us stop' [] same k) in
+    let first : t ≡ u = m ∙ ap (λ (x : Lexeme). record { token = x.token; offset = start }) (sym same) ∙ sym n in
+    ap (λ t. t ∷ ts) first ∙ ap (λ ts. u ∷ ts) others
 
-pub one_stmt : {e d : StmtTree} {ts r s : List Token} → IsStmt e ts r → IsStmt d ts s → Same e d r s
-one_stmt (is_send p) (is_send q) =
-    let h = one_expr p q in record { tree = cc (h.tree); rest = tail_of h.rest }
-one_stmt is_drop is_drop = record { tree = refl; rest = refl }
+pub only : (text : List ℕ) {ts us : List Placed} → AreTokens text us → AreTokens text ts → ts ≡ us
+only text {ts = ts} {us = us} k h = one_list ts us 0 text (length text) (length text) h k
 
--- no statement begins with the bracket that closes a block
-pub no_close : {s : StmtTree} {ts r : List Token} → IsStmt s (fixed RightBrace ∷ ts) r → ⊥
-no_close p = elim p [ ]
+refused : (us ts : List Placed) (offset : ℕ) (bs : List ℕ) (stop stop' b : ℕ) (rest : List ℕ) → lexeme (b ∷ rest) ≡ None → HasTokens offset bs us stop (b ∷ rest) → HasTokens offset bs ts stop' [] → ⊥
+refused [] [] offset bs stop stop' b rest none (a, e) (c, f) = let h : b ∷ rest ≡ [] = e ∙ sym f in cc
+refused [] (t ∷ ts) offset bs stop stop' b rest none (a, e) (y, g, n, k) = let h : None ≡ Some y = sym none ∙ ap lexeme e ∙ g in cc
+refused (u ∷ us) [] offset bs stop stop' b rest none (x, f, m, h) (a, e) = none_in_empty (drop (gap false bs) bs) x e f
+refused (u ∷ us) (t ∷ ts) offset bs stop stop' b rest none (x, f, m, h) (y, g, n, k) =
+    let start : ℕ = offset + gap false bs in
+    let here : List ℕ = drop (gap false bs) bs in
+    refused us ts (start + x.len) (drop x.len here) stop stop' b rest none h (behind start here x y ts stop' [] (lexeme_is (sym g ∙ f)) k)
 
-pub one_body : {b c : BodyTree} {ts r s : List Token} → IsBody b ts r → IsBody c ts s → Same b c r s
-one_body is_end is_end = record { tree = refl; rest = refl }
-one_body is_end (is_more s b) = absurd (no_close s)
-one_body (is_more s b) is_end = absurd (no_close s)
-one_body (is_more s b) (is_more s' b') =
-    let h = one_stmt s s' in
-    let i = one_body b (body_from h.rest b') in
-    record { tree = cc (h.tree, i.tree); rest = i.rest }
-
--- tokens spell one middlebox
-pub one_middlebox : {m n : Tree} {ts : List Token} → Spells ts m → Spells ts n → m ≡ n
-one_middlebox (is_middlebox p) (is_middlebox q) = let h = one_body p q in cc (h.tree)
+pub no_list : (text : List ℕ) (offset : ℕ) → IsNoToken text offset → (ts : List Placed) → AreTokens text ts → ⊥
+no_list text offset (us, b, rest, h, none) ts k = refused us ts 0 text offset (length text) b rest none h k

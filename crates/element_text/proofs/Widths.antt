@@ -1,5 +1,5 @@
 -- A value of some bits, as a shift tests it.
-use Rattle.std.proofs.Common.{◌≡◌, ℕ, ◌<◌, ◌*◌, ◌/◌, nat_eq, nat_lt, Bool, true, false, ltb, eqb, arith, refl, sym, ap, ◌∙◌}
+use Rattle.std.proofs.Common.{◌≡◌, ℕ, ◌<◌, ◌*◌, ◌/◌, nat_eq, nat_lt, arith}
 use Rattle.std.proofs.lemmas.Bool.{ltb_from_iff, eqb-true, eq-eqb}
 use Rattle.std.proofs.Math.Nat.{div-lt_iff_lt-mul}
 

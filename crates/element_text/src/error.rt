@@ -1,8 +1,10 @@
 //! Why a text is not read.
 ghost use Rattle.std.specs.Prelude.{◌≡◌};
-ghost use Rattle.element_text.specs.declared.error.TextError.TheVariants.{NoMemory};
+ghost use Rattle.element_text.specs.declared.error.TextError.TheVariants.{Refused, NoMemory};
 
+use crate::tokens::TokenError;
 use std::alloc::{AllocError, AllocFailed};
+use std::str::Utf8Error;
 use thiserror::Error;
 
 /// Why there is no middlebox for a text.
@@ -29,5 +31,26 @@ impl<T: Drop> From<AllocFailed<T>> for TextError {
 
     fn from(_: AllocFailed<T>) -> Self {
         TextError::NoMemory
+    }
+}
+
+impl From<Utf8Error> for TextError {
+    ghost from_gives = { λ _ e. e ≡ Refused };
+
+    fn from(_: Utf8Error) -> Self {
+        TextError::Refused
+    }
+}
+
+impl From<TokenError> for TextError {
+    ghost use Rattle.element_text.specs.TextErrors.{text_error};
+
+    ghost from_gives = { λ t e. e ≡ text_error t };
+
+    fn from(error: TokenError) -> Self {
+        match error {
+            TokenError::NoToken(_) => TextError::Refused,
+            TokenError::NoMemory => TextError::NoMemory,
+        }
     }
 }

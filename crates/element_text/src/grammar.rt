@@ -50,7 +50,10 @@ fn number<'t>(text: &[u8], tokens: &'t [Placed]) -> Result<(u64, &'t [Placed]), 
 
 /// The expression in front, and the tokens behind it. The recursion goes as deep as brackets stand in one another.
 #[tactic(auto, using(crate::proofs::Pieces::pieces))]
-fn expression<'t>(text: &[u8], tokens: &'t [Placed]) -> Result<(SurfaceExpr, &'t [Placed]), TextError>
+fn expression<'t>(
+    text: &[u8],
+    tokens: &'t [Placed],
+) -> Result<(SurfaceExpr, &'t [Placed]), TextError>
     ensures ok { IfOk result (λ x. IsExpr (surface_expr x.0) (tokens_of text.now tokens.now) (tokens_of text.now x.1.now)) }
     ensures shorter { IfOk result (λ x. length x.1.now < length tokens.now) }
     ensures err { IfErr result (λ e. MissesExpr (tokens_of text.now tokens.now) e) }
@@ -73,7 +76,10 @@ fn expression<'t>(text: &[u8], tokens: &'t [Placed]) -> Result<(SurfaceExpr, &'t
 
 /// The statement in front, and the tokens behind it.
 #[tactic(auto, using(crate::proofs::Pieces::pieces))]
-fn statement<'t>(text: &[u8], tokens: &'t [Placed]) -> Result<(SurfaceStmt, &'t [Placed]), TextError>
+fn statement<'t>(
+    text: &[u8],
+    tokens: &'t [Placed],
+) -> Result<(SurfaceStmt, &'t [Placed]), TextError>
     ensures ok { IfOk result (λ x. IsStmt (surface_stmt x.0) (tokens_of text.now tokens.now) (tokens_of text.now x.1.now)) }
     ensures shorter { IfOk result (λ x. length x.1.now < length tokens.now) }
     ensures err { IfErr result (λ e. MissesStmt (tokens_of text.now tokens.now) e) }
@@ -95,7 +101,11 @@ fn statement<'t>(text: &[u8], tokens: &'t [Placed]) -> Result<(SurfaceStmt, &'t 
 
 /// The statements up to the bracket that closes their block, and the tokens behind it.
 #[tactic(auto, using(crate::proofs::Pieces::wholes))]
-fn block<'t>(alloc: Global, text: &[u8], tokens: &'t [Placed]) -> Result<(Vec<SurfaceStmt>, &'t [Placed]), TextError>
+fn block<'t>(
+    alloc: Global,
+    text: &[u8],
+    tokens: &'t [Placed],
+) -> Result<(Vec<SurfaceStmt>, &'t [Placed]), TextError>
     ensures ok { IfOk result (λ x. IsBody (surface_body x.0.items) (tokens_of text.now tokens.now) (tokens_of text.now x.1.now)) }
     ensures err { IfErr result (λ e. MissesBody (tokens_of text.now tokens.now) e) }
 {

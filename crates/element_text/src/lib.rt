@@ -4,8 +4,14 @@
 mod depth;
 mod error;
 mod grammar;
+mod lexeme;
+mod number;
+mod reader;
 mod rules;
+mod scan;
 mod surface;
 mod token;
+mod tokens;
 
 pub use error::TextError;
+pub use reader::read;

@@ -1,7 +1,7 @@
 use Rattle.std.proofs.Common.{◌≡◌, ◌<◌, length, arith}
 use Rattle.std.proofs.lemmas.Grind.{common_steps}
 use Rattle.std.proofs.lemmas.List.{length-map}
-use Rattle.element_text.specs.Tokens.{token_of, tokens_of}
+use Rattle.element_text.specs.Tokens.{token_of}
 use Rattle.element_text.proofs.Pieces.{made_middlebox, no_end}
 use Rattle.element_text.proofs.grammar.parse.Goals as goal
 

@@ -1,4 +1,4 @@
-use Rattle.std.proofs.Common.{◌≡◌, ◌^◌, ℕ, nat_lt, ap, ◌∙◌}
+use Rattle.std.proofs.Common.{◌^◌, nat_lt, ap, ◌∙◌}
 use Rattle.std.proofs.lemmas.Nat.{pow_pos}
 use Rattle.element_text.proofs.Widths.{quotient_zero}
 use Rattle.element_text.proofs.rules.fits.Goals as goal
