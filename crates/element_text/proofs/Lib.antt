@@ -2,3 +2,9 @@ pub mod Marks
 pub mod Words
 pub mod Unique
 pub mod Scanned
+pub mod OneTree
+pub mod Pieces
+pub mod Depths
+pub mod Ruled
+pub mod Widths
+pub mod Sources
