@@ -1,5 +1,5 @@
 -- What the reading of one file shows, and of several one after another.
-use Rattle.std.proofs.Common.{◌≡◌, ◌≤◌, ◌<◌, ℕ, List, length, Option, Some, None, IfSome, subst, sym, inl, inr, arith, Ok}
+use Rattle.std.proofs.Common.{◌≡◌, ◌≤◌, ◌<◌, ℕ, List, length, Option, Some, None, IfSome, subst, sym, ◌∙◌, inl, inr, arith, Ok}
 use Rattle.gal_io.specs.Files.{FilesState}
 use Rattle.gal_io.specs.Count.{Rose}
 use Rattle.packet_fields.specs.declared.packet.Packet.{Packet}
@@ -10,7 +10,7 @@ use Rattle.gallium_cli.specs.declared.refusal.Refusal.{Refusal}
 use Rattle.gallium_cli.specs.declared.refusal.Refusal.TheVariants.{Usage, Source, Trace, Schedule, TooLong, ReadFault, WriteFault, NoMemory}
 use Rattle.gallium_cli.specs.Words.{Replay}
 use Rattle.gallium_cli.specs.Loads.{GoesOn}
-use Rattle.gallium_cli.specs.Causes.{Role, source, trace, schedule, size_of, files_of, IsGood, IsFileRefused, IsFirstRefused}
+use Rattle.gallium_cli.specs.Causes.{Role, source, trace, schedule, size_of, files_of, IsGood, IsBad, IsFileRefused, IsFirstRefused}
 
 -- what spells a middlebox is a good source, and what spells packets a good trace
 pub good_source : (told : Option (List ℕ)) (m : Tree) → IfSome told (λ text. (length text ≤ size_of source) × IsSource text m) → IfSome told (IsGood source)
@@ -59,3 +59,10 @@ third_refused refusal s t c f g k h m packets one goes two goes_on refused =
         inl (refused_later refusal schedule c f g h goes (refused_later refusal schedule c g k h goes_on refused)),
       ),
     )
+
+-- the bytes that were loaded are no source
+pub bad_source : (told : Option (List ℕ)) (bytes text : List ℕ) → text ≡ bytes → IfSome told (λ told. (bytes ≡ told) × (length told ≤ size_of source))
+    → ((m : Tree) → IsSource text m → ⊥) → IfSome told (IsBad source)
+bad_source None bytes text same loaded none = tt
+bad_source (Some told) bytes text same loaded none =
+    (loaded.1, λ spelled. none spelled.0 (subst (λ bs. IsSource bs spelled.0) (sym (same ∙ loaded.0)) spelled.1))

@@ -1,5 +1,5 @@
 -- When each refusal comes, and what each end leaves on out and err.
-use Rattle.std.specs.Prelude.{◌≡◌, ◌<◌, ◌≤◌, ◌⊎◌, ℕ, List, [], ◌∷◌, length, take, Option, Some, None, IfSome, Result, Ok, Err}
+use Rattle.std.specs.Prelude.{◌≡◌, ◌<◌, ◌≤◌, ◌⊎◌, ℕ, List, [], ◌∷◌, length, take, Option, Some, None, IfSome, IsSomeAnd, ◌≢◌, Result, Ok, Err}
 use Rattle.std.specs.Io.KnownBytes.{append_known}
 use Rattle.gal_io.specs.Count.{Rose}
 use Rattle.gal_io.specs.Files.{FilesState}
@@ -112,3 +112,50 @@ abbrev pub Ends : Status → Option Request → FilesState → FilesState → Si
 Ends status request f f' o o' e e' =
     ((status ≡ statuses.Done) × IsDone request f o o' × (e'.taken ≡ e.taken))
     ⊎ ((refusal : Refusal) × HasCause refusal request f f' o o' × IsTold refusal status e e')
+
+-- an end that files, sinks and memory may bring whatever the words and the texts are
+abbrev pub IsFault : Status → Type 0
+IsFault statuses.ReadFault = Unit {0}
+IsFault statuses.WriteFault = Unit {0}
+IsFault statuses.NoMemory = Unit {0}
+IsFault _ = ⊥
+
+-- that status, or such a fault
+abbrev pub IsUnlessFault : Status → Status → Type 0
+IsUnlessFault status result = (result ≡ status) ⊎ IsFault result
+
+-- every content is told and good
+abbrev pub AllGood : (List ℕ → Option (List ℕ)) → List (List ℕ × Role) → Type 0
+AllGood told [] = Unit {0}
+AllGood told (file ∷ files) = IsSomeAnd (told file.0) (IsGood file.1) × AllGood told files
+
+-- the status of a file that spells nothing
+abbrev pub refused_status : Role → Status
+refused_status source = statuses.Source
+refused_status trace = statuses.Trace
+refused_status schedule = statuses.Schedule
+
+-- a text is above its size, or spells nothing
+abbrev pub IsRefusedAs : Role → Status → List ℕ → Type 0
+IsRefusedAs role status text = ((status ≡ statuses.TooLong) × (size_of role < length text)) ⊎ ((status ≡ refused_status role) × IsBad role text)
+
+-- the first content that isn't good is told, as are those before it, and is refused with this status
+abbrev pub IsFirstBad : (List ℕ → Option (List ℕ)) → List (List ℕ × Role) → Status → Type 0
+IsFirstBad told [] status = ⊥
+IsFirstBad told (file ∷ files) status =
+    IsSomeAnd (told file.0) (IsRefusedAs file.1 status) ⊎ (IsSomeAnd (told file.0) (IsGood file.1) × IsFirstBad told files status)
+
+-- what words with no form end in
+abbrev pub IsUsage : Option Request → Status → Type 0
+IsUsage None result = IsUnlessFault statuses.Usage result
+IsUsage (Some request) result = result ≢ statuses.Usage
+
+-- where every content of a request is told and good, it is done unless there is a fault
+abbrev pub IsComplete : Option Request → FilesState → Status → Type 0
+IsComplete None f result = Unit {0}
+IsComplete (Some request) f result = AllGood f.told (files_of request) → IsUnlessFault statuses.Done result
+
+-- where the first bad content of a request is told, its status is answered unless there is a fault
+abbrev pub IsExact : Option Request → FilesState → Status → Type 0
+IsExact None f result = Unit {0}
+IsExact (Some request) f result = (status : Status) → IsFirstBad f.told (files_of request) status → IsUnlessFault status result

@@ -1,12 +1,14 @@
 //! The whole program.
-ghost use Rattle.std.specs.Prelude.{◌≡◌, ◌≤◌, Some, IsTrue, map, length, string_bytes, IfOk, IfErr, OnOk};
+ghost use Rattle.std.specs.Prelude.{◌≡◌, ◌≤◌, ◌⊎◌, Some, IsTrue, map, length, string_bytes, IfOk, IfErr, OnOk};
+ghost use Rattle.gal_io.specs.Count.{Rose};
 ghost use Rattle.element_lang.specs.View.{tree};
 ghost use Rattle.element_lang.specs.Rules.{is_good};
 ghost use Rattle.run_text.specs.declared.refusal.TheConstants.{MAX_PACKETS, MAX_EVENTS};
 ghost use Rattle.run_text.specs.Report.{report_of};
 ghost use Rattle.schedule_replay.specs.Run.{job_run};
 ghost use Rattle.gallium_cli.specs.Words.{request_of, Replay};
-ghost use Rattle.gallium_cli.specs.Causes.{HasCause, IsDone, IsJob, IsFirstRefused, Ends, files_of};
+ghost use Rattle.gallium_cli.specs.Causes.{HasCause, IsDone, IsJob, IsFirstRefused, Ends, IsUsage, IsExact, IsComplete, files_of};
+ghost use Rattle.gallium_cli.specs.declared.status.Status.{Status};
 ghost use Rattle.gallium_cli.specs.Puts.{IsPut, IsNotPut};
 
 use crate::load::{load_schedule, load_source, load_trace};
@@ -119,8 +121,23 @@ pub fn gallium<F: Files, O: Sink, E: Sink>(
     out: &mut O,
     err: &mut E,
 ) -> Status
-    ensures cause { Ends result (request_of (map string_bytes words.now))
+    // The whole of it: why it ended so, and what it left on both sinks. The others are read off this one.
+    ensures ends { Ends result (request_of (map string_bytes words.now))
         (F.seen files.old) (F.seen files.new) (O.seen out.old) (O.seen out.new) (E.seen err.old) (E.seen err.new) }
+
+    ensures done { result ≡ Status.Done → IsDone (request_of (map string_bytes words.now)) (F.seen files.old) (O.seen out.old) (O.seen out.new) }
+    ensures silent { result ≡ Status.Done → (E.seen err.new).taken ≡ (E.seen err.old).taken }
+
+    // Which status comes, by the words and the told texts.
+    ensures usage { IsUsage (request_of (map string_bytes words.now)) result }
+    ensures exact { IsExact (request_of (map string_bytes words.now)) (F.seen files.old) result }
+    ensures complete { IsComplete (request_of (map string_bytes words.now)) (F.seen files.old) result }
+
+    // Which count rose, whether or not anything is told.
+    ensures too_long { result ≡ Status.TooLong → Rose (F.seen files.old).overlong (F.seen files.new).overlong }
+    ensures read_fault { result ≡ Status.ReadFault → Rose (F.seen files.old).faults (F.seen files.new).faults }
+    ensures write_fault { result ≡ Status.WriteFault
+        → Rose (O.seen out.old).faults (O.seen out.new).faults ⊎ Rose (E.seen err.old).faults (E.seen err.new).faults }
 {
     match perform(alloc, words, files, out) {
         Ok(()) => Status::Done,

@@ -1,0 +1,123 @@
+-- Which status told files lead to.
+use Rattle.std.proofs.Common.{◌≡◌, ◌≢◌, ◌≤◌, ◌<◌, ◌⊎◌, ℕ, List, [], ◌∷◌, length, Option, Some, None, IfSome, IsSomeAnd, subst, sym, ◌∙◌, ap, refl, inl, inr, arith, Ok}
+use Rattle.gal_io.specs.Files.{FilesState}
+use Rattle.gal_io.specs.Sink.{SinkState}
+use Rattle.gal_io.specs.declared.sink.SinkEnd.{SinkEnd}
+use Rattle.gal_io.specs.declared.sink.SinkEnd.TheVariants as ends
+use Rattle.packet_fields.specs.declared.packet.Packet.{Packet}
+use Rattle.element_lang.specs.Tree.{Tree}
+use Rattle.run_text.specs.declared.event.Event.{Event}
+use Rattle.gallium_cli.specs.declared.status.Status.{Status}
+use Rattle.gallium_cli.specs.declared.status.Status.TheVariants as statuses
+use Rattle.gallium_cli.specs.declared.refusal.Refusal.{Refusal}
+use Rattle.gallium_cli.specs.declared.refusal.Refusal.TheVariants.{Usage, Source, Trace, Schedule, TooLong, ReadFault, WriteFault, NoMemory}
+use Rattle.gallium_cli.specs.Lines.{status_of}
+use Rattle.gallium_cli.specs.Words.{Request, Replay}
+use Rattle.gallium_cli.specs.Causes.{Role, source, trace, schedule, size_of, files_of, IsGood, IsBad, IsFileRefused, IsFirstRefused, IsJob, IsDone, IsNotWritten, HasCause, after_line, IsTold, Ends, IsFault, IsUnlessFault, refused_status, IsRefusedAs, IsFirstBad, IsExact}
+
+-- a text isn't good and refused
+good_not_bad : (role : Role) (told : Option (List ℕ)) → IsSomeAnd told (IsGood role) → IfSome told (IsBad role) → ⊥
+good_not_bad role None good bad = good
+good_not_bad role (Some text) good bad = bad.1 good.1
+
+good_not_long : (role : Role) (told : Option (List ℕ)) → IsSomeAnd told (IsGood role) → IfSome told (λ text. size_of role < length text) → ⊥
+good_not_long role None good long = good
+good_not_long role (Some text) good long = let short = good.0 in omega arith
+
+good_not_refused : (role : Role) (status : Status) (told : Option (List ℕ)) → IfSome told (IsGood role) → IsSomeAnd told (IsRefusedAs role status) → ⊥
+good_not_refused role status None good refused = refused
+good_not_refused role status (Some text) good (inl long) = let short = good.0 in let above = long.1 in omega arith
+good_not_refused role status (Some text) good (inr bad) = bad.1.1 good.1
+
+-- what is refused of a good file is a fault
+good_refused : (refusal : Refusal) (role : Role) (name : List ℕ) (f f' : FilesState) → IsSomeAnd (f.told name) (IsGood role) → IsFileRefused refusal role name f f' → IsFault (status_of refusal)
+good_refused Source source name f f' good refused = good_not_bad source (f.told name) good refused
+good_refused Source trace name f f' good refused = refused
+good_refused Source schedule name f f' good refused = refused
+good_refused Trace source name f f' good refused = refused
+good_refused Trace trace name f f' good refused = good_not_bad trace (f.told name) good refused
+good_refused Trace schedule name f f' good refused = refused
+good_refused Schedule source name f f' good refused = refused
+good_refused Schedule trace name f f' good refused = refused
+good_refused Schedule schedule name f f' good refused = good_not_bad schedule (f.told name) good refused
+good_refused (TooLong blamed) role name f f' good refused = good_not_long role (f.told name) good refused.1
+good_refused (ReadFault blamed) role name f f' good refused = tt
+good_refused NoMemory role name f f' good refused = tt
+good_refused Usage role name f f' good refused = refused
+good_refused WriteFault role name f f' good refused = absurd refused
+
+-- a text that is refused for its size isn't refused for what it spells, and the other way round
+long_only : (role : Role) (status : Status) (told : Option (List ℕ)) → IsSomeAnd told (IsRefusedAs role status) → IfSome told (λ text. size_of role < length text) → status ≡ statuses.TooLong
+long_only role status None refused long = absurd refused
+long_only role status (Some text) (inl here) long = here.0
+long_only role status (Some text) (inr bad) long = let short = bad.1.0 in absurd (omega arith)
+
+bad_only : (role : Role) (status : Status) (told : Option (List ℕ)) → IsSomeAnd told (IsRefusedAs role status) → IfSome told (IsBad role) → status ≡ refused_status role
+bad_only role status None refused bad = absurd refused
+bad_only role status (Some text) (inl long) bad = let short = bad.0 in let above = long.1 in absurd (omega arith)
+bad_only role status (Some text) (inr here) bad = here.0
+
+-- the status of a refused file is the one that its told text has, or a fault
+exact_file : (refusal : Refusal) (role : Role) (name : List ℕ) (status : Status) (f f' : FilesState) → IsSomeAnd (f.told name) (IsRefusedAs role status) → IsFileRefused refusal role name f f'
+    → IsUnlessFault status (status_of refusal)
+exact_file Source source name status f f' bad refused = inl (sym (bad_only source status (f.told name) bad refused))
+exact_file Source trace name status f f' bad refused = absurd refused
+exact_file Source schedule name status f f' bad refused = absurd refused
+exact_file Trace source name status f f' bad refused = absurd refused
+exact_file Trace trace name status f f' bad refused = inl (sym (bad_only trace status (f.told name) bad refused))
+exact_file Trace schedule name status f f' bad refused = absurd refused
+exact_file Schedule source name status f f' bad refused = absurd refused
+exact_file Schedule trace name status f f' bad refused = absurd refused
+exact_file Schedule schedule name status f f' bad refused = inl (sym (bad_only schedule status (f.told name) bad refused))
+exact_file (TooLong blamed) role name status f f' bad refused = inl (sym (long_only role status (f.told name) bad refused.1))
+exact_file (ReadFault blamed) role name status f f' bad refused = inr tt
+exact_file NoMemory role name status f f' bad refused = inr tt
+exact_file Usage role name status f f' bad refused = absurd refused
+exact_file WriteFault role name status f f' bad refused = absurd refused
+
+exact_files : (refusal : Refusal) (files : List (List ℕ × Role)) (status : Status) (f f' : FilesState) → IsFirstBad f.told files status → IsFirstRefused refusal files f f' → IsUnlessFault status (status_of refusal)
+exact_files refusal [] status f f' bad refused = absurd bad
+exact_files refusal (file ∷ files) status f f' (inl here) (inl refused) = exact_file refusal file.1 file.0 status f f' here refused
+exact_files refusal (file ∷ files) status f f' (inl here) (inr later) = absurd (good_not_refused file.1 status (f.told file.0) later.0 here)
+exact_files refusal (file ∷ files) status f f' (inr bad) (inl refused) = inr (good_refused refusal file.1 file.0 f f' bad.0 refused)
+exact_files refusal (file ∷ files) status f f' (inr bad) (inr later) = exact_files refusal files status f f' bad.1 later.1
+
+-- an answer that wasn't written is a fault
+unwritten : (refusal : Refusal) (request : Request) (f : FilesState) (o o' : SinkState) → IsNotWritten refusal request f o o' → IsFault (status_of refusal)
+unwritten WriteFault request f o o' h = tt
+unwritten NoMemory request f o o' h = tt
+unwritten Usage request f o o' h = h
+unwritten Source request f o o' h = h
+unwritten Trace request f o o' h = h
+unwritten Schedule request f o o' h = h
+unwritten (TooLong name) request f o o' h = absurd h
+unwritten (ReadFault name) request f o o' h = absurd h
+
+-- the line of a refusal brings nothing but faults
+told_status : (refusal : Refusal) (end : SinkEnd) (status : Status) → IsUnlessFault status (status_of refusal) → IsUnlessFault status (after_line refusal end)
+told_status refusal ends.Done status h = h
+told_status refusal ends.Failed status h = inr tt
+told_status refusal ends.NoMemory status h = inr tt
+
+of_told : (status result : Status) (refusal : Refusal) (e e' : SinkState) → IsTold refusal result e e' → IsUnlessFault status (status_of refusal) → IsUnlessFault status result
+of_told status result refusal e e' told h = subst (IsUnlessFault status) (sym told.1) (told_status refusal told.0 status h)
+
+-- a job's files are good as far as they are told
+good_told : {P : List ℕ → Type 0} (role : Role) (status : Status) (told : Option (List ℕ)) → ((text : List ℕ) → P text → IsGood role text) → IfSome told P → IsSomeAnd told (IsRefusedAs role status) → ⊥
+good_told {P} role status None good spelled refused = refused
+good_told {P} role status (Some text) good spelled refused = good_not_refused role status (Some text) (good text spelled) refused
+
+job_not_bad : (told : List ℕ → Option (List ℕ)) (s t c : List ℕ) (m : Tree) (packets : List Packet) (events : List Event) (status : Status)
+    → IsJob told s t c m packets events → IsFirstBad told (files_of (Replay s t c)) status → ⊥
+job_not_bad told s t c m packets events status job (inl bad) = good_told source status (told s) (λ text spelled. (spelled.0, (m, spelled.1))) job.source bad
+job_not_bad told s t c m packets events status job (inr (good, inl bad)) = good_told trace status (told t) (λ text spelled. (spelled.0, (packets, spelled.1))) job.trace bad
+job_not_bad told s t c m packets events status job (inr (good, inr (also, inl bad))) = good_told schedule status (told c) (λ text spelled. (spelled.0, (events, spelled.1))) job.schedule bad
+job_not_bad told s t c m packets events status job (inr (good, inr (also, inr none))) = none.1
+
+-- the first bad content that is told decides the status
+pub exact_ends : (request : Option Request) (result : Status) (f f' : FilesState) (o o' e e' : SinkState) → Ends result request f f' o o' e e' → IsExact request f result
+exact_ends None result f f' o o' e e' end = tt
+exact_ends (Some (Replay s t c)) result f f' o o' e e' (inl (is, (text, (m, packets, events, job, report), taken), silent)) =
+    λ status bad. absurd (job_not_bad f.told s t c m packets events status job bad)
+exact_ends (Some request) result f f' o o' e e' (inr (refusal, inl first, told)) = λ status bad. of_told status result refusal e e' told (exact_files refusal (files_of request) status f f' bad first.0)
+exact_ends (Some request) result f f' o o' e e' (inr (refusal, inr unput, told)) = λ status bad. of_told status result refusal e e' told (inr (unwritten refusal request f o o' unput))
