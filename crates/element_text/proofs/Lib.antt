@@ -1,4 +1,4 @@
-pub mod Marks
-pub mod Words
-pub mod Unique
-pub mod Scanned
+pub mod Spellings
+pub mod WordSpans
+pub mod OneTokenList
+pub mod FoundTokens
