@@ -1,3 +1,4 @@
+<<<<<<< HEAD
 pub mod Marks
 pub mod Words
 pub mod Unique
@@ -8,3 +9,9 @@ pub mod Depths
 pub mod Ruled
 pub mod Widths
 pub mod Sources
+=======
+pub mod Spellings
+pub mod WordSpans
+pub mod OneTokenList
+pub mod FoundTokens
+>>>>>>> 2e1aa2f1b56fe2f20b6a143f8a76aaa52a28a562
