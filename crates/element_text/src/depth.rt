@@ -13,8 +13,9 @@ fn open_behind(text: &[u8], token: Token, before: usize) -> usize
 {
     match token {
         Token::Fixed(Mark::LeftParen | Mark::LeftBracket | Mark::LeftBrace) => before + 1,
-        Token::Fixed(Mark::RightParen | Mark::RightBracket | Mark::RightBrace) =>
-            before.saturating_sub(1),
+        Token::Fixed(Mark::RightParen | Mark::RightBracket | Mark::RightBrace) => {
+            before.saturating_sub(1)
+        }
         _ => before,
     }
 }
