@@ -1,7 +1,7 @@
-pub mod Marks
-pub mod Words
-pub mod Unique
-pub mod Scanned
+pub mod Spellings
+pub mod WordSpans
+pub mod OneTokenList
+pub mod FoundTokens
 pub mod OneTree
 pub mod Pieces
 pub mod Depths

@@ -68,9 +68,10 @@ fn word_token(text: &[u8], span: Span) -> Option<Token>
 }
 
 // The symbol in front, the longest that fits.
-#[tactic(auto, using(crate::proofs::Marks::spelling_some))]
+#[tactic(auto, using(crate::proofs::Spellings::spelling_some))]
 fn symbol(bytes: &[u8]) -> Option<Lexeme>
-    ensures found { (text : List ℕ) → option_map (lexeme_of text) result ≡ lang.symbol_of (lang.mark_in_front SYMBOLS bytes.now) }
+    ensures found { (text : List ℕ) → option_map (lexeme_of text) result
+        ≡ lang.symbol_of (lang.mark_in_front SYMBOLS bytes.now) }
     ensures some { IfSome result (λ lexeme. 0 < lexeme.len) }
     ensures within { IfSome result (λ lexeme. lexeme.len ≤ length bytes.now) }
 {
@@ -83,7 +84,8 @@ fn symbol(bytes: &[u8]) -> Option<Lexeme>
 
 // The number that these bytes are, if they are one.
 fn number(bytes: &[u8]) -> Option<Lexeme>
-    ensures found { (text : List ℕ) → option_map (lexeme_of text) result ≡ lang.number_lexeme bytes.now }
+    ensures found { (text : List ℕ) → option_map (lexeme_of text) result
+        ≡ lang.number_lexeme bytes.now }
     ensures len { IfSome result (λ lexeme. lexeme.len ≡ length bytes.now) }
 {
     let value = number_value(bytes)?;
@@ -96,7 +98,8 @@ fn number(bytes: &[u8]) -> Option<Lexeme>
 // The word that a span is, if it is one.
 fn word(text: &[u8], span: Span) -> Option<Lexeme>
     requires { span.offset + span.len ≤ length text.now }
-    ensures found { option_map (lexeme_of text.now) result ≡ lang.word_lexeme (spelled text.now span) }
+    ensures found { option_map (lexeme_of text.now) result
+        ≡ lang.word_lexeme (spelled text.now span) }
     ensures len { IfSome result (λ lexeme. lexeme.len ≡ span.len) }
 {
     let token = word_token(text, span)?;
@@ -107,10 +110,11 @@ fn word(text: &[u8], span: Span) -> Option<Lexeme>
 }
 
 /// The token at a place of the text.
-#[tactic(auto, using(crate::proofs::Words::word_within))]
+#[tactic(auto, using(crate::proofs::WordSpans::word_within))]
 pub(crate) fn lexeme_at(text: &[u8], offset: usize) -> Option<Lexeme>
     requires { offset ≤ length text.now }
-    ensures found { option_map (lexeme_of text.now) result ≡ lang.lexeme (drop offset text.now) }
+    ensures found { option_map (lexeme_of text.now) result
+        ≡ lang.lexeme (drop offset text.now) }
     ensures some { IfSome result (λ lexeme. 0 < lexeme.len) }
     ensures within { IfSome result (λ lexeme. offset + lexeme.len ≤ length text.now) }
 {

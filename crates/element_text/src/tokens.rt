@@ -38,11 +38,12 @@ fn past_gap(text: &[u8], offset: usize) -> usize
 }
 
 /// The tokens of a text, or the first place where none starts.
-#[tactic(auto, using(crate::proofs::Scanned::scanned))]
+#[tactic(auto, using(crate::proofs::FoundTokens::found_tokens))]
 pub(crate) fn tokens(alloc: Global, text: &[u8]) -> Result<Vec<Placed>, TokenError>
-    ensures ok { IfOk result (λ found. lang.AreTokens text.now (map (placed_of text.now) found.items)) }
-    ensures only { IfOk result (λ found. (others : List lang.Placed) → lang.AreTokens text.now others
-        → others ≡ map (placed_of text.now) found.items) }
+    ensures ok { IfOk result (λ found.
+        lang.AreTokens text.now (map (placed_of text.now) found.items)) }
+    ensures only { IfOk result (λ found. (others : List lang.Placed)
+        → lang.AreTokens text.now others → others ≡ map (placed_of text.now) found.items) }
     ensures err { IfErr result (λ e. IsTokenError text.now e) }
 {
     let mut found = Vec::new(alloc);

@@ -1,5 +1,5 @@
-use Rattle.element_text.proofs.Unique.{only}
-use Rattle.element_text.proofs.Scanned.{found_pushed, found_end, found_error}
+use Rattle.element_text.proofs.OneTokenList.{only}
+use Rattle.element_text.proofs.FoundTokens.{found_pushed, found_end, found_error}
 use Rattle.element_text.proofs.tokens.tokens.Goals as goal
 
 pub returns-then-start-text-clause-only : goal.returns-then-start-text-clause-only

@@ -1,6 +1,6 @@
 use Rattle.std.proofs.Common.{length, map, ◌-◌}
 use Rattle.element_text.specs.Tokens.{placed_of}
-use Rattle.element_text.proofs.Scanned.{Found}
+use Rattle.element_text.proofs.FoundTokens.{Found}
 use Rattle.element_text.proofs.tokens.tokens.Given as goal
 
 abbrev pub invariant-each : goal.invariant-each

@@ -6,7 +6,7 @@ use Rattle.element_text.specs.declared.lexeme.Lexeme.{Lexeme}
 use Rattle.element_text.specs.declared.token.Placed.{Placed}
 use Rattle.element_text.specs.Tokens.{placed_of}
 use Rattle.element_text.specs.Lexemes.{lexeme_of}
-use Rattle.element_text.proofs.Unique.{no_list}
+use Rattle.element_text.proofs.OneTokenList.{no_list}
 
 -- where the token behind a place starts
 abbrev start_of : List ℕ → ℕ → ℕ
@@ -67,4 +67,4 @@ found_error {text = text} {front = front} {offset = offset} {start = start} h st
     let here = stopped text front offset start (drop start text) h start_is refl (omega (arith, length-drop start text)) (sym none) in
     (here, no_list text start here)
 
-pub ruleset scanned = (found_none, found_end)
+pub ruleset found_tokens = (found_none, found_end)
