@@ -1,9 +1,9 @@
 -- How the rules of statements are tested from front to back.
-use Rattle.std.proofs.Common.{◌≡◌, ℕ, ◌+◌, ◌<◌, Bool, true, false, not, ◌&&◌, ◌||◌, List, [], ◌∷◌, ◌++◌, length, drop, get_or, map, refl, sym, ap, ◌∙◌}
+use Rattle.std.proofs.Common.{◌≡◌, ℕ, ◌+◌, ◌<◌, Bool, true, false, not, ◌&&◌, ◌||◌, List, [], ◌∷◌, ◌++◌, length, drop, get_or, map, sym, ap, ◌∙◌}
 use Rattle.std.proofs.lemmas.List.{at_drop_more}
 use Rattle.element_lang.specs.declared.tree.Stmt.{Stmt}
 use Rattle.element_lang.specs.Tree.{StmtTree, BodyTree}
-use Rattle.element_lang.specs.Tree.BodyTree.{done, stmt}
+use Rattle.element_lang.specs.Tree.BodyTree.{stmt}
 use Rattle.element_lang.specs.Rules.{is_good_stmt, always_ends, is_empty, is_good_body}
 use Rattle.element_lang.specs.View.{stmt_tree, body_tree}
 use Rattle.element_text.specs.declared.surface.SurfaceStmt.{SurfaceStmt}
@@ -20,9 +20,6 @@ pub record Resolved (made : List Stmt) (ended : Bool) (left all : List SurfaceSt
   pub same : onto (map stmt_tree made) (surface_body left) ≡ surface_body all
   pub rules : is_good_body (surface_body all) ≡ may_follow ended (surface_body left)
 
-pub resolved_none : {made : List Stmt} {all : List SurfaceStmt} → made ≡ [] → Resolved made false all all
-resolved_none {all = all} e = record { same = ap (λ l. onto (map stmt_tree l) (surface_body all)) e; rules = refl }
-
 -- behind a statement that ends a run stands another
 follows : (b : BodyTree) (ended : Bool) (s : StmtTree) → ended ≡ true → may_follow ended (stmt s b) ≡ false
 follows b ended s e = ap (λ x. may_follow x (stmt s b)) e
@@ -30,14 +27,6 @@ follows b ended s e = ap (λ x. may_follow x (stmt s b)) e
 pub ended_early : {made : List Stmt} {ended : Bool} {source : List SurfaceStmt} (at : ℕ) → at < length source → Resolved made ended (drop at source) source → ended ≡ true → is_good_body (surface_body source) ≡ false
 ended_early {ended = ended} {source = source} at within h e =
     h.rules ∙ at_drop_more (λ l. may_follow ended (surface_body l)) source at Drop within ∙ follows (surface_body (drop (at + 1) source)) ended (surface_stmt (get_or source at Drop)) e
-
--- the next statement breaks a rule
-broken : (b : BodyTree) (ended : Bool) (s : StmtTree) → ended ≡ false → is_good_stmt s ≡ false → may_follow ended (stmt s b) ≡ false
-broken b ended s e bad = ap (λ x. may_follow x (stmt s b)) e ∙ ap (λ x. (x && (not (always_ends s) || is_empty b)) && is_good_body b) bad
-
-pub next_broken : {made : List Stmt} {ended : Bool} {source : List SurfaceStmt} (at : ℕ) (d : SurfaceStmt) → at < length source → Resolved made ended (drop at source) source → ended ≡ false → is_good_stmt (surface_stmt (get_or source at d)) ≡ false → is_good_body (surface_body source) ≡ false
-next_broken {ended = ended} {source = source} at d within h e bad =
-    h.rules ∙ at_drop_more (λ l. may_follow ended (surface_body l)) source at d within ∙ broken (surface_body (drop (at + 1) source)) ended (surface_stmt (get_or source at d)) e bad
 
 -- the next statement keeps the rules
 kept : (b : BodyTree) (ended ends : Bool) (s : StmtTree) → ended ≡ false → is_good_stmt s ≡ true → ends ≡ always_ends s → may_follow ended (stmt s b) ≡ may_follow ends b
@@ -55,10 +44,3 @@ resolved_more {made = made} {ended = ended} {ends = ends} {source = source} at d
 -- no statement is left
 pub resolved_same : {made : List Stmt} {ended : Bool} {left all : List SurfaceStmt} → Resolved made ended left all → left ≡ [] → body_tree made ≡ surface_body all
 resolved_same {made = made} h none = sym (onto_done (map stmt_tree made)) ∙ ap (λ l. onto (map stmt_tree made) (surface_body l)) (sym none) ∙ h.same
-
-nothing_left : (ended : Bool) → may_follow ended done ≡ true
-nothing_left true = refl
-nothing_left false = refl
-
-pub resolved_good : {made : List Stmt} {ended : Bool} {left all : List SurfaceStmt} → Resolved made ended left all → left ≡ [] → is_good_body (surface_body all) ≡ true
-resolved_good {ended = ended} h none = h.rules ∙ ap (λ l. may_follow ended (surface_body l)) none ∙ nothing_left ended

@@ -1,5 +1,5 @@
 -- From tokens to a source.
-use Rattle.std.proofs.Common.{◌≡◌, ℕ, ◌<◌, ◌≤◌, true, false, List, [], ◌∷◌, map, IsUtf8, Result, Ok, Err, IfOk, IfErr, refl, sym, ap, subst, ◌∙◌, arith}
+use Rattle.std.proofs.Common.{◌≡◌, ℕ, ◌≤◌, true, false, List, [], ◌∷◌, map, IsUtf8, Result, Ok, Err, IfOk, IfErr, refl, sym, ap, subst, ◌∙◌}
 use Rattle.element_lang.specs.declared.sizes.TheConstants.{MAX_DEPTH}
 use Rattle.element_lang.specs.Token as lang
 use Rattle.element_lang.specs.declared.tree.Middlebox.{Middlebox}
@@ -16,27 +16,15 @@ use Rattle.element_text.specs.declared.tokens.TokenError.TheVariants.{NoToken, N
 use Rattle.element_text.specs.Tokens.{placed_of, token_of, tokens_of}
 use Rattle.element_text.specs.TokenError.{IsTokenError}
 use Rattle.element_text.specs.TextErrors.{text_error}
-use Rattle.element_text.specs.Misses.{MissesAll}
 use Rattle.element_text.specs.Reads.{AreTokensOf}
 use Rattle.element_text.proofs.OneTree.{one_middlebox}
 
 -- ## Tokens of a middlebox
 
-pub accepted_tree : {ts : List lang.Token} {m s : Tree} → deepest 0 ts ≤ MAX_DEPTH → Spells ts s → m ≡ s → is_good s ≡ true → AreTokensOf ts m
-accepted_tree {ts = ts} shallow p same good =
-    let P : Tree → Type 0 = λ t. AreTokensOf ts t in
-    subst P (sym same) (record { depth = shallow; spells = p; good = good })
-
-pub one_tree : {ts : List lang.Token} {m s : Tree} → Spells ts s → m ≡ s → (other : Tree) → Spells ts other → other ≡ m
+one_tree : {ts : List lang.Token} {m s : Tree} → Spells ts s → m ≡ s → (other : Tree) → Spells ts other → other ≡ m
 one_tree p same other q = one_middlebox q p ∙ sym same
 
-pub too_deep : {ts : List lang.Token} → MAX_DEPTH < deepest 0 ts → (m : Tree) → AreTokensOf ts m → ⊥
-too_deep deep m h = omega (arith, h.depth)
-
-pub not_spelled : {ts : List lang.Token} {e : TextError} → MissesAll ts e → e ≡ Refused → (m : Tree) → AreTokensOf ts m → ⊥
-not_spelled none is m h = none.none is m h.spells
-
-pub not_good : {ts : List lang.Token} {s : Tree} → Spells ts s → is_good s ≡ false → (m : Tree) → AreTokensOf ts m → ⊥
+not_good : {ts : List lang.Token} {s : Tree} → Spells ts s → is_good s ≡ false → (m : Tree) → AreTokensOf ts m → ⊥
 not_good p bad m h = true_is_not_false (sym h.good ∙ ap is_good (one_middlebox h.spells p) ∙ bad)
   where
     true_is_not_false : true ≡ false → ⊥

@@ -6,15 +6,16 @@ ghost use Rattle.element_text.specs.Tokens.{token_of, tokens_of};
 use crate::token::{Placed, Token};
 use element_lang::Mark;
 
-/// How many brackets are open behind a token, where so many were open before it.
+// How many brackets are open behind a token, where so many were open before it.
 fn open_behind(text: &[u8], token: Token, before: usize) -> usize
     requires { before < usize.MAX }
     ensures { result ≡ open_after (token_of text.now token) before }
 {
     match token {
         Token::Fixed(Mark::LeftParen | Mark::LeftBracket | Mark::LeftBrace) => before + 1,
-        Token::Fixed(Mark::RightParen | Mark::RightBracket | Mark::RightBrace) =>
-            before.saturating_sub(1),
+        Token::Fixed(Mark::RightParen | Mark::RightBracket | Mark::RightBrace) => {
+            before.saturating_sub(1)
+        }
         _ => before,
     }
 }

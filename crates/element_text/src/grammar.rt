@@ -12,7 +12,7 @@ use crate::token::{Placed, Token};
 use element_lang::Mark;
 use std::alloc::Global;
 
-/// The first token, and those behind it.
+// The first token, and those behind it.
 fn first<'t>(text: &[u8], tokens: &'t [Placed]) -> Result<(Token, &'t [Placed]), TextError>
     ensures ok { IfOk result (λ x. tokens_of text.now tokens.now ≡ token_of text.now x.0 ∷ tokens_of text.now x.1.now) }
     ensures shorter { IfOk result (λ x. length x.1.now < length tokens.now) }
@@ -24,7 +24,7 @@ fn first<'t>(text: &[u8], tokens: &'t [Placed]) -> Result<(Token, &'t [Placed]),
     }
 }
 
-/// The tokens behind a mark.
+// The tokens behind a mark.
 fn after_mark<'t>(text: &[u8], tokens: &'t [Placed], want: Mark) -> Result<&'t [Placed], TextError>
     ensures ok { IfOk result (λ rest. tokens_of text.now tokens.now ≡ fixed want ∷ tokens_of text.now rest.now) }
     ensures shorter { IfOk result (λ rest. length rest.now < length tokens.now) }
@@ -36,7 +36,7 @@ fn after_mark<'t>(text: &[u8], tokens: &'t [Placed], want: Mark) -> Result<&'t [
     }
 }
 
-/// The number in front, and the tokens behind it.
+// The number in front, and the tokens behind it.
 fn number<'t>(text: &[u8], tokens: &'t [Placed]) -> Result<(u64, &'t [Placed]), TextError>
     ensures ok { IfOk result (λ x. tokens_of text.now tokens.now ≡ number_token x.0 ∷ tokens_of text.now x.1.now) }
     ensures shorter { IfOk result (λ x. length x.1.now < length tokens.now) }
@@ -48,7 +48,7 @@ fn number<'t>(text: &[u8], tokens: &'t [Placed]) -> Result<(u64, &'t [Placed]), 
     }
 }
 
-/// The expression in front, and the tokens behind it. The recursion goes as deep as brackets stand in one another.
+// The expression in front, and the tokens behind it. The recursion goes as deep as brackets stand in one another.
 #[tactic(auto, using(crate::proofs::Pieces::pieces))]
 fn expression<'t>(
     text: &[u8],
@@ -74,7 +74,7 @@ fn expression<'t>(
     }
 }
 
-/// The statement in front, and the tokens behind it.
+// The statement in front, and the tokens behind it.
 #[tactic(auto, using(crate::proofs::Pieces::pieces))]
 fn statement<'t>(
     text: &[u8],
@@ -99,7 +99,7 @@ fn statement<'t>(
     }
 }
 
-/// The statements up to the bracket that closes their block, and the tokens behind it.
+// The statements up to the bracket that closes their block, and the tokens behind it.
 #[tactic(auto, using(crate::proofs::Pieces::wholes))]
 fn block<'t>(
     alloc: Global,

@@ -12,20 +12,20 @@ use element_lang::{Body, Expr, Middlebox, Stmt};
 use gal_bits::Width;
 use std::alloc::Global;
 
-/// The most bits of a value.
+// The most bits of a value.
 const MAX_WIDTH: u64 = 64;
 
-/// The bits of a port.
+// The bits of a port.
 const PORT_BITS: u32 = 8;
 
-/// Whether a value needs no more bits than these.
+// Whether a value needs no more bits than these.
 fn fits(value: u64, width: Width) -> bool
     ensures { result ≡ nat_lt value (2 ^ width) }
 {
     u64::from(width.bits()) == MAX_WIDTH || value >> width.bits() == 0
 }
 
-/// A literal, whose width is tested first.
+// A literal, whose width is tested first.
 fn literal(value: u64, width: u64) -> Result<Expr, TextError>
     ensures ok { IfOk result (λ made. expr_tree made ≡ lit value width) }
     ensures good { is_ok result ≡ is_good_expr (lit value width) }
@@ -39,7 +39,7 @@ fn literal(value: u64, width: u64) -> Result<Expr, TextError>
     }
 }
 
-/// An expression.
+// An expression.
 fn expression(source: &SurfaceExpr) -> Result<Expr, TextError>
     ensures ok { IfOk result (λ made. expr_tree made ≡ surface_expr source.now) }
     ensures good { is_ok result ≡ is_good_expr (surface_expr source.now) }
@@ -49,7 +49,7 @@ fn expression(source: &SurfaceExpr) -> Result<Expr, TextError>
     }
 }
 
-/// How many bits wide its value is.
+// How many bits wide its value is.
 fn width_of(expr: &Expr) -> u32
     ensures { result ≡ width_of_tree (expr_tree expr.now) }
 {
@@ -58,7 +58,7 @@ fn width_of(expr: &Expr) -> u32
     }
 }
 
-/// Puts a statement behind others.
+// Puts a statement behind others.
 fn push_statement(body: &mut Body, source: &SurfaceStmt) -> Result<(), TextError>
     ensures ok { OnOk result (map stmt_tree body.new.items ≡ map stmt_tree body.old.items ++ surface_stmt source.now ∷ []) }
     ensures good { OnOk result (is_good_stmt (surface_stmt source.now) ≡ true) }
@@ -77,7 +77,7 @@ fn push_statement(body: &mut Body, source: &SurfaceStmt) -> Result<(), TextError
     Ok(())
 }
 
-/// Whether a run never goes on behind it.
+// Whether a run never goes on behind it.
 fn always_ends(source: &SurfaceStmt) -> bool
     ensures { result ≡ tree_always_ends (surface_stmt source.now) }
 {
@@ -86,7 +86,7 @@ fn always_ends(source: &SurfaceStmt) -> bool
     }
 }
 
-/// Statements, of which none follows one that always ends.
+// Statements, of which none follows one that always ends.
 fn block(alloc: Global, source: &[SurfaceStmt]) -> Result<Body, TextError>
     ensures ok { IfOk result (λ made. body_tree made.items ≡ surface_body source.now) }
     ensures good { OnOk result (IsTrue (is_good_body (surface_body source.now))) }
