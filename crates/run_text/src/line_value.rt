@@ -55,7 +55,7 @@ pub(crate) fn read_values<V: LineValue>(
 {
     let mut values = Vec::new(alloc);
     let mut have = 0;
-    let mut number = 0;
+    let mut number: usize = 0;
     let mut ahead = text;
     while let Some((line, behind)) = split_line(ahead) {
         number += 1;
