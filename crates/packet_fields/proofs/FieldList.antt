@@ -1,6 +1,7 @@
 -- The list of all fields: each stands in it, and what a test says of its members holds of every field.
-use Rattle.std.proofs.Common.{◌≡◌, ◌≢◌, ℕ, zero, suc, ◌<◌, ◌≤◌, ◌&&◌, ◌==◌, Bool, true, false, List, [], ◌∷◌, get_or, length, nat_le, refl, sym, ap, ◌∙◌, subst, lit<, arith, Option, Some, None, MatchOption, find, unwrap_or, ⊎_elim}
+use Rattle.std.proofs.Common.{◌≡◌, ◌≢◌, ℕ, zero, suc, ◌<◌, ◌≤◌, ◌&&◌, ◌==◌, Bool, true, false, List, [], ◌∷◌, get_or, length, nat_le, refl, sym, ap, ◌∙◌, subst, lit<, arith, Option, Some, None, MatchOption, slice_get, find, unwrap_or, ⊎_elim}
 use Rattle.std.proofs.lemmas.Bool.{leb-true, and_parts, false≢true, eqb-true, cases_Bool, cond-true, cond-false}
+use Rattle.std.proofs.lemmas.Option.{slice_get-get_or}
 use Rattle.std.proofs.lemmas.Slice.Eq.{bytes_eq-Decides}
 use Rattle.std.specs.Option.{option_map}
 use Rattle.std.specs.Str.{bytes_eq}
@@ -82,7 +83,7 @@ at_rank UdpDport = refl
 at_rank UdpLen = refl
 at_rank UdpSum = refl
 
-rank-lt : (f : Field) → rank f < 34
+pub rank-lt : (f : Field) → rank f < 34
 rank-lt MetaPort = lit< tt
 rank-lt MetaLen = lit< tt
 rank-lt HasIp = lit< tt
@@ -117,6 +118,10 @@ rank-lt UdpSport = lit< tt
 rank-lt UdpDport = lit< tt
 rank-lt UdpLen = lit< tt
 rank-lt UdpSum = lit< tt
+
+pub slice_get-rank : (f : Field) → slice_get all_fields (rank f) ≡ Some f
+unfolding all_fields
+slice_get-rank f = slice_get-get_or all_fields (rank f) MetaPort (rank-lt f) ∙ ap (λ (g : Field). Some g) (at_rank f)
 
 -- two fields of one rank are one
 pub same_rank : (f g : Field) → rank f ≡ rank g → f ≡ g

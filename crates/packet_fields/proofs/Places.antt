@@ -1,5 +1,5 @@
 -- Where the fields of a packet are: no two that are there overlap.
-use Rattle.std.proofs.Common.{◌≡◌, ◌≢◌, ℕ, ◌+◌, ◌*◌, ◌≤◌, ◌⊎◌, ◌||◌, ◌==◌, Bool, true, not, cond, nat_le, refl, sym, inl, inr, arith, lit≤, subst, Option, Some, None}
+use Rattle.std.proofs.Common.{◌≡◌, ◌≢◌, ℕ, ◌+◌, ◌*◌, ◌≤◌, ◌⊎◌, ◌||◌, ◌==◌, Bool, true, not, cond, List, length, nat_le, refl, sym, inl, inr, arith, lit≤, subst, Option, Some, None}
 use Rattle.std.proofs.lemmas.Bool.{leb-true}
 use Rattle.std.proofs.lemmas.Bool.Decides.{nat_tests}
 use Rattle.std.proofs.lemmas.Option.{cond_some}
@@ -9,7 +9,7 @@ use Rattle.packet_fields.specs.declared.field.Header.{Header}
 use Rattle.packet_fields.specs.declared.field.Header.TheVariants.{Meta, Ethernet, Ip, Tcp, Udp}
 use Rattle.packet_fields.specs.declared.shape.Shape.{Shape}
 use Rattle.packet_fields.specs.Fields.{place, NoneOverlap}
-use Rattle.packet_fields.specs.Shape.{Outline, after_ip, has_ip, carries, shape_from, start_of}
+use Rattle.packet_fields.specs.Shape.{Outline, outline_of, after_ip, has_ip, carries, shape_from, shape_of, start_of}
 use Rattle.packet_fields.specs.Table.{row, all_fields}
 use Rattle.packet_fields.proofs.FieldList.{rank, same_rank, each_of, of_each, of_each_pair}
 
@@ -82,7 +82,7 @@ ip_facts o test = grind (arith, nat_tests)
 next_facts : (o : Outline) (protocol bytes : ℕ) → carries o protocol bytes ≡ true → (34 ≤ after_ip o) × (after_ip o + bytes ≤ o.bytes) × (o.protocol ≡ protocol)
 next_facts o protocol bytes test = grind (arith, nat_tests)
 
-pub stands : (o : Outline) → Stands (shape_from o) o.bytes
+stands : (o : Outline) → Stands (shape_from o) o.bytes
 unfolding shape_from
 stands o =
     let next = λ (protocol bytes s : ℕ) (there : cond (carries o protocol bytes) (Some (after_ip o)) None ≡ Some s).
@@ -99,6 +99,10 @@ stands o =
           let other = next_facts o 17 8 (cond_some (carries o 17 8) (after_ip o) t udp).0 in
           absurd (omega (arith, one.2, other.2));
     }
+
+pub stands_in : (bytes : List ℕ) → Stands (shape_of bytes) (length bytes)
+unfolding shape_of
+stands_in bytes = stands (outline_of bytes)
 
 -- where a header is, or would be
 abbrev pub Spot : Shape → Header → ℕ → Type 0
@@ -182,12 +186,12 @@ place_within shape bytes f first ok e =
     let at = is_at shape f first e in
     omega (arith, at.1.is, within_header f, header_ends shape bytes ok (row f).header at.0 at.1.there)
 
-pub none_overlap : (shape : Shape) (o : Outline) → shape ≡ shape_from o → NoneOverlap shape
-none_overlap shape o is f g i j other here there =
-    let ok : Stands shape o.bytes = subst (λ (x : Shape). Stands x o.bytes) (sym is) (stands o) in
+pub none_overlap : (shape : Shape) (bytes : List ℕ) → shape ≡ shape_of bytes → NoneOverlap shape
+none_overlap shape bytes is f g i j other here there =
+    let ok : Stands shape (length bytes) = subst (λ (x : Shape). Stands x (length bytes)) (sym is) (stands_in bytes) in
     let one = is_at shape f i here in
     let two = is_at shape g j there in
-    elim (fields_apart shape o.bytes ok f g one.0 two.0 other (spot shape o.bytes ok (row f).header one.0 one.1.there) (spot shape o.bytes ok (row g).header two.0 two.1.there)) [
+    elim (fields_apart shape (length bytes) ok f g one.0 two.0 other (spot shape (length bytes) ok (row f).header one.0 one.1.there) (spot shape (length bytes) ok (row g).header two.0 two.1.there)) [
       | inl before ↦ inl (omega (arith, one.1.is, two.1.is))
       | inr behind ↦ inr (omega (arith, one.1.is, two.1.is))
     ]

@@ -11,17 +11,17 @@ use Rattle.packet_fields.specs.Fields.{place, meta_value, field_value, with_fiel
 use Rattle.packet_fields.specs.Shape.{outline_of, in_header, shape_from, shape_of, start_of}
 use Rattle.packet_fields.specs.Table.{row}
 use Rattle.packet_fields.proofs.BitRows.{length-with_number_at, number_at-with_same, number_at-with_apart}
-use Rattle.packet_fields.proofs.Places.{Stands, stands, Spot, spot, is_at, fields_apart, header_ends, place_within, none_overlap}
+use Rattle.packet_fields.proofs.Places.{Stands, stands_in, Spot, spot, is_at, fields_apart, header_ends, place_within, none_overlap}
 
 -- ---- in the packet
 pub start_near : (shape : Shape) (bytes : List ℕ) (f : Field) (start : ℕ) → shape ≡ shape_of bytes → start_of shape (row f).header ≡ Some start → start ≤ length bytes
 start_near shape bytes f start is there =
     let here : start_of (shape_of bytes) (row f).header ≡ Some start = sym (ap (λ (x : Shape). start_of x (row f).header) is) ∙ there in
-    omega (arith, header_ends (shape_of bytes) (length bytes) (stands (outline_of bytes)) (row f).header start here)
+    omega (arith, header_ends (shape_of bytes) (length bytes) (stands_in bytes) (row f).header start here)
 
 pub place_within_packet : (shape : Shape) (bytes : List ℕ) (f : Field) (first width : ℕ) → shape ≡ shape_of bytes → Some first ≡ place shape f → width ≡ (row f).width → first + width ≤ 8 * length bytes
 place_within_packet shape bytes f first width is at w =
-    omega (arith, w, place_within (shape_of bytes) (length bytes) f first (stands (outline_of bytes)) (sym (at ∙ ap (λ (x : Shape). place x f) is)))
+    omega (arith, w, place_within (shape_of bytes) (length bytes) f first (stands_in bytes) (sym (at ∙ ap (λ (x : Shape). place x f) is)))
 
 one_bit : (b : Bool) → cond b 1 0 < 2 ^ 1
 one_bit true = lit< tt
@@ -48,7 +48,7 @@ value_absent bytes port f at = ap (λ o. unwrap_or (option_map (λ first. number
 outline_field : (bytes : List ℕ) (f g : Field) (first value start : ℕ) → place (shape_of bytes) f ≡ Some first → f ≢ g → Spot (shape_of bytes) (row g).header start
     → in_header (with_number_at bytes first (row f).width value) start g ≡ in_header bytes start g
 outline_field bytes f g first value start at other would =
-    let ok : Stands (shape_of bytes) (length bytes) = stands (outline_of bytes) in
+    let ok : Stands (shape_of bytes) (length bytes) = stands_in bytes in
     let is = is_at (shape_of bytes) f first at in
     let apart = fields_apart (shape_of bytes) (length bytes) ok f g is.0 start other (spot (shape_of bytes) (length bytes) ok (row f).header is.0 is.1.there) would in
     let moved : (first + (row f).width ≤ 8 * start + (row g).at) ⊎ (8 * start + (row g).at + (row g).width ≤ first) = elim apart [ inl x ↦ inl (omega (arith, is.1.is)) | inr x ↦ inr (omega (arith, is.1.is)) ] in
@@ -66,6 +66,10 @@ outline_stays bytes f first value at may =
     let e = outline_field bytes f IpFrag first value 14 at (unlike f IpFrag may refl) refl in
     let g = outline_field bytes f IpProto first value 14 at (unlike f IpProto may refl) refl in
     cc
+
+shape_stays : (bytes : List ℕ) (f : Field) (first value : ℕ) → place (shape_of bytes) f ≡ Some first → (row f).writable ≡ true → shape_of (with_number_at bytes first (row f).width value) ≡ shape_of bytes
+unfolding shape_of
+shape_stays bytes f first value at may = ap shape_from (outline_stays bytes f first value at may)
 
 -- what a packet becomes in which a field was set
 pub record IsSet (bytes next : List ℕ) (shape : Shape) (f : Field) (value : ℕ) : Type 0 where
@@ -87,7 +91,7 @@ other_value bytes next f g first value port at other is same None there =
 other_value bytes next f g first value port at other is same (Some second) there =
     value_there next port g second (ap (λ x. place x g) same ∙ there)
     ∙ ap (λ x. number_at x second (row g).width) is
-    ∙ number_at-with_apart bytes first (row f).width value second (row g).width (none_overlap (shape_of bytes) (outline_of bytes) refl f g first second other at there)
+    ∙ number_at-with_apart bytes first (row f).width value second (row g).width (none_overlap (shape_of bytes) bytes refl f g first second other at there)
     ∙ sym (value_there bytes port g second there)
 
 pub field_set : (bytes next : List ℕ) (shape : Shape) (f : Field) (first width value : ℕ) → shape ≡ shape_of bytes → Some first ≡ place shape f → width ≡ (row f).width → (row f).writable ≡ true
@@ -95,8 +99,8 @@ pub field_set : (bytes next : List ℕ) (shape : Shape) (f : Field) (first width
 field_set bytes next shape f first width value is_shape is_first is_width may fits written =
     let at : place (shape_of bytes) f ≡ Some first = sym (is_first ∙ ap (λ (x : Shape). place x f) is_shape) in
     let is : next ≡ with_number_at bytes first (row f).width value = written ∙ ap (λ w. with_number_at bytes first w value) is_width in
-    let same : shape_of next ≡ shape_of bytes = ap (λ (x : List ℕ). shape_of x) is ∙ ap shape_from (outline_stays bytes f first value at may) in
-    let within : first + (row f).width ≤ 8 * length bytes = place_within (shape_of bytes) (length bytes) f first (stands (outline_of bytes)) at in
+    let same : shape_of next ≡ shape_of bytes = ap (λ (x : List ℕ). shape_of x) is ∙ shape_stays bytes f first value at may in
+    let within : first + (row f).width ≤ 8 * length bytes = place_within (shape_of bytes) (length bytes) f first (stands_in bytes) at in
     record {
       after = is ∙ sym (with_field_there bytes f first value at);
       reads = λ port. value_there next port f first (ap (λ (x : Shape). place x f) same ∙ at) ∙ ap (λ x. number_at x first (row f).width) is ∙ number_at-with_same bytes first (row f).width value within fits;

@@ -54,7 +54,7 @@ shape_from o = record {
 }
 
 -- the headers of a packet
-abbrev pub shape_of : List ℕ → Shape
+unfoldable pub shape_of : List ℕ → Shape
 shape_of bytes = shape_from (outline_of bytes)
 
 -- the byte at which a header starts

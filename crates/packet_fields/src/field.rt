@@ -1,7 +1,7 @@
 //! The fields of a packet, from one table.
-ghost use Rattle.std.specs.Prelude.{◌≡◌, ◌≢◌, MatchOption, Some};
+ghost use Rattle.std.specs.Prelude.{◌≡◌, ◌≢◌, ◌<◌, MatchOption, Some, slice_get};
 ghost use Rattle.packet_fields.specs.declared.field.Field.{Field};
-ghost use Rattle.packet_fields.specs.Table.{row, field_named};
+ghost use Rattle.packet_fields.specs.Table.{row, all_fields, field_named};
 
 use gal_bits::Width;
 
@@ -139,7 +139,20 @@ macro_rules! cell {
 }
 
 /// All fields, in field order.
-pub const FIELDS: [Field; 34] = field_table!(listed);
+#[tactic(auto, unfolding(crate::specs::Table::all_fields))]
+pub fn fields() -> [Field; 34]
+    ensures { result ≡ all_fields }
+{
+    field_table!(listed)
+}
+
+/// The place of the field in field order, counted from 0.
+pub fn field_index(field: Field) -> usize
+    ensures place { slice_get all_fields result ≡ Some field }
+    ensures within { result < 34 }
+{
+    field as usize
+}
 
 /// The name of the field in sources and listings.
 #[tactic(auto, unfolding(crate::specs::Table::all_fields))]
@@ -159,11 +172,10 @@ pub fn field_of(name: &[u8]) -> Option<Field>
     find_named(name)
 }
 
-#[tactic(auto, unfolding(crate::specs::Table::all_fields))]
 fn find_named(name: &[u8]) -> Option<Field>
     ensures { result ≡ field_named name.now }
 {
-    FIELDS
+    fields()
         .iter()
         .copied()
         .find(|field| field_name(*field).as_bytes() == name)

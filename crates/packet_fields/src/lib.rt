@@ -9,7 +9,7 @@ mod shape;
 mod verdict;
 
 pub use access::{get, set};
-pub use field::{FIELDS, Field, Header, field_name, field_of, width, writable};
+pub use field::{Field, Header, field_index, field_name, field_of, fields, width, writable};
 pub use packet::{Packet, Packets};
 pub use shape::Shape;
 pub use verdict::Verdict;

@@ -36,7 +36,7 @@ impl Shape {
         Shape::found(packet)
     }
 
-    #[tactic(auto, unfolding(crate::specs::Shape::shape_from))]
+    #[tactic(auto, unfolding(crate::specs::Shape::shape_of, crate::specs::Shape::shape_from))]
     fn found(packet: &[u8]) -> Shape
         requires { length packet.now ≤ 9216 }
         ensures { result ≡ shape_of packet.now }
