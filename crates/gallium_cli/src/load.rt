@@ -23,7 +23,12 @@ pub const MAX_SOURCE: usize = 262_144;
 pub const MAX_TEXT: usize = 67_108_864;
 
 // The bytes of a file of at most this size.
-fn load<'a, F: Files>(alloc: Global, files: &mut F, name: &'a str, size: usize) -> Result<Vec<u8>, Refusal<'a>>
+fn load<'a, F: Files>(
+    alloc: Global,
+    files: &mut F,
+    name: &'a str,
+    size: usize,
+) -> Result<Vec<u8>, Refusal<'a>>
     requires { size < 2 ^ 31 }
     ensures ok { IfOk result (λ bytes. IsLoaded bytes.items name.now size (F.seen files.old)) }
     ensures err { IfErr result (λ refusal. IsNotLoaded refusal name.now size (F.seen files.old) (F.seen files.new)) }
@@ -39,7 +44,11 @@ fn load<'a, F: Files>(alloc: Global, files: &mut F, name: &'a str, size: usize) 
 }
 
 /// The middlebox of a source file.
-pub fn load_source<'a, F: Files>(alloc: Global, files: &mut F, name: &'a str) -> Result<Middlebox, Refusal<'a>>
+pub fn load_source<'a, F: Files>(
+    alloc: Global,
+    files: &mut F,
+    name: &'a str,
+) -> Result<Middlebox, Refusal<'a>>
     ensures ok { IfOk result (λ m. IfSome ((F.seen files.old).told name.now) (λ text. (length text ≤ MAX_SOURCE) × IsSource text (tree m))) }
     ensures good { IfOk result (λ m. IsTrue (is_good (tree m))) }
     ensures err { IfErr result (λ refusal. IsFileRefused refusal source name.now (F.seen files.old) (F.seen files.new)) }
@@ -54,7 +63,11 @@ pub fn load_source<'a, F: Files>(alloc: Global, files: &mut F, name: &'a str) ->
 }
 
 /// The packets of a trace file.
-pub fn load_trace<'a, F: Files>(alloc: Global, files: &mut F, name: &'a str) -> Result<Packets, Refusal<'a>>
+pub fn load_trace<'a, F: Files>(
+    alloc: Global,
+    files: &mut F,
+    name: &'a str,
+) -> Result<Packets, Refusal<'a>>
     ensures ok { IfOk result (λ packets. IfSome ((F.seen files.old).told name.now) (λ text. (length text ≤ MAX_TEXT) × (trace_of text ≡ Ok packets))) }
     ensures few { IfOk result (λ packets. length packets ≤ MAX_PACKETS) }
     ensures err { IfErr result (λ refusal. IsFileRefused refusal trace name.now (F.seen files.old) (F.seen files.new)) }
@@ -69,7 +82,11 @@ pub fn load_trace<'a, F: Files>(alloc: Global, files: &mut F, name: &'a str) -> 
 }
 
 /// The events of a schedule file.
-pub fn load_schedule<'a, F: Files>(alloc: Global, files: &mut F, name: &'a str) -> Result<Events, Refusal<'a>>
+pub fn load_schedule<'a, F: Files>(
+    alloc: Global,
+    files: &mut F,
+    name: &'a str,
+) -> Result<Events, Refusal<'a>>
     ensures ok { IfOk result (λ events. IfSome ((F.seen files.old).told name.now) (λ text. (length text ≤ MAX_TEXT) × (schedule_of text ≡ Ok events))) }
     ensures few { IfOk result (λ events. length events ≤ MAX_EVENTS) }
     ensures err { IfErr result (λ refusal. IsFileRefused refusal schedule name.now (F.seen files.old) (F.seen files.new)) }

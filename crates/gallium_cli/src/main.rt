@@ -4,6 +4,8 @@
 mod load;
 mod refusal;
 mod status;
+#[cfg(test)]
+mod tests;
 mod top;
 mod words;
 
@@ -21,7 +23,9 @@ fn main(rt: HostRuntime) -> ExitCode {
     let alloc = rt.alloc();
     let words = match env::args(&rt) {
         Ok(words) => words.skip(1).collect::<Vec<String>>(alloc),
-        Err(error) if error.kind() == io::ErrorKind::OutOfMemory => return ExitCode::from(NO_MEMORY),
+        Err(error) if error.kind() == io::ErrorKind::OutOfMemory => return ExitCode::from(
+            NO_MEMORY,
+        ),
         Err(_) => return ExitCode::from(NO_WORDS),
     };
     let Ok(words) = words else {

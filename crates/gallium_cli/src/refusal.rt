@@ -71,7 +71,10 @@ fn line(alloc: Global, refusal: Refusal<'_>) -> Result<Text, NoMemory>
     ensures { IfOk result (λ text. text ≡ line_of refusal.entry) }
 {
     match refusal {
-        Refusal::Usage => Text::from_slice(alloc, b"usage: gallium run, compile, check, replay or gen\n"),
+        Refusal::Usage => Text::from_slice(
+            alloc,
+            b"usage: gallium run, compile, check, replay or gen\n",
+        ),
         Refusal::Source => Text::from_slice(alloc, b"source: refused\n"),
         Refusal::Trace => Text::from_slice(alloc, b"trace: refused\n"),
         Refusal::Schedule => Text::from_slice(alloc, b"schedule: refused\n"),
