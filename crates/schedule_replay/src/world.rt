@@ -91,62 +91,68 @@ impl World {
         }
     }
 
-    fn admit(&mut self, m: &Middlebox, packets: &[Packet]) -> Result<(), NoMemory>
-        requires { self.old.events < 2 ^ 32 - 1 }
-        ensures { OnOk result (self.new ≡ world.step (tree m.now) packets.now self.old Event.Admit) }
+    // An event that can't apply.
+    fn idle(&mut self)
+        requires { self.old.idle < self.old.events }
+        ensures { self.new ≡ world.idled self.old }
     {
-        self.events += 1;
+        self.idle += 1;
+    }
+
+    fn admit(&mut self, packets: &[Packet]) -> Result<(), NoMemory>
+        requires idle { self.old.idle < self.old.events }
+        requires few { length self.old.progress < self.old.events }
+        ensures { OnOk result (self.new ≡ world.admitted self.old (slice_get packets.now (length self.old.progress))) }
+    {
         let number = self.progress.len();
-        if number < packets.len() {
-            self.up.push_back(number as u32)?;
-            self.progress.push(Progress::Up {
-                admitted: self.events,
-            })?;
-        } else {
-            self.idle += 1;
+        if number >= packets.len() {
+            self.idle();
+            return Ok(());
         }
+        self.up.push_back(number as u32)?;
+        self.progress.push(Progress::Up {
+            admitted: self.events,
+        })?;
         Ok(())
     }
 
     #[tactic(auto, using(std::proofs::lemmas::List::set_past, std::proofs::lemmas::Option::slice_get_past))]
     fn serve(&mut self, alloc: Global, m: &Middlebox, packets: &[Packet], j: u32) -> Result<(), NoMemory>
         requires good { IsTrue (is_good (tree m.now)) }
-        requires few { self.old.events < 2 ^ 32 - 1 }
-        ensures { OnOk result (self.new ≡ world.step (tree m.now) packets.now self.old (Event.Serve j)) }
+        requires idle { self.old.idle < self.old.events }
+        ensures { OnOk result (self.new ≡ world.served (tree m.now) packets.now self.old j (slice_get self.old.up j)) }
     {
-        self.events += 1;
-        match self.up.remove(j as usize) {
-            Some(number) => {
-                let verdict = verdict_on(alloc, m, packets, number)?;
-                self.held.push_back(number)?;
-                decide_at(&mut self.progress, number, self.events, verdict);
-            }
-            None => self.idle += 1,
-        }
+        let Some(number) = self.up.remove(j as usize) else {
+            self.idle();
+            return Ok(());
+        };
+        let verdict = verdict_on(alloc, m, packets, number)?;
+        self.held.push_back(number)?;
+        decide_at(&mut self.progress, number, self.events, verdict);
         Ok(())
     }
 
-    fn hold(&mut self, m: &Middlebox, packets: &[Packet], j: u32) -> Result<(), NoMemory>
-        requires { self.old.events < 2 ^ 32 - 1 }
-        ensures { OnOk result (self.new ≡ world.step (tree m.now) packets.now self.old (Event.Hold j)) }
+    fn hold(&mut self, j: u32) -> Result<(), NoMemory>
+        requires { self.old.idle < self.old.events }
+        ensures { OnOk result (self.new ≡ world.let_go self.old j (slice_get self.old.held j)) }
     {
-        self.events += 1;
-        match self.held.remove(j as usize) {
-            Some(number) => self.down.push_back(number)?,
-            None => self.idle += 1,
-        }
+        let Some(number) = self.held.remove(j as usize) else {
+            self.idle();
+            return Ok(());
+        };
+        self.down.push_back(number)?;
         Ok(())
     }
 
-    fn down(&mut self, m: &Middlebox, packets: &[Packet], j: u32)
-        requires { self.old.events < 2 ^ 32 - 1 }
-        ensures { self.new ≡ world.step (tree m.now) packets.now self.old (Event.Down j) }
+    fn down(&mut self, j: u32)
+        requires { self.old.idle < self.old.events }
+        ensures { self.new ≡ world.came_down self.old j (slice_get self.old.down j) }
     {
-        self.events += 1;
-        match self.down.remove(j as usize) {
-            Some(number) => release_at(&mut self.progress, number, self.events),
-            None => self.idle += 1,
-        }
+        let Some(number) = self.down.remove(j as usize) else {
+            self.idle();
+            return;
+        };
+        release_at(&mut self.progress, number, self.events);
     }
 
     /// One event. An event that can't apply is idle: it is counted, and nothing else changes.
@@ -155,15 +161,14 @@ impl World {
         requires few { self.old.events < 2 ^ 32 - 1 }
         ensures { OnOk result (self.new ≡ world.step (tree m.now) packets.now self.old event) }
     {
+        self.events += 1;
         match event {
-            Event::Admit => self.admit(m, packets),
-            Event::Serve(j) => self.serve(alloc, m, packets, j),
-            Event::Hold(j) => self.hold(m, packets, j),
-            Event::Down(j) => {
-                self.down(m, packets, j);
-                Ok(())
-            }
+            Event::Admit => self.admit(packets)?,
+            Event::Serve(j) => self.serve(alloc, m, packets, j)?,
+            Event::Hold(j) => self.hold(j)?,
+            Event::Down(j) => self.down(j),
         }
+        Ok(())
     }
 
     /// What a report tells of this world, over a trace of so many packets.
