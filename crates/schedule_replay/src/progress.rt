@@ -10,7 +10,9 @@ use std::mem;
 #[derive(Debug, Drop)]
 pub enum Progress {
     /// It is on its way up to the server.
-    Up { admitted: u32 },
+    Up {
+        admitted: u32,
+    },
     /// The server ran it.
     Held {
         admitted: u32,
@@ -71,7 +73,9 @@ impl Progress {
         match self {
             Progress::Up { admitted } => Fate::Up { admitted },
             Progress::Held {
-                admitted, decided, ..
+                admitted,
+                decided,
+                ..
             } => Fate::Held {
                 admitted,
                 decided,

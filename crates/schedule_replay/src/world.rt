@@ -31,16 +31,14 @@ pub struct World {
 impl Model for World {
     ghost Value = { world.World };
 
-    ghost view = {
-        λ w. record {
-            up = w.up.items;
-            held = w.held.items;
-            down = w.down.items;
-            events = w.events;
-            idle = w.idle;
-            progress = w.progress.items;
-        }
-    };
+    ghost view = { λ w. record {
+      up = w.up.items;
+      held = w.held.items;
+      down = w.down.items;
+      events = w.events;
+      idle = w.idle;
+      progress = w.progress.items;
+    } };
 
     ghost invariant = { λ w. (w.idle ≤ w.events) × (length w.progress.items ≤ w.events) };
 }
@@ -66,7 +64,12 @@ fn release_at(progress: &mut Vec<Progress>, number: u32, event: u32)
 }
 
 // The verdict on the packet of this number.
-fn verdict_on(alloc: Global, m: &Middlebox, packets: &[Packet], number: u32) -> Result<Verdict, NoMemory>
+fn verdict_on(
+    alloc: Global,
+    m: &Middlebox,
+    packets: &[Packet],
+    number: u32,
+) -> Result<Verdict, NoMemory>
     requires { IsTrue (is_good (tree m.now)) }
     ensures { IfOk result (λ verdict. verdict ≡ world.verdict_on (tree m.now) (slice_get packets.now number)) }
 {
@@ -117,7 +120,13 @@ impl World {
     }
 
     #[tactic(auto, using(std::proofs::lemmas::List::set_past, std::proofs::lemmas::Option::slice_get_past))]
-    fn serve(&mut self, alloc: Global, m: &Middlebox, packets: &[Packet], j: u32) -> Result<(), NoMemory>
+    fn serve(
+        &mut self,
+        alloc: Global,
+        m: &Middlebox,
+        packets: &[Packet],
+        j: u32,
+    ) -> Result<(), NoMemory>
         requires good { IsTrue (is_good (tree m.now)) }
         requires idle { self.old.idle < self.old.events }
         ensures { OnOk result (self.new ≡ world.served (tree m.now) packets.now self.old j (slice_get self.old.up j)) }
@@ -156,7 +165,13 @@ impl World {
     }
 
     /// One event. An event that can't apply is idle: it is counted, and nothing else changes.
-    pub fn step(&mut self, alloc: Global, m: &Middlebox, packets: &[Packet], event: Event) -> Result<(), NoMemory>
+    pub fn step(
+        &mut self,
+        alloc: Global,
+        m: &Middlebox,
+        packets: &[Packet],
+        event: Event,
+    ) -> Result<(), NoMemory>
         requires good { IsTrue (is_good (tree m.now)) }
         requires few { self.old.events < 2 ^ 32 - 1 }
         ensures { OnOk result (self.new ≡ world.step (tree m.now) packets.now self.old event) }
