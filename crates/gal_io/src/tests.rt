@@ -1,6 +1,6 @@
 //! What no clause can say: that calls succeed with ample memory, and what the system's files and writers do.
 use crate::{
-    Bytes, Files, HostFiles, HostSink, MemFiles, MemSink, ReadEnd, Sink, SinkEnd, Text,
+    Bytes, Files, HostFiles, HostSink, MemFiles, MemSink, ReadEnd, Sink, SinkEnd, Text, is_skipped,
     number_up_to, split_line,
 };
 use std::io::Write;
@@ -45,6 +45,14 @@ fn lines(rt: HostRuntime) {
         assert_eq!(rt; split_line(text), Some((*line, *rest)), "case {index}");
     }
     assert_eq!(rt; split_line(b""), None);
+    for (line, skipped) in [
+        (b"".as_slice(), true),
+        (b"# a", true),
+        (b"a", false),
+        (b" ", false),
+    ] {
+        assert_eq!(rt; is_skipped(line), skipped);
+    }
 }
 
 #[test]
@@ -54,10 +62,13 @@ fn bytes_and_texts(rt: HostRuntime) -> Result<(), Fail> {
     bytes.push(b'3')?;
     bytes.extend(b"45")?;
     assert_eq!(rt; bytes.copy(alloc)?.as_slice(), b"12345".as_slice());
-    let mut text = Text::from_slice(alloc, b"12")?;
-    text.push(b'3')?;
-    text.extend(b"45")?;
+    let mut text = Text::new(alloc);
+    assert!(rt; text.is_empty());
+    text.extend(b"1234")?;
+    text.push(b'5')?;
+    assert_eq!(rt; text.len(), 5);
     assert_eq!(rt; text.copy(alloc)?.as_slice(), b"12345".as_slice());
+    assert_eq!(rt; Text::from_slice(alloc, b"5")?.as_slice(), b"5".as_slice());
     Ok(())
 }
 
