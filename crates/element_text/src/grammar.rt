@@ -14,7 +14,8 @@ use std::alloc::Global;
 
 // The first token, and those behind it.
 fn first<'t>(text: &[u8], tokens: &'t [Placed]) -> Result<(Token, &'t [Placed]), TextError>
-    ensures ok { IfOk result (λ x. tokens_of text.now tokens.now ≡ token_of text.now x.0 ∷ tokens_of text.now x.1.now) }
+    ensures ok { IfOk result (λ x.
+        tokens_of text.now tokens.now ≡ token_of text.now x.0 ∷ tokens_of text.now x.1.now) }
     ensures shorter { IfOk result (λ x. length x.1.now < length tokens.now) }
     ensures err { IfErr result (λ _. tokens_of text.now tokens.now ≡ []) }
 {
@@ -26,7 +27,8 @@ fn first<'t>(text: &[u8], tokens: &'t [Placed]) -> Result<(Token, &'t [Placed]),
 
 // The tokens behind a mark.
 fn after_mark<'t>(text: &[u8], tokens: &'t [Placed], want: Mark) -> Result<&'t [Placed], TextError>
-    ensures ok { IfOk result (λ rest. tokens_of text.now tokens.now ≡ fixed want ∷ tokens_of text.now rest.now) }
+    ensures ok { IfOk result (λ rest.
+        tokens_of text.now tokens.now ≡ fixed want ∷ tokens_of text.now rest.now) }
     ensures shorter { IfOk result (λ rest. length rest.now < length tokens.now) }
     ensures err { IfErr result (λ _. NoMark want (tokens_of text.now tokens.now)) }
 {
@@ -38,7 +40,8 @@ fn after_mark<'t>(text: &[u8], tokens: &'t [Placed], want: Mark) -> Result<&'t [
 
 // The number in front, and the tokens behind it.
 fn number<'t>(text: &[u8], tokens: &'t [Placed]) -> Result<(u64, &'t [Placed]), TextError>
-    ensures ok { IfOk result (λ x. tokens_of text.now tokens.now ≡ number_token x.0 ∷ tokens_of text.now x.1.now) }
+    ensures ok { IfOk result (λ x.
+        tokens_of text.now tokens.now ≡ number_token x.0 ∷ tokens_of text.now x.1.now) }
     ensures shorter { IfOk result (λ x. length x.1.now < length tokens.now) }
     ensures err { IfErr result (λ _. NoNumber (tokens_of text.now tokens.now)) }
 {
@@ -54,7 +57,8 @@ fn expression<'t>(
     text: &[u8],
     tokens: &'t [Placed],
 ) -> Result<(SurfaceExpr, &'t [Placed]), TextError>
-    ensures ok { IfOk result (λ x. IsExpr (surface_expr x.0) (tokens_of text.now tokens.now) (tokens_of text.now x.1.now)) }
+    ensures ok { IfOk result (λ x.
+        IsExpr (surface_expr x.0) (tokens_of text.now tokens.now) (tokens_of text.now x.1.now)) }
     ensures shorter { IfOk result (λ x. length x.1.now < length tokens.now) }
     ensures err { IfErr result (λ e. MissesExpr (tokens_of text.now tokens.now) e) }
 {
@@ -80,7 +84,8 @@ fn statement<'t>(
     text: &[u8],
     tokens: &'t [Placed],
 ) -> Result<(SurfaceStmt, &'t [Placed]), TextError>
-    ensures ok { IfOk result (λ x. IsStmt (surface_stmt x.0) (tokens_of text.now tokens.now) (tokens_of text.now x.1.now)) }
+    ensures ok { IfOk result (λ x.
+        IsStmt (surface_stmt x.0) (tokens_of text.now tokens.now) (tokens_of text.now x.1.now)) }
     ensures shorter { IfOk result (λ x. length x.1.now < length tokens.now) }
     ensures err { IfErr result (λ e. MissesStmt (tokens_of text.now tokens.now) e) }
 {
@@ -106,7 +111,8 @@ fn block<'t>(
     text: &[u8],
     tokens: &'t [Placed],
 ) -> Result<(Vec<SurfaceStmt>, &'t [Placed]), TextError>
-    ensures ok { IfOk result (λ x. IsBody (surface_body x.0.items) (tokens_of text.now tokens.now) (tokens_of text.now x.1.now)) }
+    ensures ok { IfOk result (λ x.
+        IsBody (surface_body x.0.items) (tokens_of text.now tokens.now) (tokens_of text.now x.1.now)) }
     ensures err { IfErr result (λ e. MissesBody (tokens_of text.now tokens.now) e) }
 {
     let mut body = Vec::new(alloc);

@@ -21,8 +21,10 @@ use std::str;
 // recursion goes as deep.
 fn read_tokens(alloc: Global, text: &[u8], found: &[Placed]) -> Result<Middlebox, TextError>
     ensures ok { IfOk result (λ m. AreTokensOf (tokens_of text.now found.now) (tree m)) }
-    ensures only { IfOk result (λ m. (other : Tree) → Spells (tokens_of text.now found.now) other → other ≡ tree m) }
-    ensures refused { IfErr result (λ e. e ≡ TextError.Refused → (m : Tree) → AreTokensOf (tokens_of text.now found.now) m → ⊥) }
+    ensures only { IfOk result (λ m.
+        (other : Tree) → Spells (tokens_of text.now found.now) other → other ≡ tree m) }
+    ensures refused { IfErr result (λ e.
+        e ≡ TextError.Refused → (m : Tree) → AreTokensOf (tokens_of text.now found.now) m → ⊥) }
 {
     if depth(text, found) > MAX_DEPTH {
         return Err(TextError::Refused);
@@ -31,7 +33,8 @@ fn read_tokens(alloc: Global, text: &[u8], found: &[Placed]) -> Result<Middlebox
     resolve(alloc, &source)
 }
 
-/// Reads a source.
+/// Reads a source. A text is refused that is not UTF-8, has a byte at which no token starts, has more than
+/// `MAX_DEPTH` brackets open at once, is outside the grammar or breaks a rule.
 pub fn read(alloc: Global, text: &[u8]) -> Result<Middlebox, TextError>
     ensures ok { IfOk result (λ m. IsSource text.now (tree m)) }
     ensures only { IfOk result (λ m. (other : Tree) → IsSource text.now other → other ≡ tree m) }

@@ -1,8 +1,10 @@
 //! The rules: from a tree to a middlebox.
-ghost use Rattle.std.specs.Prelude.{◌≡◌, ◌^◌, IsTrue, nat_lt, true, false, map, [], ◌∷◌, ◌++◌, is_ok, IfOk, IfErr, OnOk};
+ghost use Rattle.std.specs.Prelude.{◌≡◌, ◌^◌, IsTrue, nat_lt, true, false, is_ok, IfOk, IfErr, OnOk};
+ghost use Rattle.std.specs.Prelude.{map, [], ◌∷◌, ◌++◌};
 ghost use Rattle.element_lang.specs.Tree.ExprTree.{lit};
 ghost use Rattle.element_lang.specs.Tree.StmtTree.{send};
-ghost use Rattle.element_lang.specs.Rules.{width_of as width_of_tree, is_good_expr, is_good_stmt, always_ends as tree_always_ends, is_good_body, is_good};
+ghost use Rattle.element_lang.specs.Rules.{width_of as width_of_tree, always_ends as tree_always_ends};
+ghost use Rattle.element_lang.specs.Rules.{is_good_expr, is_good_stmt, is_good_body, is_good};
 ghost use Rattle.element_lang.specs.View.{expr_tree, stmt_tree, body_tree, tree};
 ghost use Rattle.element_text.specs.Surface.{surface_expr, surface_stmt, surface_body, surface_tree};
 
@@ -60,9 +62,11 @@ fn width_of(expr: &Expr) -> u32
 
 // Puts a statement behind others.
 fn push_statement(body: &mut Body, source: &SurfaceStmt) -> Result<(), TextError>
-    ensures ok { OnOk result (map stmt_tree body.new.items ≡ map stmt_tree body.old.items ++ surface_stmt source.now ∷ []) }
+    ensures ok { OnOk result
+        (map stmt_tree body.new.items ≡ map stmt_tree body.old.items ++ surface_stmt source.now ∷ []) }
     ensures good { OnOk result (is_good_stmt (surface_stmt source.now) ≡ true) }
-    ensures refused { IfErr result (λ e. e ≡ TextError.Refused → is_good_stmt (surface_stmt source.now) ≡ false) }
+    ensures refused { IfErr result (λ e.
+        e ≡ TextError.Refused → is_good_stmt (surface_stmt source.now) ≡ false) }
 {
     match source {
         SurfaceStmt::Send { port } => {
@@ -90,7 +94,8 @@ fn always_ends(source: &SurfaceStmt) -> bool
 fn block(alloc: Global, source: &[SurfaceStmt]) -> Result<Body, TextError>
     ensures ok { IfOk result (λ made. body_tree made.items ≡ surface_body source.now) }
     ensures good { OnOk result (IsTrue (is_good_body (surface_body source.now))) }
-    ensures refused { IfErr result (λ e. e ≡ TextError.Refused → is_good_body (surface_body source.now) ≡ false) }
+    ensures refused { IfErr result (λ e.
+        e ≡ TextError.Refused → is_good_body (surface_body source.now) ≡ false) }
 {
     let mut body = Vec::new(alloc);
     let mut ended = false;
@@ -108,7 +113,8 @@ fn block(alloc: Global, source: &[SurfaceStmt]) -> Result<Body, TextError>
 pub(crate) fn resolve(alloc: Global, source: &SurfaceTree) -> Result<Middlebox, TextError>
     ensures ok { IfOk result (λ made. tree made ≡ surface_tree source.now) }
     ensures good { OnOk result (IsTrue (is_good (surface_tree source.now))) }
-    ensures refused { IfErr result (λ e. e ≡ TextError.Refused → is_good (surface_tree source.now) ≡ false) }
+    ensures refused { IfErr result (λ e.
+        e ≡ TextError.Refused → is_good (surface_tree source.now) ≡ false) }
 {
     let body = block(alloc, &source.body)?;
     Ok(Middlebox { body })
