@@ -1,0 +1,104 @@
+-- An object whose contents are given as sorted entries.
+use Rattle.std.proofs.Common.{◌≡◌, ℕ, suc, ◌+◌, ◌-◌, ◌<◌, ◌≤◌, Bool, true, false, cond, not, ◌&&◌, nat_le, List, [], ◌∷◌, length, get_or, replicate, Some, None, is_some, unwrap_or, Result, Ok, Err, is_ok, IfOk, IfErr, refl, sym, ap, ◌∙◌, subst, arith}
+use Rattle.std.proofs.lemmas.Option.{slice_get_past}
+use Rattle.std.proofs.lemmas.Bool.Decides.{nat_tests}
+use Rattle.std.specs.List.{remove as remove_at}
+use Rattle.std.specs.FinMap.{insert, from_sorted, len, entries, get-empty, len-empty, entries-from_sorted}
+use Rattle.state_store.specs.declared.object.Kind.{Kind}
+use Rattle.state_store.specs.declared.store.Put.TheVariants.{Stored, Full}
+use Rattle.state_store.specs.Store.{key_cmp, Contents, Object, look, looked_up, is_out, is_full, put_answer, put_row, del_row, rows_of, rows_from, zeros_from, Store, object_at, no_object}
+use Rattle.state_store.specs.Places.{Entries, IsSorted, IsPlaceOf, IsGapFor, with_entry}
+use Rattle.state_store.proofs.Entries.{find_here, find_gap, sorted_with, remove_here, map_empty, map_get, map_len, map_with, map_without, map_absent}
+
+abbrev pub object_of : Kind → ℕ → ℕ → Entries → Object
+object_of kind size count es = record { kind = kind; size = size; count = count; contents = from_sorted es }
+
+-- a look goes by the place of the key
+pub look_here : (kind : Kind) (size count : ℕ) (es : Entries) (k : List ℕ) (i : ℕ) (d : List ℕ × List ℕ) → IsSorted es → IsPlaceOf es k i → look (object_of kind size count es) k ≡ Some (get_or es i d).1
+look_here kind size count es k i d sorted p = map_get es k sorted ∙ find_here es k i d p
+
+pub look_gap : (kind : Kind) (size count : ℕ) (es : Entries) (k : List ℕ) (i : ℕ) → IsSorted es → IsGapFor es k i → look (object_of kind size count es) k ≡ None
+look_gap kind size count es k i sorted p = map_get es k sorted ∙ find_gap es k i sorted p
+
+-- a key is there where it has a place
+pub is_there : (kind : Kind) (size count : ℕ) (es : Entries) (k : List ℕ) (r : Result ℕ ℕ) → IsSorted es → IfOk r (IsPlaceOf es k) → IfErr r (IsGapFor es k) → is_some (look (object_of kind size count es) k) ≡ is_ok r
+is_there kind size count es k (Ok i) sorted p g = ap is_some (look_here kind size count es k i ([], []) sorted p)
+is_there kind size count es k (Err i) sorted p g = ap is_some (look_gap kind size count es k i sorted g)
+
+-- it is full where a key without a place is one too many
+pub full_is : (kind : Kind) (size count : ℕ) (es : Entries) (k : List ℕ) (r : Result ℕ ℕ) (rows : ℕ) (full : Bool) → IsSorted es → IfOk r (IsPlaceOf es k) → IfErr r (IsGapFor es k) → rows ≡ length es → full ≡ (not (is_ok r) && nat_le size rows)
+    → is_full (object_of kind size count es) k ≡ full
+full_is kind size count es k r rows full sorted p g all e =
+    (λ i. not (is_there kind size count es k r sorted p g i) && nat_le size (map_len es sorted i)) ∙ ap (λ n. not (is_ok r) && nat_le size n) (sym all) ∙ sym e
+
+-- a put, by whether there is such an index and whether there is room
+pub answer_is : (o : Object) (k : List ℕ) (full : Bool) → is_out o.kind o.size k ≡ false → is_full o k ≡ full → put_answer o k ≡ cond full Full Stored
+answer_is o k full out e = rw (out, e) refl
+
+pub full_row : (o : Object) (k v : List ℕ) → is_out o.kind o.size k ≡ false → is_full o k ≡ true → put_row o k v ≡ o
+full_row o k v out full = rw (out, full) refl
+
+pub stored_row : (kind : Kind) (size count : ℕ) (es fs : Entries) (k v : List ℕ) → IsSorted es → is_out kind size k ≡ false → is_full (object_of kind size count es) k ≡ false → fs ≡ with_entry es k v → object_of kind size count fs ≡ put_row (object_of kind size count es) k v
+stored_row kind size count es fs k v sorted out full e =
+    ap (object_of kind size count) e ∙ ap (λ (m : Contents). record { kind = kind; size = size; count = count; contents = m }) (map_with es k v sorted) ∙ rw (out, full) refl
+
+-- entries that were set, or are as before where that failed
+pub sorted_either : (es fs : Entries) (k v : List ℕ) (b : Bool) → IsSorted es → fs ≡ cond b (with_entry es k v) es → IsSorted fs
+sorted_either es fs k v true sorted e = subst IsSorted (sym e) (sorted_with es k v sorted)
+sorted_either es fs k v false sorted e = subst IsSorted (sym e) sorted
+
+pub set_gives : {X E : Type 0} (r : Result X E) (kind : Kind) (size count : ℕ) (es fs : Entries) (k v : List ℕ) → IsSorted es → fs ≡ cond (is_ok r) (with_entry es k v) es → IfOk r (λ x. object_of kind size count fs ≡ record { kind = kind; size = size; count = count; contents = insert (from_sorted es) k v })
+set_gives (Ok x) kind size count es fs k v sorted e = ap (object_of kind size count) e ∙ ap (λ (m : Contents). record { kind = kind; size = size; count = count; contents = m }) (map_with es k v sorted)
+set_gives (Err x) kind size count es fs k v sorted e = tt
+
+-- the row of one more index
+zeros_more : (n i m w : ℕ) (contents : Contents) → i + suc m ≡ n → zeros_from (n - (i + 1)) (i + 1) w (insert contents (i ∷ []) (replicate w 0)) ≡ zeros_from (n - i) i w contents
+zeros_more n i m w contents e =
+    let here : n - i ≡ suc m = omega arith in
+    let next : n - (i + 1) ≡ m = omega arith in
+    let one : i + 1 ≡ suc i = omega arith in
+    rw (here, next, one) refl
+
+pub zeros_next : (n i : ℕ) (key row : List ℕ) (old new : Object) → i < n → key ≡ i ∷ [] → row ≡ replicate old.count 0 → new ≡ record old { contents = insert old.contents key row }
+    → ◌≡◌ {A = Object} (record new { contents = zeros_from (n - (i + 1)) (i + 1) new.count new.contents }) (record old { contents = zeros_from (n - i) i old.count old.contents })
+zeros_next n i key row old new lt one zeros e =
+    ap (λ (o : Object). record o { contents = zeros_from (n - (i + 1)) (i + 1) o.count o.contents }) e
+    ∙ ap (λ (k : List ℕ). record old { contents = zeros_from (n - (i + 1)) (i + 1) old.count (insert old.contents k row) }) one
+    ∙ ap (λ (r : List ℕ). record old { contents = zeros_from (n - (i + 1)) (i + 1) old.count (insert old.contents (i ∷ []) r) }) zeros
+    ∙ ap (λ (m : Contents). record old { contents = m }) (zeros_more n i (n - (i + 1)) old.count old.contents (omega arith))
+
+-- where there is no lack of room, an entry is stored in the memory that is there
+pub in_memory : {P : Type 0} (has_place : Bool) (size rows len capacity : ℕ) → (has_place ≡ true → P) → (len < capacity → P) → (not has_place && nat_le size rows) ≡ false → size ≤ capacity → rows ≡ len → P
+in_memory true size rows len capacity here room full le e = here refl
+in_memory false size rows len capacity here room full le e = room (grind (arith, nat_tests))
+
+-- a row removed at the place of its key, or none where there is a gap
+pub removed_row : (kind : Kind) (size count : ℕ) (es fs : Entries) (k : List ℕ) (i : ℕ) → IsSorted es → IsPlaceOf es k i → fs ≡ remove_at es i → object_of kind size count fs ≡ del_row (object_of kind size count es) k
+removed_row kind size count es fs k i sorted p e =
+    ap (object_of kind size count) (e ∙ remove_here es k i sorted p) ∙ ap (λ (m : Contents). record { kind = kind; size = size; count = count; contents = m }) (map_without es k sorted)
+
+pub removed_none : (kind : Kind) (size count : ℕ) (es : Entries) (k : List ℕ) (i : ℕ) → IsSorted es → IsGapFor es k i → del_row (object_of kind size count es) k ≡ object_of kind size count es
+removed_none kind size count es k i sorted p =
+    ap (λ (m : Contents). record { kind = kind; size = size; count = count; contents = m }) (map_absent (from_sorted es) k (map_get es k sorted ∙ find_gap es k i sorted p))
+
+pub rows_are : (kind : Kind) (size count : ℕ) (es : Entries) → IsSorted es → rows_of (object_of kind size count es) ≡ rows_from es
+rows_are kind size count es sorted = ap rows_from (entries-from_sorted key_cmp es sorted)
+
+-- ---- a number of no object
+pub past_objects : (s : Store) (n : ℕ) → length s ≤ n → object_at s n ≡ no_object
+past_objects s n le = ap (λ o. unwrap_or o no_object) (slice_get_past s n le)
+
+pub no_look : (k : List ℕ) → look no_object k ≡ None
+no_look k = get-empty key_cmp k
+
+pub no_values : (k : List ℕ) → looked_up no_object k ≡ []
+no_values k = ap (λ o. unwrap_or o []) (no_look k)
+
+pub no_answer : (k : List ℕ) → put_answer no_object k ≡ Full
+no_answer k = answer_is no_object k true refl (no_room k)
+  where
+    no_room : (k : List ℕ) → is_full no_object k ≡ true
+    no_room k = λ i. not (is_some (no_look k i)) && nat_le 0 (len-empty key_cmp (List ℕ) i)
+
+pub no_rows : rows_of no_object ≡ []
+no_rows = ap (λ m. rows_from (entries m)) (sym (map_empty (from_sorted []) refl)) ∙ ap rows_from (entries-from_sorted key_cmp [] tt)

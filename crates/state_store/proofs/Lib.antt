@@ -1,0 +1,4 @@
+mod AtWork
+mod Entries
+mod Halves
+mod LawLemmas

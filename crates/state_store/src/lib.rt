@@ -1,0 +1,14 @@
+//! The state of a middlebox: objects that are finite maps from key lists to value lists.
+#![tactic(auto)]
+
+mod laws;
+mod object;
+mod sorted_rows;
+mod store;
+mod stored;
+#[cfg(test)]
+mod tests;
+
+pub use laws::rows_change_alone;
+pub use object::{Kind, ObjectDecl, Objects, Row, Rows};
+pub use store::{Found, Put, Store};

@@ -1,0 +1,184 @@
+//! What a middlebox declares as its state, and rows of it.
+ghost use Rattle.std.specs.Prelude.{◌≡◌, ◌==◌, ◌++◌, ◌∷◌, [], length, IfOk, OnOk, OnErr};
+
+use gal_bits::{Values, Widths};
+use gal_io::{Bytes, NoMemory};
+use std::alloc::Global;
+use std::marker::Model;
+
+/// What kind of object it is.
+#[derive(Clone, Copy, Debug, PartialEq, Eq)]
+pub enum Kind {
+    /// Rows that are declared and never change.
+    Table,
+    /// Rows that come and go, at most so many at once.
+    Map,
+    /// A row for each index below its length. The index is one number of 32 bits.
+    Vector,
+    /// One number, under the empty key.
+    Int,
+}
+
+/// A row: the numbers of its key, and those of its value.
+#[derive(Clone, Copy, Debug)]
+pub struct Row {
+    pub keys: Values,
+    pub values: Values,
+}
+
+/// A list of rows.
+#[derive(Debug, Drop)]
+pub struct Rows {
+    items: Vec<Row>,
+}
+
+impl Model for Rows {
+    ghost use Rattle.std.specs.Prelude.{List};
+    ghost use Rattle.state_store.specs.declared.object.Row.{Row};
+
+    ghost Value = { List Row };
+
+    ghost view = { λ rows. rows.items.items };
+}
+
+impl Rows {
+    pub fn new(alloc: Global) -> Rows
+        ensures { result ≡ [] }
+    {
+        Rows {
+            items: Vec::new(alloc),
+        }
+    }
+
+    pub fn as_slice(&self) -> &[Row]
+        ensures { result.now ≡ self.now }
+    {
+        self.items.as_slice()
+    }
+
+    pub fn len(&self) -> usize
+        ensures { result ≡ length self.now }
+    {
+        self.items.len()
+    }
+
+    pub fn is_empty(&self) -> bool
+        ensures { result ≡ (length self.now == 0) }
+    {
+        self.items.is_empty()
+    }
+
+    /// Puts a row last.
+    pub fn push(&mut self, row: Row) -> Result<(), NoMemory>
+        ensures ok { OnOk result (self.new ≡ self.old ++ row ∷ []) }
+        ensures err { OnErr result (self.new ≡ self.old) }
+    {
+        self.items.push(row)?;
+        Ok(())
+    }
+
+    /// The same rows again, in memory of their own.
+    pub fn copy(&self, alloc: Global) -> Result<Rows, NoMemory>
+        ensures { IfOk result (λ made. made ≡ self.now) }
+    {
+        let items = self.items.to_vec(alloc)?;
+        Ok(Rows { items })
+    }
+}
+
+/// A declared object.
+#[derive(Debug, Drop)]
+pub struct ObjectDecl {
+    pub name: Bytes,
+    pub kind: Kind,
+    /// The widths of the numbers of a key, in bits. An integer has none.
+    pub keys: Widths,
+    /// The widths of the numbers of a value, in bits.
+    pub values: Widths,
+    /// The capacity of a map, the length of a vector, the number of rows of a table, and 1 of an integer.
+    pub size: u32,
+    /// The number that an integer starts with. It is 0 for every other kind.
+    pub start: u64,
+    /// The rows of a table, in order of declaration. Every other kind has none.
+    pub rows: Rows,
+}
+
+impl ObjectDecl {
+    /// The same declaration again, in memory of its own.
+    pub fn copy(&self, alloc: Global) -> Result<ObjectDecl, NoMemory>
+        ensures { IfOk result (λ made. made ≡ self.now) }
+    {
+        Ok(ObjectDecl {
+            name: self.name.copy(alloc)?,
+            kind: self.kind,
+            keys: self.keys,
+            values: self.values,
+            size: self.size,
+            start: self.start,
+            rows: self.rows.copy(alloc)?,
+        })
+    }
+}
+
+/// The declared objects, in order of declaration. An object is known by its place in this list, from 0.
+#[derive(Debug, Drop)]
+pub struct Objects {
+    items: Vec<ObjectDecl>,
+}
+
+impl Model for Objects {
+    ghost use Rattle.std.specs.Prelude.{List};
+    ghost use Rattle.state_store.specs.declared.object.ObjectDecl.{ObjectDecl};
+
+    ghost Value = { List ObjectDecl };
+
+    ghost view = { λ objects. objects.items.items };
+}
+
+impl Objects {
+    pub fn new(alloc: Global) -> Objects
+        ensures { result ≡ [] }
+    {
+        Objects {
+            items: Vec::new(alloc),
+        }
+    }
+
+    pub fn as_slice(&self) -> &[ObjectDecl]
+        ensures { result.now ≡ self.now }
+    {
+        self.items.as_slice()
+    }
+
+    pub fn len(&self) -> usize
+        ensures { result ≡ length self.now }
+    {
+        self.items.len()
+    }
+
+    pub fn is_empty(&self) -> bool
+        ensures { result ≡ (length self.now == 0) }
+    {
+        self.items.is_empty()
+    }
+
+    /// Puts an object last.
+    pub fn push(&mut self, object: ObjectDecl) -> Result<(), NoMemory>
+        ensures ok { OnOk result (self.new ≡ self.old ++ object ∷ []) }
+        ensures err { OnErr result (self.new ≡ self.old) }
+    {
+        self.items.push(object)?;
+        Ok(())
+    }
+
+    /// The same objects again, in memory of their own.
+    pub fn copy(&self, alloc: Global) -> Result<Objects, NoMemory>
+        ensures { IfOk result (λ made. made ≡ self.now) }
+    {
+        let mut items = Vec::with_capacity(alloc, self.items.len())?;
+        for object in &self.items {
+            items.push(object.copy(alloc)?)?;
+        }
+        Ok(Objects { items })
+    }
+}
