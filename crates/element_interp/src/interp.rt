@@ -68,3 +68,35 @@ pub fn run_all(alloc: Global, m: &Middlebox, packets: &[Packet]) -> Result<Vec<V
     }
     Ok(verdicts)
 }
+
+#[cfg(test)]
+mod tests {
+    use super::*;
+    use std::test::Fail;
+
+    #[test]
+    fn drops_each(rt: HostRuntime) -> Result<(), Fail> {
+        let alloc = rt.alloc();
+        let m = Middlebox {
+            body: Vec::new(alloc),
+        };
+        let packets = [
+            Packet {
+                port: 0,
+                bytes: Bytes::new(alloc),
+            },
+            Packet {
+                port: 1,
+                bytes: Bytes::new(alloc),
+            },
+        ];
+        let Ok(verdicts) = run_all(alloc, &m, &packets) else {
+            return Err(Fail::from("no memory"));
+        };
+        assert_eq!(rt; verdicts.len(), 2);
+        for verdict in &verdicts {
+            assert!(rt; matches!(verdict, Verdict::Drop));
+        }
+        Ok(())
+    }
+}

@@ -1,5 +1,5 @@
 -- Which tokens spell a tree. Each relation says: the first list of tokens is those of the tree, and then the second list.
-use Rattle.std.specs.Prelude.{◌≡◌, ℕ, List, [], ◌∷◌}
+use Rattle.std.specs.Prelude.{ℕ, List, [], ◌∷◌}
 use Rattle.element_lang.specs.declared.mark.Mark.TheVariants.{Process, Send, Drop, LeftParen, RightParen, LeftBrace, RightBrace, Colon, Semicolon}
 use Rattle.element_lang.specs.Token.{Token, fixed, number}
 use Rattle.element_lang.specs.Tree.{ExprTree, StmtTree, BodyTree, Tree}

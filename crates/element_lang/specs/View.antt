@@ -1,5 +1,5 @@
 -- The tree that a Rust value stands for.
-use Rattle.std.specs.Prelude.{ℕ, List, [], ◌∷◌, map}
+use Rattle.std.specs.Prelude.{List, [], ◌∷◌, map}
 use Rattle.element_lang.specs.Tree.{ExprTree, StmtTree, BodyTree, Tree}
 use Rattle.element_lang.specs.Tree.ExprTree.{lit}
 use Rattle.element_lang.specs.Tree.StmtTree.{send, drop}

@@ -1,5 +1,5 @@
 -- Which status told files lead to.
-use Rattle.std.proofs.Common.{◌≡◌, ◌≢◌, ◌≤◌, ◌<◌, ◌⊎◌, ℕ, List, [], ◌∷◌, length, Option, Some, None, IfSome, IsSomeAnd, subst, sym, ◌∙◌, ap, refl, inl, inr, arith, Ok}
+use Rattle.std.proofs.Common.{◌≡◌, ◌<◌, ℕ, List, [], ◌∷◌, length, Option, Some, None, IfSome, IsSomeAnd, subst, sym, inl, inr, arith}
 use Rattle.gal_io.specs.Files.{FilesState}
 use Rattle.gal_io.specs.Sink.{SinkState}
 use Rattle.gal_io.specs.declared.sink.SinkEnd.{SinkEnd}
@@ -13,7 +13,7 @@ use Rattle.gallium_cli.specs.declared.refusal.Refusal.{Refusal}
 use Rattle.gallium_cli.specs.declared.refusal.Refusal.TheVariants.{Usage, Source, Trace, Schedule, TooLong, ReadFault, WriteFault, NoMemory}
 use Rattle.gallium_cli.specs.Lines.{status_of}
 use Rattle.gallium_cli.specs.Words.{Request, Replay}
-use Rattle.gallium_cli.specs.Causes.{Role, source, trace, schedule, size_of, files_of, IsGood, IsBad, IsFileRefused, IsFirstRefused, IsJob, IsDone, IsNotWritten, HasCause, after_line, IsTold, Ends, IsFault, IsUnlessFault, refused_status, IsRefusedAs, IsFirstBad, IsExact}
+use Rattle.gallium_cli.specs.Causes.{Role, source, trace, schedule, size_of, files_of, IsGood, IsBad, IsFileRefused, IsFirstRefused, IsJob, IsNotWritten, after_line, IsTold, Ends, IsFault, IsUnlessFault, refused_status, IsRefusedAs, IsFirstBad, IsExact}
 
 -- a text isn't good and refused
 good_not_bad : (role : Role) (told : Option (List ℕ)) → IsSomeAnd told (IsGood role) → IfSome told (IsBad role) → ⊥

@@ -1,7 +1,6 @@
 -- What the reading of one file shows, and of several one after another.
-use Rattle.std.proofs.Common.{◌≡◌, ◌≤◌, ◌<◌, ℕ, List, length, Option, Some, None, IfSome, subst, sym, ◌∙◌, inl, inr, arith, Ok}
+use Rattle.std.proofs.Common.{◌≡◌, ◌≤◌, ℕ, List, length, Option, Some, None, IfSome, subst, sym, ◌∙◌, inl, inr, arith, Ok}
 use Rattle.gal_io.specs.Files.{FilesState}
-use Rattle.gal_io.specs.Count.{Rose}
 use Rattle.packet_fields.specs.declared.packet.Packet.{Packet}
 use Rattle.element_lang.specs.Tree.{Tree}
 use Rattle.element_lang.specs.Accepted.{IsSource}
