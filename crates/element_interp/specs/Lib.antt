@@ -1,1 +1,5 @@
-pub mod Run
+pub mod Arrivals
+pub mod Fields
+pub mod Runs
+pub mod Flows
+pub mod Runnable

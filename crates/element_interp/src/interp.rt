@@ -1,14 +1,20 @@
 //! Runs of a middlebox.
-ghost use Rattle.std.specs.Prelude.{◌≡◌, IsTrue, IfOk};
-ghost use Rattle.element_lang.specs.View.{expr_tree, body_tree, tree};
-ghost use Rattle.element_lang.specs.Rules.{is_good, is_good_body, is_good_expr, width_of};
-ghost use Rattle.element_lang.specs.Meaning.{value_of, do_body, source_run, serial_run};
-ghost use Rattle.packet_fields.specs.declared.packet.Packet.{Packet};
-ghost use Rattle.element_interp.specs.Run.{outcome_of};
+ghost use Rattle.std.specs.Prelude.{◌≡◌, ◌≤◌, IsTrue, IfOk, OnOk, OnErr, length, ◌%◌, ◌^◌};
+ghost use Rattle.packet_fields.specs.Table.{all_fields};
+ghost use Rattle.state_store.specs.Kept.{IsKept};
+ghost use Rattle.element_lang.specs.View.{stmt_tree, body_tree, tree};
+ghost use Rattle.element_lang.specs.Rules.{is_good};
+ghost use Rattle.element_lang.specs.Meaning.{do_stmt, do_body, source_store, source_verdict};
+ghost use Rattle.element_interp.specs.Runs.{packet_of, widths_of, state_of};
+ghost use Rattle.element_interp.specs.Flows.{outcome_of};
+ghost use Rattle.element_interp.specs.Runnable.{IsRunnableStmt, IsRunnableBody};
 
-use element_lang::{Expr, Middlebox, Stmt};
+use crate::fields::FieldValues;
+use crate::value::{Frame, Variables, value, values};
+use element_lang::{Middlebox, Stmt};
 use gal_io::{Bytes, NoMemory};
-use packet_fields::{Packet, Verdict};
+use packet_fields::{Shape, Verdict};
+use state_store::{Put, Store};
 use std::alloc::Global;
 
 /// How a stretch of statements leaves a run.
@@ -22,81 +28,106 @@ enum Flow {
     Sends(u8),
 }
 
-// The value of the port of a `send`.
-fn port_of(port: &Expr) -> u8
-    requires good { IsTrue (is_good_expr (expr_tree port.now)) }
-    requires width { width_of (expr_tree port.now) ≡ 8 }
-    ensures { result ≡ value_of (expr_tree port.now) }
+// The lowest 8 bits.
+fn low_byte(value: u64) -> u8
+    ensures { result ≡ value % 2 ^ 8 }
 {
-    match port {
-        Expr::Lit(value, _) => *value as u8,
-    }
+    (value % 256) as u8
 }
 
-// How the statements of a body leave the run of any packet.
-fn run_body(body: &[Stmt]) -> Flow
-    requires { IsTrue (is_good_body (body_tree body.now)) }
-    ensures { (packet : Packet) → outcome_of result packet.bytes ≡ do_body packet (body_tree body.now) }
+#[cycle(run)]
+fn run_stmt(frame: &Frame<'_>, s: &Stmt, vars: &mut Variables, store: &mut Store) -> Flow
+    requires { IsRunnableStmt (stmt_tree s.now) }
+    ensures { outcome_of result (packet_of frame.now) (state_of vars.new store.new) ≡ do_stmt (widths_of frame.now) (packet_of frame.now) (stmt_tree s.now) (state_of vars.old store.old) }
 {
-    match body {
-        [] => Flow::Goes,
-        [Stmt::Send { port }, ..] => Flow::Sends(port_of(port)),
-        [Stmt::Drop, ..] => Flow::Drops,
-    }
-}
-
-/// What becomes of a packet that arrives by this port. The memory is taken first.
-pub fn run(alloc: Global, m: &Middlebox, port: u8, packet: &[u8]) -> Result<Verdict, NoMemory>
-    requires { IsTrue (is_good (tree m.now)) }
-    ensures { IfOk result (λ verdict. verdict ≡ source_run (tree m.now) (record { port = port; bytes = packet.now })) }
-{
-    let bytes = Bytes::from_slice(alloc, packet)?;
-    match run_body(&m.body) {
-        Flow::Goes | Flow::Drops => Ok(Verdict::Drop),
-        Flow::Sends(port) => Ok(Verdict::Send(port, bytes)),
-    }
-}
-
-/// What becomes of packets that come one after the other.
-pub fn run_all(alloc: Global, m: &Middlebox, packets: &[Packet]) -> Result<Vec<Verdict>, NoMemory>
-    requires { IsTrue (is_good (tree m.now)) }
-    ensures { IfOk result (λ verdicts. verdicts.items ≡ serial_run (tree m.now) packets.now) }
-{
-    let mut verdicts = Vec::new(alloc);
-    for packet in packets {
-        verdicts.push(run(alloc, m, packet.port, packet.bytes.as_slice())?)?;
-    }
-    Ok(verdicts)
-}
-
-#[cfg(test)]
-mod tests {
-    use super::*;
-    use std::test::Fail;
-
-    #[test]
-    fn drops_each(rt: HostRuntime) -> Result<(), Fail> {
-        let alloc = rt.alloc();
-        let m = Middlebox {
-            body: Vec::new(alloc),
-        };
-        let packets = [
-            Packet {
-                port: 0,
-                bytes: Bytes::new(alloc),
-            },
-            Packet {
-                port: 1,
-                bytes: Bytes::new(alloc),
-            },
-        ];
-        let Ok(verdicts) = run_all(alloc, &m, &packets) else {
-            return Err(Fail::from("no memory"));
-        };
-        assert_eq!(rt; verdicts.len(), 2);
-        for verdict in &verdicts {
-            assert!(rt; matches!(verdict, Verdict::Drop));
+    match s {
+        Stmt::SetField { field, value: e } => {
+            let assigned = value(frame, e, vars);
+            vars.fields.assign(*field, assigned);
+            Flow::Goes
         }
-        Ok(())
+        Stmt::Look {
+            found,
+            into,
+            object,
+            keys,
+        } => {
+            let key = values(frame, keys, vars);
+            let row = store.get(*object, &key);
+            vars.set_local(*found, u64::from(row.found));
+            vars.set_locals(into, &row.values);
+            Flow::Goes
+        }
+        Stmt::Put {
+            ok,
+            object,
+            keys,
+            values: rows,
+        } => {
+            let key = values(frame, keys, vars);
+            let row = values(frame, rows, vars);
+            let stored = store.put(*object, &key, &row) == Put::Stored;
+            vars.set_local(*ok, u64::from(stored));
+            Flow::Goes
+        }
+        Stmt::If { cond, yes, no } => {
+            if value(frame, cond, vars) == 0 {
+                run_body(frame, no, vars, store)
+            } else {
+                run_body(frame, yes, vars, store)
+            }
+        }
+        Stmt::Send { port } => Flow::Sends(low_byte(value(frame, port, vars))),
+        Stmt::Drop => Flow::Drops,
+    }
+}
+
+#[cycle(run)]
+fn run_body(frame: &Frame<'_>, body: &[Stmt], vars: &mut Variables, store: &mut Store) -> Flow
+    requires { IsRunnableBody (body_tree body.now) }
+    ensures { outcome_of result (packet_of frame.now) (state_of vars.new store.new) ≡ do_body (widths_of frame.now) (packet_of frame.now) (body_tree body.now) (state_of vars.old store.old) }
+{
+    for s in body {
+        match run_stmt(frame, s, vars, store) {
+            Flow::Goes => {}
+            flow => return flow,
+        }
+    }
+    Flow::Goes
+}
+
+/// What becomes of a packet of at most 9,216 bytes that arrives by this port, and what it leaves of the store. The memory is
+/// taken first: where there is none, the store is as before. A store that keeps what was declared still does after the run.
+pub fn run(
+    alloc: Global,
+    m: &Middlebox,
+    store: &mut Store,
+    port: u8,
+    packet: &[u8],
+) -> Result<Verdict, NoMemory>
+    requires good { IsTrue (is_good (tree m.now)) }
+    requires size { length packet.now ≤ 9216 }
+    ensures verdict { IfOk result (λ verdict. verdict ≡ source_verdict (tree m.now) store.old (record { port = port; bytes = packet.now })) }
+    ensures store { OnOk result (store.new ≡ source_store (tree m.now) store.old (record { port = port; bytes = packet.now })) }
+    ensures err { OnErr result (store.new ≡ store.old) }
+    ensures kept { IsKept (tree m.now).objects store.old → IsKept (tree m.now).objects store.new }
+{
+    let shape = Shape::of(packet);
+    let mut bytes = packet.to_vec(alloc)?;
+    let mut vars = Variables {
+        locals: vec![in alloc; 0u64; m.locals.len()]?,
+        fields: FieldValues::of(packet, port, &shape),
+    };
+    let frame = Frame {
+        locals: m.locals.as_slice(),
+        port,
+        bytes: packet,
+    };
+    match run_body(&frame, &m.body, &mut vars, store) {
+        Flow::Goes | Flow::Drops => Ok(Verdict::Drop),
+        Flow::Sends(port) => {
+            vars.fields.write(&mut bytes, &shape);
+            Ok(Verdict::Send(port, Bytes::from(bytes)))
+        }
     }
 }

@@ -1,6 +1,10 @@
 //! What a middlebox does to packets, run on its tree.
 #![tactic(auto)]
 
+mod fields;
 mod interp;
+mod laws;
+mod value;
 
-pub use interp::{run, run_all};
+pub use interp::run;
+pub use laws::stores_are_kept;

@@ -4,6 +4,7 @@ use Rattle.element_lang.specs.declared.mark.Mark.TheVariants.{LeftParen, RightPa
 use Rattle.element_lang.specs.declared.sizes.TheConstants.{MAX_DEPTH}
 use Rattle.element_lang.specs.Token.{Token, fixed, Placed, AreTokens}
 use Rattle.element_lang.specs.Tree.{Tree}
+use Rattle.element_lang.specs.Surface.{named}
 use Rattle.element_lang.specs.Grammar.{Spells}
 use Rattle.element_lang.specs.Rules.{is_good}
 
@@ -23,11 +24,11 @@ abbrev pub deepest : ℕ → List Token → ℕ
 deepest n [] = n
 deepest n (t ∷ ts) = max n (deepest (open_after t n) ts)
 
--- the text is a source of this middlebox
+-- the text is a source of this middlebox: with its names put back, the middlebox is what the tokens spell, and it keeps the rules
 pub record IsSource (text : List ℕ) (m : Tree) : Type 0 where
   pub utf8 : IsUtf8 text
   pub placed : List Placed
   pub tokens : AreTokens text placed
   pub depth : deepest 0 (map (λ t. t.token) placed) ≤ MAX_DEPTH
-  pub spells : Spells (map (λ t. t.token) placed) m
+  pub spells : Spells (map (λ t. t.token) placed) (named m)
   pub good : IsTrue (is_good m)

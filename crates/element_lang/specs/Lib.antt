@@ -2,7 +2,9 @@ pub mod Mark
 pub mod Tree
 pub mod View
 pub mod Token
+pub mod Surface
 pub mod Grammar
+pub mod Widths
 pub mod Rules
 pub mod Accepted
 pub mod Meaning

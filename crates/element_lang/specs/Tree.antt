@@ -1,19 +1,41 @@
 -- The syntax tree as a value, without the pointers and capacities of the Rust one.
-use Rattle.std.specs.Prelude.{ℕ}
+use Rattle.std.specs.Prelude.{ℕ, List}
+use Rattle.gal_bits.specs.declared.op.Op.{Op}
+use Rattle.packet_fields.specs.declared.field.Field.{Field}
+use Rattle.state_store.specs.declared.object.ObjectDecl.{ObjectDecl}
+use Rattle.element_lang.specs.declared.tree.Local.{Local}
 
-pub data ExprTree : Type 0 where
-  -- a number, and how many bits wide it is
-  lit : (value width : ℕ) → ExprTree
+mutual
+  pub data ExprTree : Type 0 where
+    -- a number, and how many bits wide it is
+    lit : (value width : ℕ) → ExprTree
+    local : (number : ℕ) → ExprTree
+    field : (f : Field) → ExprTree
+    byte : (index : ExprTree) → ExprTree
+    shift : (op : Op) (by : ℕ) (arg : ExprTree) → ExprTree
+    apply : (op : Op) (width : ℕ) (args : Exprs) → ExprTree
 
-pub data StmtTree : Type 0 where
-  send : (port : ExprTree) → StmtTree
-  drop : StmtTree
+  -- expressions, in order
+  pub data Exprs : Type 0 where
+    no_expr : Exprs
+    expr : ExprTree → Exprs → Exprs
 
--- statements, in order
-pub data BodyTree : Type 0 where
-  done : BodyTree
-  stmt : StmtTree → BodyTree → BodyTree
+mutual
+  pub data StmtTree : Type 0 where
+    set_field : (f : Field) (value : ExprTree) → StmtTree
+    look : (found : ℕ) (into : List ℕ) (object : ℕ) (keys : Exprs) → StmtTree
+    put : (ok object : ℕ) (keys values : Exprs) → StmtTree
+    choose : (cond : ExprTree) (first second : BodyTree) → StmtTree
+    send : (port : ExprTree) → StmtTree
+    drop : StmtTree
+
+  -- statements, in order
+  pub data BodyTree : Type 0 where
+    done : BodyTree
+    stmt : StmtTree → BodyTree → BodyTree
 
 -- a whole middlebox
 pub record Tree : Type 0 where
+  pub objects : List ObjectDecl
+  pub locals : List Local
   pub body : BodyTree

@@ -6,5 +6,5 @@ mod sizes;
 mod tree;
 
 pub use mark::{KEYWORDS, Mark, SYMBOLS};
-pub use sizes::MAX_DEPTH;
-pub use tree::{Body, Expr, Middlebox, Stmt};
+pub use sizes::{MAX_DEPTH, MAX_ROWS};
+pub use tree::{Body, Expr, Local, Locals, Middlebox, Stmt};

@@ -1,22 +1,112 @@
 //! The syntax tree of a middlebox.
+ghost use Rattle.std.specs.Prelude.{◌≡◌, ◌++◌, ◌∷◌, [], length, OnOk, OnErr};
 
-use gal_bits::Width;
+use gal_bits::{Op, Width};
+use gal_io::{Bytes, NoMemory};
+use packet_fields::Field;
+use state_store::Objects;
+use std::alloc::Global;
+use std::marker::Model;
 
 /// A whole middlebox.
 #[derive(Debug, Drop)]
 pub struct Middlebox {
+    /// The state that lasts from packet to packet.
+    pub objects: Objects,
+    /// The variables of a run, in order of declaration. A local is known by its place in this list, from 0.
+    pub locals: Locals,
     /// What is done to each packet. Its end drops the packet.
     pub body: Body,
+}
+
+/// A variable of a run.
+#[derive(Debug, Drop)]
+pub struct Local {
+    pub name: Bytes,
+    pub width: Width,
+}
+
+/// A list of locals.
+#[derive(Debug, Drop)]
+pub struct Locals {
+    items: Vec<Local>,
+}
+
+impl Model for Locals {
+    ghost use Rattle.std.specs.Prelude.{List};
+    ghost use Rattle.element_lang.specs.declared.tree.Local.{Local};
+
+    ghost Value = { List Local };
+
+    ghost view = { λ locals. locals.items.items };
+}
+
+impl Locals {
+    pub fn new(alloc: Global) -> Locals
+        ensures { result ≡ [] }
+    {
+        Locals {
+            items: Vec::new(alloc),
+        }
+    }
+
+    pub fn as_slice(&self) -> &[Local]
+        ensures { result.now ≡ self.now }
+    {
+        self.items.as_slice()
+    }
+
+    pub fn len(&self) -> usize
+        ensures { result ≡ length self.now }
+    {
+        self.items.len()
+    }
+
+    /// Puts a local last.
+    pub fn push(&mut self, local: Local) -> Result<(), NoMemory>
+        ensures ok { OnOk result (self.new ≡ self.old ++ local ∷ []) }
+        ensures err { OnErr result (self.new ≡ self.old) }
+    {
+        self.items.push(local)?;
+        Ok(())
+    }
 }
 
 /// Statements, in order.
 pub type Body = Vec<Stmt>;
 
-/// A statement.
+/// A statement. Objects and locals are named by their places.
 #[derive(Debug, Drop)]
 pub enum Stmt {
-    /// Ends the run: the packet leaves by this port.
-    Send { port: Expr },
+    /// Gives a field, which is a variable of the run, another value.
+    SetField {
+        field: Field,
+        value: Expr,
+    },
+    /// Looks a key up. `found` becomes 1 and `into` the values where the key is there, and all become 0 where it isn't.
+    Look {
+        found: u32,
+        into: Vec<u32>,
+        object: u32,
+        keys: Vec<Expr>,
+    },
+    /// Stores a row. `ok` becomes 1 where it was stored, and 0 where there is no place for it.
+    Put {
+        ok: u32,
+        object: u32,
+        keys: Vec<Expr>,
+        values: Vec<Expr>,
+    },
+    /// Does `yes` where the condition, which has 1 bit, is 1, and else `no`.
+    If {
+        cond: Expr,
+        yes: Body,
+        no: Body,
+    },
+    /// Ends the run: the packet leaves by this port, with its fields as they are.
+    Send {
+        port: Expr,
+    },
     /// Ends the run: the packet goes no further.
     Drop,
 }
@@ -26,4 +116,22 @@ pub enum Stmt {
 pub enum Expr {
     /// A number and its width in bits.
     Lit(u64, Width),
+    /// The value of a local.
+    Local(u32),
+    /// The value of a field.
+    Field(Field),
+    /// A byte of the packet as it arrived, by its index; 0 past the end.
+    Byte(Box<Expr>),
+    /// A shift by a number of bits.
+    Shift {
+        op: Op,
+        by: u8,
+        arg: Box<Expr>,
+    },
+    /// Any other operator. The width is that of the result, in bits.
+    Apply {
+        op: Op,
+        width: Width,
+        args: Vec<Expr>,
+    },
 }

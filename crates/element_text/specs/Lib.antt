@@ -4,4 +4,8 @@ pub mod TokenError
 pub mod Surface
 pub mod Misses
 pub mod TextErrors
+pub mod Resolve
+pub mod Scopes
+pub mod Typed
+pub mod Statements
 pub mod Reads

@@ -3,6 +3,7 @@ ghost use Rattle.std.specs.Prelude.{◌≡◌};
 ghost use Rattle.element_text.specs.declared.error.TextError.TheVariants.{Refused, NoMemory};
 
 use crate::tokens::TokenError;
+use gal_io::NoMemory;
 use std::alloc::{AllocError, AllocFailed};
 use std::str::Utf8Error;
 use thiserror::Error;
@@ -30,6 +31,14 @@ impl<T: Drop> From<AllocFailed<T>> for TextError {
     ghost from_gives = { λ _ e. e ≡ NoMemory };
 
     fn from(_: AllocFailed<T>) -> Self {
+        TextError::NoMemory
+    }
+}
+
+impl From<NoMemory> for TextError {
+    ghost from_gives = { λ _ e. e ≡ NoMemory };
+
+    fn from(_: NoMemory) -> Self {
         TextError::NoMemory
     }
 }

@@ -3,13 +3,18 @@
 
 mod depth;
 mod error;
+mod expressions;
 mod grammar;
 mod lexeme;
 mod number;
+mod objects;
 mod reader;
 mod rules;
 mod scan;
+mod scope;
 mod surface;
+#[cfg(test)]
+mod tests;
 mod token;
 mod tokens;
 

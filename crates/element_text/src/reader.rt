@@ -2,7 +2,6 @@
 ghost use Rattle.std.specs.Prelude.{◌≡◌, IfOk, IfErr};
 ghost use Rattle.element_lang.specs.Tree.{Tree};
 ghost use Rattle.element_lang.specs.View.{tree};
-ghost use Rattle.element_lang.specs.Grammar.{Spells};
 ghost use Rattle.element_lang.specs.Accepted.{IsSource};
 ghost use Rattle.element_text.specs.Tokens.{tokens_of};
 ghost use Rattle.element_text.specs.Reads.{AreTokensOf};
@@ -22,7 +21,7 @@ use std::str;
 fn read_tokens(alloc: Global, text: &[u8], found: &[Placed]) -> Result<Middlebox, TextError>
     ensures ok { IfOk result (λ m. AreTokensOf (tokens_of text.now found.now) (tree m)) }
     ensures only { IfOk result (λ m.
-        (other : Tree) → Spells (tokens_of text.now found.now) other → other ≡ tree m) }
+        (other : Tree) → AreTokensOf (tokens_of text.now found.now) other → other ≡ tree m) }
     ensures refused { IfErr result (λ e.
         e ≡ TextError.Refused → (m : Tree) → AreTokensOf (tokens_of text.now found.now) m → ⊥) }
 {
@@ -30,7 +29,7 @@ fn read_tokens(alloc: Global, text: &[u8], found: &[Placed]) -> Result<Middlebox
         return Err(TextError::Refused);
     }
     let source = parse(alloc, text, found)?;
-    resolve(alloc, &source)
+    resolve(alloc, text, &source)
 }
 
 /// Reads a source. A text is refused that is not UTF-8, has a byte at which no token starts, has more than

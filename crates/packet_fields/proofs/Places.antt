@@ -10,8 +10,8 @@ use Rattle.packet_fields.specs.declared.field.Header.TheVariants.{Meta, Ethernet
 use Rattle.packet_fields.specs.declared.shape.Shape.{Shape}
 use Rattle.packet_fields.specs.Fields.{place, NoneOverlap}
 use Rattle.packet_fields.specs.Shape.{Outline, outline_of, after_ip, has_ip, carries, shape_from, shape_of, start_of}
-use Rattle.packet_fields.specs.Table.{row, all_fields}
-use Rattle.packet_fields.proofs.FieldList.{rank, same_rank, each_of, of_each, of_each_pair}
+use Rattle.packet_fields.specs.Table.{row, all_fields, field_index as rank}
+use Rattle.packet_fields.proofs.FieldList.{same_rank, each_of, of_each, of_each_pair}
 
 -- ---- within a header
 abbrev pub header_rank : Header → ℕ

@@ -55,6 +55,43 @@ row UdpSum = record { name = codes "udp.sum"; header = Udp; at = 48; width = 16;
 unfoldable pub all_fields : List Field
 all_fields = MetaPort ∷ MetaLen ∷ HasIp ∷ HasTcp ∷ HasUdp ∷ EthDst ∷ EthSrc ∷ EthType ∷ IpVersion ∷ IpIhl ∷ IpTos ∷ IpLen ∷ IpId ∷ IpFlags ∷ IpFrag ∷ IpTtl ∷ IpProto ∷ IpSum ∷ IpSrc ∷ IpDst ∷ TcpSport ∷ TcpDport ∷ TcpSeq ∷ TcpAck ∷ TcpOff ∷ TcpRes ∷ TcpFlags ∷ TcpWin ∷ TcpSum ∷ TcpUrg ∷ UdpSport ∷ UdpDport ∷ UdpLen ∷ UdpSum ∷ []
 
+-- the place of a field in field order, counted from 0
+abbrev pub field_index : Field → ℕ
+field_index MetaPort = 0
+field_index MetaLen = 1
+field_index HasIp = 2
+field_index HasTcp = 3
+field_index HasUdp = 4
+field_index EthDst = 5
+field_index EthSrc = 6
+field_index EthType = 7
+field_index IpVersion = 8
+field_index IpIhl = 9
+field_index IpTos = 10
+field_index IpLen = 11
+field_index IpId = 12
+field_index IpFlags = 13
+field_index IpFrag = 14
+field_index IpTtl = 15
+field_index IpProto = 16
+field_index IpSum = 17
+field_index IpSrc = 18
+field_index IpDst = 19
+field_index TcpSport = 20
+field_index TcpDport = 21
+field_index TcpSeq = 22
+field_index TcpAck = 23
+field_index TcpOff = 24
+field_index TcpRes = 25
+field_index TcpFlags = 26
+field_index TcpWin = 27
+field_index TcpSum = 28
+field_index TcpUrg = 29
+field_index UdpSport = 30
+field_index UdpDport = 31
+field_index UdpLen = 32
+field_index UdpSum = 33
+
 -- the field whose name these bytes are
 abbrev pub field_named : List ℕ → Option Field
 field_named name = find (λ f. bytes_eq (row f).name name) all_fields

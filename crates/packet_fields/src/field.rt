@@ -1,7 +1,7 @@
 //! The fields of a packet, from one table.
 ghost use Rattle.std.specs.Prelude.{◌≡◌, ◌≢◌, ◌<◌, MatchOption, Some, slice_get};
 ghost use Rattle.packet_fields.specs.declared.field.Field.{Field};
-ghost use Rattle.packet_fields.specs.Table.{row, all_fields, field_named};
+ghost use Rattle.packet_fields.specs.Table.{field_index, row, all_fields, field_named};
 
 use gal_bits::Width;
 
@@ -148,6 +148,7 @@ pub fn fields() -> [Field; 34]
 
 /// The place of the field in field order, counted from 0.
 pub fn field_index(field: Field) -> usize
+    ensures value { result ≡ field_index field }
     ensures place { slice_get all_fields result ≡ Some field }
     ensures within { result < 34 }
 {

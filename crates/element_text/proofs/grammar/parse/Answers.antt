@@ -2,7 +2,7 @@ use Rattle.std.proofs.Common.{◌≡◌, ◌<◌, length, arith}
 use Rattle.std.proofs.lemmas.Grind.{common_steps}
 use Rattle.std.proofs.lemmas.List.{length-map}
 use Rattle.element_text.specs.Tokens.{token_of}
-use Rattle.element_text.proofs.Pieces.{made_middlebox, no_end}
+use Rattle.element_text.proofs.Wholes.{made_middlebox, no_end}
 use Rattle.element_text.proofs.grammar.parse.Goals as goal
 
 pub returns-then-not-is_empty-clause-err : goal.returns-then-not-is_empty-clause-err
@@ -11,7 +11,7 @@ returns-then-not-is_empty-clause-err c =
     let rest = c.in_ok-body.rest.now in
     let more : 0 < length rest = grind (arith, common_steps) in
     let same = length-map rest (λ p. token_of text p.token) in
-    no_end c.in_ok-rest.ensures.ok c.in_ok-rest-2.ensures.ok c.in_ok-body.ensures.ok (omega arith)
+    no_end c.in_ok-objects.ensures.ok c.in_ok-body.ensures.ok (omega arith)
 
 pub returns-clause-ok : goal.returns-clause-ok
 returns-clause-ok c =
@@ -19,4 +19,4 @@ returns-clause-ok c =
     let rest = c.in_ok-body.rest.now in
     let nothing : length rest ≡ 0 = grind (arith, common_steps) in
     let same = length-map rest (λ p. token_of text p.token) in
-    made_middlebox c.in_ok-rest.ensures.ok c.in_ok-rest-2.ensures.ok c.in_ok-body.ensures.ok (omega arith)
+    made_middlebox c.in_ok-objects.ensures.ok c.in_ok-body.ensures.ok (omega arith)

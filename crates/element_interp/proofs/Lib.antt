@@ -1,0 +1,7 @@
+pub mod Tests
+pub mod FieldOrder
+pub mod NoBits
+pub mod GoodRuns
+pub mod KeptObjects
+pub mod Values
+pub mod KeptRuns

@@ -1,0 +1,49 @@
+-- What the resolution of a whole source says of the middleboxes that have its names.
+use Rattle.std.proofs.Common.{◌≡◌, ℕ, Bool, true, false, List, [], Option, Some, None, IsTrue, refl, sym, ap, ◌∙◌, map}
+use Rattle.state_store.specs.declared.object.ObjectDecl.{ObjectDecl}
+use Rattle.element_lang.specs.declared.tree.Local.{Local}
+use Rattle.element_lang.specs.Tree.{BodyTree, Tree}
+use Rattle.element_lang.specs.Rules.{are_good_objects, is_good}
+use Rattle.element_lang.specs.Surface.{SurfaceBody, Surface, named}
+use Rattle.element_text.specs.declared.scope.KnownLocal.{KnownLocal}
+use Rattle.element_text.specs.Scopes.{known_of}
+use Rattle.element_text.specs.Resolve.{◌>>=◌, when, Env, MadeBody, with_locals, made_body, resolved}
+
+-- the environment of a source's first statement
+abbrev pub first_env : List ObjectDecl → Env
+first_env objects = record { objects = objects; locals = []; scope = [] }
+
+-- its objects keep their rules, and its body is made
+pub resolved_some : (objects : List ObjectDecl) (body : SurfaceBody) {tree : BodyTree} {locals : List Local} → are_good_objects [] objects ≡ true → made_body (first_env objects) body ≡ Some (record { tree = tree; locals = locals }) → resolved (record { objects = objects; body = body }) ≡ Some (record { objects = objects; locals = locals; body = tree })
+resolved_some objects body good made =
+    let rest : Option MadeBody → Option Tree = λ o. o >>= (λ b. Some (record { objects = objects; locals = b.locals; body = b.tree })) in
+    ap (λ x. when x (rest (made_body (first_env objects) body))) good ∙ ap rest made
+
+-- its body is not made
+pub resolved_no_body : (objects : List ObjectDecl) (body : SurfaceBody) → made_body (first_env objects) body ≡ None → resolved (record { objects = objects; body = body }) ≡ None
+resolved_no_body objects body none =
+    ap (λ o. when (are_good_objects [] objects) (o >>= (λ b. Some (record { objects = objects; locals = b.locals; body = b.tree })))) none ∙ never (are_good_objects [] objects)
+  where
+    never : (b : Bool) → ◌≡◌ {A = Option Tree} (when b None) None
+    never true = refl
+    never false = refl
+
+-- the first environment is empty
+pub first_is : (text : List ℕ) {objects decls : List ObjectDecl} {locals : List Local} {known : List KnownLocal} → objects ≡ decls → locals ≡ [] → known ≡ [] → ◌≡◌ {A = Env} (record { objects = objects; locals = locals; scope = map (known_of text) known }) (first_env decls)
+first_is text {decls = decls} {locals = locals} {known = known} objects_are no_locals no_known =
+    let P : List ObjectDecl → List Local → List KnownLocal → Env = λ o l k. record { objects = o; locals = l; scope = map (known_of text) k } in
+    ap (λ o. P o locals known) objects_are ∙ ap (λ l. P decls l known) no_locals ∙ ap (P decls []) no_known
+
+-- the middlebox that was made, with the objects and the locals behind its body
+pub resolved_made : (decls : List ObjectDecl) (body : SurfaceBody) (env next : Env) (b : BodyTree) → IsTrue (are_good_objects [] decls) → env ≡ first_env decls → made_body env body ≡ Some (record { tree = b; locals = next.locals }) → next ≡ with_locals env next.locals → resolved (record { objects = decls; body = body }) ≡ Some (record { objects = next.objects; locals = next.locals; body = b })
+resolved_made decls body env next b good first made kept =
+    let objects : next.objects ≡ decls = ap (λ (e : Env). e.objects) kept ∙ ap (λ (e : Env). e.objects) first in
+    resolved_some decls body good (ap (λ e. made_body e body) (sym first) ∙ made) ∙ ap (λ o. Some (record { objects = o; locals = next.locals; body = b })) (sym objects)
+
+-- A middlebox that has the names and keeps the rules is the one that is made, where the resolution of its names gives it again.
+pub only_one : ((m : Tree) → IsTrue (is_good m) → resolved (named m) ≡ Some m) → (s : Surface) (made : Tree) → resolved s ≡ Some made → (m : Tree) → named m ≡ s → IsTrue (is_good m) → m ≡ made
+only_one complete s made is m same good = let e : Some m ≡ Some made = sym (complete m good) ∙ ap resolved same ∙ is in cc
+
+-- and where nothing is made there is none
+pub none_fits : ((m : Tree) → IsTrue (is_good m) → resolved (named m) ≡ Some m) → (s : Surface) → resolved s ≡ None → (m : Tree) → named m ≡ s → IsTrue (is_good m) → ⊥
+none_fits complete s none m same good = let e : Some m ≡ None = sym (complete m good) ∙ ap resolved same ∙ none in cc

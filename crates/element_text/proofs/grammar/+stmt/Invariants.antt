@@ -1,0 +1,24 @@
+use Rattle.std.proofs.Common.{◌+◌, ◌*◌, ◌≤◌, length, map}
+use Rattle.element_text.specs.Tokens.{tokens_of}
+use Rattle.element_text.specs.Surface.{surface_stmt}
+use Rattle.element_text.proofs.Blocks.{Sofar}
+use Rattle.element_text.proofs.grammar.+stmt.Given as goal
+
+abbrev pub decreases-statement : goal.decreases-statement
+decreases-statement l = 2 * length l.tokens.now
+
+abbrev pub decreases-choice : goal.decreases-choice
+decreases-choice l = 2 * length l.tokens.now + 1
+
+abbrev pub decreases-otherwise : goal.decreases-otherwise
+decreases-otherwise l = 2 * length l.tokens.now + 1
+
+abbrev pub decreases-block : goal.decreases-block
+decreases-block l = 2 * length l.tokens.now + 1
+
+abbrev pub invariant-block-statements : goal.invariant-block-statements
+invariant-block-statements l =
+    Sofar (map (surface_stmt l.text) l.body.items) (tokens_of l.text l.tokens) (tokens_of l.text l.left) × (length l.left ≤ length l.tokens)
+
+abbrev pub decreases-block-statements : goal.decreases-block-statements
+decreases-block-statements l = length l.left

@@ -1,0 +1,219 @@
+-- The middlebox of a surface tree: names become numbers, and a piece that breaks a rule has none.
+use Rattle.std.specs.Prelude.{ℕ, ◌+◌, ◌^◌, Bool, true, false, not, ◌&&◌, ◌||◌, List, [], ◌∷◌, ◌++◌, map, length, nat_le, nat_lt, ◌==◌, if◌then◌else◌, Option, Some, None, is_none, slice_get, option_and_then}
+use Rattle.std.specs.Option.{option_map}
+use Rattle.std.specs.List.{list_any}
+use Rattle.std.specs.Str.{bytes_eq}
+use Rattle.gal_bits.specs.declared.op.Op.{Op}
+use Rattle.gal_bits.specs.declared.op.Op.TheVariants.{Add, Sub, Mul, Div, Rem, And, Or, Xor, Not, Shl, Shr, Eq, Ne, Lt, Le, Cast, Select, Adjust}
+use Rattle.packet_fields.specs.Table.{row}
+use Rattle.state_store.specs.declared.object.ObjectDecl.{ObjectDecl}
+use Rattle.element_lang.specs.declared.tree.Local.{Local}
+use Rattle.element_lang.specs.Tree as trees
+use Rattle.element_lang.specs.Tree.{ExprTree, Exprs, StmtTree, BodyTree, Tree}
+use Rattle.element_lang.specs.Rules.{is_width, is_shift, same_widths, fits_keys, fits_values, can_put, always_ends, are_good_objects}
+use Rattle.element_lang.specs.Surface.{SurfaceExpr, SurfaceExprs, SurfaceStmt, SurfaceBody, Surface, lit, name, field, byte, shift, apply, no_expr, expr, set_field, look, put, choose, send, drop, done, stmt}
+
+infixl 10 ◌>>=◌
+abbrev pub ◌>>=◌ : {A B : Type 0} → Option A → (A → Option B) → Option B
+o >>= f = option_and_then f o
+
+-- what a test lets through
+abbrev pub when : {A : Type 0} → Bool → Option A → Option A
+when true o = o
+when false o = None
+
+-- a local in scope: its number, and how it was declared
+pub record Known : Type 0 where
+  pub number : ℕ
+  pub decl : Local
+
+-- what is declared so far, and which locals are in scope, the oldest first
+pub record Env : Type 0 where
+  pub objects : List ObjectDecl
+  pub locals : List Local
+  pub scope : List Known
+
+-- the local in scope that has a name
+abbrev pub local_in : List Known → List ℕ → Option Known
+local_in [] word = None
+local_in (k ∷ ks) word = if bytes_eq word k.decl.name then Some k else local_in ks word
+
+-- the number of the object that has a name, where the first of the list has number n
+abbrev pub object_from : ℕ → List ObjectDecl → List ℕ → Option ℕ
+object_from n [] word = None
+object_from n (o ∷ os) word = if bytes_eq word o.name then Some n else object_from (n + 1) os word
+
+-- an expression and the width of its value
+pub record Typed : Type 0 where
+  pub tree : ExprTree
+  pub width : ℕ
+
+-- expressions and the widths of their values
+pub record TypedList : Type 0 where
+  pub trees : Exprs
+  pub widths : List ℕ
+
+-- the width of one value, of two of the same width, and of the second and third where the first has 1 bit
+abbrev pub width_of_one : List ℕ → Option ℕ
+width_of_one (a ∷ []) = Some a
+width_of_one _ = None
+
+abbrev pub width_of_two : List ℕ → Option ℕ
+width_of_two (a ∷ b ∷ []) = when (a == b) (Some a)
+width_of_two _ = None
+
+abbrev pub width_of_choice : List ℕ → Option ℕ
+width_of_choice (a ∷ b ∷ c ∷ []) = when (a == 1 && b == c) (Some b)
+width_of_choice _ = None
+
+-- the width of an operator's result where none is written
+abbrev pub unwritten_width : Op → List ℕ → Option ℕ
+unwritten_width Add args = width_of_two args
+unwritten_width Sub args = width_of_two args
+unwritten_width Mul args = width_of_two args
+unwritten_width Div args = width_of_two args
+unwritten_width Rem args = width_of_two args
+unwritten_width And args = width_of_two args
+unwritten_width Or args = width_of_two args
+unwritten_width Xor args = width_of_two args
+unwritten_width Not args = width_of_one args
+unwritten_width Shl args = None
+unwritten_width Shr args = None
+unwritten_width Eq args = option_map (λ w. 1) (width_of_two args)
+unwritten_width Ne args = option_map (λ w. 1) (width_of_two args)
+unwritten_width Lt args = option_map (λ w. 1) (width_of_two args)
+unwritten_width Le args = option_map (λ w. 1) (width_of_two args)
+unwritten_width Cast args = None
+unwritten_width Select args = width_of_choice args
+unwritten_width Adjust args = when (same_widths args (16 ∷ 16 ∷ 16 ∷ [])) (Some 16)
+
+-- the width of an operator's result, where the arguments have these widths; a width is written with a cast alone
+abbrev pub result_width : Op → ℕ → List ℕ → Option ℕ
+result_width Cast written args = width_of_one args >>= (λ w. when (is_width written) (Some written))
+result_width op written args = when (written == 0) (unwritten_width op args)
+
+-- an operator on these arguments
+abbrev pub typed_apply : Op → ℕ → TypedList → Option Typed
+typed_apply op written args =
+    option_map (λ w. record { tree = trees.apply op w args.trees; width = w }) (result_width op written args.widths)
+
+abbrev pub typed_local : Known → Typed
+typed_local k = record { tree = trees.local k.number; width = k.decl.width }
+
+-- an expression, and a list of them, over the locals in scope
+abbrev mutual
+  pub typed_expr : List Known → SurfaceExpr → Option Typed
+  typed_expr scope (lit value width) = when (is_width width && nat_lt value (2 ^ width)) (Some (record { tree = trees.lit value width; width = width }))
+  typed_expr scope (name word) = option_map typed_local (local_in scope word)
+  typed_expr scope (field f) = Some (record { tree = trees.field f; width = (row f).width })
+  typed_expr scope (byte index) = do
+    i ← typed_expr scope index
+    when (i.width == 16) (Some (record { tree = trees.byte i.tree; width = 8 }))
+  typed_expr scope (shift op by arg) = do
+    a ← typed_expr scope arg
+    when (is_shift op && nat_le by 63) (Some (record { tree = trees.shift op by a.tree; width = a.width }))
+  typed_expr scope (apply op written args) = typed_exprs scope args >>= typed_apply op written
+
+  pub typed_exprs : List Known → SurfaceExprs → Option TypedList
+  typed_exprs scope no_expr = Some (record { trees = trees.no_expr; widths = [] })
+  typed_exprs scope (expr e es) = do
+    first ← typed_expr scope e
+    rest ← typed_exprs scope es
+    Some (record { trees = trees.expr first.tree rest.trees; widths = first.width ∷ rest.widths })
+
+-- no object and no local in scope has this name
+abbrev pub is_free : Env → List ℕ → Bool
+is_free env word = not (list_any (bytes_eq word) (map (λ o. o.name) env.objects)) && is_none (local_in env.scope word)
+
+-- one more local
+abbrev pub with_local : Env → Local → Env
+with_local env l = record {
+  objects = env.objects;
+  locals = env.locals ++ l ∷ [];
+  scope = env.scope ++ record { number = length env.locals; decl = l } ∷ [];
+}
+
+abbrev pub declared : Env → List ℕ → ℕ → Option Env
+declared env word width = when (is_free env word && is_width width) (Some (with_local env (record { name = word; width = width })))
+
+-- one local for each name, with the width at its place
+abbrev pub all_declared : Env → List (List ℕ) → List ℕ → Option Env
+all_declared env [] [] = Some env
+all_declared env [] (v ∷ vs) = None
+all_declared env (w ∷ ws) [] = None
+all_declared env (w ∷ ws) (v ∷ vs) = declared env w v >>= (λ next. all_declared next ws vs)
+
+-- as many numbers as there are names, from n on
+abbrev pub numbers_from : ℕ → List (List ℕ) → List ℕ
+numbers_from n [] = []
+numbers_from n (w ∷ ws) = n ∷ numbers_from (n + 1) ws
+
+abbrev pub values_of : Option ObjectDecl → List ℕ
+values_of None = []
+values_of (Some o) = o.values
+
+-- a statement, and what is declared behind it
+pub record Made : Type 0 where
+  pub tree : StmtTree
+  pub env : Env
+
+-- statements, and the locals that are declared behind them
+pub record MadeBody : Type 0 where
+  pub tree : BodyTree
+  pub locals : List Local
+
+abbrev pub with_locals : Env → List Local → Env
+with_locals env locals = record { objects = env.objects; locals = locals; scope = env.scope }
+
+abbrev pub is_done : SurfaceBody → Bool
+is_done done = true
+is_done (stmt s b) = false
+
+-- a condition, which has 1 bit
+abbrev pub made_condition : Env → SurfaceExpr → Option ExprTree
+made_condition env cond = do
+  c ← typed_expr env.scope cond
+  when (c.width == 1) (Some c.tree)
+
+-- a statement, and a body of them, behind what is declared so far
+abbrev mutual
+  pub made_stmt : Env → SurfaceStmt → Option Made
+  made_stmt env (set_field f value) = do
+    v ← typed_expr env.scope value
+    when ((row f).writable && v.width == (row f).width) (Some (record { tree = trees.set_field f v.tree; env = env }))
+  made_stmt env (look found into object keys) = do
+    o ← object_from 0 env.objects object
+    ks ← typed_exprs env.scope keys
+    when (fits_keys (slice_get env.objects o) ks.widths) (do
+      next ← all_declared env (found ∷ into) (1 ∷ values_of (slice_get env.objects o))
+      Some (record { tree = trees.look (length env.locals) (numbers_from (length env.locals + 1) into) o ks.trees; env = next }))
+  made_stmt env (put ok object keys values) = do
+    o ← object_from 0 env.objects object
+    ks ← typed_exprs env.scope keys
+    vs ← typed_exprs env.scope values
+    when (can_put (slice_get env.objects o) && fits_keys (slice_get env.objects o) ks.widths && fits_values (slice_get env.objects o) vs.widths) (do
+      next ← declared env ok 1
+      Some (record { tree = trees.put (length env.locals) o ks.trees vs.trees; env = next }))
+  made_stmt env (choose cond first second) = do
+    c ← made_condition env cond
+    a ← made_body env first
+    b ← made_body (with_locals env a.locals) second
+    Some (record { tree = trees.choose c a.tree b.tree; env = with_locals env b.locals })
+  made_stmt env (send port) = do
+    p ← typed_expr env.scope port
+    when (p.width == 8) (Some (record { tree = trees.send p.tree; env = env }))
+  made_stmt env drop = Some (record { tree = trees.drop; env = env })
+
+  pub made_body : Env → SurfaceBody → Option MadeBody
+  made_body env done = Some (record { tree = trees.done; locals = env.locals })
+  made_body env (stmt s b) = do
+    first ← made_stmt env s
+    when (not (always_ends first.tree) || is_done b) (do
+      rest ← made_body first.env b
+      Some (record { tree = trees.stmt first.tree rest.tree; locals = rest.locals }))
+
+abbrev pub resolved : Surface → Option Tree
+resolved s =
+    when (are_good_objects [] s.objects) (do
+      b ← made_body (record { objects = s.objects; locals = []; scope = [] }) s.body
+      Some (record { objects = s.objects; locals = b.locals; body = b.tree }))
