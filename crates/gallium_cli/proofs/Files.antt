@@ -1,8 +1,14 @@
 -- What the reading of one file shows, and of several one after another.
-use Rattle.std.proofs.Common.{◌≡◌, ◌≤◌, ℕ, List, length, Option, Some, None, IfSome, subst, sym, ◌∙◌, inl, inr, arith, Ok}
+use Rattle.std.proofs.Common.{◌≡◌, ◌≤◌, ◌<◌, ◌^◌, ℕ, List, length, Option, Some, None, IfSome, subst, sym, ◌∙◌, inl, inr, arith, Ok}
 use Rattle.gal_io.specs.Files.{FilesState}
 use Rattle.packet_fields.specs.declared.packet.Packet.{Packet}
 use Rattle.element_lang.specs.Tree.{Tree}
+use Rattle.state_store.specs.declared.object.ObjectDecl.{ObjectDecl}
+use Rattle.element_lang.specs.Token.{Token}
+use Rattle.element_lang.specs.Surface.{Surface}
+use Rattle.element_lang.specs.Grammar.{AreObjects, IsMiddlebox}
+use Rattle.element_lang.specs.Grammar.AreObjects.{are_none, are_one}
+use Rattle.element_lang.specs.Grammar.IsMiddlebox.{is_middlebox}
 use Rattle.element_lang.specs.Accepted.{IsSource}
 use Rattle.run_text.specs.Trace.{trace_of}
 use Rattle.gallium_cli.specs.declared.refusal.Refusal.{Refusal}
@@ -10,6 +16,21 @@ use Rattle.gallium_cli.specs.declared.refusal.Refusal.TheVariants.{Usage, Source
 use Rattle.gallium_cli.specs.Words.{Replay}
 use Rattle.gallium_cli.specs.Loads.{GoesOn}
 use Rattle.gallium_cli.specs.Causes.{Role, source, trace, schedule, size_of, files_of, IsGood, IsBad, IsFileRefused, IsFirstRefused}
+
+-- ## What a source declares
+
+one_object : {objects : List ObjectDecl} {ts rest : List Token} → AreObjects objects ts rest → length objects ≤ 1
+one_object are_none = omega arith
+one_object are_one = omega arith
+
+few_declared : {s : Surface} {ts rest : List Token} → IsMiddlebox s ts rest → length s.objects ≤ 1
+few_declared (is_middlebox objects body) = one_object objects
+
+-- a source declares far fewer objects than there are numbers
+pub few_objects : (text : List ℕ) (m : Tree) → IsSource text m → length m.objects < 2 ^ 32
+few_objects text m is = let few = few_declared is.spells in omega arith
+
+-- ## What files show
 
 -- what spells a middlebox is a good source, and what spells packets a good trace
 pub good_source : (told : Option (List ℕ)) (m : Tree) → IfSome told (λ text. (length text ≤ size_of source) × IsSource text m) → IfSome told (IsGood source)

@@ -77,12 +77,12 @@ pub record IsJob (told : List ℕ → Option (List ℕ)) (s t c : List ℕ) (m :
 -- a text that answers a request: the report of the run of the job that the files spell
 abbrev pub IsAnswer : List ℕ → Request → (List ℕ → Option (List ℕ)) → Type 0
 IsAnswer text (Replay s t c) told =
-    (m : Tree) × (packets : List Packet) × (events : List Event) × IsJob told s t c m packets events × (text ≡ report_of (job_run m packets events))
+    (m : Tree) × (packets : List Packet) × (events : List Event) × IsJob told s t c m packets events × (text ≡ report_of m.objects (job_run m packets events))
 
 -- the answer was taken whole by out
 abbrev pub IsDone : Option Request → FilesState → SinkState → SinkState → Type 0
 IsDone None f o o' = ⊥
-IsDone (Some request) f o o' = (text : List ℕ) × IsAnswer text request f.told × (o'.taken ≡ append_known o.taken text)
+IsDone (Some (Replay s t c)) f o o' = (text : List ℕ) × IsAnswer text (Replay s t c) f.told × (o'.taken ≡ append_known o.taken text)
 
 -- Why an answer wasn't written: only some first bytes were taken, and the count of faults of out rose, or no memory was found.
 abbrev pub IsNotWritten : Refusal → Request → FilesState → SinkState → SinkState → Type 0

@@ -4,3 +4,4 @@ pub mod Lines
 pub mod Loads
 pub mod Puts
 pub mod Causes
+pub mod Promises

@@ -1,10 +1,10 @@
 //! The files of a command, each read whole.
-ghost use Rattle.std.specs.Prelude.{◌≡◌, ◌≤◌, ◌<◌, ◌^◌, IfOk, IfErr, IfSome, IsTrue, length};
+ghost use Rattle.std.specs.Prelude.{◌≡◌, ◌≤◌, ◌<◌, ◌^◌, IfOk, IfErr, IfSome, IsTrue, All, length};
 ghost use Rattle.element_lang.specs.View.{tree};
 ghost use Rattle.element_lang.specs.Rules.{is_good};
 ghost use Rattle.element_lang.specs.Accepted.{IsSource};
 ghost use Rattle.run_text.specs.Trace.{trace_of, schedule_of};
-ghost use Rattle.run_text.specs.declared.refusal.TheConstants.{MAX_PACKETS, MAX_EVENTS};
+ghost use Rattle.run_text.specs.declared.refusal.TheConstants.{MAX_PACKETS, MAX_PACKET_BYTES, MAX_EVENTS};
 ghost use Rattle.gallium_cli.specs.Causes.{IsFileRefused, source, trace, schedule};
 ghost use Rattle.gallium_cli.specs.Loads.{IsLoaded, IsNotLoaded, GoesOn};
 
@@ -51,6 +51,7 @@ pub fn load_source<'a, F: Files>(
 ) -> Result<Middlebox, Refusal<'a>>
     ensures ok { IfOk result (λ m. IfSome ((F.seen files.old).told name.now) (λ text. (length text ≤ MAX_SOURCE) × IsSource text (tree m))) }
     ensures good { IfOk result (λ m. IsTrue (is_good (tree m))) }
+    ensures few { IfOk result (λ m. length m.objects < 2 ^ 32) }
     ensures err { IfErr result (λ refusal. IsFileRefused refusal source name.now (F.seen files.old) (F.seen files.new)) }
     ensures stays { GoesOn (F.seen files.old) (F.seen files.new) }
 {
@@ -70,6 +71,7 @@ pub fn load_trace<'a, F: Files>(
 ) -> Result<Packets, Refusal<'a>>
     ensures ok { IfOk result (λ packets. IfSome ((F.seen files.old).told name.now) (λ text. (length text ≤ MAX_TEXT) × (trace_of text ≡ Ok packets))) }
     ensures few { IfOk result (λ packets. length packets ≤ MAX_PACKETS) }
+    ensures short { IfOk result (λ packets. All (λ p. length p.bytes ≤ MAX_PACKET_BYTES) packets) }
     ensures err { IfErr result (λ refusal. IsFileRefused refusal trace name.now (F.seen files.old) (F.seen files.new)) }
     ensures stays { GoesOn (F.seen files.old) (F.seen files.new) }
 {

@@ -167,3 +167,212 @@ fn a_failing_sink(rt: HostRuntime) -> Result<(), Fail> {
     assert_eq!(rt; err.bytes(), b"write fault\n".as_slice());
     Ok(())
 }
+
+#[test]
+fn the_order_of_decisions(rt: HostRuntime) -> Result<(), Fail> {
+    let texts = [
+        "map m (8) -> (8) capacity 4; process { look f, v = m[meta.port]; if f { send v; } put k = m[meta.port] -> 9:8; drop; }",
+        "1 -\n1 -\n",
+        "a\na\nu 1\nu 0\nh 0\nd 0\nh 0\n",
+    ];
+    let report =
+        "report 1\npackets 2 admitted 2 decided 2 released 1\nevents 7 idle 0\nversion 0 visible 0\ndrained no\npacket 0 slow admitted 1 decided 4 version 0 held\npacket 1 slow admitted 2 decided 3 version 0 released 6 drop\norder 1 0\nobject m 1\n1 -> 9\nend\n";
+    expect(&rt, rt.alloc(), texts, Status::Done, report, "")?;
+    Ok(())
+}
+
+// Three packets, by ports 1, 2 and 1. The map has room for one key.
+#[test]
+fn a_full_map(rt: HostRuntime) -> Result<(), Fail> {
+    let texts = [
+        "map m (8) -> (16) capacity 1; process { put ok = m[meta.port] -> meta.len; if ok { send 1:8; } drop; }",
+        "1 -\n2 00\n1 0000\n",
+        "a\na\na\nu 0\nu 0\nu 0\nh 0\nh 0\nh 0\nd 0\nd 0\nd 0\n",
+    ];
+    let report =
+        "report 1\npackets 3 admitted 3 decided 3 released 3\nevents 12 idle 0\nversion 0 visible 0\ndrained yes\npacket 0 slow admitted 1 decided 4 version 0 released 10 send 1 -\npacket 1 slow admitted 2 decided 5 version 0 released 11 drop\npacket 2 slow admitted 3 decided 6 version 0 released 12 send 1 0000\norder 0 1 2\nobject m 1\n1 -> 2\nend\n";
+    expect(&rt, rt.alloc(), texts, Status::Done, report, "")?;
+    Ok(())
+}
+
+// A report of no rows, and one of rows in rising order.
+#[test]
+fn rows_in_order(rt: HostRuntime) -> Result<(), Fail> {
+    let source =
+        "map hosts (8) -> (16) capacity 3; process { put ok = hosts[meta.port] -> meta.len; }";
+    let empty =
+        "report 1\npackets 0 admitted 0 decided 0 released 0\nevents 0 idle 0\nversion 0 visible 0\ndrained yes\norder -\nobject hosts 0\nend\n";
+    expect(&rt, rt.alloc(), [source, "", ""], Status::Done, empty, "")?;
+    let report =
+        "report 1\npackets 3 admitted 3 decided 3 released 0\nevents 6 idle 0\nversion 0 visible 0\ndrained no\npacket 0 slow admitted 1 decided 4 version 0 held\npacket 1 slow admitted 2 decided 5 version 0 held\npacket 2 slow admitted 3 decided 6 version 0 held\norder 0 1 2\nobject hosts 3\n0 -> 0\n20 -> 2\n100 -> 1\nend\n";
+    let texts = [source, "100 ab\n20 abcd\n0 -\n", "a\na\na\nu 0\nu 0\nu 0\n"];
+    expect(&rt, rt.alloc(), texts, Status::Done, report, "")?;
+    Ok(())
+}
+
+// Replays one packet with nothing else on its way, and compares its verdict as the report prints it.
+fn expect_verdict(
+    rt: &impl Abort,
+    alloc: Global,
+    source: &str,
+    packet: &str,
+    verdict: &str,
+) -> Result<(), AllocError> {
+    let report = format!(in alloc;
+        "report 1\npackets 1 admitted 1 decided 1 released 1\nevents 4 idle 0\nversion 0 visible 0\ndrained yes\npacket 0 slow admitted 1 decided 2 version 0 released 4 {verdict}\norder 0\nend\n"
+    )?;
+    let texts = [source, packet, "a\nu 0\nh 0\nd 0\n"];
+    expect(rt, alloc, texts, Status::Done, &report, "")
+}
+
+// A packet of 14 bytes, one of 13, and one of none.
+const FRAME: &str = "3 0200000000010a000000000b0800";
+
+const SHORT: &str = "3 0200000000010a000000000b08";
+
+const NOTHING: &str = "3 -";
+
+#[test]
+fn fields_are_read(rt: HostRuntime) -> Result<(), Fail> {
+    const CASES: [(&str, &str); 15] = [
+        (
+            "process { if meta.port == 3:8 { drop; } send 1:8; }",
+            NOTHING,
+        ),
+        ("process { if meta.port == 3:8 { drop; } send 1:8; }", SHORT),
+        ("process { if meta.port == 3:8 { drop; } send 1:8; }", FRAME),
+        (
+            "process { if meta.len == 0:16 { drop; } send 1:8; }",
+            NOTHING,
+        ),
+        (
+            "process { if meta.len == 13:16 { drop; } send 1:8; }",
+            SHORT,
+        ),
+        (
+            "process { if meta.len == 14:16 { drop; } send 1:8; }",
+            FRAME,
+        ),
+        (
+            "process { if eth.dst == 0:48 { drop; } send 1:8; }",
+            NOTHING,
+        ),
+        ("process { if eth.dst == 0:48 { drop; } send 1:8; }", SHORT),
+        (
+            "process { if eth.dst == 0x020000000001:48 { drop; } send 1:8; }",
+            FRAME,
+        ),
+        (
+            "process { if eth.src == 0:48 { drop; } send 1:8; }",
+            NOTHING,
+        ),
+        ("process { if eth.src == 0:48 { drop; } send 1:8; }", SHORT),
+        (
+            "process { if eth.src == 0x0a000000000b:48 { drop; } send 1:8; }",
+            FRAME,
+        ),
+        (
+            "process { if eth.type == 0:16 { drop; } send 1:8; }",
+            NOTHING,
+        ),
+        ("process { if eth.type == 0:16 { drop; } send 1:8; }", SHORT),
+        (
+            "process { if eth.type == 0x0800:16 { drop; } send 1:8; }",
+            FRAME,
+        ),
+    ];
+    for (source, packet) in CASES {
+        expect_verdict(&rt, rt.alloc(), source, packet, "drop")?;
+    }
+    Ok(())
+}
+
+// A field that was written is read back, and stands in the packet where that has an Ethernet header.
+#[test]
+fn fields_are_written(rt: HostRuntime) -> Result<(), Fail> {
+    const CASES: [(&str, &str, &str); 7] = [
+        (
+            "process { eth.dst = 1:48; send 2:8; }",
+            FRAME,
+            "send 2 0000000000010a000000000b0800",
+        ),
+        (
+            "process { eth.src = 1:48; send 2:8; }",
+            FRAME,
+            "send 2 0200000000010000000000010800",
+        ),
+        (
+            "process { eth.dst = 1:48; send 2:8; }",
+            SHORT,
+            "send 2 0200000000010a000000000b08",
+        ),
+        ("process { eth.src = 1:48; send 2:8; }", NOTHING, "send 2 -"),
+        (
+            "process { eth.src = 1:48; if eth.src == 1:48 { drop; } send 2:8; }",
+            NOTHING,
+            "drop",
+        ),
+        (
+            "process { eth.src = eth.dst; eth.dst = eth.src; send 2:8; }",
+            FRAME,
+            "send 2 0200000000010200000000010800",
+        ),
+        ("process { eth.src = 1:48; drop; }", FRAME, "drop"),
+    ];
+    for (source, packet, verdict) in CASES {
+        expect_verdict(&rt, rt.alloc(), source, packet, verdict)?;
+    }
+    Ok(())
+}
+
+// The longest packet, with the first 14 bytes of the other.
+fn longest(alloc: Global) -> Result<String, AllocError> {
+    let mut text = String::from_str(alloc, FRAME)?;
+    for _ in 14..9216 {
+        text.push_str("c5")?;
+    }
+    Ok(text)
+}
+
+#[test]
+fn the_longest_packet(rt: HostRuntime) -> Result<(), Fail> {
+    let packet = longest(rt.alloc())?;
+    for source in [
+        "process { if meta.port == 3:8 { drop; } send 1:8; }",
+        "process { if meta.len == 9216:16 { drop; } send 1:8; }",
+        "process { if eth.dst == 0x020000000001:48 { drop; } send 1:8; }",
+        "process { if eth.src == 0x0a000000000b:48 { drop; } send 1:8; }",
+        "process { if eth.type == 0x0800:16 { drop; } send 1:8; }",
+    ] {
+        expect_verdict(&rt, rt.alloc(), source, &packet, "drop")?;
+    }
+    Ok(())
+}
+
+#[test]
+fn branches(rt: HostRuntime) -> Result<(), Fail> {
+    const CASES: [(&str, &str); 6] = [
+        (
+            "process { if 1:1 { send 1:8; } else { send 2:8; } }",
+            "send 1 -",
+        ),
+        (
+            "process { if 0:1 { send 1:8; } else { send 2:8; } }",
+            "send 2 -",
+        ),
+        ("process { if 0:1 { send 1:8; } send 3:8; }", "send 3 -"),
+        ("process { if 1:1 { } else { send 2:8; } }", "drop"),
+        (
+            "process { if 1:1 { if 0:1 { send 1:8; } else { send 4:8; } } send 5:8; }",
+            "send 4 -",
+        ),
+        (
+            "process { if (1:8 == 1:8) == (1:8 == 2:8) { send 1:8; } send 6:8; }",
+            "send 6 -",
+        ),
+    ];
+    for (source, verdict) in CASES {
+        expect_verdict(&rt, rt.alloc(), source, NOTHING, verdict)?;
+    }
+    Ok(())
+}

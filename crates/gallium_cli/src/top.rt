@@ -1,13 +1,14 @@
 //! The whole program.
-ghost use Rattle.std.specs.Prelude.{◌≡◌, ◌≤◌, ◌⊎◌, Some, IsTrue, map, length, string_bytes, IfOk, IfErr, OnOk};
+ghost use Rattle.std.specs.Prelude.{◌≡◌, ◌≤◌, ◌<◌, ◌^◌, ◌⊎◌, Some, All, IsTrue, map, length, string_bytes, IfOk, IfErr, OnOk};
 ghost use Rattle.gal_io.specs.Count.{Rose};
 ghost use Rattle.element_lang.specs.View.{tree};
 ghost use Rattle.element_lang.specs.Rules.{is_good};
-ghost use Rattle.run_text.specs.declared.refusal.TheConstants.{MAX_PACKETS, MAX_EVENTS};
+ghost use Rattle.run_text.specs.declared.refusal.TheConstants.{MAX_PACKETS, MAX_PACKET_BYTES, MAX_EVENTS};
 ghost use Rattle.run_text.specs.Report.{report_of};
 ghost use Rattle.schedule_replay.specs.Run.{job_run};
 ghost use Rattle.gallium_cli.specs.Words.{request_of, Replay};
 ghost use Rattle.gallium_cli.specs.Causes.{HasCause, IsDone, IsJob, IsFirstRefused, Ends, IsUsage, IsExact, IsComplete, files_of};
+ghost use Rattle.gallium_cli.specs.Promises.{IsSerial, IsSerialReport, IsFinished};
 ghost use Rattle.gallium_cli.specs.declared.status.Status.{Status};
 ghost use Rattle.gallium_cli.specs.Puts.{IsPut, IsNotPut};
 
@@ -42,7 +43,9 @@ fn load_job<'a, F: Files>(
 ) -> Result<Job, Refusal<'a>>
     ensures ok { IfOk result (λ job. IsJob (F.seen files.old).told source.now trace.now schedule.now (tree job.middlebox) job.packets job.events) }
     ensures good { IfOk result (λ job. IsTrue (is_good (tree job.middlebox))) }
+    ensures few_objects { IfOk result (λ job. length job.middlebox.objects < 2 ^ 32) }
     ensures few_packets { IfOk result (λ job. length job.packets ≤ MAX_PACKETS) }
+    ensures short_packets { IfOk result (λ job. All (λ p. length p.bytes ≤ MAX_PACKET_BYTES) job.packets) }
     ensures few_events { IfOk result (λ job. length job.events ≤ MAX_EVENTS) }
     ensures err { IfErr result (λ refusal. IsFirstRefused refusal (files_of (Replay source.now trace.now schedule.now)) (F.seen files.old) (F.seen files.new)) }
 {
@@ -61,12 +64,15 @@ fn load_job<'a, F: Files>(
 // The report of the run of a job.
 fn report(alloc: Global, job: &Job) -> Result<Text, NoMemory>
     requires good { IsTrue (is_good (tree job.now.middlebox)) }
+    requires few_objects { length job.now.middlebox.objects < 2 ^ 32 }
     requires few_packets { length job.now.packets ≤ MAX_PACKETS }
+    requires short_packets { All (λ p. length p.bytes ≤ MAX_PACKET_BYTES) job.now.packets }
     requires few_events { length job.now.events ≤ MAX_EVENTS }
-    ensures { IfOk result (λ text. text ≡ report_of (job_run (tree job.now.middlebox) job.now.packets job.now.events)) }
+    ensures run { IfOk result (λ text. text ≡ report_of job.now.middlebox.objects (job_run (tree job.now.middlebox) job.now.packets job.now.events)) }
+    ensures serial { IfOk result (λ text. IsSerialReport (tree job.now.middlebox) job.now.packets job.now.events text) }
 {
     let run = replay(alloc, job)?;
-    print_run(alloc, &run)
+    print_run(alloc, &job.middlebox.objects, &run)
 }
 
 // Replays what three files spell, and writes the report.
@@ -78,7 +84,7 @@ fn perform_replay<'a, F: Files, O: Sink>(
     files: &mut F,
     out: &mut O,
 ) -> Result<(), Refusal<'a>>
-    ensures ok { OnOk result (IsDone (Some (Replay source.now trace.now schedule.now)) (F.seen files.old) (O.seen out.old) (O.seen out.new)) }
+    ensures ok { OnOk result (IsFinished (Some (Replay source.now trace.now schedule.now)) (F.seen files.old) (O.seen out.old) (O.seen out.new)) }
     ensures err { IfErr result (λ refusal. HasCause refusal (Some (Replay source.now trace.now schedule.now))
         (F.seen files.old) (F.seen files.new) (O.seen out.old) (O.seen out.new)) }
 {
@@ -96,7 +102,7 @@ fn perform<'a, F: Files, O: Sink>(
     files: &mut F,
     out: &mut O,
 ) -> Result<(), Refusal<'a>>
-    ensures ok { OnOk result (IsDone (request_of (map string_bytes words.now)) (F.seen files.old) (O.seen out.old) (O.seen out.new)) }
+    ensures ok { OnOk result (IsFinished (request_of (map string_bytes words.now)) (F.seen files.old) (O.seen out.old) (O.seen out.new)) }
     ensures err { IfErr result (λ refusal. HasCause refusal (request_of (map string_bytes words.now))
         (F.seen files.old) (F.seen files.new) (O.seen out.old) (O.seen out.new)) }
 {
@@ -126,6 +132,9 @@ pub fn gallium<F: Files, O: Sink, E: Sink>(
         (F.seen files.old) (F.seen files.new) (O.seen out.old) (O.seen out.new) (E.seen err.old) (E.seen err.new) }
 
     ensures done { result ≡ Status.Done → IsDone (request_of (map string_bytes words.now)) (F.seen files.old) (O.seen out.old) (O.seen out.new) }
+    // The headline: what was reported is a serial run of the source, whatever the schedule.
+    ensures serialises { result ≡ Status.Done → IsSerial (request_of (map string_bytes words.now)) (F.seen files.old) (O.seen out.old) (O.seen out.new) }
+
     ensures silent { result ≡ Status.Done → (E.seen err.new).taken ≡ (E.seen err.old).taken }
 
     // Which status comes, by the words and the told texts.

@@ -1,10 +1,13 @@
 -- The text of a report.
-use Rattle.std.specs.Prelude.{ℕ, suc, Bool, true, false, List, [], ◌∷◌, ◌++◌, length, codes, decimal}
+use Rattle.std.specs.Prelude.{ℕ, suc, Bool, true, false, List, [], ◌∷◌, ◌++◌, length, codes, decimal, Option, Some, None, slice_get}
 use Rattle.hex.specs.Hex.{encode_lower}
 use Rattle.packet_fields.specs.declared.verdict.Verdict.{Verdict}
 use Rattle.packet_fields.specs.declared.verdict.Verdict.TheVariants.{Drop, Send}
 use Rattle.run_text.specs.declared.fate.Fate.{Fate}
 use Rattle.run_text.specs.declared.fate.Fate.TheVariants.{Up, Held, Slow, Fast}
+use Rattle.state_store.specs.declared.object.Row.{Row}
+use Rattle.state_store.specs.declared.object.ObjectDecl.{ObjectDecl}
+use Rattle.run_text.specs.declared.run.Part.{Part}
 use Rattle.run_text.specs.declared.run.Run.{Run}
 
 -- every line ends with LF
@@ -70,8 +73,34 @@ abbrev pub drained_line : Bool → List ℕ
 drained_line true = codes "drained yes" ++ line_end
 drained_line false = codes "drained no" ++ line_end
 
--- the whole report
-abbrev pub report_of : Run → List ℕ
-report_of run =
+-- each number of a row's value after a space, and each of its key before one
+abbrev pub key_text : List ℕ → List ℕ
+key_text [] = []
+key_text (n ∷ ns) = decimal n ++ (codes " " ++ key_text ns)
+
+abbrev pub row_line : Row → List ℕ
+row_line row = key_text row.keys ++ (codes "->" ++ (numbers_text row.values ++ line_end))
+
+abbrev pub row_lines : List Row → List ℕ
+row_lines [] = []
+row_lines (row ∷ rows) = row_line row ++ row_lines rows
+
+-- the name of the object of a number
+abbrev pub name_in : Option ObjectDecl → List ℕ
+name_in None = []
+name_in (Some object) = object.name
+
+-- what the parts are called, an object's name, and its rows
+abbrev pub part_line : List ℕ → List ObjectDecl → Part → List ℕ
+part_line word objects part =
+    word ++ (codes " " ++ (name_in (slice_get objects part.object) ++ (codes " " ++ (decimal (length part.rows) ++ line_end))))
+
+abbrev pub part_lines : List ℕ → List ObjectDecl → List Part → List ℕ
+part_lines word objects [] = []
+part_lines word objects (part ∷ parts) = part_line word objects part ++ (row_lines part.rows ++ part_lines word objects parts)
+
+-- the whole report of a run, whose objects are declared so
+abbrev pub report_of : List ObjectDecl → Run → List ℕ
+report_of objects run =
     (codes "report 1" ++ line_end) ++ (packets_line run ++ (events_line run ++ (version_line run ++ (drained_line run.drained
-    ++ (fate_lines 0 run.fates ++ (order_line run.order ++ (codes "end" ++ line_end)))))))
+    ++ (fate_lines 0 run.fates ++ (order_line run.order ++ (part_lines (codes "object") objects run.objects ++ (codes "end" ++ line_end))))))))

@@ -4,6 +4,7 @@
 mod event;
 mod fate;
 mod line_value;
+mod parts;
 mod refusal;
 mod report;
 mod run;
@@ -15,7 +16,7 @@ pub use event::{Event, Events};
 pub use fate::{Fate, Fates};
 pub use refusal::{LineKind, LinesError, MAX_EVENTS, MAX_PACKET_BYTES, MAX_PACKETS};
 pub use report::print_run;
-pub use run::{Order, Run};
+pub use run::{Order, Part, Parts, Run};
 pub use schedule::read_schedule;
 pub use serial::order;
 pub use trace::read_trace;

@@ -4,9 +4,11 @@ ghost use Rattle.run_text.specs.Report.{body_text, decided_text, drained_line, e
 ghost use Rattle.run_text.specs.Report.{numbers_text, order_line, packets_line, released_text, report_of, verdict_text, version_line};
 
 use crate::fate::Fate;
+use crate::parts::put_parts;
 use crate::run::Run;
 use gal_io::{NoMemory, Text};
 use packet_fields::Verdict;
+use state_store::Objects;
 use std::alloc::Global;
 
 fn body_text(alloc: Global, bytes: &[u8]) -> Result<String, NoMemory>
@@ -158,9 +160,10 @@ fn drained_line(drained: bool) -> &'static [u8]
     }
 }
 
-/// The report of a run: its counts, a line for each admitted packet, and the serial order.
-pub fn print_run(alloc: Global, run: &Run) -> Result<Text, NoMemory>
-    ensures { IfOk result (λ text. text ≡ report_of run.now) }
+/// The report of a run of a middlebox with these objects: its counts, a line for each admitted packet, the serial order, and
+/// the rows of the objects.
+pub fn print_run(alloc: Global, objects: &Objects, run: &Run) -> Result<Text, NoMemory>
+    ensures { IfOk result (λ text. text ≡ report_of objects.now run.now) }
 {
     let mut text = Text::from_slice(alloc, b"report 1\n")?;
     text.extend(packets_line(alloc, run)?.as_bytes())?;
@@ -169,6 +172,13 @@ pub fn print_run(alloc: Global, run: &Run) -> Result<Text, NoMemory>
     text.extend(drained_line(run.drained))?;
     put_fates(alloc, run.fates.as_slice(), &mut text)?;
     put_order(alloc, run.order.as_slice(), &mut text)?;
+    put_parts(
+        alloc,
+        "object",
+        objects.as_slice(),
+        run.objects.as_slice(),
+        &mut text,
+    )?;
     text.extend(b"end\n")?;
     Ok(text)
 }

@@ -2,6 +2,7 @@
 ghost use Rattle.std.specs.Prelude.{◌≡◌};
 
 use crate::fate::Fates;
+use state_store::Rows;
 use std::marker::Model;
 
 /// Numbers of packets, each once at most, in the serial order of a run.
@@ -34,6 +35,44 @@ impl From<Vec<u32>> for Order {
     }
 }
 
+/// The rows of one object, which is known by its place among the declared ones, from 0.
+#[derive(Debug, Drop)]
+pub struct Part {
+    pub object: u32,
+    pub rows: Rows,
+}
+
+/// The rows of several objects, in order of declaration.
+#[derive(Debug, Drop)]
+pub struct Parts {
+    items: Vec<Part>,
+}
+
+impl Model for Parts {
+    ghost use Rattle.std.specs.Prelude.{List};
+    ghost use Rattle.run_text.specs.declared.run.Part.{Part};
+
+    ghost Value = { List Part };
+
+    ghost view = { λ parts. parts.items.items };
+}
+
+impl Parts {
+    pub fn as_slice(&self) -> &[Part]
+        ensures { result.now ≡ self.now }
+    {
+        self.items.as_slice()
+    }
+}
+
+impl From<Vec<Part>> for Parts {
+    ghost from_gives = { λ items parts. parts ≡ items.items };
+
+    fn from(items: Vec<Part>) -> Parts {
+        Parts { items }
+    }
+}
+
 /// A run as its report tells it.
 #[derive(Debug, Drop)]
 pub struct Run {
@@ -53,4 +92,6 @@ pub struct Run {
     pub fates: Fates,
     /// The numbers of the decided packets in serial order.
     pub order: Order,
+    /// The rows of each map, vector and integer on the server.
+    pub objects: Parts,
 }

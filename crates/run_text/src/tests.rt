@@ -1,8 +1,11 @@
 //! Texts of a replay, read and written.
 
 use super::*;
-use gal_io::Bytes;
+use gal_bits::{Values, Widths};
+use gal_io::{Bytes, NoMemory, Text};
 use packet_fields::{Packets, Verdict};
+use state_store::{Kind, ObjectDecl, Objects, Row, Rows};
+use std::alloc::Global;
 use std::test::Fail;
 
 // How many packets a text spells.
@@ -146,8 +149,9 @@ fn report_of_nothing(rt: HostRuntime) -> Result<(), Fail> {
         drained: true,
         fates: Fates::from(Vec::new(alloc)),
         order: Order::from(Vec::new(alloc)),
+        objects: Parts::from(Vec::new(alloc)),
     };
-    let Ok(text) = print_run(alloc, &run) else {
+    let Ok(text) = print_run(alloc, &Objects::new(alloc), &run) else {
         return Err(Fail::from("no memory"));
     };
     let want = "report 1\npackets 0 admitted 0 decided 0 released 0\nevents 0 idle 0\n\
@@ -208,8 +212,9 @@ fn report_of_all_fates(rt: HostRuntime) -> Result<(), Fail> {
         drained: false,
         fates,
         order,
+        objects: Parts::from(Vec::new(alloc)),
     };
-    let Ok(text) = print_run(alloc, &run) else {
+    let Ok(text) = print_run(alloc, &Objects::new(alloc), &run) else {
         return Err(Fail::from("no memory"));
     };
     let want = "report 1\n\
@@ -223,6 +228,111 @@ fn report_of_all_fates(rt: HostRuntime) -> Result<(), Fail> {
         packet 3 fast admitted 6 decided 6 version 0 released 6 drop\n\
         packet 4 slow admitted 7 decided 8 version 1 released 11 send 1 0aff\n\
         order 3 4 2 1\n\
+        end\n";
+    assert_eq!(rt; text.as_slice(), want.as_bytes());
+    Ok(())
+}
+
+fn one(number: u64) -> Values {
+    let mut numbers = Values::new();
+    numbers.push(number);
+    numbers
+}
+
+fn two(first: u64, second: u64) -> Values {
+    let mut numbers = Values::new();
+    numbers.push(first);
+    numbers.push(second);
+    numbers
+}
+
+fn object(alloc: Global, name: &[u8], kind: Kind) -> Result<ObjectDecl, NoMemory> {
+    Ok(ObjectDecl {
+        name: Bytes::from_slice(alloc, name)?,
+        kind,
+        keys: Widths::new(),
+        values: Widths::new(),
+        size: 4,
+        start: 0,
+        rows: Rows::new(alloc),
+    })
+}
+
+// A map with two rows, a table, which a report leaves out, an integer, and a map with none.
+fn objects(alloc: Global) -> Result<Objects, NoMemory> {
+    let mut objects = Objects::new(alloc);
+    objects.push(object(alloc, b"flows", Kind::Map)?)?;
+    objects.push(object(alloc, b"routes", Kind::Table)?)?;
+    objects.push(object(alloc, b"count", Kind::Int)?)?;
+    objects.push(object(alloc, b"hosts", Kind::Map)?)?;
+    Ok(objects)
+}
+
+fn parts(alloc: Global) -> Result<Parts, NoMemory> {
+    let mut flows = Rows::new(alloc);
+    flows.push(Row {
+        keys: two(1, 80),
+        values: one(7),
+    })?;
+    flows.push(Row {
+        keys: two(2, 0),
+        values: two(18_446_744_073_709_551_615, 0),
+    })?;
+    let mut count = Rows::new(alloc);
+    count.push(Row {
+        keys: Values::new(),
+        values: one(12),
+    })?;
+    let mut parts = Vec::new(alloc);
+    parts.push(Part {
+        object: 0,
+        rows: flows,
+    })?;
+    parts.push(Part {
+        object: 2,
+        rows: count,
+    })?;
+    parts.push(Part {
+        object: 3,
+        rows: Rows::new(alloc),
+    })?;
+    Ok(Parts::from(parts))
+}
+
+fn report_with_rows(alloc: Global) -> Result<Text, NoMemory> {
+    let run = Run {
+        total: 0,
+        decided: 0,
+        released: 0,
+        events: 0,
+        idle: 0,
+        version: 0,
+        visible: 0,
+        drained: true,
+        fates: Fates::from(Vec::new(alloc)),
+        order: Order::from(Vec::new(alloc)),
+        objects: parts(alloc)?,
+    };
+    print_run(alloc, &objects(alloc)?, &run)
+}
+
+#[test]
+fn report_of_rows(rt: HostRuntime) -> Result<(), Fail> {
+    let Ok(text) = report_with_rows(rt.alloc()) else {
+        return Err(Fail::from("no memory"));
+    };
+    let want = "report 1\n\
+        packets 0 admitted 0 decided 0 released 0\n\
+        events 0 idle 0\n\
+        version 0 visible 0\n\
+        drained yes\n\
+        order -\n\
+        object flows 2\n\
+        1 80 -> 7\n\
+        2 0 -> 18446744073709551615 0\n\
+        object count 1\n\
+        -> 12\n\
+        object hosts 0\n\
         end\n";
     assert_eq!(rt; text.as_slice(), want.as_bytes());
     Ok(())

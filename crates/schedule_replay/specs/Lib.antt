@@ -1,3 +1,4 @@
 pub mod Progress
 pub mod World
 pub mod Run
+pub mod Serialises

@@ -1,8 +1,12 @@
 -- The run that a report tells of.
-use Rattle.std.specs.Prelude.{ℕ, Bool, ◌&&◌, ◌==◌, List, map, length, count_by}
+use Rattle.std.specs.Prelude.{ℕ, suc, Bool, ◌&&◌, ◌==◌, List, [], ◌∷◌, map, length, count_by, if◌then◌else◌}
 use Rattle.packet_fields.specs.declared.packet.Packet.{Packet}
+use Rattle.state_store.specs.declared.object.ObjectDecl.{ObjectDecl}
+use Rattle.state_store.specs.Store.{Store, start_store, object_at, rows_of}
 use Rattle.element_lang.specs.Tree.{Tree}
+use Rattle.element_lang.specs.Rules.{is_table}
 use Rattle.run_text.specs.declared.event.Event.{Event}
+use Rattle.run_text.specs.declared.run.Part.{Part}
 use Rattle.run_text.specs.declared.run.Run.{Run}
 use Rattle.run_text.specs.Fate.{is_decided, is_released}
 use Rattle.run_text.specs.Order.{order_of}
@@ -17,9 +21,16 @@ is_quiet w = length w.up == 0 && length w.held == 0 && length w.down == 0
 abbrev pub is_drained : ℕ → World → Bool
 is_drained total w = length w.progress == total && is_quiet w
 
--- the run of a world over a trace of so many packets
-abbrev pub run_of : ℕ → World → Run
-run_of total w =
+-- the rows of each object that isn't a table, from number n on
+abbrev pub parts_from : ℕ → List ObjectDecl → Store → List Part
+parts_from n [] store = []
+parts_from n (object ∷ objects) store =
+    if is_table object.kind then parts_from (suc n) objects store
+    else (record { object = n; rows = rows_of (object_at store n) }) ∷ parts_from (suc n) objects store
+
+-- the run of a world of a middlebox over a trace of so many packets
+abbrev pub run_of : Tree → ℕ → World → Run
+run_of m total w =
     let fates = map fate_of w.progress in
     record {
       total = total;
@@ -32,8 +43,9 @@ run_of total w =
       drained = is_drained total w;
       fates = fates;
       order = order_of fates;
+      objects = parts_from 0 m.objects w.store;
     }
 
 -- the run of a middlebox over packets, by a schedule of events
 abbrev pub job_run : Tree → List Packet → List Event → Run
-job_run m packets events = run_of (length packets) (steps m packets first_world events)
+job_run m packets events = run_of m (length packets) (steps m packets (first_world (start_store m.objects)) events)

@@ -4,7 +4,8 @@ use Rattle.packet_fields.specs.declared.packet.Packet.{Packet}
 use Rattle.packet_fields.specs.declared.verdict.Verdict.{Verdict}
 use Rattle.packet_fields.specs.declared.verdict.Verdict.TheVariants.{Drop}
 use Rattle.element_lang.specs.Tree.{Tree}
-use Rattle.element_lang.specs.Meaning.{source_run}
+use Rattle.state_store.specs.Store.{Store}
+use Rattle.element_lang.specs.Meaning.{source_store, source_verdict}
 use Rattle.run_text.specs.declared.event.Event.{Event}
 use Rattle.run_text.specs.declared.event.Event.TheVariants.{Admit, Serve, Hold, Down}
 use Rattle.schedule_replay.specs.declared.progress.Progress.{Progress}
@@ -16,14 +17,17 @@ pub record World : Type 0 where
   pub up : List ℕ
   pub held : List ℕ
   pub down : List ℕ
+  -- the store of the server
+  pub store : Store
   -- how many events there were, and how many of them were idle
   pub events : ℕ
   pub idle : ℕ
   -- how far each admitted packet has come, by number
   pub progress : List Progress
 
-abbrev pub first_world : World
-first_world = record { up = []; held = []; down = []; events = 0; idle = 0; progress = [] }
+-- the world before any event, with the store that runs start with
+abbrev pub first_world : Store → World
+first_world start = record { up = []; held = []; down = []; store = start; events = 0; idle = 0; progress = [] }
 
 -- every event is counted before it does anything
 abbrev pub tick : World → World
@@ -38,18 +42,24 @@ abbrev pub admitted : World → Option Packet → World
 admitted w None = idled w
 admitted w (Some packet) = record w { up = w.up ++ length w.progress ∷ []; progress = w.progress ++ Up w.events ∷ [] }
 
-abbrev pub verdict_on : Tree → Option Packet → Verdict
-verdict_on m None = Drop
-verdict_on m (Some packet) = source_run m packet
+-- what the run of a packet leaves of a store, and its verdict
+abbrev pub store_by : Tree → Store → Option Packet → Store
+store_by m store None = store
+store_by m store (Some packet) = source_store m store packet
 
--- the server runs item j of `up`, which is decided, and holds its output
+abbrev pub verdict_by : Tree → Store → Option Packet → Verdict
+verdict_by m store None = Drop
+verdict_by m store (Some packet) = source_verdict m store packet
+
+-- the server runs item j of `up` on its store, which is decided, and holds its output
 abbrev pub served : Tree → List Packet → World → ℕ → Option ℕ → World
 served m packets w j None = idled w
 served m packets w j (Some p) =
     record w {
       up = remove w.up j;
       held = w.held ++ p ∷ [];
-      progress = slice_set w.progress p (decided w.events (verdict_on m (slice_get packets p)) (slice_get w.progress p));
+      store = store_by m w.store (slice_get packets p);
+      progress = slice_set w.progress p (decided w.events (verdict_by m w.store (slice_get packets p)) (slice_get w.progress p));
     }
 
 -- the server lets go of item j of `held`

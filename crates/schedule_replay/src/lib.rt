@@ -2,9 +2,11 @@
 #![tactic(auto)]
 
 mod job;
+mod laws;
 mod progress;
 mod world;
 
 pub use job::{Job, replay};
+pub use laws::every_run_serialises;
 pub use progress::Progress;
 pub use world::World;

@@ -1,10 +1,11 @@
 //! The world of a replay, and what each event does to it.
-ghost use Rattle.std.specs.Prelude.{◌≡◌, ◌≤◌, ◌+◌, ◌-◌, ◌<◌, ◌^◌, map, count_by, OnOk, OnErr, IfOk, IsTrue, length, slice_get, slice_set, Some};
+ghost use Rattle.std.specs.Prelude.{◌≡◌, ◌≤◌, ◌+◌, ◌-◌, ◌<◌, ◌^◌, map, count_by, OnOk, OnErr, IfOk, IsTrue, length, slice_get, slice_set, Some, All};
+ghost use Rattle.run_text.specs.declared.refusal.TheConstants.{MAX_PACKET_BYTES};
 ghost use Rattle.element_lang.specs.View.{tree};
 ghost use Rattle.element_lang.specs.Rules.{is_good};
 ghost use Rattle.schedule_replay.specs.World as world;
 ghost use Rattle.schedule_replay.specs.Progress.{decided, released, fate_of};
-ghost use Rattle.schedule_replay.specs.Run.{run_of, is_drained};
+ghost use Rattle.schedule_replay.specs.Run.{run_of, is_drained, parts_from};
 ghost use Rattle.run_text.specs.Fate.{is_decided, is_released};
 
 use crate::progress::Progress;
@@ -12,7 +13,8 @@ use element_interp::run;
 use element_lang::Middlebox;
 use gal_io::NoMemory;
 use packet_fields::{Packet, Verdict};
-use run_text::{Event, Fate, Fates, Run, order};
+use run_text::{Event, Fate, Fates, Part, Parts, Run, order};
+use state_store::{Kind, ObjectDecl, Store};
 use std::alloc::Global;
 use std::collections::VecDeque;
 use std::marker::Model;
@@ -23,18 +25,27 @@ pub struct World {
     up: VecDeque<u32>,
     held: VecDeque<u32>,
     down: VecDeque<u32>,
+    store: Store,
     events: u32,
     idle: u32,
     progress: Vec<Progress>,
 }
 
 impl Model for World {
+    ghost use Rattle.std.specs.Prelude.{◌≤◌, length};
+    ghost use Rattle.std.specs.Coded.{codes};
+    ghost use Rattle.schedule_replay.specs.World as world;
+    ghost use Rattle.state_store.specs.Codes.{contents_code};
+
     ghost Value = { world.World };
+
+    ghost coded = { Prim.hlevel (codes, contents_code) };
 
     ghost view = { λ w. record {
       up = w.up.items;
       held = w.held.items;
       down = w.down.items;
+      store = w.store;
       events = w.events;
       idle = w.idle;
       progress = w.progress.items;
@@ -63,31 +74,35 @@ fn release_at(progress: &mut Vec<Progress>, number: u32, event: u32)
     }
 }
 
-// The verdict on the packet of this number.
-fn verdict_on(
+// Runs the packet of this number on a store.
+fn run_packet(
     alloc: Global,
     m: &Middlebox,
+    store: &mut Store,
     packets: &[Packet],
     number: u32,
 ) -> Result<Verdict, NoMemory>
-    requires { IsTrue (is_good (tree m.now)) }
-    ensures { IfOk result (λ verdict. verdict ≡ world.verdict_on (tree m.now) (slice_get packets.now number)) }
+    requires good { IsTrue (is_good (tree m.now)) }
+    requires short { All (λ p. length p.bytes ≤ MAX_PACKET_BYTES) packets.now }
+    ensures verdict { IfOk result (λ verdict. verdict ≡ world.verdict_by (tree m.now) store.old (slice_get packets.now number)) }
+    ensures store { OnOk result (store.new ≡ world.store_by (tree m.now) store.old (slice_get packets.now number)) }
 {
     match packets.get(number as usize) {
-        Some(packet) => run(alloc, m, packet.port, packet.bytes.as_slice()),
+        Some(packet) => run(alloc, m, store, packet.port, packet.bytes.as_slice()),
         None => Ok(Verdict::Drop),
     }
 }
 
 impl World {
-    /// The world before any event.
-    pub fn new(alloc: Global) -> World
-        ensures { result ≡ world.first_world }
+    /// The world before any event, with the store that runs start with.
+    pub fn new(alloc: Global, store: Store) -> World
+        ensures { result ≡ world.first_world store }
     {
         World {
             up: VecDeque::new(alloc),
             held: VecDeque::new(alloc),
             down: VecDeque::new(alloc),
+            store,
             events: 0,
             idle: 0,
             progress: Vec::new(alloc),
@@ -128,6 +143,7 @@ impl World {
         j: u32,
     ) -> Result<(), NoMemory>
         requires good { IsTrue (is_good (tree m.now)) }
+        requires short { All (λ p. length p.bytes ≤ MAX_PACKET_BYTES) packets.now }
         requires idle { self.old.idle < self.old.events }
         ensures { OnOk result (self.new ≡ world.served (tree m.now) packets.now self.old j (slice_get self.old.up j)) }
     {
@@ -135,7 +151,7 @@ impl World {
             self.idle();
             return Ok(());
         };
-        let verdict = verdict_on(alloc, m, packets, number)?;
+        let verdict = run_packet(alloc, m, &mut self.store, packets, number)?;
         self.held.push_back(number)?;
         decide_at(&mut self.progress, number, self.events, verdict);
         Ok(())
@@ -173,6 +189,7 @@ impl World {
         event: Event,
     ) -> Result<(), NoMemory>
         requires good { IsTrue (is_good (tree m.now)) }
+        requires short { All (λ p. length p.bytes ≤ MAX_PACKET_BYTES) packets.now }
         requires few { self.old.events < 2 ^ 32 - 1 }
         ensures { OnOk result (self.new ≡ world.step (tree m.now) packets.now self.old event) }
     {
@@ -186,10 +203,12 @@ impl World {
         Ok(())
     }
 
-    /// What a report tells of this world, over a trace of so many packets.
-    pub fn into_run(self, alloc: Global, total: u32) -> Result<Run, NoMemory>
-        ensures { IfOk result (λ run. run ≡ run_of total self) }
+    /// What a report tells of this world of a middlebox, over a trace of so many packets.
+    pub fn into_run(self, alloc: Global, m: &Middlebox, total: u32) -> Result<Run, NoMemory>
+        requires { length m.now.objects < 2 ^ 32 }
+        ensures { IfOk result (λ run. run ≡ run_of (tree m.now) total self) }
     {
+        let objects = parts(alloc, m.objects.as_slice(), &self.store)?;
         let drained = self.is_drained(total);
         let events = self.events;
         let idle = self.idle;
@@ -206,6 +225,7 @@ impl World {
             drained,
             fates,
             order,
+            objects: Parts::from(objects),
         })
     }
 
@@ -245,4 +265,20 @@ fn count_released(fates: &[Fate]) -> u32
     ensures { result ≡ count_by is_released fates.now }
 {
     fates.iter().filter(|fate| fate.is_released()).count() as u32
+}
+
+// The rows of each object that isn't a table.
+fn parts(alloc: Global, objects: &[ObjectDecl], store: &Store) -> Result<Vec<Part>, NoMemory>
+    requires { length objects.now < 2 ^ 32 }
+    ensures { IfOk result (λ parts. parts.items ≡ parts_from 0 objects.now store.now) }
+{
+    let mut parts = Vec::new(alloc);
+    for number in 0..objects.len() {
+        if objects[number].kind != Kind::Table {
+            let object = number as u32;
+            let rows = store.rows(alloc, object)?;
+            parts.push(Part { object, rows })?;
+        }
+    }
+    Ok(parts)
 }

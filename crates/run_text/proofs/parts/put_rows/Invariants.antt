@@ -1,0 +1,7 @@
+use Rattle.std.proofs.Common.{◌≡◌, ◌++◌, drop}
+use Rattle.run_text.specs.Report.{row_lines}
+use Rattle.run_text.proofs.parts.put_rows.Given as goal
+
+-- the text so far, and what is ahead, are the whole
+abbrev pub invariant-loop-row : goal.invariant-loop-row
+invariant-loop-row l = l.text ++ row_lines (drop l.row-index l.rows) ≡ l.initial.text ++ row_lines l.rows
