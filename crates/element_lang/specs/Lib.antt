@@ -6,5 +6,7 @@ pub mod Surface
 pub mod Grammar
 pub mod Widths
 pub mod Rules
+pub mod Broken
+pub mod Sizes
 pub mod Accepted
 pub mod Meaning

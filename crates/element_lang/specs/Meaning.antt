@@ -1,5 +1,5 @@
 -- What a middlebox does to packets.
-use Rattle.std.specs.Prelude.{ℕ, ◌+◌, ◌%◌, ◌^◌, ◌==◌, Bool, true, false, List, [], ◌∷◌, map, length, replicate, is_some, if◌then◌else◌, slice_index, slice_set}
+use Rattle.std.specs.Prelude.{ℕ, zero, suc, ◌+◌, ◌%◌, ◌^◌, ◌==◌, Bool, true, false, List, [], ◌∷◌, map, length, replicate, is_some, if◌then◌else◌, slice_index, slice_set}
 use Rattle.gal_bits.specs.Operators.{value_of as operator_value}
 use Rattle.packet_fields.specs.declared.field.Field.{Field}
 use Rattle.packet_fields.specs.declared.packet.Packet.{Packet}
@@ -9,12 +9,12 @@ use Rattle.packet_fields.specs.Table.{row, all_fields, field_index}
 use Rattle.packet_fields.specs.Fields.{field_value, with_field}
 use Rattle.state_store.specs.declared.store.Put.{Put}
 use Rattle.state_store.specs.declared.store.Put.TheVariants.{Stored, Full, OutOfRange}
-use Rattle.state_store.specs.Store.{Store, start_store, object_at, with_object, looked_up, put_answer, put_row}
+use Rattle.state_store.specs.Store.{Store, start_store, object_at, with_object, looked_up, put_answer, put_row, del_row}
 use Rattle.state_store.specs.Store as store
 use Rattle.element_lang.specs.Tree.{ExprTree, Exprs, StmtTree, BodyTree, Tree}
 use Rattle.element_lang.specs.Tree.ExprTree.{lit, local, field, byte, shift, apply}
 use Rattle.element_lang.specs.Tree.Exprs.{no_expr, expr}
-use Rattle.element_lang.specs.Tree.StmtTree.{set_field, look, put, choose, send, drop}
+use Rattle.element_lang.specs.Tree.StmtTree.{let_local, assign, set_field, look, put, del, choose, repeat, send, drop}
 use Rattle.element_lang.specs.Tree.BodyTree.{done, stmt}
 use Rattle.element_lang.specs.Widths.{local_widths, width_of}
 
@@ -77,6 +77,24 @@ stored ok object key values s =
       store = with_object s.store object (put_row o key values);
     }
 
+-- a local gets a value
+abbrev pub bound : ℕ → ℕ → State → State
+bound x value s = record s { locals = slice_set s.locals x value }
+
+-- a del removes a row, and binds whether it was there
+abbrev pub deleted : ℕ → ℕ → List ℕ → State → State
+deleted was object key s =
+    let o = object_at s.store object in
+    record s {
+      locals = slice_set s.locals was (bit (is_some (store.look o key)));
+      store = with_object s.store object (del_row o key);
+    }
+
+-- so many turns from turn i on, each with its number in a local
+abbrev pub turns : ℕ → ℕ → ℕ → (State → Outcome) → State → Outcome
+turns zero i x go s = Running s
+turns (suc n) i x go s = then_do (go (bound x i s)) (turns n (suc i) x go)
+
 -- a field keeps as many bits as it has
 abbrev pub assigned : Field → ℕ → State → State
 assigned f value s = record s { fields = slice_set s.fields (field_index f) (value % 2 ^ (row f).width) }
@@ -88,11 +106,15 @@ with_fields (f ∷ fs) values bytes = with_fields fs values (if (row f).writable
 
 abbrev mutual
   pub do_stmt : List ℕ → Packet → StmtTree → State → Outcome
+  do_stmt widths packet (let_local x value) s = Running (bound x (value_of widths packet value s) s)
+  do_stmt widths packet (assign x value) s = Running (bound x (value_of widths packet value s) s)
   do_stmt widths packet (set_field f value) s = Running (assigned f (value_of widths packet value s) s)
   do_stmt widths packet (look found into object keys) s = Running (looked found into object (values_of widths packet keys s) s)
   do_stmt widths packet (put ok object keys values) s = Running (stored ok object (values_of widths packet keys s) (values_of widths packet values s) s)
+  do_stmt widths packet (del was object keys) s = Running (deleted was object (values_of widths packet keys s) s)
   do_stmt widths packet (choose cond first second) s =
       if value_of widths packet cond s == 0 then do_body widths packet second s else do_body widths packet first s
+  do_stmt widths packet (repeat index count body) s = turns count 0 index (do_body widths packet body) s
   do_stmt widths packet (send port) s =
       Ended s.store (Send (value_of widths packet port s % 2 ^ 8) (with_fields all_fields s.fields packet.bytes))
   do_stmt widths packet drop s = Ended s.store Drop

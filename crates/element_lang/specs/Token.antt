@@ -132,6 +132,10 @@ lexeme (b ∷ bs) =
     else (if is_digit b then number_lexeme (take_while is_number_byte (b ∷ bs))
     else symbol_of (mark_in_front SYMBOLS (b ∷ bs)))
 
+-- a word that is a name: one token, and neither a keyword nor the name of a field
+abbrev pub IsName : List ℕ → Type 0
+IsName word = lexeme word ≡ Some (record { token = name word; len = length word })
+
 -- a token and the offset of its first byte in the text
 pub record Placed : Type 0 where
   pub token : Token

@@ -22,10 +22,14 @@ mutual
 
 mutual
   pub data StmtTree : Type 0 where
+    let_local : (local : ℕ) (value : ExprTree) → StmtTree
+    assign : (local : ℕ) (value : ExprTree) → StmtTree
     set_field : (f : Field) (value : ExprTree) → StmtTree
     look : (found : ℕ) (into : List ℕ) (object : ℕ) (keys : Exprs) → StmtTree
     put : (ok object : ℕ) (keys values : Exprs) → StmtTree
+    del : (was object : ℕ) (keys : Exprs) → StmtTree
     choose : (cond : ExprTree) (first second : BodyTree) → StmtTree
+    repeat : (index count : ℕ) (body : BodyTree) → StmtTree
     send : (port : ExprTree) → StmtTree
     drop : StmtTree
 

@@ -3,7 +3,7 @@ use Rattle.std.specs.Prelude.{List, [], ◌∷◌, map}
 use Rattle.element_lang.specs.Tree.{ExprTree, Exprs, StmtTree, BodyTree, Tree}
 use Rattle.element_lang.specs.Tree.ExprTree.{lit, local, field, byte, shift, apply}
 use Rattle.element_lang.specs.Tree.Exprs.{no_expr, expr}
-use Rattle.element_lang.specs.Tree.StmtTree.{set_field, look, put, choose, send, drop}
+use Rattle.element_lang.specs.Tree.StmtTree.{let_local, assign, set_field, look, put, del, choose, repeat, send, drop}
 use Rattle.element_lang.specs.Tree.BodyTree.{done, stmt}
 use Rattle.element_lang.specs.declared.tree.Expr.{Expr, fold-Expr}
 use Rattle.element_lang.specs.declared.tree.Expr.TheOpen.{Expr-F}
@@ -36,10 +36,14 @@ abbrev pub expr_trees : List Expr → Exprs
 expr_trees es = exprs_of (map expr_tree es)
 
 abbrev pub stmt_step : Stmt-F StmtTree → StmtTree
+stmt_step (Stmt-F.Let x value) = let_local x (expr_tree value)
+stmt_step (Stmt-F.Assign x value) = assign x (expr_tree value)
 stmt_step (Stmt-F.SetField f value) = set_field f (expr_tree value)
 stmt_step (Stmt-F.Look found into object keys) = look found into.items object (expr_trees keys.items)
 stmt_step (Stmt-F.Put ok object keys values) = put ok object (expr_trees keys.items) (expr_trees values.items)
+stmt_step (Stmt-F.Del was object keys) = del was object (expr_trees keys.items)
 stmt_step (Stmt-F.If cond first second) = choose (expr_tree cond) (body_of first.items) (body_of second.items)
+stmt_step (Stmt-F.Repeat index count body) = repeat index count (body_of body.items)
 stmt_step (Stmt-F.Send port) = send (expr_tree port)
 stmt_step Stmt-F.Drop = drop
 

@@ -5,3 +5,25 @@ pub const MAX_DEPTH: usize = 64;
 
 /// The most rows of an object, and the most rows that a map has room for.
 pub const MAX_ROWS: usize = 1_048_576;
+
+/// The most objects that a source declares.
+pub const MAX_OBJECTS: usize = 64;
+
+/// The most rows of its tables, capacities of its maps and lengths of its vectors together.
+pub const MAX_ENTRIES: u64 = 1_048_576;
+
+/// The most statements that store or remove a row, one in a repeat counted as often as it runs.
+pub const MAX_WRITES: u64 = 64;
+
+/// What there is too much of in a source.
+#[derive(Clone, Copy, Debug, PartialEq, Eq)]
+pub enum What {
+    /// Brackets that are open at once.
+    Depth,
+    /// Declared objects.
+    Objects,
+    /// Rows of its tables, capacities of its maps and lengths of its vectors together.
+    Entries,
+    /// Statements that store or remove a row, one in a repeat counted as often as it runs.
+    Writes,
+}

@@ -78,6 +78,16 @@ pub type Body = Vec<Stmt>;
 /// A statement. Objects and locals are named by their places.
 #[derive(Debug, Drop)]
 pub enum Stmt {
+    /// Declares a local, and gives it a value.
+    Let {
+        local: u32,
+        value: Expr,
+    },
+    /// Gives a local another value.
+    Assign {
+        local: u32,
+        value: Expr,
+    },
     /// Gives a field, which is a variable of the run, another value.
     SetField {
         field: Field,
@@ -97,11 +107,23 @@ pub enum Stmt {
         keys: Vec<Expr>,
         values: Vec<Expr>,
     },
+    /// Removes a row of a map. `was` becomes 1 where the key was there, and else 0.
+    Del {
+        was: u32,
+        object: u32,
+        keys: Vec<Expr>,
+    },
     /// Does `yes` where the condition, which has 1 bit, is 1, and else `no`.
     If {
         cond: Expr,
         yes: Body,
         no: Body,
+    },
+    /// Does the body so many times, from 1 to 64. The local `index` counts the turns from 0.
+    Repeat {
+        index: u32,
+        count: u8,
+        body: Body,
     },
     /// Ends the run: the packet leaves by this port, with its fields as they are.
     Send {

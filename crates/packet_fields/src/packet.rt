@@ -5,6 +5,9 @@ use gal_io::{Bytes, NoMemory};
 use std::alloc::Global;
 use std::marker::Model;
 
+/// The most bytes of a packet.
+pub const MAX_PACKET_BYTES: usize = 9_216;
+
 /// A packet: the port by which it arrives, and its bytes.
 #[derive(Debug, Drop)]
 pub struct Packet {
