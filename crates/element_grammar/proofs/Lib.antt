@@ -1,0 +1,15 @@
+pub mod Marks
+pub mod Runs
+pub mod Viable
+pub mod ViableMoves
+pub mod ViableStops
+pub mod FirstWrong
+pub mod UniqueExprs
+pub mod UniqueStmts
+pub mod Unique
+pub mod Pieces
+pub mod Loops
+pub mod Operands
+pub mod StatementPieces
+pub mod DeclarationPieces
+pub mod Parsing
