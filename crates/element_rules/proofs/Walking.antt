@@ -1,0 +1,229 @@
+-- How the statements of a block are gone through from front to back.
+use Rattle.std.proofs.Common.{Vec, Global, ◌≡◌, ℕ, ◌+◌, ◌<◌, ◌≤◌, Bool, true, false, ◌||◌, List, [], ◌∷◌, ◌++◌, length, take, drop, get_or, map, Option, Some, None, refl, sym, ap, ◌∙◌, append_assoc}
+use Rattle.std.specs.Option.{is_some}
+use Rattle.std.proofs.lemmas.List.{at_drop_all, append-nil, map-append, take-map, take_at, length-map}
+use Rattle.element_lang.specs.declared.tree.Local.{Local}
+use Rattle.element_lang.specs.declared.broken.Broken.{Broken}
+use Rattle.element_lang.specs.Surface as surface
+use Rattle.element_lang.specs.Surface.{let_local, assign, set_field, look, put, del, choose, repeat, send}
+use Rattle.element_lang.specs.Broken as broken
+use Rattle.element_lang.specs.Broken.{Sight, ◌or_else◌, lowest_broken, stmt_tests, behind, always_ends}
+use Rattle.element_tokens.specs.declared.token.Span.{Span}
+use Rattle.element_tokens.specs.Tokens.{spelled}
+use Rattle.element_grammar.specs.declared.surface.At.{At}
+use Rattle.element_grammar.specs.declared.surface.SurfaceExpr.{SurfaceExpr}
+use Rattle.element_grammar.specs.declared.surface.SurfaceStmt.{SurfaceStmt}
+use Rattle.element_grammar.specs.declared.surface.SurfaceStmt.TheVariants.{If, Repeat}
+use Rattle.element_grammar.specs.declared.surface.SurfaceDecl.{SurfaceDecl}
+use Rattle.element_grammar.specs.Surface.{surface_stmt, surface_body}
+use Rattle.element_rules.specs.declared.names.KnownLocal.{KnownLocal}
+use Rattle.element_rules.specs.declared.names.Sight as rules
+use Rattle.element_rules.specs.declared.statements.StmtFaults.{StmtFaults}
+use Rattle.element_rules.specs.Seen.{local_of, sight_of}
+use Rattle.element_rules.specs.Faulty.{stmt_faults, tests_of, bound, within_repeat, with_ended}
+use Rattle.element_rules.proofs.Testing.{at_item}
+use Rattle.element_rules.proofs.Levels.{if_level, repeat_level}
+
+-- ## The first that is found
+
+pub first_found : (o next : Option Broken) → is_some o ≡ true → (o or_else next) ≡ o
+first_found None next e = cc
+first_found (Some b) next e = refl
+
+pub next_found : (o next : Option Broken) → is_some o ≡ false → (o or_else next) ≡ next
+next_found None next e = refl
+next_found (Some b) next e = cc
+
+none_found : (o : Option Broken) → is_some o ≡ false → o ≡ None
+none_found None e = refl
+none_found (Some b) e = cc
+
+-- ## Locals that go out of scope
+
+cut : (text : List ℕ) (outer inner : List KnownLocal) (n : ℕ) (more : List Local) → n ≡ length outer → map (local_of text) inner ≡ map (local_of text)
+    outer ++ more → map (local_of text) (take n inner) ≡ map (local_of text) outer
+cut text outer inner n more is longer =
+    sym (take-map (local_of text) n inner) ∙ ap (take n) longer ∙ take_at (map (local_of text) outer) more n (length-map outer (local_of text) ∙ sym is)
+
+-- ## A statement does not ask whether one before it has ended the block, but for the last rule
+
+same_faults : (ended : Bool) (sight : Sight) (s : surface.SurfaceStmt) → stmt_faults (with_ended ended sight) s ≡ stmt_faults sight s
+same_faults ended sight (let_local word value) = refl
+same_faults ended sight (assign word value) = refl
+same_faults ended sight (set_field f value) = refl
+same_faults ended sight (look found into object keys) = refl
+same_faults ended sight (put ok object keys values) = refl
+same_faults ended sight (del was object keys) = refl
+same_faults ended sight (choose cond first second) = refl
+same_faults ended sight (repeat index count body) = refl
+same_faults ended sight (send port) = refl
+same_faults ended sight surface.drop = refl
+
+same_bound : (ended : Bool) (sight : Sight) (s : surface.SurfaceStmt) → behind (with_ended ended sight) s ≡ with_ended (ended || always_ends s) (bound sight s)
+same_bound ended sight (let_local word value) = refl
+same_bound ended sight (assign word value) = refl
+same_bound ended sight (set_field f value) = refl
+same_bound ended sight (look found into object keys) = refl
+same_bound ended sight (put ok object keys values) = refl
+same_bound ended sight (del was object keys) = refl
+same_bound ended sight (choose cond first second) = refl
+same_bound ended sight (repeat index count body) = refl
+same_bound ended sight (send port) = refl
+same_bound ended sight surface.drop = refl
+
+same_within : (ended : Bool) (sight : Sight) (s : surface.SurfaceStmt) → broken.broken_within (with_ended ended sight) s ≡ broken.broken_within
+    (bound sight s) s
+same_within ended sight (let_local word value) = refl
+same_within ended sight (assign word value) = refl
+same_within ended sight (set_field f value) = refl
+same_within ended sight (look found into object keys) = refl
+same_within ended sight (put ok object keys values) = refl
+same_within ended sight (del was object keys) = refl
+same_within ended sight (choose cond first second) =
+    let seen : List Local → Sight = λ ls. record { objects = sight.objects; locals = ls; repeated = sight.repeated; ended = false } in
+    ap (λ ls. broken.broken_in (seen ls) first or_else broken.broken_in (seen ls) second) (sym (append-nil sight.locals))
+same_within ended sight (repeat index count body) =
+    ap (λ ls. broken.broken_in (record {
+      objects = sight.objects;
+      locals = ls ++ record { name = index; width = 32 } ∷ [];
+      repeated = true;
+      ended = false;
+    }) body) (sym (append-nil sight.locals))
+same_within ended sight (send port) = refl
+same_within ended sight surface.drop = refl
+
+-- ## A block
+
+-- The locals of the block stand behind those from outside, and what is left has the first broken statement of all.
+pub record Walking (text : List ℕ) (objects : List (At SurfaceDecl)) (before now : rules.Sight) (ended : Bool) (left all : List (At SurfaceStmt)) : Type 0 where
+  pub more : List Local
+  pub scope : map (local_of text) now.locals.items ≡ map (local_of text) before.locals.items ++ more
+  pub repeated : now.repeated ≡ before.repeated
+  pub told : broken.broken_in (with_ended ended (sight_of text objects now)) (surface_body text left) ≡ broken.broken_in
+      (sight_of text objects before) (surface_body text all)
+
+pub walking_none : (text : List ℕ) (objects : List (At SurfaceDecl)) (before : rules.Sight) (all : List (At SurfaceStmt))
+    → Walking text objects before before false all all
+walking_none text objects before all = record { more = []; scope = sym (append-nil (map (local_of text) before.locals.items)); repeated = refl; told = refl }
+
+module _ {text : List ℕ} {objects : List (At SurfaceDecl)} {before now : rules.Sight} {ended : Bool} {all : List (At SurfaceStmt)} (mid : rules.Sight)
+    (at : ℕ) (s : At SurfaceStmt) {faults : StmtFaults} (within : at < length all) (is : s ≡ get_or all at s)
+    (h : Walking text objects before now ended (drop at all) all) (faulty : faults ≡ stmt_faults (sight_of text objects now) (surface_stmt text s.item))
+    (declared : sight_of text objects mid ≡ bound (sight_of text objects now) (surface_stmt text s.item)) where
+  abbrev own_parts : Option Broken
+  own_parts = lowest_broken s.at (tests_of ended faults)
+
+  abbrev parts_within : Option Broken
+  parts_within = broken.broken_within (sight_of text objects mid) (surface_stmt text s.item)
+
+  abbrev behind_it : Option Broken
+  behind_it = broken.broken_in (with_ended (ended || always_ends (surface_stmt text s.item)) (sight_of text objects mid))
+      (surface_body text (drop (at + 1) all))
+
+  abbrev whole : Option Broken
+  whole = broken.broken_in (sight_of text objects before) (surface_body text all)
+
+  split : (own_parts or_else (parts_within or_else behind_it)) ≡ whole
+  split =
+      let tree = surface_stmt text s.item in
+      let seen = sight_of text objects now in
+      let rest = surface_body text (drop (at + 1) all) in
+      let tests : stmt_tests (with_ended ended seen) tree ≡ tests_of ended faults = ap (tests_of ended) (same_faults ended seen tree ∙ sym faulty) in
+      let inner : broken.broken_within (with_ended ended seen) tree ≡ parts_within = same_within ended seen tree
+      ∙ ap (λ x. broken.broken_within x tree) (sym declared) in
+      let next : broken.broken_in (behind (with_ended ended seen) tree) rest ≡ behind_it =
+      ap (λ x. broken.broken_in x rest) (same_bound ended seen tree ∙ ap (with_ended (ended || always_ends tree)) (sym declared)) in
+      sym (sym h.told ∙ at_item (λ l. broken.broken_in (with_ended ended seen) (surface_body text l)) all at s within is
+      ∙ ap (λ x. lowest_broken s.at x or_else (broken.broken_within (with_ended ended seen) tree or_else broken.broken_in
+      (behind (with_ended ended seen) tree) rest)) tests
+      ∙ ap (λ x. own_parts or_else (x or_else broken.broken_in (behind (with_ended ended seen) tree) rest)) inner
+      ∙ ap (λ x. own_parts or_else (parts_within or_else x)) next)
+
+  -- it breaks a rule itself
+  pub own_found : (own : Option Broken) → own ≡ own_parts → is_some own ≡ true → own ≡ whole
+  own_found own is_own some = is_own ∙ sym (sym split ∙ first_found own_parts (parts_within or_else behind_it) (ap is_some (sym is_own) ∙ some))
+
+  -- it doesn't
+  module _ (own : Option Broken) (is_own : own ≡ own_parts) (keeps : is_some own ≡ false) (inner : Option Broken) (is_inner : inner ≡ parts_within) where
+    later : (parts_within or_else behind_it) ≡ whole
+    later = sym (sym split ∙ next_found own_parts (parts_within or_else behind_it) (ap is_some (sym is_own) ∙ keeps))
+
+    -- one inside it does
+    pub inner_found : is_some inner ≡ true → inner ≡ whole
+    inner_found some = is_inner ∙ sym (sym later ∙ first_found parts_within behind_it (ap is_some (sym is_inner) ∙ some))
+
+    -- none does
+    pub walking_more : (new : rules.Sight) (ends : Bool) → is_some inner ≡ false → (inner ≡ None → sight_of text objects new ≡ sight_of text objects mid)
+        → ends ≡ always_ends (surface_stmt text s.item) → Walking text objects before new (ended || ends) (drop (at + 1) all) all
+    walking_more new ends none kept is_end =
+        let same = kept (none_found inner none) in
+        let rest = surface_body text (drop (at + 1) all) in
+        let scope = ap (λ (x : Sight). x.locals) (same ∙ declared) in
+        record {
+          more = h.more ++ broken.binds (sight_of text objects now) (surface_stmt text s.item);
+          scope = scope ∙ ap (λ l. l ++ broken.binds (sight_of text objects now) (surface_stmt text s.item)) h.scope
+              ∙ append_assoc (map (local_of text) before.locals.items) h.more _;
+          repeated = ap (λ (x : Sight). x.repeated) (same ∙ declared) ∙ h.repeated;
+          told = ap (λ b. broken.broken_in (with_ended (ended || b) (sight_of text objects new)) rest) is_end
+              ∙ ap (λ x. broken.broken_in (with_ended (ended || always_ends (surface_stmt text s.item)) x) rest) same
+              ∙ sym (sym later ∙ next_found parts_within behind_it (ap is_some (sym is_inner) ∙ none));
+        }
+
+-- nothing is left
+pub walking_end : {text : List ℕ} {objects : List (At SurfaceDecl)} {before now : rules.Sight} {ended : Bool} {all : List (At SurfaceStmt)} (at : ℕ)
+    → length all ≤ at → Walking text objects before now ended (drop at all) all → None ≡ broken.broken_in (sight_of text objects before)
+    (surface_body text all)
+walking_end {text = text} {objects = objects} {now = now} {ended = ended} {all = all} at past h =
+    sym (sym h.told ∙ at_drop_all (λ l. broken.broken_in (with_ended ended (sight_of text objects now)) (surface_body text l)) all at past)
+
+-- and the locals of the block go out of scope
+pub walked_out : {text : List ℕ} {objects : List (At SurfaceDecl)} {before now : rules.Sight} {ended : Bool} {left all : List (At SurfaceStmt)}
+    (new : rules.Sight) (n : ℕ) → Walking text objects before now ended left all → n ≡ length before.locals.items
+    → new.locals.items ≡ take n now.locals.items → new.repeated ≡ now.repeated → sight_of text objects new ≡ sight_of text objects before
+walked_out {text = text} {objects = objects} {before = before} {now = now} new n h outer taken same =
+    let left = ap (map (local_of text)) taken ∙ cut text before.locals.items now.locals.items n h.more outer h.scope in
+    ap (λ ls. record (sight_of text objects new) { locals = ls }) left ∙ ap (λ b. record (sight_of text objects before) { repeated = b }) (same ∙ h.repeated)
+
+-- ## The blocks inside a statement
+
+module _ (text : List ℕ) (objects : List (At SurfaceDecl)) (seen : rules.Sight) (cond : SurfaceExpr) (yes no : Vec (At SurfaceStmt) Global)
+    {source : SurfaceStmt} {yeses : List (At SurfaceStmt)} (is : source ≡ If cond yes no) (yeses_are : yeses ≡ yes.items) where
+  in_both : (broken.broken_in (sight_of text objects seen) (surface_body text yeses) or_else broken.broken_in (sight_of text objects seen)
+      (surface_body text no.items)) ≡ broken.broken_within (sight_of text objects seen) (surface_stmt text source)
+  in_both =
+      ap (λ l. broken.broken_in (sight_of text objects seen) (surface_body text l) or_else broken.broken_in (sight_of text objects seen)
+      (surface_body text no.items)) yeses_are
+      ∙ sym (ap (broken.broken_within (sight_of text objects seen)) (ap (surface_stmt text) is ∙ if_level text cond yes no))
+
+  pub first_block : (found : Option Broken) → found ≡ broken.broken_in (sight_of text objects seen) (surface_body text yeses) → is_some found ≡ true
+      → found ≡ broken.broken_within (sight_of text objects seen) (surface_stmt text source)
+  first_block found is_found some = is_found ∙ sym (first_found _ _ (ap is_some (sym is_found) ∙ some)) ∙ in_both
+
+  pub second_block : {noes : List (At SurfaceStmt)} (between : rules.Sight) (found : Option Broken) → noes ≡ no.items
+      → found ≡ broken.broken_in (sight_of text objects seen) (surface_body text yeses) → is_some found ≡ false
+      → (found ≡ None → sight_of text objects between ≡ sight_of text objects seen) → broken.broken_in (sight_of text objects between)
+      (surface_body text noes) ≡ broken.broken_within (sight_of text objects seen) (surface_stmt text source)
+  second_block {noes = noes} between found noes_are is_found none same =
+      ap (λ x. broken.broken_in x (surface_body text noes)) (same (none_found found none))
+      ∙ ap (λ l. broken.broken_in (sight_of text objects seen) (surface_body text l)) noes_are
+      ∙ sym (next_found _ _ (ap is_some (sym is_found) ∙ none)) ∙ in_both
+
+pub repeated_block : (text : List ℕ) (objects : List (At SurfaceDecl)) (seen : rules.Sight) (index : Span) (count : ℕ)
+    (body : Vec (At SurfaceStmt) Global) {source : SurfaceStmt} {statements : List (At SurfaceStmt)}
+    → source ≡ Repeat index count body → statements ≡ body.items
+    → broken.broken_in (within_repeat (sight_of text objects seen) (spelled text index)) (surface_body text statements) ≡ broken.broken_within
+    (sight_of text objects seen) (surface_stmt text source)
+repeated_block text objects seen index count body is are =
+    ap (λ l. broken.broken_in (within_repeat (sight_of text objects seen) (spelled text index)) (surface_body text l)) are
+    ∙ sym (ap (broken.broken_within (sight_of text objects seen)) (ap (surface_stmt text) is ∙ repeat_level text index count body))
+
+-- the local that counts the turns goes out of scope
+pub repeated_out : (text : List ℕ) (objects : List (At SurfaceDecl)) (before pushed inside new : rules.Sight) (index : Span) (n : ℕ)
+    → pushed.locals.items ≡ before.locals.items ++ record { name = index; width = 32 } ∷ [] → sight_of text objects inside ≡ sight_of text objects pushed
+    → n ≡ length before.locals.items → new.locals.items ≡ take n inside.locals.items → new.repeated ≡ before.repeated
+    → sight_of text objects new ≡ sight_of text objects before
+repeated_out text objects before pushed inside new index n push same outer taken repeated =
+    let scope = ap (λ (x : Sight). x.locals) same ∙ ap (map (local_of text)) push ∙ map-append (local_of text) before.locals.items
+    (record { name = index; width = 32 } ∷ []) in
+    let left = ap (map (local_of text)) taken ∙ cut text before.locals.items inside.locals.items n _ outer scope in
+    ap (λ ls. record (sight_of text objects new) { locals = ls }) left ∙ ap (λ b. record (sight_of text objects before) { repeated = b }) repeated

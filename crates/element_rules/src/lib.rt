@@ -1,0 +1,17 @@
+//! The rules of sources: which one a source breaks first, and where. Also how much a middlebox holds, and how often it writes.
+#![tactic(auto)]
+
+mod blocks;
+mod declarations;
+mod ends;
+mod expressions;
+mod names;
+mod objects;
+mod rows;
+mod sizes;
+mod source;
+mod statements;
+mod widths;
+
+pub use sizes::{entries, writes};
+pub use source::first_broken;
