@@ -3,26 +3,33 @@ use Rattle.std.proofs.Common.{◌≡◌, ℕ, Bool, true, false, List, [], Optio
 use Rattle.state_store.specs.declared.object.ObjectDecl.{ObjectDecl}
 use Rattle.element_lang.specs.declared.tree.Local.{Local}
 use Rattle.element_lang.specs.Tree.{BodyTree, Tree}
-use Rattle.element_lang.specs.Rules.{are_good_objects, is_good}
-use Rattle.element_lang.specs.Surface.{SurfaceBody, Surface, named}
+use Rattle.element_lang.specs.Rules.{is_good}
+use Rattle.element_lang.specs.Surface.{SurfaceBody, Declared, Surface, unplaced, named, object_of}
 use Rattle.element_text.specs.declared.scope.KnownLocal.{KnownLocal}
 use Rattle.element_text.specs.Scopes.{known_of}
-use Rattle.element_text.specs.Resolve.{◌>>=◌, when, Env, MadeBody, with_locals, made_body, resolved}
+use Rattle.element_text.proofs.Unplaced.{resolved_whole}
+use Rattle.element_text.specs.Resolve.{◌>>=◌, when, Env, MadeBody, with_locals, made_body, are_good_decls, decls_of, resolved}
 
 -- the environment of a source's first statement
 abbrev pub first_env : List ObjectDecl → Env
 first_env objects = record { objects = objects; locals = []; scope = [] }
 
 -- its objects keep their rules, and its body is made
-pub resolved_some : (objects : List ObjectDecl) (body : SurfaceBody) {tree : BodyTree} {locals : List Local} → are_good_objects [] objects ≡ true → made_body (first_env objects) body ≡ Some (record { tree = tree; locals = locals }) → resolved (record { objects = objects; body = body }) ≡ Some (record { objects = objects; locals = locals; body = tree })
-resolved_some objects body good made =
-    let rest : Option MadeBody → Option Tree = λ o. o >>= (λ b. Some (record { objects = objects; locals = b.locals; body = b.tree })) in
-    ap (λ x. when x (rest (made_body (first_env objects) body))) good ∙ ap rest made
+pub resolved_some : (decls : List Declared) (body : SurfaceBody) {tree : BodyTree} {locals : List Local} → are_good_decls (decls_of decls) ≡ true → made_body (first_env (map object_of (decls_of decls))) body ≡ Some (record { tree = tree; locals = locals }) → resolved (record { objects = decls; body = body }) ≡ Some (record { objects = map object_of (decls_of decls); locals = locals; body = tree })
+resolved_some decls body good made =
+    let rest : Option MadeBody → Option Tree = λ o. o >>= (λ b. Some (record { objects = map object_of (decls_of decls); locals = b.locals; body = b.tree })) in
+    ap (λ x. when x (rest (made_body (first_env (map object_of (decls_of decls))) body))) good ∙ ap rest made
+
+-- an object breaks a rule
+pub resolved_no_objects : (decls : List Declared) (body : SurfaceBody) → are_good_decls (decls_of decls) ≡ false → resolved (record { objects = decls; body = body }) ≡ None
+resolved_no_objects decls body wrong =
+    let rest : Option MadeBody → Option Tree = λ o. o >>= (λ b. Some (record { objects = map object_of (decls_of decls); locals = b.locals; body = b.tree })) in
+    ap (λ x. when x (rest (made_body (first_env (map object_of (decls_of decls))) body))) wrong
 
 -- its body is not made
-pub resolved_no_body : (objects : List ObjectDecl) (body : SurfaceBody) → made_body (first_env objects) body ≡ None → resolved (record { objects = objects; body = body }) ≡ None
-resolved_no_body objects body none =
-    ap (λ o. when (are_good_objects [] objects) (o >>= (λ b. Some (record { objects = objects; locals = b.locals; body = b.tree })))) none ∙ never (are_good_objects [] objects)
+pub resolved_no_body : (decls : List Declared) (body : SurfaceBody) → made_body (first_env (map object_of (decls_of decls))) body ≡ None → resolved (record { objects = decls; body = body }) ≡ None
+resolved_no_body decls body none =
+    ap (λ o. when (are_good_decls (decls_of decls)) (o >>= (λ b. Some (record { objects = map object_of (decls_of decls); locals = b.locals; body = b.tree })))) none ∙ never (are_good_decls (decls_of decls))
   where
     never : (b : Bool) → ◌≡◌ {A = Option Tree} (when b None) None
     never true = refl
@@ -35,15 +42,15 @@ first_is text {decls = decls} {locals = locals} {known = known} objects_are no_l
     ap (λ o. P o locals known) objects_are ∙ ap (λ l. P decls l known) no_locals ∙ ap (P decls []) no_known
 
 -- the middlebox that was made, with the objects and the locals behind its body
-pub resolved_made : (decls : List ObjectDecl) (body : SurfaceBody) (env next : Env) (b : BodyTree) → IsTrue (are_good_objects [] decls) → env ≡ first_env decls → made_body env body ≡ Some (record { tree = b; locals = next.locals }) → next ≡ with_locals env next.locals → resolved (record { objects = decls; body = body }) ≡ Some (record { objects = next.objects; locals = next.locals; body = b })
+pub resolved_made : (decls : List Declared) (body : SurfaceBody) (env next : Env) (b : BodyTree) → are_good_decls (decls_of decls) ≡ true → env ≡ first_env (map object_of (decls_of decls)) → made_body env body ≡ Some (record { tree = b; locals = next.locals }) → next ≡ with_locals env next.locals → resolved (record { objects = decls; body = body }) ≡ Some (record { objects = next.objects; locals = next.locals; body = b })
 resolved_made decls body env next b good first made kept =
-    let objects : next.objects ≡ decls = ap (λ (e : Env). e.objects) kept ∙ ap (λ (e : Env). e.objects) first in
+    let objects : next.objects ≡ map object_of (decls_of decls) = ap (λ (e : Env). e.objects) kept ∙ ap (λ (e : Env). e.objects) first in
     resolved_some decls body good (ap (λ e. made_body e body) (sym first) ∙ made) ∙ ap (λ o. Some (record { objects = o; locals = next.locals; body = b })) (sym objects)
 
--- A middlebox that has the names and keeps the rules is the one that is made, where the resolution of its names gives it again.
-pub only_one : ((m : Tree) → IsTrue (is_good m) → resolved (named m) ≡ Some m) → (s : Surface) (made : Tree) → resolved s ≡ Some made → (m : Tree) → named m ≡ s → IsTrue (is_good m) → m ≡ made
-only_one complete s made is m same good = let e : Some m ≡ Some made = sym (complete m good) ∙ ap resolved same ∙ is in cc
+-- A middlebox that has the names and keeps the rules is the one that is made.
+pub only_one : (s : Surface) (made : Tree) → resolved s ≡ Some made → (m : Tree) → unplaced s ≡ named m → IsTrue (is_good m) → m ≡ made
+only_one s made is m same good = let e : Some m ≡ Some made = sym (resolved_whole s m good same) ∙ is in cc
 
 -- and where nothing is made there is none
-pub none_fits : ((m : Tree) → IsTrue (is_good m) → resolved (named m) ≡ Some m) → (s : Surface) → resolved s ≡ None → (m : Tree) → named m ≡ s → IsTrue (is_good m) → ⊥
-none_fits complete s none m same good = let e : Some m ≡ None = sym (complete m good) ∙ ap resolved same ∙ none in cc
+pub none_fits : (s : Surface) → resolved s ≡ None → (m : Tree) → unplaced s ≡ named m → IsTrue (is_good m) → ⊥
+none_fits s none m same good = let e : Some m ≡ None = sym (resolved_whole s m good same) ∙ none in cc

@@ -1,5 +1,5 @@
 -- What a chain of optional values gives, and a list that is read from front to back.
-use Rattle.std.proofs.Common.{◌≡◌, ℕ, ◌+◌, ◌<◌, Bool, true, false, List, ◌∷◌, length, drop, get_or, Option, Some, None, refl, sym, ap, ◌∙◌}
+use Rattle.std.proofs.Common.{◌≡◌, ℕ, ◌+◌, ◌<◌, Bool, true, false, ◌||◌, List, ◌∷◌, length, drop, get_or, Option, Some, None, refl, sym, ap, ◌∙◌}
 use Rattle.std.proofs.lemmas.List.{at_drop_more}
 use Rattle.element_text.specs.Resolve.{◌>>=◌, when}
 
@@ -25,3 +25,14 @@ at_item F xs at x within is = at_drop_more F xs at x within ∙ ap (λ y. F (y �
 -- nothing follows where there is nothing
 pub chain_nothing : {A B : Type 0} (o : Option A) (f : A → Option B) → o ≡ None → (o >>= f) ≡ None
 chain_nothing o f e = ap (λ p. p >>= f) e
+
+-- one more in front or behind, where the rest has the same answer
+pub turned : (a b c : Bool) → b ≡ c → (a || b) ≡ (c || (a || false))
+turned true true true e = refl
+turned true true false e = cc
+turned true false true e = cc
+turned true false false e = refl
+turned false true true e = refl
+turned false true false e = cc
+turned false false true e = cc
+turned false false false e = refl

@@ -1,5 +1,5 @@
 -- Statements that keep the rules are made of themselves with their names put back.
-use Rattle.std.proofs.Common.{◌≡◌, ℕ, zero, suc, ◌+◌, ◌≤◌, ◌<◌, true, false, not, ◌&&◌, ◌||◌, List, [], ◌∷◌, ◌++◌, length, map, take, nat_le, Option, Some, None, if◌then◌else◌, is_none, slice_get, slice_index, ◌==◌, option_and_then, refl, sym, ap, ap₂, ◌∙◌, arith}
+use Rattle.std.proofs.Common.{◌≡◌, ℕ, zero, suc, ◌+◌, ◌≤◌, ◌<◌, true, false, not, ◌&&◌, ◌||◌, List, [], ◌∷◌, ◌++◌, ◌^◌, length, map, take, nat_le, nat_lt, Option, Some, None, if◌then◌else◌, is_none, slice_get, slice_index, ◌==◌, option_and_then, refl, sym, ap, ap₂, ◌∙◌, arith}
 use Rattle.std.specs.List.{list_any, list_all}
 use Rattle.std.specs.Str.{bytes_eq}
 use Rattle.std.proofs.lemmas.Bool.{eqb-true, and_parts, and_from, or_parts, not-true, false≢true}
@@ -10,17 +10,16 @@ use Rattle.state_store.specs.declared.object.Kind.{Kind}
 use Rattle.state_store.specs.declared.object.Kind.TheVariants.{Table, Map, Vector, Int}
 use Rattle.state_store.specs.declared.object.ObjectDecl.{ObjectDecl}
 use Rattle.element_lang.specs.declared.tree.Local.{Local}
-use Rattle.element_lang.specs.declared.sizes.TheConstants.{MAX_ROWS}
 use Rattle.element_lang.specs.Tree as trees
 use Rattle.element_lang.specs.Tree.{ExprTree, Exprs, StmtTree, BodyTree, Tree}
 use Rattle.element_lang.specs.Widths.{local_widths, width_of}
-use Rattle.element_lang.specs.Rules.{is_width, widths_of, is_good_expr, are_good_exprs, fits_keys, fits_values, can_put, object_names, counted_from, are_fresh, binds, declared_in, declared_by, always_ends, is_empty, is_good_stmt, is_good_body, sum_of, are_widths, is_good_map, is_good_object, are_good_objects}
+use Rattle.element_lang.specs.Rules.{is_width, widths_of, same_widths, is_good_expr, are_good_exprs, fits_keys, fits_values, can_put, can_del, object_names, counted_from, are_fresh, binds, declared_in, declared_by, always_ends, ends_always, any_repeats, is_empty, is_count, is_good_stmt, is_good_body, sum_of, are_widths, is_size, are_good_rows, is_good_object, are_good_objects}
 use Rattle.element_lang.specs.Surface.{name_of_local, name_of_object, local_name, object_name, named_expr, named_exprs, named_stmt, named_body}
-use Rattle.element_text.specs.Resolve.{when, Known, local_in, Env, TypedList, typed_expr, typed_exprs, object_from, is_free, with_local, declared, all_declared, numbers_from, values_of, Made, MadeBody, with_locals, is_done, made_condition, made_stmt, made_body}
+use Rattle.element_text.specs.Resolve.{when, Known, local_in, Env, Typed, TypedList, typed_expr, typed_exprs, object_from, is_free, with_local, declared, all_declared, numbers_from, values_of, Made, MadeBody, with_locals, is_done, made_condition, made_stmt, made_body}
 use Rattle.element_text.proofs.Optional.{bound_is, when_is}
 use Rattle.element_text.proofs.Scoping.{word_same, width_at, any_moved, empty_same}
 use Rattle.element_text.proofs.Operators.{same_lists}
-use Rattle.element_text.proofs.CompleteExprs.{Reads, reads_moved, reads_pushed, typed_in, all_typed_in, expr_read, exprs_read}
+use Rattle.element_text.proofs.CompleteExprs.{Reads, reads_moved, reads_pushed, typed_in, all_typed_in, expr_read, exprs_read, expr_wide}
 
 -- ## Objects
 
@@ -54,26 +53,48 @@ object_there n (suc i) names (o ∷ os) d e s =
       good = h.good;
     }
 
-good_map : (k : Kind) (d : ObjectDecl) → is_good_object k d ≡ true → is_good_map d ≡ true
-good_map Map d e = e
-good_map Table d e = absurd (false≢true e)
-good_map Vector d e = absurd (false≢true e)
-good_map Int d e = absurd (false≢true e)
+-- widths are widths
+all_wide : (ws : List ℕ) → are_widths ws ≡ true → list_all is_width ws ≡ true
+all_wide ws e =
+    let p = and_parts (nat_le 1 (length ws) && nat_le (length ws) 8 && list_all is_width ws) (nat_le (sum_of ws) 128) e in
+    (and_parts (nat_le 1 (length ws) && nat_le (length ws) 8) (list_all is_width ws) p.0).1
 
--- the values of a map have widths
-good_values : (d : ObjectDecl) → is_good_map d ≡ true → list_all is_width d.values ≡ true
-good_values d e =
+-- the values of an object have widths
+pub good_values : (k : Kind) (d : ObjectDecl) → is_good_object k d ≡ true → list_all is_width d.values ≡ true
+good_values Table d e =
     let widths_good = are_widths d.keys && are_widths d.values in
-    let some = nat_le 1 d.size in
-    let not_many = nat_le d.size MAX_ROWS in
+    let counted = d.size == length d.rows in
     let no_start = d.start == 0 in
-    let p = and_parts (widths_good && some && not_many && no_start) (length d.rows == 0) e in
-    let q = and_parts (widths_good && some && not_many) no_start p.0 in
-    let r = and_parts (widths_good && some) not_many q.0 in
-    let s = and_parts widths_good some r.0 in
-    let t = and_parts (are_widths d.keys) (are_widths d.values) s.0 in
-    let u = and_parts (nat_le 1 (length d.values) && nat_le (length d.values) 8 && list_all is_width d.values) (nat_le (sum_of d.values) 128) t.1 in
-    (and_parts (nat_le 1 (length d.values) && nat_le (length d.values) 8) (list_all is_width d.values) u.0).1
+    let p = and_parts (widths_good && counted && no_start) (are_good_rows d.keys d.values [] d.rows) e in
+    let q = and_parts (widths_good && counted) no_start p.0 in
+    let r = and_parts widths_good counted q.0 in
+    all_wide d.values (and_parts (are_widths d.keys) (are_widths d.values) r.0).1
+good_values Map d e =
+    let widths_good = are_widths d.keys && are_widths d.values in
+    let no_start = d.start == 0 in
+    let p = and_parts (widths_good && is_size d.size && no_start) (length d.rows == 0) e in
+    let q = and_parts (widths_good && is_size d.size) no_start p.0 in
+    let r = and_parts widths_good (is_size d.size) q.0 in
+    all_wide d.values (and_parts (are_widths d.keys) (are_widths d.values) r.0).1
+good_values Vector d e =
+    let one_key = same_widths d.keys (32 ∷ []) in
+    let no_start = d.start == 0 in
+    let p = and_parts (one_key && are_widths d.values && is_size d.size && no_start) (length d.rows == 0) e in
+    let q = and_parts (one_key && are_widths d.values && is_size d.size) no_start p.0 in
+    let r = and_parts (one_key && are_widths d.values) (is_size d.size) q.0 in
+    all_wide d.values (and_parts one_key (are_widths d.values) r.0).1
+good_values Int d e =
+    let w = slice_index d.values 0 in
+    let no_key = length d.keys == 0 in
+    let one_value = same_widths d.values (w ∷ []) in
+    let one_row = d.size == 1 in
+    let within = nat_lt d.start (2 ^ w) in
+    let p = and_parts (no_key && one_value && is_width w && one_row && within) (length d.rows == 0) e in
+    let q = and_parts (no_key && one_value && is_width w && one_row) within p.0 in
+    let r = and_parts (no_key && one_value && is_width w) one_row q.0 in
+    let s = and_parts (no_key && one_value) (is_width w) r.0 in
+    let values_are : d.values ≡ w ∷ [] = same_lists d.values (w ∷ []) (and_parts no_key one_value s.0).1 in
+    ap (list_all is_width) values_are ∙ and_from (is_width w) true s.1 refl
 
 -- keys that fit an object fit one that is there
 object_with : (o : Option ObjectDecl) (ws : List ℕ) → fits_keys o ws ≡ true → (d : ObjectDecl) × (o ≡ Some d)
@@ -96,7 +117,7 @@ object_used m o ws good e =
     let there : 0 + o ≡ o = omega arith in
     record {
       finds = ap (λ x. object_from 0 m.objects (name_of_object x)) d.1 ∙ h.finds ∙ ap Some there;
-      widths = ap (λ x. list_all is_width (values_of x)) d.1 ∙ good_values d.0 (good_map d.0.kind d.0 h.good);
+      widths = ap (λ x. list_all is_width (values_of x)) d.1 ∙ good_values d.0.kind d.0 h.good;
     }
 
 -- ## Locals
@@ -136,6 +157,7 @@ numbers_counted n (x ∷ xs) name e =
 
 -- the local at a place, as it is declared there
 record IsDeclared (m : Tree) (numbers : List ℕ) (n x : ℕ) (v : ℕ) (scope : List Known) : Type 0 where
+  number : length (take n m.locals) ≡ x
   later : List Known
   made : declared (env_at m n scope) (local_name m x) v ≡ Some (env_at m (n + 1) later)
   reads : Reads m (x ∷ numbers) later
@@ -158,13 +180,23 @@ one_declared m numbers n x v scope h lt e fresh width good =
     let locals_are : take n m.locals ++ l ∷ [] ≡ take (n + 1) m.locals = taken_more m.locals n l there.1 ∙ ap (λ i. take i m.locals) suc_is in
     let not_named : list_any (λ y. bytes_eq l.name (local_name m y)) numbers ≡ false = ap (λ w. list_any (λ y. bytes_eq w (local_name m y)) numbers) (sym name_is) ∙ not_there in
     record {
+      number = number_is;
       later = scope ++ record { number = x; decl = l } ∷ [];
       made = when_is (is_free (env_at m n scope) (local_name m x) && is_width v) (Some (with_local (env_at m n scope) (record { name = local_name m x; width = v }))) (Some (env_at m (n + 1) (scope ++ record { number = x; decl = l } ∷ [])))
           (and_from (is_free (env_at m n scope) (local_name m x)) (is_width v) free good)
           (ap₂ (λ a b. Some (with_local (env_at m n scope) (record { name = a; width = b }))) name_is width_is
           ∙ ap₂ (λ (ls : List Local) (i : ℕ). Some (record { objects = m.objects; locals = ls; scope = scope ++ record { number = i; decl = l } ∷ [] })) locals_are number_is);
-      reads = reads_pushed m numbers scope x l stands not_named h;
+      reads = reads_pushed m numbers scope x l stands (ap is_width (sym width_is) ∙ good) not_named h;
     }
+
+-- a local that a statement declares alone
+sole_declared : (m : Tree) (numbers : List ℕ) (n x v : ℕ) (scope : List Known) → Reads m numbers scope → n + 1 ≤ length m.locals
+    → counted_from n (x ∷ []) ≡ true → are_fresh m numbers (x ∷ []) ≡ true → (slice_index (local_widths m) x == v) ≡ true → is_width v ≡ true → IsDeclared m numbers n x v scope
+sole_declared m numbers n x v scope h le counted fresh width good =
+    let c = and_parts (x == n) true counted in
+    let f = and_parts (not (list_any (bytes_eq (local_name m x)) (object_names m)) && not (list_any (λ y. bytes_eq (local_name m x) (local_name m y)) numbers)) true fresh in
+    let within : n < length m.locals = omega arith in
+    one_declared m numbers n x v scope h within (eqb-true x n c.0) f.0 (eqb-true (slice_index (local_widths m) x) v width) good
 
 -- locals that are counted from a place on, as they are declared there
 record AreDeclared (m : Tree) (numbers : List ℕ) (n : ℕ) (xs vs : List ℕ) (scope : List Known) : Type 0 where
@@ -221,6 +253,57 @@ nothing_more : (m : Tree) (n : ℕ) (scope : List Known) (s : StmtTree) → rema
 nothing_more m n scope s =
     let same : n ≡ n + 0 = omega arith in
     ap (λ i. remade_here m i scope s) same
+
+let_local_remade : (m : Tree) (numbers : List ℕ) (n : ℕ) (scope : List Known) (x : ℕ) (value : ExprTree) → Reads m numbers scope
+    → n + 1 ≤ length m.locals → is_good_stmt m numbers n (trees.let_local x value) ≡ true → IsRemade m numbers n scope (trees.let_local x value)
+let_local_remade m numbers n scope x value h le e =
+    let width = width_of (local_widths m) value in
+    let value_good = is_good_expr (local_widths m) numbers value in
+    let same_width = slice_index (local_widths m) x == width in
+    let counted = counted_from n (x ∷ []) in
+    let fresh = are_fresh m numbers (x ∷ []) in
+    let p = and_parts (value_good && same_width && counted) fresh e in
+    let q = and_parts (value_good && same_width) counted p.0 in
+    let r = and_parts value_good same_width q.0 in
+    let d = sole_declared m numbers n x width scope h le q.1 p.1 r.1 (expr_wide m numbers scope h value r.0) in
+    let env = env_at m n scope in
+    let last : Env = env_at m (n + 1) d.later in
+    let all : Option Made = Some (record { tree = trees.let_local x value; env = last }) in
+    let end = λ (v : Typed) (next : Env). Some (record { tree = trees.let_local (length env.locals) v.tree; env = next }) in
+    record {
+      later = d.later;
+      made =
+          bound_is (typed_expr scope (named_expr m value)) (λ v. option_and_then (end v) (declared env (local_name m x) v.width)) (typed_in m value) all
+          (expr_read m numbers scope h value r.0)
+          (bound_is (declared env (local_name m x) width) (end (typed_in m value)) last all d.made
+          (ap (λ a. Some (record { tree = trees.let_local a value; env = last })) d.number));
+      reads = d.reads;
+    }
+
+assign_remade : (m : Tree) (numbers : List ℕ) (n : ℕ) (scope : List Known) (x : ℕ) (value : ExprTree) → Reads m numbers scope
+    → is_good_stmt m numbers n (trees.assign x value) ≡ true → IsRemade m numbers n scope (trees.assign x value)
+assign_remade m numbers n scope x value h e =
+    let width = width_of (local_widths m) value in
+    let value_good = is_good_expr (local_widths m) numbers value in
+    let in_scope = list_any (λ y. y == x) numbers in
+    let same_width = slice_index (local_widths m) x == width in
+    let p = and_parts (value_good && in_scope) same_width e in
+    let q = and_parts value_good in_scope p.0 in
+    let s = trees.assign x value in
+    let all : Option Made = Some (record { tree = s; env = env_at m (n + 0) scope }) in
+    let k = h.known x q.1 in
+    let known : Known = record { number = x; decl = k.decl } in
+    let finds : local_in scope (local_name m x) ≡ Some known = ap (λ o. local_in scope (name_of_local o)) k.stands ∙ k.finds in
+    let fits : (k.decl.width == width) ≡ true = ap (λ w. w == width) (sym (width_at m.locals x k.decl k.stands)) ∙ p.1 in
+    record {
+      later = scope;
+      made =
+          bound_is (typed_expr scope (named_expr m value)) (λ v. option_and_then (λ i. when (i.decl.width == v.width) (remade_here m n scope (trees.assign i.number v.tree))) (local_in scope (local_name m x))) (typed_in m value) all
+          (expr_read m numbers scope h value q.0)
+          (bound_is (local_in scope (local_name m x)) (λ i. when (i.decl.width == width) (remade_here m n scope (trees.assign i.number value))) known all finds
+          (when_is (k.decl.width == width) (remade_here m n scope s) all fits (nothing_more m n scope s)));
+      reads = h;
+    }
 
 set_field_remade : (m : Tree) (numbers : List ℕ) (n : ℕ) (scope : List Known) (f : Field) (value : ExprTree) → Reads m numbers scope
     → is_good_stmt m numbers n (trees.set_field f value) ≡ true → IsRemade m numbers n scope (trees.set_field f value)
@@ -319,12 +402,8 @@ put_remade m numbers n scope ok object keys values good h le e =
     let u = and_parts (keys_good && values_good) may_put t.0 in
     let v = and_parts keys_good values_good u.0 in
     let used = object_used m object (widths_of widths keys) good t.1 in
-    let ok_is : ok ≡ n = eqb-true ok n (and_parts (ok == n) true q.1).0 in
-    let free = and_parts (not (list_any (bytes_eq (local_name m ok)) (object_names m)) && not (list_any (λ y. bytes_eq (local_name m ok) (local_name m y)) numbers)) true p.1 in
-    let within : n < length m.locals = omega arith in
-    let d = one_declared m numbers n ok 1 scope h within ok_is free.0 (eqb-true (slice_index widths ok) 1 r.1) refl in
+    let d = sole_declared m numbers n ok 1 scope h le q.1 p.1 r.1 refl in
     let env = env_at m n scope in
-    let number : length (take n m.locals) ≡ ok = length_taken m.locals n (omega arith) ∙ sym ok_is in
     let last : Env = env_at m (n + 1) d.later in
     let all : Option Made = Some (record { tree = trees.put ok object keys values; env = last }) in
     let test = λ (o : ℕ) (ks vs : TypedList). can_put (slice_get env.objects o) && fits_keys (slice_get env.objects o) ks.widths && fits_values (slice_get env.objects o) vs.widths in
@@ -343,7 +422,45 @@ put_remade m numbers n scope ok object keys values good h le e =
           (exprs_read m numbers scope h values v.1)
           (when_is (may_put && keys_match && values_match) (option_and_then (end object ks vs) declare) all (and_from (may_put && keys_match) values_match (and_from may_put keys_match u.1 t.1) s.1)
           (bound_is declare (end object ks vs) last all d.made
-          (ap (λ a. Some (record { tree = trees.put a object keys values; env = last })) number)))));
+          (ap (λ a. Some (record { tree = trees.put a object keys values; env = last })) d.number)))));
+      reads = d.reads;
+    }
+
+del_remade : (m : Tree) (numbers : List ℕ) (n : ℕ) (scope : List Known) (was object : ℕ) (keys : Exprs) → are_good_objects [] m.objects ≡ true → Reads m numbers scope
+    → n + 1 ≤ length m.locals → is_good_stmt m numbers n (trees.del was object keys) ≡ true → IsRemade m numbers n scope (trees.del was object keys)
+del_remade m numbers n scope was object keys good h le e =
+    let widths = local_widths m in
+    let declaration = slice_get m.objects object in
+    let keys_good = are_good_exprs widths numbers keys in
+    let may_del = can_del declaration in
+    let keys_match = fits_keys declaration (widths_of widths keys) in
+    let one_bit = slice_index widths was == 1 in
+    let counted = counted_from n (was ∷ []) in
+    let fresh = are_fresh m numbers (was ∷ []) in
+    let p = and_parts (keys_good && may_del && keys_match && one_bit && counted) fresh e in
+    let q = and_parts (keys_good && may_del && keys_match && one_bit) counted p.0 in
+    let r = and_parts (keys_good && may_del && keys_match) one_bit q.0 in
+    let s = and_parts (keys_good && may_del) keys_match r.0 in
+    let t = and_parts keys_good may_del s.0 in
+    let used = object_used m object (widths_of widths keys) good s.1 in
+    let d = sole_declared m numbers n was 1 scope h le q.1 p.1 r.1 refl in
+    let env = env_at m n scope in
+    let last : Env = env_at m (n + 1) d.later in
+    let all : Option Made = Some (record { tree = trees.del was object keys; env = last }) in
+    let test = λ (o : ℕ) (ks : TypedList). can_del (slice_get env.objects o) && fits_keys (slice_get env.objects o) ks.widths in
+    let end = λ (o : ℕ) (ks : TypedList) (next : Env). Some (record { tree = trees.del (length env.locals) o ks.trees; env = next }) in
+    let declare = declared env (local_name m was) 1 in
+    let ks : TypedList = all_typed_in m keys in
+    record {
+      later = d.later;
+      made =
+          bound_is (object_from 0 m.objects (object_name m object)) (λ o. option_and_then (λ ks. when (test o ks) (option_and_then (end o ks) declare)) (typed_exprs scope (named_exprs m keys))) object all
+          used.finds
+          (bound_is (typed_exprs scope (named_exprs m keys)) (λ ks. when (test object ks) (option_and_then (end object ks) declare)) ks all
+          (exprs_read m numbers scope h keys t.0)
+          (when_is (may_del && keys_match) (option_and_then (end object ks) declare) all (and_from may_del keys_match t.1 s.1)
+          (bound_is declare (end object ks) last all d.made
+          (ap (λ a. Some (record { tree = trees.del a object keys; env = last })) d.number))));
       reads = d.reads;
     }
 
@@ -371,6 +488,31 @@ choose_remade m numbers n scope cond first second h good one a b =
       reads = h;
     }
 
+repeat_remade : (m : Tree) (numbers : List ℕ) (n : ℕ) (scope : List Known) (index count : ℕ) (body : BodyTree) → Reads m numbers scope
+    → is_count count ≡ true → (not (any_repeats body) && not (ends_always body)) ≡ true → (d : IsDeclared m numbers n index 32 scope) → IsBodyRemade m (n + 1) d.later body
+    → IsRemade m numbers n scope (trees.repeat index count body)
+repeat_remade m numbers n scope index count body h allowed may d b =
+    let env = env_at m n scope in
+    let first : Env = env_at m (n + 1) d.later in
+    let there : MadeBody = record { tree = body; locals = take (n + 1 + declared_by body) m.locals } in
+    let sum : n + 1 + declared_by body ≡ n + suc (declared_by body) = omega arith in
+    let all : Option Made = Some (record { tree = trees.repeat index count body; env = env_at m (n + suc (declared_by body)) scope }) in
+    let end = λ (b : MadeBody). Some (record { tree = trees.repeat (length env.locals) count b.tree; env = with_locals env b.locals }) in
+    let test = λ (b : MadeBody). not (any_repeats b.tree) && not (ends_always b.tree) in
+    let declare = declared env (local_name m index) 32 in
+    record {
+      later = scope;
+      made =
+          when_is (is_count count) (option_and_then (λ inside. option_and_then (λ b. when (test b) (end b)) (made_body inside (named_body m body))) declare) all
+          allowed
+          (bound_is declare (λ inside. option_and_then (λ b. when (test b) (end b)) (made_body inside (named_body m body))) first all
+          d.made
+          (bound_is (made_body first (named_body m body)) (λ b. when (test b) (end b)) there all b
+          (when_is (test there) (end there) all may
+          (ap₂ (λ a i. Some (record { tree = trees.repeat a count body; env = env_at m i scope })) d.number sum))));
+      reads = h;
+    }
+
 body_remade : (m : Tree) (numbers : List ℕ) (n : ℕ) (scope : List Known) (s : StmtTree) (b : BodyTree) → (not (always_ends s) || is_empty b) ≡ true
     → (h : IsRemade m numbers n scope s) → IsBodyRemade m (n + declared_in s) h.later b → IsBodyRemade m n scope (trees.stmt s b)
 body_remade m numbers n scope s b may h g =
@@ -389,9 +531,12 @@ body_remade m numbers n scope s b may h g =
 
 mutual
   stmt_read : (m : Tree) → are_good_objects [] m.objects ≡ true → (s : StmtTree) (numbers : List ℕ) (n : ℕ) (scope : List Known) → Reads m numbers scope → n + declared_in s ≤ length m.locals → is_good_stmt m numbers n s ≡ true → IsRemade m numbers n scope s
+  stmt_read m good (trees.let_local x value) numbers n scope h le e = let_local_remade m numbers n scope x value h le e
+  stmt_read m good (trees.assign x value) numbers n scope h le e = assign_remade m numbers n scope x value h e
   stmt_read m good (trees.set_field f value) numbers n scope h le e = set_field_remade m numbers n scope f value h e
   stmt_read m good (trees.look found into object keys) numbers n scope h le e = look_remade m numbers n scope found into object keys good h le e
   stmt_read m good (trees.put ok object keys values) numbers n scope h le e = put_remade m numbers n scope ok object keys values good h le e
+  stmt_read m good (trees.del was object keys) numbers n scope h le e = del_remade m numbers n scope was object keys good h le e
   stmt_read m good (trees.choose cond first second) numbers n scope h le e =
       let cond_good = is_good_expr (local_widths m) numbers cond in
       let one_bit = width_of (local_widths m) cond == 1 in
@@ -403,6 +548,24 @@ mutual
       let first_le : n + declared_by first ≤ length m.locals = omega arith in
       let second_le : n + declared_by first + declared_by second ≤ length m.locals = omega arith in
       choose_remade m numbers n scope cond first second h r.0 r.1 (body_read m good first numbers n scope h first_le q.1) (body_read m good second numbers (n + declared_by first) scope h second_le p.1)
+  stmt_read m good (trees.repeat index count body) numbers n scope h le e =
+      let may_count = is_count count in
+      let no_repeat = not (any_repeats body) in
+      let goes_on = not (ends_always body) in
+      let wide = slice_index (local_widths m) index == 32 in
+      let counted = counted_from n (index ∷ []) in
+      let fresh = are_fresh m numbers (index ∷ []) in
+      let body_good = is_good_body m (index ∷ numbers) (n + 1) body in
+      let p = and_parts (may_count && no_repeat && goes_on && wide && counted && fresh) body_good e in
+      let q = and_parts (may_count && no_repeat && goes_on && wide && counted) fresh p.0 in
+      let r = and_parts (may_count && no_repeat && goes_on && wide) counted q.0 in
+      let s = and_parts (may_count && no_repeat && goes_on) wide r.0 in
+      let t = and_parts (may_count && no_repeat) goes_on s.0 in
+      let u = and_parts may_count no_repeat t.0 in
+      let first_le : n + 1 ≤ length m.locals = omega arith in
+      let body_le : n + 1 + declared_by body ≤ length m.locals = omega arith in
+      let d = sole_declared m numbers n index 32 scope h first_le r.1 q.1 s.1 refl in
+      repeat_remade m numbers n scope index count body h u.0 (and_from no_repeat goes_on u.1 t.1) d (body_read m good body (index ∷ numbers) (n + 1) d.later d.reads body_le p.1)
   stmt_read m good (trees.send port) numbers n scope h le e = send_remade m numbers n scope port h e
   stmt_read m good trees.drop numbers n scope h le e = drop_remade m numbers n scope h
 

@@ -4,8 +4,8 @@ use Rattle.std.specs.Bool.{if◌then◌else◌}
 use Rattle.std.proofs.lemmas.List.{at_drop_more}
 use Rattle.std.proofs.lemmas.Bool.{and_right}
 use Rattle.element_lang.specs.Rules.{is_width, same_widths}
-use Rattle.element_text.specs.declared.token.Span.{Span}
-use Rattle.element_text.specs.Tokens.{spelled}
+use Rattle.element_tokens.specs.declared.token.Span.{Span}
+use Rattle.element_tokens.specs.Tokens.{spelled}
 use Rattle.element_text.specs.Resolve.{◌>>=◌, when, Env, is_free, with_local, declared, all_declared, numbers_from}
 use Rattle.element_text.proofs.Chains.{chain_none}
 

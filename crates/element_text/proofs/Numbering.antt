@@ -7,12 +7,13 @@ use Rattle.element_lang.specs.declared.tree.Local.{Local}
 use Rattle.element_lang.specs.declared.tree.Stmt.{Stmt}
 use Rattle.element_lang.specs.Tree.{StmtTree, BodyTree}
 use Rattle.element_lang.specs.Tree.BodyTree.{done, stmt}
-use Rattle.element_lang.specs.Rules.{is_width, fits_keys, fits_values, can_put, always_ends, ends_always}
+use Rattle.element_lang.specs.Rules.{is_width, is_count, fits_keys, fits_values, can_put, can_del, always_ends, ends_always, repeats, any_repeats}
 use Rattle.element_lang.specs.View.{body_of, stmt_tree, body_tree}
 use Rattle.element_lang.specs.Surface as surface
-use Rattle.element_text.specs.declared.surface.SurfaceStmt.{SurfaceStmt}
-use Rattle.element_text.specs.Surface.{surface_stmt, surface_body}
-use Rattle.element_text.specs.Resolve.{◌>>=◌, when, Known, Env, Made, MadeBody, typed_expr, typed_exprs, object_from, is_free, with_local, declared, all_declared, values_of, with_locals, is_done, made_condition, made_stmt, made_body}
+use Rattle.element_grammar.specs.declared.surface.At.{At}
+use Rattle.element_grammar.specs.declared.surface.SurfaceStmt.{SurfaceStmt}
+use Rattle.element_grammar.specs.Surface.{surface_stmt, surface_body}
+use Rattle.element_text.specs.Resolve.{◌>>=◌, when, Known, Env, Made, MadeBody, typed_expr, typed_exprs, local_in, object_from, is_free, with_local, declared, all_declared, values_of, with_locals, is_done, made_condition, made_stmt, made_body}
 use Rattle.element_text.proofs.Chains.{chain_parts, when_parts, at_item}
 
 -- ## What a statement leaves of what was declared
@@ -33,11 +34,15 @@ within_both {a = a} {b = b} {c = c} h g = record {
   scope = g.scope ∙ ap (λ l. l ++ g.more) h.scope ∙ append_assoc a.scope h.more g.more;
 }
 
-within_to : {a b c : Env} → Within a b → b ≡ c → Within a c
+pub within_to : {a b c : Env} → Within a b → b ≡ c → Within a c
 within_to {a = a} h same = let P : Env → Type 0 = λ n. Within a n in subst P same h
 
+-- other locals that are declared change nothing of it
+pub within_locals : {a b : Env} (locals : List Local) → Within a b → Within a (with_locals b locals)
+within_locals locals h = record { objects = h.objects; more = h.more; scope = h.scope }
+
 -- behind a declaration, behind several, and behind any statement
-declared_within : (env next : Env) (word : List ℕ) (width : ℕ) → declared env word width ≡ Some next → Within env next
+pub declared_within : (env next : Env) (word : List ℕ) (width : ℕ) → declared env word width ≡ Some next → Within env next
 declared_within env next word width e =
     let l : Local = record { name = word; width = width } in
     let parts = when_parts (is_free env word && is_width width) (Some (with_local env l)) next e in
@@ -57,7 +62,20 @@ all_declared_within (w ∷ ws) (v ∷ vs) env next e =
 made_env : {a : Env} {m n : Made} → Some m ≡ Some n → Within a m.env → Within a n.env
 made_env {a = a} {m = m} {n = n} e h = let same : m ≡ n = cc in let P : Made → Type 0 = λ x. Within a x.env in subst P same h
 
+-- a body leaves none of its own in scope
+within_body : (env : Env) (locals : List Local) → Within env (with_locals env locals)
+within_body env locals = within_locals locals (within_same env)
+
 pub made_within : (env : Env) (s : surface.SurfaceStmt) (m : Made) → made_stmt env s ≡ Some m → Within env m.env
+made_within env (surface.let_local word value) m e =
+    let value_parts = chain_parts (typed_expr env.scope value) _ m e in
+    let parts = chain_parts (declared env word value_parts.0.width) _ m value_parts.2 in
+    made_env parts.2 (declared_within env parts.0 word value_parts.0.width parts.1)
+made_within env (surface.assign word value) m e =
+    let value_parts = chain_parts (typed_expr env.scope value) _ m e in
+    let local_parts = chain_parts (local_in env.scope word) _ m value_parts.2 in
+    let parts = when_parts (local_parts.0.decl.width == value_parts.0.width) _ m local_parts.2 in
+    made_env parts.1 (within_same env)
 made_within env (surface.set_field f value) m e =
     let value_parts = chain_parts (typed_expr env.scope value) _ m e in
     let v = value_parts.0 in
@@ -78,11 +96,24 @@ made_within env (surface.put ok object keys values) m e =
     let test = when_parts (can_put (slice_get env.objects o) && fits_keys (slice_get env.objects o) key_parts.0.widths && fits_values (slice_get env.objects o) value_parts.0.widths) _ m value_parts.2 in
     let parts = chain_parts (declared env ok 1) _ m test.1 in
     made_env parts.2 (declared_within env parts.0 ok 1 parts.1)
+made_within env (surface.del was object keys) m e =
+    let object_parts = chain_parts (object_from 0 env.objects object) _ m e in
+    let o = object_parts.0 in
+    let key_parts = chain_parts (typed_exprs env.scope keys) _ m object_parts.2 in
+    let test = when_parts (can_del (slice_get env.objects o) && fits_keys (slice_get env.objects o) key_parts.0.widths) _ m key_parts.2 in
+    let parts = chain_parts (declared env was 1) _ m test.1 in
+    made_env parts.2 (declared_within env parts.0 was 1 parts.1)
 made_within env (surface.choose cond first second) m e =
     let cond_parts = chain_parts (made_condition env cond) _ m e in
     let first_parts = chain_parts (made_body env first) _ m cond_parts.2 in
     let second_parts = chain_parts (made_body (with_locals env first_parts.0.locals) second) _ m first_parts.2 in
-    made_env second_parts.2 (record { objects = refl; more = []; scope = sym (append-nil env.scope) })
+    made_env second_parts.2 (within_body env second_parts.0.locals)
+made_within env (surface.repeat index count body) m e =
+    let count_parts = when_parts (is_count count) _ m e in
+    let index_parts = chain_parts (declared env index 32) _ m count_parts.1 in
+    let body_parts = chain_parts (made_body index_parts.0 body) _ m index_parts.2 in
+    let parts = when_parts (not (any_repeats body_parts.0.tree) && not (ends_always body_parts.0.tree)) _ m body_parts.2 in
+    made_env parts.1 (within_body env body_parts.0.locals)
 made_within env (surface.send port) m e =
     let port_parts = chain_parts (typed_expr env.scope port) _ m e in
     let parts = when_parts (port_parts.0.width == 8) _ m port_parts.2 in
@@ -109,6 +140,19 @@ ends_last [] s = refl
 ends_last (u ∷ []) s = refl
 ends_last (u ∷ v ∷ ss) s = ends_last (v ∷ ss) s
 
+-- and a repeat stands in it where one stands in it without the last, or the last is one
+repeats_last : (ss : List StmtTree) (s : StmtTree) → any_repeats (body_of (ss ++ s ∷ [])) ≡ (any_repeats (body_of ss) || repeats s)
+repeats_last [] s = or_false (repeats s)
+  where
+    or_false : (b : Bool) → (b || false) ≡ b
+    or_false true = refl
+    or_false false = refl
+repeats_last (u ∷ ss) s = ap (λ b. repeats u || b) (repeats_last ss s) ∙ regroup (repeats u) (any_repeats (body_of ss)) (repeats s)
+  where
+    regroup : (a b c : Bool) → (a || (b || c)) ≡ ((a || b) || c)
+    regroup true b c = refl
+    regroup false b c = refl
+
 -- these statements, and behind them others, if there are any
 abbrev pub in_front : List StmtTree → Option MadeBody → Option MadeBody
 in_front ss None = None
@@ -128,23 +172,24 @@ abbrev pub left_body : Env → Bool → surface.SurfaceBody → Option MadeBody
 left_body env ended b = when (not ended || is_done b) (made_body env b)
 
 -- the first of what is left
-left_first : (env : Env) (ended : Bool) (s : surface.SurfaceStmt) (b : surface.SurfaceBody) (m : Made) → ended ≡ false → made_stmt env s ≡ Some m → left_body env ended (surface.stmt s b) ≡ when (not (always_ends m.tree) || is_done b) (join m.tree (made_body m.env b))
-left_first env ended s b m e h =
-    ap (λ x. left_body env x (surface.stmt s b)) e ∙ ap (λ o. o >>= (λ first. when (not (always_ends first.tree) || is_done b) (join first.tree (made_body first.env b)))) h
+left_first : (env : Env) (ended : Bool) (at : ℕ) (s : surface.SurfaceStmt) (b : surface.SurfaceBody) (m : Made) → ended ≡ false → made_stmt env s ≡ Some m → left_body env ended (surface.stmt at s b) ≡ when (not (always_ends m.tree) || is_done b) (join m.tree (made_body m.env b))
+left_first env ended at s b m e h =
+    ap (λ x. left_body env x (surface.stmt at s b)) e ∙ ap (λ o. o >>= (λ first. when (not (always_ends first.tree) || is_done b) (join first.tree (made_body first.env b)))) h
 
 left_done : (env : Env) (ended : Bool) → left_body env ended surface.done ≡ Some (record { tree = done; locals = env.locals })
 left_done env true = refl
 left_done env false = refl
 
 -- the statements that were made and those that are left are all
-pub record Numbering (text : List ℕ) (start env : Env) (made : List Stmt) (ended : Bool) (left all : List SurfaceStmt) : Type 0 where
+pub record Numbering (text : List ℕ) (start env : Env) (made : List Stmt) (ended repeated : Bool) (left all : List (At SurfaceStmt)) : Type 0 where
   pub told : in_front (map stmt_tree made) (left_body env ended (surface_body text left)) ≡ made_body start (surface_body text all)
   pub ends : ended ≡ ends_always (body_tree made)
+  pub has_repeat : repeated ≡ any_repeats (body_tree made)
   pub within : Within start env
 
 -- one more statement
-pub numbering_more : {text : List ℕ} {start env : Env} {made new : List Stmt} {ended ends : Bool} {all : List SurfaceStmt} (at : ℕ) (u : SurfaceStmt) (s : Stmt) (next : Env) → at < length all → u ≡ get_or all at u → Numbering text start env made ended (drop at all) all → ended ≡ false → made_stmt env (surface_stmt text u) ≡ Some (record { tree = stmt_tree s; env = next }) → ends ≡ always_ends (stmt_tree s) → new ≡ made ++ s ∷ [] → Numbering text start next new ends (drop (at + 1) all) all
-numbering_more {text = text} {start = start} {env = env} {made = made} {new = new} {ended = ended} {ends = ends} {all = all} at u s next within item h goes numbered is pushed =
+pub numbering_more : {text : List ℕ} {start env : Env} {made new : List Stmt} {ended ends repeated : Bool} {all : List (At SurfaceStmt)} (at : ℕ) (u : At SurfaceStmt) (s : Stmt) (next : Env) (turns : Bool) → at < length all → u ≡ get_or all at u → Numbering text start env made ended repeated (drop at all) all → ended ≡ false → made_stmt env (surface_stmt text u.item) ≡ Some (record { tree = stmt_tree s; env = next }) → ends ≡ always_ends (stmt_tree s) → turns ≡ repeats (stmt_tree s) → new ≡ made ++ s ∷ [] → Numbering text start next new ends (repeated || turns) (drop (at + 1) all) all
+numbering_more {text = text} {start = start} {env = env} {made = made} {new = new} {ended = ended} {ends = ends} {repeated = repeated} {all = all} at u s next turns within item h goes numbered is turns_is pushed =
     let t = stmt_tree s in
     let b = surface_body text (drop (at + 1) all) in
     let m : Made = record { tree = t; env = next } in
@@ -154,13 +199,14 @@ numbering_more {text = text} {start = start} {env = env} {made = made} {new = ne
     record {
       told = ap (λ l. in_front l (left_body next ends b)) pushed_trees ∙ ap (λ x. in_front (map stmt_tree made ++ t ∷ []) (left_body next x b)) is
           ∙ in_front_more (map stmt_tree made) t (not (always_ends t) || is_done b) rest
-          ∙ ap (in_front (map stmt_tree made)) (sym (left_first env ended (surface_stmt text u) b m goes numbered)) ∙ sym split ∙ h.told;
+          ∙ ap (in_front (map stmt_tree made)) (sym (left_first env ended u.at (surface_stmt text u.item) b m goes numbered)) ∙ sym split ∙ h.told;
       ends = is ∙ sym (ends_last (map stmt_tree made) t) ∙ ap (λ l. ends_always (body_of l)) (sym pushed_trees);
-      within = within_both h.within (made_within env (surface_stmt text u) m numbered);
+      has_repeat = ap (λ b. repeated || b) turns_is ∙ ap (λ b. b || repeats t) h.has_repeat ∙ sym (repeats_last (map stmt_tree made) t) ∙ ap (λ l. any_repeats (body_of l)) (sym pushed_trees);
+      within = within_both h.within (made_within env (surface_stmt text u.item) m numbered);
     }
 
 -- no statement is left
-pub numbering_end : {text : List ℕ} {start env : Env} {made : List Stmt} {ended : Bool} {all : List SurfaceStmt} (at : ℕ) → length all ≤ at → Numbering text start env made ended (drop at all) all → made_body start (surface_body text all) ≡ Some (record { tree = body_tree made; locals = env.locals })
+pub numbering_end : {text : List ℕ} {start env : Env} {made : List Stmt} {ended repeated : Bool} {all : List (At SurfaceStmt)} (at : ℕ) → length all ≤ at → Numbering text start env made ended repeated (drop at all) all → made_body start (surface_body text all) ≡ Some (record { tree = body_tree made; locals = env.locals })
 numbering_end {text = text} {start = start} {env = env} {made = made} {ended = ended} {all = all} at past h =
     let none = at_drop_all (λ l. in_front (map stmt_tree made) (left_body env ended (surface_body text l))) all at past in
     sym h.told ∙ none ∙ ap (in_front (map stmt_tree made)) (left_done env ended) ∙ ap (λ x. Some (record { tree = x; locals = env.locals })) (stmts_onto_done (map stmt_tree made))

@@ -1,5 +1,6 @@
 -- The width of an operator's result, and whether its arguments fit.
-use Rattle.std.proofs.Common.{◌≡◌, ℕ, true, false, ◌&&◌, List, [], ◌∷◌, length, Option, Some, None, IfSome, slice_index, ◌==◌, option_map, option_and_then, arith, refl, sym, ap, ◌∙◌}
+use Rattle.std.proofs.Common.{◌≡◌, ℕ, Bool, true, false, ◌&&◌, List, [], ◌∷◌, length, Option, Some, None, IfSome, slice_index, ◌==◌, option_map, option_and_then, arith, refl, sym, ap, ◌∙◌}
+use Rattle.std.specs.List.{list_all}
 use Rattle.std.proofs.lemmas.Bool.{eqb-true, eq-eqb, and_parts, and_from, false≢true}
 use Rattle.gal_bits.specs.declared.op.Op.{Op}
 use Rattle.gal_bits.specs.declared.op.Op.TheVariants.{Add, Sub, Mul, Div, Rem, And, Or, Xor, Not, Shl, Shr, Eq, Ne, Lt, Le, Cast, Select, Adjust}
@@ -154,3 +155,40 @@ fitting_result Select w ws e = choice_of ws w e
 fitting_result Adjust w ws e =
     let parts = and_parts (w == 16) (same_widths ws (16 ∷ 16 ∷ 16 ∷ [])) e in
     ap (λ b. when b (Some 16)) parts.1 ∙ ap Some (sym (eqb-true w 16 parts.0))
+
+-- ## A result is 1 to 64 bits wide where its arguments are
+
+-- the first of the arguments is
+first_wide : (ws : List ℕ) (w : ℕ) (rest : List ℕ) → same_widths ws (w ∷ rest) ≡ true → list_all is_width ws ≡ true → is_width w ≡ true
+first_wide ws w rest e wide = (and_parts (is_width w) (list_all is_width rest) (ap (list_all is_width) (sym (same_lists ws (w ∷ rest) e)) ∙ wide)).0
+
+-- the second of them is
+second_wide : (ws : List ℕ) (v w : ℕ) (rest : List ℕ) → same_widths ws (v ∷ w ∷ rest) ≡ true → list_all is_width ws ≡ true → is_width w ≡ true
+second_wide ws v w rest e wide =
+    let all : list_all is_width (v ∷ w ∷ rest) ≡ true = ap (list_all is_width) (sym (same_lists ws (v ∷ w ∷ rest) e)) ∙ wide in
+    let behind = and_parts (is_width v) (list_all is_width (w ∷ rest)) all in
+    (and_parts (is_width w) (list_all is_width rest) behind.1).0
+
+-- the width is this number, which is one
+number_wide : (w n : ℕ) (b : Bool) → (w == n && b) ≡ true → is_width n ≡ true → is_width w ≡ true
+number_wide w n b e wide = ap is_width (eqb-true w n (and_parts (w == n) b e).0) ∙ wide
+
+pub result_wide : (op : Op) (w : ℕ) (ws : List ℕ) → fits_operator op w ws ≡ true → list_all is_width ws ≡ true → is_width w ≡ true
+result_wide Add w ws e wide = first_wide ws w (w ∷ []) e wide
+result_wide Sub w ws e wide = first_wide ws w (w ∷ []) e wide
+result_wide Mul w ws e wide = first_wide ws w (w ∷ []) e wide
+result_wide Div w ws e wide = first_wide ws w (w ∷ []) e wide
+result_wide Rem w ws e wide = first_wide ws w (w ∷ []) e wide
+result_wide And w ws e wide = first_wide ws w (w ∷ []) e wide
+result_wide Or w ws e wide = first_wide ws w (w ∷ []) e wide
+result_wide Xor w ws e wide = first_wide ws w (w ∷ []) e wide
+result_wide Not w ws e wide = first_wide ws w [] e wide
+result_wide Shl w ws e wide = absurd (false≢true e)
+result_wide Shr w ws e wide = absurd (false≢true e)
+result_wide Eq w ws e wide = number_wide w 1 (same_widths ws (slice_index ws 0 ∷ slice_index ws 0 ∷ [])) e refl
+result_wide Ne w ws e wide = number_wide w 1 (same_widths ws (slice_index ws 0 ∷ slice_index ws 0 ∷ [])) e refl
+result_wide Lt w ws e wide = number_wide w 1 (same_widths ws (slice_index ws 0 ∷ slice_index ws 0 ∷ [])) e refl
+result_wide Le w ws e wide = number_wide w 1 (same_widths ws (slice_index ws 0 ∷ slice_index ws 0 ∷ [])) e refl
+result_wide Cast w ws e wide = (and_parts (is_width w) (length ws == 1) e).0
+result_wide Select w ws e wide = second_wide ws 1 w (w ∷ []) e wide
+result_wide Adjust w ws e wide = number_wide w 16 (same_widths ws (16 ∷ 16 ∷ 16 ∷ [])) e refl

@@ -10,7 +10,7 @@ use Rattle.element_lang.specs.Tree.{ExprTree, Exprs, Tree}
 use Rattle.element_lang.specs.Widths.{local_widths, width_of}
 use Rattle.element_lang.specs.Rules.{is_width, is_shift, widths_of, fits_operator, is_good_expr, are_good_exprs}
 use Rattle.element_lang.specs.Surface.{SurfaceExpr, SurfaceExprs, lit, name, field, byte, shift, apply, no_expr, expr, name_of_local, local_name, named_expr, named_exprs}
-use Rattle.element_text.specs.Resolve.{when, Known, local_in, Typed, TypedList, result_width, typed_apply, typed_local, typed_expr, typed_exprs}
+use Rattle.element_text.specs.Resolve.{when, Known, local_in, Typed, TypedList, result_width, typed_apply, typed_local, typed_byte, typed_shift, typed_expr, typed_exprs}
 use Rattle.element_text.proofs.Optional.{if_bound, if_when, if_map, if_so}
 use Rattle.element_text.proofs.Scoping.{local_in_pushed, alone, none_of_two, not_alone, width_at}
 use Rattle.element_text.proofs.Operators.{Fitting, result_fits}
@@ -91,16 +91,16 @@ typed_name m numbers word k f = record {
   good = f.among;
 }
 
-typed_byte : (m : Tree) (numbers : List ℕ) (index : SurfaceExpr) (t : Typed) → IsTyped m numbers index t → IfSome (when (t.width == 16) (Some (record { tree = trees.byte t.tree; width = 8 }))) (IsTyped m numbers (byte index))
-typed_byte m numbers index t h =
+byte_typed : (m : Tree) (numbers : List ℕ) (index : SurfaceExpr) (t : Typed) → IsTyped m numbers index t → IfSome (typed_byte t) (IsTyped m numbers (byte index))
+byte_typed m numbers index t h =
     if_when (t.width == 16) (Some (record { tree = trees.byte t.tree; width = 8 })) (IsTyped m numbers (byte index)) (λ e. record {
       named = ap byte h.named;
       width = refl;
       good = and_from (is_good_expr (local_widths m) numbers t.tree) (width_of (local_widths m) t.tree == 16) h.good (ap (λ w. w == 16) h.width ∙ e);
     })
 
-typed_shift : (m : Tree) (numbers : List ℕ) (op : Op) (by : ℕ) (arg : SurfaceExpr) (t : Typed) → IsTyped m numbers arg t → IfSome (when (is_shift op && nat_le by 63) (Some (record { tree = trees.shift op by t.tree; width = t.width }))) (IsTyped m numbers (shift op by arg))
-typed_shift m numbers op by arg t h =
+shift_typed : (m : Tree) (numbers : List ℕ) (op : Op) (by : ℕ) (arg : SurfaceExpr) (t : Typed) → IsTyped m numbers arg t → IfSome (typed_shift op by t) (IsTyped m numbers (shift op by arg))
+shift_typed m numbers op by arg t h =
     if_when (is_shift op && nat_le by 63) (Some (record { tree = trees.shift op by t.tree; width = t.width })) (IsTyped m numbers (shift op by arg)) (λ e. record {
       named = ap (shift op by) h.named;
       width = h.width;
@@ -132,9 +132,9 @@ mutual
       if_map (local_in scope word) typed_local (IsFound m numbers word) (IsTyped m numbers (name word)) (f.found word) (typed_name m numbers word)
   expr_typed m numbers scope f (field g) = record { named = refl; width = refl; good = refl }
   expr_typed m numbers scope f (byte index) =
-      if_bound (typed_expr scope index) (λ i. when (i.width == 16) (Some (record { tree = trees.byte i.tree; width = 8 }))) (IsTyped m numbers index) (IsTyped m numbers (byte index)) (expr_typed m numbers scope f index) (typed_byte m numbers index)
+      if_bound (typed_expr scope index) typed_byte (IsTyped m numbers index) (IsTyped m numbers (byte index)) (expr_typed m numbers scope f index) (byte_typed m numbers index)
   expr_typed m numbers scope f (shift op by arg) =
-      if_bound (typed_expr scope arg) (λ a. when (is_shift op && nat_le by 63) (Some (record { tree = trees.shift op by a.tree; width = a.width }))) (IsTyped m numbers arg) (IsTyped m numbers (shift op by arg)) (expr_typed m numbers scope f arg) (typed_shift m numbers op by arg)
+      if_bound (typed_expr scope arg) (typed_shift op by) (IsTyped m numbers arg) (IsTyped m numbers (shift op by arg)) (expr_typed m numbers scope f arg) (shift_typed m numbers op by arg)
   expr_typed m numbers scope f (apply op written args) =
       if_bound (typed_exprs scope args) (typed_apply op written) (AreTyped m numbers args) (IsTyped m numbers (apply op written args)) (exprs_typed m numbers scope f args) (typed_operator m numbers op written args)
 

@@ -1,6 +1,6 @@
 -- Statements with numbers keep the rules, and with their names put back they are those that they were made of.
 use Rattle.std.proofs.Common.{◌≡◌, ℕ, suc, ◌+◌, true, not, ◌&&◌, ◌||◌, List, [], ◌∷◌, ◌++◌, length, map, Option, Some, None, IfSome, is_none, slice_get, slice_index, ◌==◌, option_and_then, refl, sym, ap, ap₂, subst, ◌∙◌, arith, length-append}
-use Rattle.std.specs.List.{list_any}
+use Rattle.std.specs.List.{list_any, AllByRecursion}
 use Rattle.std.specs.Str.{bytes_eq}
 use Rattle.std.proofs.lemmas.Bool.{eqb-true, eq-eqb, and_parts, and_from, false≢true}
 use Rattle.packet_fields.specs.declared.field.Field.{Field}
@@ -9,22 +9,34 @@ use Rattle.state_store.specs.declared.object.ObjectDecl.{ObjectDecl}
 use Rattle.element_lang.specs.declared.tree.Local.{Local}
 use Rattle.element_lang.specs.Tree as trees
 use Rattle.element_lang.specs.Tree.{ExprTree, Tree, BodyTree}
+use Rattle.element_lang.specs.Token.{IsName}
 use Rattle.element_lang.specs.Widths.{local_widths, width_of}
-use Rattle.element_lang.specs.Rules.{is_width, widths_of, is_good_expr, are_good_exprs, fits_keys, fits_values, can_put, object_names, counted_from, are_fresh, binds, declared_in, declared_by, always_ends, is_empty, is_good_stmt, is_good_body}
-use Rattle.element_lang.specs.Surface.{SurfaceExpr, SurfaceExprs, SurfaceStmt, SurfaceBody, set_field, look, put, choose, send, drop, done, stmt, name_of_local, name_of_object, local_name, object_name, named_exprs, named_stmt, named_body}
+use Rattle.element_lang.specs.Rules.{is_width, widths_of, is_good_expr, are_good_exprs, fits_keys, fits_values, can_put, can_del, object_names, counted_from, are_fresh, binds, declared_in, declared_by, always_ends, ends_always, any_repeats, is_empty, is_count, is_good_stmt, is_good_body}
+use Rattle.element_lang.specs.Surface.{SurfaceExpr, SurfaceExprs, SurfaceStmt, SurfaceBody, let_local, assign, set_field, look, put, del, choose, repeat, send, drop, done, stmt, name_of_local, name_of_object, local_name, object_name, named_expr, named_exprs, named_stmt, named_body, unplaced_stmt, unplaced_body}
+use Rattle.element_text.specs.Names.{HasStmtNames, HasBodyNames}
 use Rattle.element_text.specs.Resolve.{when, Known, local_in, Env, Typed, TypedList, typed_expr, typed_exprs, object_from, is_free, with_local, declared, all_declared, numbers_from, values_of, Made, MadeBody, with_locals, is_done, made_condition, made_stmt, made_body}
 use Rattle.element_text.proofs.Optional.{if_bound, if_when, if_so, if_tested}
 use Rattle.element_text.proofs.Scoping.{Keeps, keeps_all, keeps_on, keeps_pushed, push_new, width_at, any_moved, none_from, object_found, empty_same}
 use Rattle.element_text.proofs.Operators.{lists_same}
-use Rattle.element_text.proofs.SoundExprs.{Fits, fits_pushed, fits_moved, IsTyped, AreTyped, expr_typed, exprs_typed}
+use Rattle.element_text.proofs.SoundExprs.{IsFound, Fits, fits_pushed, fits_moved, IsTyped, AreTyped, expr_typed, exprs_typed}
 
--- ## Expressions, in every middlebox whose locals in scope are these
+-- ## Names and expressions, in every middlebox whose locals in scope are these
+
+record AlwaysFound (scope : List Known) (word : List ℕ) (k : Known) : Type 0 where
+  at : (m : Tree) (numbers : List ℕ) → Fits m numbers scope → IsFound m numbers word k
 
 record AlwaysTyped (scope : List Known) (e : SurfaceExpr) (t : Typed) : Type 0 where
   at : (m : Tree) (numbers : List ℕ) → Fits m numbers scope → IsTyped m numbers e t
 
 record AllAlwaysTyped (scope : List Known) (es : SurfaceExprs) (ts : TypedList) : Type 0 where
   at : (m : Tree) (numbers : List ℕ) → Fits m numbers scope → AreTyped m numbers es ts
+
+always_found : (scope : List Known) (word : List ℕ) → IfSome (local_in scope word) (AlwaysFound scope word)
+always_found scope word = spread (local_in scope word) (λ m numbers f. f.found word)
+  where
+    spread : (o : Option Known) → ((m : Tree) (numbers : List ℕ) → Fits m numbers scope → IfSome o (IsFound m numbers word)) → IfSome o (AlwaysFound scope word)
+    spread None h = tt
+    spread (Some k) h = record { at = h }
 
 always_typed : (scope : List Known) (e : SurfaceExpr) → IfSome (typed_expr scope e) (AlwaysTyped scope e)
 always_typed scope e = spread (typed_expr scope e) (λ m numbers f. expr_typed m numbers scope f e)
@@ -50,11 +62,20 @@ record Declared (m : Tree) (numbers : List ℕ) (n : ℕ) (ws : List (List ℕ))
   fresh : are_fresh m numbers (numbers_from n ws) ≡ true
   fits : Fits m (numbers_from n ws ++ numbers) last.scope
 
+-- locals whose names can be written
+abbrev pub Named : List Local → Type 0
+Named ls = AllByRecursion (λ (l : Local). IsName l.name) ls
+
+named_pushed : (ls : List Local) (l : Local) → Named ls → IsName l.name → Named (ls ++ l ∷ [])
+named_pushed [] l h n = (n, tt)
+named_pushed (k ∷ ks) l h n = (h.0, named_pushed ks l h.1 n)
+
 -- names that are declared with these widths, from number n on
 record Declares (env : Env) (n : ℕ) (ws : List (List ℕ)) (vs : List ℕ) (last : Env) : Type 0 where
   keeps : Keeps env.locals last.locals
   count : length last.locals ≡ n + length ws
   objects : last.objects ≡ env.objects
+  names : AllByRecursion IsName ws → Named env.locals → Named last.locals
   holds : (m : Tree) → Keeps last.locals m.locals → m.objects ≡ env.objects → (numbers : List ℕ) → Fits m numbers env.scope → Declared m numbers n ws vs last
 
 declares_none : (env : Env) (n : ℕ) → length env.locals ≡ n → Declares env n [] [] env
@@ -62,6 +83,7 @@ declares_none env n e = record {
   keeps = keeps_all env.locals;
   count = omega arith;
   objects = refl;
+  names = λ w k. k;
   holds = λ m k o numbers f. record { named = refl; widths = refl; counted = refl; fresh = refl; fits = f };
 }
 
@@ -71,6 +93,7 @@ declares_more env n l ws vs last e free d = record {
   keeps = keeps_on (keeps_pushed env.locals l) d.keeps;
   count = let c = d.count in omega arith;
   objects = d.objects;
+  names = λ w k. d.names w.1 (named_pushed env.locals l k w.0);
   holds = λ m k o numbers f.
       let next : Env = with_local env l in
       let new : slice_get (env.locals ++ l ∷ []) (length env.locals) ≡ Some l = push_new env.locals l in
@@ -129,7 +152,7 @@ length_numbers n (w ∷ ws) = ap suc (length_numbers (n + 1) ws)
 
 -- what holds of a statement in a middlebox, where the next local has this number
 pub record StmtHolds (m : Tree) (numbers : List ℕ) (next : ℕ) (s : SurfaceStmt) (made : Made) : Type 0 where
-  pub named : named_stmt m made.tree ≡ s
+  pub named : named_stmt m made.tree ≡ unplaced_stmt s
   pub good : is_good_stmt m numbers next made.tree ≡ true
   pub fits : Fits m (binds made.tree ++ numbers) made.env.scope
 
@@ -137,20 +160,77 @@ pub record IsMade (env : Env) (s : SurfaceStmt) (made : Made) : Type 0 where
   pub keeps : Keeps env.locals made.env.locals
   pub count : length made.env.locals ≡ length env.locals + declared_in made.tree
   pub objects : made.env.objects ≡ env.objects
+  pub names : HasStmtNames s → Named env.locals → Named made.env.locals
   pub holds : (m : Tree) → Keeps made.env.locals m.locals → m.objects ≡ env.objects → (numbers : List ℕ) → Fits m numbers env.scope → StmtHolds m numbers (length env.locals) s made
 
 pub record BodyHolds (m : Tree) (numbers : List ℕ) (next : ℕ) (b : SurfaceBody) (made : MadeBody) : Type 0 where
-  pub named : named_body m made.tree ≡ b
+  pub named : named_body m made.tree ≡ unplaced_body b
   pub good : is_good_body m numbers next made.tree ≡ true
 
 pub record IsBodyMade (env : Env) (b : SurfaceBody) (made : MadeBody) : Type 0 where
   pub keeps : Keeps env.locals made.locals
   pub count : length made.locals ≡ length env.locals + declared_by made.tree
+  pub names : HasBodyNames b → Named env.locals → Named made.locals
   pub holds : (m : Tree) → Keeps made.locals m.locals → m.objects ≡ env.objects → (numbers : List ℕ) → Fits m numbers env.scope → BodyHolds m numbers (length env.locals) b made
 
 -- a statement that declares nothing
 undeclared : (n : ℕ) → n ≡ n + 0
 undeclared n = omega arith
+
+head_same : {A : Type 0} {x y : A} {xs ys : List A} → x ∷ xs ≡ y ∷ ys → x ≡ y
+head_same e = cc
+
+tail_same : {A : Type 0} {x y : A} {xs ys : List A} → x ∷ xs ≡ y ∷ ys → xs ≡ ys
+tail_same e = cc
+
+let_local_made : (env : Env) (word : List ℕ) (value : SurfaceExpr) (v : Typed) (last : Env) → AlwaysTyped env.scope value v
+    → Declares env (length env.locals) (word ∷ []) (v.width ∷ []) last
+    → IsMade env (let_local word value) (record { tree = trees.let_local (length env.locals) v.tree; env = last })
+let_local_made env word value v last typed d =
+    let n = length env.locals in
+    record {
+      keeps = d.keeps;
+      count = d.count;
+      objects = d.objects;
+      names = λ w k. d.names (w, tt) k;
+      holds = λ m k same numbers fits.
+          let t = typed.at m numbers fits in
+          let h = d.holds m k same numbers fits in
+          let widths = local_widths m in
+          let value_good = is_good_expr widths numbers v.tree in
+          let same_width = slice_index widths n == width_of widths v.tree in
+          let has_width : same_width ≡ true = eq-eqb (slice_index widths n) (width_of widths v.tree) (head_same h.widths ∙ sym t.width) in
+          record {
+            named = ap (λ w. let_local w (named_expr m v.tree)) (head_same h.named) ∙ ap (let_local word) t.named;
+            good =
+                and_from (value_good && same_width && counted_from n (n ∷ [])) (are_fresh m numbers (n ∷ []))
+                (and_from (value_good && same_width) (counted_from n (n ∷ [])) (and_from value_good same_width t.good has_width) h.counted)
+                h.fresh;
+            fits = h.fits;
+          };
+    }
+
+assign_made : (env : Env) (word : List ℕ) (value : SurfaceExpr) (v : Typed) (k : Known) → AlwaysTyped env.scope value v → AlwaysFound env.scope word k
+    → (k.decl.width == v.width) ≡ true → IsMade env (assign word value) (record { tree = trees.assign k.number v.tree; env = env })
+assign_made env word value v k typed found e = record {
+  keeps = keeps_all env.locals;
+  count = undeclared (length env.locals);
+  objects = refl;
+  names = λ w k. k;
+  holds = λ m kept same numbers fits.
+      let t = typed.at m numbers fits in
+      let f = found.at m numbers fits in
+      let widths = local_widths m in
+      let value_good = is_good_expr widths numbers v.tree in
+      let in_scope = list_any (λ y. y == k.number) numbers in
+      let same_width = slice_index widths k.number == width_of widths v.tree in
+      let width_is : slice_index widths k.number ≡ width_of widths v.tree = width_at m.locals k.number k.decl f.stands ∙ eqb-true k.decl.width v.width e ∙ sym t.width in
+      record {
+        named = ap (λ w. assign w (named_expr m v.tree)) (ap name_of_local f.stands ∙ f.named) ∙ ap (assign word) t.named;
+        good = and_from (value_good && in_scope) same_width (and_from value_good in_scope t.good f.among) (eq-eqb (slice_index widths k.number) (width_of widths v.tree) width_is);
+        fits = fits;
+      };
+}
 
 set_field_made : (env : Env) (f : Field) (value : SurfaceExpr) (v : Typed) → AlwaysTyped env.scope value v → ((row f).writable && v.width == (row f).width) ≡ true → IsMade env (set_field f value) (record { tree = trees.set_field f v.tree; env = env })
 set_field_made env f value v h e =
@@ -159,6 +239,7 @@ set_field_made env f value v h e =
       keeps = keeps_all env.locals;
       count = undeclared (length env.locals);
       objects = refl;
+      names = λ w k. k;
       holds = λ m k o numbers fits.
           let t = h.at m numbers fits in
           record {
@@ -175,6 +256,7 @@ send_made env port p h e = record {
   keeps = keeps_all env.locals;
   count = undeclared (length env.locals);
   objects = refl;
+  names = λ w k. k;
   holds = λ m k o numbers fits.
       let t = h.at m numbers fits in
       record {
@@ -189,6 +271,7 @@ drop_made env = record {
   keeps = keeps_all env.locals;
   count = undeclared (length env.locals);
   objects = refl;
+  names = λ w k. k;
   holds = λ m k o numbers fits. record { named = refl; good = refl; fits = fits };
 }
 
@@ -196,12 +279,6 @@ drop_made env = record {
 values_fit : (d : Option ObjectDecl) (ws vs : List ℕ) → fits_keys d ws ≡ true → vs ≡ values_of d → fits_values d vs ≡ true
 values_fit None ws vs e same = absurd (false≢true e)
 values_fit (Some d) ws vs e same = lists_same vs d.values same
-
-head_same : {A : Type 0} {x y : A} {xs ys : List A} → x ∷ xs ≡ y ∷ ys → x ≡ y
-head_same e = cc
-
-tail_same : {A : Type 0} {x y : A} {xs ys : List A} → x ∷ xs ≡ y ∷ ys → xs ≡ ys
-tail_same e = cc
 
 look_made : (env : Env) (found : List ℕ) (into : List (List ℕ)) (object : List ℕ) (keys : SurfaceExprs) (o : ℕ) (ks : TypedList) (last : Env)
     → name_of_object (slice_get env.objects o) ≡ object → AllAlwaysTyped env.scope keys ks → fits_keys (slice_get env.objects o) ks.widths ≡ true
@@ -216,6 +293,7 @@ look_made env found into object keys o ks last is typed fit d =
           let c : length last.locals ≡ n + suc (length into) = d.count in
           c ∙ ap (λ x. n + suc x) (sym (length_numbers (n + 1) into));
       objects = d.objects;
+      names = d.names;
       holds = λ m k same numbers fits.
           let t = typed.at m numbers fits in
           let h = d.holds m k same numbers fits in
@@ -257,6 +335,7 @@ put_made env ok object keys values o ks vs last is keys_typed values_typed fit d
       keeps = d.keeps;
       count = d.count;
       objects = d.objects;
+      names = λ w k. d.names (w, tt) k;
       holds = λ m k same numbers fits.
           let t = keys_typed.at m numbers fits in
           let u = values_typed.at m numbers fits in
@@ -289,6 +368,46 @@ put_made env ok object keys values o ks vs last is keys_typed values_typed fit d
           };
     }
 
+del_made : (env : Env) (was object : List ℕ) (keys : SurfaceExprs) (o : ℕ) (ks : TypedList) (last : Env)
+    → name_of_object (slice_get env.objects o) ≡ object → AllAlwaysTyped env.scope keys ks
+    → (can_del (slice_get env.objects o) && fits_keys (slice_get env.objects o) ks.widths) ≡ true
+    → Declares env (length env.locals) (was ∷ []) (1 ∷ []) last
+    → IsMade env (del was object keys) (record { tree = trees.del (length env.locals) o ks.trees; env = last })
+del_made env was object keys o ks last is typed fit d =
+    let n = length env.locals in
+    let parts = and_parts (can_del (slice_get env.objects o)) (fits_keys (slice_get env.objects o) ks.widths) fit in
+    record {
+      keeps = d.keeps;
+      count = d.count;
+      objects = d.objects;
+      names = λ w k. d.names (w, tt) k;
+      holds = λ m k same numbers fits.
+          let t = typed.at m numbers fits in
+          let h = d.holds m k same numbers fits in
+          let widths = local_widths m in
+          let declaration = slice_get m.objects o in
+          let object_is : declaration ≡ slice_get env.objects o = ap (λ os. slice_get os o) same in
+          let keys_good = are_good_exprs widths numbers ks.trees in
+          let may_del = can_del declaration in
+          let keys_match = fits_keys declaration (widths_of widths ks.trees) in
+          let one_bit = slice_index widths n == 1 in
+          let allowed : may_del ≡ true = ap can_del object_is ∙ parts.0 in
+          let keys_matched : keys_match ≡ true = ap₂ fits_keys object_is t.widths ∙ parts.1 in
+          let has_one_bit : one_bit ≡ true = eq-eqb (slice_index widths n) 1 (head_same h.widths) in
+          record {
+            named = ap (λ w. del w (object_name m o) (named_exprs m ks.trees)) (head_same h.named)
+                ∙ ap (λ w. del was w (named_exprs m ks.trees)) (ap name_of_object object_is ∙ is)
+                ∙ ap (del was object) t.named;
+            good =
+                and_from (keys_good && may_del && keys_match && one_bit && counted_from n (n ∷ [])) (are_fresh m numbers (n ∷ []))
+                (and_from (keys_good && may_del && keys_match && one_bit) (counted_from n (n ∷ []))
+                (and_from (keys_good && may_del && keys_match) one_bit (and_from (keys_good && may_del) keys_match (and_from keys_good may_del t.good allowed) keys_matched) has_one_bit)
+                h.counted)
+                h.fresh;
+            fits = h.fits;
+          };
+    }
+
 -- a condition
 record IsCondition (scope : List Known) (cond : SurfaceExpr) (c : ExprTree) : Type 0 where
   at : (m : Tree) (numbers : List ℕ) → Fits m numbers scope → IsTyped m numbers cond (record { tree = c; width = 1 })
@@ -314,6 +433,7 @@ choose_made env cond first second c a b is p q =
           let y : length b.locals ≡ length a.locals + declared_by b.tree = q.count in
           omega arith;
       objects = refl;
+      names = λ w k. q.names w.1 (p.names w.0 k);
       holds = λ m k same numbers fits.
           let t = is.at m numbers fits in
           let h = p.holds m (keeps_on q.keeps k) same numbers fits in
@@ -326,16 +446,61 @@ choose_made env cond first second c a b is p q =
           record {
             named = ap (λ x. choose x (named_body m a.tree) (named_body m b.tree)) t.named
                 ∙ ap (λ x. choose cond x (named_body m b.tree)) h.named
-                ∙ ap (choose cond first) g.named;
+                ∙ ap (choose cond (unplaced_body first)) g.named;
             good = and_from (cond_good && one_bit && first_good) second_good (and_from (cond_good && one_bit) first_good (and_from cond_good one_bit t.good (eq-eqb (width_of (local_widths m) c) 1 t.width)) h.good) last;
             fits = fits;
           };
     }
 
-body_more : (env : Env) (s : SurfaceStmt) (b : SurfaceBody) (first : Made) (rest : MadeBody)
+repeat_made : (env : Env) (index : List ℕ) (count : ℕ) (body : SurfaceBody) (inside : Env) (b : MadeBody) → is_count count ≡ true
+    → Declares env (length env.locals) (index ∷ []) (32 ∷ []) inside → IsBodyMade inside body b → (not (any_repeats b.tree) && not (ends_always b.tree)) ≡ true
+    → IsMade env (repeat index count body) (record { tree = trees.repeat (length env.locals) count b.tree; env = with_locals env b.locals })
+repeat_made env index count body inside b allowed d q may =
+    let n = length env.locals in
+    let parts = and_parts (not (any_repeats b.tree)) (not (ends_always b.tree)) may in
+    record {
+      keeps = keeps_on d.keeps q.keeps;
+      count =
+          let x : length inside.locals ≡ n + 1 = d.count in
+          let y : length b.locals ≡ length inside.locals + declared_by b.tree = q.count in
+          omega arith;
+      objects = refl;
+      names = λ w k. q.names w.1 (d.names (w.0, tt) k);
+      holds = λ m k same numbers fits.
+          let h = d.holds m (keeps_on q.keeps k) same numbers fits in
+          let g = q.holds m k (same ∙ sym d.objects) (n ∷ numbers) h.fits in
+          let may_count = is_count count in
+          let no_repeat = not (any_repeats b.tree) in
+          let goes_on = not (ends_always b.tree) in
+          let wide = slice_index (local_widths m) n == 32 in
+          let counted = counted_from n (n ∷ []) in
+          let fresh = are_fresh m numbers (n ∷ []) in
+          let body_good = is_good_body m (n ∷ numbers) (n + 1) b.tree in
+          let has_width : wide ≡ true = eq-eqb (slice_index (local_widths m) n) 32 (head_same h.widths) in
+          let inner : body_good ≡ true = ap (λ i. is_good_body m (n ∷ numbers) i b.tree) (sym d.count) ∙ g.good in
+          record {
+            named = ap (λ w. repeat w count (named_body m b.tree)) (head_same h.named) ∙ ap (repeat index count) g.named;
+            good =
+                and_from (may_count && no_repeat && goes_on && wide && counted && fresh) body_good
+                (and_from (may_count && no_repeat && goes_on && wide && counted) fresh
+                (and_from (may_count && no_repeat && goes_on && wide) counted
+                (and_from (may_count && no_repeat && goes_on) wide (and_from (may_count && no_repeat) goes_on (and_from may_count no_repeat allowed parts.0) parts.1) has_width)
+                h.counted)
+                h.fresh)
+                inner;
+            fits = fits;
+          };
+    }
+
+-- places don't matter to whether a body is empty
+pub unplaced_done : (b : SurfaceBody) → is_done (unplaced_body b) ≡ is_done b
+unplaced_done done = refl
+unplaced_done (stmt at s b) = refl
+
+body_more : (env : Env) (at : ℕ) (s : SurfaceStmt) (b : SurfaceBody) (first : Made) (rest : MadeBody)
     → IsMade env s first → (not (always_ends first.tree) || is_done b) ≡ true → IsBodyMade first.env b rest
-    → IsBodyMade env (stmt s b) (record { tree = trees.stmt first.tree rest.tree; locals = rest.locals })
-body_more env s b first rest p may q =
+    → IsBodyMade env (stmt at s b) (record { tree = trees.stmt first.tree rest.tree; locals = rest.locals })
+body_more env at s b first rest p may q =
     let n = length env.locals in
     record {
       keeps = keeps_on p.keeps q.keeps;
@@ -343,23 +508,36 @@ body_more env s b first rest p may q =
           let x : length first.env.locals ≡ n + declared_in first.tree = p.count in
           let y : length rest.locals ≡ length first.env.locals + declared_by rest.tree = q.count in
           omega arith;
+      names = λ w k. q.names w.1 (p.names w.0 k);
       holds = λ m k same numbers fits.
           let h = p.holds m (keeps_on q.keeps k) same numbers fits in
           let g = q.holds m k (same ∙ sym p.objects) (binds first.tree ++ numbers) h.fits in
           let first_good = is_good_stmt m numbers n first.tree in
           let may_stand = not (always_ends first.tree) || is_empty rest.tree in
           let rest_good = is_good_body m (binds first.tree ++ numbers) (n + declared_in first.tree) rest.tree in
-          let empty : is_empty rest.tree ≡ is_done b = sym (empty_same m rest.tree) ∙ ap is_done g.named in
+          let empty : is_empty rest.tree ≡ is_done b = sym (empty_same m rest.tree) ∙ ap is_done g.named ∙ unplaced_done b in
           let may_follow : may_stand ≡ true = ap (λ x. not (always_ends first.tree) || x) empty ∙ may in
           let last : rest_good ≡ true = ap (λ i. is_good_body m (binds first.tree ++ numbers) i rest.tree) (sym p.count) ∙ g.good in
           record {
-            named = ap (λ x. stmt x (named_body m rest.tree)) h.named ∙ ap (stmt s) g.named;
+            named = ap (λ x. stmt 0 x (named_body m rest.tree)) h.named ∙ ap (stmt 0 (unplaced_stmt s)) g.named;
             good = and_from (first_good && may_stand) rest_good (and_from first_good may_stand h.good may_follow) last;
           };
     }
 
 mutual
   pub stmt_made : (env : Env) (s : SurfaceStmt) → IfSome (made_stmt env s) (IsMade env s)
+  stmt_made env (let_local word value) =
+      let Q = IsMade env (let_local word value) in
+      let end = λ (v : Typed) (next : Env). Some (record { tree = trees.let_local (length env.locals) v.tree; env = next }) in
+      if_bound (typed_expr env.scope value) (λ v. option_and_then (end v) (declared env word v.width)) (AlwaysTyped env.scope value) Q (always_typed env.scope value) (λ v typed.
+      if_bound (declared env word v.width) (end v) (Declares env (length env.locals) (word ∷ []) (v.width ∷ [])) Q (one_declares env word v.width) (λ last d.
+      let_local_made env word value v last typed d))
+  stmt_made env (assign word value) =
+      let Q = IsMade env (assign word value) in
+      let end = λ (v : Typed) (k : Known). Some (record { tree = trees.assign k.number v.tree; env = env }) in
+      if_bound (typed_expr env.scope value) (λ v. option_and_then (λ k. when (k.decl.width == v.width) (end v k)) (local_in env.scope word)) (AlwaysTyped env.scope value) Q (always_typed env.scope value) (λ v typed.
+      if_bound (local_in env.scope word) (λ k. when (k.decl.width == v.width) (end v k)) (AlwaysFound env.scope word) Q (always_found env.scope word) (λ k found.
+      if_when (k.decl.width == v.width) (end v k) Q (assign_made env word value v k typed found)))
   stmt_made env (set_field f value) =
       if_bound (typed_expr env.scope value) (λ v. when ((row f).writable && v.width == (row f).width) (Some (record { tree = trees.set_field f v.tree; env = env }))) (AlwaysTyped env.scope value) (IsMade env (set_field f value)) (always_typed env.scope value) (λ v h.
       if_when ((row f).writable && v.width == (row f).width) (Some (record { tree = trees.set_field f v.tree; env = env })) (IsMade env (set_field f value)) (set_field_made env f value v h))
@@ -381,6 +559,15 @@ mutual
       if_when (test o ks vs) (option_and_then (end o ks vs) (declared env ok 1)) Q (λ fit.
       if_bound (declared env ok 1) (end o ks vs) (Declares env (length env.locals) (ok ∷ []) (1 ∷ [])) Q (one_declares env ok 1) (λ last d.
       put_made env ok object keys values o ks vs last is keys_typed values_typed fit d)))))
+  stmt_made env (del was object keys) =
+      let Q = IsMade env (del was object keys) in
+      let test = λ (o : ℕ) (ks : TypedList). can_del (slice_get env.objects o) && fits_keys (slice_get env.objects o) ks.widths in
+      let end = λ (o : ℕ) (ks : TypedList) (next : Env). Some (record { tree = trees.del (length env.locals) o ks.trees; env = next }) in
+      if_bound (object_from 0 env.objects object) (λ o. option_and_then (λ ks. when (test o ks) (option_and_then (end o ks) (declared env was 1))) (typed_exprs env.scope keys)) (λ o. name_of_object (slice_get env.objects o) ≡ object) Q (object_found env.objects object) (λ o is.
+      if_bound (typed_exprs env.scope keys) (λ ks. when (test o ks) (option_and_then (end o ks) (declared env was 1))) (AllAlwaysTyped env.scope keys) Q (all_always_typed env.scope keys) (λ ks typed.
+      if_when (test o ks) (option_and_then (end o ks) (declared env was 1)) Q (λ fit.
+      if_bound (declared env was 1) (end o ks) (Declares env (length env.locals) (was ∷ []) (1 ∷ [])) Q (one_declares env was 1) (λ last d.
+      del_made env was object keys o ks last is typed fit d))))
   stmt_made env (choose cond first second) =
       let Q = IsMade env (choose cond first second) in
       let end = λ (c : ExprTree) (a b : MadeBody). Some (record { tree = trees.choose c a.tree b.tree; env = with_locals env b.locals }) in
@@ -388,6 +575,14 @@ mutual
       if_bound (made_body env first) (λ a. option_and_then (end c a) (made_body (with_locals env a.locals) second)) (IsBodyMade env first) Q (body_made env first) (λ a p.
       if_bound (made_body (with_locals env a.locals) second) (end c a) (IsBodyMade (with_locals env a.locals) second) Q (body_made (with_locals env a.locals) second) (λ b q.
       choose_made env cond first second c a b is p q)))
+  stmt_made env (repeat index count body) =
+      let Q = IsMade env (repeat index count body) in
+      let end = λ (b : MadeBody). Some (record { tree = trees.repeat (length env.locals) count b.tree; env = with_locals env b.locals }) in
+      let test = λ (b : MadeBody). not (any_repeats b.tree) && not (ends_always b.tree) in
+      if_when (is_count count) (option_and_then (λ inside. option_and_then (λ b. when (test b) (end b)) (made_body inside body)) (declared env index 32)) Q (λ allowed.
+      if_bound (declared env index 32) (λ inside. option_and_then (λ b. when (test b) (end b)) (made_body inside body)) (Declares env (length env.locals) (index ∷ []) (32 ∷ [])) Q (one_declares env index 32) (λ inside d.
+      if_bound (made_body inside body) (λ b. when (test b) (end b)) (IsBodyMade inside body) Q (body_made inside body) (λ b q.
+      if_when (test b) (end b) Q (repeat_made env index count body inside b allowed d q))))
   stmt_made env (send port) =
       if_bound (typed_expr env.scope port) (λ p. when (p.width == 8) (Some (record { tree = trees.send p.tree; env = env }))) (AlwaysTyped env.scope port) (IsMade env (send port)) (always_typed env.scope port) (λ p h.
       if_when (p.width == 8) (Some (record { tree = trees.send p.tree; env = env })) (IsMade env (send port)) (send_made env port p h))
@@ -397,12 +592,13 @@ mutual
   body_made env done = record {
     keeps = keeps_all env.locals;
     count = undeclared (length env.locals);
+    names = λ w k. k;
     holds = λ m k o numbers fits. record { named = refl; good = refl };
   }
-  body_made env (stmt s b) =
-      let Q = IsBodyMade env (stmt s b) in
+  body_made env (stmt at s b) =
+      let Q = IsBodyMade env (stmt at s b) in
       let end = λ (first : Made) (rest : MadeBody). Some (record { tree = trees.stmt first.tree rest.tree; locals = rest.locals }) in
       if_bound (made_stmt env s) (λ first. when (not (always_ends first.tree) || is_done b) (option_and_then (end first) (made_body first.env b))) (IsMade env s) Q (stmt_made env s) (λ first p.
       if_when (not (always_ends first.tree) || is_done b) (option_and_then (end first) (made_body first.env b)) Q (λ may.
       if_bound (made_body first.env b) (end first) (IsBodyMade first.env b) Q (body_made first.env b) (λ rest q.
-      body_more env s b first rest p may q)))
+      body_more env at s b first rest p may q)))

@@ -6,9 +6,9 @@ use Rattle.element_lang.specs.Tree.{ExprTree, Exprs}
 use Rattle.element_lang.specs.Tree.Exprs.{no_expr, expr}
 use Rattle.element_lang.specs.View.{exprs_of, expr_tree, expr_trees}
 use Rattle.element_lang.specs.Surface as surface
-use Rattle.element_text.specs.declared.surface.SurfaceExpr.{SurfaceExpr}
+use Rattle.element_grammar.specs.declared.surface.SurfaceExpr.{SurfaceExpr}
 use Rattle.element_text.specs.declared.expressions.TypedExpr.{TypedExpr}
-use Rattle.element_text.specs.Surface.{surface_expr, surface_exprs}
+use Rattle.element_grammar.specs.Surface.{surface_expr, surface_exprs}
 use Rattle.element_text.specs.Resolve.{◌>>=◌, Known, Typed, TypedList, typed_expr, typed_exprs}
 use Rattle.element_text.specs.Typed.{typed_of}
 use Rattle.element_text.proofs.Chains.{at_item}

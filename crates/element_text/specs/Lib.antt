@@ -1,11 +1,8 @@
-pub mod Tokens
-pub mod Lexemes
-pub mod TokenError
-pub mod Surface
-pub mod Misses
-pub mod TextErrors
 pub mod Resolve
+pub mod Names
 pub mod Scopes
 pub mod Typed
 pub mod Statements
+pub mod Errors
+pub mod Refused
 pub mod Reads

@@ -1,17 +1,18 @@
 -- The middlebox of a surface tree: names become numbers, and a piece that breaks a rule has none.
 use Rattle.std.specs.Prelude.{ℕ, ◌+◌, ◌^◌, Bool, true, false, not, ◌&&◌, ◌||◌, List, [], ◌∷◌, ◌++◌, map, length, nat_le, nat_lt, ◌==◌, if◌then◌else◌, Option, Some, None, is_none, slice_get, option_and_then}
 use Rattle.std.specs.Option.{option_map}
-use Rattle.std.specs.List.{list_any}
+use Rattle.std.specs.List.{list_any, list_all}
 use Rattle.std.specs.Str.{bytes_eq}
 use Rattle.gal_bits.specs.declared.op.Op.{Op}
 use Rattle.gal_bits.specs.declared.op.Op.TheVariants.{Add, Sub, Mul, Div, Rem, And, Or, Xor, Not, Shl, Shr, Eq, Ne, Lt, Le, Cast, Select, Adjust}
 use Rattle.packet_fields.specs.Table.{row}
 use Rattle.state_store.specs.declared.object.ObjectDecl.{ObjectDecl}
+use Rattle.state_store.specs.Kept.{have_widths}
 use Rattle.element_lang.specs.declared.tree.Local.{Local}
 use Rattle.element_lang.specs.Tree as trees
 use Rattle.element_lang.specs.Tree.{ExprTree, Exprs, StmtTree, BodyTree, Tree}
-use Rattle.element_lang.specs.Rules.{is_width, is_shift, same_widths, fits_keys, fits_values, can_put, always_ends, are_good_objects}
-use Rattle.element_lang.specs.Surface.{SurfaceExpr, SurfaceExprs, SurfaceStmt, SurfaceBody, Surface, lit, name, field, byte, shift, apply, no_expr, expr, set_field, look, put, choose, send, drop, done, stmt}
+use Rattle.element_lang.specs.Rules.{is_width, is_shift, same_widths, is_count, fits_keys, fits_values, can_put, can_del, always_ends, ends_always, any_repeats, are_good_rows, is_good_object, are_good_objects}
+use Rattle.element_lang.specs.Surface.{SurfaceExpr, SurfaceExprs, SurfaceStmt, SurfaceBody, Literal, SurfaceRow, SurfaceDecl, Declared, Surface, lit, name, field, byte, shift, apply, no_expr, expr, let_local, assign, set_field, look, put, del, choose, repeat, send, drop, done, stmt, table_decl, map_decl, vector_decl, int_decl, row_of, object_of}
 
 infixl 10 ◌>>=◌
 abbrev pub ◌>>=◌ : {A B : Type 0} → Option A → (A → Option B) → Option B
@@ -100,18 +101,21 @@ typed_apply op written args =
 abbrev pub typed_local : Known → Typed
 typed_local k = record { tree = trees.local k.number; width = k.decl.width }
 
+-- the byte of an index, and a shift
+abbrev pub typed_byte : Typed → Option Typed
+typed_byte i = when (i.width == 16) (Some (record { tree = trees.byte i.tree; width = 8 }))
+
+abbrev pub typed_shift : Op → ℕ → Typed → Option Typed
+typed_shift op by a = when (is_shift op && nat_le by 63) (Some (record { tree = trees.shift op by a.tree; width = a.width }))
+
 -- an expression, and a list of them, over the locals in scope
 abbrev mutual
   pub typed_expr : List Known → SurfaceExpr → Option Typed
   typed_expr scope (lit value width) = when (is_width width && nat_lt value (2 ^ width)) (Some (record { tree = trees.lit value width; width = width }))
   typed_expr scope (name word) = option_map typed_local (local_in scope word)
   typed_expr scope (field f) = Some (record { tree = trees.field f; width = (row f).width })
-  typed_expr scope (byte index) = do
-    i ← typed_expr scope index
-    when (i.width == 16) (Some (record { tree = trees.byte i.tree; width = 8 }))
-  typed_expr scope (shift op by arg) = do
-    a ← typed_expr scope arg
-    when (is_shift op && nat_le by 63) (Some (record { tree = trees.shift op by a.tree; width = a.width }))
+  typed_expr scope (byte index) = typed_expr scope index >>= typed_byte
+  typed_expr scope (shift op by arg) = typed_expr scope arg >>= typed_shift op by
   typed_expr scope (apply op written args) = typed_exprs scope args >>= typed_apply op written
 
   pub typed_exprs : List Known → SurfaceExprs → Option TypedList
@@ -167,7 +171,7 @@ with_locals env locals = record { objects = env.objects; locals = locals; scope 
 
 abbrev pub is_done : SurfaceBody → Bool
 is_done done = true
-is_done (stmt s b) = false
+is_done (stmt at s b) = false
 
 -- a condition, which has 1 bit
 abbrev pub made_condition : Env → SurfaceExpr → Option ExprTree
@@ -178,6 +182,14 @@ made_condition env cond = do
 -- a statement, and a body of them, behind what is declared so far
 abbrev mutual
   pub made_stmt : Env → SurfaceStmt → Option Made
+  made_stmt env (let_local word value) = do
+    v ← typed_expr env.scope value
+    next ← declared env word v.width
+    Some (record { tree = trees.let_local (length env.locals) v.tree; env = next })
+  made_stmt env (assign word value) = do
+    v ← typed_expr env.scope value
+    k ← local_in env.scope word
+    when (k.decl.width == v.width) (Some (record { tree = trees.assign k.number v.tree; env = env }))
   made_stmt env (set_field f value) = do
     v ← typed_expr env.scope value
     when ((row f).writable && v.width == (row f).width) (Some (record { tree = trees.set_field f v.tree; env = env }))
@@ -194,11 +206,23 @@ abbrev mutual
     when (can_put (slice_get env.objects o) && fits_keys (slice_get env.objects o) ks.widths && fits_values (slice_get env.objects o) vs.widths) (do
       next ← declared env ok 1
       Some (record { tree = trees.put (length env.locals) o ks.trees vs.trees; env = next }))
+  made_stmt env (del was object keys) = do
+    o ← object_from 0 env.objects object
+    ks ← typed_exprs env.scope keys
+    when (can_del (slice_get env.objects o) && fits_keys (slice_get env.objects o) ks.widths) (do
+      next ← declared env was 1
+      Some (record { tree = trees.del (length env.locals) o ks.trees; env = next }))
   made_stmt env (choose cond first second) = do
     c ← made_condition env cond
     a ← made_body env first
     b ← made_body (with_locals env a.locals) second
     Some (record { tree = trees.choose c a.tree b.tree; env = with_locals env b.locals })
+  made_stmt env (repeat index count body) =
+      when (is_count count) (do
+        inside ← declared env index 32
+        b ← made_body inside body
+        when (not (any_repeats b.tree) && not (ends_always b.tree))
+            (Some (record { tree = trees.repeat (length env.locals) count b.tree; env = with_locals env b.locals })))
   made_stmt env (send port) = do
     p ← typed_expr env.scope port
     when (p.width == 8) (Some (record { tree = trees.send p.tree; env = env }))
@@ -206,14 +230,56 @@ abbrev mutual
 
   pub made_body : Env → SurfaceBody → Option MadeBody
   made_body env done = Some (record { tree = trees.done; locals = env.locals })
-  made_body env (stmt s b) = do
+  made_body env (stmt at s b) = do
     first ← made_stmt env s
     when (not (always_ends first.tree) || is_done b) (do
       rest ← made_body first.env b
       Some (record { tree = trees.stmt first.tree rest.tree; locals = rest.locals }))
 
+-- the literals of a row are written with the declared widths
+abbrev pub is_written_row : List ℕ → List ℕ → SurfaceRow → Bool
+is_written_row keys values row = same_widths (map (λ l. l.width) row.keys) keys && same_widths (map (λ l. l.width) row.values) values
+
+abbrev pub are_written : List ℕ → List ℕ → List SurfaceRow → Bool
+are_written keys values rows = list_all (is_written_row keys values) rows
+
+-- literals that are written with the declared widths, and whose numbers have these
+abbrev pub are_good_literals : List ℕ → List Literal → Bool
+are_good_literals widths ls = same_widths (map (λ l. l.width) ls) widths && have_widths widths (map (λ l. l.value) ls)
+
+-- their numbers
+abbrev pub good_numbers : List ℕ → List Literal → Option (List ℕ)
+good_numbers widths ls = when (are_good_literals widths ls) (Some (map (λ l. l.value) ls))
+
+-- a row of such literals
+abbrev pub is_good_row : List ℕ → List ℕ → SurfaceRow → Bool
+is_good_row keys values row = are_good_literals keys row.keys && are_good_literals values row.values
+
+-- rows whose literals are so, and of which no two have the same key
+abbrev pub are_good_written_rows : List ℕ → List ℕ → List SurfaceRow → Bool
+are_good_written_rows keys values rows = are_written keys values rows && are_good_rows keys values [] (map row_of rows)
+
+abbrev pub is_written : SurfaceDecl → Bool
+is_written (table_decl word keys values rows) = are_written keys values rows
+is_written (map_decl word keys values capacity) = true
+is_written (vector_decl word size values) = true
+is_written (int_decl word width start) = true
+
+-- a declaration that is written so, and keeps the rules of its kind
+abbrev pub is_good_decl : SurfaceDecl → Bool
+is_good_decl d = is_written d && is_good_object (object_of d).kind (object_of d)
+
+abbrev pub are_good_decls : List SurfaceDecl → Bool
+are_good_decls ds = list_all is_written ds && are_good_objects [] (map object_of ds)
+
+-- declarations without their places
+abbrev pub decls_of : List Declared → List SurfaceDecl
+decls_of ds = map (λ d. d.decl) ds
+
 abbrev pub resolved : Surface → Option Tree
 resolved s =
-    when (are_good_objects [] s.objects) (do
-      b ← made_body (record { objects = s.objects; locals = []; scope = [] }) s.body
-      Some (record { objects = s.objects; locals = b.locals; body = b.tree }))
+    let decls = decls_of s.objects in
+    let objects = map object_of decls in
+    when (are_good_decls decls) (do
+      b ← made_body (record { objects = objects; locals = []; scope = [] }) s.body
+      Some (record { objects = objects; locals = b.locals; body = b.tree }))

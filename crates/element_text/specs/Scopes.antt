@@ -2,7 +2,7 @@
 use Rattle.std.specs.Prelude.{ℕ, List, map}
 use Rattle.element_text.specs.declared.scope.KnownLocal.{KnownLocal}
 use Rattle.element_text.specs.declared.scope.Scope.{Scope}
-use Rattle.element_text.specs.Tokens.{spelled}
+use Rattle.element_tokens.specs.Tokens.{spelled}
 use Rattle.element_text.specs.Resolve.{Known, Env}
 
 abbrev pub known_of : List ℕ → KnownLocal → Known

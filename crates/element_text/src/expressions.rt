@@ -2,18 +2,18 @@
 ghost use Rattle.std.specs.Prelude.{◌≡◌, [], ◌∷◌, ◌^◌, ◌&&◌, ◌==◌, IfOk, IfErr, map, length, nat_lt, Some, None, if◌then◌else◌};
 ghost use Rattle.std.specs.Option.{option_map};
 ghost use Rattle.element_lang.specs.Rules as rules;
-ghost use Rattle.element_text.specs.Surface.{surface_expr, surface_exprs};
-ghost use Rattle.element_text.specs.Tokens.{spelled};
+ghost use Rattle.element_grammar.specs.Surface.{surface_expr, surface_exprs};
+ghost use Rattle.element_tokens.specs.Tokens.{spelled};
 ghost use Rattle.element_text.specs.Resolve as resolve;
-ghost use Rattle.element_text.specs.Resolve.{typed_expr, typed_exprs, typed_apply, typed_local, local_in};
+ghost use Rattle.element_text.specs.Resolve.{typed_expr, typed_exprs, typed_apply, typed_byte, typed_shift, typed_local, local_in};
 ghost use Rattle.element_text.specs.Scopes.{known_of};
 ghost use Rattle.element_text.specs.Typed.{typed_of, typed_list_of, literal_of};
 
-use crate::error::TextError;
+use crate::broken::RuleError;
 use crate::scope::{KnownLocal, local_named};
-use crate::surface::SurfaceExpr;
-use crate::token::Span;
+use element_grammar::SurfaceExpr;
 use element_lang::Expr;
+use element_tokens::Span;
 use gal_bits::{Op, Width};
 use packet_fields::width;
 use std::alloc::Global;
@@ -35,6 +35,12 @@ pub(crate) struct TypedExprs {
 // The most bits of a value.
 const MAX_WIDTH: u64 = 64;
 
+// The bits of an index of a byte.
+const INDEX_BITS: u32 = 16;
+
+// The most bits to shift by.
+const MAX_SHIFT: u64 = 63;
+
 /// The width that is written so. There is none of 0 bits, and none above 64.
 pub(crate) fn width_of(bits: u64) -> Option<Width>
     ensures { result ≡ (if rules.is_width bits then Some bits else None) }
@@ -45,24 +51,24 @@ pub(crate) fn width_of(bits: u64) -> Option<Width>
     Width::new(bits as u32)
 }
 
-// Whether a value needs no more bits than these.
-fn fits(value: u64, width: Width) -> bool
-    ensures { result ≡ nat_lt value (2 ^ width) }
+/// Whether a value needs no more bits than these.
+pub(crate) fn fits(value: u64, bits: u64) -> bool
+    ensures { result ≡ nat_lt value (2 ^ bits) }
 {
-    u64::from(width.bits()) == MAX_WIDTH || value >> width.bits() == 0
+    bits >= MAX_WIDTH || value >> bits == 0
 }
 
 // A literal, whose width is tested first.
-fn literal(value: u64, bits: u64) -> Result<TypedExpr, TextError>
+fn literal(value: u64, bits: u64) -> Result<TypedExpr, RuleError>
     ensures ok { IfOk result (λ made. literal_of value bits ≡ Some (typed_of made)) }
-    ensures refused { IfErr result (λ _. literal_of value bits ≡ None) }
+    ensures broken { IfErr result (λ _. literal_of value bits ≡ None) }
 {
     match width_of(bits) {
-        Some(width) if fits(value, width) => Ok(TypedExpr {
+        Some(width) if fits(value, bits) => Ok(TypedExpr {
             expr: Expr::Lit(value, width),
             width,
         }),
-        _ => Err(TextError::Refused),
+        _ => Err(RuleError::Broken),
     }
 }
 
@@ -153,13 +159,13 @@ fn result_width(op: Op, written: u64, widths: &[Width]) -> Option<Width>
 }
 
 // An operator on these arguments.
-fn apply(op: Op, written: u64, args: TypedExprs) -> Result<TypedExpr, TextError>
+fn apply(op: Op, written: u64, args: TypedExprs) -> Result<TypedExpr, RuleError>
     ensures ok { IfOk result (λ made.
         typed_apply op written (typed_list_of args) ≡ Some (typed_of made)) }
-    ensures refused { IfErr result (λ _. typed_apply op written (typed_list_of args) ≡ None) }
+    ensures broken { IfErr result (λ _. typed_apply op written (typed_list_of args) ≡ None) }
 {
     let Some(width) = result_width(op, written, &args.widths) else {
-        return Err(TextError::Refused);
+        return Err(RuleError::Broken);
     };
     Ok(TypedExpr {
         expr: Expr::Apply {
@@ -172,20 +178,56 @@ fn apply(op: Op, written: u64, args: TypedExprs) -> Result<TypedExpr, TextError>
 }
 
 // The local of this name.
-fn local(text: &[u8], known: &[KnownLocal], name: Span) -> Result<TypedExpr, TextError>
+fn local(text: &[u8], known: &[KnownLocal], name: Span) -> Result<TypedExpr, RuleError>
     ensures ok { IfOk result (λ made.
         option_map typed_local (local_in (map (known_of text.now) known.now) (spelled text.now name))
         ≡ Some (typed_of made)) }
-    ensures refused { IfErr result (λ _.
+    ensures broken { IfErr result (λ _.
         option_map typed_local (local_in (map (known_of text.now) known.now) (spelled text.now name))
         ≡ None) }
 {
     let Some(local) = local_named(text, known, name) else {
-        return Err(TextError::Refused);
+        return Err(RuleError::Broken);
     };
     Ok(TypedExpr {
         expr: Expr::Local(local.number),
         width: local.width,
+    })
+}
+
+// A byte of the packet, whose index has 16 bits.
+fn byte(alloc: Global, index: TypedExpr) -> Result<TypedExpr, RuleError>
+    ensures ok { IfOk result (λ made. typed_byte (typed_of index) ≡ Some (typed_of made)) }
+    ensures broken { IfErr result (λ e. e ≡ RuleError.Broken → typed_byte (typed_of index) ≡ None) }
+{
+    let Some(width) = width_of(8) else {
+        return Err(RuleError::Broken);
+    };
+    if index.width.bits() != INDEX_BITS {
+        return Err(RuleError::Broken);
+    }
+    Ok(TypedExpr {
+        expr: Expr::Byte(Box::new(alloc, index.expr)?),
+        width,
+    })
+}
+
+// A shift by at most 63 bits.
+fn shift(alloc: Global, op: Op, by: u64, arg: TypedExpr) -> Result<TypedExpr, RuleError>
+    ensures ok { IfOk result (λ made. typed_shift op by (typed_of arg) ≡ Some (typed_of made)) }
+    ensures broken { IfErr result (λ e. e ≡ RuleError.Broken → typed_shift op by (typed_of arg) ≡ None) }
+{
+    if !matches!(op, Op::Shl | Op::Shr) || by > MAX_SHIFT {
+        return Err(RuleError::Broken);
+    }
+    let width = arg.width;
+    Ok(TypedExpr {
+        expr: Expr::Shift {
+            op,
+            by: by as u8,
+            arg: Box::new(alloc, arg.expr)?,
+        },
+        width,
     })
 }
 
@@ -196,11 +238,11 @@ pub(crate) fn expression(
     text: &[u8],
     known: &[KnownLocal],
     source: &SurfaceExpr,
-) -> Result<TypedExpr, TextError>
+) -> Result<TypedExpr, RuleError>
     ensures ok { IfOk result (λ made.
         typed_expr (map (known_of text.now) known.now) (surface_expr text.now source.now)
         ≡ Some (typed_of made)) }
-    ensures refused { IfErr result (λ e. e ≡ TextError.Refused
+    ensures broken { IfErr result (λ e. e ≡ RuleError.Broken
         → typed_expr (map (known_of text.now) known.now) (surface_expr text.now source.now) ≡ None) }
 {
     match source {
@@ -210,6 +252,14 @@ pub(crate) fn expression(
             expr: Expr::Field(*field),
             width: width(*field),
         }),
+        SurfaceExpr::Byte(index) => {
+            let index = expression(alloc, text, known, index)?;
+            byte(alloc, index)
+        }
+        SurfaceExpr::Shift { op, by, arg } => {
+            let arg = expression(alloc, text, known, arg)?;
+            shift(alloc, *op, *by, arg)
+        }
         SurfaceExpr::Apply { op, width, args } => {
             let args = expressions(alloc, text, known, args)?;
             apply(*op, *width, args)
@@ -224,11 +274,11 @@ pub(crate) fn expressions(
     text: &[u8],
     known: &[KnownLocal],
     source: &[SurfaceExpr],
-) -> Result<TypedExprs, TextError>
+) -> Result<TypedExprs, RuleError>
     ensures ok { IfOk result (λ made.
         typed_exprs (map (known_of text.now) known.now) (surface_exprs text.now source.now)
         ≡ Some (typed_list_of made)) }
-    ensures refused { IfErr result (λ e. e ≡ TextError.Refused
+    ensures broken { IfErr result (λ e. e ≡ RuleError.Broken
         → typed_exprs (map (known_of text.now) known.now) (surface_exprs text.now source.now) ≡ None) }
 {
     let mut exprs = Vec::new(alloc);

@@ -1,17 +1,20 @@
 //! The declared objects, and their rules.
-ghost use Rattle.std.specs.Prelude.{◌≡◌, ◌≤◌, IfOk, IfErr, OnOk, IsTrue, map, length, nat_le, true, false, []};
-ghost use Rattle.std.specs.List.{list_all};
+ghost use Rattle.std.specs.Prelude.{◌≡◌, ◌≤◌, IfOk, IfErr, OnOk, map, length, nat_le, true, false, []};
+ghost use Rattle.std.specs.List.{list_all, list_any};
 ghost use Rattle.element_lang.specs.Rules as rules;
-ghost use Rattle.element_lang.specs.Rules.{sum_of, is_good_map, are_good_objects};
-ghost use Rattle.element_text.specs.Surface.{surface_object};
+ghost use Rattle.element_lang.specs.Rules.{sum_of, same_widths};
+ghost use Rattle.element_lang.specs.Surface.{table_decl, map_decl, vector_decl, int_decl, object_of, row_of};
+ghost use Rattle.element_grammar.specs.Surface.{surface_decl, surface_object, surface_literal, surface_row};
+ghost use Rattle.element_text.specs.Resolve.{is_good_decl, are_good_decls, decls_of, good_numbers, is_good_row, are_good_written_rows};
 
-use crate::error::TextError;
-use crate::scope::{is_object, word_at};
-use crate::surface::SurfaceObject;
+use crate::broken::RuleError;
+use crate::expressions::fits;
+use crate::scope::{is_object, number_of, word_at};
+use element_grammar::{At, Literal, SurfaceDecl, SurfaceRow};
 use element_lang::MAX_ROWS;
-use gal_bits::Widths;
-use gal_io::Bytes;
-use state_store::{Kind, ObjectDecl, Objects, Rows};
+use gal_bits::{Values, Widths};
+use gal_io::{Bytes, NoMemory};
+use state_store::{Kind, ObjectDecl, Objects, Row, Rows};
 use std::alloc::Global;
 
 // The most widths of a key or of a value.
@@ -51,7 +54,8 @@ fn are_all_widths(widths: &[u64]) -> bool
 
 // Whether a key or a value may have numbers of these widths.
 fn are_widths(widths: &[u64]) -> bool
-    ensures { result ≡ rules.are_widths widths.now }
+    ensures value { result ≡ rules.are_widths widths.now }
+    ensures few { result ≡ true → length widths.now ≤ 8 }
 {
     !widths.is_empty()
         && widths.len() <= MAX_WIDTHS
@@ -71,59 +75,258 @@ fn widths_of(source: &[u64]) -> Widths
     widths
 }
 
-// Whether a map keeps its rules.
-fn is_good(source: &SurfaceObject) -> bool
-    ensures value { result ≡ rules.is_good_map (surface_object [] source.now) }
-    ensures few { result ≡ true → (length source.now.keys.items ≤ 8) }
-    ensures little { result ≡ true → (length source.now.values.items ≤ 8) }
-    ensures small { result ≡ true → (source.now.capacity ≤ 1048576) }
+// Whether a map may have room for so many rows, and a vector so many.
+fn is_size(size: u64) -> bool
+    ensures value { result ≡ rules.is_size size }
+    ensures small { result ≡ true → size ≤ 1048576 }
 {
-    are_widths(&source.keys)
-        && are_widths(&source.values)
-        && source.capacity >= 1
-        && source.capacity <= MAX_ROWS as u64
+    1 <= size && size <= MAX_ROWS as u64
 }
 
-// The declaration of a map.
-fn object(alloc: Global, text: &[u8], source: &SurfaceObject) -> Result<ObjectDecl, TextError>
-    ensures ok { IfOk result (λ made. made ≡ surface_object text.now source.now) }
-    ensures good { OnOk result (is_good_map (surface_object text.now source.now) ≡ true) }
-    ensures refused { IfErr result (λ e. e ≡ TextError.Refused
-        → is_good_map (surface_object text.now source.now) ≡ false) }
+// The numbers of a key or a value of a table's row, where they are written with the declared widths and fit them.
+fn numbers_of(literals: &[Literal], widths: &[u64]) -> Option<Values>
+    requires { length widths.now ≤ 8 }
+    ensures { result ≡ good_numbers widths.now (map surface_literal literals.now) }
 {
-    if !is_good(source) {
-        return Err(TextError::Refused);
+    if literals.len() != widths.len() {
+        return None;
     }
-    let name = Bytes::from_slice(alloc, word_at(text, source.name))?;
+    let mut numbers = Values::new();
+    for (i, literal) in literals.iter().enumerate() {
+        if literal.width != widths[i] {
+            return None;
+        }
+        if !fits(literal.value, widths[i]) {
+            return None;
+        }
+        numbers.push(literal.value);
+    }
+    Some(numbers)
+}
+
+// A row of a table.
+fn row(source: &SurfaceRow, keys: &[u64], values: &[u64]) -> Result<Row, RuleError>
+    requires keys { length keys.now ≤ 8 }
+    requires values { length values.now ≤ 8 }
+    ensures ok { IfOk result (λ made. made ≡ row_of (surface_row source.now)) }
+    ensures good { OnOk result (is_good_row keys.now values.now (surface_row source.now) ≡ true) }
+    ensures broken { IfErr result (λ _. is_good_row keys.now values.now (surface_row source.now) ≡ false) }
+{
+    let Some(keys) = numbers_of(&source.keys, keys) else {
+        return Err(RuleError::Broken);
+    };
+    let Some(values) = numbers_of(&source.values, values) else {
+        return Err(RuleError::Broken);
+    };
+    Ok(Row { keys, values })
+}
+
+// Whether a row has this key.
+fn has_key(rows: &[Row], key: &Values) -> bool
+    ensures { result ≡ list_any (λ row. same_widths key.now row.keys) rows.now }
+{
+    for row in rows {
+        if key.as_slice() == row.keys.as_slice() {
+            return true;
+        }
+    }
+    false
+}
+
+// The rows of a table, of which no two have the same key.
+fn rows_of(
+    alloc: Global,
+    source: &[SurfaceRow],
+    keys: &[u64],
+    values: &[u64],
+) -> Result<Rows, RuleError>
+    requires keys { length keys.now ≤ 8 }
+    requires values { length values.now ≤ 8 }
+    ensures ok { IfOk result (λ rows. rows ≡ map row_of (map surface_row source.now)) }
+    ensures good { OnOk result (are_good_written_rows keys.now values.now (map surface_row source.now) ≡ true) }
+    ensures broken { IfErr result (λ e. e ≡ RuleError.Broken
+        → are_good_written_rows keys.now values.now (map surface_row source.now) ≡ false) }
+{
+    let mut rows = Rows::new(alloc);
+    for next in source {
+        let row = row(next, keys, values)?;
+        if has_key(rows.as_slice(), &row.keys) {
+            return Err(RuleError::Broken);
+        }
+        rows.push(row)?;
+    }
+    Ok(rows)
+}
+
+// A declaration of a kind, with no start and no rows.
+fn declaration_of(
+    alloc: Global,
+    name: &[u8],
+    kind: Kind,
+    keys: Widths,
+    values: Widths,
+    size: u32,
+) -> Result<ObjectDecl, NoMemory>
+    ensures { IfOk result (λ made. made
+        ≡ record { name = name.now; kind = kind; keys = keys; values = values; size = size; start = 0; rows = [] }) }
+{
     Ok(ObjectDecl {
-        name,
-        kind: Kind::Map,
-        keys: widths_of(&source.keys),
-        values: widths_of(&source.values),
-        size: source.capacity as u32,
+        name: Bytes::from_slice(alloc, name)?,
+        kind,
+        keys,
+        values,
+        size,
         start: 0,
         rows: Rows::new(alloc),
     })
+}
+
+// A table. Its rows are written with the declared widths.
+#[tactic(auto, using(crate::proofs::GoodDecls::declarations))]
+fn table(
+    alloc: Global,
+    name: &[u8],
+    keys: &[u64],
+    values: &[u64],
+    rows: &[SurfaceRow],
+) -> Result<ObjectDecl, RuleError>
+    ensures ok { IfOk result (λ made. made ≡ object_of (table_decl name.now keys.now values.now (map surface_row rows.now))) }
+    ensures good { OnOk result (is_good_decl (table_decl name.now keys.now values.now (map surface_row rows.now)) ≡ true) }
+    ensures broken { IfErr result (λ e. e ≡ RuleError.Broken
+        → is_good_decl (table_decl name.now keys.now values.now (map surface_row rows.now)) ≡ false) }
+{
+    if !are_widths(keys) || !are_widths(values) {
+        return Err(RuleError::Broken);
+    }
+    let rows = rows_of(alloc, rows, keys, values)?;
+    let size = number_of(rows.len())?;
+    let mut made = declaration_of(
+        alloc,
+        name,
+        Kind::Table,
+        widths_of(keys),
+        widths_of(values),
+        size,
+    )?;
+    made.rows = rows;
+    Ok(made)
+}
+
+// A map.
+#[tactic(auto, using(crate::proofs::GoodDecls::declarations))]
+fn map(
+    alloc: Global,
+    name: &[u8],
+    keys: &[u64],
+    values: &[u64],
+    capacity: u64,
+) -> Result<ObjectDecl, RuleError>
+    ensures ok { IfOk result (λ made. made ≡ object_of (map_decl name.now keys.now values.now capacity)) }
+    ensures good { OnOk result (is_good_decl (map_decl name.now keys.now values.now capacity) ≡ true) }
+    ensures broken { IfErr result (λ e. e ≡ RuleError.Broken
+        → is_good_decl (map_decl name.now keys.now values.now capacity) ≡ false) }
+{
+    if !are_widths(keys) || !are_widths(values) || !is_size(capacity) {
+        return Err(RuleError::Broken);
+    }
+    let size = capacity as u32;
+    Ok(declaration_of(
+        alloc,
+        name,
+        Kind::Map,
+        widths_of(keys),
+        widths_of(values),
+        size,
+    )?)
+}
+
+// A vector. Its keys are indices of 32 bits.
+#[tactic(auto, using(crate::proofs::GoodDecls::declarations))]
+fn vector(alloc: Global, name: &[u8], length: u64, values: &[u64]) -> Result<ObjectDecl, RuleError>
+    ensures ok { IfOk result (λ made. made ≡ object_of (vector_decl name.now length values.now)) }
+    ensures good { OnOk result (is_good_decl (vector_decl name.now length values.now) ≡ true) }
+    ensures broken { IfErr result (λ e. e ≡ RuleError.Broken
+        → is_good_decl (vector_decl name.now length values.now) ≡ false) }
+{
+    if !are_widths(values) || !is_size(length) {
+        return Err(RuleError::Broken);
+    }
+    let size = length as u32;
+    Ok(declaration_of(
+        alloc,
+        name,
+        Kind::Vector,
+        widths_of(&[32]),
+        widths_of(values),
+        size,
+    )?)
+}
+
+// An integer. It has one value, and no key.
+#[tactic(auto, using(crate::proofs::GoodDecls::declarations))]
+fn int(alloc: Global, name: &[u8], bits: u64, start: u64) -> Result<ObjectDecl, RuleError>
+    ensures ok { IfOk result (λ made. made ≡ object_of (int_decl name.now bits start)) }
+    ensures good { OnOk result (is_good_decl (int_decl name.now bits start) ≡ true) }
+    ensures broken { IfErr result (λ e. e ≡ RuleError.Broken
+        → is_good_decl (int_decl name.now bits start) ≡ false) }
+{
+    if !is_width(bits) || !fits(start, bits) {
+        return Err(RuleError::Broken);
+    }
+    let mut made = declaration_of(alloc, name, Kind::Int, Widths::new(), widths_of(&[bits]), 1)?;
+    made.start = start;
+    Ok(made)
+}
+
+// The declaration of an object that keeps the rules of its kind.
+fn object(alloc: Global, text: &[u8], source: &SurfaceDecl) -> Result<ObjectDecl, RuleError>
+    ensures ok { IfOk result (λ made. made ≡ object_of (surface_decl text.now source.now)) }
+    ensures good { OnOk result (is_good_decl (surface_decl text.now source.now) ≡ true) }
+    ensures broken { IfErr result (λ e. e ≡ RuleError.Broken
+        → is_good_decl (surface_decl text.now source.now) ≡ false) }
+{
+    match source {
+        SurfaceDecl::Table {
+            name,
+            keys,
+            values,
+            rows,
+        } => table(alloc, word_at(text, *name), keys, values, rows),
+        SurfaceDecl::Map {
+            name,
+            keys,
+            values,
+            capacity,
+        } => map(alloc, word_at(text, *name), keys, values, *capacity),
+        SurfaceDecl::Vector {
+            name,
+            length,
+            values,
+        } => vector(alloc, word_at(text, *name), *length, values),
+        SurfaceDecl::Int { name, width, start } => {
+            int(alloc, word_at(text, *name), *width, *start)
+        }
+    }
 }
 
 /// The declared objects, each of which keeps its rules and has a name of its own.
 pub(crate) fn objects(
     alloc: Global,
     text: &[u8],
-    source: &[SurfaceObject],
-) -> Result<Objects, TextError>
-    ensures ok { IfOk result (λ made. made ≡ map (surface_object text.now) source.now) }
-    ensures good { OnOk result
-        (IsTrue (are_good_objects [] (map (surface_object text.now) source.now))) }
-    ensures refused { IfErr result (λ e. e ≡ TextError.Refused
-        → are_good_objects [] (map (surface_object text.now) source.now) ≡ false) }
+    source: &[At<SurfaceDecl>],
+) -> Result<Objects, RuleError>
+    ensures ok { IfOk result (λ made. made ≡ map object_of (decls_of (map (surface_object text.now) source.now))) }
+    ensures good { OnOk result (are_good_decls (decls_of (map (surface_object text.now) source.now)) ≡ true) }
+    ensures broken { IfErr result (λ e. e ≡ RuleError.Broken
+        → are_good_decls (decls_of (map (surface_object text.now) source.now)) ≡ false) }
 {
     let mut objects = Objects::new(alloc);
     for next in source {
-        if is_object(objects.as_slice(), word_at(text, next.name)) {
-            return Err(TextError::Refused);
+        let made = object(alloc, text, &next.item)?;
+        if is_object(objects.as_slice(), made.name.as_slice()) {
+            return Err(RuleError::Broken);
         }
-        objects.push(object(alloc, text, next)?)?;
+        objects.push(made)?;
     }
     Ok(objects)
 }

@@ -1,137 +1,133 @@
 //! From a text to a middlebox.
-ghost use Rattle.std.specs.Prelude.{◌≡◌, IfOk, IfErr};
+ghost use Rattle.std.specs.Prelude.{◌≡◌, ◌≢◌, ◌⊎◌, ◌-◌, length, map, IfOk, IfErr, MatchResult};
 ghost use Rattle.element_lang.specs.Tree.{Tree};
 ghost use Rattle.element_lang.specs.View.{tree};
-ghost use Rattle.element_lang.specs.Accepted.{IsSource};
-ghost use Rattle.element_text.specs.Tokens.{tokens_of};
-ghost use Rattle.element_text.specs.Reads.{AreTokensOf};
+ghost use Rattle.element_lang.specs.Accepted as accepted;
+ghost use Rattle.element_lang.specs.Accepted.{IsSource, HasNames};
+ghost use Rattle.element_tokens.specs.Tokens.{placed_of};
+ghost use Rattle.element_grammar.specs.Surface.{surface_tree};
+ghost use Rattle.element_text.specs.declared.error.TextError.{TextError};
+ghost use Rattle.element_text.specs.Refused.{IsRefused};
+ghost use Rattle.element_text.specs.Reads.{IsAnswer, IsMiddlebox, KeepsSizes, IsTooLarge, IsUnbroken, HasOnlyTokens, HasOnlySurface};
 
-use crate::depth::depth;
+use crate::broken::RuleError;
 use crate::error::TextError;
-use crate::grammar::parse;
 use crate::rules::resolve;
-use crate::token::Placed;
-use crate::tokens::tokens;
-use element_lang::{MAX_DEPTH, Middlebox};
+use element_grammar::{ParseError, SurfaceTree, parse};
+use element_lang::{MAX_DEPTH, MAX_ENTRIES, MAX_OBJECTS, MAX_WRITES, Middlebox, What};
+use element_rules::{entries, first_broken, writes};
+use element_tokens::{Placed, depth, tokens};
+use gal_io::NoMemory;
 use std::alloc::Global;
 use std::str;
+
+// The offset of the token behind which so many are left, itself among them. Behind the last one it is the length of the text.
+fn offset_at(text: &[u8], found: &[Placed], left: usize) -> usize
+    ensures { result ≡ accepted.offset_at text.now (map (placed_of text.now) found.now) (length found.now - left) }
+{
+    match found.get(found.len().saturating_sub(left)) {
+        Some(placed) => placed.offset,
+        None => text.len(),
+    }
+}
+
+// A middlebox, where it keeps the sizes.
+fn within_sizes(m: Middlebox) -> Result<Middlebox, TextError>
+    ensures ok { IfOk result (λ kept. (kept ≡ m) × KeepsSizes (tree m)) }
+    ensures err { IfErr result (λ e. IsTooLarge (tree m) e) }
+{
+    let have = entries(&m);
+    if have > MAX_ENTRIES {
+        return Err(TextError::TooLarge {
+            what: What::Entries,
+            have,
+            allowed: MAX_ENTRIES,
+        });
+    }
+    let have = writes(&m);
+    if have > MAX_WRITES {
+        return Err(TextError::TooLarge {
+            what: What::Writes,
+            have,
+            allowed: MAX_WRITES,
+        });
+    }
+    Ok(m)
+}
+
+// The middlebox of a surface tree that breaks no rule.
+fn read_unbroken(alloc: Global, text: &[u8], source: &SurfaceTree) -> Result<Middlebox, TextError>
+    requires { IsUnbroken (surface_tree text.now source.now) }
+    ensures { IsMiddlebox (surface_tree text.now source.now) result }
+{
+    match resolve(alloc, text, source) {
+        Ok(middlebox) => within_sizes(middlebox),
+        Err(RuleError::NoMemory) => Err(TextError::NoMemory),
+        Err(RuleError::Broken) => unreachable!(),
+    }
+}
+
+// The middlebox of a surface tree that the text spells.
+fn read_surface(
+    alloc: Global,
+    text: &[u8],
+    found: &[Placed],
+    source: &SurfaceTree,
+) -> Result<Middlebox, TextError>
+    requires { HasOnlySurface text.now (map (placed_of text.now) found.now) (surface_tree text.now source.now) }
+    ensures { IsAnswer text.now result }
+{
+    let objects = source.objects.len();
+    if objects > MAX_OBJECTS {
+        return Err(TextError::TooLarge {
+            what: What::Objects,
+            have: objects as u64,
+            allowed: MAX_OBJECTS as u64,
+        });
+    }
+    match first_broken(alloc, text, source) {
+        Ok(None) => read_unbroken(alloc, text, source),
+        Ok(Some(broken)) => Err(TextError::Rule {
+            rule: broken.rule,
+            offset: offset_at(text, found, broken.at),
+        }),
+        Err(NoMemory) => Err(TextError::NoMemory),
+    }
+}
 
 // The middlebox that tokens spell. How deep brackets stand in one another is tested before the grammar, whose
 // recursion goes as deep.
 fn read_tokens(alloc: Global, text: &[u8], found: &[Placed]) -> Result<Middlebox, TextError>
-    ensures ok { IfOk result (λ m. AreTokensOf (tokens_of text.now found.now) (tree m)) }
-    ensures only { IfOk result (λ m.
-        (other : Tree) → AreTokensOf (tokens_of text.now found.now) other → other ≡ tree m) }
-    ensures refused { IfErr result (λ e.
-        e ≡ TextError.Refused → (m : Tree) → AreTokensOf (tokens_of text.now found.now) m → ⊥) }
+    requires { HasOnlyTokens text.now (map (placed_of text.now) found.now) }
+    ensures { IsAnswer text.now result }
 {
-    if depth(text, found) > MAX_DEPTH {
-        return Err(TextError::Refused);
+    let deepest = depth(text, found);
+    if deepest > MAX_DEPTH {
+        return Err(TextError::TooLarge {
+            what: What::Depth,
+            have: deepest as u64,
+            allowed: MAX_DEPTH as u64,
+        });
     }
-    let source = parse(alloc, text, found)?;
-    resolve(alloc, text, &source)
+    match parse(alloc, text, found) {
+        Ok(source) => read_surface(alloc, text, found, &source),
+        Err(ParseError::Left(left)) => Err(TextError::Syntax(offset_at(text, found, left))),
+        Err(ParseError::NoMemory) => Err(TextError::NoMemory),
+    }
 }
 
-/// Reads a source. A text is refused that is not UTF-8, has a byte at which no token starts, has more than
-/// `MAX_DEPTH` brackets open at once, is outside the grammar or breaks a rule.
+/// Reads a source. Of several reasons to refuse a text, the first one in the order of `TextError` is answered.
 pub fn read(alloc: Global, text: &[u8]) -> Result<Middlebox, TextError>
     ensures ok { IfOk result (λ m. IsSource text.now (tree m)) }
     ensures only { IfOk result (λ m. (other : Tree) → IsSource text.now other → other ≡ tree m) }
-    ensures refused { result ≡ Err TextError.Refused → (m : Tree) → IsSource text.now m → ⊥ }
+    ensures names { IfOk result (λ m. HasNames (tree m)) }
+    ensures refused { IfErr result (λ e. IsRefused text.now e) }
+    ensures exact { (e : TextError) → e ≢ TextError.NoMemory → IsRefused text.now e
+        → MatchResult result (λ _. ⊥) (λ found. (found ≡ e) ⊎ (found ≡ TextError.NoMemory)) }
+    ensures found { (m : Tree) → IsSource text.now m
+        → MatchResult result (λ found. tree found ≡ m) (λ e. e ≡ TextError.NoMemory) }
 {
     str::from_utf8(text)?;
     let found = tokens(alloc, text)?;
     read_tokens(alloc, text, &found)
-}
-
-#[cfg(test)]
-mod tests {
-    use super::*;
-    use element_lang::{Expr, Stmt};
-    use std::test::Fail;
-
-    // The port that the first statement sends to, if it sends.
-    fn sent(alloc: Global, text: &[u8]) -> Result<Option<u64>, TextError> {
-        let middlebox = read(alloc, text)?;
-        match middlebox.body.as_slice() {
-            [
-                Stmt::Send {
-                    port: Expr::Lit(value, _),
-                },
-                ..
-            ] => Ok(Some(*value)),
-            _ => Ok(None),
-        }
-    }
-
-    // A middlebox whose literal stands in so many brackets.
-    fn in_brackets(alloc: Global, depth: usize) -> Result<Vec<u8>, Fail> {
-        let mut text = Vec::new(alloc);
-        text.extend_from_slice(b"process { send ")?;
-        for _ in 0..depth {
-            text.push(b'(')?;
-        }
-        text.extend_from_slice(b"7:8")?;
-        for _ in 0..depth {
-            text.push(b')')?;
-        }
-        text.extend_from_slice(b"; }")?;
-        Ok(text)
-    }
-
-    #[test]
-    fn reads(rt: HostRuntime) -> Result<(), Fail> {
-        let refused = Err(TextError::Refused);
-        let table: [(&[u8], Result<Option<u64>, TextError>); 32] = [
-            (b"process { drop; }", Ok(None)),
-            (b"process { }", Ok(None)),
-            (b"process{}", Ok(None)),
-            (b"process{send 7:8;}", Ok(Some(7))),
-            (b"process { send ((7:8)); }", Ok(Some(7))),
-            (b"process { send 0xfF:8; }", Ok(Some(255))),
-            (b"process { send 007:0x8; }", Ok(Some(7))),
-            (b"// a port\nprocess { send 3:8; // and out\n}", Ok(Some(3))),
-            (b"process {\r\n\tsend 3:8;\r\n}\r\n", Ok(Some(3))),
-            (b"process{send 7:8;}//", Ok(Some(7))),
-            ("process { send 9:8; } // caf\u{e9}".as_bytes(), Ok(Some(9))),
-            (b"process { drop }", refused),
-            (b"process { send 7:8 }", refused),
-            (b"process { send 256:8; }", refused),
-            (b"process { send 300:8; }", refused),
-            (b"process { send 1:9; }", refused),
-            (b"process { send 1:0; }", refused),
-            (b"process { send 0:64; }", refused),
-            (b"process { send 1:65; }", refused),
-            (b"process { send 1:18446744073709551615; }", refused),
-            (b"process { send 7; }", refused),
-            (b"process { send (7:8; }", refused),
-            (b"process { send 7:8); }", refused),
-            (b"process { drop; drop; }", refused),
-            (b"process { send 7:8; drop; }", refused),
-            (b"process { drop; } drop;", refused),
-            (b"process { drop; ", refused),
-            (b"", refused),
-            (b"process { drop; } // \xff", refused),
-            (b"\xff", refused),
-            (b"vector v : [4] int(8); process { drop; }", refused),
-            (b"drop;", refused),
-        ];
-        for (text, want) in table {
-            assert_eq!(rt; sent(rt.alloc(), text), want, "at {text:?}");
-        }
-        Ok(())
-    }
-
-    #[test]
-    fn counts_brackets(rt: HostRuntime) -> Result<(), Fail> {
-        for (depth, want) in [
-            (63, Ok(Some(7))),
-            (64, Err(TextError::Refused)),
-            (100_000, Err(TextError::Refused)),
-        ] {
-            let text = in_brackets(rt.alloc(), depth)?;
-            assert_eq!(rt; sent(rt.alloc(), &text), want, "in {depth} brackets");
-        }
-        Ok(())
-    }
 }

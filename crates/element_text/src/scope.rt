@@ -3,13 +3,13 @@ ghost use Rattle.std.specs.Prelude.{◌≡◌, ◌+◌, ◌<◌, IfOk, IfErr, ma
 ghost use Rattle.std.specs.List.{list_any};
 ghost use Rattle.std.specs.Str.{bytes_eq};
 ghost use Rattle.std.specs.Option.{option_map};
-ghost use Rattle.element_text.specs.Tokens.{spelled};
+ghost use Rattle.element_tokens.specs.Tokens.{spelled};
 ghost use Rattle.element_text.specs.Resolve.{local_in, object_from, declared};
 ghost use Rattle.element_text.specs.Scopes.{known_of, env_of};
 
-use crate::error::TextError;
-use crate::token::Span;
+use crate::broken::RuleError;
 use element_lang::{Local, Locals};
+use element_tokens::Span;
 use gal_bits::Width;
 use gal_io::Bytes;
 use state_store::{ObjectDecl, Objects};
@@ -59,13 +59,13 @@ pub(crate) fn local_named(text: &[u8], known: &[KnownLocal], name: Span) -> Opti
     None
 }
 
-// A place as a number. There is no memory for more than these.
-fn number_of(place: usize) -> Result<u32, TextError>
+/// A place as a number. There is no memory for more than these.
+pub(crate) fn number_of(place: usize) -> Result<u32, RuleError>
     ensures ok { IfOk result (λ number. number ≡ place) }
-    ensures err { IfErr result (λ e. e ≡ TextError.NoMemory) }
+    ensures err { IfErr result (λ e. e ≡ RuleError.NoMemory) }
 {
     if place > u32::MAX as usize {
-        return Err(TextError::NoMemory);
+        return Err(RuleError::NoMemory);
     }
     Ok(place as u32)
 }
@@ -75,11 +75,11 @@ pub(crate) fn object_named(
     text: &[u8],
     objects: &[ObjectDecl],
     name: Span,
-) -> Result<u32, TextError>
+) -> Result<u32, RuleError>
     ensures ok { IfOk result (λ number.
         object_from 0 objects.now (spelled text.now name) ≡ Some number) }
     ensures within { IfOk result (λ number. number < length objects.now) }
-    ensures refused { IfErr result (λ e. e ≡ TextError.Refused
+    ensures broken { IfErr result (λ e. e ≡ RuleError.Broken
         → object_from 0 objects.now (spelled text.now name) ≡ None) }
 {
     let word = word_at(text, name);
@@ -88,7 +88,7 @@ pub(crate) fn object_named(
             return number_of(i);
         }
     }
-    Err(TextError::Refused)
+    Err(RuleError::Broken)
 }
 
 /// The declaration of an object.
@@ -119,19 +119,19 @@ impl Scope {
         text: &[u8],
         name: Span,
         width: Width,
-    ) -> Result<u32, TextError>
+    ) -> Result<u32, RuleError>
         ensures ok { IfOk result (λ _. declared (env_of text.now self.old) (spelled text.now name) width
             ≡ Some (env_of text.now self.new)) }
         ensures number { IfOk result (λ number. number ≡ length self.old.locals) }
         ensures count { IfOk result (λ _. length self.new.locals ≡ length self.old.locals + 1) }
-        ensures refused { IfErr result (λ e. e ≡ TextError.Refused
+        ensures broken { IfErr result (λ e. e ≡ RuleError.Broken
             → declared (env_of text.now self.old) (spelled text.now name) width ≡ None) }
     {
         let word = word_at(text, name);
         if is_object(self.objects.as_slice(), word)
             || local_named(text, &self.known, name).is_some()
         {
-            return Err(TextError::Refused);
+            return Err(RuleError::Broken);
         }
         let number = number_of(self.locals.len())?;
         let bytes = Bytes::from_slice(alloc, word)?;

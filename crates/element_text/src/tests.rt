@@ -1,242 +1,156 @@
-//! Sources that break one rule each, beside a neighbour that keeps it.
+//! Why texts are refused and where, and how locals are numbered.
 
 use crate::error::TextError;
 use crate::reader::read;
-use element_lang::{Middlebox, Stmt};
+use element_lang::{Middlebox, Stmt, What};
 use std::alloc::Global;
-use std::process::Abort;
 use std::test::Fail;
 
-// A source that is refused, and one that is accepted.
-type Pair = (&'static str, &'static str);
+// Why a text is refused, if it is.
+fn refusal(alloc: Global, text: &[u8]) -> Option<TextError> {
+    read(alloc, text).err()
+}
 
-fn expect(rt: &impl Abort, alloc: Global, pairs: &[Pair]) {
-    for (refused, accepted) in pairs {
-        let read_refused = read(alloc, refused.as_bytes());
-        assert!(rt;
-            matches!(read_refused, Err(TextError::Refused)),
-            "at {refused}"
-        );
-        assert!(rt; read(alloc, accepted.as_bytes()).is_ok(), "at {accepted}");
+// The reason, and where. Each place was found from the grammar.
+#[test]
+fn places_of_refusals(rt: HostRuntime) {
+    use TextError::{NotUtf8, Rule, Syntax, Token};
+    const TABLE: [(&[u8], TextError); 64] = [
+        (b"\xff", NotUtf8(0)),
+        (b"process { drop; } // \xff", NotUtf8(21)),
+        (b"process \xc3\xa9\xc3", NotUtf8(10)),
+        (b"$ \xe2\x82", NotUtf8(2)),
+        (b"\xef\xbb\xbfprocess { }", Token(0)),
+        (b"process\x0c{ }", Token(7)),
+        (b"process { send 1.5; }", Token(16)),
+        (b"process { send 12ab; }", Token(15)),
+        (b"process { send 18446744073709551616:8; }", Token(15)),
+        (b"process { ip.none = 1:8; }", Token(10)),
+        (b"process { if 1:1 > 0:1 { } }", Token(17)),
+        (b"process drop $", Token(13)),
+        (b"// $\nprocess { ! }", Token(15)),
+        (b"process { drop; } caf\xc3\xa9", Token(21)),
+        (b"", Syntax(0)),
+        (b"  // only\n", Syntax(10)),
+        (b"1:8", Syntax(0)),
+        (b"drop;", Syntax(0)),
+        (b"process", Syntax(7)),
+        (b"process { drop; ", Syntax(16)),
+        (b"process { drop }", Syntax(15)),
+        (b"process { drop; } drop;", Syntax(18)),
+        (b"process { drop; } // end\n}", Syntax(25)),
+        (
+            b"process { drop; } map m (8) -> (8) capacity 1;",
+            Syntax(18),
+        ),
+        (b"process { send 7; }", Syntax(16)),
+        (b"process { send 7:8 }", Syntax(19)),
+        (b"process { send (7:8; }", Syntax(19)),
+        (b"process { send 7:8); }", Syntax(18)),
+        (b"process { send 7:8,; }", Syntax(18)),
+        (b"process { send 1:8 + 2:8 + 3:8; }", Syntax(25)),
+        (b"process { send a == b == c; }", Syntax(22)),
+        (b"process { send ~~1:8; }", Syntax(16)),
+        (b"process { send a << b; }", Syntax(20)),
+        (b"process { send m[1:8]; }", Syntax(16)),
+        (b"process { send cast(1:8, 8); }", Syntax(21)),
+        (b"process { send select(1:1, 2:8); }", Syntax(30)),
+        (
+            b"process { send adjust(1:16, 2:16, 3:16, 4:16); }",
+            Syntax(38),
+        ),
+        (b"process { byte(0:16) = 1:8; }", Syntax(10)),
+        (b"process { ip.src == 1:32; }", Syntax(17)),
+        (b"process { let drop = 1:8; }", Syntax(14)),
+        (b"process { let a 1:8; }", Syntax(16)),
+        (b"process { look = m[]; }", Syntax(15)),
+        (b"process { look f, = m[]; }", Syntax(18)),
+        (b"process { look f = [1:8]; }", Syntax(19)),
+        (b"process { put k = m[1:8]; }", Syntax(24)),
+        (b"process { put k = m[] -> ; }", Syntax(25)),
+        (b"process { del d = m; }", Syntax(19)),
+        (b"process { if 1:1 drop; }", Syntax(17)),
+        (b"process { if 1:1 { } else drop; }", Syntax(26)),
+        (b"process { if 1:1 { drop; }", Syntax(26)),
+        (b"process { else { } }", Syntax(10)),
+        (b"process { repeat i { } }", Syntax(19)),
+        (b"process { repeat 4 { } }", Syntax(17)),
+        (b"map m (8) -> (8) capacity 1 process { }", Syntax(28)),
+        (b"map m () -> (8) capacity 1;", Syntax(7)),
+        (b"map m (8) capacity 1;", Syntax(10)),
+        (b"table t (8) -> (8) { (1:8) -> (2:8) }", Syntax(36)),
+        (b"vector v : 4 -> (8);", Syntax(9)),
+        (b"int n : 8 = 1:8;", Syntax(13)),
+        (b"process { send 1:9; drop }", Syntax(25)),
+        (
+            b"process { drop; drop; }",
+            Rule {
+                rule: 14,
+                offset: 16,
+            },
+        ),
+        (
+            b"process { send 1:9; }",
+            Rule {
+                rule: 9,
+                offset: 10,
+            },
+        ),
+        (
+            b"process { a = 1:8; }",
+            Rule {
+                rule: 8,
+                offset: 10,
+            },
+        ),
+        (b"int n : 8 = 256; process { }", Rule { rule: 4, offset: 0 }),
+    ];
+    for (text, want) in TABLE {
+        assert_eq!(rt; refusal(rt.alloc(), text), Some(want), "at {text:?}");
     }
 }
 
-#[test]
-fn declarations(rt: HostRuntime) {
-    const PAIRS: [Pair; 8] = [
-        (
-            "map m (0) -> (8) capacity 1; process { }",
-            "map m (1) -> (8) capacity 1; process { }",
-        ),
-        (
-            "map m (65) -> (8) capacity 1; process { }",
-            "map m (64) -> (8) capacity 1; process { }",
-        ),
-        (
-            "map m (8) -> (0) capacity 1; process { }",
-            "map m (8) -> (1) capacity 1; process { }",
-        ),
-        (
-            "map m (8) -> (65) capacity 1; process { }",
-            "map m (8) -> (64) capacity 1; process { }",
-        ),
-        (
-            "map m (8) -> (4294967304) capacity 1; process { }",
-            "map m (8) -> (8) capacity 1; process { }",
-        ),
-        (
-            "map m (8) -> (8) capacity 0; process { }",
-            "map m (8) -> (8) capacity 1; process { }",
-        ),
-        (
-            "map m (8) -> (8) capacity 1048577; process { }",
-            "map m (8) -> (8) capacity 1048576; process { }",
-        ),
-        (
-            "map m (8) -> (8) capacity 4294967297; process { }",
-            "map m (8) -> (8) capacity 0x1; process { }",
-        ),
-    ];
-    expect(&rt, rt.alloc(), &PAIRS);
+// So many round brackets, and then more.
+fn opened(alloc: Global, front: &[u8], count: usize, more: &[u8]) -> Result<Vec<u8>, Fail> {
+    let mut text = Vec::new(alloc);
+    text.extend_from_slice(front)?;
+    for _ in 0..count {
+        text.push(b'(')?;
+    }
+    text.extend_from_slice(more)?;
+    Ok(text)
 }
 
-#[test]
-fn literals(rt: HostRuntime) {
-    const PAIRS: [Pair; 6] = [
-        ("process { send 256:8; }", "process { send 255:8; }"),
-        ("process { if 2:1 { } }", "process { if 1:1 { } }"),
-        (
-            "process { if 1:0 == 1:0 { } }",
-            "process { if 1:1 == 1:1 { } }",
-        ),
-        (
-            "process { if 1:65 == 1:65 { } }",
-            "process { if 1:64 == 18446744073709551615:64 { } }",
-        ),
-        (
-            "process { if 4294967296:32 == 1:32 { } }",
-            "process { if 4294967295:32 == 1:32 { } }",
-        ),
-        ("process { send 1:4294967304; }", "process { send 1:0x8; }"),
-    ];
-    expect(&rt, rt.alloc(), &PAIRS);
+fn too_deep(have: u64) -> TextError {
+    TextError::TooLarge {
+        what: What::Depth,
+        have,
+        allowed: 64,
+    }
 }
 
+// Brackets count whatever their kind. Too many hide wrong syntax, and are hidden by what is no token.
 #[test]
-fn names(rt: HostRuntime) {
-    const PAIRS: [Pair; 9] = [
-        // no such object, and no such local
-        (
-            "map m (8) -> (8) capacity 1; process { look f, v = n[1:8]; }",
-            "map m (8) -> (8) capacity 1; process { look f, v = m[1:8]; }",
-        ),
-        (
-            "map m (8) -> (8) capacity 1; process { look f, v = m[1:8]; send w; }",
-            "map m (8) -> (8) capacity 1; process { look f, v = m[1:8]; send v; }",
-        ),
-        // an object is no local, and a local no object
-        (
-            "map m (8) -> (8) capacity 1; process { send m; }",
-            "map m (8) -> (8) capacity 1; process { look f, v = m[1:8]; send v; }",
-        ),
-        (
-            "map m (8) -> (8) capacity 1; process { look f, v = m[1:8]; put k = v[1:8] -> 1:8; }",
-            "map m (8) -> (8) capacity 1; process { look f, v = m[1:8]; put k = m[1:8] -> 1:8; }",
-        ),
-        // a name that is taken
-        (
-            "map m (8) -> (8) capacity 1; process { look f, m = m[1:8]; }",
-            "map m (8) -> (8) capacity 1; process { look f, n = m[1:8]; }",
-        ),
-        (
-            "map m (8) -> (8) capacity 1; process { look f, f = m[1:8]; }",
-            "map m (8) -> (8) capacity 1; process { look f, F = m[1:8]; }",
-        ),
-        (
-            "map m (8) -> (8) capacity 1; process { look f, v = m[1:8]; put v = m[1:8] -> 1:8; }",
-            "map m (8) -> (8) capacity 1; process { look f, v = m[1:8]; put w = m[1:8] -> 1:8; }",
-        ),
-        // a local in its own statement
-        (
-            "map m (8) -> (8) capacity 1; process { look f, v = m[v]; }",
-            "map m (8) -> (8) capacity 1; process { look f, v = m[1:8]; look g, w = m[v]; }",
-        ),
-        (
-            "map m (8) -> (1) capacity 1; process { put k = m[1:8] -> k; }",
-            "map m (8) -> (1) capacity 1; process { put k = m[1:8] -> 1:1; put l = m[1:8] -> k; }",
-        ),
+fn open_brackets(rt: HostRuntime) -> Result<(), Fail> {
+    let table: [(&[u8], usize, &[u8], TextError); 8] = [
+        (b"", 64, b"", TextError::Syntax(0)),
+        (b"", 65, b"", too_deep(65)),
+        (b"", 64, b")[", TextError::Syntax(0)),
+        (b"", 64, b"}({", too_deep(65)),
+        (b"]})", 64, b"", TextError::Syntax(0)),
+        (b"{[", 63, b"", too_deep(65)),
+        (b"", 65, b"$", TextError::Token(65)),
+        (b"process { send ", 100_000, b"", too_deep(100_001)),
     ];
-    expect(&rt, rt.alloc(), &PAIRS);
-}
-
-#[test]
-fn scopes(rt: HostRuntime) {
-    const PAIRS: [Pair; 4] = [
-        // behind the block
-        (
-            "map m (8) -> (8) capacity 1; process { if 1:1 { look f, v = m[1:8]; } send v; }",
-            "map m (8) -> (8) capacity 1; process { if 1:1 { look f, v = m[1:8]; send v; } }",
-        ),
-        // in the other block
-        (
-            "map m (8) -> (8) capacity 1; process { if 1:1 { look f, v = m[1:8]; } else { send v; } }",
-            "map m (8) -> (8) capacity 1; process { if 1:1 { } else { look f, v = m[1:8]; send v; } }",
-        ),
-        // again in a block inside, and again behind a block
-        (
-            "map m (8) -> (8) capacity 1; process { look f, v = m[1:8]; if f { look f, w = m[1:8]; } }",
-            "map m (8) -> (8) capacity 1; process { if 1:1 { look f, w = m[1:8]; } look f, v = m[1:8]; }",
-        ),
-        (
-            "map m (8) -> (8) capacity 1; process { look f, v = m[1:8]; if f { } else { put v = m[1:8] -> 1:8; } }",
-            "map m (8) -> (8) capacity 1; process { if 1:1 { look f, v = m[1:8]; } else { put v = m[1:8] -> 1:8; } }",
-        ),
-    ];
-    expect(&rt, rt.alloc(), &PAIRS);
-}
-
-#[test]
-fn widths(rt: HostRuntime) {
-    const PAIRS: [Pair; 8] = [
-        (
-            "map m (48) -> (8) capacity 1; process { look f, v = m[eth.type]; }",
-            "map m (48) -> (8) capacity 1; process { look f, v = m[eth.src]; }",
-        ),
-        (
-            "map m (16) -> (8) capacity 1; process { put k = m[1:17] -> 1:8; }",
-            "map m (16) -> (8) capacity 1; process { put k = m[1:16] -> 1:8; }",
-        ),
-        (
-            "map m (8) -> (9) capacity 1; process { put k = m[1:8] -> meta.port; }",
-            "map m (8) -> (8) capacity 1; process { put k = m[1:8] -> meta.port; }",
-        ),
-        (
-            "map m (8) -> (8) capacity 1; process { look f, v = m[1:8]; send f; }",
-            "map m (8) -> (8) capacity 1; process { look f, v = m[1:8]; send v; }",
-        ),
-        (
-            "process { if meta.port { } }",
-            "process { if meta.port == 1:8 { } }",
-        ),
-        (
-            "process { if meta.len == 1:8 { } }",
-            "process { if meta.len == 1:16 { } }",
-        ),
-        (
-            "process { if (meta.port == 1:8) == 1:8 { } }",
-            "process { if (meta.port == 1:8) == 1:1 { } }",
-        ),
-        ("process { send 1:9; }", "process { send 1:8; }"),
-    ];
-    expect(&rt, rt.alloc(), &PAIRS);
-}
-
-#[test]
-fn fields(rt: HostRuntime) {
-    const PAIRS: [Pair; 5] = [
-        (
-            "process { eth.type = 1:16; }",
-            "process { eth.src = 1:48; }",
-        ),
-        (
-            "process { meta.port = 1:8; }",
-            "process { eth.dst = 1:48; }",
-        ),
-        (
-            "process { meta.len = 1:16; }",
-            "process { eth.dst = eth.src; }",
-        ),
-        ("process { eth.src = 1:47; }", "process { eth.src = 1:48; }"),
-        (
-            "process { eth.src = eth.type; }",
-            "process { eth.src = eth.dst; }",
-        ),
-    ];
-    expect(&rt, rt.alloc(), &PAIRS);
-}
-
-#[test]
-fn statements_behind_an_end(rt: HostRuntime) {
-    const PAIRS: [Pair; 5] = [
-        ("process { drop; drop; }", "process { drop; }"),
-        (
-            "process { send 1:8; if 1:1 { } }",
-            "process { if 1:1 { } send 1:8; }",
-        ),
-        (
-            "process { if 1:1 { drop; } else { send 1:8; } drop; }",
-            "process { if 1:1 { drop; } else { } drop; }",
-        ),
-        (
-            "process { if 1:1 { drop; drop; } }",
-            "process { if 1:1 { drop; } drop; }",
-        ),
-        (
-            "process { if 1:1 { if 1:1 { drop; } else { drop; } } else { drop; } eth.src = 1:48; }",
-            "process { if 1:1 { if 1:1 { drop; } else { drop; } } eth.src = 1:48; }",
-        ),
-    ];
-    expect(&rt, rt.alloc(), &PAIRS);
+    for (front, count, more, want) in table {
+        let text = opened(rt.alloc(), front, count, more)?;
+        assert_eq!(rt;
+            refusal(rt.alloc(), &text),
+            Some(want),
+            "{count} brackets before {more:?}"
+        );
+    }
+    Ok(())
 }
 
 // Whether the middlebox looks up into local 1, stores with local 2, and looks up in a block into local 4.

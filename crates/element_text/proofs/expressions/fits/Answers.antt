@@ -1,9 +1,14 @@
-use Rattle.std.proofs.Common.{◌^◌, nat_lt, ap, ◌∙◌}
+use Rattle.std.proofs.Common.{◌^◌, ◌<◌, ◌≤◌, sym, ◌∙◌, arith}
+use Rattle.std.proofs.lemmas.Bool.{le-leb}
 use Rattle.std.proofs.lemmas.Nat.{pow_pos}
-use Rattle.element_text.proofs.Widths.{quotient_zero}
+use Rattle.element_text.proofs.Widths.{quotient_zero, fits_all}
 use Rattle.element_text.proofs.expressions.fits.Goals as goal
 
-pub returns-else-from-eq-MAX_WIDTH : goal.returns-else-from-eq-MAX_WIDTH
-returns-else-from-eq-MAX_WIDTH c =
-    let bits = c.bits-else-from-eq-MAX_WIDTH.result in
-    quotient_zero c.args.value (2 ^ bits) (pow_pos bits) ∙ ap (λ w. nat_lt c.args.value (2 ^ w)) c.bits-else-from-eq-MAX_WIDTH.ensures.value
+pub returns-then-bits-ge-MAX_WIDTH : goal.returns-then-bits-ge-MAX_WIDTH
+returns-then-bits-ge-MAX_WIDTH c =
+    let small : c.args.value < 2 ^ 64 = omega arith in
+    let many : 64 ≤ c.args.bits = omega arith in
+    le-leb 64 c.args.bits many ∙ sym (fits_all c.args.value c.args.bits small many)
+
+pub returns-else-bits-ge-MAX_WIDTH : goal.returns-else-bits-ge-MAX_WIDTH
+returns-else-bits-ge-MAX_WIDTH c = quotient_zero c.args.value (2 ^ c.args.bits) (pow_pos c.args.bits)

@@ -1,5 +1,5 @@
 use Rattle.std.proofs.Common.{◌≡◌, drop, map}
-use Rattle.element_text.specs.Tokens.{spelled}
+use Rattle.element_tokens.specs.Tokens.{spelled}
 use Rattle.element_text.specs.Resolve.{local_in}
 use Rattle.element_text.specs.Scopes.{known_of}
 use Rattle.element_text.proofs.scope.local_named.Given as goal

@@ -1,5 +1,5 @@
 use Rattle.std.proofs.Common.{◌≡◌, drop}
-use Rattle.element_text.specs.Tokens.{spelled}
+use Rattle.element_tokens.specs.Tokens.{spelled}
 use Rattle.element_text.specs.Resolve.{object_from}
 use Rattle.element_text.proofs.scope.object_named.Given as goal
 

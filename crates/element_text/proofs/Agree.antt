@@ -1,0 +1,88 @@
+-- A source has a middlebox exactly where none of its declarations and statements breaks a rule.
+use Rattle.std.proofs.Common.{◌≡◌, Bool, true, false, not, ◌&&◌, List, [], ◌∷◌, map, Option, Some, None, is_some, is_none, option_and_then, refl, sym, ap, ap₂, ◌∙◌}
+use Rattle.std.specs.List.{list_all}
+use Rattle.std.proofs.lemmas.Bool.{and_parts, false≢true}
+use Rattle.state_store.specs.declared.object.ObjectDecl.{ObjectDecl}
+use Rattle.element_lang.specs.declared.broken.Broken.{Broken}
+use Rattle.element_lang.specs.Token.{Token}
+use Rattle.element_lang.specs.Tree.{Tree}
+use Rattle.element_lang.specs.Rules.{are_good_objects}
+use Rattle.element_lang.specs.Surface.{Declared, Surface, object_of}
+use Rattle.element_lang.specs.Grammar.{Spells}
+use Rattle.element_lang.specs.Broken.{broken_in, broken_decl, first_broken}
+use Rattle.element_text.specs.Resolve.{Env, MadeBody, made_body, is_written, are_good_decls, decls_of, resolved}
+use Rattle.element_text.proofs.Agreeing.{and_true, agrees_some, agrees_bound, agrees_when}
+use Rattle.element_text.proofs.AgreeingScopes.{Seen}
+use Rattle.element_text.proofs.AgreeingStmts.{sight_of}
+use Rattle.element_text.proofs.AgreeingSights.{none_or}
+use Rattle.element_text.proofs.AgreeingBodies.{odd_body, BodyFollows, body_agrees}
+use Rattle.element_text.proofs.AgreeingDecls.{decls_agree, good_have_values}
+use Rattle.element_text.proofs.AgreeingSpells.{spelled_plain}
+
+objects_same : (ds : List Declared) → map object_of (decls_of ds) ≡ map (λ d. object_of d.decl) ds
+objects_same [] = refl
+objects_same (d ∷ ds) = ap (λ os. object_of d.decl ∷ os) (objects_same ds)
+
+-- before any statement
+seen_first : (objects : List ObjectDecl) → are_good_objects [] objects ≡ true → Seen objects [] (record { objects = objects; locals = []; scope = [] })
+seen_first objects e = record {
+  same_objects = refl;
+  in_scope = record { same = refl; wide = refl };
+  values = good_have_values [] objects e;
+}
+
+all_tests : (g b x : Bool) → (g && ((b && not x) && true)) ≡ ((g && b) && not x)
+all_tests false b x = refl
+all_tests true false x = refl
+all_tests true true true = refl
+all_tests true true false = refl
+
+-- There is a middlebox exactly where no rule is broken. A tree that no source spells may have an odd expression, of which
+-- the rules say nothing, and then has none either.
+pub resolved_same : (s : Surface) → is_some (resolved s) ≡ (is_none (first_broken s) && not (odd_body s.body))
+resolved_same s =
+    let decls = decls_of s.objects in
+    let objects = map object_of decls in
+    let env : Env = record { objects = objects; locals = []; scope = [] } in
+    let good = are_good_decls decls in
+    let b = is_none (broken_in (sight_of objects []) s.body) in
+    let x = odd_body s.body in
+    let Q : Tree → Type 0 = λ m. Unit {0} in
+    let made : MadeBody → Tree = λ r. record { objects = objects; locals = r.locals; body = r.tree } in
+    let h = agrees_when good ((b && not x) && true) (option_and_then (λ r. Some (made r)) (made_body env s.body)) Q (λ e.
+    let parts = and_parts (list_all is_written decls) (are_good_objects [] objects) e in
+    agrees_bound (made_body env s.body) (λ r. Some (made r)) (b && not x) true (BodyFollows s.body) Q
+    (body_agrees objects [] env (seen_first objects parts.1) s.body) (λ r f.
+    agrees_some (made r) Q tt)) in
+    h.same
+    ∙ all_tests good b x
+    ∙ ap₂ (λ v os. (v && is_none (broken_in (sight_of os []) s.body)) && not x) (sym (decls_agree s.objects)) (objects_same s.objects)
+    ∙ ap (λ v. v && not x) (sym (none_or (broken_decl [] s.objects) (broken_in (sight_of (map (λ (d : Declared). object_of d.decl) s.objects) []) s.body)))
+
+-- of what a source spells
+pub spelled_same : (ts : List Token) (s : Surface) → Spells ts s → is_some (resolved s) ≡ is_none (first_broken s)
+spelled_same ts s spells = resolved_same s ∙ ap (λ x. is_none (first_broken s) && not x) (spelled_plain ts s spells) ∙ and_true (is_none (first_broken s))
+
+there : {A : Type 0} (o : Option A) → is_some o ≡ true → (x : A) × (o ≡ Some x)
+there None e = absurd (false≢true e)
+there (Some x) e = (x, refl)
+
+absent : {A : Type 0} (o : Option A) → is_some o ≡ false → o ≡ None
+absent None e = refl
+absent (Some x) e = absurd (false≢true (sym e))
+
+-- a source that breaks no rule has a middlebox
+pub unbroken : (ts : List Token) (s : Surface) → Spells ts s → first_broken s ≡ None → (m : Tree) × (resolved s ≡ Some m)
+unbroken ts s spells e = there (resolved s) (spelled_same ts s spells ∙ ap is_none e)
+
+-- and one that breaks a rule has none
+pub broken : (s : Surface) (b : Broken) → first_broken s ≡ Some b → resolved s ≡ None
+broken s b e = absent (resolved s) (resolved_same s ∙ ap (λ o. is_none o && not (odd_body s.body)) e)
+
+-- so a source with no middlebox breaks one
+pub refused : (ts : List Token) (s : Surface) → Spells ts s → resolved s ≡ None → (b : Broken) × (first_broken s ≡ Some b)
+refused ts s spells e = some_of (first_broken s) (sym (spelled_same ts s spells) ∙ ap is_some e)
+  where
+    some_of : (o : Option Broken) → is_none o ≡ false → (b : Broken) × (o ≡ Some b)
+    some_of None e = absurd (false≢true (sym e))
+    some_of (Some b) e = (b, refl)

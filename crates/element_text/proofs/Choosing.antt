@@ -1,0 +1,48 @@
+-- When a choice between two bodies has numbers, and why it has none.
+use Rattle.std.proofs.Common.{Vec, Global, ◌≡◌, ℕ, List, Option, Some, None, sym, ap, ◌∙◌}
+use Rattle.element_lang.specs.Tree as trees
+use Rattle.element_lang.specs.Tree.{ExprTree, BodyTree, StmtTree}
+use Rattle.element_lang.specs.Surface as surface
+use Rattle.element_grammar.specs.declared.surface.At.{At}
+use Rattle.element_grammar.specs.declared.surface.SurfaceExpr.{SurfaceExpr}
+use Rattle.element_grammar.specs.declared.surface.SurfaceStmt.{SurfaceStmt, fold-roll-SurfaceStmt}
+use Rattle.element_grammar.specs.declared.surface.SurfaceStmt.TheVariants.{If, rolls-If}
+use Rattle.element_grammar.specs.declared.surface.SurfaceStmt.TheOpen.{SurfaceStmt-F}
+use Rattle.element_grammar.specs.Surface.{surface_expr, surface_body, stmt_step, surface_stmt}
+use Rattle.element_text.specs.Resolve.{Env, Made, MadeBody, with_locals, made_condition, made_stmt, made_body}
+use Rattle.element_text.proofs.Optional.{bound_is}
+use Rattle.element_text.proofs.Chains.{chain_nothing}
+
+-- the choice that a source spells, of the bodies that were read
+pub choice_read : (text : List ℕ) (cond : SurfaceExpr) (left right : Vec (At SurfaceStmt) Global) {first second : List (At SurfaceStmt)}
+    → first ≡ left.items → second ≡ right.items
+    → surface_stmt text (If cond left right) ≡ surface.choose (surface_expr text cond) (surface_body text first) (surface_body text second)
+choice_read text cond left right {first = first} {second = second} first_is second_is =
+    ap (surface_stmt text) (sym (rolls-If cond left right)) ∙ fold-roll-SurfaceStmt surface.SurfaceStmt (stmt_step text) (SurfaceStmt-F.If cond left right)
+    ∙ ap (λ l. surface.choose (surface_expr text cond) (surface_body text l) (surface_body text right.items)) (sym first_is)
+    ∙ ap (λ l. surface.choose (surface_expr text cond) (surface_body text first) (surface_body text l)) (sym second_is)
+
+module _ (env : Env) (cond : surface.SurfaceExpr) (first second : surface.SurfaceBody) (c : ExprTree) (tested : made_condition env cond ≡ Some c) where
+  -- the first body has none
+  pub choice_no_first : made_body env first ≡ None → made_stmt env (surface.choose cond first second) ≡ None
+  choice_no_first none = bound_is (made_condition env cond) _ c None tested (chain_nothing (made_body env first) _ none)
+
+  -- the second has none
+  pub choice_no_second : (next : Env) (a : MadeBody) → made_body env first ≡ Some a → next ≡ with_locals env a.locals → made_body next second ≡ None
+      → made_stmt env (surface.choose cond first second) ≡ None
+  choice_no_second next a made is none =
+      let behind : made_body (with_locals env a.locals) second ≡ None = ap (λ n. made_body n second) (sym is) ∙ none in
+      bound_is (made_condition env cond) _ c None tested
+      (bound_is (made_body env first) _ a None made (chain_nothing (made_body (with_locals env a.locals) second) _ behind))
+
+  -- both have some
+  pub choice_made : (next last : Env) (a b : MadeBody) (s : StmtTree) → made_body env first ≡ Some a → next ≡ with_locals env a.locals
+      → made_body next second ≡ Some b → last ≡ with_locals next b.locals → s ≡ trees.choose c a.tree b.tree
+      → made_stmt env (surface.choose cond first second) ≡ Some (record { tree = s; env = last })
+  choice_made next last a b s made is made_second last_is s_is =
+      let behind : made_body (with_locals env a.locals) second ≡ Some b = ap (λ n. made_body n second) (sym is) ∙ made_second in
+      let P : StmtTree → Env → Option Made = λ t n. Some (record { tree = t; env = n }) in
+      let all : P (trees.choose c a.tree b.tree) (with_locals env b.locals) ≡ P s last =
+      ap (λ t. P t (with_locals env b.locals)) (sym s_is) ∙ ap (λ n. P s (with_locals n b.locals)) (sym is) ∙ ap (P s) (sym last_is) in
+      bound_is (made_condition env cond) _ c (P s last) tested
+      (bound_is (made_body env first) _ a (P s last) made (bound_is (made_body (with_locals env a.locals) second) _ b (P s last) behind all))

@@ -1,5 +1,0 @@
-use Rattle.element_text.proofs.Depths.{Deep}
-use Rattle.element_text.proofs.depth.depth.Given as goal
-
-abbrev pub invariant-loop-placed : goal.invariant-loop-placed
-invariant-loop-placed l = Deep l.text l.tokens l.placed-index l.current l.most
