@@ -1,0 +1,29 @@
+-- What a printed text is read back as.
+use Rattle.std.specs.Prelude.{◌≡◌, ◌≤◌, ℕ, List, length}
+use Rattle.element_lang.specs.declared.sizes.TheConstants.{MAX_DEPTH, MAX_OBJECTS, MAX_ENTRIES, MAX_WRITES}
+use Rattle.element_lang.specs.Token.{Token, Placed, AreTokens}
+use Rattle.element_lang.specs.Tree.{Tree}
+use Rattle.element_lang.specs.Surface.{Surface, unplaced, named}
+use Rattle.element_lang.specs.Grammar.{Spells}
+use Rattle.element_lang.specs.Sizes.{entries, writes}
+use Rattle.element_lang.specs.Accepted.{plain, deepest}
+use Rattle.element_print.specs.Printed.{print_tokens}
+
+-- the text has exactly these tokens
+pub record HasExactly (text : List ℕ) (ts : List Token) : Type 0 where
+  pub placed : List Placed
+  pub tokens : AreTokens text placed
+  pub plain : plain placed ≡ ts
+
+-- the tokens spell the middlebox with its names put back
+pub record IsSpelled (ts : List Token) (m : Tree) : Type 0 where
+  pub surface : Surface
+  pub spells : Spells ts surface
+  pub named : unplaced surface ≡ named m
+
+-- the middlebox keeps the sizes of a source, and so does its text as to open brackets
+pub record IsWithinSizes (m : Tree) : Type 0 where
+  pub depth : deepest 0 (print_tokens (named m)) ≤ MAX_DEPTH
+  pub objects : length m.objects ≤ MAX_OBJECTS
+  pub entries : entries m ≤ MAX_ENTRIES
+  pub writes : writes m ≤ MAX_WRITES

@@ -1,0 +1,14 @@
+//! Middleboxes as texts.
+#![tactic(auto)]
+
+mod decl;
+mod expr;
+mod middlebox;
+mod place;
+mod stmt;
+#[cfg(test)]
+mod tests;
+mod tokens;
+
+pub use middlebox::print;
+pub use place::Place;
