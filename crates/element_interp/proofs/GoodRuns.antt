@@ -10,7 +10,7 @@ use Rattle.std.proofs.lemmas.Bool.{leb-true, eqb-true}
 use Rattle.element_lang.specs.Tree.{ExprTree, Exprs, StmtTree, BodyTree, Tree}
 use Rattle.element_lang.specs.Tree.ExprTree.{lit, local, field, byte, shift, apply}
 use Rattle.element_lang.specs.Tree.Exprs.{no_expr, expr}
-use Rattle.element_lang.specs.Tree.StmtTree.{set_field, look, put, choose, send, drop}
+use Rattle.element_lang.specs.Tree.StmtTree.{let_local, assign, set_field, look, put, del, choose, repeat, send, drop}
 use Rattle.element_lang.specs.Tree.BodyTree.{done, stmt}
 use Rattle.element_lang.specs.Widths.{local_widths}
 use Rattle.element_lang.specs.Rules.{count_of, widths_of, same_widths, fits_operator, is_shift, is_good_expr, are_good_exprs, is_good_stmt, is_good_body, is_good, fits_keys, fits_values, are_widths, is_good_object, are_good_objects, declared_in, declared_by, binds}
@@ -114,12 +114,21 @@ short_widths : (ws : List ℕ) → are_widths ws ≡ true → length ws ≤ 8
 short_widths ws h = leb-true (length ws) 8 (right _ (nat_le (length ws) 8) (left _ _ (left _ _ h)))
 
 short_object : (kind : Kind) (o : ObjectDecl) → is_good_object kind o ≡ true → IsShort o
-short_object Map o h =
-    let widths = left _ _ (left _ _ (left _ _ (left _ _ h))) in
+short_object Table o h =
+    let widths = left _ _ (left _ _ (left _ _ h)) in
     record { keys = short_widths o.keys (left (are_widths o.keys) _ widths); values = short_widths o.values (right _ (are_widths o.values) widths) }
-short_object Table o h = absurd (true≢false (sym h))
-short_object Vector o h = absurd (true≢false (sym h))
-short_object Int o h = absurd (true≢false (sym h))
+short_object Map o h =
+    let widths = left _ _ (left _ _ (left _ _ h)) in
+    record { keys = short_widths o.keys (left (are_widths o.keys) _ widths); values = short_widths o.values (right _ (are_widths o.values) widths) }
+short_object Vector o h =
+    let widths = left _ _ (left _ _ (left _ _ h)) in
+    let one = same_length o.keys (32 ∷ []) (left (same_widths o.keys (32 ∷ [])) _ widths) in
+    record { keys = omega arith; values = short_widths o.values (right _ (are_widths o.values) widths) }
+short_object Int o h =
+    let widths = left _ _ (left _ _ (left _ _ (left _ _ h))) in
+    let none = eqb-true (length o.keys) 0 (left (length o.keys == 0) _ widths) in
+    let one = same_length o.values (slice_index o.values 0 ∷ []) (right _ (same_widths o.values (slice_index o.values 0 ∷ [])) widths) in
+    record { keys = omega arith; values = omega arith }
 
 short_objects : (names : List (List ℕ)) (os : List ObjectDecl) (n : ℕ) (o : ObjectDecl) → are_good_objects names os ≡ true → slice_get os n ≡ Some o → IsShort o
 short_objects names [] n o h got = cc
@@ -151,6 +160,8 @@ few_values m n widths es good fits = by_option (slice_get m.objects n) refl fits
 
 mutual
   good_stmt : (m : Tree) (scope : List ℕ) (next : ℕ) (s : StmtTree) → are_good_objects [] m.objects ≡ true → is_good_stmt m scope next s ≡ true → IsRunnableStmt s
+  good_stmt m scope next (let_local x value) good h = good_expr (local_widths m) scope value (left _ _ (left _ _ (left _ _ h)))
+  good_stmt m scope next (assign x value) good h = good_expr (local_widths m) scope value (left _ _ (left _ _ h))
   good_stmt m scope next (set_field f value) good h = good_expr (local_widths m) scope value (left _ _ (left _ _ h))
   good_stmt m scope next (look found into object keys) good h =
       let first = left _ _ (left _ _ (left _ _ (left _ _ h))) in
@@ -165,9 +176,13 @@ mutual
         few_values m object (local_widths m) values good (right _ _ five),
         good_exprs (local_widths m) scope values (right _ _ two),
       )
+  good_stmt m scope next (del was object keys) good h =
+      let three = left _ _ (left _ _ (left _ _ h)) in
+      (few_of m object (local_widths m) keys good (right _ _ three), good_exprs (local_widths m) scope keys (left _ _ (left _ _ three)))
   good_stmt m scope next (choose cond first second) good h =
       let three = left _ _ h in
       (good_expr (local_widths m) scope cond (left _ _ (left _ _ three)), good_body m scope next first good (right _ _ three), good_body m scope (next + declared_by first) second good (right _ _ h))
+  good_stmt m scope next (repeat index count body) good h = good_body m (index ∷ scope) (next + 1) body good (right _ _ h)
   good_stmt m scope next (send port) good h = good_expr (local_widths m) scope port (left _ _ h)
   good_stmt m scope next drop good h = tt
 

@@ -1,7 +1,7 @@
 -- A run of a middlebox that keeps the rules leaves a store that keeps what was declared.
-use Rattle.std.proofs.Common.{◌≡◌, ◌≤◌, ◌<◌, ◌+◌, ◌^◌, ◌==◌, ℕ, suc, Bool, true, false, cond, not, ◌&&◌, List, [], ◌∷◌, ◌++◌, length, map, replicate, Option, Some, None, is_some, unwrap_or, slice_get, slice_index, slice_set, refl, sym, subst, arith, lit<, true≢false}
+use Rattle.std.proofs.Common.{◌≡◌, ◌≤◌, ◌<◌, ◌+◌, ◌^◌, ◌==◌, ℕ, zero, suc, Bool, true, false, cond, not, ◌&&◌, List, [], ◌∷◌, ◌++◌, length, nat_le, map, replicate, Option, Some, None, is_some, unwrap_or, slice_get, slice_index, slice_set, refl, sym, subst, arith, lit<, true≢false}
 use Rattle.std.specs.List.{All}
-use Rattle.std.proofs.lemmas.Bool.{cond_both, eqb-true, ltb-true}
+use Rattle.std.proofs.lemmas.Bool.{cond_both, eqb-true, leb-true, ltb-true}
 use Rattle.std.proofs.lemmas.List.Elements.{All-head, All-tail}
 use Rattle.packet_fields.specs.declared.packet.Packet.{Packet}
 use Rattle.state_store.specs.declared.object.ObjectDecl.{ObjectDecl}
@@ -11,16 +11,18 @@ use Rattle.state_store.specs.Store as store
 use Rattle.element_lang.specs.Tree.{ExprTree, Exprs, StmtTree, BodyTree, Tree}
 use Rattle.element_lang.specs.Tree.ExprTree.{lit, local, field, byte, shift, apply}
 use Rattle.element_lang.specs.Tree.Exprs.{no_expr, expr}
-use Rattle.element_lang.specs.Tree.StmtTree.{set_field, look, put, choose, send, drop}
+use Rattle.element_lang.specs.Tree.StmtTree.{let_local, assign, set_field, look, put, del, choose, repeat, send, drop}
 use Rattle.element_lang.specs.Tree.BodyTree.{done, stmt}
 use Rattle.element_lang.specs.Widths.{local_widths, width_of}
-use Rattle.element_lang.specs.Rules.{widths_of, same_widths, is_good_expr, are_good_exprs, is_good_stmt, is_good_body, is_good, fits_keys, fits_values, can_put, is_table, declared_in, declared_by, binds}
-use Rattle.element_lang.specs.Meaning.{State, Outcome, Running, Ended, then_do, bit, bind_from, value_of, values_of, looked, stored, do_stmt, do_body, start_state, store_after, source_store, serial_store}
+use Rattle.state_store.specs.Kinds.{is_table}
+use Rattle.element_lang.specs.Rules.{widths_of, same_widths, is_good_expr, are_good_exprs, is_good_stmt, is_good_body, is_good, fits_keys, fits_values, can_put, can_del, is_count, declared_in, declared_by, binds}
+use Rattle.element_lang.specs.Meaning.{State, Outcome, Running, Ended, then_do, bit, bind_from, value_of, values_of, looked, stored, bound, deleted, turns, do_stmt, do_body, start_state, store_after, source_store, serial_store}
 use Rattle.element_interp.specs.Arrivals.{IsArrival}
 use Rattle.element_interp.specs.Fields.{AllFit}
-use Rattle.element_interp.proofs.KeptObjects.{start_is_kept, put_is_kept}
+use Rattle.element_interp.proofs.KeptObjects.{start_is_kept, put_is_kept, del_is_kept}
 use Rattle.element_interp.proofs.Tests.{left, right}
 use Rattle.element_interp.proofs.Values.{AtWidths, at_widths, one_width, same_list, at_place, zero_at, operator_fits, fields_fit, field_assigned}
+use Rattle.packet_fields.specs.declared.packet.TheConstants.{MAX_PACKET_BYTES}
 
 -- the variables of a run fit what was declared of them
 record Fits (m : Tree) (s : State) : Type 0 where
@@ -130,8 +132,44 @@ put_fits m ok object key_widths value_widths key values s fits keys_fit values_f
       store = put_is_kept m.objects s.store object d key values is (not_true (is_table d.kind) may) (as_declared key_widths d.keys key keys_are keys_fit) (as_declared value_widths d.values values values_are values_fit) fits.store;
     }
 
+del_fits : (m : Tree) (was object : ℕ) (key : List ℕ) (s : State) → Fits m s → can_del (slice_get m.objects object) ≡ true → (slice_index (local_widths m) was == 1) ≡ true → Fits m (deleted was object key s)
+del_fits m was object key s fits may one = by_option (slice_get m.objects object) refl may
+  where
+    by_option : (is : Option ObjectDecl) → slice_get m.objects object ≡ is → can_del is ≡ true → Fits m (deleted was object key s)
+    by_option None is may = absurd (true≢false (sym may))
+    by_option (Some d) is may = record {
+      locals = bit_set (local_widths m) s.locals was _ fits.locals one;
+      fields = fits.fields;
+      store = del_is_kept m.objects s.store object d key is may fits.store;
+    }
+
+-- a value that fits a local
+bound_fits : (m : Tree) (x value : ℕ) (s : State) → Fits m s → value < 2 ^ slice_index (local_widths m) x → Fits m (bound x value s)
+bound_fits m x value s fits small = record { locals = local_set (local_widths m) s.locals x value fits.locals small; fields = fits.fields; store = fits.store }
+
+-- the value of an expression that is as wide as a local
+value_bound : (m : Tree) (packet : Packet) (scope : List ℕ) (s : State) → IsArrival packet → Fits m s → (x : ℕ) (e : ExprTree) → is_good_expr (local_widths m) scope e ≡ true
+    → (slice_index (local_widths m) x == width_of (local_widths m) e) ≡ true → Fits m (bound x (value_of (local_widths m) packet e s) s)
+value_bound m packet scope s arrives fits x e good wide =
+    bound_fits m x (value_of (local_widths m) packet e s) s fits
+    (subst (λ w. value_of (local_widths m) packet e s < 2 ^ w) (sym (eqb-true (slice_index (local_widths m) x) (width_of (local_widths m) e) wide)) (value_fits m packet scope s arrives fits e good))
+
+-- turns whose numbers are below 64
+turns_fit : (m : Tree) (x : ℕ) (go : State → Outcome) → slice_index (local_widths m) x ≡ 32 → ((s : State) → Fits m s → FitsOutcome m (go s))
+    → (n i : ℕ) (s : State) → i + n ≤ 64 → Fits m s → FitsOutcome m (turns n i x go s)
+turns_fit m x go wide goes zero i s few fits = fits
+turns_fit m x go wide goes (suc n) i s few fits =
+    let small : i < 2 ^ 32 = omega arith in
+    then_fits m (go (bound x i s)) (turns n (suc i) x go) (goes (bound x i s) (bound_fits m x i s fits (subst (λ w. i < 2 ^ w) (sym wide) small)))
+    (λ after ok. turns_fit m x go wide goes n (suc i) after (omega arith) ok)
+
 mutual
   stmt_fits : (m : Tree) (packet : Packet) (scope : List ℕ) (next : ℕ) (t : StmtTree) (s : State) → IsArrival packet → Fits m s → is_good_stmt m scope next t ≡ true → FitsOutcome m (do_stmt (local_widths m) packet t s)
+  stmt_fits m packet scope next (let_local x value) s arrives fits h =
+      let two = left _ _ (left _ _ h) in
+      value_bound m packet scope s arrives fits x value (left _ _ two) (right _ _ two)
+  stmt_fits m packet scope next (assign x value) s arrives fits h =
+      value_bound m packet scope s arrives fits x value (left _ _ (left _ _ h)) (right _ _ h)
   stmt_fits m packet scope next (set_field f value) s arrives fits h =
       record { locals = fits.locals; fields = field_assigned f (value_of (local_widths m) packet value s) s.fields fits.fields; store = fits.store }
   stmt_fits m packet scope next (look found into object keys) s arrives fits h =
@@ -146,10 +184,19 @@ mutual
       put_fits m ok object (widths_of (local_widths m) keys) (widths_of (local_widths m) values) (values_of (local_widths m) packet keys s) (values_of (local_widths m) packet values s) s fits
       (values_fit m packet scope s arrives fits keys (left _ _ two)) (values_fit m packet scope s arrives fits values (right _ _ two))
       (right _ _ three) (right _ _ four) (right _ _ five) (right _ _ six)
+  stmt_fits m packet scope next (del was object keys) s arrives fits h =
+      let four = left _ _ (left _ _ h) in
+      del_fits m was object (values_of (local_widths m) packet keys s) s fits (right _ _ (left _ _ (left _ _ four))) (right _ _ four)
   stmt_fits m packet scope next (choose cond first second) s arrives fits h =
       cond_both (value_of (local_widths m) packet cond s == 0) (do_body (local_widths m) packet second s) (do_body (local_widths m) packet first s) (FitsOutcome m)
       (λ _. body_fits m packet scope (next + declared_by first) second s arrives fits (right _ _ h))
       (λ _. body_fits m packet scope next first s arrives fits (right _ _ (left _ _ h)))
+  stmt_fits m packet scope next (repeat index count body) s arrives fits h =
+      let four = left _ _ (left _ _ (left _ _ h)) in
+      let times = left (is_count count) _ (left _ _ (left _ _ four)) in
+      let few : count ≤ 64 = leb-true count 64 (right _ (nat_le count 64) times) in
+      turns_fit m index (do_body (local_widths m) packet body) (eqb-true (slice_index (local_widths m) index) 32 (right _ _ four))
+      (λ after ok. body_fits m packet (index ∷ scope) (next + 1) body after arrives ok (right _ _ h)) count 0 s (omega arith) fits
   stmt_fits m packet scope next (send port) s arrives fits h = fits.store
   stmt_fits m packet scope next drop s arrives fits h = fits.store
 
@@ -183,7 +230,7 @@ pub serials_kept : (m : Tree) (packets : List Packet) → is_good m ≡ true →
 serials_kept m packets h arrive = serial_kept m (start_store m.objects) packets h arrive (starts_kept m h)
 
 -- a store that a packet of bytes leaves
-pub run_kept : (m : Tree) (before after : Store) (port : ℕ) (bytes : List ℕ) → is_good m ≡ true → port < 2 ^ 8 → ((i : ℕ) → slice_index bytes i < 2 ^ 8) → length bytes ≤ 9216
+pub run_kept : (m : Tree) (before after : Store) (port : ℕ) (bytes : List ℕ) → is_good m ≡ true → port < 2 ^ 8 → ((i : ℕ) → slice_index bytes i < 2 ^ 8) → length bytes ≤ MAX_PACKET_BYTES
     → after ≡ source_store m before (record { port = port; bytes = bytes }) → IsKept m.objects before → IsKept m.objects after
 run_kept m before after port bytes h small all_small size is kept =
     subst (IsKept m.objects) (sym is) (runs_kept m before (record { port = port; bytes = bytes }) h (record { port = small; bytes = all_small; size = size }) kept)

@@ -2,6 +2,8 @@ pub mod Tests
 pub mod FieldOrder
 pub mod NoBits
 pub mod GoodRuns
-pub mod KeptObjects
 pub mod Values
+pub mod KeptObjects
 pub mod KeptRuns
+pub mod Bindings
+pub mod Turns

@@ -22,6 +22,7 @@ use Rattle.element_interp.specs.Arrivals.{IsArrival}
 use Rattle.element_interp.specs.Fields.{AllFit}
 use Rattle.element_interp.proofs.FieldOrder.{at_index, index-lt, length-all_fields}
 use Rattle.element_interp.proofs.Tests.{left, right}
+use Rattle.packet_fields.specs.declared.packet.TheConstants.{MAX_PACKET_BYTES}
 
 -- the values at all places fit the widths there
 abbrev pub AtWidths : List ℕ → List ℕ → Type 0
@@ -80,7 +81,7 @@ one_bit : (b : Bool) → cond b 1 0 < 2 ^ 1
 one_bit true = lit< tt
 one_bit false = lit< tt
 
-meta_fits : (bytes : ℕ) (shape : Shape) (port : ℕ) (f : Field) → bytes ≤ 9216 → port < 2 ^ 8 → meta_value bytes shape port f < 2 ^ (row f).width
+meta_fits : (bytes : ℕ) (shape : Shape) (port : ℕ) (f : Field) → bytes ≤ MAX_PACKET_BYTES → port < 2 ^ 8 → meta_value bytes shape port f < 2 ^ (row f).width
 meta_fits bytes shape port MetaPort size fits = fits
 meta_fits bytes shape port MetaLen size fits = omega arith
 meta_fits bytes shape port HasIp size fits = one_bit (is_some shape.ip)

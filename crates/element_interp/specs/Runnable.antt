@@ -4,7 +4,7 @@ use Rattle.gal_bits.specs.Operators.{row_of}
 use Rattle.element_lang.specs.Tree.{ExprTree, Exprs, StmtTree, BodyTree}
 use Rattle.element_lang.specs.Tree.ExprTree.{lit, local, field, byte, shift, apply}
 use Rattle.element_lang.specs.Tree.Exprs.{no_expr, expr}
-use Rattle.element_lang.specs.Tree.StmtTree.{set_field, look, put, choose, send, drop}
+use Rattle.element_lang.specs.Tree.StmtTree.{let_local, assign, set_field, look, put, del, choose, repeat, send, drop}
 use Rattle.element_lang.specs.Tree.BodyTree.{done, stmt}
 use Rattle.element_lang.specs.Rules.{count_of}
 
@@ -23,10 +23,14 @@ abbrev mutual
 
 abbrev mutual
   pub IsRunnableStmt : StmtTree → Type 0
+  IsRunnableStmt (let_local x value) = IsRunnableExpr value
+  IsRunnableStmt (assign x value) = IsRunnableExpr value
   IsRunnableStmt (set_field f value) = IsRunnableExpr value
   IsRunnableStmt (look found into object keys) = (count_of keys ≤ 8) × AreRunnableExprs keys
   IsRunnableStmt (put ok object keys values) = (count_of keys ≤ 8) × AreRunnableExprs keys × (count_of values ≤ 8) × AreRunnableExprs values
+  IsRunnableStmt (del was object keys) = (count_of keys ≤ 8) × AreRunnableExprs keys
   IsRunnableStmt (choose cond first second) = IsRunnableExpr cond × IsRunnableBody first × IsRunnableBody second
+  IsRunnableStmt (repeat index count body) = IsRunnableBody body
   IsRunnableStmt (send port) = IsRunnableExpr port
   IsRunnableStmt drop = Unit {0}
 

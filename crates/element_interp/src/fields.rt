@@ -4,6 +4,7 @@ ghost use Rattle.packet_fields.specs.Table.{row, all_fields, field_index};
 ghost use Rattle.packet_fields.specs.Fields.{field_value};
 ghost use Rattle.packet_fields.specs.Shape.{shape_of};
 ghost use Rattle.element_lang.specs.Meaning.{with_fields};
+ghost use Rattle.packet_fields.specs.declared.packet.TheConstants.{MAX_PACKET_BYTES};
 
 use gal_bits::{Op, eval};
 use gal_io::{Bytes, NoMemory};
@@ -49,7 +50,7 @@ impl FieldValues {
 
     /// The fields of a packet as it arrives.
     pub fn of(packet: &[u8], port: u8, shape: &Shape) -> FieldValues
-        requires size { length packet.now ≤ 9216 }
+        requires size { length packet.now ≤ MAX_PACKET_BYTES }
         requires shape { shape.now ≡ shape_of packet.now }
         ensures { result ≡ map (field_value packet.now port) all_fields }
     {
@@ -62,7 +63,7 @@ impl FieldValues {
 
     /// Writes each field that can be written into a packet of this shape.
     pub fn write(&self, packet: &mut [u8], shape: &Shape)
-        requires size { length packet.old ≤ 9216 }
+        requires size { length packet.old ≤ MAX_PACKET_BYTES }
         requires shape { shape.now ≡ shape_of packet.old }
         ensures { packet.new ≡ with_fields all_fields self.now packet.old }
     {

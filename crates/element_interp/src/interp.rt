@@ -4,10 +4,11 @@ ghost use Rattle.packet_fields.specs.Table.{all_fields};
 ghost use Rattle.state_store.specs.Kept.{IsKept};
 ghost use Rattle.element_lang.specs.View.{stmt_tree, body_tree, tree};
 ghost use Rattle.element_lang.specs.Rules.{is_good};
-ghost use Rattle.element_lang.specs.Meaning.{do_stmt, do_body, source_store, source_verdict};
+ghost use Rattle.element_lang.specs.Meaning.{turns, do_stmt, do_body, source_store, source_verdict};
 ghost use Rattle.element_interp.specs.Runs.{packet_of, widths_of, state_of};
 ghost use Rattle.element_interp.specs.Flows.{outcome_of};
 ghost use Rattle.element_interp.specs.Runnable.{IsRunnableStmt, IsRunnableBody};
+ghost use Rattle.packet_fields.specs.declared.packet.TheConstants.{MAX_PACKET_BYTES};
 
 use crate::fields::FieldValues;
 use crate::value::{Frame, Variables, value, values};
@@ -41,6 +42,11 @@ fn run_stmt(frame: &Frame<'_>, s: &Stmt, vars: &mut Variables, store: &mut Store
     ensures { outcome_of result (packet_of frame.now) (state_of vars.new store.new) ≡ do_stmt (widths_of frame.now) (packet_of frame.now) (stmt_tree s.now) (state_of vars.old store.old) }
 {
     match s {
+        Stmt::Let { local, value: e } | Stmt::Assign { local, value: e } => {
+            let bound = value(frame, e, vars);
+            vars.set_local(*local, bound);
+            Flow::Goes
+        }
         Stmt::SetField { field, value: e } => {
             let assigned = value(frame, e, vars);
             vars.fields.assign(*field, assigned);
@@ -70,6 +76,12 @@ fn run_stmt(frame: &Frame<'_>, s: &Stmt, vars: &mut Variables, store: &mut Store
             vars.set_local(*ok, u64::from(stored));
             Flow::Goes
         }
+        Stmt::Del { was, object, keys } => {
+            let key = values(frame, keys, vars);
+            let removed = store.del(*object, &key);
+            vars.set_local(*was, u64::from(removed));
+            Flow::Goes
+        }
         Stmt::If { cond, yes, no } => {
             if value(frame, cond, vars) == 0 {
                 run_body(frame, no, vars, store)
@@ -77,9 +89,36 @@ fn run_stmt(frame: &Frame<'_>, s: &Stmt, vars: &mut Variables, store: &mut Store
                 run_body(frame, yes, vars, store)
             }
         }
+        Stmt::Repeat { index, count, body } => {
+            run_turns(frame, *index, *count, body, vars, store)
+        }
         Stmt::Send { port } => Flow::Sends(low_byte(value(frame, port, vars))),
         Stmt::Drop => Flow::Drops,
     }
+}
+
+// The turns of a repeat.
+#[cycle(run)]
+fn run_turns(
+    frame: &Frame<'_>,
+    index: u32,
+    count: u8,
+    body: &[Stmt],
+    vars: &mut Variables,
+    store: &mut Store,
+) -> Flow
+    requires { IsRunnableBody (body_tree body.now) }
+    ensures { outcome_of result (packet_of frame.now) (state_of vars.new store.new)
+        ≡ turns count 0 index (do_body (widths_of frame.now) (packet_of frame.now) (body_tree body.now)) (state_of vars.old store.old) }
+{
+    for turn in 0..count {
+        vars.set_local(index, u64::from(turn));
+        match run_body(frame, body, vars, store) {
+            Flow::Goes => {}
+            flow => return flow,
+        }
+    }
+    Flow::Goes
 }
 
 #[cycle(run)]
@@ -106,7 +145,7 @@ pub fn run(
     packet: &[u8],
 ) -> Result<Verdict, NoMemory>
     requires good { IsTrue (is_good (tree m.now)) }
-    requires size { length packet.now ≤ 9216 }
+    requires size { length packet.now ≤ MAX_PACKET_BYTES }
     ensures verdict { IfOk result (λ verdict. verdict ≡ source_verdict (tree m.now) store.old (record { port = port; bytes = packet.now })) }
     ensures store { OnOk result (store.new ≡ source_store (tree m.now) store.old (record { port = port; bytes = packet.now })) }
     ensures err { OnErr result (store.new ≡ store.old) }

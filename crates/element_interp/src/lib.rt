@@ -4,7 +4,9 @@
 mod fields;
 mod interp;
 mod laws;
+mod serial;
 mod value;
 
 pub use interp::run;
 pub use laws::stores_are_kept;
+pub use serial::{Served, run_all};

@@ -16,7 +16,8 @@ use Rattle.run_text.specs.declared.refusal.LineKind.{LineKind}
 use Rattle.run_text.specs.declared.refusal.LineKind.TheVariants.{Form}
 use Rattle.run_text.specs.declared.refusal.LinesError.{LinesError}
 use Rattle.run_text.specs.declared.refusal.LinesError.TheVariants.{TooMany}
-use Rattle.run_text.specs.declared.refusal.TheConstants.{MAX_PACKETS, MAX_PACKET_BYTES}
+use Rattle.packet_fields.specs.declared.packet.TheConstants.{MAX_PACKET_BYTES}
+use Rattle.run_text.specs.declared.refusal.TheConstants.{MAX_PACKETS}
 
 -- ---- what holds of the value of each line holds of all values
 

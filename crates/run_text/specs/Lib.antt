@@ -2,3 +2,5 @@ pub mod Fate
 pub mod Trace
 pub mod Order
 pub mod Report
+pub mod Parts
+pub mod Answer

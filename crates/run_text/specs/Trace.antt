@@ -13,7 +13,8 @@ use Rattle.run_text.specs.declared.refusal.LineKind.{LineKind}
 use Rattle.run_text.specs.declared.refusal.LineKind.TheVariants.{Form, Number, Hex, Long}
 use Rattle.run_text.specs.declared.refusal.LinesError.{LinesError}
 use Rattle.run_text.specs.declared.refusal.LinesError.TheVariants.{Line, TooMany}
-use Rattle.run_text.specs.declared.refusal.TheConstants.{MAX_PACKETS, MAX_PACKET_BYTES, MAX_EVENTS}
+use Rattle.packet_fields.specs.declared.packet.TheConstants.{MAX_PACKET_BYTES}
+use Rattle.run_text.specs.declared.refusal.TheConstants.{MAX_PACKETS, MAX_EVENTS}
 
 -- a value in front of those of the lines behind
 abbrev pub in_front : {X : Type 0} → X → Result (List X) LinesError → Result (List X) LinesError

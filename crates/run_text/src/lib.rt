@@ -1,6 +1,7 @@
 //! The texts of a replay: the trace of packets, the schedule of events, and the report of a run.
 #![tactic(auto)]
 
+mod answer;
 mod event;
 mod fate;
 mod line_value;
@@ -12,9 +13,10 @@ mod schedule;
 mod serial;
 mod trace;
 
+pub use answer::print_answer;
 pub use event::{Event, Events};
 pub use fate::{Fate, Fates};
-pub use refusal::{LineKind, LinesError, MAX_EVENTS, MAX_PACKET_BYTES, MAX_PACKETS};
+pub use refusal::{LineKind, LinesError, MAX_EVENTS, MAX_PACKETS};
 pub use report::print_run;
 pub use run::{Order, Part, Parts, Run};
 pub use schedule::read_schedule;

@@ -8,9 +8,6 @@ use thiserror::Error;
 /// The most packets of a trace.
 pub const MAX_PACKETS: usize = 16_384;
 
-/// The most bytes of a packet.
-pub const MAX_PACKET_BYTES: usize = 9_216;
-
 /// The most events of a schedule.
 pub const MAX_EVENTS: usize = 1_048_576;
 

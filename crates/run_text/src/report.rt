@@ -20,7 +20,7 @@ fn body_text(alloc: Global, bytes: &[u8]) -> Result<String, NoMemory>
     }
 }
 
-fn verdict_text(alloc: Global, verdict: &Verdict) -> Result<String, NoMemory>
+pub(crate) fn verdict_text(alloc: Global, verdict: &Verdict) -> Result<String, NoMemory>
     ensures { IfOk result (λ text. string_bytes text ≡ verdict_text verdict.now) }
 {
     match verdict {

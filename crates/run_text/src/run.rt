@@ -1,8 +1,11 @@
 //! What a report says of a run.
-ghost use Rattle.std.specs.Prelude.{◌≡◌};
+ghost use Rattle.std.specs.Prelude.{◌≡◌, ◌<◌, ◌^◌, length, IfOk};
+ghost use Rattle.run_text.specs.Parts.{parts_of};
 
 use crate::fate::Fates;
-use state_store::Rows;
+use gal_io::NoMemory;
+use state_store::{Kind, ObjectDecl, Rows, Store};
+use std::alloc::Global;
 use std::marker::Model;
 
 /// Numbers of packets, each once at most, in the serial order of a run.
@@ -58,6 +61,22 @@ impl Model for Parts {
 }
 
 impl Parts {
+    /// The rows of each object of a store that isn't a table.
+    pub fn of(alloc: Global, objects: &[ObjectDecl], store: &Store) -> Result<Parts, NoMemory>
+        requires { length objects.now < 2 ^ 32 }
+        ensures { IfOk result (λ parts. parts ≡ parts_of objects.now store.now) }
+    {
+        let mut items = Vec::new(alloc);
+        for number in 0..objects.len() {
+            if objects[number].kind != Kind::Table {
+                let object = number as u32;
+                let rows = store.rows(alloc, object)?;
+                items.push(Part { object, rows })?;
+            }
+        }
+        Ok(Parts { items })
+    }
+
     pub fn as_slice(&self) -> &[Part]
         ensures { result.now ≡ self.now }
     {

@@ -3,10 +3,10 @@ ghost use Rattle.std.specs.Prelude.{◌≡◌, ◌≤◌, ◌⊎◌, length, All
 ghost use Rattle.run_text.specs.Trace.{body_of, packet_line, trace_of};
 
 use crate::line_value::{LineValue, read_values, split_at_space};
-use crate::refusal::{LineKind, LinesError, MAX_PACKET_BYTES, MAX_PACKETS};
+use crate::refusal::{LineKind, LinesError, MAX_PACKETS};
 use gal_io::{Bytes, NoMemory, number_up_to};
 use hex::FromHexError;
-use packet_fields::{Packet, Packets};
+use packet_fields::{MAX_PACKET_BYTES, Packet, Packets};
 use std::alloc::Global;
 
 // The bytes of a body: `-` for none, or pairs of hexadecimal digits of either case.

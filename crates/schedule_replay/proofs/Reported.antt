@@ -15,7 +15,8 @@ use Rattle.schedule_replay.specs.declared.progress.Progress.{Progress}
 use Rattle.schedule_replay.specs.declared.progress.Progress.TheVariants.{Up, Held, Released}
 use Rattle.schedule_replay.specs.Progress.{fate_of}
 use Rattle.schedule_replay.specs.World.{World, steps, first_world}
-use Rattle.schedule_replay.specs.Run.{is_quiet, parts_from, run_of, job_run}
+use Rattle.run_text.specs.Parts.{parts_of}
+use Rattle.schedule_replay.specs.Run.{is_quiet, run_of, job_run}
 use Rattle.schedule_replay.specs.Serialises.{Serialises, AllReleased, IsDrained, admitted_at, decided_at, released_at, times}
 use Rattle.schedule_replay.proofs.Lists.{get_within, none_within, place_of}
 use Rattle.schedule_replay.proofs.Order.{when, order}
@@ -96,7 +97,7 @@ serialises_from m packets w k =
           let one = decided_when (slice_get w.progress p) x (sym (ap decided_at (at p)) ∙ hp) in
           let two = decided_when (slice_get w.progress q) y (sym (ap decided_at (at q)) ∙ hq) in
           inr (one.0 ∙ sym two.0, o.rising i j p q (x.1) (y.1) lt hi hj one.1 two.1);
-      rows = ap (parts_from 0 m.objects) (sym k.ordered.serial.leaves);
+      rows = ap (parts_of m.objects) (sym k.ordered.serial.leaves);
       verdicts = λ i p r y hi h. k.ordered.serial.says i p hi ∙ released_said (slice_get w.progress p) r y (sym (ap released_at (at p)) ∙ h);
       respects = λ i j p q r a y hi hj hp hq lt.
           let one = decided_in w.progress (order w.progress) i p o hi in

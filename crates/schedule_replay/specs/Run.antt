@@ -1,12 +1,10 @@
 -- The run that a report tells of.
-use Rattle.std.specs.Prelude.{ℕ, suc, Bool, ◌&&◌, ◌==◌, List, [], ◌∷◌, map, length, count_by, if◌then◌else◌}
+use Rattle.std.specs.Prelude.{ℕ, Bool, ◌&&◌, ◌==◌, List, map, length, count_by}
 use Rattle.packet_fields.specs.declared.packet.Packet.{Packet}
-use Rattle.state_store.specs.declared.object.ObjectDecl.{ObjectDecl}
-use Rattle.state_store.specs.Store.{Store, start_store, object_at, rows_of}
+use Rattle.state_store.specs.Store.{start_store}
 use Rattle.element_lang.specs.Tree.{Tree}
-use Rattle.element_lang.specs.Rules.{is_table}
 use Rattle.run_text.specs.declared.event.Event.{Event}
-use Rattle.run_text.specs.declared.run.Part.{Part}
+use Rattle.run_text.specs.Parts.{parts_of}
 use Rattle.run_text.specs.declared.run.Run.{Run}
 use Rattle.run_text.specs.Fate.{is_decided, is_released}
 use Rattle.run_text.specs.Order.{order_of}
@@ -20,13 +18,6 @@ is_quiet w = length w.up == 0 && length w.held == 0 && length w.down == 0
 -- every packet of the trace was admitted, and nothing is on its way
 abbrev pub is_drained : ℕ → World → Bool
 is_drained total w = length w.progress == total && is_quiet w
-
--- the rows of each object that isn't a table, from number n on
-abbrev pub parts_from : ℕ → List ObjectDecl → Store → List Part
-parts_from n [] store = []
-parts_from n (object ∷ objects) store =
-    if is_table object.kind then parts_from (suc n) objects store
-    else (record { object = n; rows = rows_of (object_at store n) }) ∷ parts_from (suc n) objects store
 
 -- the run of a world of a middlebox over a trace of so many packets
 abbrev pub run_of : Tree → ℕ → World → Run
@@ -43,7 +34,7 @@ run_of m total w =
       drained = is_drained total w;
       fates = fates;
       order = order_of fates;
-      objects = parts_from 0 m.objects w.store;
+      objects = parts_of m.objects w.store;
     }
 
 -- the run of a middlebox over packets, by a schedule of events

@@ -8,7 +8,7 @@ use Rattle.element_lang.specs.Meaning.{serial_store, serial_verdicts}
 use Rattle.run_text.specs.declared.fate.Fate.{Fate}
 use Rattle.run_text.specs.declared.fate.Fate.TheVariants.{Up, Held, Slow, Fast}
 use Rattle.run_text.specs.declared.run.Run.{Run}
-use Rattle.schedule_replay.specs.Run.{parts_from}
+use Rattle.run_text.specs.Parts.{parts_of}
 
 -- ## What a fate says, as far as it has come
 
@@ -71,7 +71,7 @@ pub record Serialises (m : Tree) (packets : List Packet) (run : Run) : Type 0 wh
   pub ascends : (i j p q : ℕ) (x y : ℕ × ℕ) → slice_get run.order i ≡ Some p → slice_get run.order j ≡ Some q
       → decided_at (slice_get run.fates p) ≡ Some x → decided_at (slice_get run.fates q) ≡ Some y → i < j → IsEarlier x y
   -- the serial run leaves the rows that are reported
-  pub rows : run.objects ≡ parts_from 0 m.objects (serial_store m (start_store m.objects) (in_order packets run))
+  pub rows : run.objects ≡ parts_of m.objects (serial_store m (start_store m.objects) (in_order packets run))
   -- and gives each released packet its verdict, at its place in the order
   pub verdicts : (i p r : ℕ) (y : Verdict) → slice_get run.order i ≡ Some p → released_at (slice_get run.fates p) ≡ Some (r, y)
       → slice_get (source_verdicts m packets run) i ≡ Some y

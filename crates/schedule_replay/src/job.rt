@@ -3,7 +3,8 @@ ghost use Rattle.std.specs.Prelude.{◌≡◌, ◌≤◌, ◌<◌, ◌^◌, true
 ghost use Rattle.element_lang.specs.View.{tree};
 ghost use Rattle.element_lang.specs.Rules.{is_good};
 ghost use Rattle.state_store.specs.Store.{start_store};
-ghost use Rattle.run_text.specs.declared.refusal.TheConstants.{MAX_PACKETS, MAX_PACKET_BYTES, MAX_EVENTS};
+ghost use Rattle.packet_fields.specs.declared.packet.TheConstants.{MAX_PACKET_BYTES};
+ghost use Rattle.run_text.specs.declared.refusal.TheConstants.{MAX_PACKETS, MAX_EVENTS};
 ghost use Rattle.schedule_replay.specs.Run.{is_quiet, job_run};
 ghost use Rattle.schedule_replay.specs.World.{first_world, steps};
 ghost use Rattle.schedule_replay.specs.Serialises.{Serialises, AllReleased, IsDrained};

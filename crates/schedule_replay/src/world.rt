@@ -1,11 +1,11 @@
 //! The world of a replay, and what each event does to it.
 ghost use Rattle.std.specs.Prelude.{◌≡◌, ◌≤◌, ◌+◌, ◌-◌, ◌<◌, ◌^◌, map, count_by, OnOk, OnErr, IfOk, IsTrue, length, slice_get, slice_set, Some, All};
-ghost use Rattle.run_text.specs.declared.refusal.TheConstants.{MAX_PACKET_BYTES};
+ghost use Rattle.packet_fields.specs.declared.packet.TheConstants.{MAX_PACKET_BYTES};
 ghost use Rattle.element_lang.specs.View.{tree};
 ghost use Rattle.element_lang.specs.Rules.{is_good};
 ghost use Rattle.schedule_replay.specs.World as world;
 ghost use Rattle.schedule_replay.specs.Progress.{decided, released, fate_of};
-ghost use Rattle.schedule_replay.specs.Run.{run_of, is_drained, parts_from};
+ghost use Rattle.schedule_replay.specs.Run.{run_of, is_drained};
 ghost use Rattle.run_text.specs.Fate.{is_decided, is_released};
 
 use crate::progress::Progress;
@@ -13,8 +13,8 @@ use element_interp::run;
 use element_lang::Middlebox;
 use gal_io::NoMemory;
 use packet_fields::{Packet, Verdict};
-use run_text::{Event, Fate, Fates, Part, Parts, Run, order};
-use state_store::{Kind, ObjectDecl, Store};
+use run_text::{Event, Fate, Fates, Parts, Run, order};
+use state_store::Store;
 use std::alloc::Global;
 use std::collections::VecDeque;
 use std::marker::Model;
@@ -208,7 +208,7 @@ impl World {
         requires { length m.now.objects < 2 ^ 32 }
         ensures { IfOk result (λ run. run ≡ run_of (tree m.now) total self) }
     {
-        let objects = parts(alloc, m.objects.as_slice(), &self.store)?;
+        let objects = Parts::of(alloc, m.objects.as_slice(), &self.store)?;
         let drained = self.is_drained(total);
         let events = self.events;
         let idle = self.idle;
@@ -225,7 +225,7 @@ impl World {
             drained,
             fates,
             order,
-            objects: Parts::from(objects),
+            objects,
         })
     }
 
@@ -265,20 +265,4 @@ fn count_released(fates: &[Fate]) -> u32
     ensures { result ≡ count_by is_released fates.now }
 {
     fates.iter().filter(|fate| fate.is_released()).count() as u32
-}
-
-// The rows of each object that isn't a table.
-fn parts(alloc: Global, objects: &[ObjectDecl], store: &Store) -> Result<Vec<Part>, NoMemory>
-    requires { length objects.now < 2 ^ 32 }
-    ensures { IfOk result (λ parts. parts.items ≡ parts_from 0 objects.now store.now) }
-{
-    let mut parts = Vec::new(alloc);
-    for number in 0..objects.len() {
-        if objects[number].kind != Kind::Table {
-            let object = number as u32;
-            let rows = store.rows(alloc, object)?;
-            parts.push(Part { object, rows })?;
-        }
-    }
-    Ok(parts)
 }

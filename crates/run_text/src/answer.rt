@@ -1,0 +1,49 @@
+//! The text that a run alone writes.
+ghost use Rattle.std.specs.Prelude.{◌≡◌, ◌++◌, IfOk, OnOk, string_bytes};
+ghost use Rattle.run_text.specs.Answer.{answer_of, verdict_line, verdict_lines};
+
+use crate::parts::put_parts;
+use crate::report::verdict_text;
+use crate::run::Parts;
+use gal_io::{NoMemory, Text};
+use packet_fields::Verdict;
+use state_store::Objects;
+use std::alloc::Global;
+
+fn verdict_line(alloc: Global, number: usize, verdict: &Verdict) -> Result<String, NoMemory>
+    ensures { IfOk result (λ line. string_bytes line ≡ verdict_line number verdict.now) }
+{
+    let verdict = verdict_text(alloc, verdict)?;
+    Ok(format!(in alloc; "packet {number} {verdict}\n")?)
+}
+
+fn put_verdicts(alloc: Global, verdicts: &[Verdict], text: &mut Text) -> Result<(), NoMemory>
+    ensures { OnOk result (text.new ≡ text.old ++ verdict_lines 0 verdicts.now) }
+{
+    for number in 0..verdicts.len() {
+        text.extend(verdict_line(alloc, number, &verdicts[number])?.as_bytes())?;
+    }
+    Ok(())
+}
+
+/// What a middlebox with these objects did to packets, by number, and the rows that it left.
+pub fn print_answer(
+    alloc: Global,
+    objects: &Objects,
+    verdicts: &[Verdict],
+    parts: &Parts,
+) -> Result<Text, NoMemory>
+    ensures { IfOk result (λ text. text ≡ answer_of objects.now verdicts.now parts.now) }
+{
+    let mut text = Text::new(alloc);
+    put_verdicts(alloc, verdicts, &mut text)?;
+    put_parts(
+        alloc,
+        "object",
+        objects.as_slice(),
+        parts.as_slice(),
+        &mut text,
+    )?;
+    text.extend(b"end\n")?;
+    Ok(text)
+}
