@@ -7,13 +7,14 @@ use Rattle.gal_io.specs.declared.sink.SinkEnd.TheVariants as ends
 use Rattle.packet_fields.specs.declared.packet.Packet.{Packet}
 use Rattle.element_lang.specs.Tree.{Tree}
 use Rattle.run_text.specs.declared.event.Event.{Event}
+use Rattle.element_text.specs.declared.error.TextError.{TextError}
 use Rattle.gallium_cli.specs.declared.status.Status.{Status}
 use Rattle.gallium_cli.specs.declared.status.Status.TheVariants as statuses
 use Rattle.gallium_cli.specs.declared.refusal.Refusal.{Refusal}
 use Rattle.gallium_cli.specs.declared.refusal.Refusal.TheVariants.{Usage, Source, Trace, Schedule, TooLong, ReadFault, WriteFault, NoMemory}
 use Rattle.gallium_cli.specs.Lines.{status_of}
-use Rattle.gallium_cli.specs.Words.{Request, Replay}
-use Rattle.gallium_cli.specs.Causes.{Role, source, trace, schedule, size_of, files_of, IsGood, IsBad, IsFileRefused, IsFirstRefused, IsJob, IsNotWritten, after_line, IsTold, Ends, IsFault, IsUnlessFault, refused_status, IsRefusedAs, IsFirstBad, IsExact}
+use Rattle.gallium_cli.specs.Words.{Request, Run, Replay}
+use Rattle.gallium_cli.specs.Causes.{Role, source, trace, schedule, size_of, files_of, IsGood, IsBad, IsFileRefused, IsFirstRefused, IsBadSource, IsInput, IsJob, IsNotWritten, after_line, IsTold, Ends, IsFault, IsUnlessFault, refused_status, IsRefusedAs, IsFirstBad, IsExact}
 
 -- a text isn't good and refused
 good_not_bad : (role : Role) (told : Option (List ℕ)) → IsSomeAnd told (IsGood role) → IfSome told (IsBad role) → ⊥
@@ -29,11 +30,15 @@ good_not_refused role status None good refused = refused
 good_not_refused role status (Some text) good (inl long) = let short = good.0 in let above = long.1 in omega arith
 good_not_refused role status (Some text) good (inr bad) = bad.1.1 good.1
 
+is_bad : (fault : TextError) (told : Option (List ℕ)) → IfSome told (IsBadSource fault) → IfSome told (IsBad source)
+is_bad fault None bad = bad
+is_bad fault (Some text) bad = bad.0
+
 -- what is refused of a good file is a fault
 good_refused : (refusal : Refusal) (role : Role) (name : List ℕ) (f f' : FilesState) → IsSomeAnd (f.told name) (IsGood role) → IsFileRefused refusal role name f f' → IsFault (status_of refusal)
-good_refused Source source name f f' good refused = good_not_bad source (f.told name) good refused
-good_refused Source trace name f f' good refused = refused
-good_refused Source schedule name f f' good refused = refused
+good_refused (Source fault) source name f f' good refused = good_not_bad source (f.told name) good (is_bad fault (f.told name) refused)
+good_refused (Source fault) trace name f f' good refused = refused
+good_refused (Source fault) schedule name f f' good refused = refused
 good_refused Trace source name f f' good refused = refused
 good_refused Trace trace name f f' good refused = good_not_bad trace (f.told name) good refused
 good_refused Trace schedule name f f' good refused = refused
@@ -60,9 +65,9 @@ bad_only role status (Some text) (inr here) bad = here.0
 -- the status of a refused file is the one that its told text has, or a fault
 exact_file : (refusal : Refusal) (role : Role) (name : List ℕ) (status : Status) (f f' : FilesState) → IsSomeAnd (f.told name) (IsRefusedAs role status) → IsFileRefused refusal role name f f'
     → IsUnlessFault status (status_of refusal)
-exact_file Source source name status f f' bad refused = inl (sym (bad_only source status (f.told name) bad refused))
-exact_file Source trace name status f f' bad refused = absurd refused
-exact_file Source schedule name status f f' bad refused = absurd refused
+exact_file (Source fault) source name status f f' bad refused = inl (sym (bad_only source status (f.told name) bad (is_bad fault (f.told name) refused)))
+exact_file (Source fault) trace name status f f' bad refused = absurd refused
+exact_file (Source fault) schedule name status f f' bad refused = absurd refused
 exact_file Trace source name status f f' bad refused = absurd refused
 exact_file Trace trace name status f f' bad refused = inl (sym (bad_only trace status (f.told name) bad refused))
 exact_file Trace schedule name status f f' bad refused = absurd refused
@@ -87,7 +92,7 @@ unwritten : (refusal : Refusal) (request : Request) (f : FilesState) (o o' : Sin
 unwritten WriteFault request f o o' h = tt
 unwritten NoMemory request f o o' h = tt
 unwritten Usage request f o o' h = h
-unwritten Source request f o o' h = h
+unwritten (Source fault) request f o o' h = absurd h
 unwritten Trace request f o o' h = h
 unwritten Schedule request f o o' h = h
 unwritten (TooLong name) request f o o' h = absurd h
@@ -107,16 +112,24 @@ good_told : {P : List ℕ → Type 0} (role : Role) (status : Status) (told : Op
 good_told {P} role status None good spelled refused = refused
 good_told {P} role status (Some text) good spelled refused = good_not_refused role status (Some text) (good text spelled) refused
 
+input_not_bad : (told : List ℕ → Option (List ℕ)) (s t : List ℕ) (m : Tree) (packets : List Packet) (status : Status)
+    → IsInput told s t m packets → IsFirstBad told (files_of (Run s t)) status → ⊥
+input_not_bad told s t m packets status input (inl bad) = good_told source status (told s) (λ text spelled. (spelled.0, (m, spelled.1))) input.source bad
+input_not_bad told s t m packets status input (inr (good, inl bad)) = good_told trace status (told t) (λ text spelled. (spelled.0, (packets, spelled.1))) input.trace bad
+input_not_bad told s t m packets status input (inr (good, inr none)) = none.1
+
 job_not_bad : (told : List ℕ → Option (List ℕ)) (s t c : List ℕ) (m : Tree) (packets : List Packet) (events : List Event) (status : Status)
     → IsJob told s t c m packets events → IsFirstBad told (files_of (Replay s t c)) status → ⊥
-job_not_bad told s t c m packets events status job (inl bad) = good_told source status (told s) (λ text spelled. (spelled.0, (m, spelled.1))) job.source bad
-job_not_bad told s t c m packets events status job (inr (good, inl bad)) = good_told trace status (told t) (λ text spelled. (spelled.0, (packets, spelled.1))) job.trace bad
+job_not_bad told s t c m packets events status job (inl bad) = good_told source status (told s) (λ text spelled. (spelled.0, (m, spelled.1))) job.input.source bad
+job_not_bad told s t c m packets events status job (inr (good, inl bad)) = good_told trace status (told t) (λ text spelled. (spelled.0, (packets, spelled.1))) job.input.trace bad
 job_not_bad told s t c m packets events status job (inr (good, inr (also, inl bad))) = good_told schedule status (told c) (λ text spelled. (spelled.0, (events, spelled.1))) job.schedule bad
 job_not_bad told s t c m packets events status job (inr (good, inr (also, inr none))) = none.1
 
 -- the first bad content that is told decides the status
 pub exact_ends : (request : Option Request) (result : Status) (f f' : FilesState) (o o' e e' : SinkState) → Ends result request f f' o o' e e' → IsExact request f result
 exact_ends None result f f' o o' e e' end = tt
+exact_ends (Some (Run s t)) result f f' o o' e e' (inl (is, (text, (m, packets, input, answer), taken), silent)) =
+    λ status bad. absurd (input_not_bad f.told s t m packets status input bad)
 exact_ends (Some (Replay s t c)) result f f' o o' e e' (inl (is, (text, (m, packets, events, job, report), taken), silent)) =
     λ status bad. absurd (job_not_bad f.told s t c m packets events status job bad)
 exact_ends (Some request) result f f' o o' e e' (inr (refusal, inl first, told)) = λ status bad. of_told status result refusal e e' told (exact_files refusal (files_of request) status f f' bad first.0)

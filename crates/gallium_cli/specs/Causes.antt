@@ -9,16 +9,23 @@ use Rattle.gal_io.specs.declared.sink.SinkEnd.TheVariants as ends
 use Rattle.packet_fields.specs.declared.packet.Packet.{Packet}
 use Rattle.element_lang.specs.Tree.{Tree}
 use Rattle.element_lang.specs.Accepted.{IsSource}
+use Rattle.element_lang.specs.Meaning.{serial_store, serial_verdicts}
+use Rattle.state_store.specs.Store.{start_store}
+use Rattle.element_text.specs.Refused.{IsRefused}
+use Rattle.element_text.specs.declared.error.TextError.{TextError}
+use Rattle.element_text.specs.declared.error.TextError.TheVariants as errors
 use Rattle.run_text.specs.declared.event.Event.{Event}
 use Rattle.run_text.specs.Trace.{trace_of, schedule_of}
 use Rattle.run_text.specs.Report.{report_of}
+use Rattle.run_text.specs.Parts.{parts_of}
+use Rattle.run_text.specs.Answer.{answer_of}
 use Rattle.schedule_replay.specs.Run.{job_run}
 use Rattle.gallium_cli.specs.declared.status.Status.{Status}
 use Rattle.gallium_cli.specs.declared.status.Status.TheVariants as statuses
 use Rattle.gallium_cli.specs.declared.refusal.Refusal.{Refusal}
 use Rattle.gallium_cli.specs.declared.refusal.Refusal.TheVariants.{Usage, Source, Trace, Schedule, TooLong, ReadFault, WriteFault, NoMemory}
 use Rattle.gallium_cli.specs.declared.load.TheConstants.{MAX_SOURCE, MAX_TEXT}
-use Rattle.gallium_cli.specs.Words.{Request, Replay}
+use Rattle.gallium_cli.specs.Words.{Request, Run, Replay}
 use Rattle.gallium_cli.specs.Lines.{status_of, line_of}
 
 -- what a file is read as
@@ -41,6 +48,7 @@ IsSpelled schedule text = (events : List Event) × (schedule_of text ≡ Ok even
 
 -- the files of a request by name, in the order in which they are dealt with
 abbrev pub files_of : Request → List (List ℕ × Role)
+files_of (Run s t) = (s, source) ∷ (t, trace) ∷ []
 files_of (Replay s t c) = (s, source) ∷ (t, trace) ∷ (c, schedule) ∷ []
 
 -- a text of this role is within its size and spells a value
@@ -51,9 +59,13 @@ IsGood role text = (length text ≤ size_of role) × IsSpelled role text
 abbrev pub IsBad : Role → List ℕ → Type 0
 IsBad role text = (length text ≤ size_of role) × ¬ (IsSpelled role text)
 
+-- it is a bad source, for this cause
+abbrev pub IsBadSource : TextError → List ℕ → Type 0
+IsBadSource fault text = IsBad source text × IsRefused text fault × (fault ≢ errors.NoMemory)
+
 -- Why a file is refused. What is said of its text is said where that is told.
 abbrev pub IsFileRefused : Refusal → Role → List ℕ → FilesState → FilesState → Type 0
-IsFileRefused Source source name f f' = IfSome (f.told name) (IsBad source)
+IsFileRefused (Source fault) source name f f' = IfSome (f.told name) (IsBadSource fault)
 IsFileRefused Trace trace name f f' = IfSome (f.told name) (IsBad trace)
 IsFileRefused Schedule schedule name f f' = IfSome (f.told name) (IsBad schedule)
 IsFileRefused (TooLong blamed) role name f f' =
@@ -68,21 +80,33 @@ IsFirstRefused refusal [] f f' = ⊥
 IsFirstRefused refusal (file ∷ files) f f' =
     IsFileRefused refusal file.1 file.0 f f' ⊎ (IfSome (f.told file.0) (IsGood file.1) × IsFirstRefused refusal files f f')
 
--- the told contents spell this middlebox, these packets and these events, each within its size
-pub record IsJob (told : List ℕ → Option (List ℕ)) (s t c : List ℕ) (m : Tree) (packets : List Packet) (events : List Event) : Type 0 where
+-- the told contents spell this middlebox and these packets, each within its size
+pub record IsInput (told : List ℕ → Option (List ℕ)) (s t : List ℕ) (m : Tree) (packets : List Packet) : Type 0 where
   pub source : IfSome (told s) (λ text. (length text ≤ MAX_SOURCE) × IsSource text m)
   pub trace : IfSome (told t) (λ text. (length text ≤ MAX_TEXT) × (trace_of text ≡ Ok packets))
+
+-- and these events
+pub record IsJob (told : List ℕ → Option (List ℕ)) (s t c : List ℕ) (m : Tree) (packets : List Packet) (events : List Event) : Type 0 where
+  pub input : IsInput told s t m packets
   pub schedule : IfSome (told c) (λ text. (length text ≤ MAX_TEXT) × (schedule_of text ≡ Ok events))
 
--- a text that answers a request: the report of the run of the job that the files spell
+-- what a middlebox does to packets that come one after the other, from the store that runs start with: the verdicts, and what is left
+abbrev pub serial_answer : Tree → List Packet → List ℕ
+serial_answer m packets =
+    let start = start_store m.objects in
+    answer_of m.objects (serial_verdicts m start packets) (parts_of m.objects (serial_store m start packets))
+
+-- A text that answers a request: the verdicts and the last store of the serial run over the packets, or the report of the run of the job
+-- that the files spell.
 abbrev pub IsAnswer : List ℕ → Request → (List ℕ → Option (List ℕ)) → Type 0
+IsAnswer text (Run s t) told = (m : Tree) × (packets : List Packet) × IsInput told s t m packets × (text ≡ serial_answer m packets)
 IsAnswer text (Replay s t c) told =
     (m : Tree) × (packets : List Packet) × (events : List Event) × IsJob told s t c m packets events × (text ≡ report_of m.objects (job_run m packets events))
 
 -- the answer was taken whole by out
 abbrev pub IsDone : Option Request → FilesState → SinkState → SinkState → Type 0
 IsDone None f o o' = ⊥
-IsDone (Some (Replay s t c)) f o o' = (text : List ℕ) × IsAnswer text (Replay s t c) f.told × (o'.taken ≡ append_known o.taken text)
+IsDone (Some request) f o o' = (text : List ℕ) × IsAnswer text request f.told × (o'.taken ≡ append_known o.taken text)
 
 -- Why an answer wasn't written: only some first bytes were taken, and the count of faults of out rose, or no memory was found.
 abbrev pub IsNotWritten : Refusal → Request → FilesState → SinkState → SinkState → Type 0

@@ -1,5 +1,9 @@
 -- The status and the line of each refusal.
-use Rattle.std.specs.Prelude.{ℕ, List, [], ◌∷◌, ◌++◌, codes}
+use Rattle.std.specs.Prelude.{ℕ, List, [], ◌∷◌, ◌++◌, codes, decimal}
+use Rattle.element_lang.specs.declared.sizes.What.{What}
+use Rattle.element_lang.specs.declared.sizes.What.TheVariants.{Depth, Objects, Entries, Writes}
+use Rattle.element_text.specs.declared.error.TextError.{TextError}
+use Rattle.element_text.specs.declared.error.TextError.TheVariants as errors
 use Rattle.gallium_cli.specs.declared.status.Status.{Status}
 use Rattle.gallium_cli.specs.declared.status.Status.TheVariants as statuses
 use Rattle.gallium_cli.specs.declared.refusal.Refusal.{Refusal}
@@ -8,9 +12,26 @@ use Rattle.gallium_cli.specs.declared.refusal.Refusal.TheVariants.{Usage, Source
 abbrev pub line_end : List ℕ
 line_end = 10 ∷ []
 
+-- what there is too much of
+abbrev pub what_text : What → List ℕ
+what_text Depth = codes "depth"
+what_text Objects = codes "objects"
+what_text Entries = codes "entries"
+what_text Writes = codes "writes"
+
+-- the line of a source that is refused; offsets are bytes from the start of the text
+abbrev pub source_line : TextError → List ℕ
+source_line (errors.NotUtf8 offset) = codes "source: not utf-8 at " ++ (decimal offset ++ line_end)
+source_line (errors.Token offset) = codes "source: token at " ++ (decimal offset ++ line_end)
+source_line (errors.Syntax offset) = codes "source: syntax at " ++ (decimal offset ++ line_end)
+source_line (errors.Rule rule offset) = codes "source: rule " ++ (decimal rule ++ (codes " at " ++ (decimal offset ++ line_end)))
+source_line (errors.TooLarge what have allowed) =
+    codes "source: " ++ (what_text what ++ (codes " have " ++ (decimal have ++ (codes ", allowed " ++ (decimal allowed ++ line_end)))))
+source_line errors.NoMemory = codes "no memory" ++ line_end
+
 abbrev pub status_of : Refusal → Status
 status_of Usage = statuses.Usage
-status_of Source = statuses.Source
+status_of (Source fault) = statuses.Source
 status_of Trace = statuses.Trace
 status_of Schedule = statuses.Schedule
 status_of (TooLong name) = statuses.TooLong
@@ -20,7 +41,7 @@ status_of NoMemory = statuses.NoMemory
 
 abbrev pub line_of : Refusal → List ℕ
 line_of Usage = codes "usage: gallium run, compile, check, replay or gen" ++ line_end
-line_of Source = codes "source: refused" ++ line_end
+line_of (Source fault) = source_line fault
 line_of Trace = codes "trace: refused" ++ line_end
 line_of Schedule = codes "schedule: refused" ++ line_end
 line_of (TooLong name) = codes "too long: " ++ (name.now ++ line_end)

@@ -6,12 +6,15 @@ use Rattle.gallium_cli.specs.declared.words.Form.TheVariants as forms
 
 -- what a command asks for, with the names of its files
 pub data Request : Type 0 where
+  Run : (source trace : List ℕ) → Request
   Replay : (source trace schedule : List ℕ) → Request
 
 -- what these words ask for: the place of a word alone tells what it is
 abbrev pub request_of : List (List ℕ) → Option Request
+request_of (word ∷ source ∷ trace ∷ []) = if bytes_eq word (codes "run") then Some (Run source trace) else None
 request_of (word ∷ source ∷ trace ∷ schedule ∷ []) = if bytes_eq word (codes "replay") then Some (Replay source trace schedule) else None
 request_of _ = None
 
 abbrev pub asked_by : Form → Request
+asked_by (forms.Run source trace) = Run source.now trace.now
 asked_by (forms.Replay source trace schedule) = Replay source.now trace.now schedule.now

@@ -4,9 +4,10 @@ ghost use Rattle.element_lang.specs.View.{tree};
 ghost use Rattle.element_lang.specs.Rules.{is_good};
 ghost use Rattle.element_lang.specs.Accepted.{IsSource};
 ghost use Rattle.run_text.specs.Trace.{trace_of, schedule_of};
-ghost use Rattle.run_text.specs.declared.refusal.TheConstants.{MAX_PACKETS, MAX_PACKET_BYTES, MAX_EVENTS};
+ghost use Rattle.packet_fields.specs.declared.packet.TheConstants.{MAX_PACKET_BYTES};
+ghost use Rattle.run_text.specs.declared.refusal.TheConstants.{MAX_PACKETS, MAX_EVENTS};
 ghost use Rattle.gallium_cli.specs.Causes.{IsFileRefused, source, trace, schedule};
-ghost use Rattle.gallium_cli.specs.Loads.{IsLoaded, IsNotLoaded, GoesOn};
+ghost use Rattle.gallium_cli.specs.Loads.{IsLoaded, IsNotLoaded, GoesOn, refusal_of};
 
 use crate::refusal::Refusal;
 use element_lang::Middlebox;
@@ -43,6 +44,16 @@ fn load<'a, F: Files>(
     }
 }
 
+// The refusal of a source that isn't read.
+fn source_refusal<'a>(fault: TextError) -> Refusal<'a>
+    ensures { result ≡ refusal_of fault }
+{
+    match fault {
+        TextError::NoMemory => Refusal::NoMemory,
+        _ => Refusal::Source(fault),
+    }
+}
+
 /// The middlebox of a source file.
 pub fn load_source<'a, F: Files>(
     alloc: Global,
@@ -58,8 +69,7 @@ pub fn load_source<'a, F: Files>(
     let text = load(alloc, files, name, MAX_SOURCE)?;
     match read(alloc, &text) {
         Ok(m) => Ok(m),
-        Err(TextError::Refused) => Err(Refusal::Source),
-        Err(TextError::NoMemory) => Err(Refusal::NoMemory),
+        Err(fault) => Err(source_refusal(fault)),
     }
 }
 

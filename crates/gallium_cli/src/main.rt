@@ -1,8 +1,12 @@
-//! The program: reads a middlebox, a trace and a schedule, and writes the report of the replay.
+//! The program: reads a middlebox and a trace, and writes what a run of it, or a replay by a schedule, comes to.
 #![tactic(auto)]
 
 mod load;
+#[cfg(test)]
+mod print_tests;
 mod refusal;
+#[cfg(test)]
+mod run_tests;
 mod status;
 #[cfg(test)]
 mod tests;

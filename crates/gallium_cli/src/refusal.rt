@@ -1,10 +1,12 @@
 //! Why nothing is reported, and the line that says so.
-ghost use Rattle.std.specs.Prelude.{◌≡◌, ◌++◌, IfOk, codes};
+ghost use Rattle.std.specs.Prelude.{◌≡◌, ◌++◌, IfOk, codes, string_bytes};
 ghost use Rattle.gallium_cli.specs.declared.refusal.Refusal.{Refusal};
-ghost use Rattle.gallium_cli.specs.Lines.{status_of, line_of, line_end};
+ghost use Rattle.gallium_cli.specs.Lines.{status_of, line_of, line_end, what_text, source_line};
 ghost use Rattle.gallium_cli.specs.Causes.{IsTold};
 
 use crate::status::Status;
+use element_lang::What;
+use element_text::TextError;
 use gal_io::{NoMemory, Sink, SinkEnd, Text};
 use std::alloc::Global;
 
@@ -13,8 +15,8 @@ use std::alloc::Global;
 pub enum Refusal<'a> {
     /// The words have no known form.
     Usage,
-    /// The source is refused.
-    Source,
+    /// The source is refused, for this cause, which isn't want of memory.
+    Source(TextError),
     /// The trace is refused.
     Trace,
     /// The schedule is refused.
@@ -46,7 +48,7 @@ fn status(refusal: Refusal<'_>) -> Status
 {
     match refusal {
         Refusal::Usage => Status::Usage,
-        Refusal::Source => Status::Source,
+        Refusal::Source(_) => Status::Source,
         Refusal::Trace => Status::Trace,
         Refusal::Schedule => Status::Schedule,
         Refusal::TooLong(_) => Status::TooLong,
@@ -66,6 +68,54 @@ fn naming(alloc: Global, what: &[u8], name: &str) -> Result<Text, NoMemory>
     Ok(text)
 }
 
+// What there is too much of in a source, in a word.
+fn what_name(what: What) -> &'static str
+    ensures { result.now ≡ what_text what }
+{
+    match what {
+        What::Depth => "depth",
+        What::Objects => "objects",
+        What::Entries => "entries",
+        What::Writes => "writes",
+    }
+}
+
+// A line as a text.
+fn told(alloc: Global, line: String) -> Result<Text, NoMemory>
+    ensures { IfOk result (λ text. text ≡ string_bytes line) }
+{
+    Text::from_slice(alloc, line.as_bytes())
+}
+
+// The line of a source that is refused.
+fn source_line(alloc: Global, fault: TextError) -> Result<Text, NoMemory>
+    ensures { IfOk result (λ text. text ≡ source_line fault) }
+{
+    match fault {
+        TextError::NotUtf8(at) => told(alloc, format!(in alloc; "source: not utf-8 at {at}\n")?),
+        TextError::Token(at) => told(alloc, format!(in alloc; "source: token at {at}\n")?),
+        TextError::Syntax(at) => told(alloc, format!(in alloc; "source: syntax at {at}\n")?),
+        TextError::Rule { rule, offset } => {
+            told(
+                alloc,
+                format!(in alloc; "source: rule {rule} at {offset}\n")?,
+            )
+        }
+        TextError::TooLarge {
+            what,
+            have,
+            allowed,
+        } => {
+            let what = what_name(what);
+            told(
+                alloc,
+                format!(in alloc; "source: {what} have {have}, allowed {allowed}\n")?,
+            )
+        }
+        TextError::NoMemory => Text::from_slice(alloc, b"no memory\n"),
+    }
+}
+
 // The line of a refusal.
 fn line(alloc: Global, refusal: Refusal<'_>) -> Result<Text, NoMemory>
     ensures { IfOk result (λ text. text ≡ line_of refusal.entry) }
@@ -75,7 +125,7 @@ fn line(alloc: Global, refusal: Refusal<'_>) -> Result<Text, NoMemory>
             alloc,
             b"usage: gallium run, compile, check, replay or gen\n",
         ),
-        Refusal::Source => Text::from_slice(alloc, b"source: refused\n"),
+        Refusal::Source(fault) => source_line(alloc, fault),
         Refusal::Trace => Text::from_slice(alloc, b"trace: refused\n"),
         Refusal::Schedule => Text::from_slice(alloc, b"schedule: refused\n"),
         Refusal::TooLong(name) => naming(alloc, b"too long: ", name),

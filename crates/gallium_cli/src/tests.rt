@@ -93,7 +93,7 @@ fn refused_texts(rt: HostRuntime) -> Result<(), Fail> {
         (
             ["process { drop }", "x", "x"],
             Status::Source,
-            "source: refused\n",
+            "source: syntax at 15\n",
         ),
         (
             [good, "0 -\n256 -\n", "x"],

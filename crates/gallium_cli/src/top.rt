@@ -3,21 +3,26 @@ ghost use Rattle.std.specs.Prelude.{◌≡◌, ◌≤◌, ◌<◌, ◌^◌, ◌�
 ghost use Rattle.gal_io.specs.Count.{Rose};
 ghost use Rattle.element_lang.specs.View.{tree};
 ghost use Rattle.element_lang.specs.Rules.{is_good};
-ghost use Rattle.run_text.specs.declared.refusal.TheConstants.{MAX_PACKETS, MAX_PACKET_BYTES, MAX_EVENTS};
+ghost use Rattle.packet_fields.specs.declared.packet.TheConstants.{MAX_PACKET_BYTES};
+ghost use Rattle.run_text.specs.declared.refusal.TheConstants.{MAX_PACKETS, MAX_EVENTS};
 ghost use Rattle.run_text.specs.Report.{report_of};
 ghost use Rattle.schedule_replay.specs.Run.{job_run};
-ghost use Rattle.gallium_cli.specs.Words.{request_of, Replay};
-ghost use Rattle.gallium_cli.specs.Causes.{HasCause, IsDone, IsJob, IsFirstRefused, Ends, IsUsage, IsExact, IsComplete, files_of};
+ghost use Rattle.gallium_cli.specs.Words.{request_of, Run, Replay};
+ghost use Rattle.gallium_cli.specs.Causes.{HasCause, IsDone, IsInput, IsJob, serial_answer, IsFirstRefused, Ends, IsUsage, IsExact, IsComplete, files_of};
 ghost use Rattle.gallium_cli.specs.Promises.{IsSerial, IsSerialReport, IsFinished};
 ghost use Rattle.gallium_cli.specs.declared.status.Status.{Status};
 ghost use Rattle.gallium_cli.specs.Puts.{IsPut, IsNotPut};
+ghost use Rattle.gallium_cli.specs.Loads.{GoesOn};
 
 use crate::load::{load_schedule, load_source, load_trace};
 use crate::refusal::{Refusal, tell};
 use crate::status::Status;
 use crate::words::{Form, form_of};
+use element_interp::run_all;
+use element_lang::Middlebox;
 use gal_io::{Files, NoMemory, Sink, SinkEnd, Text};
-use run_text::print_run;
+use packet_fields::{Packet, Packets};
+use run_text::{Parts, print_answer, print_run};
 use schedule_replay::{Job, replay};
 use std::alloc::Global;
 
@@ -30,6 +35,28 @@ fn put<O: Sink>(out: &mut O, text: &[u8]) -> Result<(), Refusal<'static>>
         SinkEnd::Done => Ok(()),
         SinkEnd::Failed => Err(Refusal::WriteFault),
         SinkEnd::NoMemory => Err(Refusal::NoMemory),
+    }
+}
+
+// The middlebox and the packets that two files spell.
+fn load_input<'a, F: Files>(
+    alloc: Global,
+    source: &'a str,
+    trace: &'a str,
+    files: &mut F,
+) -> Result<(Middlebox, Packets), Refusal<'a>>
+    ensures ok { IfOk result (λ x. IsInput (F.seen files.old).told source.now trace.now (tree x.0) x.1) }
+    ensures good { IfOk result (λ x. IsTrue (is_good (tree x.0))) }
+    ensures few_objects { IfOk result (λ x. length x.0.objects < 2 ^ 32) }
+    ensures few_packets { IfOk result (λ x. length x.1 ≤ MAX_PACKETS) }
+    ensures short_packets { IfOk result (λ x. All (λ p. length p.bytes ≤ MAX_PACKET_BYTES) x.1) }
+    ensures err { IfErr result (λ refusal. IsFirstRefused refusal (files_of (Run source.now trace.now)) (F.seen files.old) (F.seen files.new)) }
+    ensures stays { GoesOn (F.seen files.old) (F.seen files.new) }
+{
+    let middlebox = load_source(alloc, files, source)?;
+    match load_trace(alloc, files, trace) {
+        Ok(packets) => Ok((middlebox, packets)),
+        Err(refusal) => Err(refusal),
     }
 }
 
@@ -49,8 +76,7 @@ fn load_job<'a, F: Files>(
     ensures few_events { IfOk result (λ job. length job.events ≤ MAX_EVENTS) }
     ensures err { IfErr result (λ refusal. IsFirstRefused refusal (files_of (Replay source.now trace.now schedule.now)) (F.seen files.old) (F.seen files.new)) }
 {
-    let middlebox = load_source(alloc, files, source)?;
-    let packets = load_trace(alloc, files, trace)?;
+    let (middlebox, packets) = load_input(alloc, source, trace, files)?;
     match load_schedule(alloc, files, schedule) {
         Ok(events) => Ok(Job {
             middlebox,
@@ -59,6 +85,37 @@ fn load_job<'a, F: Files>(
         }),
         Err(refusal) => Err(refusal),
     }
+}
+
+// What a middlebox does to packets that come one after the other.
+fn answer(alloc: Global, m: &Middlebox, packets: &[Packet]) -> Result<Text, NoMemory>
+    requires good { IsTrue (is_good (tree m.now)) }
+    requires few_objects { length m.now.objects < 2 ^ 32 }
+    requires short_packets { All (λ p. length p.bytes ≤ MAX_PACKET_BYTES) packets.now }
+    ensures { IfOk result (λ text. text ≡ serial_answer (tree m.now) packets.now) }
+{
+    let served = run_all(alloc, m, packets)?;
+    let parts = Parts::of(alloc, m.objects.as_slice(), &served.store)?;
+    print_answer(alloc, &m.objects, served.verdicts.as_slice(), &parts)
+}
+
+// Runs what two files spell, and writes what came of it.
+fn perform_run<'a, F: Files, O: Sink>(
+    alloc: Global,
+    source: &'a str,
+    trace: &'a str,
+    files: &mut F,
+    out: &mut O,
+) -> Result<(), Refusal<'a>>
+    ensures ok { OnOk result (IsFinished (Some (Run source.now trace.now)) (F.seen files.old) (O.seen out.old) (O.seen out.new)) }
+    ensures err { IfErr result (λ refusal. HasCause refusal (Some (Run source.now trace.now))
+        (F.seen files.old) (F.seen files.new) (O.seen out.old) (O.seen out.new)) }
+{
+    let (middlebox, packets) = load_input(alloc, source, trace, files)?;
+    let Ok(told) = answer(alloc, &middlebox, packets.as_slice()) else {
+        return Err(Refusal::NoMemory);
+    };
+    put(out, told.as_slice())
 }
 
 // The report of the run of a job.
@@ -107,6 +164,7 @@ fn perform<'a, F: Files, O: Sink>(
         (F.seen files.old) (F.seen files.new) (O.seen out.old) (O.seen out.new)) }
 {
     match form_of(words) {
+        Some(Form::Run { source, trace }) => perform_run(alloc, source, trace, files, out),
         Some(
             Form::Replay {
                 source,
