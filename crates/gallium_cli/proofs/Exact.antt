@@ -88,7 +88,7 @@ exact_files refusal (file ∷ files) status f f' (inr bad) (inl refused) = inr (
 exact_files refusal (file ∷ files) status f f' (inr bad) (inr later) = exact_files refusal files status f f' bad.1 later.1
 
 -- an answer that wasn't written is a fault
-unwritten : (refusal : Refusal) (request : Request) (f : FilesState) (o o' : SinkState) → IsNotWritten refusal request f o o' → IsFault (status_of refusal)
+pub unwritten : (refusal : Refusal) (request : Request) (f : FilesState) (o o' : SinkState) → IsNotWritten refusal request f o o' → IsFault (status_of refusal)
 unwritten WriteFault request f o o' h = tt
 unwritten NoMemory request f o o' h = tt
 unwritten Usage request f o o' h = h

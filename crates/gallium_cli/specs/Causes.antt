@@ -26,7 +26,7 @@ use Rattle.gallium_cli.specs.declared.refusal.Refusal.{Refusal}
 use Rattle.gallium_cli.specs.declared.refusal.Refusal.TheVariants.{Usage, Source, Trace, Schedule, TooLong, ReadFault, WriteFault, NoMemory}
 use Rattle.gallium_cli.specs.declared.load.TheConstants.{MAX_SOURCE, MAX_TEXT}
 use Rattle.gallium_cli.specs.Words.{Request, Run, Replay}
-use Rattle.gallium_cli.specs.Lines.{status_of, line_of}
+use Rattle.gallium_cli.specs.Lines.{status_of, line_of, source_line}
 
 -- what a file is read as
 pub data Role : Type 0 where
@@ -59,9 +59,15 @@ IsGood role text = (length text ≤ size_of role) × IsSpelled role text
 abbrev pub IsBad : Role → List ℕ → Type 0
 IsBad role text = (length text ≤ size_of role) × ¬ (IsSpelled role text)
 
+-- it is refused for this cause, which isn't want of memory, and for no other
+pub record IsOnlyCause (fault : TextError) (text : List ℕ) : Type 0 where
+  pub cause : IsRefused text fault
+  pub some : fault ≢ errors.NoMemory
+  pub only : (other : TextError) → other ≢ errors.NoMemory → IsRefused text other → other ≡ fault
+
 -- it is a bad source, for this cause
 abbrev pub IsBadSource : TextError → List ℕ → Type 0
-IsBadSource fault text = IsBad source text × IsRefused text fault × (fault ≢ errors.NoMemory)
+IsBadSource fault text = IsBad source text × IsOnlyCause fault text
 
 -- Why a file is refused. What is said of its text is said where that is told.
 abbrev pub IsFileRefused : Refusal → Role → List ℕ → FilesState → FilesState → Type 0
@@ -183,3 +189,15 @@ IsComplete (Some request) f result = AllGood f.told (files_of request) → IsUnl
 abbrev pub IsExact : Option Request → FilesState → Status → Type 0
 IsExact None f result = Unit {0}
 IsExact (Some request) f result = (status : Status) → IsFirstBad f.told (files_of request) status → IsUnlessFault status result
+
+-- the name of the source of a request
+abbrev pub source_of : Request → List ℕ
+source_of (Run s t) = s
+source_of (Replay s t c) = s
+
+-- where the told source of a request is bad, for this cause, err receives the line of that cause, unless there is a fault
+abbrev pub IsCauseTold : Option Request → FilesState → Status → SinkState → SinkState → Type 0
+IsCauseTold None f result e e' = Unit {0}
+IsCauseTold (Some request) f result e e' =
+    (fault : TextError) → fault ≢ errors.NoMemory → IsSomeAnd (f.told (source_of request)) (λ text. IsBad source text × IsRefused text fault)
+    → ((result ≡ statuses.Source) × (e'.taken ≡ append_known e.taken (source_line fault))) ⊎ IsFault result

@@ -8,7 +8,7 @@ ghost use Rattle.run_text.specs.declared.refusal.TheConstants.{MAX_PACKETS, MAX_
 ghost use Rattle.run_text.specs.Report.{report_of};
 ghost use Rattle.schedule_replay.specs.Run.{job_run};
 ghost use Rattle.gallium_cli.specs.Words.{request_of, Run, Replay};
-ghost use Rattle.gallium_cli.specs.Causes.{HasCause, IsDone, IsInput, IsJob, serial_answer, IsFirstRefused, Ends, IsUsage, IsExact, IsComplete, files_of};
+ghost use Rattle.gallium_cli.specs.Causes.{HasCause, IsDone, IsInput, IsJob, serial_answer, IsFirstRefused, Ends, IsUsage, IsExact, IsCauseTold, IsComplete, files_of};
 ghost use Rattle.gallium_cli.specs.Promises.{IsSerial, IsSerialReport, IsFinished};
 ghost use Rattle.gallium_cli.specs.declared.status.Status.{Status};
 ghost use Rattle.gallium_cli.specs.Puts.{IsPut, IsNotPut};
@@ -198,6 +198,7 @@ pub fn gallium<F: Files, O: Sink, E: Sink>(
     // Which status comes, by the words and the told texts.
     ensures usage { IsUsage (request_of (map string_bytes words.now)) result }
     ensures exact { IsExact (request_of (map string_bytes words.now)) (F.seen files.old) result }
+    ensures cause { IsCauseTold (request_of (map string_bytes words.now)) (F.seen files.old) result (E.seen err.old) (E.seen err.new) }
     ensures complete { IsComplete (request_of (map string_bytes words.now)) (F.seen files.old) result }
 
     // Which count rose, whether or not anything is told.
