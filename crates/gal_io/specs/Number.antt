@@ -1,5 +1,5 @@
 -- Numbers in a text.
-use Rattle.std.specs.Prelude.{ℕ, Bool, false, not, ◌&&◌, ◌||◌, ◌==◌, nat_le, List, [], ◌∷◌, length, Option, Some, None, if◌then◌else◌, option_and_then}
+use Rattle.std.specs.Prelude.{ℕ, Bool, false, not, ◌&&◌, ◌||◌, ◌==◌, nat_le, List, [], ◌∷◌, ◌++◌, length, codes, decimal, Option, Some, None, if◌then◌else◌, option_and_then}
 use Rattle.std.specs.Str.{all_ascii_digits}
 use Rattle.std.specs.Str.Parse.{digits_value}
 
@@ -15,3 +15,8 @@ number_of text = if is_number text then Some (digits_value 10 text) else None
 -- the same where it is at most `most`
 abbrev pub number_up_to : ℕ → List ℕ → Option ℕ
 number_up_to most text = option_and_then (λ number. if nat_le number most then Some number else None) (number_of text)
+
+-- each number after a space
+abbrev pub spaced : List ℕ → List ℕ
+spaced [] = []
+spaced (n ∷ ns) = codes " " ++ (decimal n ++ spaced ns)

@@ -67,7 +67,12 @@ fn bytes_and_texts(rt: HostRuntime) -> Result<(), Fail> {
     text.extend(b"1234")?;
     text.push(b'5')?;
     assert_eq!(rt; text.len(), 5);
-    assert_eq!(rt; text.copy(alloc)?.as_slice(), b"12345".as_slice());
+    text.push_number(0)?;
+    text.push_spaced(&[67, u64::MAX])?;
+    assert_eq!(rt;
+        text.copy(alloc)?.as_slice(),
+        b"123450 67 18446744073709551615".as_slice()
+    );
     assert_eq!(rt; Text::from_slice(alloc, b"5")?.as_slice(), b"5".as_slice());
     Ok(())
 }
@@ -116,16 +121,19 @@ fn a_sink_in_memory(rt: HostRuntime) -> Result<(), Fail> {
     Ok(())
 }
 
-// A folder fails at its first read, and /dev/zero never ends.
+// A folder fails at its first read, a file in a file can't be opened, and /dev/zero never ends.
 #[test]
 fn files_of_the_system(rt: HostRuntime) -> Result<(), Fail> {
     let alloc = rt.alloc();
     fs::write(&rt, "five", "12345")?;
+    fs::write(&rt, "five ", "1")?;
     let cases = [
         ("five", 5, ReadEnd::Done, b"12345".as_slice()),
         ("five", 4, ReadEnd::TooLong, b"".as_slice()),
         ("none", 5, ReadEnd::Failed, b"".as_slice()),
+        ("five ", 5, ReadEnd::Done, b"1".as_slice()),
         (".", 5, ReadEnd::Failed, b"".as_slice()),
+        ("five/one", 5, ReadEnd::Failed, b"".as_slice()),
         ("/dev/zero", 5000, ReadEnd::TooLong, b"".as_slice()),
     ];
     let mut files = HostFiles::new(&rt);
@@ -139,6 +147,7 @@ fn files_of_the_system(rt: HostRuntime) -> Result<(), Fail> {
         assert_eq!(rt; into.as_slice(), *content, "case {index}");
     }
     fs::remove_file(&rt, "five")?;
+    fs::remove_file(&rt, "five ")?;
     Ok(())
 }
 
