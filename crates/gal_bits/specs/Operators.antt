@@ -1,8 +1,10 @@
 -- The operators over numbers of any size.
-use Rattle.std.specs.Prelude.{ℕ, ◌+◌, ◌-◌, ◌*◌, ◌/◌, ◌%◌, ◌^◌, ◌==◌, Bool, true, false, List, codes, nat_lt, nat_le, bit_and, bit_or, bit_xor, slice_index, if◌then◌else◌}
+use Rattle.std.specs.Prelude.{ℕ, ◌+◌, ◌-◌, ◌*◌, ◌/◌, ◌%◌, ◌^◌, ◌==◌, Bool, true, false, List, codes, nat_lt, nat_le}
+use Rattle.std.specs.Prelude.{bit_and, bit_or, bit_xor, slice_index, if◌then◌else◌}
 use Rattle.gal_bits.specs.Checksum.{adjusted}
 use Rattle.gal_bits.specs.declared.op.Op.{Op}
-use Rattle.gal_bits.specs.declared.op.Op.TheVariants.{Add, Sub, Mul, Div, Rem, And, Or, Xor, Not, Shl, Shr, Eq, Ne, Lt, Le, Cast, Select, Adjust}
+use Rattle.gal_bits.specs.declared.op.Op.TheVariants.{Add, Sub, Mul, Div, Rem, And, Or, Xor, Not, Shl, Shr, Eq, Ne, Lt}
+use Rattle.gal_bits.specs.declared.op.Op.TheVariants.{Le, Cast, Select, Adjust}
 
 -- what is said of an operator; its number, at a width and of up to three arguments, is not yet cut to the width
 pub record Row : Type 0 where

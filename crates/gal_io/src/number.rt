@@ -9,7 +9,9 @@ ghost use Rattle.gal_io.specs.Number.{number_up_to};
 // The value of digits, leading zeros or not, where it is at most `most`.
 #[tactic(auto, using(crate::proofs::NumberLemmas::value_with_next))]
 fn value_up_to(digits: &[u8], most: u64) -> Option<u64>
-    ensures { SomeIff result (IsTrue (all_ascii_digits digits.now) × (digits_value 10 digits.now ≤ most)) (digits_value 10 digits.now) }
+    ensures { SomeIff result
+        (IsTrue (all_ascii_digits digits.now) × (digits_value 10 digits.now ≤ most))
+        (digits_value 10 digits.now) }
 {
     let mut value: u64 = 0;
     for digit in digits {

@@ -12,7 +12,7 @@ use Rattle.packet_fields.specs.Shape.{outline_of, in_header, shape_from, shape_o
 use Rattle.packet_fields.specs.Table.{row}
 use Rattle.packet_fields.proofs.BitRows.{length-with_number_at, number_at-with_same, number_at-with_apart}
 use Rattle.packet_fields.proofs.Places.{Stands, stands_in, Spot, spot, is_at, fields_apart, header_ends, place_within, none_overlap}
-use Rattle.packet_fields.specs.declared.packet.TheConstants.{MAX_PACKET_BYTES}
+use Rattle.packet_fields.specs.Sizes.{largest_packet}
 
 -- ---- in the packet
 pub start_near : (shape : Shape) (bytes : List ℕ) (f : Field) (start : ℕ) → shape ≡ shape_of bytes → start_of shape (row f).header ≡ Some start → start ≤ length bytes
@@ -28,7 +28,7 @@ one_bit : (b : Bool) → cond b 1 0 < 2 ^ 1
 one_bit true = lit< tt
 one_bit false = lit< tt
 
-pub meta_value_fits : (bytes : ℕ) (shape : Shape) (port : ℕ) (f : Field) → bytes ≤ MAX_PACKET_BYTES → port < 2 ^ 8 → meta_value bytes shape port f < 2 ^ (row f).width
+pub meta_value_fits : (bytes : ℕ) (shape : Shape) (port : ℕ) (f : Field) → bytes ≤ largest_packet → port < 2 ^ 8 → meta_value bytes shape port f < 2 ^ (row f).width
 meta_value_fits bytes shape port MetaPort size fits = fits
 meta_value_fits bytes shape port MetaLen size fits = omega arith
 meta_value_fits bytes shape port HasIp size fits = one_bit (is_some shape.ip)

@@ -1,5 +1,6 @@
 -- Bytes as a row of bits. The highest bit of the first byte comes first, as in the figures of the RFCs.
-use Rattle.std.specs.Prelude.{◌≡◌, ℕ, zero, suc, ◌+◌, ◌-◌, ◌*◌, ◌/◌, ◌%◌, ◌<◌, ◌≤◌, List, length, map, slice_index, ◌&&◌, nat_le, nat_lt, if◌then◌else◌}
+use Rattle.std.specs.Prelude.{◌≡◌, ℕ, zero, suc, ◌+◌, ◌-◌, ◌*◌, ◌/◌, ◌%◌, ◌<◌, ◌≤◌, List, length, map, slice_index}
+use Rattle.std.specs.Prelude.{◌&&◌, nat_le, nat_lt, if◌then◌else◌}
 use Rattle.std.specs.Int.{bit_at}
 use Rattle.std.specs.List.{range_with_len}
 
@@ -14,7 +15,8 @@ spelled row start (suc width) = spelled row start width * 2 + row (start + width
 
 -- a row in which the bits from a start on spell a value, and each other bit is as it was
 unfoldable pub replaced : (ℕ → ℕ) → ℕ → ℕ → ℕ → ℕ → ℕ
-replaced row start width value n = if nat_le start n && nat_lt n (start + width) then bit_at value (start + width - 1 - n) else row n
+replaced row start width value n =
+    if nat_le start n && nat_lt n (start + width) then bit_at value (start + width - 1 - n) else row n
 
 -- the first bytes of a row, so many of them
 unfoldable pub bytes_of : (ℕ → ℕ) → ℕ → List ℕ

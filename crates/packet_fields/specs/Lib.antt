@@ -1,4 +1,5 @@
 pub mod Bits
 pub mod Fields
 pub mod Shape
+pub mod Sizes
 pub mod Table

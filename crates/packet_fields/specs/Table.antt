@@ -2,11 +2,17 @@
 use Rattle.std.specs.Prelude.{ℕ, Bool, true, false, List, [], ◌∷◌, Option, codes, find}
 use Rattle.std.specs.Str.{bytes_eq}
 use Rattle.packet_fields.specs.declared.field.Field.{Field}
-use Rattle.packet_fields.specs.declared.field.Field.TheVariants.{MetaPort, MetaLen, HasIp, HasTcp, HasUdp, EthDst, EthSrc, EthType, IpVersion, IpIhl, IpTos, IpLen, IpId, IpFlags, IpFrag, IpTtl, IpProto, IpSum, IpSrc, IpDst, TcpSport, TcpDport, TcpSeq, TcpAck, TcpOff, TcpRes, TcpFlags, TcpWin, TcpSum, TcpUrg, UdpSport, UdpDport, UdpLen, UdpSum}
+use Rattle.packet_fields.specs.declared.field.Field.TheVariants.{MetaPort, MetaLen, HasIp, HasTcp, HasUdp, EthDst}
+use Rattle.packet_fields.specs.declared.field.Field.TheVariants.{EthSrc, EthType, IpVersion, IpIhl, IpTos, IpLen, IpId}
+use Rattle.packet_fields.specs.declared.field.Field.TheVariants.{IpFlags, IpFrag, IpTtl, IpProto, IpSum, IpSrc, IpDst}
+use Rattle.packet_fields.specs.declared.field.Field.TheVariants.{TcpSport, TcpDport, TcpSeq, TcpAck, TcpOff, TcpRes}
+use Rattle.packet_fields.specs.declared.field.Field.TheVariants.{TcpFlags, TcpWin, TcpSum, TcpUrg, UdpSport, UdpDport}
+use Rattle.packet_fields.specs.declared.field.Field.TheVariants.{UdpLen, UdpSum}
 use Rattle.packet_fields.specs.declared.field.Header.{Header}
 use Rattle.packet_fields.specs.declared.field.Header.TheVariants.{Meta, Ethernet, Ip, Tcp, Udp}
 
--- a field's name, the header that it stands in, its first bit there, how many bits it has, and whether it may be written
+-- a field's name, the header that it stands in, its first bit there, how many bits it has, and whether it may be
+-- written
 pub record Row : Type 0 where
   pub name : List ℕ
   pub header : Header
@@ -53,7 +59,10 @@ row UdpSum = record { name = codes "udp.sum"; header = Udp; at = 48; width = 16;
 
 -- all fields, in field order
 unfoldable pub all_fields : List Field
-all_fields = MetaPort ∷ MetaLen ∷ HasIp ∷ HasTcp ∷ HasUdp ∷ EthDst ∷ EthSrc ∷ EthType ∷ IpVersion ∷ IpIhl ∷ IpTos ∷ IpLen ∷ IpId ∷ IpFlags ∷ IpFrag ∷ IpTtl ∷ IpProto ∷ IpSum ∷ IpSrc ∷ IpDst ∷ TcpSport ∷ TcpDport ∷ TcpSeq ∷ TcpAck ∷ TcpOff ∷ TcpRes ∷ TcpFlags ∷ TcpWin ∷ TcpSum ∷ TcpUrg ∷ UdpSport ∷ UdpDport ∷ UdpLen ∷ UdpSum ∷ []
+all_fields =
+    MetaPort ∷ MetaLen ∷ HasIp ∷ HasTcp ∷ HasUdp ∷ EthDst ∷ EthSrc ∷ EthType ∷ IpVersion ∷ IpIhl ∷ IpTos ∷ IpLen
+    ∷ IpId ∷ IpFlags ∷ IpFrag ∷ IpTtl ∷ IpProto ∷ IpSum ∷ IpSrc ∷ IpDst ∷ TcpSport ∷ TcpDport ∷ TcpSeq ∷ TcpAck
+    ∷ TcpOff ∷ TcpRes ∷ TcpFlags ∷ TcpWin ∷ TcpSum ∷ TcpUrg ∷ UdpSport ∷ UdpDport ∷ UdpLen ∷ UdpSum ∷ []
 
 -- the place of a field in field order, counted from 0
 abbrev pub field_index : Field → ℕ

@@ -2,7 +2,8 @@
 ghost use Rattle.std.specs.Prelude.{◌≡◌, ℕ, ◌+◌, ◌-◌, ◌*◌, ◌/◌, ◌%◌, ◌^◌, ◌<◌, ◌≤◌, length, slice_index};
 ghost use Rattle.packet_fields.specs.Bits.{number_at, with_number_at, Holds};
 
-// The bytes from `first` up to `end`, which hold a range of bits. The last `behind` bits of them stand behind the range.
+// The bytes from `first` up to `end`, which hold a range of bits. The last `behind` bits of them stand behind the
+// range.
 #[derive(Clone, Copy)]
 struct Window {
     first: usize,

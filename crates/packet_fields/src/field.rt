@@ -69,9 +69,9 @@ pub enum Field {
     UdpSum,
 }
 
-// The table, which is handed to the macro `then` behind what is given. A row has a field, its name, the header that it stands in,
-// its first bit there (counted from the highest bit of the header's first byte), how many bits it has, and whether it
-// may be written.
+// The table, which is handed to the macro `then` behind what is given. A row has a field, its name, the header that it
+// stands in, its first bit there (counted from the highest bit of the header's first byte), how many bits it has, and
+// whether it may be written.
 macro_rules! field_table {
     ($then:ident $($given:tt)*) => {
         $then! {
@@ -123,7 +123,10 @@ macro_rules! listed {
 
 // What one column of the table has for a field.
 macro_rules! column {
-    ([$column:ident $field:ident] $($name:ident $text:literal $header:ident $at:literal $width:literal $writable:literal,)*) => {
+    (
+        [$column:ident $field:ident]
+        $($name:ident $text:literal $header:ident $at:literal $width:literal $writable:literal,)*
+    ) => {
         match $field {
             $(Field::$name => cell!($column $text $header $at $width $writable),)*
         }
@@ -168,7 +171,9 @@ pub fn field_name(field: Field) -> &'static str
 #[tactic(auto, using(crate::proofs::FieldList::is_exact))]
 pub fn field_of(name: &[u8]) -> Option<Field>
     ensures value { result ≡ field_named name.now }
-    ensures exact { MatchOption result ((field : Field) → (row field).name ≢ name.now) (λ field. (row field).name ≡ name.now) }
+    ensures exact { MatchOption result
+        ((field : Field) → (row field).name ≢ name.now)
+        (λ field. (row field).name ≡ name.now) }
 {
     find_named(name)
 }

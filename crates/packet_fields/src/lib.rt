@@ -10,7 +10,7 @@ mod verdict;
 
 pub use access::{get, set};
 pub use field::{Field, Header, field_index, field_name, field_of, fields, width, writable};
-pub use packet::{MAX_PACKET_BYTES, Packet, Packets};
+pub use packet::{MAX_PACKET_BYTES, Packet, Packets, is_short};
 pub use shape::Shape;
 pub use verdict::Verdict;
 

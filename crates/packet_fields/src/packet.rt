@@ -1,5 +1,6 @@
 //! Packets as they arrive.
-ghost use Rattle.std.specs.Prelude.{◌≡◌, ◌↔◌, ◌++◌, ◌∷◌, [], length, IfOk, IsTrue, OnOk, OnErr};
+ghost use Rattle.std.specs.Prelude.{◌≡◌, ◌↔◌, ◌++◌, ◌∷◌, [], length, nat_le, IfOk, IsTrue, OnOk, OnErr};
+ghost use Rattle.packet_fields.specs.Sizes.{largest_packet};
 
 use gal_io::{Bytes, NoMemory};
 use std::alloc::Global;
@@ -7,6 +8,13 @@ use std::marker::Model;
 
 /// The most bytes of a packet.
 pub const MAX_PACKET_BYTES: usize = 9_216;
+
+/// Whether these bytes are few enough for a packet.
+pub fn is_short(bytes: &[u8]) -> bool
+    ensures { result ≡ nat_le (length bytes.now) largest_packet }
+{
+    bytes.len() <= MAX_PACKET_BYTES
+}
 
 /// A packet: the port by which it arrives, and its bytes.
 #[derive(Debug, Drop)]

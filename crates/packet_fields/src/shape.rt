@@ -3,7 +3,7 @@ ghost use Rattle.std.specs.Prelude.{◌≡◌, ℕ, ◌+◌, ◌*◌, ◌^◌, �
 ghost use Rattle.packet_fields.specs.Fields.{NoneOverlap};
 ghost use Rattle.packet_fields.specs.Shape.{outline_of, in_header, after_ip, has_ip, carries, shape_of, start_of};
 ghost use Rattle.packet_fields.specs.Table.{row};
-ghost use Rattle.packet_fields.specs.declared.packet.TheConstants.{MAX_PACKET_BYTES};
+ghost use Rattle.packet_fields.specs.Sizes.{largest_packet};
 
 use crate::bits::number_at;
 use crate::field::{Field, Header, bits_of, first_bit};
@@ -30,7 +30,7 @@ impl Shape {
     /// The headers of the packet. What the IPv4 header says of the packet's length isn't looked at.
     #[tactic(auto, using(crate::proofs::Places::none_overlap))]
     pub fn of(packet: &[u8]) -> Shape
-        requires { length packet.now ≤ MAX_PACKET_BYTES }
+        requires { length packet.now ≤ largest_packet }
         ensures value { result ≡ shape_of packet.now }
         ensures apart { NoneOverlap result }
     {
@@ -39,7 +39,7 @@ impl Shape {
 
     #[tactic(auto, unfolding(crate::specs::Shape::shape_of, crate::specs::Shape::shape_from))]
     fn found(packet: &[u8]) -> Shape
-        requires { length packet.now ≤ MAX_PACKET_BYTES }
+        requires { length packet.now ≤ largest_packet }
         ensures { result ≡ shape_of packet.now }
     {
         let ethernet = if packet.len() >= AFTER_ETHERNET {
@@ -93,7 +93,7 @@ fn in_header(packet: &[u8], start: usize, field: Field) -> u64
 
 // Whether the packet has an IPv4 header.
 fn starts_ip(packet: &[u8]) -> bool
-    requires { length packet.now ≤ MAX_PACKET_BYTES }
+    requires { length packet.now ≤ largest_packet }
     ensures { result ≡ has_ip (outline_of packet.now) }
 {
     if packet.len() < AFTER_ETHERNET + 20 {
@@ -109,7 +109,7 @@ fn starts_ip(packet: &[u8]) -> bool
 // Where the header of that protocol starts, which has so many bytes, if it follows the IPv4 header.
 #[tactic(auto, using(crate::proofs::Places::ip_facts))]
 fn next_header(packet: &[u8], start: usize, protocol: u64, bytes: usize) -> Option<usize>
-    requires size { length packet.now ≤ MAX_PACKET_BYTES }
+    requires size { length packet.now ≤ largest_packet }
     requires ip { has_ip (outline_of packet.now) ≡ true }
     requires start { start ≡ after_ip (outline_of packet.now) }
     requires short { bytes ≤ 20 }

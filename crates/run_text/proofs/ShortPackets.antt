@@ -16,8 +16,8 @@ use Rattle.run_text.specs.declared.refusal.LineKind.{LineKind}
 use Rattle.run_text.specs.declared.refusal.LineKind.TheVariants.{Form}
 use Rattle.run_text.specs.declared.refusal.LinesError.{LinesError}
 use Rattle.run_text.specs.declared.refusal.LinesError.TheVariants.{TooMany}
-use Rattle.packet_fields.specs.declared.packet.TheConstants.{MAX_PACKET_BYTES}
-use Rattle.run_text.specs.declared.refusal.TheConstants.{MAX_PACKETS}
+use Rattle.packet_fields.specs.Sizes.{largest_packet}
+use Rattle.run_text.specs.Sizes.{most_packets}
 
 -- ---- what holds of the value of each line holds of all values
 
@@ -42,14 +42,14 @@ all_of_most P most (Err e) h = tt
 -- ---- a line of a trace
 
 abbrev IsShort : List ℕ → Type 0
-IsShort bytes = length bytes ≤ MAX_PACKET_BYTES
+IsShort bytes = length bytes ≤ largest_packet
 
 abbrev IsShortPacket : Packet → Type 0
 IsShortPacket packet = IsShort packet.bytes
 
 short_bytes : (given : Result (List ℕ) FromHexError) → IfOk (body_bytes given) IsShort
 short_bytes (Err e) = tt
-short_bytes (Ok bytes) = elim (cases_Bool (nat_le (length bytes) MAX_PACKET_BYTES)) [
+short_bytes (Ok bytes) = elim (cases_Bool (nat_le (length bytes) largest_packet)) [
   | inl short ↦ rw short (grind (arith, nat_tests))
   | inr long ↦ rw long tt
 ]
@@ -76,4 +76,4 @@ short_line line = elim (list_any is_space line) as (λ b. IfOk (if b then packet
 ]
 
 pub short_trace : (text : List ℕ) → IfOk (trace_of text) (All IsShortPacket)
-short_trace text = all_of_most IsShortPacket MAX_PACKETS (line_values packet_line 1 (lines text)) (all_lines IsShortPacket packet_line short_line 1 (lines text))
+short_trace text = all_of_most IsShortPacket most_packets (line_values packet_line 1 (lines text)) (all_lines IsShortPacket packet_line short_line 1 (lines text))

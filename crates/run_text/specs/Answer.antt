@@ -15,4 +15,5 @@ verdict_lines number (v ∷ vs) = verdict_line number v ++ verdict_lines (suc nu
 
 -- what became of each packet, and the rows that were left, of objects that are declared so
 abbrev pub answer_of : List ObjectDecl → List Verdict → List Part → List ℕ
-answer_of objects verdicts parts = verdict_lines 0 verdicts ++ (part_lines (codes "object") objects parts ++ (codes "end" ++ line_end))
+answer_of objects verdicts parts =
+    verdict_lines 0 verdicts ++ (part_lines (codes "object") objects parts ++ (codes "end" ++ line_end))

@@ -1,4 +1,5 @@
 pub mod Fate
+pub mod Sizes
 pub mod Trace
 pub mod Order
 pub mod Report

@@ -1,6 +1,8 @@
 -- The text of a report.
-use Rattle.std.specs.Prelude.{ℕ, suc, Bool, true, false, List, [], ◌∷◌, ◌++◌, length, codes, decimal, Option, Some, None, slice_get}
+use Rattle.std.specs.Prelude.{ℕ, suc, Bool, true, false, List, [], ◌∷◌, ◌++◌, length, codes, decimal, Option, Some}
+use Rattle.std.specs.Prelude.{None, slice_get}
 use Rattle.hex.specs.Hex.{encode_lower}
+use Rattle.gal_io.specs.Number.{spaced}
 use Rattle.packet_fields.specs.declared.verdict.Verdict.{Verdict}
 use Rattle.packet_fields.specs.declared.verdict.Verdict.TheVariants.{Drop, Send}
 use Rattle.run_text.specs.declared.fate.Fate.{Fate}
@@ -26,7 +28,8 @@ verdict_text (Send port bytes) = codes "send " ++ (decimal port ++ (codes " " ++
 -- how a packet was decided
 abbrev pub decided_text : List ℕ → ℕ → ℕ → ℕ → List ℕ
 decided_text path admitted decided version =
-    path ++ (codes " admitted " ++ (decimal admitted ++ (codes " decided " ++ (decimal decided ++ (codes " version " ++ decimal version)))))
+    path ++ (codes " admitted " ++ (decimal admitted
+    ++ (codes " decided " ++ (decimal decided ++ (codes " version " ++ decimal version)))))
 
 -- how it was released
 abbrev pub released_text : ℕ → Verdict → List ℕ
@@ -35,8 +38,10 @@ released_text released verdict = codes " released " ++ (decimal released ++ (cod
 abbrev pub fate_text : Fate → List ℕ
 fate_text (Up admitted) = codes "up admitted " ++ decimal admitted
 fate_text (Held admitted decided version) = decided_text (codes "slow") admitted decided version ++ codes " held"
-fate_text (Slow admitted decided version released verdict) = decided_text (codes "slow") admitted decided version ++ released_text released verdict
-fate_text (Fast admitted decided version released verdict) = decided_text (codes "fast") admitted decided version ++ released_text released verdict
+fate_text (Slow admitted decided version released verdict) =
+    decided_text (codes "slow") admitted decided version ++ released_text released verdict
+fate_text (Fast admitted decided version released verdict) =
+    decided_text (codes "fast") admitted decided version ++ released_text released verdict
 
 abbrev pub fate_line : ℕ → Fate → List ℕ
 fate_line number fate = codes "packet " ++ (decimal number ++ (codes " " ++ (fate_text fate ++ line_end)))
@@ -46,14 +51,9 @@ abbrev pub fate_lines : ℕ → List Fate → List ℕ
 fate_lines number [] = []
 fate_lines number (f ∷ fs) = fate_line number f ++ fate_lines (suc number) fs
 
--- each number after a space
-abbrev pub numbers_text : List ℕ → List ℕ
-numbers_text [] = []
-numbers_text (n ∷ ns) = codes " " ++ (decimal n ++ numbers_text ns)
-
 abbrev pub order_text : List ℕ → List ℕ
 order_text [] = codes " -"
-order_text (n ∷ ns) = numbers_text (n ∷ ns)
+order_text (n ∷ ns) = spaced (n ∷ ns)
 
 abbrev pub order_line : List ℕ → List ℕ
 order_line order = codes "order" ++ (order_text order ++ line_end)
@@ -73,13 +73,13 @@ abbrev pub drained_line : Bool → List ℕ
 drained_line true = codes "drained yes" ++ line_end
 drained_line false = codes "drained no" ++ line_end
 
--- each number of a row's value after a space, and each of its key before one
+-- each number of a row's key before a space; those of its value stand behind one
 abbrev pub key_text : List ℕ → List ℕ
 key_text [] = []
 key_text (n ∷ ns) = decimal n ++ (codes " " ++ key_text ns)
 
 abbrev pub row_line : Row → List ℕ
-row_line row = key_text row.keys ++ (codes "->" ++ (numbers_text row.values ++ line_end))
+row_line row = key_text row.keys ++ (codes "->" ++ (spaced row.values ++ line_end))
 
 abbrev pub row_lines : List Row → List ℕ
 row_lines [] = []
@@ -93,14 +93,17 @@ name_in (Some object) = object.name
 -- what the parts are called, an object's name, and its rows
 abbrev pub part_line : List ℕ → List ObjectDecl → Part → List ℕ
 part_line word objects part =
-    word ++ (codes " " ++ (name_in (slice_get objects part.object) ++ (codes " " ++ (decimal (length part.rows) ++ line_end))))
+    word ++ (codes " " ++ (name_in (slice_get objects part.object)
+    ++ (codes " " ++ (decimal (length part.rows) ++ line_end))))
 
 abbrev pub part_lines : List ℕ → List ObjectDecl → List Part → List ℕ
 part_lines word objects [] = []
-part_lines word objects (part ∷ parts) = part_line word objects part ++ (row_lines part.rows ++ part_lines word objects parts)
+part_lines word objects (part ∷ parts) =
+    part_line word objects part ++ (row_lines part.rows ++ part_lines word objects parts)
 
 -- the whole report of a run, whose objects are declared so
 abbrev pub report_of : List ObjectDecl → Run → List ℕ
 report_of objects run =
-    (codes "report 1" ++ line_end) ++ (packets_line run ++ (events_line run ++ (version_line run ++ (drained_line run.drained
-    ++ (fate_lines 0 run.fates ++ (order_line run.order ++ (part_lines (codes "object") objects run.objects ++ (codes "end" ++ line_end))))))))
+    (codes "report 1" ++ line_end) ++ (packets_line run ++ (events_line run ++ (version_line run
+    ++ (drained_line run.drained ++ (fate_lines 0 run.fates ++ (order_line run.order
+    ++ (part_lines (codes "object") objects run.objects ++ (codes "end" ++ line_end))))))))

@@ -1,5 +1,6 @@
 -- The text of a trace, and of a schedule: which values a text spells, or why it is refused.
-use Rattle.std.specs.Prelude.{ℕ, suc, ◌-◌, ◌^◌, Bool, List, [], ◌∷◌, length, nat_le, ◌==◌, if◌then◌else◌, Option, Some, None, Result, Ok, Err, codes}
+use Rattle.std.specs.Prelude.{ℕ, suc, ◌-◌, ◌^◌, Bool, List, [], ◌∷◌, length, nat_le, ◌==◌, if◌then◌else◌, Option, Some}
+use Rattle.std.specs.Prelude.{None, Result, Ok, Err, codes}
 use Rattle.std.specs.Str.{bytes_eq}
 use Rattle.std.specs.List.{before_first, after_first, list_any}
 use Rattle.hex.specs.Hex.{decode_of}
@@ -13,8 +14,8 @@ use Rattle.run_text.specs.declared.refusal.LineKind.{LineKind}
 use Rattle.run_text.specs.declared.refusal.LineKind.TheVariants.{Form, Number, Hex, Long}
 use Rattle.run_text.specs.declared.refusal.LinesError.{LinesError}
 use Rattle.run_text.specs.declared.refusal.LinesError.TheVariants.{Line, TooMany}
-use Rattle.packet_fields.specs.declared.packet.TheConstants.{MAX_PACKET_BYTES}
-use Rattle.run_text.specs.declared.refusal.TheConstants.{MAX_PACKETS, MAX_EVENTS}
+use Rattle.packet_fields.specs.Sizes.{largest_packet}
+use Rattle.run_text.specs.Sizes.{most_packets, most_events}
 
 -- a value in front of those of the lines behind
 abbrev pub in_front : {X : Type 0} → X → Result (List X) LinesError → Result (List X) LinesError
@@ -39,7 +40,7 @@ at_most most (Err e) = Err e
 
 -- the bytes that the body of a line spells: `-` for none, or pairs of hexadecimal digits
 abbrev pub body_bytes : Result (List ℕ) FromHexError → Result (List ℕ) LineKind
-body_bytes (Ok bytes) = if nat_le (length bytes) MAX_PACKET_BYTES then Ok bytes else Err Long
+body_bytes (Ok bytes) = if nat_le (length bytes) largest_packet then Ok bytes else Err Long
 body_bytes (Err e) = Err Hex
 
 abbrev pub body_of : List ℕ → Result (List ℕ) LineKind
@@ -65,7 +66,7 @@ packet_line line =
 
 -- the packets that the text of a trace spells
 abbrev pub trace_of : List ℕ → Result (List Packet) LinesError
-trace_of text = at_most MAX_PACKETS (line_values packet_line 1 (lines text))
+trace_of text = at_most most_packets (line_values packet_line 1 (lines text))
 
 abbrev pub numbered : (ℕ → Event) → Option ℕ → Result Event LineKind
 numbered event None = Err Number
@@ -77,7 +78,8 @@ largest = 2 ^ 32 - 1
 
 -- a space and a number below 2 ^ 32 behind the first letter
 abbrev pub item_line : (ℕ → Event) → List ℕ → Result Event LineKind
-item_line event line = if list_any is_space line then numbered event (number_up_to largest (after_first is_space line)) else Err Form
+item_line event line =
+    if list_any is_space line then numbered event (number_up_to largest (after_first is_space line)) else Err Form
 
 -- A line of a schedule is `a`, or one of `u`, `h` and `d`, a space and a number below 2 ^ 32.
 abbrev pub event_line : List ℕ → Result Event LineKind
@@ -91,4 +93,4 @@ event_line line =
 
 -- the events that the text of a schedule spells
 abbrev pub schedule_of : List ℕ → Result (List Event) LinesError
-schedule_of text = at_most MAX_EVENTS (line_values event_line 1 (lines text))
+schedule_of text = at_most most_events (line_values event_line 1 (lines text))

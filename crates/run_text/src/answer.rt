@@ -37,13 +37,7 @@ pub fn print_answer(
 {
     let mut text = Text::new(alloc);
     put_verdicts(alloc, verdicts, &mut text)?;
-    put_parts(
-        alloc,
-        "object",
-        objects.as_slice(),
-        parts.as_slice(),
-        &mut text,
-    )?;
+    put_parts("object", objects.as_slice(), parts.as_slice(), &mut text)?;
     text.extend(b"end\n")?;
     Ok(text)
 }

@@ -4,8 +4,8 @@ ghost use Rattle.std.specs.Prelude.{◌≡◌};
 use packet_fields::Verdict;
 use std::marker::Model;
 
-/// How far an admitted packet has come. `admitted`, `decided` and `released` are the numbers of events, counted from 1, and
-/// `version` is the version of the switch's tables that the decision belongs to.
+/// How far an admitted packet has come. `admitted`, `decided` and `released` are the numbers of events, counted from 1,
+/// and `version` is the version of the switch's tables that the decision belongs to.
 #[derive(Debug, Drop)]
 pub enum Fate {
     /// It is on its way up to the server.

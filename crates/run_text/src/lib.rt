@@ -20,7 +20,7 @@ pub use refusal::{LineKind, LinesError, MAX_EVENTS, MAX_PACKETS};
 pub use report::print_run;
 pub use run::{Order, Part, Parts, Run};
 pub use schedule::read_schedule;
-pub use serial::order;
+pub use serial::{Decided, order};
 pub use trace::read_trace;
 
 #[cfg(test)]

@@ -1,7 +1,9 @@
 //! The text of a report.
 ghost use Rattle.std.specs.Prelude.{◌≡◌, ◌++◌, IfOk, OnOk, string_bytes};
-ghost use Rattle.run_text.specs.Report.{body_text, decided_text, drained_line, events_line, fate_line, fate_lines, fate_text};
-ghost use Rattle.run_text.specs.Report.{numbers_text, order_line, packets_line, released_text, report_of, verdict_text, version_line};
+ghost use Rattle.run_text.specs.Report.{body_text, decided_text, drained_line, events_line, fate_line};
+ghost use Rattle.run_text.specs.Report.{fate_lines, fate_text, order_line, packets_line, released_text, report_of};
+ghost use Rattle.run_text.specs.Report.{verdict_text, version_line};
+ghost use Rattle.gal_io.specs.Number.{spaced};
 
 use crate::fate::Fate;
 use crate::parts::put_parts;
@@ -106,22 +108,23 @@ fn put_fates(alloc: Global, fates: &[Fate], text: &mut Text) -> Result<(), NoMem
     Ok(())
 }
 
-fn put_numbers(alloc: Global, numbers: &[u32], text: &mut Text) -> Result<(), NoMemory>
-    ensures { OnOk result (text.new ≡ text.old ++ numbers_text numbers.now) }
+fn put_numbers(numbers: &[u32], text: &mut Text) -> Result<(), NoMemory>
+    ensures { OnOk result (text.new ≡ text.old ++ spaced numbers.now) }
 {
     for number in numbers {
-        text.extend(format!(in alloc; " {number}")?.as_bytes())?;
+        text.push(b' ')?;
+        text.push_number(u64::from(*number))?;
     }
     Ok(())
 }
 
-fn put_order(alloc: Global, order: &[u32], text: &mut Text) -> Result<(), NoMemory>
+fn put_order(order: &[u32], text: &mut Text) -> Result<(), NoMemory>
     ensures { OnOk result (text.new ≡ text.old ++ order_line order.now) }
 {
     text.extend(b"order")?;
     match order {
         [] => text.extend(b" -")?,
-        _ => put_numbers(alloc, order, text)?,
+        _ => put_numbers(order, text)?,
     }
     text.push(b'\n')
 }
@@ -160,8 +163,8 @@ fn drained_line(drained: bool) -> &'static [u8]
     }
 }
 
-/// The report of a run of a middlebox with these objects: its counts, a line for each admitted packet, the serial order, and
-/// the rows of the objects.
+/// The report of a run of a middlebox with these objects: its counts, a line for each admitted packet, the serial
+/// order, and the rows of the objects.
 pub fn print_run(alloc: Global, objects: &Objects, run: &Run) -> Result<Text, NoMemory>
     ensures { IfOk result (λ text. text ≡ report_of objects.now run.now) }
 {
@@ -171,9 +174,8 @@ pub fn print_run(alloc: Global, objects: &Objects, run: &Run) -> Result<Text, No
     text.extend(version_line(alloc, run)?.as_bytes())?;
     text.extend(drained_line(run.drained))?;
     put_fates(alloc, run.fates.as_slice(), &mut text)?;
-    put_order(alloc, run.order.as_slice(), &mut text)?;
+    put_order(run.order.as_slice(), &mut text)?;
     put_parts(
-        alloc,
         "object",
         objects.as_slice(),
         run.objects.as_slice(),

@@ -1,6 +1,7 @@
 //! The text of a schedule.
 ghost use Rattle.std.specs.Prelude.{◌≡◌, ◌≤◌, ◌⊎◌, length, IfOk, IfErr, MatchResult, Some, None, Ok, Err};
 ghost use Rattle.gal_io.specs.Number.{number_up_to};
+ghost use Rattle.run_text.specs.Sizes.{most_events};
 ghost use Rattle.run_text.specs.Trace.{event_line, largest, schedule_of};
 
 use crate::event::{Event, Events};
@@ -52,7 +53,7 @@ impl LineValue for Event {
 pub fn read_schedule(alloc: Global, text: &[u8]) -> Result<Events, LinesError>
     ensures ok { IfOk result (λ events. schedule_of text.now ≡ Ok events) }
     ensures err { IfErr result (λ e. (e ≡ LinesError.NoMemory) ⊎ (schedule_of text.now ≡ Err e)) }
-    ensures few { IfOk result (λ events. length events ≤ MAX_EVENTS) }
+    ensures few { IfOk result (λ events. length events ≤ most_events) }
 {
     let events = read_values(alloc, text, MAX_EVENTS)?;
     Ok(Events::from(events))

@@ -7,9 +7,10 @@ use crate::run::Order;
 use gal_io::NoMemory;
 use std::alloc::Global;
 
-/// Where a decided packet stands in the serial order. The comparison goes by the fields from the first on.
+/// Where a decided packet stands in the serial order: the version and the event that decided it, and its number. One
+/// stands before another by the first of these in which they differ.
 #[derive(Clone, Copy, Debug, PartialEq, Eq, PartialOrd, Ord)]
-pub(crate) struct Decided {
+pub struct Decided {
     pub version: u32,
     pub event: u32,
     pub number: u32,

@@ -1,12 +1,14 @@
 //! The text of a trace.
 ghost use Rattle.std.specs.Prelude.{◌≡◌, ◌≤◌, ◌⊎◌, length, All, IfOk, IfErr, Ok, Err};
+ghost use Rattle.packet_fields.specs.Sizes.{largest_packet};
+ghost use Rattle.run_text.specs.Sizes.{most_packets};
 ghost use Rattle.run_text.specs.Trace.{body_of, packet_line, trace_of};
 
 use crate::line_value::{LineValue, read_values, split_at_space};
 use crate::refusal::{LineKind, LinesError, MAX_PACKETS};
 use gal_io::{Bytes, NoMemory, number_up_to};
 use hex::FromHexError;
-use packet_fields::{MAX_PACKET_BYTES, Packet, Packets};
+use packet_fields::{Packet, Packets, is_short};
 use std::alloc::Global;
 
 // The bytes of a body: `-` for none, or pairs of hexadecimal digits of either case.
@@ -20,9 +22,7 @@ fn read_body(alloc: Global, body: &[u8]) -> Result<Result<Bytes, LineKind>, NoMe
         return Ok(Ok(Bytes::new(alloc)));
     }
     match hex::decode(alloc, body) {
-        Ok(bytes) if bytes.len() <= MAX_PACKET_BYTES => {
-            Ok(Ok(Bytes::from_slice(alloc, &bytes)?))
-        }
+        Ok(bytes) if is_short(&bytes) => { Ok(Ok(Bytes::from_slice(alloc, &bytes)?)) }
         Ok(_) => Ok(Err(LineKind::Long)),
         Err(FromHexError::OutOfMemory) => Err(NoMemory),
         Err(_) => Ok(Err(LineKind::Hex)),
@@ -53,8 +53,8 @@ impl LineValue for Packet {
 pub fn read_trace(alloc: Global, text: &[u8]) -> Result<Packets, LinesError>
     ensures ok { IfOk result (λ packets. trace_of text.now ≡ Ok packets) }
     ensures err { IfErr result (λ e. (e ≡ LinesError.NoMemory) ⊎ (trace_of text.now ≡ Err e)) }
-    ensures few { IfOk result (λ packets. length packets ≤ MAX_PACKETS) }
-    ensures short { IfOk result (λ packets. All (λ p. length p.bytes ≤ MAX_PACKET_BYTES) packets) }
+    ensures few { IfOk result (λ packets. length packets ≤ most_packets) }
+    ensures short { IfOk result (λ packets. All (λ p. length p.bytes ≤ largest_packet) packets) }
 {
     let packets = read_values(alloc, text, MAX_PACKETS)?;
     Ok(Packets::from(packets))

@@ -1,6 +1,6 @@
 use Rattle.std.proofs.Common.{◌≡◌, ◌++◌, drop}
-use Rattle.run_text.specs.Report.{numbers_text}
+use Rattle.gal_io.specs.Number.{spaced}
 use Rattle.run_text.proofs.report.put_numbers.Given as goal
 
 abbrev pub invariant-loop-number : goal.invariant-loop-number
-invariant-loop-number l = l.text ++ numbers_text (drop l.number-index l.numbers) ≡ l.initial.text ++ numbers_text l.numbers
+invariant-loop-number l = l.text ++ spaced (drop l.number-index l.numbers) ≡ l.initial.text ++ spaced l.numbers
