@@ -2,8 +2,11 @@
 #![tactic(auto)]
 
 mod broken;
+mod copy;
 mod mark;
 mod sizes;
+#[cfg(test)]
+mod tests;
 mod tree;
 
 pub use broken::Broken;
