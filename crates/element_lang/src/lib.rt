@@ -2,11 +2,14 @@
 #![tactic(auto)]
 
 mod broken;
+mod copy;
 mod mark;
 mod sizes;
+#[cfg(test)]
+mod tests;
 mod tree;
 
 pub use broken::Broken;
-pub use mark::{KEYWORDS, Mark, SYMBOLS};
-pub use sizes::{MAX_DEPTH, MAX_ENTRIES, MAX_OBJECTS, MAX_ROWS, MAX_WRITES, What};
+pub use mark::Mark;
+pub use sizes::{MAX_DEPTH, MAX_ENTRIES, MAX_OBJECTS, MAX_ROWS, MAX_WRITES, What, is_size};
 pub use tree::{Body, Expr, Local, Locals, Middlebox, Stmt};

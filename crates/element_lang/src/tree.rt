@@ -1,5 +1,5 @@
 //! The syntax tree of a middlebox.
-ghost use Rattle.std.specs.Prelude.{◌≡◌, ◌++◌, ◌∷◌, [], length, OnOk, OnErr};
+ghost use Rattle.std.specs.Prelude.{◌≡◌, ◌++◌, ◌∷◌, [], length, IfOk, OnOk, OnErr};
 
 use gal_bits::{Op, Width};
 use gal_io::{Bytes, NoMemory};
@@ -24,6 +24,18 @@ pub struct Middlebox {
 pub struct Local {
     pub name: Bytes,
     pub width: Width,
+}
+
+impl Local {
+    /// The same local again, in memory of its own.
+    pub fn copy(&self, alloc: Global) -> Result<Local, NoMemory>
+        ensures { IfOk result (λ made. made ≡ self.now) }
+    {
+        Ok(Local {
+            name: self.name.copy(alloc)?,
+            width: self.width,
+        })
+    }
 }
 
 /// A list of locals.
@@ -69,6 +81,17 @@ impl Locals {
     {
         self.items.push(local)?;
         Ok(())
+    }
+
+    /// The same locals again, in memory of their own.
+    pub fn copy(&self, alloc: Global) -> Result<Locals, NoMemory>
+        ensures { IfOk result (λ made. made ≡ self.now) }
+    {
+        let mut items = Vec::with_capacity(alloc, self.items.len())?;
+        for local in &self.items {
+            items.push(local.copy(alloc)?)?;
+        }
+        Ok(Locals { items })
     }
 }
 
