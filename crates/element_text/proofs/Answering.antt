@@ -36,9 +36,9 @@ resolved_no_body decls body none =
     never false = refl
 
 -- the first environment is empty
-pub first_is : (text : List ℕ) {objects decls : List ObjectDecl} {locals : List Local} {known : List KnownLocal} → objects ≡ decls → locals ≡ [] → known ≡ [] → ◌≡◌ {A = Env} (record { objects = objects; locals = locals; scope = map (known_of text) known }) (first_env decls)
+pub first_is : (text : List ℕ) {objects decls : List ObjectDecl} {locals : List Local} {known : List KnownLocal} → objects ≡ decls → locals ≡ [] → known ≡ [] → ◌≡◌ {A = Env} (record { objects = objects; locals = locals; scope = map known_of known }) (first_env decls)
 first_is text {decls = decls} {locals = locals} {known = known} objects_are no_locals no_known =
-    let P : List ObjectDecl → List Local → List KnownLocal → Env = λ o l k. record { objects = o; locals = l; scope = map (known_of text) k } in
+    let P : List ObjectDecl → List Local → List KnownLocal → Env = λ o l k. record { objects = o; locals = l; scope = map known_of k } in
     ap (λ o. P o locals known) objects_are ∙ ap (λ l. P decls l known) no_locals ∙ ap (P decls []) no_known
 
 -- the middlebox that was made, with the objects and the locals behind its body

@@ -47,6 +47,6 @@ look_read text found into object keys {exprs = exprs} names_are exprs_are =
     ∙ ap (λ l. surface.look (spelled text found) (map (spelled text) l) (spelled text object) (surface_exprs text exprs)) (sym names_are)
 
 -- the locals in scope again, where those behind them are cut off
-pub cut_scope : (text : List ℕ) (outer inner : List KnownLocal) (n : ℕ) (more : List Known) → n ≡ length outer → map (known_of text) inner ≡ map (known_of text) outer ++ more → map (known_of text) (take n inner) ≡ map (known_of text) outer
+pub cut_scope : (text : List ℕ) (outer inner : List KnownLocal) (n : ℕ) (more : List Known) → n ≡ length outer → map known_of inner ≡ map known_of outer ++ more → map known_of (take n inner) ≡ map known_of outer
 cut_scope text outer inner n more is longer =
-    sym (take-map (known_of text) n inner) ∙ ap (take n) longer ∙ take_at (map (known_of text) outer) more n (length-map outer (known_of text) ∙ sym is)
+    sym (take-map known_of n inner) ∙ ap (take n) longer ∙ take_at (map known_of outer) more n (length-map outer known_of ∙ sym is)

@@ -54,8 +54,8 @@ pub ends_there : (r e : Bool) → e ≡ true → (not r && not e) ≡ false
 ends_there r e h = and_right (not r) (not e) (not_from_true e h)
 
 -- what is declared behind a body, where the locals that it brought into scope are cut off
-pub cut_env : (text : List ℕ) (start : Env) (objects : List ObjectDecl) (locals : List Local) (outer inner cut : List KnownLocal) (n : ℕ) → start.scope ≡ map (known_of text) outer → Within start (record { objects = objects; locals = locals; scope = map (known_of text) inner }) → n ≡ length outer → cut ≡ take n inner → ◌≡◌ {A = Env} (record { objects = objects; locals = locals; scope = map (known_of text) cut }) (with_locals start locals)
+pub cut_env : (text : List ℕ) (start : Env) (objects : List ObjectDecl) (locals : List Local) (outer inner cut : List KnownLocal) (n : ℕ) → start.scope ≡ map known_of outer → Within start (record { objects = objects; locals = locals; scope = map known_of inner }) → n ≡ length outer → cut ≡ take n inner → ◌≡◌ {A = Env} (record { objects = objects; locals = locals; scope = map known_of cut }) (with_locals start locals)
 cut_env text start objects locals outer inner cut n same h count is =
-    let scope : map (known_of text) cut ≡ start.scope = ap (map (known_of text)) is ∙ cut_scope text outer inner n h.more count (h.scope ∙ ap (λ l. l ++ h.more) same) ∙ sym same in
+    let scope : map known_of cut ≡ start.scope = ap (map known_of) is ∙ cut_scope text outer inner n h.more count (h.scope ∙ ap (λ l. l ++ h.more) same) ∙ sym same in
     let P : List ObjectDecl → List Known → Env = λ o k. record { objects = o; locals = locals; scope = k } in
-    ap (λ o. P o (map (known_of text) cut)) h.objects ∙ ap (P start.objects) scope
+    ap (λ o. P o (map known_of cut)) h.objects ∙ ap (P start.objects) scope

@@ -30,13 +30,13 @@ block-returns-clause-env t c =
     let text = c.args.text.now in
     let outer = c.args.scope.now.known.items in
     let count : c.len-outer.result ≡ length outer = search rules in
-    cut_env text (env_of text c.args.scope.now) c.loop-next.scope.objects c.loop-next.scope.locals outer c.loop-next.scope.known.items
+    cut_env text (env_of c.args.scope.now) c.loop-next.scope.objects c.loop-next.scope.locals outer c.loop-next.scope.known.items
     c.truncate.new.self.items c.len-outer.result refl c.loop-next.invariant.within count c.truncate.ensures.items
 
 pub statement-returns-in_err-stmt-in-Look-clause-broken : goal.statement-returns-in_err-stmt-in-Look-clause-broken
 statement-returns-in_err-stmt-in-Look-clause-broken t c =
     let text = c.args.text.now in
-    let env = env_of text c.args.scope.now in
+    let env = env_of c.args.scope.now in
     let same = ap (surface_stmt text) c.in-Look.is
     ∙ look_read text c.in-Look.found c.in-Look.into c.in-Look.object c.in-Look.keys c.deref.ensures.value c.deref-in-Look.ensures.value in
     let none : c.in_err-stmt-in-Look.field-0.0 ≡ Broken → made_stmt env (surface_stmt text c.args.source.now) ≡ None =
@@ -46,7 +46,7 @@ statement-returns-in_err-stmt-in-Look-clause-broken t c =
 pub statement-returns-in_ok-stmt-in-Look-clause-ok : goal.statement-returns-in_ok-stmt-in-Look-clause-ok
 statement-returns-in_ok-stmt-in-Look-clause-ok t c =
     let text = c.args.text.now in
-    let env = env_of text c.args.scope.now in
+    let env = env_of c.args.scope.now in
     let same = ap (surface_stmt text) c.in-Look.is
     ∙ look_read text c.in-Look.found c.in-Look.into c.in-Look.object c.in-Look.keys c.deref.ensures.value c.deref-in-Look.ensures.value in
     ap (made_stmt env) same ∙ c.in_ok-stmt-in-Look.ensures.ok ∙ ap (λ (n : Numbered). some_stmt text n.stmt c.look.new.scope) (sym c.plain-in-Look.ensures)
@@ -56,7 +56,7 @@ statement-returns-in_ok-stmt-in-Look-clause-ok t c =
 pub statement-returns-in_err-yes-in-If-clause-broken : goal.statement-returns-in_err-yes-in-If-clause-broken
 statement-returns-in_err-yes-in-If-clause-broken t c =
     let text = c.args.text.now in
-    let env = env_of text c.args.scope.now in
+    let env = env_of c.args.scope.now in
     let same = ap (surface_stmt text) c.in-If.is ∙ choice_read text c.in-If.cond c.in-If.yes c.in-If.no c.deref-in-If.ensures.value refl in
     let cond = surface_expr text c.in-If.cond in
     let first = surface_body text c.deref-in-If.result.now in
@@ -68,7 +68,7 @@ statement-returns-in_err-yes-in-If-clause-broken t c =
 pub statement-returns-in_err-no-in-If-clause-broken : goal.statement-returns-in_err-no-in-If-clause-broken
 statement-returns-in_err-no-in-If-clause-broken t c =
     let text = c.args.text.now in
-    let env = env_of text c.args.scope.now in
+    let env = env_of c.args.scope.now in
     let same = ap (surface_stmt text) c.in-If.is
     ∙ choice_read text c.in-If.cond c.in-If.yes c.in-If.no c.deref-in-If.ensures.value c.deref-in-If-2.ensures.value in
     let cond = surface_expr text c.in-If.cond in
@@ -78,17 +78,17 @@ statement-returns-in_err-no-in-If-clause-broken t c =
     let none : c.in_err-no-in-If.field-0.0 ≡ Broken → made_stmt env (surface_stmt text c.args.source.now) ≡ None =
     λ e. ap (made_stmt env) same
     ∙ choice_no_second env cond first second _ c.in_ok-cond-in-If.ensures.ok
-    (env_of text c.block.new.scope) a c.in_ok-yes-in-If.ensures.ok c.in_ok-yes-in-If.ensures.env (c.in_err-no-in-If.ensures.broken e) in
+    (env_of c.block.new.scope) a c.in_ok-yes-in-If.ensures.ok c.in_ok-yes-in-If.ensures.env (c.in_err-no-in-If.ensures.broken e) in
     search (rules, none)
 
 pub statement-returns-in_ok-no-in-If-clause-ok : goal.statement-returns-in_ok-no-in-If-clause-ok
 statement-returns-in_ok-no-in-If-clause-ok t c =
     let text = c.args.text.now in
-    let env = env_of text c.args.scope.now in
+    let env = env_of c.args.scope.now in
     let same = ap (surface_stmt text) c.in-If.is
     ∙ choice_read text c.in-If.cond c.in-If.yes c.in-If.no c.deref-in-If.ensures.value c.deref-in-If-2.ensures.value in
-    let next = env_of text c.block.new.scope in
-    let last = env_of text c.block-in-If.new.scope in
+    let next = env_of c.block.new.scope in
+    let last = env_of c.block-in-If.new.scope in
     let cond = surface_expr text c.in-If.cond in
     let first = surface_body text c.deref-in-If.result.now in
     let second = surface_body text c.deref-in-If-2.result.now in
@@ -103,7 +103,7 @@ statement-returns-in_ok-no-in-If-clause-ok t c =
 pub repeat-returns-in_err-index-clause-broken : goal.repeat-returns-in_err-index-clause-broken
 repeat-returns-in_err-index-clause-broken t c =
     let text = c.args.text.now in
-    let env = env_of text c.args.scope.now in
+    let env = env_of c.args.scope.now in
     let index = spelled text c.args.index in
     let body = surface_body text c.args.source.now in
     let none : c.in_err-index.field-0.0 ≡ Broken → made_stmt env (surface.repeat index c.args.count body) ≡ None =
@@ -113,7 +113,7 @@ repeat-returns-in_err-index-clause-broken t c =
 pub repeat-returns-in_err-body-clause-broken : goal.repeat-returns-in_err-body-clause-broken
 repeat-returns-in_err-body-clause-broken t c =
     let text = c.args.text.now in
-    let env = env_of text c.args.scope.now in
+    let env = env_of c.args.scope.now in
     let index = spelled text c.args.index in
     let body = surface_body text c.args.source.now in
     let known = ap (declared env index) (sym c.index_width.ensures) ∙ c.in_ok-index.ensures.ok in
@@ -124,8 +124,8 @@ repeat-returns-in_err-body-clause-broken t c =
 pub repeat-returns-clause-ok : goal.repeat-returns-clause-ok
 repeat-returns-clause-ok t c =
     let text = c.args.text.now in
-    let env = env_of text c.args.scope.now in
-    let inside = env_of text c.declare.new.self in
+    let env = env_of c.args.scope.now in
+    let inside = env_of c.declare.new.self in
     let index = spelled text c.args.index in
     let body = surface_body text c.args.source.now in
     let outer = c.args.scope.now.known.items in
@@ -139,7 +139,7 @@ repeat-returns-clause-ok t c =
     let made = repeat_made env index c.args.count body inside b counted known c.in_ok-body.ensures.ok once goes_on in
     let tree : trees.repeat (length env.locals) c.args.count b.tree ≡ stmt_tree c.repeated.result.stmt = ap (λ i. trees.repeat i c.args.count b.tree)
     (sym c.in_ok-index.ensures.number) ∙ sym c.repeated.ensures.made in
-    let within : Within env (env_of text scope) = within_to (within_locals scope.locals (declared_within env inside index 32 known))
+    let within : Within env (env_of scope) = within_to (within_locals scope.locals (declared_within env inside index 32 known))
     (sym c.in_ok-body.ensures.env) in
     let count : c.len-before.result ≡ length outer = search rules in
     let left = cut_env text env scope.objects scope.locals outer scope.known.items cut c.len-before.result refl within count c.truncate.ensures.items in

@@ -10,7 +10,7 @@ pub returns-then-names-widths-clause-broken : goal.returns-then-names-widths-cla
 returns-then-names-widths-clause-broken c =
     let text = c.args.text.now in
     let names = c.args.names.now in
-    λ e. declared_uneven (map (spelled text) names) c.args.widths.now (env_of text c.args.scope.now) (λ h. c.if-names-widths.true (sym (length-map names (spelled text)) ∙ h))
+    λ e. declared_uneven (map (spelled text) names) c.args.widths.now (env_of c.args.scope.now) (λ h. c.if-names-widths.true (sym (length-map names (spelled text)) ∙ h))
 
 pub returns-in_default-clause-broken : goal.returns-in_default-clause-broken
 returns-in_default-clause-broken c =

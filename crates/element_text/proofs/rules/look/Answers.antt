@@ -11,14 +11,14 @@ use Rattle.element_text.proofs.rules.look.Goals as goal
 pub returns-in_err-keys-clause-broken : goal.returns-in_err-keys-clause-broken
 returns-in_err-keys-clause-broken c =
     let text = c.args.text.now in
-    let env = env_of text c.args.scope.now in
+    let env = env_of c.args.scope.now in
     let found = spelled text c.args.found in
     let into = map (spelled text) c.args.into.now in
     let object = spelled text c.args.object in
     let keys = surface_exprs text c.args.keys.now in
     let known = ap (λ l. object_from 0 l object) (sym c.as_slice.ensures) ∙ c.in_ok-object.ensures.ok in
     let untyped : c.in_err-keys.field-0.0 ≡ Broken → typed_exprs env.scope keys ≡ None =
-    λ e. ap (λ l. typed_exprs (map (known_of text) l) keys) (sym c.deref.ensures.value) ∙ c.in_err-keys.ensures.broken e in
+    λ e. ap (λ l. typed_exprs (map known_of l) keys) (sym c.deref.ensures.value) ∙ c.in_err-keys.ensures.broken e in
     let none : c.in_err-keys.field-0.0 ≡ Broken → made_stmt env (surface.look found into object keys) ≡ None =
     λ e. look_no_keys env found into object keys c.in_ok-object.object known (untyped e) in
     search (rules, none)

@@ -12,14 +12,14 @@ use Rattle.element_text.proofs.rules.put.Goals as goal
 pub returns-in_err-keys-clause-broken : goal.returns-in_err-keys-clause-broken
 returns-in_err-keys-clause-broken c =
     let text = c.args.text.now in
-    let env = env_of text c.args.scope.now in
+    let env = env_of c.args.scope.now in
     let ok = spelled text c.args.ok in
     let object = spelled text c.args.object in
     let keys = surface_exprs text c.args.keys.now in
     let values = surface_exprs text c.args.values.now in
     let known = ap (λ l. object_from 0 l object) (sym c.as_slice.ensures) ∙ c.in_ok-object.ensures.ok in
     let untyped : c.in_err-keys.field-0.0 ≡ Broken → typed_exprs env.scope keys ≡ None =
-    λ e. ap (λ l. typed_exprs (map (known_of text) l) keys) (sym c.deref.ensures.value) ∙ c.in_err-keys.ensures.broken e in
+    λ e. ap (λ l. typed_exprs (map known_of l) keys) (sym c.deref.ensures.value) ∙ c.in_err-keys.ensures.broken e in
     let none : c.in_err-keys.field-0.0 ≡ Broken → made_stmt env (surface.put ok object keys values) ≡ None =
     λ e. put_no_keys env ok object keys values c.in_ok-object.object known (untyped e) in
     search (rules, none)
@@ -27,15 +27,15 @@ returns-in_err-keys-clause-broken c =
 pub returns-in_err-values-clause-broken : goal.returns-in_err-values-clause-broken
 returns-in_err-values-clause-broken c =
     let text = c.args.text.now in
-    let env = env_of text c.args.scope.now in
+    let env = env_of c.args.scope.now in
     let ok = spelled text c.args.ok in
     let object = spelled text c.args.object in
     let keys = surface_exprs text c.args.keys.now in
     let values = surface_exprs text c.args.values.now in
     let known = ap (λ l. object_from 0 l object) (sym c.as_slice.ensures) ∙ c.in_ok-object.ensures.ok in
-    let typed = ap (λ l. typed_exprs (map (known_of text) l) keys) (sym c.deref.ensures.value) ∙ c.in_ok-keys.ensures.ok in
+    let typed = ap (λ l. typed_exprs (map known_of l) keys) (sym c.deref.ensures.value) ∙ c.in_ok-keys.ensures.ok in
     let untyped : c.in_err-values.field-0.0 ≡ Broken → typed_exprs env.scope values ≡ None =
-    λ e. ap (λ l. typed_exprs (map (known_of text) l) values) (sym c.deref-2.ensures.value) ∙ c.in_err-values.ensures.broken e in
+    λ e. ap (λ l. typed_exprs (map known_of l) values) (sym c.deref-2.ensures.value) ∙ c.in_err-values.ensures.broken e in
     let none : c.in_err-values.field-0.0 ≡ Broken → made_stmt env (surface.put ok object keys values) ≡ None =
     λ e. put_no_values env ok object keys values c.in_ok-object.object (typed_list_of c.in_ok-keys.keys) known typed (untyped e) in
     search (rules, none)

@@ -30,7 +30,7 @@ returns-in_err-block-clause-broken c =
     let first = first_is text objects c.new.ensures c.new-2.ensures.items in
     let none : c.in_err-block.field-0.0 ≡ Broken → (m : Tree) → unplaced s ≡ named m → IsTrue (is_good m) → ⊥ =
     λ e. none_fits s (resolved_no_body s.objects s.body
-    (ap (λ x. made_body x s.body) (sym first) ∙ ap (λ l. made_body (env_of text (record { objects = c.in_ok-objects.field-0; locals = c.new.result; known = c.new-2.result })) (surface_body text l)) (sym c.deref-2.ensures.value) ∙ c.in_err-block.ensures.broken e)) in
+    (ap (λ x. made_body x s.body) (sym first) ∙ ap (λ l. made_body (env_of (record { objects = c.in_ok-objects.field-0; locals = c.new.result; known = c.new-2.result })) (surface_body text l)) (sym c.deref-2.ensures.value) ∙ c.in_err-block.ensures.broken e)) in
     search (rules, none)
 
 -- the resolution of the whole source
@@ -38,12 +38,12 @@ whole : (c : After-drop-scope-2) → resolved (surface_tree c.args.text.now c.ar
 whole c =
     let text = c.args.text.now in
     let s = surface_tree text c.args.source.now in
-    let scope = env_of text (record { objects = c.in_ok-objects.field-0; locals = c.new.result; known = c.new-2.result }) in
+    let scope = env_of (record { objects = c.in_ok-objects.field-0; locals = c.new.result; known = c.new-2.result }) in
     let objects = c.in_ok-objects.ensures.ok ∙ ap (λ l. map object_of (decls_of (map (surface_object text) l))) c.deref.ensures.value in
     let good = ap (λ l. are_good_decls (decls_of (map (surface_object text) l))) (sym c.deref.ensures.value) ∙ c.in_ok-objects.ensures.good in
     let first = first_is text objects c.new.ensures c.new-2.ensures.items in
     let made = ap (λ l. made_body scope (surface_body text l)) (sym c.deref-2.ensures.value) ∙ c.in_ok-block.ensures.ok in
-    resolved_made s.objects s.body scope (env_of text c.block.new.scope) (body_tree c.in_ok-block.block.body.items) good first made c.in_ok-block.ensures.env
+    resolved_made s.objects s.body scope (env_of c.block.new.scope) (body_tree c.in_ok-block.block.body.items) good first made c.in_ok-block.ensures.env
 
 pub returns-clause-ok : goal.returns-clause-ok
 returns-clause-ok c = resolved_named (surface_tree c.args.text.now c.args.source.now) _ (whole c)
