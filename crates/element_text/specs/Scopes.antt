@@ -1,5 +1,6 @@
 -- What the Rust values of resolution stand for.
-use Rattle.std.specs.Prelude.{ℕ, Vec, Global, List, map}
+use Rattle.std.specs.Prelude.{ℕ, Vec, List, map}
+use Rattle.std.specs.Global.{Global}
 use Rattle.element_text.specs.declared.scope.KnownLocal.{KnownLocal}
 use Rattle.element_text.specs.declared.scope.Scope.{Scope}
 use Rattle.element_text.specs.Resolve.{Known, Env}

@@ -1,10 +1,11 @@
 //! From a source's tree to a middlebox: names become numbers.
-ghost use Rattle.std.specs.Prelude.{◌≡◌, ◌≤◌, IsTrue, IfOk, IsSome, map, length, Some};
+ghost use Rattle.std.specs.Prelude.{◌≡◌, ◌≤◌, IsTrue, IfOk, IsSome, map, length, true, Some};
 ghost use Rattle.element_lang.specs.Tree.{Tree};
-ghost use Rattle.element_lang.specs.Rules.{is_good};
+ghost use Rattle.element_lang.specs.Tree.StmtTree as trees;
+ghost use Rattle.element_lang.specs.Rules.{is_count, is_good};
 ghost use Rattle.element_lang.specs.Surface.{named, unplaced};
 ghost use Rattle.element_lang.specs.Surface as surface;
-ghost use Rattle.element_lang.specs.View.{expr_tree, tree};
+ghost use Rattle.element_lang.specs.View.{expr_tree, stmt_tree, body_tree, tree};
 ghost use Rattle.element_lang.specs.Accepted.{HasNames};
 ghost use Rattle.element_tokens.specs.Tokens.{spelled};
 ghost use Rattle.element_grammar.specs.Surface.{surface_expr, surface_exprs, surface_stmt, surface_body, surface_tree};
@@ -221,6 +222,25 @@ fn condition(
     Ok(source.expr)
 }
 
+// A choice between two bodies.
+fn choice(cond: Expr, yes: Body, no: Body) -> Stmt
+    ensures { stmt_tree result ≡ trees.choose (expr_tree cond) (body_tree yes.items) (body_tree no.items) }
+{
+    Stmt::If { cond, yes, no }
+}
+
+// A body that is done several times.
+fn repeated(index: u32, count: u64, body: Body) -> Stmt
+    requires { is_count count ≡ true }
+    ensures { stmt_tree result ≡ trees.repeat index count (body_tree body.items) }
+{
+    Stmt::Repeat {
+        index,
+        count: count as u8,
+        body,
+    }
+}
+
 // A statement.
 #[cycle(statement)]
 fn statement(
@@ -254,7 +274,7 @@ fn statement(
             let cond = condition(alloc, text, scope, cond)?;
             let yes = block(alloc, text, scope, yes)?;
             let no = block(alloc, text, scope, no)?;
-            Ok(Stmt::If { cond, yes, no })
+            Ok(choice(cond, yes, no))
         }
         SurfaceStmt::Repeat { index, count, body } => {
             repeat(alloc, text, scope, *index, *count, body)
@@ -285,11 +305,7 @@ fn repeat(
     let index = scope.declare(alloc, text, index, width_of(32))?;
     let body = block(alloc, text, scope, source)?;
     scope.known.truncate(before);
-    Ok(Stmt::Repeat {
-        index,
-        count: count as u8,
-        body,
-    })
+    Ok(repeated(index, count, body))
 }
 
 // Statements. The locals that they declare go out of scope.
