@@ -2,6 +2,9 @@
 ghost use Rattle.std.specs.Prelude.{◌≡◌, ℕ, ◌-◌, ◌≤◌, length, MatchResult, IfOk, IfErr};
 ghost use Rattle.element_lang.specs.Surface.{Surface};
 ghost use Rattle.element_lang.specs.Grammar.{Spells, IsFirstWrong};
+ghost use Rattle.element_lang.specs.Accepted.{deepest};
+ghost use Rattle.element_lang.specs.Bounds.{bound};
+ghost use Rattle.element_lang.specs.declared.sizes.What.TheVariants.{Depth};
 ghost use Rattle.element_tokens.specs.Tokens.{tokens_of};
 ghost use Rattle.element_grammar.specs.Surface.{surface_tree};
 ghost use Rattle.element_grammar.specs.Refused.{SpellsNone};
@@ -30,8 +33,10 @@ fn whole(alloc: Global, text: &[u8], tokens: &[Placed]) -> Result<SurfaceTree, P
     Ok(SurfaceTree { objects, body })
 }
 
-/// The surface tree that the tokens of a source spell, or where the first wrong token stands.
+/// The surface tree that the tokens of a source spell, or where the first wrong token stands. Calls go as deep as brackets are
+/// open, so that no more may be open at once than a source may have.
 pub fn parse(alloc: Global, text: &[u8], tokens: &[Placed]) -> Result<SurfaceTree, ParseError>
+    requires shallow { deepest 0 (tokens_of text.now tokens.now) ≤ bound Depth }
     ensures spelled { IfOk result (λ s. Spells (tokens_of text.now tokens.now) (surface_tree text.now s)) }
     ensures only { IfOk result (λ s. (other : Surface) → Spells (tokens_of text.now tokens.now) other → other ≡ surface_tree text.now s) }
     ensures wrong { (left : ℕ) → result ≡ Err (ParseError.Left left)

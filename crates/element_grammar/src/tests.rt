@@ -2,7 +2,8 @@
 use crate::error::ParseError;
 use crate::parser::parse;
 use crate::surface::{At, SurfaceStmt};
-use element_tokens::tokens;
+use element_lang::MAX_DEPTH;
+use element_tokens::{depth, tokens};
 use std::test::Fail;
 
 const ACCEPTED: [&[u8]; 14] = [
@@ -78,6 +79,8 @@ const REFUSED: [(&[u8], usize); 48] = [
 fn accepted(rt: HostRuntime) -> Result<(), Fail> {
     for text in ACCEPTED {
         let found = tokens(rt.alloc(), text)?;
+        let deepest = depth(text, found.as_slice());
+        assert!(rt; deepest <= MAX_DEPTH, "at {text:?}");
         let read = parse(rt.alloc(), text, found.as_slice());
         assert!(rt; read.is_ok(), "at {text:?}");
     }
@@ -88,6 +91,8 @@ fn accepted(rt: HostRuntime) -> Result<(), Fail> {
 fn refused(rt: HostRuntime) -> Result<(), Fail> {
     for (text, left) in REFUSED {
         let found = tokens(rt.alloc(), text)?;
+        let deepest = depth(text, found.as_slice());
+        assert!(rt; deepest <= MAX_DEPTH, "at {text:?}");
         match parse(rt.alloc(), text, found.as_slice()) {
             Ok(_) => assert!(rt; false, "at {text:?}"),
             Err(error) => assert_eq!(rt; error, ParseError::Left(left), "at {text:?}"),
@@ -124,6 +129,8 @@ fn branches(rt: HostRuntime) -> Result<(), Fail> {
     ];
     for (text, want) in table {
         let found = tokens(rt.alloc(), text)?;
+        let deepest = depth(text, found.as_slice());
+        assert!(rt; deepest <= MAX_DEPTH, "at {text:?}");
         let read = parse(rt.alloc(), text, found.as_slice())?;
         assert_eq!(rt; blocks(read.body.as_slice()), want, "at {text:?}");
     }

@@ -1,7 +1,8 @@
 -- Which texts are sources, and of which middlebox.
-use Rattle.std.specs.Prelude.{◌≡◌, ℕ, ◌+◌, ◌-◌, ◌≤◌, ◌<◌, ◌^◌, min, max, List, [], ◌∷◌, length, map, take, slice_get, IsTrue, IsUtf8, Option, Some, None}
+use Rattle.std.specs.Prelude.{◌≡◌, ℕ, ◌+◌, ◌-◌, ◌≤◌, ◌<◌, ◌^◌, min, max, List, [], ◌∷◌, length, map, take, slice_get}
+use Rattle.std.specs.Prelude.{IsTrue, IsUtf8, Option, Some, None}
 use Rattle.element_lang.specs.declared.mark.Mark.TheVariants.{LeftParen, RightParen, LeftBracket, RightBracket, LeftBrace, RightBrace}
-use Rattle.element_lang.specs.declared.sizes.TheConstants.{MAX_DEPTH, MAX_OBJECTS, MAX_ENTRIES, MAX_WRITES}
+use Rattle.element_lang.specs.declared.sizes.What.TheVariants.{Depth, Objects, Entries, Writes}
 use Rattle.std.specs.List.{All}
 use Rattle.state_store.specs.declared.object.ObjectDecl.{ObjectDecl}
 use Rattle.element_lang.specs.declared.tree.Local.{Local}
@@ -11,6 +12,7 @@ use Rattle.element_lang.specs.Surface.{Surface, unplaced, named}
 use Rattle.element_lang.specs.Grammar.{Spells, IsFirstWrong}
 use Rattle.element_lang.specs.Rules.{is_good}
 use Rattle.element_lang.specs.Broken.{first_broken}
+use Rattle.element_lang.specs.Bounds.{bound}
 use Rattle.element_lang.specs.Sizes.{entries, writes}
 
 -- How many brackets are open behind a token, where so many were open before it. One that closes closes the last open one
@@ -39,18 +41,18 @@ pub record IsSpelling (text : List ℕ) (m : Tree) : Type 0 where
   pub utf8 : IsUtf8 text
   pub placed : List Placed
   pub tokens : AreTokens text placed
-  pub depth : deepest 0 (plain placed) ≤ MAX_DEPTH
+  pub depth : deepest 0 (plain placed) ≤ bound Depth
   pub surface : Surface
   pub spells : Spells (plain placed) surface
-  pub few_objects : length surface.objects ≤ MAX_OBJECTS
+  pub few_objects : length surface.objects ≤ bound Objects
   pub named : unplaced surface ≡ named m
   pub good : IsTrue (is_good m)
 
 -- The text is a source of this middlebox: it spells it, and the middlebox keeps the sizes.
 pub record IsSource (text : List ℕ) (m : Tree) : Type 0 where
   pub spelling : IsSpelling text m
-  pub few_entries : entries m ≤ MAX_ENTRIES
-  pub few_writes : writes m ≤ MAX_WRITES
+  pub few_entries : entries m ≤ bound Entries
+  pub few_writes : writes m ≤ bound Writes
 
 -- every object and every local has a name that can be written
 pub record HasNames (m : Tree) : Type 0 where
@@ -76,7 +78,7 @@ pub record IsTooDeep (text : List ℕ) (have allowed : ℕ) : Type 0 where
   pub placed : List Placed
   pub tokens : AreTokens text placed
   pub most : have ≡ deepest 0 (plain placed)
-  pub limit : allowed ≡ MAX_DEPTH
+  pub limit : allowed ≡ bound Depth
   pub above : allowed < have
 
 -- the offset of the token at this place, or the length of the text where there is none
@@ -92,7 +94,7 @@ pub record IsOutsideGrammar (text : List ℕ) (offset : ℕ) : Type 0 where
   pub utf8 : IsUtf8 text
   pub placed : List Placed
   pub tokens : AreTokens text placed
-  pub depth : deepest 0 (plain placed) ≤ MAX_DEPTH
+  pub depth : deepest 0 (plain placed) ≤ bound Depth
   pub place : ℕ
   pub first : IsFirstWrong (plain placed) place
   pub there : offset ≡ offset_at text placed place
@@ -102,11 +104,11 @@ pub record HasManyObjects (text : List ℕ) (have allowed : ℕ) : Type 0 where
   pub utf8 : IsUtf8 text
   pub placed : List Placed
   pub tokens : AreTokens text placed
-  pub depth : deepest 0 (plain placed) ≤ MAX_DEPTH
+  pub depth : deepest 0 (plain placed) ≤ bound Depth
   pub surface : Surface
   pub spells : Spells (plain placed) surface
   pub count : have ≡ length surface.objects
-  pub limit : allowed ≡ MAX_OBJECTS
+  pub limit : allowed ≡ bound Objects
   pub above : allowed < have
 
 -- its tokens spell a surface tree, and of the declarations and statements that break a rule the first is at this offset, and this is
@@ -115,10 +117,10 @@ pub record BreaksRule (text : List ℕ) (rule offset : ℕ) : Type 0 where
   pub utf8 : IsUtf8 text
   pub placed : List Placed
   pub tokens : AreTokens text placed
-  pub depth : deepest 0 (plain placed) ≤ MAX_DEPTH
+  pub depth : deepest 0 (plain placed) ≤ bound Depth
   pub surface : Surface
   pub spells : Spells (plain placed) surface
-  pub few_objects : length surface.objects ≤ MAX_OBJECTS
+  pub few_objects : length surface.objects ≤ bound Objects
   pub at : ℕ
   pub first : first_broken surface ≡ Some (record { rule = rule; at = at })
   pub there : offset ≡ offset_at text placed (length placed - at)
@@ -129,14 +131,14 @@ pub record HasManyEntries (text : List ℕ) (have allowed : ℕ) : Type 0 where
   pub m : Tree
   pub spelling : IsSpelling text m
   pub count : have ≡ min (entries m) (2 ^ 64 - 1)
-  pub limit : allowed ≡ MAX_ENTRIES
+  pub limit : allowed ≡ bound Entries
   pub above : allowed < have
 
 -- it has few enough, and so many statements that write, which are too many; the count is told likewise
 pub record HasManyWrites (text : List ℕ) (have allowed : ℕ) : Type 0 where
   pub m : Tree
   pub spelling : IsSpelling text m
-  pub few_entries : entries m ≤ MAX_ENTRIES
+  pub few_entries : entries m ≤ bound Entries
   pub count : have ≡ min (writes m) (2 ^ 64 - 1)
-  pub limit : allowed ≡ MAX_WRITES
+  pub limit : allowed ≡ bound Writes
   pub above : allowed < have

@@ -1,7 +1,14 @@
 -- The keywords and symbols of a source.
-use Rattle.std.specs.Prelude.{ℕ, List, codes}
+use Rattle.std.specs.Prelude.{ℕ, Bool, not, ◌&&◌, List, [], ◌∷◌, length, Option, nat_eq, nat_lt, codes}
+use Rattle.std.specs.List.{find, starts_with, list_any}
+use Rattle.std.specs.Str.{bytes_eq}
 use Rattle.element_lang.specs.declared.mark.Mark.{Mark}
-use Rattle.element_lang.specs.declared.mark.Mark.TheVariants.{Table, Map, Vector, Int, Capacity, Length, Process, Let, Look, Put, Del, If, Else, Repeat, Send, Drop, Byte, Cast, Select, Adjust, Arrow, Equal, NotEqual, AtMost, ShiftLeft, ShiftRight, LeftParen, RightParen, LeftBracket, RightBracket, LeftBrace, RightBrace, Comma, Semicolon, Colon, Assign, Plus, Minus, Star, Slash, Percent, Ampersand, Bar, Caret, Tilde, Less}
+use Rattle.element_lang.specs.declared.mark.Mark.TheVariants.{Table, Map, Vector, Int, Capacity, Length, Process, Let, Look, Put, Del}
+use Rattle.element_lang.specs.declared.mark.Mark.TheVariants.{If, Else, Repeat, Send, Drop, Byte, Cast, Select, Adjust}
+use Rattle.element_lang.specs.declared.mark.Mark.TheVariants.{Arrow, Equal, NotEqual, AtMost, ShiftLeft, ShiftRight}
+use Rattle.element_lang.specs.declared.mark.Mark.TheVariants.{LeftParen, RightParen, LeftBracket, RightBracket}
+use Rattle.element_lang.specs.declared.mark.Mark.TheVariants.{LeftBrace, RightBrace, Comma, Semicolon, Colon, Assign}
+use Rattle.element_lang.specs.declared.mark.Mark.TheVariants.{Plus, Minus, Star, Slash, Percent, Ampersand, Bar, Caret, Tilde, Less}
 
 -- how it is written
 abbrev pub spelling : Mark → List ℕ
@@ -51,3 +58,33 @@ spelling Bar = codes "|"
 spelling Caret = codes "^"
 spelling Tilde = codes "~"
 spelling Less = codes "<"
+
+abbrev pub keywords : List Mark
+keywords =
+    Table ∷ Map ∷ Vector ∷ Int ∷ Capacity ∷ Length ∷ Process ∷ Let ∷ Look ∷ Put ∷ Del ∷ If ∷ Else ∷ Repeat ∷ Send ∷ Drop
+    ∷ Byte ∷ Cast ∷ Select ∷ Adjust ∷ []
+
+abbrev pub symbols : List Mark
+symbols =
+    Arrow ∷ Equal ∷ NotEqual ∷ AtMost ∷ ShiftLeft ∷ ShiftRight ∷ LeftParen ∷ RightParen ∷ LeftBracket ∷ RightBracket
+    ∷ LeftBrace ∷ RightBrace ∷ Comma ∷ Semicolon ∷ Colon ∷ Assign ∷ Plus ∷ Minus ∷ Star ∷ Slash ∷ Percent ∷ Ampersand
+    ∷ Bar ∷ Caret ∷ Tilde ∷ Less ∷ []
+
+-- the keyword that is written so
+abbrev pub keyword : List ℕ → Option Mark
+keyword word = find (λ m. bytes_eq (spelling m) word) keywords
+
+-- the bytes begin with the mark's spelling
+abbrev pub stands : List ℕ → Mark → Bool
+stands bs m = starts_with nat_eq bs (spelling m)
+
+abbrev pub is_longer : Mark → Mark → Bool
+is_longer k m = nat_lt (length (spelling m)) (length (spelling k))
+
+-- a longer symbol of the list stands there too
+abbrev pub is_beaten : List Mark → List ℕ → Mark → Bool
+is_beaten all bs m = list_any (λ k. stands bs k && is_longer k m) all
+
+-- the symbol with which the bytes begin and that no longer one beats
+abbrev pub symbol_in_front : List ℕ → Option Mark
+symbol_in_front bs = find (λ m. stands bs m && not (is_beaten symbols bs m)) symbols

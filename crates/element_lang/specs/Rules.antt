@@ -11,7 +11,6 @@ use Rattle.state_store.specs.declared.object.Row.{Row}
 use Rattle.state_store.specs.declared.object.ObjectDecl.{ObjectDecl}
 use Rattle.state_store.specs.Kinds.{is_table, is_map}
 use Rattle.state_store.specs.Kept.{have_widths}
-use Rattle.element_lang.specs.declared.sizes.TheConstants.{MAX_ROWS}
 use Rattle.element_lang.specs.Tree.{ExprTree, Exprs, StmtTree, BodyTree, Tree}
 use Rattle.element_lang.specs.Tree.ExprTree.{lit, local, field, byte, shift, apply}
 use Rattle.element_lang.specs.Tree.Exprs.{no_expr, expr}
@@ -238,7 +237,7 @@ are_widths ws = nat_le 1 (length ws) && nat_le (length ws) 8 && list_all is_widt
 
 -- a map has room for 1 to 1,048,576 rows, and a vector has as many
 abbrev pub is_size : ℕ → Bool
-is_size n = nat_le 1 n && nat_le n MAX_ROWS
+is_size n = nat_le 1 n && nat_le n 1048576
 
 -- The keys and values of a table's rows have the declared widths, and no two rows have the same key.
 abbrev pub are_good_rows : List ℕ → List ℕ → List (List ℕ) → List Row → Bool

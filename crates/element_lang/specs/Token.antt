@@ -1,12 +1,11 @@
 -- The tokens of a source.
-use Rattle.std.specs.Prelude.{◌≡◌, ℕ, suc, ◌+◌, ◌-◌, ◌*◌, ◌^◌, Bool, true, false, not, ◌&&◌, ◌||◌, List, [], ◌∷◌, length, drop, Option, Some, None, nat_eq, nat_lt, nat_le, ◌==◌, if◌then◌else◌, codes, take_while}
+use Rattle.std.specs.Prelude.{◌≡◌, ℕ, suc, ◌+◌, ◌-◌, ◌*◌, ◌^◌, Bool, true, false, not, ◌&&◌, ◌||◌, List, [], ◌∷◌, length, drop}
+use Rattle.std.specs.Prelude.{Option, Some, None, nat_eq, nat_lt, nat_le, ◌==◌, if◌then◌else◌, codes, take_while}
 use Rattle.std.specs.List.{starts_with, list_any}
-use Rattle.std.specs.Str.{bytes_eq}
 use Rattle.packet_fields.specs.declared.field.Field.{Field}
 use Rattle.packet_fields.specs.Table.{field_named}
 use Rattle.element_lang.specs.declared.mark.Mark.{Mark}
-use Rattle.element_lang.specs.declared.mark.TheConstants.{KEYWORDS, SYMBOLS}
-use Rattle.element_lang.specs.Mark.{spelling}
+use Rattle.element_lang.specs.Mark.{spelling, keyword, symbol_in_front}
 
 pub data Token : Type 0 where
   -- a keyword or a symbol
@@ -43,16 +42,6 @@ gap inside [] = 0
 gap true (b ∷ bs) = suc (gap (not (b == 10)) bs)
 gap false (b ∷ bs) = if is_blank b then suc (gap false bs) else (if starts_comment (b ∷ bs) then suc (gap true bs) else 0)
 
--- the mark of a list that is written so
-abbrev pub mark_written : List Mark → List ℕ → Option Mark
-mark_written [] word = None
-mark_written (m ∷ ms) word = if bytes_eq (spelling m) word then Some m else mark_written ms word
-
--- the first mark of a list with whose spelling the bytes begin
-abbrev pub mark_in_front : List Mark → List ℕ → Option Mark
-mark_in_front [] bs = None
-mark_in_front (m ∷ ms) bs = if starts_with nat_eq bs (spelling m) then Some m else mark_in_front ms bs
-
 -- a word with a dot is the name of a field, and any other a keyword or a name
 abbrev pub field_token : Option Field → Option Token
 field_token None = None
@@ -65,7 +54,7 @@ plain_word word (Some m) = fixed m
 abbrev pub word_token : List ℕ → Option Token
 word_token word =
     if list_any (λ b. b == 46) word then field_token (field_named word)
-    else Some (plain_word word (mark_written KEYWORDS word))
+    else Some (plain_word word (keyword word))
 
 -- the value of a digit, in the base ten or sixteen
 abbrev pub decimal_digit : ℕ → Option ℕ
@@ -130,7 +119,7 @@ lexeme [] = None
 lexeme (b ∷ bs) =
     if is_letter b then word_lexeme (take_while is_word_byte (b ∷ bs))
     else (if is_digit b then number_lexeme (take_while is_number_byte (b ∷ bs))
-    else symbol_of (mark_in_front SYMBOLS (b ∷ bs)))
+    else symbol_of (symbol_in_front (b ∷ bs)))
 
 -- a word that is a name: one token, and neither a keyword nor the name of a field
 abbrev pub IsName : List ℕ → Type 0

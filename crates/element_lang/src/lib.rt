@@ -7,6 +7,6 @@ mod sizes;
 mod tree;
 
 pub use broken::Broken;
-pub use mark::{KEYWORDS, Mark, SYMBOLS};
-pub use sizes::{MAX_DEPTH, MAX_ENTRIES, MAX_OBJECTS, MAX_ROWS, MAX_WRITES, What};
+pub use mark::Mark;
+pub use sizes::{MAX_DEPTH, MAX_ENTRIES, MAX_OBJECTS, MAX_ROWS, MAX_WRITES, What, is_size};
 pub use tree::{Body, Expr, Local, Locals, Middlebox, Stmt};

@@ -1,5 +1,8 @@
 //! The words and symbols that the language fixes.
-ghost use Rattle.std.specs.Prelude.{◌≡◌};
+ghost use Rattle.std.specs.Prelude.{◌≡◌, ◌≤◌, length, nat_eq, IfSome};
+ghost use Rattle.std.specs.List.{find, starts_with};
+ghost use Rattle.std.specs.Str.{bytes_eq};
+ghost use Rattle.element_lang.specs.Mark as marks;
 
 /// A keyword or a symbol of a source.
 #[derive(Clone, Copy, Debug, PartialEq, Eq)]
@@ -52,8 +55,8 @@ pub enum Mark {
     Less,
 }
 
-/// The keywords. No name of an object or a local is one of these.
-pub const KEYWORDS: [Mark; 20] = [
+// The keywords. No name of an object or a local is one of these.
+const KEYWORDS: [Mark; 20] = [
     Mark::Table,
     Mark::Map,
     Mark::Vector,
@@ -76,8 +79,8 @@ pub const KEYWORDS: [Mark; 20] = [
     Mark::Adjust,
 ];
 
-/// The symbols. One that begins with another stands before it, so that the first that fits is the longest.
-pub const SYMBOLS: [Mark; 26] = [
+// The symbols. The longer ones stand before the shorter ones, so that the first that fits is the longest.
+const SYMBOLS: [Mark; 26] = [
     Mark::Arrow,
     Mark::Equal,
     Mark::NotEqual,
@@ -106,12 +109,50 @@ pub const SYMBOLS: [Mark; 26] = [
     Mark::Less,
 ];
 
+// The first mark of a list that is written so.
+fn first_written(list: &[Mark], word: &[u8]) -> Option<Mark>
+    ensures { result ≡ find (λ m. bytes_eq (marks.spelling m) word.now) list.now }
+{
+    for mark in list {
+        if mark.spelling().as_bytes() == word {
+            return Some(*mark);
+        }
+    }
+    None
+}
+
+// The first mark of a list with whose spelling the bytes begin.
+fn first_in_front(list: &[Mark], bytes: &[u8]) -> Option<Mark>
+    ensures found { result ≡ find (λ m. starts_with nat_eq bytes.now (marks.spelling m)) list.now }
+    ensures within { IfSome result (λ mark. length (marks.spelling mark) ≤ length bytes.now) }
+{
+    for mark in list {
+        if bytes.starts_with(mark.spelling().as_bytes()) {
+            return Some(*mark);
+        }
+    }
+    None
+}
+
 impl Mark {
-    ghost use Rattle.element_lang.specs.Mark.{spelling};
+    /// The keyword that is written so.
+    pub fn keyword(word: &[u8]) -> Option<Mark>
+        ensures { result ≡ marks.keyword word.now }
+    {
+        first_written(&KEYWORDS, word)
+    }
+
+    /// The longest symbol with which the bytes begin.
+    pub fn symbol_in_front(bytes: &[u8]) -> Option<Mark>
+        ensures found { result ≡ marks.symbol_in_front bytes.now }
+        ensures within { IfSome result (λ mark. length (marks.spelling mark) ≤ length bytes.now) }
+    {
+        first_in_front(&SYMBOLS, bytes)
+    }
 
     /// How it is written.
     pub fn spelling(self) -> &'static str
-        ensures { result.now ≡ spelling self }
+        ensures { result.now ≡ marks.spelling self }
     {
         match self {
             Mark::Table => "table",

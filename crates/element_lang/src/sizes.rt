@@ -1,4 +1,7 @@
 //! The sizes that a source keeps.
+ghost use Rattle.std.specs.Prelude.{◌≡◌};
+ghost use Rattle.element_lang.specs.Bounds as bounds;
+ghost use Rattle.element_lang.specs.Rules as rules;
 
 /// The most brackets, of any kind, that may be open at once in a source.
 pub const MAX_DEPTH: usize = 64;
@@ -26,4 +29,25 @@ pub enum What {
     Entries,
     /// Statements that store or remove a row, one in a repeat counted as often as it runs.
     Writes,
+}
+
+impl What {
+    /// The most that a source may have of it.
+    pub fn bound(self) -> u64
+        ensures { result ≡ bounds.bound self }
+    {
+        match self {
+            What::Depth => MAX_DEPTH as u64,
+            What::Objects => MAX_OBJECTS as u64,
+            What::Entries => MAX_ENTRIES,
+            What::Writes => MAX_WRITES,
+        }
+    }
+}
+
+/// Whether a map can have room for so many rows, or a vector so many.
+pub fn is_size(size: u64) -> bool
+    ensures { result ≡ rules.is_size size }
+{
+    1 <= size && size <= MAX_ROWS as u64
 }

@@ -8,8 +8,8 @@ use Rattle.std.proofs.lemmas.Fmt.{digits_decimal, digits_value-decimal, decimal_
 use Rattle.std.proofs.lemmas.Bool.Decides.{nat_tests}
 use Rattle.packet_fields.specs.declared.field.Field.{Field}
 use Rattle.element_lang.specs.declared.mark.Mark.{Mark}
-use Rattle.element_lang.specs.declared.mark.TheConstants.{SYMBOLS}
-use Rattle.element_lang.specs.Token.{Token, fixed, number, name, field, IsName, Lexeme, gap, lexeme, lexeme_of, word_lexeme, word_token, number_lexeme, number_token, number_value, decimal_value, decimal_digit, with_digit, symbol_of, mark_in_front, is_blank, is_letter, is_digit, is_word_byte, is_number_byte}
+use Rattle.element_lang.specs.Mark.{symbol_in_front}
+use Rattle.element_lang.specs.Token.{Token, fixed, number, name, field, IsName, Lexeme, gap, lexeme, lexeme_of, word_lexeme, word_token, number_lexeme, number_token, number_value, decimal_value, decimal_digit, with_digit, symbol_of, is_blank, is_letter, is_digit, is_word_byte, is_number_byte}
 use Rattle.element_print.specs.Printed.{token_text}
 use Rattle.element_print.proofs.BoolParts.{left, right, both}
 use Rattle.element_print.proofs.Marks.{Stop, space, feed, mark_read, mark_front, mark_ascii, field_read, field_front, field_ascii}
@@ -88,7 +88,7 @@ pub name_is : (word : List ℕ) → IsName word → Named word
 name_is [] h = cc
 name_is (b ∷ bs) h =
     let w = take_while is_word_byte (b ∷ bs) in
-    let (letter, whole) = letter_first (is_letter b) (is_digit b) w (take_while is_number_byte (b ∷ bs)) (mark_in_front SYMBOLS (b ∷ bs)) (b ∷ bs) h in
+    let (letter, whole) = letter_first (is_letter b) (is_digit b) w (take_while is_number_byte (b ∷ bs)) (symbol_in_front (b ∷ bs)) (b ∷ bs) h in
     let (token, len) = token_within (word_token w) (length w) (b ∷ bs) (length (b ∷ bs)) whole in
     let all = all_taken is_word_byte (b ∷ bs) len in
     record { first = b; rest = bs; is = refl; letter = letter; bytes = all; token = ap word_token (sym (take_all is_word_byte (b ∷ bs) all)) ∙ token }
@@ -105,7 +105,7 @@ word_read (a ∷ rest) b bs h stop =
     let letter : is_letter a ≡ true = ap is_letter first ∙ h.letter in
     let all : List ℕ = a ∷ (rest ++ b ∷ bs) in
     let taken = take_until is_word_byte (a ∷ rest) b bs h.bytes (ends_word stop) in
-    choose_word (is_letter a) (is_digit a) (take_while is_word_byte all) (take_while is_number_byte all) (mark_in_front SYMBOLS all) letter
+    choose_word (is_letter a) (is_digit a) (take_while is_word_byte all) (take_while is_number_byte all) (symbol_in_front all) letter
     ∙ ap word_lexeme taken
     ∙ ap (lexeme_of (length (a ∷ rest))) h.token
 
@@ -211,7 +211,7 @@ digits_read (a ∷ rest) n b bs some digits value stop =
     let numbers : list_all is_number_byte (a ∷ rest) ≡ true = all_of is_digit is_number_byte number_digit (a ∷ rest) (digits_all (a ∷ rest) digits) in
     let taken = take_until is_number_byte (a ∷ rest) b bs numbers (ends_number stop) in
     let all : List ℕ = a ∷ (rest ++ b ∷ bs) in
-    choose_number (is_letter a) (is_digit a) (take_while is_word_byte all) (take_while is_number_byte all) (mark_in_front SYMBOLS all) (digit_first a digit) digit
+    choose_number (is_letter a) (is_digit a) (take_while is_word_byte all) (take_while is_number_byte all) (symbol_in_front all) (digit_first a digit) digit
     ∙ ap number_lexeme taken
     ∙ ap (λ v. lexeme_of (length (a ∷ rest)) (number_token v)) value
 

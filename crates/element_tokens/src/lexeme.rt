@@ -1,7 +1,7 @@
 //! The token at a place in a source, and how many bytes it takes.
 ghost use Rattle.std.specs.Prelude.{◌≡◌, ℕ, ◌+◌, ◌<◌, ◌≤◌, List, length, drop, IfSome};
 ghost use Rattle.std.specs.Option.{option_map};
-ghost use Rattle.element_lang.specs.Mark.{spelling};
+ghost use Rattle.element_lang.specs.Mark.{symbol_in_front};
 ghost use Rattle.element_lang.specs.Token as lang;
 ghost use Rattle.element_tokens.specs.Tokens.{spelled, token_of};
 ghost use Rattle.element_tokens.specs.Lexemes.{lexeme_of};
@@ -9,7 +9,7 @@ ghost use Rattle.element_tokens.specs.Lexemes.{lexeme_of};
 use crate::number::number_value;
 use crate::scan::{is_digit, is_letter, number_len, rest_of, word_len};
 use crate::token::{Span, Token};
-use element_lang::{KEYWORDS, Mark, SYMBOLS};
+use element_lang::Mark;
 use packet_fields::field_of;
 
 /// A token, and how many bytes it takes.
@@ -17,31 +17,6 @@ use packet_fields::field_of;
 pub(crate) struct Lexeme {
     pub token: Token,
     pub len: usize,
-}
-
-// The mark of a list that is written so.
-fn mark_written(marks: &[Mark], word: &[u8]) -> Option<Mark>
-    ensures { result ≡ lang.mark_written marks.now word.now }
-{
-    for mark in marks {
-        if mark.spelling().as_bytes() == word {
-            return Some(*mark);
-        }
-    }
-    None
-}
-
-// The first mark of a list with whose spelling the bytes begin.
-fn mark_in_front(marks: &[Mark], bytes: &[u8]) -> Option<Mark>
-    ensures found { result ≡ lang.mark_in_front marks.now bytes.now }
-    ensures within { IfSome result (λ mark. length (spelling mark) ≤ length bytes.now) }
-{
-    for mark in marks {
-        if bytes.starts_with(mark.spelling().as_bytes()) {
-            return Some(*mark);
-        }
-    }
-    None
 }
 
 // The bytes of a span.
@@ -61,7 +36,7 @@ fn word_token(text: &[u8], span: Span) -> Option<Token>
     if word.contains(&b'.') {
         return Some(Token::Field(field_of(word)?));
     }
-    match mark_written(&KEYWORDS, word) {
+    match Mark::keyword(word) {
         Some(mark) => Some(Token::Fixed(mark)),
         None => Some(Token::Name(span)),
     }
@@ -71,11 +46,11 @@ fn word_token(text: &[u8], span: Span) -> Option<Token>
 #[tactic(auto, using(crate::proofs::Spellings::spelling_some))]
 fn symbol(bytes: &[u8]) -> Option<Lexeme>
     ensures found { (text : List ℕ) → option_map (lexeme_of text) result
-        ≡ lang.symbol_of (lang.mark_in_front SYMBOLS bytes.now) }
+        ≡ lang.symbol_of (symbol_in_front bytes.now) }
     ensures some { IfSome result (λ lexeme. 0 < lexeme.len) }
     ensures within { IfSome result (λ lexeme. lexeme.len ≤ length bytes.now) }
 {
-    let mark = mark_in_front(&SYMBOLS, bytes)?;
+    let mark = Mark::symbol_in_front(bytes)?;
     Some(Lexeme {
         token: Token::Fixed(mark),
         len: mark.spelling().len(),
