@@ -1,12 +1,11 @@
 -- What is wrong in one expression alone, and in those of a key and of a value.
-use Rattle.std.proofs.Common.{◌≡◌, ℕ, Bool, true, false, ◌||◌, List, map, refl, sym, ap, ◌∙◌}
+use Rattle.std.proofs.Common.{Vec, Global, ◌≡◌, ℕ, Bool, true, false, ◌||◌, List, map, refl, sym, ap, ◌∙◌}
 use Rattle.element_lang.specs.declared.tree.Local.{Local}
 use Rattle.element_lang.specs.Surface.{SurfaceExpr, SurfaceExprs, no_expr, expr}
 use Rattle.element_lang.specs.Broken.{joined}
 use Rattle.element_rules.specs.declared.expressions.Faults.{Faults}
 use Rattle.element_rules.specs.declared.expressions.Tested.{Tested}
 use Rattle.element_rules.specs.declared.expressions.TestedList.{TestedList}
-use Rattle.element_rules.specs.declared.names.KnownLocal.{KnownLocal}
 use Rattle.element_rules.specs.Seen.{local_of}
 use Rattle.element_rules.specs.Tested.{both, no_faults, Several, faults_of, list_faults, tested, tested_list, list_of}
 use Rattle.element_rules.specs.Faulty.{alone}
@@ -30,10 +29,10 @@ faults_alone : (locals : List Local) (e : SurfaceExpr) → list_faults locals (a
 faults_alone locals e = both_none (faults_of locals e)
 
 -- the expression was tested over the locals in scope
-pub only_faults : (text : List ℕ) {known locals : List KnownLocal} (e : SurfaceExpr) (made : Tested) → known ≡ locals
-    → made ≡ tested (map (local_of text) known) e → made.faults ≡ list_faults (map (local_of text) locals) (alone e)
+pub only_faults : (text : List ℕ) {known locals : List (Vec ℕ Global × ℕ)} (e : SurfaceExpr) (made : Tested) → known ≡ locals
+    → made ≡ tested (map local_of known) e → made.faults ≡ list_faults (map local_of locals) (alone e)
 only_faults text {known = known} {locals = locals} e made same is =
-    ap (λ (m : Tested). m.faults) is ∙ ap (λ l. faults_of (map (local_of text) l) e) same ∙ sym (faults_alone (map (local_of text) locals) e)
+    ap (λ (m : Tested). m.faults) is ∙ ap (λ l. faults_of (map local_of l) e) same ∙ sym (faults_alone (map local_of locals) e)
 
 pub faults_joined : (locals : List Local) (es more : SurfaceExprs) → list_faults locals (joined es more) ≡ both (list_faults locals es)
     (list_faults locals more)
@@ -42,6 +41,6 @@ faults_joined locals (expr e es) more =
     ap (both (faults_of locals e)) (faults_joined locals es more) ∙ sym (both_assoc (faults_of locals e) (list_faults locals es) (list_faults locals more))
 
 -- the same of several
-pub list_found : (text : List ℕ) {known locals : List KnownLocal} (es : SurfaceExprs) (made : TestedList) → known ≡ locals
-    → list_of made ≡ tested_list (map (local_of text) known) es → made.faults ≡ list_faults (map (local_of text) locals) es
-list_found text es made same is = ap (λ (m : Several). m.faults) is ∙ ap (λ l. list_faults (map (local_of text) l) es) same
+pub list_found : (text : List ℕ) {known locals : List (Vec ℕ Global × ℕ)} (es : SurfaceExprs) (made : TestedList) → known ≡ locals
+    → list_of made ≡ tested_list (map local_of known) es → made.faults ≡ list_faults (map local_of locals) es
+list_found text es made same is = ap (λ (m : Several). m.faults) is ∙ ap (λ l. list_faults (map local_of l) es) same

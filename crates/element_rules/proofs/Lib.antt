@@ -1,6 +1,7 @@
 pub mod Bits
 pub mod Levels
 pub mod Testing
+pub mod Scope
 pub mod Declared
 pub mod Ending
 pub mod Alone

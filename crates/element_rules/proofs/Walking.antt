@@ -1,13 +1,15 @@
 -- How the statements of a block are gone through from front to back.
-use Rattle.std.proofs.Common.{Vec, Global, ◌≡◌, ℕ, ◌+◌, ◌<◌, ◌≤◌, Bool, true, false, ◌||◌, List, [], ◌∷◌, ◌++◌, length, take, drop, get_or, map, Option, Some, None, refl, sym, ap, ◌∙◌, append_assoc}
+use Rattle.std.proofs.Common.{Vec, Global, ◌≡◌, ℕ, ◌+◌, ◌<◌, ◌≤◌, Bool, true, false, not, ◌&&◌, ◌||◌, List, [], ◌∷◌, ◌++◌, length, take, drop, get_or, map, Option, Some, None, is_none, refl, sym, ap, ◌∙◌, append_assoc}
 use Rattle.std.specs.Option.{is_some}
 use Rattle.std.proofs.lemmas.List.{at_drop_all, append-nil, map-append, take-map, take_at, length-map}
+use Rattle.std.specs.Str.{bytes_eq}
+use Rattle.indexmap.specs.IndexMap.{insert_entry}
 use Rattle.element_lang.specs.declared.tree.Local.{Local}
 use Rattle.element_lang.specs.declared.broken.Broken.{Broken}
 use Rattle.element_lang.specs.Surface as surface
 use Rattle.element_lang.specs.Surface.{let_local, assign, set_field, look, put, del, choose, repeat, send}
 use Rattle.element_lang.specs.Broken as broken
-use Rattle.element_lang.specs.Broken.{Sight, ◌or_else◌, lowest_broken, stmt_tests, behind, always_ends}
+use Rattle.element_lang.specs.Broken.{Sight, ◌or_else◌, are_free, lowest_broken, stmt_tests, behind, always_ends}
 use Rattle.element_tokens.specs.declared.token.Span.{Span}
 use Rattle.element_tokens.specs.Tokens.{spelled}
 use Rattle.element_grammar.specs.declared.surface.At.{At}
@@ -16,11 +18,11 @@ use Rattle.element_grammar.specs.declared.surface.SurfaceStmt.{SurfaceStmt}
 use Rattle.element_grammar.specs.declared.surface.SurfaceStmt.TheVariants.{If, Repeat}
 use Rattle.element_grammar.specs.declared.surface.SurfaceDecl.{SurfaceDecl}
 use Rattle.element_grammar.specs.Surface.{surface_stmt, surface_body}
-use Rattle.element_rules.specs.declared.names.KnownLocal.{KnownLocal}
 use Rattle.element_rules.specs.declared.names.Sight as rules
 use Rattle.element_rules.specs.declared.statements.StmtFaults.{StmtFaults}
 use Rattle.element_rules.specs.Seen.{local_of, sight_of}
-use Rattle.element_rules.specs.Faulty.{stmt_faults, tests_of, bound, within_repeat, with_ended}
+use Rattle.element_rules.specs.Faulty.{stmt_faults, tests_of, bound, counts_apart, within_repeat, with_ended}
+use Rattle.element_rules.proofs.Scope.{Entries, local_last}
 use Rattle.element_rules.proofs.Testing.{at_item}
 use Rattle.element_rules.proofs.Levels.{if_level, repeat_level}
 
@@ -40,10 +42,10 @@ none_found (Some b) e = cc
 
 -- ## Locals that go out of scope
 
-cut : (text : List ℕ) (outer inner : List KnownLocal) (n : ℕ) (more : List Local) → n ≡ length outer → map (local_of text) inner ≡ map (local_of text)
-    outer ++ more → map (local_of text) (take n inner) ≡ map (local_of text) outer
-cut text outer inner n more is longer =
-    sym (take-map (local_of text) n inner) ∙ ap (take n) longer ∙ take_at (map (local_of text) outer) more n (length-map outer (local_of text) ∙ sym is)
+cut : (outer inner : List (Vec ℕ Global × ℕ)) (n : ℕ) (more : List Local) → n ≡ length outer → map local_of inner ≡ map local_of
+    outer ++ more → map local_of (take n inner) ≡ map local_of outer
+cut outer inner n more is longer =
+    sym (take-map local_of n inner) ∙ ap (take n) longer ∙ take_at (map local_of outer) more n (length-map outer local_of ∙ sym is)
 
 -- ## A statement does not ask whether one before it has ended the block, but for the last rule
 
@@ -92,32 +94,66 @@ same_within ended sight (repeat index count body) =
 same_within ended sight (send port) = refl
 same_within ended sight surface.drop = refl
 
+-- ## Names of their own
+
+-- where nothing is broken, no name is taken
+untaken : (a b t : Bool) (more : List (ℕ × Bool)) (at : ℕ) → is_some (lowest_broken at ((2, a) ∷ (4, b) ∷ (7, t) ∷ more)) ≡ false → t ≡ false
+untaken true b t more at e = cc
+untaken false true t more at e = cc
+untaken false false true more at e = cc
+untaken false false false more at e = refl
+
+not_not : (b : Bool) → not b ≡ false → b ≡ true
+not_not true e = refl
+not_not false e = cc
+
+second_part : (a b c : Bool) → (a && b && c) ≡ true → b ≡ true
+second_part true true c e = refl
+second_part true false c e = cc
+second_part false b c e = cc
+
+counted : (sight : Sight) (s : surface.SurfaceStmt) → are_free sight.objects sight.locals (broken.declares sight s) ≡ true → counts_apart (bound sight s) s ≡ true
+counted sight (let_local word value) e = refl
+counted sight (assign word value) e = refl
+counted sight (set_field f value) e = refl
+counted sight (look found into object keys) e = refl
+counted sight (put ok object keys values) e = refl
+counted sight (del was object keys) e = refl
+counted sight (choose cond first second) e = refl
+counted sight (repeat index count body) e =
+    ap (λ ls. is_none (broken.local_named ls index)) (append-nil sight.locals)
+    ∙ second_part (is_none (broken.object_named sight.objects index)) (is_none (broken.local_named sight.locals index)) true e
+counted sight (send port) e = refl
+counted sight surface.drop e = refl
+
 -- ## A block
 
 -- The locals of the block stand behind those from outside, and what is left has the first broken statement of all.
 pub record Walking (text : List ℕ) (objects : List (At SurfaceDecl)) (before now : rules.Sight) (ended : Bool) (left all : List (At SurfaceStmt)) : Type 0 where
   pub more : List Local
-  pub scope : map (local_of text) now.locals.items ≡ map (local_of text) before.locals.items ++ more
+  pub scope : map local_of now.locals.entries ≡ map local_of before.locals.entries ++ more
   pub repeated : now.repeated ≡ before.repeated
   pub told : broken.broken_in (with_ended ended (sight_of text objects now)) (surface_body text left) ≡ broken.broken_in
       (sight_of text objects before) (surface_body text all)
 
 pub walking_none : (text : List ℕ) (objects : List (At SurfaceDecl)) (before : rules.Sight) (all : List (At SurfaceStmt))
     → Walking text objects before before false all all
-walking_none text objects before all = record { more = []; scope = sym (append-nil (map (local_of text) before.locals.items)); repeated = refl; told = refl }
+walking_none text objects before all = record { more = []; scope = sym (append-nil (map local_of before.locals.entries)); repeated = refl; told = refl }
 
-module _ {text : List ℕ} {objects : List (At SurfaceDecl)} {before now : rules.Sight} {ended : Bool} {all : List (At SurfaceStmt)} (mid : rules.Sight)
+module _ {text : List ℕ} {objects : List (At SurfaceDecl)} {before now : rules.Sight} {ended : Bool} {all : List (At SurfaceStmt)}
     (at : ℕ) (s : At SurfaceStmt) {faults : StmtFaults} (within : at < length all) (is : s ≡ get_or all at s)
-    (h : Walking text objects before now ended (drop at all) all) (faulty : faults ≡ stmt_faults (sight_of text objects now) (surface_stmt text s.item))
-    (declared : sight_of text objects mid ≡ bound (sight_of text objects now) (surface_stmt text s.item)) where
+    (h : Walking text objects before now ended (drop at all) all) (faulty : faults ≡ stmt_faults (sight_of text objects now) (surface_stmt text s.item)) where
+  abbrev then_seen : Sight
+  then_seen = bound (sight_of text objects now) (surface_stmt text s.item)
+
   abbrev own_parts : Option Broken
   own_parts = lowest_broken s.at (tests_of ended faults)
 
   abbrev parts_within : Option Broken
-  parts_within = broken.broken_within (sight_of text objects mid) (surface_stmt text s.item)
+  parts_within = broken.broken_within then_seen (surface_stmt text s.item)
 
   abbrev behind_it : Option Broken
-  behind_it = broken.broken_in (with_ended (ended || always_ends (surface_stmt text s.item)) (sight_of text objects mid))
+  behind_it = broken.broken_in (with_ended (ended || always_ends (surface_stmt text s.item)) then_seen)
       (surface_body text (drop (at + 1) all))
 
   abbrev whole : Option Broken
@@ -129,10 +165,9 @@ module _ {text : List ℕ} {objects : List (At SurfaceDecl)} {before now : rules
       let seen = sight_of text objects now in
       let rest = surface_body text (drop (at + 1) all) in
       let tests : stmt_tests (with_ended ended seen) tree ≡ tests_of ended faults = ap (tests_of ended) (same_faults ended seen tree ∙ sym faulty) in
-      let inner : broken.broken_within (with_ended ended seen) tree ≡ parts_within = same_within ended seen tree
-      ∙ ap (λ x. broken.broken_within x tree) (sym declared) in
+      let inner : broken.broken_within (with_ended ended seen) tree ≡ parts_within = same_within ended seen tree in
       let next : broken.broken_in (behind (with_ended ended seen) tree) rest ≡ behind_it =
-      ap (λ x. broken.broken_in x rest) (same_bound ended seen tree ∙ ap (with_ended (ended || always_ends tree)) (sym declared)) in
+      ap (λ x. broken.broken_in x rest) (same_bound ended seen tree) in
       sym (sym h.told ∙ at_item (λ l. broken.broken_in (with_ended ended seen) (surface_body text l)) all at s within is
       ∙ ap (λ x. lowest_broken s.at x or_else (broken.broken_within (with_ended ended seen) tree or_else broken.broken_in
       (behind (with_ended ended seen) tree) rest)) tests
@@ -143,31 +178,50 @@ module _ {text : List ℕ} {objects : List (At SurfaceDecl)} {before now : rules
   pub own_found : (own : Option Broken) → own ≡ own_parts → is_some own ≡ true → own ≡ whole
   own_found own is_own some = is_own ∙ sym (sym split ∙ first_found own_parts (parts_within or_else behind_it) (ap is_some (sym is_own) ∙ some))
 
-  -- it doesn't
-  module _ (own : Option Broken) (is_own : own ≡ own_parts) (keeps : is_some own ≡ false) (inner : Option Broken) (is_inner : inner ≡ parts_within) where
-    later : (parts_within or_else behind_it) ≡ whole
-    later = sym (sym split ∙ next_found own_parts (parts_within or_else behind_it) (ap is_some (sym is_own) ∙ keeps))
+  -- it doesn't, and so its locals have names of their own
+  module _ (own : Option Broken) (is_own : own ≡ own_parts) (keeps : is_some own ≡ false) where
+    pub none_taken : faults.taken ≡ false
+    none_taken = untaken faults.exprs.bad_width faults.exprs.too_large faults.taken _ s.at (ap is_some (sym is_own) ∙ keeps)
 
-    -- one inside it does
-    pub inner_found : is_some inner ≡ true → inner ≡ whole
-    inner_found some = is_inner ∙ sym (sym later ∙ first_found parts_within behind_it (ap is_some (sym is_inner) ∙ some))
+    pub counts : counts_apart then_seen (surface_stmt text s.item) ≡ true
+    counts = counted (sight_of text objects now) (surface_stmt text s.item)
+        (not_not (are_free (sight_of text objects now).objects (sight_of text objects now).locals (broken.declares (sight_of text objects now) (surface_stmt text s.item)))
+        (ap (λ (f : StmtFaults). f.taken) (sym faulty) ∙ none_taken))
 
-    -- none does
-    pub walking_more : (new : rules.Sight) (ends : Bool) → is_some inner ≡ false → (inner ≡ None → sight_of text objects new ≡ sight_of text objects mid)
-        → ends ≡ always_ends (surface_stmt text s.item) → Walking text objects before new (ended || ends) (drop (at + 1) all) all
-    walking_more new ends none kept is_end =
-        let same = kept (none_found inner none) in
-        let rest = surface_body text (drop (at + 1) all) in
-        let scope = ap (λ (x : Sight). x.locals) (same ∙ declared) in
-        record {
-          more = h.more ++ broken.binds (sight_of text objects now) (surface_stmt text s.item);
-          scope = scope ∙ ap (λ l. l ++ broken.binds (sight_of text objects now) (surface_stmt text s.item)) h.scope
-              ∙ append_assoc (map (local_of text) before.locals.items) h.more _;
-          repeated = ap (λ (x : Sight). x.repeated) (same ∙ declared) ∙ h.repeated;
-          told = ap (λ b. broken.broken_in (with_ended (ended || b) (sight_of text objects new)) rest) is_end
-              ∙ ap (λ x. broken.broken_in (with_ended (ended || always_ends (surface_stmt text s.item)) x) rest) same
-              ∙ sym (sym later ∙ next_found parts_within behind_it (ap is_some (sym is_inner) ∙ none));
-        }
+    module _ (mid : rules.Sight) (declared : faults.taken ≡ false → sight_of text objects mid ≡ then_seen) where
+      same_mid : sight_of text objects mid ≡ then_seen
+      same_mid = declared none_taken
+
+      pub counts_mid : counts_apart (sight_of text objects mid) (surface_stmt text s.item) ≡ true
+      counts_mid = ap (λ x. counts_apart x (surface_stmt text s.item)) same_mid ∙ counts
+
+      module _ (inner : Option Broken) (is_inner : inner ≡ broken.broken_within (sight_of text objects mid) (surface_stmt text s.item)) where
+        inner_parts : inner ≡ parts_within
+        inner_parts = is_inner ∙ ap (λ x. broken.broken_within x (surface_stmt text s.item)) same_mid
+
+        later : (parts_within or_else behind_it) ≡ whole
+        later = sym (sym split ∙ next_found own_parts (parts_within or_else behind_it) (ap is_some (sym is_own) ∙ keeps))
+
+        -- one inside it does
+        pub inner_found : is_some inner ≡ true → inner ≡ whole
+        inner_found some = inner_parts ∙ sym (sym later ∙ first_found parts_within behind_it (ap is_some (sym inner_parts) ∙ some))
+
+        -- none does
+        pub walking_more : (new : rules.Sight) (ends : Bool) → is_some inner ≡ false → (inner ≡ None → sight_of text objects new ≡ sight_of text objects mid)
+            → ends ≡ always_ends (surface_stmt text s.item) → Walking text objects before new (ended || ends) (drop (at + 1) all) all
+        walking_more new ends none kept is_end =
+            let same = kept (none_found inner none) ∙ same_mid in
+            let rest = surface_body text (drop (at + 1) all) in
+            let scope = ap (λ (x : Sight). x.locals) same in
+            record {
+              more = h.more ++ broken.binds (sight_of text objects now) (surface_stmt text s.item);
+              scope = scope ∙ ap (λ l. l ++ broken.binds (sight_of text objects now) (surface_stmt text s.item)) h.scope
+                  ∙ append_assoc (map local_of before.locals.entries) h.more _;
+              repeated = ap (λ (x : Sight). x.repeated) same ∙ h.repeated;
+              told = ap (λ b. broken.broken_in (with_ended (ended || b) (sight_of text objects new)) rest) is_end
+                  ∙ ap (λ x. broken.broken_in (with_ended (ended || always_ends (surface_stmt text s.item)) x) rest) same
+                  ∙ sym (sym later ∙ next_found parts_within behind_it (ap is_some (sym inner_parts) ∙ none));
+            }
 
 -- nothing is left
 pub walking_end : {text : List ℕ} {objects : List (At SurfaceDecl)} {before now : rules.Sight} {ended : Bool} {all : List (At SurfaceStmt)} (at : ℕ)
@@ -178,10 +232,10 @@ walking_end {text = text} {objects = objects} {now = now} {ended = ended} {all =
 
 -- and the locals of the block go out of scope
 pub walked_out : {text : List ℕ} {objects : List (At SurfaceDecl)} {before now : rules.Sight} {ended : Bool} {left all : List (At SurfaceStmt)}
-    (new : rules.Sight) (n : ℕ) → Walking text objects before now ended left all → n ≡ length before.locals.items
-    → new.locals.items ≡ take n now.locals.items → new.repeated ≡ now.repeated → sight_of text objects new ≡ sight_of text objects before
+    (new : rules.Sight) (n : ℕ) → Walking text objects before now ended left all → n ≡ length before.locals.entries
+    → new.locals.entries ≡ take n now.locals.entries → new.repeated ≡ now.repeated → sight_of text objects new ≡ sight_of text objects before
 walked_out {text = text} {objects = objects} {before = before} {now = now} new n h outer taken same =
-    let left = ap (map (local_of text)) taken ∙ cut text before.locals.items now.locals.items n h.more outer h.scope in
+    let left = ap (map local_of) taken ∙ cut before.locals.entries now.locals.entries n h.more outer h.scope in
     ap (λ ls. record (sight_of text objects new) { locals = ls }) left ∙ ap (λ b. record (sight_of text objects before) { repeated = b }) (same ∙ h.repeated)
 
 -- ## The blocks inside a statement
@@ -217,13 +271,23 @@ repeated_block text objects seen index count body is are =
     ap (λ l. broken.broken_in (within_repeat (sight_of text objects seen) (spelled text index)) (surface_body text l)) are
     ∙ sym (ap (broken.broken_within (sight_of text objects seen)) (ap (surface_stmt text) is ∙ repeat_level text index count body))
 
+-- in a repeat one more local is in scope
+pub counting : (text : List ℕ) (objects : List (At SurfaceDecl)) (seen pushed : rules.Sight) (index : Span) (key : Vec ℕ Global) (entries : Entries)
+    → spelled text index ≡ key.items → is_none (broken.local_named (map local_of seen.locals.entries) (spelled text index)) ≡ true
+    → entries ≡ insert_entry (λ (k j : Vec ℕ Global). bytes_eq k.items j.items) seen.locals.entries key 32
+    → pushed.locals.entries ≡ entries → pushed.repeated ≡ true
+    → sight_of text objects pushed ≡ within_repeat (sight_of text objects seen) (spelled text index)
+counting text objects seen pushed index key entries same free is stored repeats =
+    let locals = ap (map local_of) stored ∙ local_last seen.locals.entries key 32 (spelled text index) same free is in
+    ap (λ ls. record (sight_of text objects pushed) { locals = ls }) locals
+    ∙ ap (λ b. record (within_repeat (sight_of text objects seen) (spelled text index)) { repeated = b }) repeats
+
 -- the local that counts the turns goes out of scope
-pub repeated_out : (text : List ℕ) (objects : List (At SurfaceDecl)) (before pushed inside new : rules.Sight) (index : Span) (n : ℕ)
-    → pushed.locals.items ≡ before.locals.items ++ record { name = index; width = 32 } ∷ [] → sight_of text objects inside ≡ sight_of text objects pushed
-    → n ≡ length before.locals.items → new.locals.items ≡ take n inside.locals.items → new.repeated ≡ before.repeated
+pub repeated_out : (text : List ℕ) (objects : List (At SurfaceDecl)) (before inside new : rules.Sight) (index : Span) (n : ℕ)
+    → sight_of text objects inside ≡ within_repeat (sight_of text objects before) (spelled text index)
+    → n ≡ length before.locals.entries → new.locals.entries ≡ take n inside.locals.entries → new.repeated ≡ before.repeated
     → sight_of text objects new ≡ sight_of text objects before
-repeated_out text objects before pushed inside new index n push same outer taken repeated =
-    let scope = ap (λ (x : Sight). x.locals) same ∙ ap (map (local_of text)) push ∙ map-append (local_of text) before.locals.items
-    (record { name = index; width = 32 } ∷ []) in
-    let left = ap (map (local_of text)) taken ∙ cut text before.locals.items inside.locals.items n _ outer scope in
+repeated_out text objects before inside new index n same outer taken repeated =
+    let scope = ap (λ (x : Sight). x.locals) same in
+    let left = ap (map local_of) taken ∙ cut before.locals.entries inside.locals.entries n _ outer scope in
     ap (λ ls. record (sight_of text objects new) { locals = ls }) left ∙ ap (λ b. record (sight_of text objects before) { repeated = b }) repeated

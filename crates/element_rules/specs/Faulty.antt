@@ -1,7 +1,7 @@
 -- Which rules a statement breaks by its own parts, all at once.
-use Rattle.std.specs.Prelude.{ℕ, Bool, true, false, not, ◌&&◌, ◌||◌, List, [], ◌∷◌, ◌++◌}
-use Rattle.element_lang.specs.Surface.{SurfaceExpr, SurfaceExprs, SurfaceStmt, no_expr, expr}
-use Rattle.element_lang.specs.Broken.{Sight, own_exprs, are_free, declares, binds, uses_unknown, takes_misfit, writes_fixed, misfits_object, changes_fixed, repeats_badly, repeats_an_end}
+use Rattle.std.specs.Prelude.{ℕ, Bool, true, false, not, ◌&&◌, ◌||◌, List, [], ◌∷◌, ◌++◌, is_none}
+use Rattle.element_lang.specs.Surface.{SurfaceExpr, SurfaceExprs, SurfaceStmt, no_expr, expr, repeat}
+use Rattle.element_lang.specs.Broken.{Sight, local_named, own_exprs, are_free, declares, binds, uses_unknown, takes_misfit, writes_fixed, misfits_object, changes_fixed, repeats_badly, repeats_an_end}
 use Rattle.element_rules.specs.declared.expressions.Faults.{Faults}
 use Rattle.element_rules.specs.declared.statements.StmtFaults.{StmtFaults}
 use Rattle.element_rules.specs.Tested.{list_faults}
@@ -51,6 +51,11 @@ tests_of ended f =
 -- what is seen behind a statement, apart from whether it ends the block
 abbrev pub bound : Sight → SurfaceStmt → Sight
 bound sight s = record { objects = sight.objects; locals = sight.locals ++ binds sight s; repeated = sight.repeated; ended = sight.ended }
+
+-- the local that counts the turns has the name of none in scope
+abbrev pub counts_apart : Sight → SurfaceStmt → Bool
+counts_apart sight (repeat index count body) = is_none (local_named sight.locals index)
+counts_apart sight _ = true
 
 -- one expression alone
 abbrev pub alone : SurfaceExpr → SurfaceExprs

@@ -1,14 +1,14 @@
 //! The first statement that breaks a rule.
-ghost use Rattle.std.specs.Prelude.{◌≡◌, ◌++◌, ◌∷◌, [], true, false, map, IfOk, None};
+ghost use Rattle.std.specs.Prelude.{◌≡◌, ◌++◌, ◌∷◌, [], true, false, map, is_none, IfOk, None};
 ghost use Rattle.element_lang.specs.Broken as broken;
 ghost use Rattle.element_lang.specs.Broken.{lowest_broken};
 ghost use Rattle.element_tokens.specs.Tokens.{spelled};
 ghost use Rattle.element_grammar.specs.Surface.{surface_stmt, surface_body};
 ghost use Rattle.element_rules.specs.Seen.{local_of, objects_of, sight_of};
-ghost use Rattle.element_rules.specs.Faulty.{tests_of, within_repeat};
+ghost use Rattle.element_rules.specs.Faulty.{tests_of, counts_apart, within_repeat};
 
 use crate::ends::always_ends;
-use crate::names::{KnownLocal, Sight};
+use crate::names::{Sight, word_of};
 use crate::statements::{StmtFaults, statement};
 use element_grammar::{At, SurfaceDecl, SurfaceStmt};
 use element_lang::Broken;
@@ -62,6 +62,7 @@ fn broken_within(
     sight: &mut Sight,
     source: &SurfaceStmt,
 ) -> Result<Option<Broken>, NoMemory>
+    requires { counts_apart (sight_of text.now objects.now sight.old) (surface_stmt text.now source.now) ≡ true }
     ensures found { IfOk result (λ found. found
         ≡ broken.broken_within (sight_of text.now objects.now sight.old) (surface_stmt text.now source.now)) }
     ensures sight { IfOk result (λ found. found ≡ None
@@ -99,6 +100,7 @@ fn broken_in_repeat(
     index: Span,
     source: &[At<SurfaceStmt>],
 ) -> Result<Option<Broken>, NoMemory>
+    requires { is_none (broken.local_named (map local_of sight.old.locals.entries) (spelled text.now index)) ≡ true }
     ensures found { IfOk result (λ found. found
         ≡ broken.broken_in (within_repeat (sight_of text.now objects.now sight.old) (spelled text.now index)) (surface_body text.now source.now)) }
     ensures sight { IfOk result (λ found. found ≡ None
@@ -106,10 +108,8 @@ fn broken_in_repeat(
 {
     let outer = sight.locals.len();
     let repeated = sight.repeated;
-    sight.locals.push(KnownLocal {
-        name: index,
-        width: TURN_BITS,
-    })?;
+    let word = word_of(alloc, text, index)?;
+    sight.locals.insert(word, TURN_BITS)?;
     sight.repeated = true;
     let found = broken_in(alloc, text, objects, sight, source)?;
     sight.locals.truncate(outer);

@@ -8,12 +8,13 @@ ghost use Rattle.element_grammar.specs.Surface.{surface_expr, surface_exprs};
 ghost use Rattle.element_rules.specs.Seen.{local_of};
 ghost use Rattle.element_rules.specs.Tested.{no_faults, both, tested, tested_list, list_of};
 
-use crate::names::{KnownLocal, local_named};
+use crate::names::width_named;
 use crate::widths::{fits, fits_operator, is_width, result_width};
 use element_grammar::SurfaceExpr;
 use element_tokens::Span;
 use gal_bits::Op;
 use gal_io::NoMemory;
+use indexmap::IndexMap;
 use packet_fields::{Field, width};
 use std::alloc::Global;
 
@@ -97,12 +98,12 @@ fn literal(value: u64, bits: u64) -> Tested
 }
 
 // The local of this name.
-fn local(text: &[u8], locals: &[KnownLocal], name: Span) -> Tested
-    ensures { result ≡ tested (map (local_of text.now) locals.now) (surface.name (spelled text.now name)) }
+fn local(text: &[u8], locals: &IndexMap<Vec<u8>, u64>, name: Span) -> Tested
+    ensures { result ≡ tested (map local_of locals.now.entries) (surface.name (spelled text.now name)) }
 {
-    match local_named(text, locals, name) {
-        Some(found) => Tested {
-            width: found.width,
+    match width_named(text, locals, name) {
+        Some(width) => Tested {
+            width,
             faults: Faults::none(),
         },
         None => Tested {
@@ -185,10 +186,10 @@ fn apply(op: Op, written: u64, args: TestedList) -> Tested
 pub(crate) fn expression(
     alloc: Global,
     text: &[u8],
-    locals: &[KnownLocal],
+    locals: &IndexMap<Vec<u8>, u64>,
     source: &SurfaceExpr,
 ) -> Result<Tested, NoMemory>
-    ensures { IfOk result (λ made. made ≡ tested (map (local_of text.now) locals.now) (surface_expr text.now source.now)) }
+    ensures { IfOk result (λ made. made ≡ tested (map local_of locals.now.entries) (surface_expr text.now source.now)) }
 {
     match source {
         SurfaceExpr::Literal { value, width } => Ok(literal(*value, *width)),
@@ -214,10 +215,10 @@ pub(crate) fn expression(
 pub(crate) fn expressions(
     alloc: Global,
     text: &[u8],
-    locals: &[KnownLocal],
+    locals: &IndexMap<Vec<u8>, u64>,
     source: &[SurfaceExpr],
 ) -> Result<TestedList, NoMemory>
-    ensures { IfOk result (λ made. list_of made ≡ tested_list (map (local_of text.now) locals.now) (surface_exprs text.now source.now)) }
+    ensures { IfOk result (λ made. list_of made ≡ tested_list (map local_of locals.now.entries) (surface_exprs text.now source.now)) }
 {
     let mut widths = Vec::new(alloc);
     let mut faults = Faults::none();

@@ -13,5 +13,6 @@ mod source;
 mod statements;
 mod widths;
 
+pub use names::{word_at, word_of};
 pub use sizes::{entries, writes};
 pub use source::first_broken;

@@ -1,5 +1,5 @@
 //! What the names in a source stand for.
-ghost use Rattle.std.specs.Prelude.{◌≡◌, ℕ, ◌&&◌, ◌++◌, ◌∷◌, [], List, map, IfOk, OnOk};
+ghost use Rattle.std.specs.Prelude.{◌≡◌, ℕ, ◌&&◌, ◌++◌, ◌∷◌, [], List, map, IfOk, true};
 ghost use Rattle.std.specs.Option.{option_map, is_none};
 ghost use Rattle.element_lang.specs.Surface.{object_of};
 ghost use Rattle.element_lang.specs.Broken as broken;
@@ -11,25 +11,20 @@ ghost use Rattle.element_rules.specs.Seen.{local_of, objects_of};
 use element_grammar::{At, SurfaceDecl};
 use element_tokens::Span;
 use gal_io::NoMemory;
-
-/// A local in scope, and how many bits it has.
-#[derive(Clone, Copy, Debug)]
-pub(crate) struct KnownLocal {
-    pub name: Span,
-    pub width: u64,
-}
+use indexmap::IndexMap;
+use std::alloc::Global;
 
 /// What a statement sees besides the objects that are declared.
-#[derive(Debug, Drop)]
+#[derive(Drop)]
 pub(crate) struct Sight {
-    /// The locals in scope, the oldest first.
-    pub locals: Vec<KnownLocal>,
+    /// How many bits each local in scope has, by its name, the oldest first.
+    pub locals: IndexMap<Vec<u8>, u64>,
     /// It stands within a repeat.
     pub repeated: bool,
 }
 
 /// The bytes of a span, as far as the text has them.
-pub(crate) fn word_at(text: &[u8], span: Span) -> &[u8]
+pub fn word_at(text: &[u8], span: Span) -> &[u8]
     ensures { result.now ≡ spelled text.now span }
 {
     if span.offset >= text.len() {
@@ -42,18 +37,19 @@ pub(crate) fn word_at(text: &[u8], span: Span) -> &[u8]
     &rest[..span.len]
 }
 
-/// The local in scope that has a name.
-pub(crate) fn local_named(text: &[u8], locals: &[KnownLocal], name: Span) -> Option<KnownLocal>
-    ensures { option_map (local_of text.now) result
-        ≡ broken.local_named (map (local_of text.now) locals.now) (spelled text.now name) }
+/// A copy of the bytes of a span.
+pub fn word_of(alloc: Global, text: &[u8], span: Span) -> Result<Vec<u8>, NoMemory>
+    ensures { IfOk result (λ word. word.items ≡ spelled text.now span) }
 {
-    let word = word_at(text, name);
-    for local in locals {
-        if word == word_at(text, local.name) {
-            return Some(*local);
-        }
-    }
-    None
+    Ok(word_at(text, span).to_vec(alloc)?)
+}
+
+/// How many bits the local in scope has that has a name.
+pub(crate) fn width_named(text: &[u8], locals: &IndexMap<Vec<u8>, u64>, name: Span) -> Option<u64>
+    ensures { result ≡ option_map (λ l. l.width)
+        (broken.local_named (map local_of locals.now.entries) (spelled text.now name)) }
+{
+    locals.get(word_at(text, name)).copied()
 }
 
 /// The name of an object that is declared.
@@ -90,52 +86,58 @@ pub(crate) fn object_named<'a>(
 pub(crate) fn is_free(
     text: &[u8],
     objects: &[At<SurfaceDecl>],
-    locals: &[KnownLocal],
+    locals: &IndexMap<Vec<u8>, u64>,
     name: Span,
 ) -> bool
     ensures { result ≡ (is_none (broken.object_named (objects_of text.now objects.now) (spelled text.now name))
-        && is_none (broken.local_named (map (local_of text.now) locals.now) (spelled text.now name))) }
+        && is_none (broken.local_named (map local_of locals.now.entries) (spelled text.now name))) }
 {
-    object_named(text, objects, name).is_none() && local_named(text, locals, name).is_none()
+    object_named(text, objects, name).is_none() && width_named(text, locals, name).is_none()
 }
 
-/// Brings a local into scope, and tells whether its name was free.
+/// Brings a local into scope where its name is free, and tells whether it is.
 pub(crate) fn declare(
+    alloc: Global,
     text: &[u8],
     objects: &[At<SurfaceDecl>],
-    locals: &mut Vec<KnownLocal>,
+    locals: &mut IndexMap<Vec<u8>, u64>,
     name: Span,
     width: u64,
 ) -> Result<bool, NoMemory>
     ensures free { IfOk result (λ free. free
         ≡ (is_none (broken.object_named (objects_of text.now objects.now) (spelled text.now name))
-        && is_none (broken.local_named (map (local_of text.now) locals.old.items) (spelled text.now name)))) }
-    ensures locals { OnOk result (map (local_of text.now) locals.new.items
-        ≡ map (local_of text.now) locals.old.items ++ record { name = spelled text.now name; width = width } ∷ []) }
+        && is_none (broken.local_named (map local_of locals.old.entries) (spelled text.now name)))) }
+    ensures locals { IfOk result (λ free. free ≡ true → map local_of locals.new.entries
+        ≡ map local_of locals.old.entries ++ record { name = spelled text.now name; width = width } ∷ []) }
 {
-    let free = is_free(text, objects, locals, name);
-    locals.push(KnownLocal { name, width })?;
-    Ok(free)
+    if !is_free(text, objects, locals, name) {
+        return Ok(false);
+    }
+    let word = word_of(alloc, text, name)?;
+    locals.insert(word, width)?;
+    Ok(true)
 }
 
-/// The same of several with the widths at their places, in order.
+/// The same of several with the widths at their places, in order, up to the first whose name isn't free.
 pub(crate) fn declare_all(
+    alloc: Global,
     text: &[u8],
     objects: &[At<SurfaceDecl>],
-    locals: &mut Vec<KnownLocal>,
+    locals: &mut IndexMap<Vec<u8>, u64>,
     names: &[Span],
     widths: &[u64],
 ) -> Result<bool, NoMemory>
     ensures free { IfOk result (λ free. free
-        ≡ are_free (objects_of text.now objects.now) (map (local_of text.now) locals.old.items)
+        ≡ are_free (objects_of text.now objects.now) (map local_of locals.old.entries)
         (locals_of (map (spelled text.now) names.now) widths.now)) }
-    ensures locals { OnOk result (map (local_of text.now) locals.new.items
-        ≡ map (local_of text.now) locals.old.items ++ locals_of (map (spelled text.now) names.now) widths.now) }
+    ensures locals { IfOk result (λ free. free ≡ true → map local_of locals.new.entries
+        ≡ map local_of locals.old.entries ++ locals_of (map (spelled text.now) names.now) widths.now) }
 {
-    let mut free = true;
     for (i, name) in names.iter().enumerate() {
         let width = if i < widths.len() { widths[i] } else { 0 };
-        free = declare(text, objects, locals, *name, width)? && free;
+        if !declare(alloc, text, objects, locals, *name, width)? {
+            return Ok(false);
+        }
     }
-    Ok(free)
+    Ok(true)
 }

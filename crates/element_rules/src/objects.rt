@@ -1,5 +1,5 @@
 //! What fits a declared object.
-ghost use Rattle.std.specs.Prelude.{◌≡◌, ◌++◌, List, ℕ, map, length, IfOk, OnOk};
+ghost use Rattle.std.specs.Prelude.{◌≡◌, ◌++◌, List, ℕ, map, length, IfOk, true};
 ghost use Rattle.element_lang.specs.Surface.{object_of};
 ghost use Rattle.state_store.specs.Kinds.{is_table, is_map};
 ghost use Rattle.element_lang.specs.Rules.{same_widths};
@@ -8,11 +8,13 @@ ghost use Rattle.element_tokens.specs.Tokens.{spelled};
 ghost use Rattle.element_grammar.specs.Surface.{surface_decl};
 ghost use Rattle.element_rules.specs.Seen.{local_of, objects_of};
 
-use crate::names::{KnownLocal, declare_all};
+use crate::names::declare_all;
 use crate::widths::same_widths;
 use element_grammar::{At, SurfaceDecl};
 use element_tokens::Span;
 use gal_io::NoMemory;
+use indexmap::IndexMap;
+use std::alloc::Global;
 
 // The bits of an index of a vector.
 const INDEX_BITS: u64 = 32;
@@ -56,24 +58,25 @@ pub(crate) fn value_count(object: &SurfaceDecl) -> usize
 
 /// Declares a local for each number of a value.
 pub(crate) fn declare_values(
+    alloc: Global,
     text: &[u8],
     objects: &[At<SurfaceDecl>],
-    locals: &mut Vec<KnownLocal>,
+    locals: &mut IndexMap<Vec<u8>, u64>,
     names: &[Span],
     object: &SurfaceDecl,
 ) -> Result<bool, NoMemory>
     ensures free { IfOk result (λ free. free
-        ≡ are_free (objects_of text.now objects.now) (map (local_of text.now) locals.old.items)
+        ≡ are_free (objects_of text.now objects.now) (map local_of locals.old.entries)
         (locals_of (map (spelled text.now) names.now) (object_of (surface_decl text.now object.now)).values)) }
-    ensures locals { OnOk result (map (local_of text.now) locals.new.items
-        ≡ map (local_of text.now) locals.old.items
+    ensures locals { IfOk result (λ free. free ≡ true → map local_of locals.new.entries
+        ≡ map local_of locals.old.entries
         ++ locals_of (map (spelled text.now) names.now) (object_of (surface_decl text.now object.now)).values) }
 {
     match object {
         SurfaceDecl::Table { values, .. }
         | SurfaceDecl::Map { values, .. }
-        | SurfaceDecl::Vector { values, .. } => declare_all(text, objects, locals, names, values),
-        SurfaceDecl::Int { width, .. } => declare_all(text, objects, locals, names, &[*width]),
+        | SurfaceDecl::Vector { values, .. } => declare_all(alloc, text, objects, locals, names, values),
+        SurfaceDecl::Int { width, .. } => declare_all(alloc, text, objects, locals, names, &[*width]),
     }
 }
 

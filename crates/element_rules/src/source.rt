@@ -9,6 +9,7 @@ use crate::names::Sight;
 use element_grammar::SurfaceTree;
 use element_lang::Broken;
 use gal_io::NoMemory;
+use indexmap::IndexMap;
 use std::alloc::Global;
 
 /// Of all declarations and statements that break a rule the first, and the lowest rule that it breaks. There is none where the
@@ -25,7 +26,7 @@ pub fn first_broken(
         return Ok(declared);
     }
     let mut sight = Sight {
-        locals: Vec::new(alloc),
+        locals: IndexMap::new(alloc),
         repeated: false,
     };
     broken_in(alloc, text, &source.objects, &mut sight, &source.body)

@@ -1,5 +1,5 @@
 //! Which rules a statement breaks by its own parts.
-ghost use Rattle.std.specs.Prelude.{◌≡◌, IfOk, OnOk, map, not, ◌&&◌};
+ghost use Rattle.std.specs.Prelude.{◌≡◌, IfOk, map, not, ◌&&◌, false};
 ghost use Rattle.std.specs.Option.{is_none};
 ghost use Rattle.element_lang.specs.Rules as rules;
 ghost use Rattle.element_lang.specs.Surface as surface;
@@ -12,7 +12,7 @@ ghost use Rattle.element_rules.specs.Faulty.{stmt_faults, only_exprs, bound, alo
 
 use crate::ends::ends_always;
 use crate::expressions::{Faults, Tested, TestedList, expression, expressions};
-use crate::names::{Sight, declare, declare_all, is_free, local_named, object_named};
+use crate::names::{Sight, declare, declare_all, is_free, object_named, width_named};
 use crate::objects::{declare_values, is_map, is_table, keys_fit, value_count, values_fit};
 use element_grammar::{At, SurfaceDecl, SurfaceExpr, SurfaceStmt};
 use element_tokens::Span;
@@ -76,9 +76,9 @@ fn only_expression(
     source: &SurfaceExpr,
 ) -> Result<Tested, NoMemory>
     ensures width { IfOk result (λ made. made.width
-        ≡ broken.width_in (map (local_of text.now) sight.now.locals.items) (surface_expr text.now source.now)) }
+        ≡ broken.width_in (map local_of sight.now.locals.entries) (surface_expr text.now source.now)) }
     ensures faults { IfOk result (λ made. made.faults
-        ≡ list_faults (map (local_of text.now) sight.now.locals.items) (alone (surface_expr text.now source.now))) }
+        ≡ list_faults (map local_of sight.now.locals.entries) (alone (surface_expr text.now source.now))) }
 {
     let made = expression(alloc, text, &sight.locals, source)?;
     Ok(made)
@@ -95,11 +95,11 @@ fn let_local(
 ) -> Result<StmtFaults, NoMemory>
     ensures faults { IfOk result (λ faults. faults ≡ stmt_faults (sight_of text.now objects.now sight.old)
         (surface.let_local (spelled text.now local) (surface_expr text.now value.now))) }
-    ensures sight { OnOk result (sight_of text.now objects.now sight.new ≡ bound (sight_of text.now objects.now sight.old)
+    ensures sight { IfOk result (λ faults. faults.taken ≡ false → sight_of text.now objects.now sight.new ≡ bound (sight_of text.now objects.now sight.old)
         (surface.let_local (spelled text.now local) (surface_expr text.now value.now))) }
 {
     let value = only_expression(alloc, text, sight, value)?;
-    let free = declare(text, objects, &mut sight.locals, local, value.width)?;
+    let free = declare(alloc, text, objects, &mut sight.locals, local, value.width)?;
     Ok(StmtFaults {
         taken: !free,
         ..StmtFaults::only(value.faults)
@@ -119,14 +119,10 @@ fn assign(
         (surface.assign (spelled text.now local) (surface_expr text.now value.now))) }
 {
     let value = only_expression(alloc, text, sight, value)?;
-    let local = local_named(text, &sight.locals, local);
-    let width = match local {
-        Some(local) => local.width,
-        None => 0,
-    };
+    let width = width_named(text, &sight.locals, local);
     Ok(StmtFaults {
-        unknown: local.is_none(),
-        misfit: width != value.width,
+        unknown: width.is_none(),
+        misfit: width.unwrap_or(0) != value.width,
         ..StmtFaults::only(value.faults)
     })
 }
@@ -197,9 +193,9 @@ fn own_expressions(
     source: &[SurfaceExpr],
 ) -> Result<TestedList, NoMemory>
     ensures widths { IfOk result (λ made. made.widths.items
-        ≡ broken.widths_in (map (local_of text.now) sight.now.locals.items) (surface_exprs text.now source.now)) }
+        ≡ broken.widths_in (map local_of sight.now.locals.entries) (surface_exprs text.now source.now)) }
     ensures faults { IfOk result (λ made. made.faults
-        ≡ list_faults (map (local_of text.now) sight.now.locals.items) (surface_exprs text.now source.now)) }
+        ≡ list_faults (map local_of sight.now.locals.entries) (surface_exprs text.now source.now)) }
 {
     let made = expressions(alloc, text, &sight.locals, source)?;
     Ok(made)
@@ -222,11 +218,11 @@ fn own_row(
     values: &[SurfaceExpr],
 ) -> Result<TestedRow, NoMemory>
     ensures keys { IfOk result (λ made. made.keys.items
-        ≡ broken.widths_in (map (local_of text.now) sight.now.locals.items) (surface_exprs text.now keys.now)) }
+        ≡ broken.widths_in (map local_of sight.now.locals.entries) (surface_exprs text.now keys.now)) }
     ensures values { IfOk result (λ made. made.values.items
-        ≡ broken.widths_in (map (local_of text.now) sight.now.locals.items) (surface_exprs text.now values.now)) }
+        ≡ broken.widths_in (map local_of sight.now.locals.entries) (surface_exprs text.now values.now)) }
     ensures faults { IfOk result (λ made. made.faults
-        ≡ list_faults (map (local_of text.now) sight.now.locals.items)
+        ≡ list_faults (map local_of sight.now.locals.entries)
         (broken.joined (surface_exprs text.now keys.now) (surface_exprs text.now values.now))) }
 {
     let keys = own_expressions(alloc, text, sight, keys)?;
@@ -251,23 +247,24 @@ fn look(
 ) -> Result<StmtFaults, NoMemory>
     ensures faults { IfOk result (λ faults. faults ≡ stmt_faults (sight_of text.now objects.now sight.old)
         (surface.look (spelled text.now found) (map (spelled text.now) into.now) (spelled text.now object) (surface_exprs text.now keys.now))) }
-    ensures sight { OnOk result (sight_of text.now objects.now sight.new ≡ bound (sight_of text.now objects.now sight.old)
+    ensures sight { IfOk result (λ faults. faults.taken ≡ false → sight_of text.now objects.now sight.new ≡ bound (sight_of text.now objects.now sight.old)
         (surface.look (spelled text.now found) (map (spelled text.now) into.now) (spelled text.now object) (surface_exprs text.now keys.now))) }
 {
     let keys = own_expressions(alloc, text, sight, keys)?;
-    let free = declare(text, objects, &mut sight.locals, found, 1)?;
     let Some(object) = object_named(text, objects, object) else {
-        let all_free = declare_all(text, objects, &mut sight.locals, into, &[])?;
+        let free = declare(alloc, text, objects, &mut sight.locals, found, 1)?
+            && declare_all(alloc, text, objects, &mut sight.locals, into, &[])?;
         return Ok(StmtFaults {
-            taken: !(free && all_free),
+            taken: !free,
             unknown: true,
             object_misfit: true,
             ..StmtFaults::only(keys.faults)
         });
     };
-    let all_free = declare_values(text, objects, &mut sight.locals, into, object)?;
+    let free = declare(alloc, text, objects, &mut sight.locals, found, 1)?
+        && declare_values(alloc, text, objects, &mut sight.locals, into, object)?;
     Ok(StmtFaults {
-        taken: !(free && all_free),
+        taken: !free,
         object_misfit: !keys_fit(object, &keys.widths) || into.len() != value_count(object),
         ..StmtFaults::only(keys.faults)
     })
@@ -286,11 +283,11 @@ fn put(
 ) -> Result<StmtFaults, NoMemory>
     ensures faults { IfOk result (λ faults. faults ≡ stmt_faults (sight_of text.now objects.now sight.old)
         (surface.put (spelled text.now ok) (spelled text.now object) (surface_exprs text.now keys.now) (surface_exprs text.now values.now))) }
-    ensures sight { OnOk result (sight_of text.now objects.now sight.new ≡ bound (sight_of text.now objects.now sight.old)
+    ensures sight { IfOk result (λ faults. faults.taken ≡ false → sight_of text.now objects.now sight.new ≡ bound (sight_of text.now objects.now sight.old)
         (surface.put (spelled text.now ok) (spelled text.now object) (surface_exprs text.now keys.now) (surface_exprs text.now values.now))) }
 {
     let row = own_row(alloc, text, sight, keys, values)?;
-    let free = declare(text, objects, &mut sight.locals, ok, 1)?;
+    let free = declare(alloc, text, objects, &mut sight.locals, ok, 1)?;
     let own = StmtFaults {
         taken: !free,
         ..StmtFaults::only(row.faults)
@@ -322,11 +319,11 @@ fn del(
 ) -> Result<StmtFaults, NoMemory>
     ensures faults { IfOk result (λ faults. faults ≡ stmt_faults (sight_of text.now objects.now sight.old)
         (surface.del (spelled text.now was) (spelled text.now object) (surface_exprs text.now keys.now))) }
-    ensures sight { OnOk result (sight_of text.now objects.now sight.new ≡ bound (sight_of text.now objects.now sight.old)
+    ensures sight { IfOk result (λ faults. faults.taken ≡ false → sight_of text.now objects.now sight.new ≡ bound (sight_of text.now objects.now sight.old)
         (surface.del (spelled text.now was) (spelled text.now object) (surface_exprs text.now keys.now))) }
 {
     let keys = own_expressions(alloc, text, sight, keys)?;
-    let free = declare(text, objects, &mut sight.locals, was, 1)?;
+    let free = declare(alloc, text, objects, &mut sight.locals, was, 1)?;
     let own = StmtFaults {
         taken: !free,
         ..StmtFaults::only(keys.faults)
@@ -373,7 +370,8 @@ fn repeat(
     }
 }
 
-/// What is wrong in a statement. The locals that it declares come into scope, but for the one that counts the turns of a repeat.
+/// What is wrong in a statement. The locals that it declares come into scope where their names are free, but for the one
+/// that counts the turns of a repeat.
 pub(crate) fn statement(
     alloc: Global,
     text: &[u8],
@@ -383,7 +381,7 @@ pub(crate) fn statement(
 ) -> Result<StmtFaults, NoMemory>
     ensures faults { IfOk result (λ faults. faults
         ≡ stmt_faults (sight_of text.now objects.now sight.old) (surface_stmt text.now source.now)) }
-    ensures sight { OnOk result (sight_of text.now objects.now sight.new
+    ensures sight { IfOk result (λ faults. faults.taken ≡ false → sight_of text.now objects.now sight.new
         ≡ bound (sight_of text.now objects.now sight.old) (surface_stmt text.now source.now)) }
 {
     match source {

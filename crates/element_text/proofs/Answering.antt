@@ -5,7 +5,7 @@ use Rattle.element_lang.specs.declared.tree.Local.{Local}
 use Rattle.element_lang.specs.Tree.{BodyTree, Tree}
 use Rattle.element_lang.specs.Rules.{is_good}
 use Rattle.element_lang.specs.Surface.{SurfaceBody, Declared, Surface, unplaced, named, object_of}
-use Rattle.element_text.specs.declared.scope.KnownLocal.{KnownLocal}
+use Rattle.element_text.proofs.Kept.{Entries}
 use Rattle.element_text.specs.Scopes.{known_of}
 use Rattle.element_text.proofs.Unplaced.{resolved_whole}
 use Rattle.element_text.specs.Resolve.{◌>>=◌, when, Env, MadeBody, with_locals, made_body, are_good_decls, decls_of, resolved}
@@ -20,25 +20,10 @@ resolved_some decls body good made =
     let rest : Option MadeBody → Option Tree = λ o. o >>= (λ b. Some (record { objects = map object_of (decls_of decls); locals = b.locals; body = b.tree })) in
     ap (λ x. when x (rest (made_body (first_env (map object_of (decls_of decls))) body))) good ∙ ap rest made
 
--- an object breaks a rule
-pub resolved_no_objects : (decls : List Declared) (body : SurfaceBody) → are_good_decls (decls_of decls) ≡ false → resolved (record { objects = decls; body = body }) ≡ None
-resolved_no_objects decls body wrong =
-    let rest : Option MadeBody → Option Tree = λ o. o >>= (λ b. Some (record { objects = map object_of (decls_of decls); locals = b.locals; body = b.tree })) in
-    ap (λ x. when x (rest (made_body (first_env (map object_of (decls_of decls))) body))) wrong
-
--- its body is not made
-pub resolved_no_body : (decls : List Declared) (body : SurfaceBody) → made_body (first_env (map object_of (decls_of decls))) body ≡ None → resolved (record { objects = decls; body = body }) ≡ None
-resolved_no_body decls body none =
-    ap (λ o. when (are_good_decls (decls_of decls)) (o >>= (λ b. Some (record { objects = map object_of (decls_of decls); locals = b.locals; body = b.tree })))) none ∙ never (are_good_decls (decls_of decls))
-  where
-    never : (b : Bool) → ◌≡◌ {A = Option Tree} (when b None) None
-    never true = refl
-    never false = refl
-
 -- the first environment is empty
-pub first_is : (text : List ℕ) {objects decls : List ObjectDecl} {locals : List Local} {known : List KnownLocal} → objects ≡ decls → locals ≡ [] → known ≡ [] → ◌≡◌ {A = Env} (record { objects = objects; locals = locals; scope = map (known_of text) known }) (first_env decls)
-first_is text {decls = decls} {locals = locals} {known = known} objects_are no_locals no_known =
-    let P : List ObjectDecl → List Local → List KnownLocal → Env = λ o l k. record { objects = o; locals = l; scope = map (known_of text) k } in
+pub first_is : {objects decls : List ObjectDecl} {locals : List Local} {known : Entries} → objects ≡ decls → locals ≡ [] → known ≡ [] → ◌≡◌ {A = Env} (record { objects = objects; locals = locals; scope = map known_of known }) (first_env decls)
+first_is {decls = decls} {locals = locals} {known = known} objects_are no_locals no_known =
+    let P : List ObjectDecl → List Local → Entries → Env = λ o l k. record { objects = o; locals = l; scope = map known_of k } in
     ap (λ o. P o locals known) objects_are ∙ ap (λ l. P decls l known) no_locals ∙ ap (P decls []) no_known
 
 -- the middlebox that was made, with the objects and the locals behind its body
@@ -50,7 +35,3 @@ resolved_made decls body env next b good first made kept =
 -- A middlebox that has the names and keeps the rules is the one that is made.
 pub only_one : (s : Surface) (made : Tree) → resolved s ≡ Some made → (m : Tree) → unplaced s ≡ named m → IsTrue (is_good m) → m ≡ made
 only_one s made is m same good = let e : Some m ≡ Some made = sym (resolved_whole s m good same) ∙ is in cc
-
--- and where nothing is made there is none
-pub none_fits : (s : Surface) → resolved s ≡ None → (m : Tree) → unplaced s ≡ named m → IsTrue (is_good m) → ⊥
-none_fits s none m same good = let e : Some m ≡ None = sym (resolved_whole s m good same) ∙ none in cc

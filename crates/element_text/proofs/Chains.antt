@@ -1,5 +1,5 @@
 -- What a chain of optional values gives, and a list that is read from front to back.
-use Rattle.std.proofs.Common.{◌≡◌, ℕ, ◌+◌, ◌<◌, Bool, true, false, ◌||◌, List, ◌∷◌, length, drop, get_or, Option, Some, None, refl, sym, ap, ◌∙◌}
+use Rattle.std.proofs.Common.{◌≡◌, ℕ, ◌+◌, ◌<◌, Bool, true, false, List, ◌∷◌, length, drop, get_or, Option, Some, None, refl, sym, ap, ◌∙◌}
 use Rattle.std.proofs.lemmas.List.{at_drop_more}
 use Rattle.element_text.specs.Resolve.{◌>>=◌, when}
 
@@ -13,26 +13,6 @@ pub when_parts : {A : Type 0} (b : Bool) (o : Option A) (y : A) → when b o ≡
 when_parts true o y e = (refl, e)
 when_parts false o y e = cc
 
--- what follows does not matter where there is nothing
-pub chain_none : {A B : Type 0} (o : Option A) (f : A → Option B) → ((x : A) → f x ≡ None) → (o >>= f) ≡ None
-chain_none None f h = refl
-chain_none (Some x) f h = h x
-
 -- a function of what is left of a list, where an item is read
 pub at_item : {X Y : Type 0} (F : List X → Y) (xs : List X) (at : ℕ) (x : X) → at < length xs → x ≡ get_or xs at x → F (drop at xs) ≡ F (x ∷ drop (at + 1) xs)
 at_item F xs at x within is = at_drop_more F xs at x within ∙ ap (λ y. F (y ∷ drop (at + 1) xs)) (sym is)
-
--- nothing follows where there is nothing
-pub chain_nothing : {A B : Type 0} (o : Option A) (f : A → Option B) → o ≡ None → (o >>= f) ≡ None
-chain_nothing o f e = ap (λ p. p >>= f) e
-
--- one more in front or behind, where the rest has the same answer
-pub turned : (a b c : Bool) → b ≡ c → (a || b) ≡ (c || (a || false))
-turned true true true e = refl
-turned true true false e = cc
-turned true false true e = cc
-turned true false false e = refl
-turned false true true e = refl
-turned false true false e = cc
-turned false false true e = cc
-turned false false false e = refl

@@ -1,38 +1,22 @@
 -- How locals are declared from front to back.
-use Rattle.std.proofs.Common.{◌≡◌, ℕ, suc, ◌+◌, ◌<◌, ◌==◌, Bool, true, false, ◌&&◌, List, [], ◌∷◌, ◌++◌, length, drop, get_or, map, Option, Some, None, refl, sym, ap, ◌∙◌}
-use Rattle.std.specs.Bool.{if◌then◌else◌}
-use Rattle.std.proofs.lemmas.List.{at_drop_more}
-use Rattle.std.proofs.lemmas.Bool.{and_right}
-use Rattle.element_lang.specs.Rules.{is_width, same_widths}
+use Rattle.std.proofs.Common.{◌≡◌, ℕ, suc, ◌+◌, ◌<◌, ◌&&◌, List, [], ◌∷◌, ◌++◌, length, drop, get_or, map, is_some, true, refl, sym, ap, ◌∙◌, arith}
+use Rattle.std.specs.Prelude.{IsSome}
+use Rattle.std.proofs.lemmas.List.{at_drop_more, length-map}
+use Rattle.std.proofs.lemmas.Bool.{and_parts, false≢true}
+use Rattle.element_lang.specs.Rules.{is_width}
 use Rattle.element_tokens.specs.declared.token.Span.{Span}
 use Rattle.element_tokens.specs.Tokens.{spelled}
-use Rattle.element_text.specs.Resolve.{◌>>=◌, when, Env, is_free, with_local, declared, all_declared, numbers_from}
-use Rattle.element_text.proofs.Chains.{chain_none}
-
--- lists of different lengths are different
-pub other_widths : (xs ys : List ℕ) → (length xs ≡ length ys → ⊥) → same_widths xs ys ≡ false
-other_widths [] [] h = absurd (h refl)
-other_widths [] (y ∷ ys) h = refl
-other_widths (x ∷ xs) [] h = refl
-other_widths (x ∷ xs) (y ∷ ys) h = and_right (x == y) (same_widths xs ys) (other_widths xs ys (λ e. h (ap suc e)))
-
--- a width that is none
-declared_no_width : (env : Env) (word : List ℕ) (width : ℕ) → is_width width ≡ false → declared env word width ≡ None
-declared_no_width env word width wrong =
-    let some : Option Env = Some (with_local env (record { name = word; width = width })) in
-    ap (λ x. when (is_free env word && x) some) wrong ∙ never (is_free env word) some
-  where
-    never : (a : Bool) (o : Option Env) → when (a && false) o ≡ None
-    never true o = refl
-    never false o = refl
+use Rattle.element_text.specs.Resolve.{◌>>=◌, Env, is_free, declared, all_declared, numbers_from}
+use Rattle.element_text.proofs.Links.{the_value, first_link, next_link, test_holds}
 
 -- as many names as widths
-pub declared_uneven : (ws : List (List ℕ)) (vs : List ℕ) (env : Env) → (length ws ≡ length vs → ⊥) → all_declared env ws vs ≡ None
-declared_uneven [] [] env h = absurd (h refl)
-declared_uneven [] (v ∷ vs) env h = refl
-declared_uneven (w ∷ ws) [] env h = refl
-declared_uneven (w ∷ ws) (v ∷ vs) env h =
-    chain_none (declared env w v) (λ n. all_declared n ws vs) (λ n. declared_uneven ws vs n (λ e. h (ap suc e)))
+declared_even : (ws : List (List ℕ)) (vs : List ℕ) (env : Env) → IsSome (all_declared env ws vs) → length ws ≡ length vs
+declared_even [] [] env e = refl
+declared_even [] (v ∷ vs) env e = absurd (false≢true e)
+declared_even (w ∷ ws) [] env e = absurd (false≢true e)
+declared_even (w ∷ ws) (v ∷ vs) env e =
+    let next = the_value (declared env w v) (first_link (declared env w v) _ e) in
+    ap suc (declared_even ws vs next.0 (next_link (declared env w v) _ next.0 next.1 e))
 
 -- The locals that were declared and those that are left are all.
 pub record Declaring (text : List ℕ) (start env : Env) (numbers : List ℕ) (names all : List Span) (widths all_widths : List ℕ) : Type 0 where
@@ -45,17 +29,20 @@ split_both text env all widths at d within width_within =
     at_drop_more (λ l. all_declared env (map (spelled text) l) (drop at widths)) all at d within
     ∙ at_drop_more (λ l. all_declared env (spelled text (get_or all at d) ∷ map (spelled text) (drop (at + 1) all)) l) widths at 0 width_within
 
--- the next name cannot be declared
-pub declaring_refused : {text : List ℕ} {start env : Env} {numbers : List ℕ} {all : List Span} {widths : List ℕ} (at : ℕ) (d : Span) → at < length all → at < length widths → Declaring text start env numbers (drop at all) all (drop at widths) widths → declared env (spelled text (get_or all at d)) (get_or widths at 0) ≡ None → all_declared start (map (spelled text) all) widths ≡ None
-declaring_refused {text = text} {env = env} {all = all} {widths = widths} at d within width_within h none =
-    sym h.told ∙ split_both text env all widths at d within width_within ∙ ap (λ o. o >>= (λ x. all_declared x (map (spelled text) (drop (at + 1) all)) (drop (at + 1) widths))) none
+module _ {text : List ℕ} {start env : Env} {numbers : List ℕ} {all : List Span} {widths : List ℕ} (at : ℕ) (d : Span) (within : at < length all)
+    (h : Declaring text start env numbers (drop at all) all (drop at widths) widths) (there : IsSome (all_declared start (map (spelled text) all) widths)) where
+  -- there is a width for each name
+  pub width_within : at < length widths
+  width_within =
+      let even : length (map (spelled text) all) ≡ length widths = declared_even (map (spelled text) all) widths start there in
+      omega (arith, length-map all (spelled text), even, within)
 
--- or what is written beside it is no width
-pub declaring_no_width : {text : List ℕ} {start env : Env} {numbers : List ℕ} {all : List Span} {widths : List ℕ} (at : ℕ) (d : Span) → at < length all → at < length widths → Declaring text start env numbers (drop at all) all (drop at widths) widths → is_width (get_or widths at 0) ≡ false → all_declared start (map (spelled text) all) widths ≡ None
-declaring_no_width {text = text} {env = env} {all = all} {widths = widths} at d within width_within h wrong =
-    declaring_refused at d within width_within h (declared_no_width env (spelled text (get_or all at d)) (get_or widths at 0) wrong)
+  -- the next name can be declared, with a width
+  pub declaring_there : IsSome (declared env (spelled text (get_or all at d)) (get_or widths at 0))
+  declaring_there =
+      first_link (declared env (spelled text (get_or all at d)) (get_or widths at 0)) _
+      (ap is_some (sym (split_both text env all widths at d within width_within) ∙ h.told) ∙ there)
 
--- a width that was refused is none
-pub no_width : (b : Bool) (w : ℕ) {found : Option ℕ} → found ≡ (if b then Some w else None) → found ≡ None → b ≡ false
-no_width true w e none = cc
-no_width false w e none = refl
+  pub declaring_wide : is_width (get_or widths at 0) ≡ true
+  declaring_wide =
+      (and_parts (is_free env (spelled text (get_or all at d))) (is_width (get_or widths at 0)) (test_holds _ _ declaring_there)).1

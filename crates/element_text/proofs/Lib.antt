@@ -1,4 +1,3 @@
-pub mod Widths
 pub mod Optional
 pub mod Operators
 pub mod Scoping
@@ -11,9 +10,9 @@ pub mod Complete
 pub mod Unplaced
 pub mod Chains
 pub mod Typing
-pub mod Settling
-pub mod Gathering
-pub mod GoodDecls
+pub mod Links
+pub mod Kept
+pub mod Declarations
 pub mod Declaring
 pub mod Looking
 pub mod Numbering

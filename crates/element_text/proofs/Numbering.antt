@@ -1,6 +1,6 @@
 -- How a body of statements is resolved from front to back.
 use Rattle.std.proofs.Common.{◌≡◌, ℕ, ◌+◌, ◌<◌, ◌≤◌, ◌==◌, Bool, true, false, not, ◌&&◌, ◌||◌, List, [], ◌∷◌, ◌++◌, length, drop, get_or, map, Option, Some, None, refl, sym, ap, subst, ◌∙◌, append_assoc}
-use Rattle.std.specs.Prelude.{slice_get}
+use Rattle.std.specs.Prelude.{IsSome, is_some, slice_get}
 use Rattle.std.proofs.lemmas.List.{at_drop_all, map-append, append-nil}
 use Rattle.packet_fields.specs.Table.{row}
 use Rattle.element_lang.specs.declared.tree.Local.{Local}
@@ -15,6 +15,7 @@ use Rattle.element_grammar.specs.declared.surface.SurfaceStmt.{SurfaceStmt}
 use Rattle.element_grammar.specs.Surface.{surface_stmt, surface_body}
 use Rattle.element_text.specs.Resolve.{◌>>=◌, when, Known, Env, Made, MadeBody, typed_expr, typed_exprs, local_in, object_from, is_free, with_local, declared, all_declared, values_of, with_locals, is_done, made_condition, made_stmt, made_body}
 use Rattle.element_text.proofs.Chains.{chain_parts, when_parts, at_item}
+use Rattle.element_text.proofs.Links.{first_link, test_holds, test_there}
 
 -- ## What a statement leaves of what was declared
 
@@ -140,19 +141,6 @@ ends_last [] s = refl
 ends_last (u ∷ []) s = refl
 ends_last (u ∷ v ∷ ss) s = ends_last (v ∷ ss) s
 
--- and a repeat stands in it where one stands in it without the last, or the last is one
-repeats_last : (ss : List StmtTree) (s : StmtTree) → any_repeats (body_of (ss ++ s ∷ [])) ≡ (any_repeats (body_of ss) || repeats s)
-repeats_last [] s = or_false (repeats s)
-  where
-    or_false : (b : Bool) → (b || false) ≡ b
-    or_false true = refl
-    or_false false = refl
-repeats_last (u ∷ ss) s = ap (λ b. repeats u || b) (repeats_last ss s) ∙ regroup (repeats u) (any_repeats (body_of ss)) (repeats s)
-  where
-    regroup : (a b c : Bool) → (a || (b || c)) ≡ ((a || b) || c)
-    regroup true b c = refl
-    regroup false b c = refl
-
 -- these statements, and behind them others, if there are any
 abbrev pub in_front : List StmtTree → Option MadeBody → Option MadeBody
 in_front ss None = None
@@ -181,32 +169,55 @@ left_done env true = refl
 left_done env false = refl
 
 -- the statements that were made and those that are left are all
-pub record Numbering (text : List ℕ) (start env : Env) (made : List Stmt) (ended repeated : Bool) (left all : List (At SurfaceStmt)) : Type 0 where
-  pub told : in_front (map stmt_tree made) (left_body env ended (surface_body text left)) ≡ made_body start (surface_body text all)
-  pub ends : ended ≡ ends_always (body_tree made)
-  pub has_repeat : repeated ≡ any_repeats (body_tree made)
+pub record Numbering (text : List ℕ) (start env : Env) (made : List Stmt) (left all : List (At SurfaceStmt)) : Type 0 where
+  pub told : in_front (map stmt_tree made) (left_body env (ends_always (body_tree made)) (surface_body text left)) ≡ made_body start (surface_body text all)
   pub within : Within start env
 
--- one more statement
-pub numbering_more : {text : List ℕ} {start env : Env} {made new : List Stmt} {ended ends repeated : Bool} {all : List (At SurfaceStmt)} (at : ℕ) (u : At SurfaceStmt) (s : Stmt) (next : Env) (turns : Bool) → at < length all → u ≡ get_or all at u → Numbering text start env made ended repeated (drop at all) all → ended ≡ false → made_stmt env (surface_stmt text u.item) ≡ Some (record { tree = stmt_tree s; env = next }) → ends ≡ always_ends (stmt_tree s) → turns ≡ repeats (stmt_tree s) → new ≡ made ++ s ∷ [] → Numbering text start next new ends (repeated || turns) (drop (at + 1) all) all
-numbering_more {text = text} {start = start} {env = env} {made = made} {new = new} {ended = ended} {ends = ends} {repeated = repeated} {all = all} at u s next turns within item h goes numbered is turns_is pushed =
-    let t = stmt_tree s in
-    let b = surface_body text (drop (at + 1) all) in
-    let m : Made = record { tree = t; env = next } in
-    let rest = made_body next b in
-    let pushed_trees : map stmt_tree new ≡ map stmt_tree made ++ t ∷ [] = ap (map stmt_tree) pushed ∙ map-append stmt_tree made (s ∷ []) in
-    let split = at_item (λ l. in_front (map stmt_tree made) (left_body env ended (surface_body text l))) all at u within item in
-    record {
-      told = ap (λ l. in_front l (left_body next ends b)) pushed_trees ∙ ap (λ x. in_front (map stmt_tree made ++ t ∷ []) (left_body next x b)) is
-          ∙ in_front_more (map stmt_tree made) t (not (always_ends t) || is_done b) rest
-          ∙ ap (in_front (map stmt_tree made)) (sym (left_first env ended u.at (surface_stmt text u.item) b m goes numbered)) ∙ sym split ∙ h.told;
-      ends = is ∙ sym (ends_last (map stmt_tree made) t) ∙ ap (λ l. ends_always (body_of l)) (sym pushed_trees);
-      has_repeat = ap (λ b. repeated || b) turns_is ∙ ap (λ b. b || repeats t) h.has_repeat ∙ sym (repeats_last (map stmt_tree made) t) ∙ ap (λ l. any_repeats (body_of l)) (sym pushed_trees);
-      within = within_both h.within (made_within env (surface_stmt text u.item) m numbered);
-    }
+front_there : (ss : List StmtTree) (o : Option MadeBody) → IsSome (in_front ss o) → IsSome o
+front_there ss None e = e
+front_there ss (Some r) e = refl
+
+not_ended : (b : Bool) → (not b || false) ≡ true → b ≡ false
+not_ended true e = cc
+not_ended false e = refl
+
+module _ {text : List ℕ} {start env : Env} {made : List Stmt} {all : List (At SurfaceStmt)} (at : ℕ) (u : At SurfaceStmt) (within : at < length all) (item : u ≡ get_or all at u)
+    (h : Numbering text start env made (drop at all) all) (there : IsSome (made_body start (surface_body text all))) where
+  abbrev ended : Bool
+  ended = ends_always (body_tree made)
+
+  abbrev rest : surface.SurfaceBody
+  rest = surface_body text (drop (at + 1) all)
+
+  split : in_front (map stmt_tree made) (left_body env ended (surface_body text (drop at all))) ≡ in_front (map stmt_tree made) (left_body env ended (surface.stmt u.at (surface_stmt text u.item) rest))
+  split = at_item (λ l. in_front (map stmt_tree made) (left_body env ended (surface_body text l))) all at u within item
+
+  left_there : IsSome (left_body env ended (surface.stmt u.at (surface_stmt text u.item) rest))
+  left_there = front_there (map stmt_tree made) _ (ap is_some (sym split ∙ h.told) ∙ there)
+
+  goes : ended ≡ false
+  goes = not_ended ended (test_holds (not ended || false) _ left_there)
+
+  -- the next statement has numbers
+  pub numbering_there : IsSome (made_stmt env (surface_stmt text u.item))
+  numbering_there = first_link (made_stmt env (surface_stmt text u.item)) _ (test_there (not ended || false) _ left_there)
+
+  -- one more statement
+  pub numbering_more : {new : List Stmt} (s : Stmt) (next : Env) → made_stmt env (surface_stmt text u.item) ≡ Some (record { tree = stmt_tree s; env = next }) → new ≡ made ++ s ∷ [] → Numbering text start next new (drop (at + 1) all) all
+  numbering_more {new = new} s next numbered pushed =
+      let t = stmt_tree s in
+      let m : Made = record { tree = t; env = next } in
+      let pushed_trees : map stmt_tree new ≡ map stmt_tree made ++ t ∷ [] = ap (map stmt_tree) pushed ∙ map-append stmt_tree made (s ∷ []) in
+      let is : ends_always (body_tree new) ≡ always_ends t = ap (λ l. ends_always (body_of l)) pushed_trees ∙ ends_last (map stmt_tree made) t in
+      record {
+        told = ap (λ l. in_front l (left_body next (ends_always (body_tree new)) rest)) pushed_trees ∙ ap (λ x. in_front (map stmt_tree made ++ t ∷ []) (left_body next x rest)) is
+            ∙ in_front_more (map stmt_tree made) t (not (always_ends t) || is_done rest) (made_body next rest)
+            ∙ ap (in_front (map stmt_tree made)) (sym (left_first env ended u.at (surface_stmt text u.item) rest m goes numbered)) ∙ sym split ∙ h.told;
+        within = within_both h.within (made_within env (surface_stmt text u.item) m numbered);
+      }
 
 -- no statement is left
-pub numbering_end : {text : List ℕ} {start env : Env} {made : List Stmt} {ended repeated : Bool} {all : List (At SurfaceStmt)} (at : ℕ) → length all ≤ at → Numbering text start env made ended repeated (drop at all) all → made_body start (surface_body text all) ≡ Some (record { tree = body_tree made; locals = env.locals })
-numbering_end {text = text} {start = start} {env = env} {made = made} {ended = ended} {all = all} at past h =
-    let none = at_drop_all (λ l. in_front (map stmt_tree made) (left_body env ended (surface_body text l))) all at past in
-    sym h.told ∙ none ∙ ap (in_front (map stmt_tree made)) (left_done env ended) ∙ ap (λ x. Some (record { tree = x; locals = env.locals })) (stmts_onto_done (map stmt_tree made))
+pub numbering_end : {text : List ℕ} {start env : Env} {made : List Stmt} {all : List (At SurfaceStmt)} (at : ℕ) → length all ≤ at → Numbering text start env made (drop at all) all → made_body start (surface_body text all) ≡ Some (record { tree = body_tree made; locals = env.locals })
+numbering_end {text = text} {start = start} {env = env} {made = made} {all = all} at past h =
+    let none = at_drop_all (λ l. in_front (map stmt_tree made) (left_body env (ends_always (body_tree made)) (surface_body text l))) all at past in
+    sym h.told ∙ none ∙ ap (in_front (map stmt_tree made)) (left_done env (ends_always (body_tree made))) ∙ ap (λ x. Some (record { tree = x; locals = env.locals })) (stmts_onto_done (map stmt_tree made))

@@ -1,20 +1,18 @@
-//! Expressions: names become numbers, and widths are tested.
-ghost use Rattle.std.specs.Prelude.{◌≡◌, [], ◌∷◌, ◌^◌, ◌&&◌, ◌==◌, IfOk, IfErr, map, length, nat_lt, Some, None, if◌then◌else◌};
-ghost use Rattle.std.specs.Option.{option_map};
+//! Expressions: names become numbers.
+ghost use Rattle.std.specs.Prelude.{◌≡◌, ◌<◌, IfOk, IsSome, map, length, slice_index, true, Some};
 ghost use Rattle.element_lang.specs.Rules as rules;
+ghost use Rattle.element_lang.specs.Broken as broken;
 ghost use Rattle.element_grammar.specs.Surface.{surface_expr, surface_exprs};
-ghost use Rattle.element_tokens.specs.Tokens.{spelled};
-ghost use Rattle.element_text.specs.Resolve as resolve;
-ghost use Rattle.element_text.specs.Resolve.{typed_expr, typed_exprs, typed_apply, typed_byte, typed_shift, typed_local, local_in};
+ghost use Rattle.element_text.specs.Resolve.{result_width, typed_expr, typed_exprs, typed_apply, typed_byte, typed_shift};
 ghost use Rattle.element_text.specs.Scopes.{known_of};
 ghost use Rattle.element_text.specs.Typed.{typed_of, typed_list_of, literal_of};
 
-use crate::broken::RuleError;
 use crate::scope::{KnownLocal, local_named};
 use element_grammar::SurfaceExpr;
 use element_lang::Expr;
-use element_tokens::Span;
 use gal_bits::{Op, Width};
+use gal_io::NoMemory;
+use indexmap::IndexMap;
 use packet_fields::width;
 use std::alloc::Global;
 
@@ -32,194 +30,83 @@ pub(crate) struct TypedExprs {
     pub widths: Vec<Width>,
 }
 
-// The most bits of a value.
-const MAX_WIDTH: u64 = 64;
-
-// The bits of an index of a byte.
-const INDEX_BITS: u32 = 16;
-
-// The most bits to shift by.
-const MAX_SHIFT: u64 = 63;
-
-/// The width that is written so. There is none of 0 bits, and none above 64.
-pub(crate) fn width_of(bits: u64) -> Option<Width>
-    ensures { result ≡ (if rules.is_width bits then Some bits else None) }
+/// The width that is written so.
+pub(crate) fn width_of(bits: u64) -> Width
+    requires { rules.is_width bits ≡ true }
+    ensures { result ≡ bits }
 {
-    if bits > MAX_WIDTH {
-        return None;
-    }
-    Width::new(bits as u32)
+    Width::new(bits as u32).unwrap()
 }
 
-/// Whether a value needs no more bits than these.
-pub(crate) fn fits(value: u64, bits: u64) -> bool
-    ensures { result ≡ nat_lt value (2 ^ bits) }
+// A number and the width that is written behind it.
+fn literal(value: u64, bits: u64) -> TypedExpr
+    requires { IsSome (literal_of value bits) }
+    ensures { literal_of value bits ≡ Some (typed_of result) }
 {
-    bits >= MAX_WIDTH || value >> bits == 0
-}
-
-// A literal, whose width is tested first.
-fn literal(value: u64, bits: u64) -> Result<TypedExpr, RuleError>
-    ensures ok { IfOk result (λ made. literal_of value bits ≡ Some (typed_of made)) }
-    ensures broken { IfErr result (λ _. literal_of value bits ≡ None) }
-{
-    match width_of(bits) {
-        Some(width) if fits(value, bits) => Ok(TypedExpr {
-            expr: Expr::Lit(value, width),
-            width,
-        }),
-        _ => Err(RuleError::Broken),
+    let width = width_of(bits);
+    TypedExpr {
+        expr: Expr::Lit(value, width),
+        width,
     }
 }
 
-// The width of one value.
-fn width_of_one(widths: &[Width]) -> Option<Width>
-    ensures { result ≡ resolve.width_of_one widths.now }
+// The width of an argument.
+fn width_at(widths: &[Width], place: usize) -> Width
+    requires { place < length widths.now }
+    ensures { result ≡ slice_index widths.now place }
 {
-    match widths {
-        [only] => Some(*only),
-        _ => None,
-    }
-}
-
-// The width of two values of the same width.
-fn width_of_two(widths: &[Width]) -> Option<Width>
-    ensures { result ≡ resolve.width_of_two widths.now }
-{
-    match widths {
-        [first, second] if first.bits() == second.bits() => Some(*first),
-        _ => None,
-    }
-}
-
-// The width of the second value and the third, where the first has 1 bit.
-fn width_of_choice(widths: &[Width]) -> Option<Width>
-    ensures { result ≡ resolve.width_of_choice widths.now }
-{
-    match widths {
-        [first, second, third] if first.bits() == 1 && second.bits() == third.bits() => {
-            Some(*second)
-        }
-        _ => None,
-    }
-}
-
-/// Whether the widths are these, one by one.
-pub(crate) fn same_widths(found: &[Width], wanted: &[u64]) -> bool
-    ensures { result ≡ rules.same_widths found.now wanted.now }
-{
-    if found.len() != wanted.len() {
-        return false;
-    }
-    for (i, width) in found.iter().enumerate() {
-        if u64::from(width.bits()) != wanted[i] {
-            return false;
-        }
-    }
-    true
-}
-
-// The width of a result for which no width is written.
-fn unwritten_width(op: Op, widths: &[Width]) -> Option<Width>
-    ensures { result ≡ resolve.unwritten_width op widths.now }
-{
-    match op {
-        Op::Add | Op::Sub | Op::Mul | Op::Div | Op::Rem | Op::And | Op::Or | Op::Xor => {
-            width_of_two(widths)
-        }
-        Op::Not => width_of_one(widths),
-        Op::Eq | Op::Ne | Op::Lt | Op::Le => match width_of_two(widths) {
-            Some(_) => width_of(1),
-            None => None,
-        },
-        Op::Select => width_of_choice(widths),
-        Op::Adjust => {
-            if same_widths(widths, &[16, 16, 16]) {
-                width_of(16)
-            } else {
-                None
-            }
-        }
-        Op::Cast | Op::Shl | Op::Shr => None,
-    }
+    widths[place]
 }
 
 // The width of an operator's result. It is written with a cast alone.
-fn result_width(op: Op, written: u64, widths: &[Width]) -> Option<Width>
-    ensures { result ≡ resolve.result_width op written widths.now }
+fn width_of_result(op: Op, written: u64, widths: &[Width]) -> Width
+    requires { IsSome (result_width op written widths.now) }
+    ensures { result_width op written widths.now ≡ Some result }
 {
-    if op == Op::Cast {
-        let _ = width_of_one(widths)?;
-        return width_of(written);
+    match op {
+        Op::Cast => width_of(written),
+        Op::Eq | Op::Ne | Op::Lt | Op::Le => width_of(1),
+        Op::Adjust => width_of(16),
+        Op::Select => width_at(widths, 1),
+        Op::Add | Op::Sub | Op::Mul | Op::Div | Op::Rem | Op::And | Op::Or | Op::Xor | Op::Not => {
+            width_at(widths, 0)
+        }
+        Op::Shl | Op::Shr => unreachable!(),
     }
-    if written != 0 {
-        return None;
-    }
-    unwritten_width(op, widths)
 }
 
 // An operator on these arguments.
-fn apply(op: Op, written: u64, args: TypedExprs) -> Result<TypedExpr, RuleError>
-    ensures ok { IfOk result (λ made.
-        typed_apply op written (typed_list_of args) ≡ Some (typed_of made)) }
-    ensures broken { IfErr result (λ _. typed_apply op written (typed_list_of args) ≡ None) }
+fn apply(op: Op, written: u64, args: TypedExprs) -> TypedExpr
+    requires { IsSome (typed_apply op written (typed_list_of args)) }
+    ensures { typed_apply op written (typed_list_of args) ≡ Some (typed_of result) }
 {
-    let Some(width) = result_width(op, written, &args.widths) else {
-        return Err(RuleError::Broken);
-    };
-    Ok(TypedExpr {
+    let width = width_of_result(op, written, &args.widths);
+    TypedExpr {
         expr: Expr::Apply {
             op,
             width,
             args: args.exprs,
         },
         width,
-    })
-}
-
-// The local of this name.
-fn local(text: &[u8], known: &[KnownLocal], name: Span) -> Result<TypedExpr, RuleError>
-    ensures ok { IfOk result (λ made.
-        option_map typed_local (local_in (map (known_of text.now) known.now) (spelled text.now name))
-        ≡ Some (typed_of made)) }
-    ensures broken { IfErr result (λ _.
-        option_map typed_local (local_in (map (known_of text.now) known.now) (spelled text.now name))
-        ≡ None) }
-{
-    let Some(local) = local_named(text, known, name) else {
-        return Err(RuleError::Broken);
-    };
-    Ok(TypedExpr {
-        expr: Expr::Local(local.number),
-        width: local.width,
-    })
-}
-
-// A byte of the packet, whose index has 16 bits.
-fn byte(alloc: Global, index: TypedExpr) -> Result<TypedExpr, RuleError>
-    ensures ok { IfOk result (λ made. typed_byte (typed_of index) ≡ Some (typed_of made)) }
-    ensures broken { IfErr result (λ e. e ≡ RuleError.Broken → typed_byte (typed_of index) ≡ None) }
-{
-    let Some(width) = width_of(8) else {
-        return Err(RuleError::Broken);
-    };
-    if index.width.bits() != INDEX_BITS {
-        return Err(RuleError::Broken);
     }
+}
+
+// A byte of the packet.
+fn byte(alloc: Global, index: TypedExpr) -> Result<TypedExpr, NoMemory>
+    requires { IsSome (typed_byte (typed_of index)) }
+    ensures { IfOk result (λ made. typed_byte (typed_of index) ≡ Some (typed_of made)) }
+{
     Ok(TypedExpr {
         expr: Expr::Byte(Box::new(alloc, index.expr)?),
-        width,
+        width: width_of(8),
     })
 }
 
-// A shift by at most 63 bits.
-fn shift(alloc: Global, op: Op, by: u64, arg: TypedExpr) -> Result<TypedExpr, RuleError>
-    ensures ok { IfOk result (λ made. typed_shift op by (typed_of arg) ≡ Some (typed_of made)) }
-    ensures broken { IfErr result (λ e. e ≡ RuleError.Broken → typed_shift op by (typed_of arg) ≡ None) }
+// A shift.
+fn shift(alloc: Global, op: Op, by: u64, arg: TypedExpr) -> Result<TypedExpr, NoMemory>
+    requires { IsSome (typed_shift op by (typed_of arg)) }
+    ensures { IfOk result (λ made. typed_shift op by (typed_of arg) ≡ Some (typed_of made)) }
 {
-    if !matches!(op, Op::Shl | Op::Shr) || by > MAX_SHIFT {
-        return Err(RuleError::Broken);
-    }
     let width = arg.width;
     Ok(TypedExpr {
         expr: Expr::Shift {
@@ -236,18 +123,22 @@ fn shift(alloc: Global, op: Op, by: u64, arg: TypedExpr) -> Result<TypedExpr, Ru
 pub(crate) fn expression(
     alloc: Global,
     text: &[u8],
-    known: &[KnownLocal],
+    known: &IndexMap<Vec<u8>, KnownLocal>,
     source: &SurfaceExpr,
-) -> Result<TypedExpr, RuleError>
-    ensures ok { IfOk result (λ made.
-        typed_expr (map (known_of text.now) known.now) (surface_expr text.now source.now)
-        ≡ Some (typed_of made)) }
-    ensures broken { IfErr result (λ e. e ≡ RuleError.Broken
-        → typed_expr (map (known_of text.now) known.now) (surface_expr text.now source.now) ≡ None) }
+) -> Result<TypedExpr, NoMemory>
+    requires { IsSome (typed_expr (map known_of known.now.entries) (surface_expr text.now source.now)) }
+    ensures { IfOk result (λ made.
+        typed_expr (map known_of known.now.entries) (surface_expr text.now source.now) ≡ Some (typed_of made)) }
 {
     match source {
-        SurfaceExpr::Literal { value, width } => literal(*value, *width),
-        SurfaceExpr::Name(name) => local(text, known, *name),
+        SurfaceExpr::Literal { value, width } => Ok(literal(*value, *width)),
+        SurfaceExpr::Name(name) => {
+            let local = local_named(text, known, *name);
+            Ok(TypedExpr {
+                expr: Expr::Local(local.number),
+                width: local.width,
+            })
+        }
         SurfaceExpr::Field(field) => Ok(TypedExpr {
             expr: Expr::Field(*field),
             width: width(*field),
@@ -262,7 +153,7 @@ pub(crate) fn expression(
         }
         SurfaceExpr::Apply { op, width, args } => {
             let args = expressions(alloc, text, known, args)?;
-            apply(*op, *width, args)
+            Ok(apply(*op, *width, args))
         }
     }
 }
@@ -272,14 +163,12 @@ pub(crate) fn expression(
 pub(crate) fn expressions(
     alloc: Global,
     text: &[u8],
-    known: &[KnownLocal],
+    known: &IndexMap<Vec<u8>, KnownLocal>,
     source: &[SurfaceExpr],
-) -> Result<TypedExprs, RuleError>
-    ensures ok { IfOk result (λ made.
-        typed_exprs (map (known_of text.now) known.now) (surface_exprs text.now source.now)
-        ≡ Some (typed_list_of made)) }
-    ensures broken { IfErr result (λ e. e ≡ RuleError.Broken
-        → typed_exprs (map (known_of text.now) known.now) (surface_exprs text.now source.now) ≡ None) }
+) -> Result<TypedExprs, NoMemory>
+    requires { IsSome (typed_exprs (map known_of known.now.entries) (surface_exprs text.now source.now)) }
+    ensures { IfOk result (λ made.
+        typed_exprs (map known_of known.now.entries) (surface_exprs text.now source.now) ≡ Some (typed_list_of made)) }
 {
     let mut exprs = Vec::new(alloc);
     let mut widths = Vec::new(alloc);

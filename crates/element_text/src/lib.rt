@@ -1,7 +1,6 @@
 //! The reader of sources: tokens, then grammar, then rules.
 #![tactic(auto)]
 
-mod broken;
 mod error;
 mod expressions;
 mod objects;

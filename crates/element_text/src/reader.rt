@@ -10,7 +10,6 @@ ghost use Rattle.element_text.specs.declared.error.TextError.{TextError};
 ghost use Rattle.element_text.specs.Refused.{IsRefused};
 ghost use Rattle.element_text.specs.Reads.{IsAnswer, IsMiddlebox, KeepsSizes, IsTooLarge, IsUnbroken, HasOnlyTokens, HasOnlySurface};
 
-use crate::broken::RuleError;
 use crate::error::TextError;
 use crate::rules::resolve;
 use element_grammar::{ParseError, SurfaceTree, parse};
@@ -60,11 +59,8 @@ fn read_unbroken(alloc: Global, text: &[u8], source: &SurfaceTree) -> Result<Mid
     requires { IsUnbroken (surface_tree text.now source.now) }
     ensures { IsMiddlebox (surface_tree text.now source.now) result }
 {
-    match resolve(alloc, text, source) {
-        Ok(middlebox) => within_sizes(middlebox),
-        Err(RuleError::NoMemory) => Err(TextError::NoMemory),
-        Err(RuleError::Broken) => unreachable!(),
-    }
+    let middlebox = resolve(alloc, text, source)?;
+    within_sizes(middlebox)
 }
 
 // The middlebox of a surface tree that the text spells.

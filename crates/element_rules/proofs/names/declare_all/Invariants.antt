@@ -5,5 +5,5 @@ use Rattle.element_rules.proofs.Declared.{Declaring}
 use Rattle.element_rules.proofs.names.declare_all.Given as goal
 
 abbrev pub invariant-loop-i : goal.invariant-loop-i
-invariant-loop-i l = Declaring (objects_of l.text l.objects) (map (local_of l.text) l.fn.locals.items) (map (local_of l.text) l.locals.items) l.free
+invariant-loop-i l = Declaring (objects_of l.text l.objects) (map local_of l.fn.locals.entries) (map local_of l.locals.entries)
     (map (spelled l.text) (drop l.i l.names)) (map (spelled l.text) l.names) (drop l.i l.widths) l.widths

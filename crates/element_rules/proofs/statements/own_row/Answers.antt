@@ -8,7 +8,7 @@ use Rattle.element_rules.proofs.statements.own_row.Goals as goal
 pub returns-clause-faults : goal.returns-clause-faults
 returns-clause-faults c =
     let text = c.args.text.now in
-    let locals = map (local_of text) c.args.sight.now.locals.items in
+    let locals = map local_of c.args.sight.now.locals.entries in
     let keys = surface_exprs text c.args.keys.now in
     let values = surface_exprs text c.args.values.now in
     c.and.ensures ∙ ap (λ f. both f c.in_ok-values.values.faults) c.in_ok-keys.ensures.faults ∙ ap (both (list_faults locals keys))

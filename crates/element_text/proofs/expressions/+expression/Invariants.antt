@@ -4,4 +4,4 @@ use Rattle.element_text.proofs.Typing.{Typing}
 use Rattle.element_text.proofs.expressions.+expression.Given as goal
 
 abbrev pub invariant-expressions-loop-next : goal.invariant-expressions-loop-next
-invariant-expressions-loop-next l = Typing l.text (map (known_of l.text) l.known) l.exprs.items l.widths.items (drop l.next-index l.source) l.source
+invariant-expressions-loop-next l = Typing l.text (map known_of l.known.entries) l.exprs.items l.widths.items (drop l.next-index l.source) l.source

@@ -4,4 +4,4 @@ use Rattle.element_text.proofs.Numbering.{Numbering}
 use Rattle.element_text.proofs.rules.+statement.Given as goal
 
 abbrev pub invariant-block-loop-next : goal.invariant-block-loop-next
-invariant-block-loop-next l = Numbering l.text (env_of l.text l.fn.scope) (env_of l.text l.scope) l.body.items l.ends l.repeats (drop l.next-index l.source) l.source
+invariant-block-loop-next l = Numbering l.text (env_of l.fn.scope) (env_of l.scope) l.body.items (drop l.next-index l.source) l.source

@@ -1,52 +1,58 @@
-use Rattle.std.proofs.Common.{◌≡◌, map, Some, IsTrue, rules, sym, ap, ◌∙◌}
-use Rattle.element_lang.specs.Tree.{Tree}
-use Rattle.element_lang.specs.Rules.{is_good}
-use Rattle.element_lang.specs.Surface.{named, unplaced, object_of}
+use Rattle.std.proofs.Common.{◌≡◌, [], true, map, Some, is_some, sym, ap, ◌∙◌}
+use Rattle.std.specs.Prelude.{IsSome}
+use Rattle.std.specs.List.{list_all}
+use Rattle.element_lang.specs.Surface.{Surface, object_of}
 use Rattle.element_lang.specs.View.{tree, body_tree}
-use Rattle.element_text.specs.declared.broken.RuleError.TheVariants.{Broken}
 use Rattle.element_grammar.specs.Surface.{surface_object, surface_body, surface_tree}
 use Rattle.element_text.specs.Scopes.{env_of}
-use Rattle.element_text.specs.Resolve.{made_body, are_good_decls, decls_of, resolved}
-use Rattle.element_text.proofs.Answering.{first_is, resolved_made, resolved_no_objects, resolved_no_body, only_one, none_fits}
+use Rattle.element_text.specs.Reads.{IsUnbroken}
+use Rattle.element_text.specs.Resolve.{made_body, is_good_decl, are_good_decls, decls_of, resolved}
+use Rattle.element_text.proofs.Links.{is_there, first_link, test_holds, test_there}
+use Rattle.element_text.proofs.Agree.{unbroken}
+use Rattle.element_text.proofs.Declarations.{one_by_one}
+use Rattle.element_text.proofs.Answering.{first_env, first_is, resolved_made, only_one}
 use Rattle.element_text.proofs.Sound.{resolved_named, resolved_good, resolved_names}
 use Rattle.element_text.proofs.rules.resolve.Goals as goal
 use Rattle.element_text.proofs.rules.resolve.Goals.{After-drop-scope-2}
 
-pub returns-in_err-objects-clause-broken : goal.returns-in_err-objects-clause-broken
-returns-in_err-objects-clause-broken c =
+-- a tree that breaks no rule has a middlebox
+there : (s : Surface) → IsUnbroken s → IsSome (resolved s)
+there s k = let h = unbroken k.tokens s k.spells k.none in is_there (resolved s) h.0 h.1
+
+decls_good : (s : Surface) → IsUnbroken s → are_good_decls (decls_of s.objects) ≡ true
+decls_good s k = test_holds (are_good_decls (decls_of s.objects)) _ (there s k)
+
+body_there : (s : Surface) → IsUnbroken s → IsSome (made_body (first_env (map object_of (decls_of s.objects))) s.body)
+body_there s k = first_link (made_body (first_env (map object_of (decls_of s.objects))) s.body) _ (test_there (are_good_decls (decls_of s.objects)) _ (there s k))
+
+pub objects-requires : goal.objects-requires
+objects-requires c =
     let text = c.args.text.now in
     let s = surface_tree text c.args.source.now in
-    let none : c.in_err-objects.field-0.0 ≡ Broken → (m : Tree) → unplaced s ≡ named m → IsTrue (is_good m) → ⊥ =
-    λ e. none_fits s (resolved_no_objects s.objects s.body
-    (ap (λ l. are_good_decls (decls_of (map (surface_object text) l))) (sym c.deref.ensures.value) ∙ c.in_err-objects.ensures.broken e)) in
-    search (rules, none)
+    ap (λ l. list_all is_good_decl (decls_of (map (surface_object text) l))) c.deref.ensures.value ∙ one_by_one [] (decls_of s.objects) (decls_good s c.requires)
 
-pub returns-in_err-block-clause-broken : goal.returns-in_err-block-clause-broken
-returns-in_err-block-clause-broken c =
+pub block-requires : goal.block-requires
+block-requires c =
     let text = c.args.text.now in
-    let source = c.args.source.now in
-    let s = surface_tree text source in
-    let objects = c.in_ok-objects.ensures.ok ∙ ap (λ l. map object_of (decls_of (map (surface_object text) l))) c.deref.ensures.value in
-    let first = first_is text objects c.new.ensures c.new-2.ensures.items in
-    let none : c.in_err-block.field-0.0 ≡ Broken → (m : Tree) → unplaced s ≡ named m → IsTrue (is_good m) → ⊥ =
-    λ e. none_fits s (resolved_no_body s.objects s.body
-    (ap (λ x. made_body x s.body) (sym first) ∙ ap (λ l. made_body (env_of text (record { objects = c.in_ok-objects.field-0; locals = c.new.result; known = c.new-2.result })) (surface_body text l)) (sym c.deref-2.ensures.value) ∙ c.in_err-block.ensures.broken e)) in
-    search (rules, none)
+    let s = surface_tree text c.args.source.now in
+    let objects = c.in_ok-objects.ensures ∙ ap (λ l. map object_of (decls_of (map (surface_object text) l))) c.deref.ensures.value in
+    let first = first_is objects c.new.ensures c.new-2.ensures.empty in
+    let scope = env_of (record { objects = c.in_ok-objects.field-0; locals = c.new.result; known = c.new-2.result }) in
+    ap (λ l. is_some (made_body scope (surface_body text l))) c.deref-2.ensures.value ∙ ap (λ e. is_some (made_body e s.body)) first ∙ body_there s c.requires
 
 -- the resolution of the whole source
-whole : (c : After-drop-scope-2) → resolved (surface_tree c.args.text.now c.args.source.now) ≡ Some (tree (record { objects = c.block.new.scope.objects; locals = c.block.new.scope.locals; body = c.in_ok-block.block.body }))
+whole : (c : After-drop-scope-2) → resolved (surface_tree c.args.text.now c.args.source.now) ≡ Some (tree (record { objects = c.block.new.scope.objects; locals = c.block.new.scope.locals; body = c.in_ok-body.body }))
 whole c =
     let text = c.args.text.now in
     let s = surface_tree text c.args.source.now in
-    let scope = env_of text (record { objects = c.in_ok-objects.field-0; locals = c.new.result; known = c.new-2.result }) in
-    let objects = c.in_ok-objects.ensures.ok ∙ ap (λ l. map object_of (decls_of (map (surface_object text) l))) c.deref.ensures.value in
-    let good = ap (λ l. are_good_decls (decls_of (map (surface_object text) l))) (sym c.deref.ensures.value) ∙ c.in_ok-objects.ensures.good in
-    let first = first_is text objects c.new.ensures c.new-2.ensures.items in
-    let made = ap (λ l. made_body scope (surface_body text l)) (sym c.deref-2.ensures.value) ∙ c.in_ok-block.ensures.ok in
-    resolved_made s.objects s.body scope (env_of text c.block.new.scope) (body_tree c.in_ok-block.block.body.items) good first made c.in_ok-block.ensures.env
+    let scope = env_of (record { objects = c.in_ok-objects.field-0; locals = c.new.result; known = c.new-2.result }) in
+    let objects = c.in_ok-objects.ensures ∙ ap (λ l. map object_of (decls_of (map (surface_object text) l))) c.deref.ensures.value in
+    let first = first_is objects c.new.ensures c.new-2.ensures.empty in
+    let made = ap (λ l. made_body scope (surface_body text l)) (sym c.deref-2.ensures.value) ∙ c.in_ok-body.ensures.body in
+    resolved_made s.objects s.body scope (env_of c.block.new.scope) (body_tree c.in_ok-body.body.items) (decls_good s c.requires) first made c.in_ok-body.ensures.env
 
-pub returns-clause-ok : goal.returns-clause-ok
-returns-clause-ok c = resolved_named (surface_tree c.args.text.now c.args.source.now) _ (whole c)
+pub returns-clause-named : goal.returns-clause-named
+returns-clause-named c = resolved_named (surface_tree c.args.text.now c.args.source.now) _ (whole c)
 
 pub returns-clause-good : goal.returns-clause-good
 returns-clause-good c = resolved_good (surface_tree c.args.text.now c.args.source.now) _ (whole c)

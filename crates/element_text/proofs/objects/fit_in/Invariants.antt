@@ -1,7 +1,0 @@
-use Rattle.std.proofs.Common.{◌≡◌, drop}
-use Rattle.std.specs.Prelude.{nat_le}
-use Rattle.element_lang.specs.Rules.{sum_of}
-use Rattle.element_text.proofs.objects.fit_in.Given as goal
-
-abbrev pub invariant-loop-bits : goal.invariant-loop-bits
-invariant-loop-bits l = nat_le (sum_of (drop l.bits-index l.widths)) l.left ≡ nat_le (sum_of l.widths) l.most
