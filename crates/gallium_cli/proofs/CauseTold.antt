@@ -11,10 +11,14 @@ use Rattle.gallium_cli.specs.declared.status.Status.{Status}
 use Rattle.gallium_cli.specs.declared.status.Status.TheVariants as statuses
 use Rattle.gallium_cli.specs.declared.refusal.Refusal.{Refusal}
 use Rattle.gallium_cli.specs.declared.refusal.Refusal.TheVariants.{Usage, Source, Trace, Schedule, TooLong, ReadFault, WriteFault, NoMemory}
+use Rattle.gallium_cli.specs.Call.{Call}
 use Rattle.gallium_cli.specs.Lines.{status_of, source_line}
 use Rattle.gallium_cli.specs.Words.{Request, Run, Replay}
-use Rattle.gallium_cli.specs.Causes.{Role, source, trace, schedule, size_of, IsGood, IsBad, IsBadSource, IsFileRefused, IsFirstRefused, IsTold, Ends, IsFault, IsCauseTold}
-use Rattle.gallium_cli.proofs.Exact.{unwritten}
+use Rattle.gallium_cli.specs.Roles.{Role, source, trace, schedule, size_of, IsGood, IsBad}
+use Rattle.gallium_cli.specs.Loads.{IsBadSource, IsFileRefused}
+use Rattle.gallium_cli.specs.Causes.{IsFirstRefused, IsTold, EndsFor}
+use Rattle.gallium_cli.specs.Promises.{IsFault, IsCauseTold}
+use Rattle.gallium_cli.proofs.Exact.{unwritten, write_is_fault}
 use Rattle.gallium_cli.proofs.Files.{good_source}
 
 -- a status and what err received, for this cause
@@ -51,7 +55,7 @@ not_good (Some text) fault bad good = bad.0.1 good.1
 -- the source is the first file, and is refused
 first_file : (refusal : Refusal) (name : List ℕ) (fault : TextError) (result : Status) (f f' : FilesState) (e e' : SinkState) → fault ≢ errors.NoMemory
     → IsSomeAnd (f.told name) (IsBadFor fault) → IsFileRefused refusal source name f f' → IsTold refusal result e e' → IsLine fault result e e'
-first_file (Source found) name fault result f f' e e' some bad refused told = of_cause found fault result e e' (one_cause (f.told name) found fault some bad refused) told
+first_file (Source found) name fault result f f' e e' some bad refused told = of_cause found fault result e e' (one_cause (f.told name) found fault some bad refused.1) told
 first_file (TooLong blamed) name fault result f f' e e' some bad refused told = absurd (not_long (f.told name) fault bad refused.1)
 first_file (ReadFault blamed) name fault result f f' e e' some bad refused told = of_fault (ReadFault blamed) fault result e e' told tt
 first_file NoMemory name fault result f f' e e' some bad refused told = of_fault NoMemory fault result e e' told tt
@@ -65,15 +69,20 @@ first_refused : (refusal : Refusal) (name : List ℕ) (files : List (List ℕ ×
 first_refused refusal name files fault result f f' e e' some bad (inl refused) told = first_file refusal name fault result f f' e e' some bad refused told
 first_refused refusal name files fault result f f' e e' some bad (inr later) told = absurd (not_good (f.told name) fault bad later.0)
 
-pub cause_told : (request : Option Request) (result : Status) (f f' : FilesState) (o o' e e' : SinkState) → Ends result request f f' o o' e e' → IsCauseTold request f result e e'
-cause_told None result f f' o o' e e' end = tt
-cause_told (Some (Run s t)) result f f' o o' e e' (inl (is, (text, (m, packets, input, answer), taken), silent)) =
-    λ fault some bad. absurd (not_good (f.told s) fault bad (good_source (f.told s) m input.source))
-cause_told (Some (Replay s t c)) result f f' o o' e e' (inl (is, (text, (m, packets, events, job, report), taken), silent)) =
-    λ fault some bad. absurd (not_good (f.told s) fault bad (good_source (f.told s) m job.input.source))
-cause_told (Some (Run s t)) result f f' o o' e e' (inr (refusal, inl first, told)) =
-    λ fault some bad. first_refused refusal s ((t, trace) ∷ []) fault result f f' e e' some bad first.0 told
-cause_told (Some (Replay s t c)) result f f' o o' e e' (inr (refusal, inl first, told)) =
-    λ fault some bad. first_refused refusal s ((t, trace) ∷ (c, schedule) ∷ []) fault result f f' e e' some bad first.0 told
-cause_told (Some request) result f f' o o' e e' (inr (refusal, inr unput, told)) =
-    λ fault some bad. of_fault refusal fault result e e' told (unwritten refusal request f o o' unput)
+pub cause_told : (request : Option Request) (result : Status) (call : Call)
+    → EndsFor request result call → IsCauseTold request call.files result call.err call.err_after
+cause_told None result call end = tt
+cause_told (Some (Run s t)) result call (inl (is, (text, (m, packets, input, answer), taken), silent)) =
+    λ fault some bad. absurd (not_good (call.files.told s) fault bad (good_source (call.files.told s) m input.source))
+cause_told (Some (Replay s t c)) result call (inl (is, (text, (m, packets, events, job, report), taken), silent)) =
+    λ fault some bad.
+    absurd (not_good (call.files.told s) fault bad (good_source (call.files.told s) m job.input.source))
+cause_told (Some (Run s t)) result call (inr (refusal, inl first, told)) = λ fault some bad.
+    first_refused refusal s ((t, trace) ∷ []) fault result call.files call.files_after call.err call.err_after some bad
+    first.0 told
+cause_told (Some (Replay s t c)) result call (inr (refusal, inl first, told)) = λ fault some bad.
+    first_refused refusal s ((t, trace) ∷ (c, schedule) ∷ []) fault result call.files call.files_after
+    call.err call.err_after some bad first.0 told
+cause_told (Some request) result call (inr (refusal, inr unput, told)) = λ fault some bad.
+    of_fault refusal fault result call.err call.err_after told
+    (write_is_fault (status_of refusal) (unwritten refusal request call.files call.out call.out_after unput))

@@ -12,9 +12,14 @@ use Rattle.gallium_cli.specs.declared.status.Status.{Status}
 use Rattle.gallium_cli.specs.declared.status.Status.TheVariants as statuses
 use Rattle.gallium_cli.specs.declared.refusal.Refusal.{Refusal}
 use Rattle.gallium_cli.specs.declared.refusal.Refusal.TheVariants.{Usage, Source, Trace, Schedule, TooLong, ReadFault, WriteFault, NoMemory}
+use Rattle.gallium_cli.specs.Call.{Call}
 use Rattle.gallium_cli.specs.Lines.{status_of}
 use Rattle.gallium_cli.specs.Words.{Request, Run, Replay}
-use Rattle.gallium_cli.specs.Causes.{Role, source, trace, schedule, size_of, files_of, IsGood, IsBad, IsFileRefused, IsFirstRefused, IsBadSource, IsInput, IsJob, IsNotWritten, after_line, IsTold, Ends, IsFault, IsUnlessFault, refused_status, IsRefusedAs, IsFirstBad, IsExact}
+use Rattle.gallium_cli.specs.Roles.{Role, source, trace, schedule, size_of, files_of, IsGood, IsBad}
+use Rattle.gallium_cli.specs.Answers.{IsInput, IsJob}
+use Rattle.gallium_cli.specs.Loads.{IsFileRefused, IsBadSource}
+use Rattle.gallium_cli.specs.Causes.{IsFirstRefused, IsNotWritten, after_line, IsTold, EndsFor}
+use Rattle.gallium_cli.specs.Promises.{IsWriteFault, IsFault, IsUnlessFault, refused_status, IsRefusedAs, IsFirstBad, AllGood, IsExact, IsComplete}
 
 -- a text isn't good and refused
 good_not_bad : (role : Role) (told : Option (List ℕ)) → IsSomeAnd told (IsGood role) → IfSome told (IsBad role) → ⊥
@@ -36,7 +41,7 @@ is_bad fault (Some text) bad = bad.0
 
 -- what is refused of a good file is a fault
 good_refused : (refusal : Refusal) (role : Role) (name : List ℕ) (f f' : FilesState) → IsSomeAnd (f.told name) (IsGood role) → IsFileRefused refusal role name f f' → IsFault (status_of refusal)
-good_refused (Source fault) source name f f' good refused = good_not_bad source (f.told name) good (is_bad fault (f.told name) refused)
+good_refused (Source fault) source name f f' good refused = good_not_bad source (f.told name) good (is_bad fault (f.told name) refused.1)
 good_refused (Source fault) trace name f f' good refused = refused
 good_refused (Source fault) schedule name f f' good refused = refused
 good_refused Trace source name f f' good refused = refused
@@ -65,7 +70,7 @@ bad_only role status (Some text) (inr here) bad = here.0
 -- the status of a refused file is the one that its told text has, or a fault
 exact_file : (refusal : Refusal) (role : Role) (name : List ℕ) (status : Status) (f f' : FilesState) → IsSomeAnd (f.told name) (IsRefusedAs role status) → IsFileRefused refusal role name f f'
     → IsUnlessFault status (status_of refusal)
-exact_file (Source fault) source name status f f' bad refused = inl (sym (bad_only source status (f.told name) bad (is_bad fault (f.told name) refused)))
+exact_file (Source fault) source name status f f' bad refused = inl (sym (bad_only source status (f.told name) bad (is_bad fault (f.told name) refused.1)))
 exact_file (Source fault) trace name status f f' bad refused = absurd refused
 exact_file (Source fault) schedule name status f f' bad refused = absurd refused
 exact_file Trace source name status f f' bad refused = absurd refused
@@ -87,8 +92,9 @@ exact_files refusal (file ∷ files) status f f' (inl here) (inr later) = absurd
 exact_files refusal (file ∷ files) status f f' (inr bad) (inl refused) = inr (good_refused refusal file.1 file.0 f f' bad.0 refused)
 exact_files refusal (file ∷ files) status f f' (inr bad) (inr later) = exact_files refusal files status f f' bad.1 later.1
 
--- an answer that wasn't written is a fault
-pub unwritten : (refusal : Refusal) (request : Request) (f : FilesState) (o o' : SinkState) → IsNotWritten refusal request f o o' → IsFault (status_of refusal)
+-- an answer that wasn't written is a fault of writing
+pub unwritten : (refusal : Refusal) (request : Request) (f : FilesState) (o o' : SinkState)
+    → IsNotWritten refusal request f o o' → IsWriteFault (status_of refusal)
 unwritten WriteFault request f o o' h = tt
 unwritten NoMemory request f o o' h = tt
 unwritten Usage request f o o' h = h
@@ -97,6 +103,17 @@ unwritten Trace request f o o' h = h
 unwritten Schedule request f o o' h = h
 unwritten (TooLong name) request f o o' h = absurd h
 unwritten (ReadFault name) request f o o' h = absurd h
+
+pub write_is_fault : (status : Status) → IsWriteFault status → IsFault status
+write_is_fault statuses.WriteFault h = tt
+write_is_fault statuses.NoMemory h = tt
+write_is_fault statuses.Done h = h
+write_is_fault statuses.Usage h = h
+write_is_fault statuses.Source h = h
+write_is_fault statuses.Trace h = h
+write_is_fault statuses.Schedule h = h
+write_is_fault statuses.TooLong h = h
+write_is_fault statuses.ReadFault h = tt
 
 -- the line of a refusal brings nothing but faults
 told_status : (refusal : Refusal) (end : SinkEnd) (status : Status) → IsUnlessFault status (status_of refusal) → IsUnlessFault status (after_line refusal end)
@@ -126,11 +143,34 @@ job_not_bad told s t c m packets events status job (inr (good, inr (also, inl ba
 job_not_bad told s t c m packets events status job (inr (good, inr (also, inr none))) = none.1
 
 -- the first bad content that is told decides the status
-pub exact_ends : (request : Option Request) (result : Status) (f f' : FilesState) (o o' e e' : SinkState) → Ends result request f f' o o' e e' → IsExact request f result
-exact_ends None result f f' o o' e e' end = tt
-exact_ends (Some (Run s t)) result f f' o o' e e' (inl (is, (text, (m, packets, input, answer), taken), silent)) =
-    λ status bad. absurd (input_not_bad f.told s t m packets status input bad)
-exact_ends (Some (Replay s t c)) result f f' o o' e e' (inl (is, (text, (m, packets, events, job, report), taken), silent)) =
-    λ status bad. absurd (job_not_bad f.told s t c m packets events status job bad)
-exact_ends (Some request) result f f' o o' e e' (inr (refusal, inl first, told)) = λ status bad. of_told status result refusal e e' told (exact_files refusal (files_of request) status f f' bad first.0)
-exact_ends (Some request) result f f' o o' e e' (inr (refusal, inr unput, told)) = λ status bad. of_told status result refusal e e' told (inr (unwritten refusal request f o o' unput))
+pub exact_ends : (request : Option Request) (result : Status) (call : Call)
+    → EndsFor request result call → IsExact request call.files result
+exact_ends None result call end = tt
+exact_ends (Some (Run s t)) result call (inl (is, (text, (m, packets, input, answer), taken), silent)) =
+    λ status bad. absurd (input_not_bad call.files.told s t m packets status input bad)
+exact_ends (Some (Replay s t c)) result call (inl (is, (text, (m, packets, events, job, report), taken), silent)) =
+    λ status bad. absurd (job_not_bad call.files.told s t c m packets events status job bad)
+exact_ends (Some request) result call (inr (refusal, inl first, told)) = λ status bad.
+    of_told status result refusal call.err call.err_after told
+    (exact_files refusal (files_of request) status call.files call.files_after bad first.0)
+exact_ends (Some request) result call (inr (refusal, inr unput, told)) = λ status bad.
+    of_told status result refusal call.err call.err_after told
+    (inr (write_is_fault (status_of refusal) (unwritten refusal request call.files call.out call.out_after unput)))
+
+-- what is refused of good files is a fault
+good_files : (refusal : Refusal) (files : List (List ℕ × Role)) (f f' : FilesState)
+    → AllGood f.told files → IsFirstRefused refusal files f f' → IsFault (status_of refusal)
+good_files refusal [] f f' good refused = absurd refused
+good_files refusal (file ∷ files) f f' good (inl refused) = good_refused refusal file.1 file.0 f f' good.0 refused
+good_files refusal (file ∷ files) f f' good (inr later) = good_files refusal files f f' good.1 later.1
+
+pub complete_ends : (request : Option Request) (result : Status) (call : Call)
+    → EndsFor request result call → IsComplete request call.files result
+complete_ends None result call end = tt
+complete_ends (Some request) result call (inl done) = λ good. inl done.0
+complete_ends (Some request) result call (inr (refusal, inl first, told)) = λ good.
+    of_told statuses.Done result refusal call.err call.err_after told
+    (inr (good_files refusal (files_of request) call.files call.files_after good first.0))
+complete_ends (Some request) result call (inr (refusal, inr unput, told)) = λ good.
+    of_told statuses.Done result refusal call.err call.err_after told
+    (inr (write_is_fault (status_of refusal) (unwritten refusal request call.files call.out call.out_after unput)))

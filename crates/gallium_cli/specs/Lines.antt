@@ -24,9 +24,11 @@ abbrev pub source_line : TextError → List ℕ
 source_line (errors.NotUtf8 offset) = codes "source: not utf-8 at " ++ (decimal offset ++ line_end)
 source_line (errors.Token offset) = codes "source: token at " ++ (decimal offset ++ line_end)
 source_line (errors.Syntax offset) = codes "source: syntax at " ++ (decimal offset ++ line_end)
-source_line (errors.Rule rule offset) = codes "source: rule " ++ (decimal rule ++ (codes " at " ++ (decimal offset ++ line_end)))
+source_line (errors.Rule rule offset) =
+    codes "source: rule " ++ (decimal rule ++ (codes " at " ++ (decimal offset ++ line_end)))
 source_line (errors.TooLarge what have allowed) =
-    codes "source: " ++ (what_text what ++ (codes " have " ++ (decimal have ++ (codes ", allowed " ++ (decimal allowed ++ line_end)))))
+    codes "source: "
+    ++ (what_text what ++ (codes " have " ++ (decimal have ++ (codes ", allowed " ++ (decimal allowed ++ line_end)))))
 source_line errors.NoMemory = codes "no memory" ++ line_end
 
 abbrev pub status_of : Refusal → Status
