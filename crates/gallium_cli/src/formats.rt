@@ -43,9 +43,9 @@ fn source_refusal(fault: TextError) -> Refusal<'static>
 impl Format for SourceFormat {
     type Value = Middlebox;
 
-    ghost role = { source };
+    ghost role = { λ _. source };
 
-    ghost spells = { λ text m. IsSource text (tree m) };
+    ghost spells = { λ _ text m. IsSource text (tree m) };
 
     ghost sound = { λ m. IsTrue (is_good (tree m)) × (length m.objects < 2 ^ 32) };
 
@@ -64,9 +64,9 @@ impl Format for SourceFormat {
 impl Format for TraceFormat {
     type Value = Packets;
 
-    ghost role = { trace };
+    ghost role = { λ _. trace };
 
-    ghost spells = { λ text packets. trace_of text ≡ Ok packets };
+    ghost spells = { λ _ text packets. trace_of text ≡ Ok packets };
 
     ghost sound = { λ packets. (length packets ≤ 16384) × All (λ p. length p.bytes ≤ 9216) packets };
 
@@ -86,9 +86,9 @@ impl Format for TraceFormat {
 impl Format for ScheduleFormat {
     type Value = Events;
 
-    ghost role = { schedule };
+    ghost role = { λ _. schedule };
 
-    ghost spells = { λ text events. schedule_of text ≡ Ok events };
+    ghost spells = { λ _ text events. schedule_of text ≡ Ok events };
 
     ghost sound = { λ events. length events ≤ 1048576 };
 

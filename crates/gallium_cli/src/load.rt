@@ -12,21 +12,21 @@ pub trait Format {
     /// What such a text spells.
     type Value: Drop;
 
-    ghost role: { Role };
+    ghost role: { Self → Role };
 
-    ghost spells: { List ℕ → Self.Value → Type 0 };
+    ghost spells: { Self → List ℕ → Self.Value → Type 0 };
 
     ghost sound: { Self.Value → Type 0 };
 
     /// The most bytes of such a file.
     fn size(&self) -> usize
-        ensures { result ≡ size_of role };
+        ensures { result ≡ size_of (role self.now) };
 
     /// What a text spells, or why it spells nothing.
     fn read(&self, alloc: Global, text: &[u8]) -> Result<Self::Value, Refusal<'static>>
-        ensures ok { IfOk result (λ value. spells text.now value) }
+        ensures ok { IfOk result (λ value. spells self.now text.now value) }
         ensures sound { IfOk result (λ value. sound value) }
-        ensures err { IfErr result (λ refusal. IsUnread refusal role text.now) };
+        ensures err { IfErr result (λ refusal. IsUnread refusal (role self.now) text.now) };
 }
 
 /// What the file of a name spells.
@@ -37,9 +37,10 @@ pub fn load<'a, T: Format, F: Files>(
     name: &'a str,
 ) -> Result<T::Value, Refusal<'a>>
     ensures ok { IfOk result (λ value. IfSome ((F.seen files.old).told name.now)
-        (λ text. (length text ≤ size_of T.role) × T.spells text value)) }
+        (λ text. (length text ≤ size_of (T.role format.now)) × T.spells format.now text value)) }
     ensures sound { IfOk result (λ value. T.sound value) }
-    ensures err { IfErr result (λ refusal. IsFileRefused refusal T.role name.now (F.seen files.old) (F.seen files.new)) }
+    ensures err { IfErr result (λ refusal. IsFileRefused refusal (T.role format.now) name.now
+        (F.seen files.old) (F.seen files.new)) }
     ensures stays { GoesOn (F.seen files.old) (F.seen files.new) }
 {
     let mut bytes = Vec::new(alloc);
