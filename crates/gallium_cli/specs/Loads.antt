@@ -6,7 +6,8 @@ use Rattle.element_text.specs.Refused.{IsRefused}
 use Rattle.element_text.specs.declared.error.TextError.{TextError}
 use Rattle.element_text.specs.declared.error.TextError.TheVariants as errors
 use Rattle.gallium_cli.specs.declared.refusal.Refusal.{Refusal}
-use Rattle.gallium_cli.specs.declared.refusal.Refusal.TheVariants.{Source, Trace, Schedule, TooLong, ReadFault, NoMemory}
+use Rattle.gallium_cli.specs.declared.refusal.Refusal.TheVariants.{Source, Trace, Schedule}
+use Rattle.gallium_cli.specs.declared.refusal.Refusal.TheVariants.{TooLong, ReadFault, NoMemory}
 use Rattle.gallium_cli.specs.Roles.{Role, source, trace, schedule, size_of, IsSpelled, IsBad}
 
 -- the text is refused for this cause, and for no other

@@ -8,7 +8,8 @@ use Rattle.element_text.specs.Refused.{IsRefused}
 use Rattle.element_text.specs.declared.error.TextError.{TextError}
 use Rattle.element_text.specs.declared.error.TextError.TheVariants as errors
 use Rattle.gallium_cli.specs.declared.status.Status.{Status}
-use Rattle.gallium_cli.specs.declared.status.Status.TheVariants.{Done, Usage, Source, Trace, Schedule, TooLong, ReadFault, WriteFault, NoMemory}
+use Rattle.gallium_cli.specs.declared.status.Status.TheVariants.{Done, Usage, Source, Trace, Schedule}
+use Rattle.gallium_cli.specs.declared.status.Status.TheVariants.{TooLong, ReadFault, WriteFault, NoMemory}
 use Rattle.gallium_cli.specs.Call.{Call}
 use Rattle.gallium_cli.specs.Words.{Request, request_of}
 use Rattle.gallium_cli.specs.Lines.{source_line}
@@ -87,8 +88,8 @@ IsCauseTold (Some request) f result e e' =
     → IsSomeAnd (f.told (source_of request)) (λ text. IsBad source text × IsRefused text fault)
     → ((result ≡ Source) × (e'.taken ≡ append_known e.taken (source_line fault))) ⊎ IsFault result
 
--- What is promised of a call that ends in this status. The first part says the whole of it: why it ended so, and what it
--- left on both sinks. The others are read off it.
+-- What is promised of a call that ends in this status. The first part says the whole of it: why it ended so, and what
+-- it left on both sinks. The others are read off it.
 pub record Promises (status : Status) (call : Call) : Type 0 where
   pub ends : Ends status call
   -- the answer of one run was written, which is a serial run of the source, whatever the schedule
