@@ -1,5 +1,6 @@
 -- What the reading of one file shows, and of several one after another.
-use Rattle.std.proofs.Common.{◌≡◌, ◌≤◌, ◌<◌, ◌^◌, ℕ, List, length, map, Option, Some, None, IfSome, subst, ap, inl, inr, arith, Ok}
+use Rattle.std.proofs.Common.{◌≡◌, ◌≤◌, ◌<◌, ◌^◌, ℕ, List, length, map, Option, Some, None, IfSome, subst, ap, inl, inr}
+use Rattle.std.proofs.Common.{arith, Ok}
 use Rattle.std.proofs.lemmas.List.{length-map}
 use Rattle.gal_io.specs.Files.{FilesState}
 use Rattle.packet_fields.specs.declared.packet.Packet.{Packet}
@@ -9,7 +10,8 @@ use Rattle.state_store.specs.declared.object.ObjectDecl.{ObjectDecl}
 use Rattle.element_lang.specs.Accepted.{IsSource}
 use Rattle.run_text.specs.Trace.{trace_of}
 use Rattle.gallium_cli.specs.declared.refusal.Refusal.{Refusal}
-use Rattle.gallium_cli.specs.declared.refusal.Refusal.TheVariants.{Usage, Source, Trace, Schedule, TooLong, ReadFault, WriteFault, NoMemory}
+use Rattle.gallium_cli.specs.declared.refusal.Refusal.TheVariants.{Usage, Source, Trace, Schedule, TooLong, ReadFault}
+use Rattle.gallium_cli.specs.declared.refusal.Refusal.TheVariants.{WriteFault, NoMemory}
 use Rattle.gallium_cli.specs.Words.{Run, Replay}
 use Rattle.gallium_cli.specs.Roles.{Role, source, trace, schedule, size_of, files_of, IsGood}
 use Rattle.gallium_cli.specs.Answers.{IsInput}
@@ -36,7 +38,8 @@ small_size trace = omega arith
 small_size schedule = omega arith
 
 -- what the bytes that were read spell, the told content spells
-pub told_text : (P : List ℕ → Type 0) (bytes : List ℕ) (told : Option (List ℕ)) → IfSome told (λ content. bytes ≡ content) → P bytes → IfSome told P
+pub told_text : (P : List ℕ → Type 0) (bytes : List ℕ) (told : Option (List ℕ))
+    → IfSome told (λ content. bytes ≡ content) → P bytes → IfSome told P
 told_text P bytes None same holds = tt
 told_text P bytes (Some content) same holds = subst P same holds
 

@@ -1,5 +1,5 @@
 -- What follows from how a call ends.
-use Rattle.std.proofs.Common.{◌≡◌, ◌≢◌, ◌⊎◌, ℕ, List, [], ◌∷◌, Option, Some, None, sym, subst, ap, ◌∙◌, inl, inr}
+use Rattle.std.proofs.Common.{◌≡◌, ◌≤◌, ◌⊎◌, ℕ, List, [], ◌∷◌, Option, Some, None, sym, subst, ap, ◌∙◌, inl, inr}
 use Rattle.gal_io.specs.Count.{Rose}
 use Rattle.gal_io.specs.Files.{FilesState}
 use Rattle.gal_io.specs.declared.sink.SinkEnd.{SinkEnd}
@@ -7,13 +7,15 @@ use Rattle.gal_io.specs.declared.sink.SinkEnd.TheVariants as ends
 use Rattle.gallium_cli.specs.declared.status.Status.{Status}
 use Rattle.gallium_cli.specs.declared.status.Status.TheVariants as statuses
 use Rattle.gallium_cli.specs.declared.refusal.Refusal.{Refusal}
-use Rattle.gallium_cli.specs.declared.refusal.Refusal.TheVariants.{Usage, Source, Trace, Schedule, TooLong, ReadFault, WriteFault, NoMemory}
+use Rattle.gallium_cli.specs.declared.refusal.Refusal.TheVariants.{Usage, Source, Trace, Schedule, TooLong, ReadFault}
+use Rattle.gallium_cli.specs.declared.refusal.Refusal.TheVariants.{WriteFault, NoMemory}
 use Rattle.gallium_cli.specs.Call.{Call}
 use Rattle.gallium_cli.specs.Lines.{status_of}
 use Rattle.gallium_cli.specs.Words.{Request, request_of}
 use Rattle.gallium_cli.specs.Roles.{Role, files_of}
 use Rattle.gallium_cli.specs.Causes.{IsFirstRefused, IsDone, HasCause, after_line, EndsFor, Ends}
-use Rattle.gallium_cli.specs.Promises.{IsWriteFault, BlamesInput, IsUsage, Promises}
+use Rattle.gallium_cli.specs.Promises.{IsWriteFault, BlamesInput, IsReadOnce, IsUsage, Promises}
+use Rattle.gallium_cli.proofs.Written.{at_most}
 use Rattle.gallium_cli.proofs.Exact.{unwritten, exact_ends, complete_ends}
 use Rattle.gallium_cli.proofs.CauseTold.{cause_told}
 
@@ -38,7 +40,8 @@ told_not_done refusal ends.Done = refused_not_done refusal
 told_not_done refusal ends.Failed = tt
 told_not_done refusal ends.NoMemory = tt
 
-done_ends : (request : Option Request) (status : Status) (call : Call) → EndsFor request status call → status ≡ statuses.Done
+done_ends : (request : Option Request) (status : Status) (call : Call) → EndsFor request status call
+    → status ≡ statuses.Done
     → IsDone request call.files call.files_after call.out call.out_after × (call.err_after ≡ call.err)
 done_ends request status call (inl done) is = (done.1, done.2)
 done_ends request status call (inr (refusal, cause, (end, told, written))) is =
@@ -46,7 +49,8 @@ done_ends request status call (inr (refusal, cause, (end, told, written))) is =
 
 -- ## What words and files are to blame for
 
-told_input : (refusal : Refusal) (end : SinkEnd) → BlamesInput (after_line refusal end) → BlamesInput (status_of refusal)
+told_input : (refusal : Refusal) (end : SinkEnd) → BlamesInput (after_line refusal end)
+    → BlamesInput (status_of refusal)
 told_input refusal ends.Done h = h
 told_input refusal ends.Failed h = absurd h
 told_input refusal ends.NoMemory h = absurd h
@@ -61,8 +65,8 @@ untouched_ends : (request : Option Request) (status : Status) (call : Call)
     → EndsFor request status call → BlamesInput status → call.out_after ≡ call.out
 untouched_ends request status call (inl done) input = absurd (subst BlamesInput done.0 input)
 untouched_ends None status call (inr (refusal, cause, told)) input = cause.2
-untouched_ends (Some request) status call (inr (refusal, inl first, told)) input = first.1
-untouched_ends (Some request) status call (inr (refusal, inr unput, (end, is, written))) input =
+untouched_ends (Some request) status call (inr (refusal, (inl first, few), told)) input = first.1
+untouched_ends (Some request) status call (inr (refusal, (inr unput, few), (end, is, written))) input =
     absurd (
     not_both (status_of refusal) (unwritten refusal request call.files call.out call.out_after unput)
     (told_input refusal end (subst BlamesInput is input))
@@ -100,19 +104,21 @@ write_not_usage : (status : Status) → IsWriteFault status → IsNotUsage statu
 write_not_usage statuses.Usage h = h
 write_not_usage _ h = tt
 
-told_not_usage : (refusal : Refusal) (end : SinkEnd) → IsNotUsage (status_of refusal) → IsNotUsage (after_line refusal end)
+told_not_usage : (refusal : Refusal) (end : SinkEnd) → IsNotUsage (status_of refusal)
+    → IsNotUsage (after_line refusal end)
 told_not_usage refusal ends.Done h = h
 told_not_usage refusal ends.Failed h = tt
 told_not_usage refusal ends.NoMemory h = tt
 
-usage_ends : (request : Option Request) (status : Status) (call : Call) → EndsFor request status call → IsUsage request status
+usage_ends : (request : Option Request) (status : Status) (call : Call) → EndsFor request status call
+    → IsUsage request status
 usage_ends None status call (inl done) = absurd done.1
 usage_ends None status call (inr (refusal, cause, (end, is, written))) = told_usage refusal end status cause.0 is
 usage_ends (Some request) status call (inl done) = λ usage. subst IsNotUsage (sym done.0 ∙ usage) tt
-usage_ends (Some request) status call (inr (refusal, inl first, (end, is, written))) = λ usage.
+usage_ends (Some request) status call (inr (refusal, (inl first, few), (end, is, written))) = λ usage.
     let other = file_not_usage refusal (files_of request) call.files call.files_after first.0 in
     subst IsNotUsage (sym is ∙ usage) (told_not_usage refusal end other)
-usage_ends (Some request) status call (inr (refusal, inr unput, (end, is, written))) = λ usage.
+usage_ends (Some request) status call (inr (refusal, (inr unput, few), (end, is, written))) = λ usage.
     let fault = unwritten refusal request call.files call.out call.out_after unput in
     subst IsNotUsage (sym is ∙ usage) (told_not_usage refusal end (write_not_usage (status_of refusal) fault))
 
@@ -131,7 +137,8 @@ told_long refusal ends.Done h = h
 told_long refusal ends.Failed h = absurd h
 told_long refusal ends.NoMemory h = absurd h
 
-told_read_fault : (refusal : Refusal) (end : SinkEnd) → IsReadFault (after_line refusal end) → IsReadFault (status_of refusal)
+told_read_fault : (refusal : Refusal) (end : SinkEnd) → IsReadFault (after_line refusal end)
+    → IsReadFault (status_of refusal)
 told_read_fault refusal ends.Done h = h
 told_read_fault refusal ends.Failed h = absurd h
 told_read_fault refusal ends.NoMemory h = absurd h
@@ -177,9 +184,9 @@ too_long_ends : (request : Option Request) (status : Status) (call : Call)
 too_long_ends request status call (inl done) long = absurd (subst IsTooLong done.0 long)
 too_long_ends None status call (inr (refusal, cause, (end, is, written))) long =
     absurd (subst (λ r. IsTooLong (status_of r)) cause.0 (told_long refusal end (subst IsTooLong is long)))
-too_long_ends (Some request) status call (inr (refusal, inl first, (end, is, written))) long =
+too_long_ends (Some request) status call (inr (refusal, (inl first, few), (end, is, written))) long =
     long_rose refusal (files_of request) call.files call.files_after (told_long refusal end (subst IsTooLong is long)) first.0
-too_long_ends (Some request) status call (inr (refusal, inr unput, (end, is, written))) long =
+too_long_ends (Some request) status call (inr (refusal, (inr unput, few), (end, is, written))) long =
     absurd (
     write_not_long (status_of refusal) (unwritten refusal request call.files call.out call.out_after unput)
     (told_long refusal end (subst IsTooLong is long))
@@ -190,9 +197,9 @@ read_fault_ends : (request : Option Request) (status : Status) (call : Call)
 read_fault_ends request status call (inl done) fault = absurd (subst IsReadFault done.0 fault)
 read_fault_ends None status call (inr (refusal, cause, (end, is, written))) fault =
     absurd (subst (λ r. IsReadFault (status_of r)) cause.0 (told_read_fault refusal end (subst IsReadFault is fault)))
-read_fault_ends (Some request) status call (inr (refusal, inl first, (end, is, written))) fault =
+read_fault_ends (Some request) status call (inr (refusal, (inl first, few), (end, is, written))) fault =
     fault_rose refusal (files_of request) call.files call.files_after (told_read_fault refusal end (subst IsReadFault is fault)) first.0
-read_fault_ends (Some request) status call (inr (refusal, inr unput, (end, is, written))) fault =
+read_fault_ends (Some request) status call (inr (refusal, (inr unput, few), (end, is, written))) fault =
     absurd (
     write_not_read (status_of refusal) (unwritten refusal request call.files call.out call.out_after unput)
     (told_read_fault refusal end (subst IsReadFault is fault))
@@ -211,9 +218,9 @@ out_rose : (refusal : Refusal) (request : Option Request) (call : Call)
     → IsOutFault (status_of refusal) → HasCause refusal request call.files call.files_after call.out call.out_after
     → Rose call.out.faults call.out_after.faults
 out_rose WriteFault None call is cause = let usage : WriteFault ≡ Usage = cause.0 in cc
-out_rose WriteFault (Some request) call is (inl first) =
+out_rose WriteFault (Some request) call is (inl first, few) =
     absurd (write_unrefused (files_of request) call.files call.files_after first.0)
-out_rose WriteFault (Some request) call is (inr unput) = unput.0
+out_rose WriteFault (Some request) call is (inr unput, few) = unput.0
 out_rose Usage request call is cause = absurd is
 out_rose (Source fault) request call is cause = absurd is
 out_rose Trace request call is cause = absurd is
@@ -232,6 +239,16 @@ write_fault_ends request status call (inr (refusal, cause, (ends.Failed, is, wri
 write_fault_ends request status call (inr (refusal, cause, (ends.NoMemory, is, written))) fault =
     absurd (subst IsOutFault is fault)
 
+-- ## How often files are read
+
+once_ends : (request : Option Request) (status : Status) (call : Call)
+    → EndsFor request status call → IsReadOnce request status call.files call.files_after
+once_ends None status call (inl done) = absurd done.1
+once_ends None status call (inr (refusal, cause, told)) = cause.1
+once_ends (Some request) status call (inl (is, (text, answer, taken, read), silent)) = (at_most _ _ read, λ _. read)
+once_ends (Some request) status call (inr (refusal, (cause, few), (end, told, written))) =
+    (few, λ is. absurd (subst IsNotDone (sym told ∙ is) (told_not_done refusal end)))
+
 -- all that is promised follows from how a call ends
 pub promised : (status : Status) (call : Call) → Ends status call → Promises status call
 promised status call end =
@@ -241,6 +258,7 @@ promised status call end =
       done = λ is. (done_ends request status call end is).0;
       silent = λ is. (done_ends request status call end is).1;
       untouched = untouched_ends request status call end;
+      once = once_ends request status call end;
       usage = usage_ends request status call end;
       exact = exact_ends request status call end;
       cause = cause_told request status call end;

@@ -1,5 +1,5 @@
 -- How a call ends: why each refusal comes, and what it leaves on out and err.
-use Rattle.std.specs.Prelude.{◌≡◌, ◌⊎◌, ℕ, List, [], ◌∷◌, take, Option, Some, None, IfSome}
+use Rattle.std.specs.Prelude.{◌≡◌, ◌≤◌, ◌⊎◌, ℕ, List, [], ◌∷◌, length, take, Option, Some, None, IfSome}
 use Rattle.std.specs.Io.KnownBytes.{append_known}
 use Rattle.gal_io.specs.Count.{Rose}
 use Rattle.gal_io.specs.Files.{FilesState}
@@ -15,7 +15,7 @@ use Rattle.gallium_cli.specs.Words.{Request, request_of}
 use Rattle.gallium_cli.specs.Lines.{status_of, line_of}
 use Rattle.gallium_cli.specs.Roles.{Role, IsGood, files_of}
 use Rattle.gallium_cli.specs.Answers.{IsAnswer}
-use Rattle.gallium_cli.specs.Loads.{IsFileRefused}
+use Rattle.gallium_cli.specs.Loads.{IsFileRefused, raised_by}
 
 -- the files before one are good, and that one is refused
 abbrev pub IsFirstRefused : Refusal → List (List ℕ × Role) → FilesState → FilesState → Type 0
@@ -24,11 +24,12 @@ IsFirstRefused refusal (file ∷ files) f f' =
     IsFileRefused refusal file.1 file.0 f f'
     ⊎ (IfSome (f.told file.0) (IsGood file.1) × IsFirstRefused refusal files f f')
 
--- the answer to a request was taken whole by out
+-- the answer to a request was taken whole by out, and there was one read for each of its files
 abbrev pub IsDone : Option Request → FilesState → FilesState → SinkState → SinkState → Type 0
 IsDone None f f' o o' = ⊥
 IsDone (Some request) f f' o o' =
     (text : List ℕ) × IsAnswer text request f.told × (o'.taken ≡ append_known o.taken text)
+    × (f'.reads ≡ raised_by (length (files_of request)) f.reads)
 
 -- Why an answer wasn't written: only some first bytes were taken, and the count of faults of out rose, or no memory was
 -- found and nothing was taken.
@@ -40,11 +41,12 @@ IsNotWritten NoMemory request f o o' = o'.taken ≡ o.taken
 IsNotWritten _ request f o o' = ⊥
 
 -- Why a request is refused: by its words, and then no file was read; by a file; or since its answer wasn't written.
--- Where words or a file are to blame, out is as it was, its count too.
+-- Where words or a file are to blame, out is as it was, its count too. There was at most one read for each file.
 abbrev pub HasCause : Refusal → Option Request → FilesState → FilesState → SinkState → SinkState → Type 0
 HasCause refusal None f f' o o' = (refusal ≡ Usage) × (f' ≡ f) × (o' ≡ o)
 HasCause refusal (Some request) f f' o o' =
-    (IsFirstRefused refusal (files_of request) f f' × (o' ≡ o)) ⊎ IsNotWritten refusal request f o o'
+    ((IsFirstRefused refusal (files_of request) f f' × (o' ≡ o)) ⊎ IsNotWritten refusal request f o o')
+    × (f'.reads ≤ raised_by (length (files_of request)) f.reads)
 
 -- the status that is answered where the line of a refusal ends so
 abbrev pub after_line : Refusal → SinkEnd → Status

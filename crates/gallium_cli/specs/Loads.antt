@@ -1,5 +1,5 @@
 -- How one file is loaded.
-use Rattle.std.specs.Prelude.{◌≡◌, ◌≤◌, ◌<◌, ◌≢◌, ℕ, List, length, Some, IfSome}
+use Rattle.std.specs.Prelude.{◌≡◌, ◌≤◌, ◌<◌, ◌≢◌, ◌+◌, ◌-◌, ◌^◌, ℕ, min, List, length, Some, IfSome}
 use Rattle.gal_io.specs.Count.{Rose}
 use Rattle.gal_io.specs.Files.{FilesState}
 use Rattle.element_text.specs.Refused.{IsRefused}
@@ -43,6 +43,10 @@ IsFileRefused _ role name f f' = ⊥
 -- the bytes of a file that was read: the told ones, where they are told
 abbrev pub IsLoaded : List ℕ → List ℕ → ℕ → FilesState → Type 0
 IsLoaded bytes name size f = (length bytes ≤ size) × IfSome (f.told name) (λ told. bytes ≡ told)
+
+-- a count after so many more; it stands still at its type's end
+abbrev pub raised_by : ℕ → ℕ → ℕ
+raised_by n count = min (count + n) (2 ^ 64 - 1)
 
 -- what stays over a read: what is told, and that no count falls
 pub record GoesOn (f f' : FilesState) : Type 0 where

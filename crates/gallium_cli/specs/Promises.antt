@@ -1,5 +1,5 @@
 -- What the program promises of a whole call.
-use Rattle.std.specs.Prelude.{◌≡◌, ◌<◌, ◌⊎◌, ◌≢◌, ℕ, List, [], ◌∷◌, length, Option, Some, None, IsSomeAnd}
+use Rattle.std.specs.Prelude.{◌≡◌, ◌<◌, ◌≤◌, ◌⊎◌, ◌≢◌, ℕ, List, [], ◌∷◌, length, Option, Some, None, IsSomeAnd}
 use Rattle.std.specs.Io.KnownBytes.{append_known}
 use Rattle.gal_io.specs.Count.{Rose}
 use Rattle.gal_io.specs.Files.{FilesState}
@@ -14,6 +14,7 @@ use Rattle.gallium_cli.specs.Call.{Call}
 use Rattle.gallium_cli.specs.Words.{Request, request_of}
 use Rattle.gallium_cli.specs.Lines.{source_line}
 use Rattle.gallium_cli.specs.Roles.{Role, source, trace, schedule, size_of, files_of, source_of, IsGood, IsBad}
+use Rattle.gallium_cli.specs.Loads.{raised_by}
 use Rattle.gallium_cli.specs.Causes.{IsDone, Ends}
 
 -- an end that writing and memory may bring whatever the words are
@@ -88,6 +89,13 @@ IsCauseTold (Some request) f result e e' =
     → IsSomeAnd (f.told (source_of request)) (λ text. IsBad source text × IsRefused text fault)
     → ((result ≡ Source) × (e'.taken ≡ append_known e.taken (source_line fault))) ⊎ IsFault result
 
+-- there is at most one read for each file of a request, and where it is done, just one; with no request there is none
+abbrev pub IsReadOnce : Option Request → Status → FilesState → FilesState → Type 0
+IsReadOnce None result f f' = f' ≡ f
+IsReadOnce (Some request) result f f' =
+    (f'.reads ≤ raised_by (length (files_of request)) f.reads)
+    × (result ≡ Done → f'.reads ≡ raised_by (length (files_of request)) f.reads)
+
 -- What is promised of a call that ends in this status. The first part says the whole of it: why it ended so, and what
 -- it left on both sinks. The others are read off it.
 pub record Promises (status : Status) (call : Call) : Type 0 where
@@ -98,6 +106,8 @@ pub record Promises (status : Status) (call : Call) : Type 0 where
   pub silent : status ≡ Done → call.err_after ≡ call.err
   -- out is as it was, its count too
   pub untouched : BlamesInput status → call.out_after ≡ call.out
+  -- each file is read once
+  pub once : IsReadOnce (request_of call.words) status call.files call.files_after
   -- which status comes, by the words and the told texts
   pub usage : IsUsage (request_of call.words) status
   pub exact : IsExact (request_of call.words) call.files status

@@ -1,7 +1,7 @@
 //! The files of a command, each read whole.
 ghost use Rattle.std.specs.Prelude.{◌≡◌, ◌≤◌, IfOk, IfErr, IfSome, List, ℕ, length};
 ghost use Rattle.gallium_cli.specs.Roles.{Role, size_of};
-ghost use Rattle.gallium_cli.specs.Loads.{IsFileRefused, IsUnread, GoesOn};
+ghost use Rattle.gallium_cli.specs.Loads.{IsFileRefused, IsUnread, GoesOn, raised_by};
 
 use crate::refusal::Refusal;
 use gal_io::{Files, ReadEnd};
@@ -42,6 +42,7 @@ pub fn load<'a, T: Format, F: Files>(
     ensures err { IfErr result (λ refusal. IsFileRefused refusal (T.role format.now) name.now
         (F.seen files.old) (F.seen files.new)) }
     ensures stays { GoesOn (F.seen files.old) (F.seen files.new) }
+    ensures read { (F.seen files.new).reads ≡ raised_by 1 (F.seen files.old).reads }
 {
     let mut bytes = Vec::new(alloc);
     match files.read(alloc, name, format.size(), &mut bytes) {

@@ -6,7 +6,7 @@ ghost use Rattle.element_lang.specs.Rules.{is_good};
 ghost use Rattle.gallium_cli.specs.Words.{request_of, Run, Replay};
 ghost use Rattle.gallium_cli.specs.Roles.{files_of};
 ghost use Rattle.gallium_cli.specs.Answers.{IsInput, IsJob, IsReport, serial_answer};
-ghost use Rattle.gallium_cli.specs.Loads.{GoesOn};
+ghost use Rattle.gallium_cli.specs.Loads.{GoesOn, raised_by};
 ghost use Rattle.gallium_cli.specs.Puts.{IsPut, IsNotPut};
 ghost use Rattle.gallium_cli.specs.Causes.{HasCause, IsDone, IsFirstRefused};
 ghost use Rattle.gallium_cli.specs.Call.{Call};
@@ -52,6 +52,8 @@ fn load_input<'a, F: Files>(
     ensures err { IfErr result (λ refusal. IsFirstRefused refusal (files_of (Run source.now trace.now))
         (F.seen files.old) (F.seen files.new)) }
     ensures stays { GoesOn (F.seen files.old) (F.seen files.new) }
+    ensures read { OnOk result ((F.seen files.new).reads ≡ raised_by 2 (F.seen files.old).reads) }
+    ensures few_reads { (F.seen files.new).reads ≤ raised_by 2 (F.seen files.old).reads }
 {
     let middlebox = load(alloc, files, &SourceFormat, source)?;
     match load(alloc, files, &TraceFormat, trace) {
@@ -77,6 +79,8 @@ fn load_job<'a, F: Files>(
     ensures few_events { IfOk result (λ job. length job.events ≤ 1048576) }
     ensures err { IfErr result (λ refusal. IsFirstRefused refusal
         (files_of (Replay source.now trace.now schedule.now)) (F.seen files.old) (F.seen files.new)) }
+    ensures read { OnOk result ((F.seen files.new).reads ≡ raised_by 3 (F.seen files.old).reads) }
+    ensures few_reads { (F.seen files.new).reads ≤ raised_by 3 (F.seen files.old).reads }
 {
     let (middlebox, packets) = load_input(alloc, source, trace, files)?;
     match load(alloc, files, &ScheduleFormat, schedule) {
