@@ -14,7 +14,7 @@ use Rattle.gallium_cli.specs.Lines.{status_of}
 use Rattle.gallium_cli.specs.Words.{Request, request_of}
 use Rattle.gallium_cli.specs.Roles.{Role, files_of}
 use Rattle.gallium_cli.specs.Causes.{IsFirstRefused, IsDone, HasCause, after_line, EndsFor, Ends}
-use Rattle.gallium_cli.specs.Promises.{IsWriteFault, BlamesInput, IsReadOnce, IsUsage, Promises}
+use Rattle.gallium_cli.specs.Promises.{IsWriteFault, BlamesInput, IsReadOnce, IsUsage, IsOneOf, IsBlamed, Promises}
 use Rattle.gallium_cli.proofs.Written.{at_most}
 use Rattle.gallium_cli.proofs.Exact.{unwritten, exact_ends, complete_ends}
 use Rattle.gallium_cli.proofs.CauseTold.{cause_told}
@@ -144,10 +144,12 @@ told_read_fault refusal ends.Failed h = absurd h
 told_read_fault refusal ends.NoMemory h = absurd h
 
 long_rose : (refusal : Refusal) (files : List (List ℕ × Role)) (f f' : FilesState)
-    → IsTooLong (status_of refusal) → IsFirstRefused refusal files f f' → Rose f.overlong f'.overlong
+    → IsTooLong (status_of refusal) → IsFirstRefused refusal files f f'
+    → Rose f.overlong f'.overlong × IsOneOf files f'.overlong_name
 long_rose (TooLong name) [] f f' is h = absurd h
-long_rose (TooLong name) (file ∷ files) f f' is (inl h) = h.3
-long_rose (TooLong name) (file ∷ files) f f' is (inr later) = long_rose (TooLong name) files f f' is later.1
+long_rose (TooLong name) (file ∷ files) f f' is (inl h) = (h.3, inl h.2)
+long_rose (TooLong name) (file ∷ files) f f' is (inr later) =
+    let rest = long_rose (TooLong name) files f f' is later.1 in (rest.0, inr rest.1)
 long_rose Usage files f f' is h = absurd is
 long_rose (Source fault) files f f' is h = absurd is
 long_rose Trace files f f' is h = absurd is
@@ -157,10 +159,12 @@ long_rose WriteFault files f f' is h = absurd is
 long_rose NoMemory files f f' is h = absurd is
 
 fault_rose : (refusal : Refusal) (files : List (List ℕ × Role)) (f f' : FilesState)
-    → IsReadFault (status_of refusal) → IsFirstRefused refusal files f f' → Rose f.faults f'.faults
+    → IsReadFault (status_of refusal) → IsFirstRefused refusal files f f'
+    → Rose f.faults f'.faults × IsOneOf files f'.fault_name
 fault_rose (ReadFault name) [] f f' is h = absurd h
-fault_rose (ReadFault name) (file ∷ files) f f' is (inl h) = h.2
-fault_rose (ReadFault name) (file ∷ files) f f' is (inr later) = fault_rose (ReadFault name) files f f' is later.1
+fault_rose (ReadFault name) (file ∷ files) f f' is (inl h) = (h.2, inl h.1)
+fault_rose (ReadFault name) (file ∷ files) f f' is (inr later) =
+    let rest = fault_rose (ReadFault name) files f f' is later.1 in (rest.0, inr rest.1)
 fault_rose Usage files f f' is h = absurd is
 fault_rose (Source fault) files f f' is h = absurd is
 fault_rose Trace files f f' is h = absurd is
@@ -180,7 +184,8 @@ write_not_read statuses.NoMemory written h = h
 write_not_read _ written h = written
 
 too_long_ends : (request : Option Request) (status : Status) (call : Call)
-    → EndsFor request status call → IsTooLong status → Rose call.files.overlong call.files_after.overlong
+    → EndsFor request status call → IsTooLong status
+    → IsBlamed request call.files.overlong call.files_after.overlong call.files_after.overlong_name
 too_long_ends request status call (inl done) long = absurd (subst IsTooLong done.0 long)
 too_long_ends None status call (inr (refusal, cause, (end, is, written))) long =
     absurd (subst (λ r. IsTooLong (status_of r)) cause.0 (told_long refusal end (subst IsTooLong is long)))
@@ -193,7 +198,8 @@ too_long_ends (Some request) status call (inr (refusal, (inr unput, few), (end, 
     )
 
 read_fault_ends : (request : Option Request) (status : Status) (call : Call)
-    → EndsFor request status call → IsReadFault status → Rose call.files.faults call.files_after.faults
+    → EndsFor request status call → IsReadFault status
+    → IsBlamed request call.files.faults call.files_after.faults call.files_after.fault_name
 read_fault_ends request status call (inl done) fault = absurd (subst IsReadFault done.0 fault)
 read_fault_ends None status call (inr (refusal, cause, (end, is, written))) fault =
     absurd (subst (λ r. IsReadFault (status_of r)) cause.0 (told_read_fault refusal end (subst IsReadFault is fault)))

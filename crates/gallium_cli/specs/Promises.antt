@@ -96,6 +96,16 @@ IsReadOnce (Some request) result f f' =
     (f'.reads ≤ raised_by (length (files_of request)) f.reads)
     × (result ≡ Done → f'.reads ≡ raised_by (length (files_of request)) f.reads)
 
+-- the blamed name is that of one of these files
+abbrev pub IsOneOf : List (List ℕ × Role) → Option (List ℕ) → Type 0
+IsOneOf [] blamed = ⊥
+IsOneOf (file ∷ files) blamed = (blamed ≡ Some file.0) ⊎ IsOneOf files blamed
+
+-- a count of files rose, and blames one that the request names
+abbrev pub IsBlamed : Option Request → ℕ → ℕ → Option (List ℕ) → Type 0
+IsBlamed None before now blamed = ⊥
+IsBlamed (Some request) before now blamed = Rose before now × IsOneOf (files_of request) blamed
+
 -- What is promised of a call that ends in this status. The first part says the whole of it: why it ended so, and what
 -- it left on both sinks. The others are read off it.
 pub record Promises (status : Status) (call : Call) : Type 0 where
@@ -114,7 +124,9 @@ pub record Promises (status : Status) (call : Call) : Type 0 where
   pub cause : IsCauseTold (request_of call.words) call.files status call.err call.err_after
   pub complete : IsComplete (request_of call.words) call.files status
   -- which count rose, whether or not anything is told
-  pub too_long : status ≡ TooLong → Rose call.files.overlong call.files_after.overlong
-  pub read_fault : status ≡ ReadFault → Rose call.files.faults call.files_after.faults
+  pub too_long : status ≡ TooLong
+      → IsBlamed (request_of call.words) call.files.overlong call.files_after.overlong call.files_after.overlong_name
+  pub read_fault : status ≡ ReadFault
+      → IsBlamed (request_of call.words) call.files.faults call.files_after.faults call.files_after.fault_name
   pub write_fault : status ≡ WriteFault
       → Rose call.out.faults call.out_after.faults ⊎ Rose call.err.faults call.err_after.faults
