@@ -87,7 +87,7 @@ first_refused refusal name files fault result f f' e e' some bad (inr later) tol
     absurd (not_good (f.told name) fault bad later.0)
 
 pub cause_told : (request : Option Request) (result : Status) (call : Call)
-    → EndsFor request result call → IsCauseTold request call.files result call.err call.err_after
+    → EndsFor request result call → IsCauseTold request result call
 cause_told None result call end = tt
 cause_told (Some (Run s t)) result call (inl (is, (text, (m, packets, input, answer), taken, read), silent)) =
     λ fault some bad. absurd (not_good (call.files.told s) fault bad (good_source (call.files.told s) m input.source))

@@ -172,7 +172,7 @@ job_not_bad told s t c m packets events status job (inr (good, inr (also, inr no
 
 -- the first bad content that is told decides the status
 pub exact_ends : (request : Option Request) (result : Status) (call : Call)
-    → EndsFor request result call → IsExact request call.files result
+    → EndsFor request result call → IsExact request result call
 exact_ends None result call end = tt
 exact_ends (Some (Run s t)) result call (inl (is, (text, (m, packets, input, answer), taken, read), silent)) =
     λ status bad. absurd (input_not_bad call.files.told s t m packets status input bad)
@@ -193,7 +193,7 @@ good_files refusal (file ∷ files) f f' good (inl refused) = good_refused refus
 good_files refusal (file ∷ files) f f' good (inr later) = good_files refusal files f f' good.1 later.1
 
 pub complete_ends : (request : Option Request) (result : Status) (call : Call)
-    → EndsFor request result call → IsComplete request call.files result
+    → EndsFor request result call → IsComplete request result call
 complete_ends None result call end = tt
 complete_ends (Some request) result call (inl done) = λ good. inl done.0
 complete_ends (Some request) result call (inr (refusal, (inl first, few), told)) = λ good.

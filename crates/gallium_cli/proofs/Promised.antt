@@ -248,7 +248,7 @@ write_fault_ends request status call (inr (refusal, cause, (ends.NoMemory, is, w
 -- ## How often files are read
 
 once_ends : (request : Option Request) (status : Status) (call : Call)
-    → EndsFor request status call → IsReadOnce request status call.files call.files_after
+    → EndsFor request status call → IsReadOnce request status call
 once_ends None status call (inl done) = absurd done.1
 once_ends None status call (inr (refusal, cause, told)) = cause.1
 once_ends (Some request) status call (inl (is, (text, answer, taken, read), silent)) = (at_most _ _ read, λ _. read)

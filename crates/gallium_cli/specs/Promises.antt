@@ -2,8 +2,6 @@
 use Rattle.std.specs.Prelude.{◌≡◌, ◌<◌, ◌≤◌, ◌⊎◌, ◌≢◌, ℕ, List, [], ◌∷◌, length, Option, Some, None, IsSomeAnd}
 use Rattle.std.specs.Io.KnownBytes.{append_known}
 use Rattle.gal_io.specs.Count.{Rose}
-use Rattle.gal_io.specs.Files.{FilesState}
-use Rattle.gal_io.specs.Sink.{SinkState}
 use Rattle.element_text.specs.Refused.{IsRefused}
 use Rattle.element_text.specs.declared.error.TextError.{TextError}
 use Rattle.element_text.specs.declared.error.TextError.TheVariants as errors
@@ -70,31 +68,31 @@ IsUsage None result = (result ≡ Usage) ⊎ IsWriteFault result
 IsUsage (Some request) result = result ≢ Usage
 
 -- where every content of a request is told and good, it is done unless there is a fault
-abbrev pub IsComplete : Option Request → FilesState → Status → Type 0
-IsComplete None f result = Unit {0}
-IsComplete (Some request) f result = AllGood f.told (files_of request) → IsUnlessFault Done result
+abbrev pub IsComplete : Option Request → Status → Call → Type 0
+IsComplete None result call = Unit {0}
+IsComplete (Some request) result call = AllGood call.files.told (files_of request) → IsUnlessFault Done result
 
 -- where the first bad content of a request is told, its status is answered unless there is a fault
-abbrev pub IsExact : Option Request → FilesState → Status → Type 0
-IsExact None f result = Unit {0}
-IsExact (Some request) f result =
-    (status : Status) → IsFirstBad f.told (files_of request) status → IsUnlessFault status result
+abbrev pub IsExact : Option Request → Status → Call → Type 0
+IsExact None result call = Unit {0}
+IsExact (Some request) result call =
+    (status : Status) → IsFirstBad call.files.told (files_of request) status → IsUnlessFault status result
 
 -- where the told source of a request is bad, for this cause, err receives the line of that cause, unless there is a
 -- fault
-abbrev pub IsCauseTold : Option Request → FilesState → Status → SinkState → SinkState → Type 0
-IsCauseTold None f result e e' = Unit {0}
-IsCauseTold (Some request) f result e e' =
+abbrev pub IsCauseTold : Option Request → Status → Call → Type 0
+IsCauseTold None result call = Unit {0}
+IsCauseTold (Some request) result call =
     (fault : TextError) → fault ≢ errors.NoMemory
-    → IsSomeAnd (f.told (source_of request)) (λ text. IsBad source text × IsRefused text fault)
-    → ((result ≡ Source) × (e'.taken ≡ append_known e.taken (source_line fault))) ⊎ IsFault result
+    → IsSomeAnd (call.files.told (source_of request)) (λ text. IsBad source text × IsRefused text fault)
+    → ((result ≡ Source) × (call.err_after.taken ≡ append_known call.err.taken (source_line fault))) ⊎ IsFault result
 
 -- there is at most one read for each file of a request, and where it is done, just one; with no request there is none
-abbrev pub IsReadOnce : Option Request → Status → FilesState → FilesState → Type 0
-IsReadOnce None result f f' = f' ≡ f
-IsReadOnce (Some request) result f f' =
-    (f'.reads ≤ raised_by (length (files_of request)) f.reads)
-    × (result ≡ Done → f'.reads ≡ raised_by (length (files_of request)) f.reads)
+abbrev pub IsReadOnce : Option Request → Status → Call → Type 0
+IsReadOnce None result call = call.files_after ≡ call.files
+IsReadOnce (Some request) result call =
+    let all = raised_by (length (files_of request)) call.files.reads in
+    (call.files_after.reads ≤ all) × (result ≡ Done → call.files_after.reads ≡ all)
 
 -- the blamed name is that of one of these files
 abbrev pub IsOneOf : List (List ℕ × Role) → Option (List ℕ) → Type 0
@@ -117,12 +115,12 @@ pub record Promises (status : Status) (call : Call) : Type 0 where
   -- out is as it was, its count too
   pub untouched : BlamesInput status → call.out_after ≡ call.out
   -- each file is read once
-  pub once : IsReadOnce (request_of call.words) status call.files call.files_after
+  pub once : IsReadOnce (request_of call.words) status call
   -- which status comes, by the words and the told texts
   pub usage : IsUsage (request_of call.words) status
-  pub exact : IsExact (request_of call.words) call.files status
-  pub cause : IsCauseTold (request_of call.words) call.files status call.err call.err_after
-  pub complete : IsComplete (request_of call.words) call.files status
+  pub exact : IsExact (request_of call.words) status call
+  pub cause : IsCauseTold (request_of call.words) status call
+  pub complete : IsComplete (request_of call.words) status call
   -- which count rose, whether or not anything is told
   pub too_long : status ≡ TooLong
       → IsBlamed (request_of call.words) call.files.overlong call.files_after.overlong call.files_after.overlong_name
