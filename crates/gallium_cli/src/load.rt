@@ -12,10 +12,13 @@ pub trait Format {
     /// What such a text spells.
     type Value: Drop;
 
+    // The role of such a file among those of a command.
     ghost role: { Self → Role };
 
+    // The text spells the value.
     ghost spells: { Self → List ℕ → Self.Value → Type 0 };
 
+    // What holds of every value that is read, whether or not the file tells its content.
     ghost sound: { Self.Value → Type 0 };
 
     /// The most bytes of such a file.
@@ -29,7 +32,7 @@ pub trait Format {
         ensures err { IfErr result (λ refusal. IsUnread refusal (role self.now) text.now) };
 }
 
-/// What the file of a name spells.
+/// What the file of a name spells. The file is read once, whatever comes of it.
 pub fn load<'a, T: Format, F: Files>(
     alloc: Global,
     files: &mut F,

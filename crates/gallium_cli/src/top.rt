@@ -185,7 +185,8 @@ fn perform<'a, F: Files, O: Sink>(
 }
 
 /// Does what the words after the program's name ask for, and answers how that ended. On Done, `out` has received one
-/// whole text. With every other status `err` receives one line.
+/// whole text. With every other status `err` receives one line. What is promised of a whole call, from its cause to what
+/// it leaves on both sinks, are the parts of `Promises`.
 pub fn gallium<F: Files, O: Sink, E: Sink>(
     alloc: Global,
     words: &[String],
@@ -201,8 +202,7 @@ pub fn gallium<F: Files, O: Sink, E: Sink>(
       files_after = F.seen files.new;
       out_after = O.seen out.new;
       err_after = E.seen err.new;
-    } in
-        Promises result call }
+    } in Promises result call }
 {
     match perform(alloc, words, files, out) {
         Ok(()) => Status::Done,
