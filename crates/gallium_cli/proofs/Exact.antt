@@ -1,5 +1,6 @@
 -- Which status told files lead to.
-use Rattle.std.proofs.Common.{◌≡◌, ◌<◌, ℕ, List, [], ◌∷◌, length, Option, Some, None, IfSome, IsSomeAnd, subst, sym, inl, inr, arith}
+use Rattle.std.proofs.Common.{◌≡◌, ◌<◌, ℕ, List, [], ◌∷◌, length, Option, Some, None, IfSome, IsSomeAnd, subst, sym}
+use Rattle.std.proofs.Common.{inl, inr, arith}
 use Rattle.gal_io.specs.Files.{FilesState}
 use Rattle.gal_io.specs.Sink.{SinkState}
 use Rattle.gal_io.specs.declared.sink.SinkEnd.{SinkEnd}
@@ -11,21 +12,30 @@ use Rattle.element_text.specs.declared.error.TextError.{TextError}
 use Rattle.gallium_cli.specs.declared.status.Status.{Status}
 use Rattle.gallium_cli.specs.declared.status.Status.TheVariants as statuses
 use Rattle.gallium_cli.specs.declared.refusal.Refusal.{Refusal}
-use Rattle.gallium_cli.specs.declared.refusal.Refusal.TheVariants.{Usage, Source, Trace, Schedule, TooLong, ReadFault, WriteFault, NoMemory}
+use Rattle.gallium_cli.specs.declared.refusal.Refusal.TheVariants.{Usage, Source, Trace, Schedule, TooLong, ReadFault}
+use Rattle.gallium_cli.specs.declared.refusal.Refusal.TheVariants.{WriteFault, NoMemory}
+use Rattle.gallium_cli.specs.Call.{Call}
 use Rattle.gallium_cli.specs.Lines.{status_of}
 use Rattle.gallium_cli.specs.Words.{Request, Run, Replay}
-use Rattle.gallium_cli.specs.Causes.{Role, source, trace, schedule, size_of, files_of, IsGood, IsBad, IsFileRefused, IsFirstRefused, IsBadSource, IsInput, IsJob, IsNotWritten, after_line, IsTold, Ends, IsFault, IsUnlessFault, refused_status, IsRefusedAs, IsFirstBad, IsExact}
+use Rattle.gallium_cli.specs.Roles.{Role, source, trace, schedule, size_of, files_of, IsGood, IsBad}
+use Rattle.gallium_cli.specs.Answers.{IsInput, IsJob}
+use Rattle.gallium_cli.specs.Loads.{IsFileRefused, IsBadSource}
+use Rattle.gallium_cli.specs.Causes.{IsFirstRefused, IsNotWritten, after_line, IsTold, EndsFor}
+use Rattle.gallium_cli.specs.Promises.{IsWriteFault, IsFault, IsUnlessFault, refused_status, IsRefusedAs, IsFirstBad}
+use Rattle.gallium_cli.specs.Promises.{AllGood, IsExact, IsComplete}
 
 -- a text isn't good and refused
 good_not_bad : (role : Role) (told : Option (List ℕ)) → IsSomeAnd told (IsGood role) → IfSome told (IsBad role) → ⊥
 good_not_bad role None good bad = good
 good_not_bad role (Some text) good bad = bad.1 good.1
 
-good_not_long : (role : Role) (told : Option (List ℕ)) → IsSomeAnd told (IsGood role) → IfSome told (λ text. size_of role < length text) → ⊥
+good_not_long : (role : Role) (told : Option (List ℕ)) → IsSomeAnd told (IsGood role)
+    → IfSome told (λ text. size_of role < length text) → ⊥
 good_not_long role None good long = good
 good_not_long role (Some text) good long = let short = good.0 in omega arith
 
-good_not_refused : (role : Role) (status : Status) (told : Option (List ℕ)) → IfSome told (IsGood role) → IsSomeAnd told (IsRefusedAs role status) → ⊥
+good_not_refused : (role : Role) (status : Status) (told : Option (List ℕ)) → IfSome told (IsGood role)
+    → IsSomeAnd told (IsRefusedAs role status) → ⊥
 good_not_refused role status None good refused = refused
 good_not_refused role status (Some text) good (inl long) = let short = good.0 in let above = long.1 in omega arith
 good_not_refused role status (Some text) good (inr bad) = bad.1.1 good.1
@@ -35,8 +45,10 @@ is_bad fault None bad = bad
 is_bad fault (Some text) bad = bad.0
 
 -- what is refused of a good file is a fault
-good_refused : (refusal : Refusal) (role : Role) (name : List ℕ) (f f' : FilesState) → IsSomeAnd (f.told name) (IsGood role) → IsFileRefused refusal role name f f' → IsFault (status_of refusal)
-good_refused (Source fault) source name f f' good refused = good_not_bad source (f.told name) good (is_bad fault (f.told name) refused)
+good_refused : (refusal : Refusal) (role : Role) (name : List ℕ) (f f' : FilesState)
+    → IsSomeAnd (f.told name) (IsGood role) → IsFileRefused refusal role name f f' → IsFault (status_of refusal)
+good_refused (Source fault) source name f f' good refused =
+    good_not_bad source (f.told name) good (is_bad fault (f.told name) refused.1)
 good_refused (Source fault) trace name f f' good refused = refused
 good_refused (Source fault) schedule name f f' good refused = refused
 good_refused Trace source name f f' good refused = refused
@@ -52,20 +64,24 @@ good_refused Usage role name f f' good refused = refused
 good_refused WriteFault role name f f' good refused = absurd refused
 
 -- a text that is refused for its size isn't refused for what it spells, and the other way round
-long_only : (role : Role) (status : Status) (told : Option (List ℕ)) → IsSomeAnd told (IsRefusedAs role status) → IfSome told (λ text. size_of role < length text) → status ≡ statuses.TooLong
+long_only : (role : Role) (status : Status) (told : Option (List ℕ)) → IsSomeAnd told (IsRefusedAs role status)
+    → IfSome told (λ text. size_of role < length text) → status ≡ statuses.TooLong
 long_only role status None refused long = absurd refused
 long_only role status (Some text) (inl here) long = here.0
 long_only role status (Some text) (inr bad) long = let short = bad.1.0 in absurd (omega arith)
 
-bad_only : (role : Role) (status : Status) (told : Option (List ℕ)) → IsSomeAnd told (IsRefusedAs role status) → IfSome told (IsBad role) → status ≡ refused_status role
+bad_only : (role : Role) (status : Status) (told : Option (List ℕ)) → IsSomeAnd told (IsRefusedAs role status)
+    → IfSome told (IsBad role) → status ≡ refused_status role
 bad_only role status None refused bad = absurd refused
 bad_only role status (Some text) (inl long) bad = let short = bad.0 in let above = long.1 in absurd (omega arith)
 bad_only role status (Some text) (inr here) bad = here.0
 
 -- the status of a refused file is the one that its told text has, or a fault
-exact_file : (refusal : Refusal) (role : Role) (name : List ℕ) (status : Status) (f f' : FilesState) → IsSomeAnd (f.told name) (IsRefusedAs role status) → IsFileRefused refusal role name f f'
+exact_file : (refusal : Refusal) (role : Role) (name : List ℕ) (status : Status) (f f' : FilesState)
+    → IsSomeAnd (f.told name) (IsRefusedAs role status) → IsFileRefused refusal role name f f'
     → IsUnlessFault status (status_of refusal)
-exact_file (Source fault) source name status f f' bad refused = inl (sym (bad_only source status (f.told name) bad (is_bad fault (f.told name) refused)))
+exact_file (Source fault) source name status f f' bad refused =
+    inl (sym (bad_only source status (f.told name) bad (is_bad fault (f.told name) refused.1)))
 exact_file (Source fault) trace name status f f' bad refused = absurd refused
 exact_file (Source fault) schedule name status f f' bad refused = absurd refused
 exact_file Trace source name status f f' bad refused = absurd refused
@@ -73,22 +89,30 @@ exact_file Trace trace name status f f' bad refused = inl (sym (bad_only trace s
 exact_file Trace schedule name status f f' bad refused = absurd refused
 exact_file Schedule source name status f f' bad refused = absurd refused
 exact_file Schedule trace name status f f' bad refused = absurd refused
-exact_file Schedule schedule name status f f' bad refused = inl (sym (bad_only schedule status (f.told name) bad refused))
-exact_file (TooLong blamed) role name status f f' bad refused = inl (sym (long_only role status (f.told name) bad refused.1))
+exact_file Schedule schedule name status f f' bad refused =
+    inl (sym (bad_only schedule status (f.told name) bad refused))
+exact_file (TooLong blamed) role name status f f' bad refused =
+    inl (sym (long_only role status (f.told name) bad refused.1))
 exact_file (ReadFault blamed) role name status f f' bad refused = inr tt
 exact_file NoMemory role name status f f' bad refused = inr tt
 exact_file Usage role name status f f' bad refused = absurd refused
 exact_file WriteFault role name status f f' bad refused = absurd refused
 
-exact_files : (refusal : Refusal) (files : List (List ℕ × Role)) (status : Status) (f f' : FilesState) → IsFirstBad f.told files status → IsFirstRefused refusal files f f' → IsUnlessFault status (status_of refusal)
+exact_files : (refusal : Refusal) (files : List (List ℕ × Role)) (status : Status) (f f' : FilesState)
+    → IsFirstBad f.told files status → IsFirstRefused refusal files f f' → IsUnlessFault status (status_of refusal)
 exact_files refusal [] status f f' bad refused = absurd bad
-exact_files refusal (file ∷ files) status f f' (inl here) (inl refused) = exact_file refusal file.1 file.0 status f f' here refused
-exact_files refusal (file ∷ files) status f f' (inl here) (inr later) = absurd (good_not_refused file.1 status (f.told file.0) later.0 here)
-exact_files refusal (file ∷ files) status f f' (inr bad) (inl refused) = inr (good_refused refusal file.1 file.0 f f' bad.0 refused)
-exact_files refusal (file ∷ files) status f f' (inr bad) (inr later) = exact_files refusal files status f f' bad.1 later.1
+exact_files refusal (file ∷ files) status f f' (inl here) (inl refused) =
+    exact_file refusal file.1 file.0 status f f' here refused
+exact_files refusal (file ∷ files) status f f' (inl here) (inr later) =
+    absurd (good_not_refused file.1 status (f.told file.0) later.0 here)
+exact_files refusal (file ∷ files) status f f' (inr bad) (inl refused) =
+    inr (good_refused refusal file.1 file.0 f f' bad.0 refused)
+exact_files refusal (file ∷ files) status f f' (inr bad) (inr later) =
+    exact_files refusal files status f f' bad.1 later.1
 
--- an answer that wasn't written is a fault
-pub unwritten : (refusal : Refusal) (request : Request) (f : FilesState) (o o' : SinkState) → IsNotWritten refusal request f o o' → IsFault (status_of refusal)
+-- an answer that wasn't written is a fault of writing
+pub unwritten : (refusal : Refusal) (request : Request) (f : FilesState) (o o' : SinkState)
+    → IsNotWritten refusal request f o o' → IsWriteFault (status_of refusal)
 unwritten WriteFault request f o o' h = tt
 unwritten NoMemory request f o o' h = tt
 unwritten Usage request f o o' h = h
@@ -98,39 +122,83 @@ unwritten Schedule request f o o' h = h
 unwritten (TooLong name) request f o o' h = absurd h
 unwritten (ReadFault name) request f o o' h = absurd h
 
+pub write_is_fault : (status : Status) → IsWriteFault status → IsFault status
+write_is_fault statuses.WriteFault h = tt
+write_is_fault statuses.NoMemory h = tt
+write_is_fault statuses.Done h = h
+write_is_fault statuses.Usage h = h
+write_is_fault statuses.Source h = h
+write_is_fault statuses.Trace h = h
+write_is_fault statuses.Schedule h = h
+write_is_fault statuses.TooLong h = h
+write_is_fault statuses.ReadFault h = tt
+
 -- the line of a refusal brings nothing but faults
-told_status : (refusal : Refusal) (end : SinkEnd) (status : Status) → IsUnlessFault status (status_of refusal) → IsUnlessFault status (after_line refusal end)
+told_status : (refusal : Refusal) (end : SinkEnd) (status : Status) → IsUnlessFault status (status_of refusal)
+    → IsUnlessFault status (after_line refusal end)
 told_status refusal ends.Done status h = h
 told_status refusal ends.Failed status h = inr tt
 told_status refusal ends.NoMemory status h = inr tt
 
-of_told : (status result : Status) (refusal : Refusal) (e e' : SinkState) → IsTold refusal result e e' → IsUnlessFault status (status_of refusal) → IsUnlessFault status result
-of_told status result refusal e e' told h = subst (IsUnlessFault status) (sym told.1) (told_status refusal told.0 status h)
+of_told : (status result : Status) (refusal : Refusal) (e e' : SinkState) → IsTold refusal result e e'
+    → IsUnlessFault status (status_of refusal) → IsUnlessFault status result
+of_told status result refusal e e' told h =
+    subst (IsUnlessFault status) (sym told.1) (told_status refusal told.0 status h)
 
 -- a job's files are good as far as they are told
-good_told : {P : List ℕ → Type 0} (role : Role) (status : Status) (told : Option (List ℕ)) → ((text : List ℕ) → P text → IsGood role text) → IfSome told P → IsSomeAnd told (IsRefusedAs role status) → ⊥
+good_told : {P : List ℕ → Type 0} (role : Role) (status : Status) (told : Option (List ℕ))
+    → ((text : List ℕ) → P text → IsGood role text) → IfSome told P → IsSomeAnd told (IsRefusedAs role status) → ⊥
 good_told {P} role status None good spelled refused = refused
-good_told {P} role status (Some text) good spelled refused = good_not_refused role status (Some text) (good text spelled) refused
+good_told {P} role status (Some text) good spelled refused =
+    good_not_refused role status (Some text) (good text spelled) refused
 
 input_not_bad : (told : List ℕ → Option (List ℕ)) (s t : List ℕ) (m : Tree) (packets : List Packet) (status : Status)
     → IsInput told s t m packets → IsFirstBad told (files_of (Run s t)) status → ⊥
-input_not_bad told s t m packets status input (inl bad) = good_told source status (told s) (λ text spelled. (spelled.0, (m, spelled.1))) input.source bad
-input_not_bad told s t m packets status input (inr (good, inl bad)) = good_told trace status (told t) (λ text spelled. (spelled.0, (packets, spelled.1))) input.trace bad
+input_not_bad told s t m packets status input (inl bad) =
+    good_told source status (told s) (λ text spelled. (spelled.0, (m, spelled.1))) input.source bad
+input_not_bad told s t m packets status input (inr (good, inl bad)) =
+    good_told trace status (told t) (λ text spelled. (spelled.0, (packets, spelled.1))) input.trace bad
 input_not_bad told s t m packets status input (inr (good, inr none)) = none.1
 
 job_not_bad : (told : List ℕ → Option (List ℕ)) (s t c : List ℕ) (m : Tree) (packets : List Packet) (events : List Event) (status : Status)
     → IsJob told s t c m packets events → IsFirstBad told (files_of (Replay s t c)) status → ⊥
-job_not_bad told s t c m packets events status job (inl bad) = good_told source status (told s) (λ text spelled. (spelled.0, (m, spelled.1))) job.input.source bad
-job_not_bad told s t c m packets events status job (inr (good, inl bad)) = good_told trace status (told t) (λ text spelled. (spelled.0, (packets, spelled.1))) job.input.trace bad
-job_not_bad told s t c m packets events status job (inr (good, inr (also, inl bad))) = good_told schedule status (told c) (λ text spelled. (spelled.0, (events, spelled.1))) job.schedule bad
+job_not_bad told s t c m packets events status job (inl bad) =
+    good_told source status (told s) (λ text spelled. (spelled.0, (m, spelled.1))) job.input.source bad
+job_not_bad told s t c m packets events status job (inr (good, inl bad)) =
+    good_told trace status (told t) (λ text spelled. (spelled.0, (packets, spelled.1))) job.input.trace bad
+job_not_bad told s t c m packets events status job (inr (good, inr (also, inl bad))) =
+    good_told schedule status (told c) (λ text spelled. (spelled.0, (events, spelled.1))) job.schedule bad
 job_not_bad told s t c m packets events status job (inr (good, inr (also, inr none))) = none.1
 
 -- the first bad content that is told decides the status
-pub exact_ends : (request : Option Request) (result : Status) (f f' : FilesState) (o o' e e' : SinkState) → Ends result request f f' o o' e e' → IsExact request f result
-exact_ends None result f f' o o' e e' end = tt
-exact_ends (Some (Run s t)) result f f' o o' e e' (inl (is, (text, (m, packets, input, answer), taken), silent)) =
-    λ status bad. absurd (input_not_bad f.told s t m packets status input bad)
-exact_ends (Some (Replay s t c)) result f f' o o' e e' (inl (is, (text, (m, packets, events, job, report), taken), silent)) =
-    λ status bad. absurd (job_not_bad f.told s t c m packets events status job bad)
-exact_ends (Some request) result f f' o o' e e' (inr (refusal, inl first, told)) = λ status bad. of_told status result refusal e e' told (exact_files refusal (files_of request) status f f' bad first.0)
-exact_ends (Some request) result f f' o o' e e' (inr (refusal, inr unput, told)) = λ status bad. of_told status result refusal e e' told (inr (unwritten refusal request f o o' unput))
+pub exact_ends : (request : Option Request) (result : Status) (call : Call)
+    → EndsFor request result call → IsExact request result call
+exact_ends None result call end = tt
+exact_ends (Some (Run s t)) result call (inl (is, (text, (m, packets, input, answer), taken, read), silent)) =
+    λ status bad. absurd (input_not_bad call.files.told s t m packets status input bad)
+exact_ends (Some (Replay s t c)) result call (inl (is, (text, (m, packets, events, job, report), taken, read), silent)) =
+    λ status bad. absurd (job_not_bad call.files.told s t c m packets events status job bad)
+exact_ends (Some request) result call (inr (refusal, (inl first, few), told)) = λ status bad.
+    of_told status result refusal call.err call.err_after told
+    (exact_files refusal (files_of request) status call.files call.files_after bad first.0)
+exact_ends (Some request) result call (inr (refusal, (inr unput, few), told)) = λ status bad.
+    of_told status result refusal call.err call.err_after told
+    (inr (write_is_fault (status_of refusal) (unwritten refusal request call.files call.out call.out_after unput)))
+
+-- what is refused of good files is a fault
+good_files : (refusal : Refusal) (files : List (List ℕ × Role)) (f f' : FilesState)
+    → AllGood f.told files → IsFirstRefused refusal files f f' → IsFault (status_of refusal)
+good_files refusal [] f f' good refused = absurd refused
+good_files refusal (file ∷ files) f f' good (inl refused) = good_refused refusal file.1 file.0 f f' good.0 refused
+good_files refusal (file ∷ files) f f' good (inr later) = good_files refusal files f f' good.1 later.1
+
+pub complete_ends : (request : Option Request) (result : Status) (call : Call)
+    → EndsFor request result call → IsComplete request result call
+complete_ends None result call end = tt
+complete_ends (Some request) result call (inl done) = λ good. inl done.0
+complete_ends (Some request) result call (inr (refusal, (inl first, few), told)) = λ good.
+    of_told statuses.Done result refusal call.err call.err_after told
+    (inr (good_files refusal (files_of request) call.files call.files_after good first.0))
+complete_ends (Some request) result call (inr (refusal, (inr unput, few), told)) = λ good.
+    of_told statuses.Done result refusal call.err call.err_after told
+    (inr (write_is_fault (status_of refusal) (unwritten refusal request call.files call.out call.out_after unput)))

@@ -1,5 +1,6 @@
 -- What the reading of one file shows, and of several one after another.
-use Rattle.std.proofs.Common.{◌≡◌, ◌≤◌, ◌<◌, ◌^◌, ℕ, List, length, map, Option, Some, None, IfSome, subst, ap, inl, inr, arith, Ok}
+use Rattle.std.proofs.Common.{◌≡◌, ◌≤◌, ◌<◌, ◌^◌, ℕ, List, length, map, Option, Some, None, IfSome, subst, ap, inl, inr}
+use Rattle.std.proofs.Common.{arith, Ok}
 use Rattle.std.proofs.lemmas.List.{length-map}
 use Rattle.gal_io.specs.Files.{FilesState}
 use Rattle.packet_fields.specs.declared.packet.Packet.{Packet}
@@ -9,10 +10,13 @@ use Rattle.state_store.specs.declared.object.ObjectDecl.{ObjectDecl}
 use Rattle.element_lang.specs.Accepted.{IsSource}
 use Rattle.run_text.specs.Trace.{trace_of}
 use Rattle.gallium_cli.specs.declared.refusal.Refusal.{Refusal}
-use Rattle.gallium_cli.specs.declared.refusal.Refusal.TheVariants.{Usage, Source, Trace, Schedule, TooLong, ReadFault, WriteFault, NoMemory}
+use Rattle.gallium_cli.specs.declared.refusal.Refusal.TheVariants.{Usage, Source, Trace, Schedule, TooLong, ReadFault}
+use Rattle.gallium_cli.specs.declared.refusal.Refusal.TheVariants.{WriteFault, NoMemory}
 use Rattle.gallium_cli.specs.Words.{Run, Replay}
-use Rattle.gallium_cli.specs.Loads.{GoesOn}
-use Rattle.gallium_cli.specs.Causes.{Role, source, trace, schedule, size_of, files_of, IsGood, IsInput, IsFileRefused, IsFirstRefused}
+use Rattle.gallium_cli.specs.Roles.{Role, source, trace, schedule, size_of, files_of, IsGood}
+use Rattle.gallium_cli.specs.Answers.{IsInput}
+use Rattle.gallium_cli.specs.Loads.{GoesOn, IsUnread, IsFileRefused, IsLoaded}
+use Rattle.gallium_cli.specs.Causes.{IsFirstRefused}
 
 -- ## What a source declares
 
@@ -21,27 +25,66 @@ pub few_objects : (text : List ℕ) (m : Tree) → IsSource text m → length m.
 few_objects text m is =
     let s = is.spelling in
     let declared : ObjectDecl → Declared = λ o. record { at = 0; decl = named_decl o } in
-    let same : length (map unplaced_decl s.surface.objects) ≡ length (map declared m.objects) = ap (λ u. length u.objects) s.named in
+    let same : length (map unplaced_decl s.surface.objects) ≡ length (map declared m.objects) =
+    ap (λ u. length u.objects) s.named in
     omega (arith, s.few_objects, same, length-map s.surface.objects unplaced_decl, length-map m.objects declared)
 
--- ## What files show
+-- ## One file
+
+-- every size is one that a read may have
+pub small_size : (role : Role) → size_of role < 2 ^ 31
+small_size source = omega arith
+small_size trace = omega arith
+small_size schedule = omega arith
+
+-- what the bytes that were read spell, the told content spells
+pub told_text : (P : List ℕ → Type 0) (bytes : List ℕ) (told : Option (List ℕ))
+    → IfSome told (λ content. bytes ≡ content) → P bytes → IfSome told P
+told_text P bytes None same holds = tt
+told_text P bytes (Some content) same holds = subst P same holds
+
+-- a file whose text isn't read is refused
+pub unread_refused : (refusal : Refusal) (role : Role) (bytes name : List ℕ) (f f' : FilesState)
+    → IsLoaded bytes name (size_of role) f → IsUnread refusal role bytes → IsFileRefused refusal role name f f'
+unread_refused (Source fault) source bytes name f f' loaded unread =
+    (unread.0, told_text _ bytes (f.told name) loaded.1 ((loaded.0, unread.1), unread.2))
+unread_refused (Source fault) trace bytes name f f' loaded unread = absurd unread
+unread_refused (Source fault) schedule bytes name f f' loaded unread = absurd unread
+unread_refused Trace source bytes name f f' loaded unread = absurd unread
+unread_refused Trace trace bytes name f f' loaded unread = told_text _ bytes (f.told name) loaded.1 (loaded.0, unread)
+unread_refused Trace schedule bytes name f f' loaded unread = absurd unread
+unread_refused Schedule source bytes name f f' loaded unread = absurd unread
+unread_refused Schedule trace bytes name f f' loaded unread = absurd unread
+unread_refused Schedule schedule bytes name f f' loaded unread =
+    told_text _ bytes (f.told name) loaded.1 (loaded.0, unread)
+unread_refused NoMemory role bytes name f f' loaded unread = tt
+unread_refused (TooLong blamed) role bytes name f f' loaded unread = absurd unread
+unread_refused (ReadFault blamed) role bytes name f f' loaded unread = absurd unread
+unread_refused Usage role bytes name f f' loaded unread = absurd unread
+unread_refused WriteFault role bytes name f f' loaded unread = absurd unread
+
+-- ## Several files
 
 -- what spells a middlebox is a good source, and what spells packets a good trace
-pub good_source : (told : Option (List ℕ)) (m : Tree) → IfSome told (λ text. (length text ≤ size_of source) × IsSource text m) → IfSome told (IsGood source)
+pub good_source : (told : Option (List ℕ)) (m : Tree)
+    → IfSome told (λ text. (length text ≤ size_of source) × IsSource text m) → IfSome told (IsGood source)
 good_source None m spelled = tt
 good_source (Some text) m spelled = (spelled.0, (m, spelled.1))
 
-pub good_trace : (told : Option (List ℕ)) (packets : List Packet) → IfSome told (λ text. (length text ≤ size_of trace) × (trace_of text ≡ Ok packets)) → IfSome told (IsGood trace)
+pub good_trace : (told : Option (List ℕ)) (packets : List Packet)
+    → IfSome told (λ text. (length text ≤ size_of trace) × (trace_of text ≡ Ok packets)) → IfSome told (IsGood trace)
 good_trace None packets spelled = tt
 good_trace (Some text) packets spelled = (spelled.0, (packets, spelled.1))
 
 -- what is told of a content is as before
-pub told_before : (P : List ℕ → Type 0) (f g : FilesState) (name : List ℕ) → GoesOn f g → IfSome (g.told name) P → IfSome (f.told name) P
+pub told_before : (P : List ℕ → Type 0) (f g : FilesState) (name : List ℕ)
+    → GoesOn f g → IfSome (g.told name) P → IfSome (f.told name) P
 told_before P f g name goes h = subst (λ told. IfSome told P) (goes.told name) h
 
 -- a file that is refused after other reads is refused as if they hadn't been
-pub refused_later : (refusal : Refusal) (role : Role) (name : List ℕ) (f g h : FilesState) → GoesOn f g → IsFileRefused refusal role name g h → IsFileRefused refusal role name f h
-refused_later (Source fault) source name f g h goes refused = told_before _ f g name goes refused
+pub refused_later : (refusal : Refusal) (role : Role) (name : List ℕ) (f g h : FilesState)
+    → GoesOn f g → IsFileRefused refusal role name g h → IsFileRefused refusal role name f h
+refused_later (Source fault) source name f g h goes refused = (refused.0, told_before _ f g name goes refused.1)
 refused_later (Source fault) trace name f g h goes refused = absurd refused
 refused_later (Source fault) schedule name f g h goes refused = absurd refused
 refused_later Trace source name f g h goes refused = absurd refused
@@ -69,7 +112,8 @@ second_refused refusal s t f g h m one goes refused =
 
 -- the third of three files is refused, behind two good ones
 pub third_refused : (refusal : Refusal) (s t c : List ℕ) (f g h : FilesState) (m : Tree) (packets : List Packet)
-    → IsInput f.told s t m packets → GoesOn f g → IsFileRefused refusal schedule c g h → IsFirstRefused refusal (files_of (Replay s t c)) f h
+    → IsInput f.told s t m packets → GoesOn f g → IsFileRefused refusal schedule c g h
+    → IsFirstRefused refusal (files_of (Replay s t c)) f h
 third_refused refusal s t c f g h m packets input goes refused =
     inr (
       good_source (f.told s) m input.source,
@@ -77,7 +121,8 @@ third_refused refusal s t c f g h m packets input goes refused =
     )
 
 -- what is refused of two files is refused of these and a third
-pub refused_of_more : (refusal : Refusal) (s t c : List ℕ) (f h : FilesState) → IsFirstRefused refusal (files_of (Run s t)) f h → IsFirstRefused refusal (files_of (Replay s t c)) f h
+pub refused_of_more : (refusal : Refusal) (s t c : List ℕ) (f h : FilesState)
+    → IsFirstRefused refusal (files_of (Run s t)) f h → IsFirstRefused refusal (files_of (Replay s t c)) f h
 refused_of_more refusal s t c f h (inl first) = inl first
 refused_of_more refusal s t c f h (inr (good, inl second)) = inr (good, inl second)
 refused_of_more refusal s t c f h (inr (good, inr (also, none))) = absurd none
@@ -85,5 +130,6 @@ refused_of_more refusal s t c f h (inr (good, inr (also, none))) = absurd none
 -- the told trace, as it was before other reads
 pub input_told : (s t : List ℕ) (f g : FilesState) (m : Tree) (packets : List Packet) → GoesOn f g
     → IfSome (f.told s) (λ text. (length text ≤ size_of source) × IsSource text m)
-    → IfSome (g.told t) (λ text. (length text ≤ size_of trace) × (trace_of text ≡ Ok packets)) → IsInput f.told s t m packets
+    → IfSome (g.told t) (λ text. (length text ≤ size_of trace) × (trace_of text ≡ Ok packets))
+    → IsInput f.told s t m packets
 input_told s t f g m packets goes one two = record { source = one; trace = told_before _ f g t goes two }

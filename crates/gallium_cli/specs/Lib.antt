@@ -1,7 +1,10 @@
 pub mod Status
 pub mod Words
 pub mod Lines
+pub mod Roles
+pub mod Answers
 pub mod Loads
 pub mod Puts
+pub mod Call
 pub mod Causes
 pub mod Promises

@@ -7,7 +7,8 @@ use Rattle.element_text.specs.declared.error.TextError.TheVariants as errors
 use Rattle.gallium_cli.specs.declared.status.Status.{Status}
 use Rattle.gallium_cli.specs.declared.status.Status.TheVariants as statuses
 use Rattle.gallium_cli.specs.declared.refusal.Refusal.{Refusal}
-use Rattle.gallium_cli.specs.declared.refusal.Refusal.TheVariants.{Usage, Source, Trace, Schedule, TooLong, ReadFault, WriteFault, NoMemory}
+use Rattle.gallium_cli.specs.declared.refusal.Refusal.TheVariants.{Usage, Source, Trace, Schedule}
+use Rattle.gallium_cli.specs.declared.refusal.Refusal.TheVariants.{TooLong, ReadFault, WriteFault, NoMemory}
 
 abbrev pub line_end : List ℕ
 line_end = 10 ∷ []
@@ -24,9 +25,11 @@ abbrev pub source_line : TextError → List ℕ
 source_line (errors.NotUtf8 offset) = codes "source: not utf-8 at " ++ (decimal offset ++ line_end)
 source_line (errors.Token offset) = codes "source: token at " ++ (decimal offset ++ line_end)
 source_line (errors.Syntax offset) = codes "source: syntax at " ++ (decimal offset ++ line_end)
-source_line (errors.Rule rule offset) = codes "source: rule " ++ (decimal rule ++ (codes " at " ++ (decimal offset ++ line_end)))
+source_line (errors.Rule rule offset) =
+    codes "source: rule " ++ (decimal rule ++ (codes " at " ++ (decimal offset ++ line_end)))
 source_line (errors.TooLarge what have allowed) =
-    codes "source: " ++ (what_text what ++ (codes " have " ++ (decimal have ++ (codes ", allowed " ++ (decimal allowed ++ line_end)))))
+    codes "source: "
+    ++ (what_text what ++ (codes " have " ++ (decimal have ++ (codes ", allowed " ++ (decimal allowed ++ line_end)))))
 source_line errors.NoMemory = codes "no memory" ++ line_end
 
 abbrev pub status_of : Refusal → Status

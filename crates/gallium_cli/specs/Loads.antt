@@ -1,23 +1,52 @@
 -- How one file is loaded.
-use Rattle.std.specs.Prelude.{◌≡◌, ◌≤◌, ◌<◌, ℕ, List, length, Some, IfSome}
+use Rattle.std.specs.Prelude.{◌≡◌, ◌≤◌, ◌<◌, ◌≢◌, ◌+◌, ◌-◌, ◌^◌, ℕ, min, List, length, Some, IfSome}
 use Rattle.gal_io.specs.Count.{Rose}
 use Rattle.gal_io.specs.Files.{FilesState}
+use Rattle.element_text.specs.Refused.{IsRefused}
 use Rattle.element_text.specs.declared.error.TextError.{TextError}
 use Rattle.element_text.specs.declared.error.TextError.TheVariants as errors
 use Rattle.gallium_cli.specs.declared.refusal.Refusal.{Refusal}
-use Rattle.gallium_cli.specs.declared.refusal.Refusal.TheVariants.{Source, TooLong, ReadFault, NoMemory}
+use Rattle.gallium_cli.specs.declared.refusal.Refusal.TheVariants.{Source, Trace, Schedule}
+use Rattle.gallium_cli.specs.declared.refusal.Refusal.TheVariants.{TooLong, ReadFault, NoMemory}
+use Rattle.gallium_cli.specs.Roles.{Role, source, trace, schedule, size_of, IsSpelled, IsBad}
 
--- the bytes of a file that was loaded: the told ones, where they are told
+-- the text is refused for this cause, and for no other
+pub record IsOnlyCause (fault : TextError) (text : List ℕ) : Type 0 where
+  pub cause : IsRefused text fault
+  pub only : (other : TextError) → other ≢ errors.NoMemory → IsRefused text other → other ≡ fault
+
+-- it is a bad source, for this cause
+abbrev pub IsBadSource : TextError → List ℕ → Type 0
+IsBadSource fault text = IsBad source text × IsOnlyCause fault text
+
+-- Why a text isn't read. A refused source has a cause that isn't want of memory.
+abbrev pub IsUnread : Refusal → Role → List ℕ → Type 0
+IsUnread (Source fault) source text = (fault ≢ errors.NoMemory) × ¬ (IsSpelled source text) × IsOnlyCause fault text
+IsUnread Trace trace text = ¬ (IsSpelled trace text)
+IsUnread Schedule schedule text = ¬ (IsSpelled schedule text)
+IsUnread NoMemory role text = Unit {0}
+IsUnread _ role text = ⊥
+
+-- Why a file is refused. What is said of its text is said where that is told.
+abbrev pub IsFileRefused : Refusal → Role → List ℕ → FilesState → FilesState → Type 0
+IsFileRefused (Source fault) source name f f' = (fault ≢ errors.NoMemory) × IfSome (f.told name) (IsBadSource fault)
+IsFileRefused Trace trace name f f' = IfSome (f.told name) (IsBad trace)
+IsFileRefused Schedule schedule name f f' = IfSome (f.told name) (IsBad schedule)
+IsFileRefused (TooLong blamed) role name f f' =
+    (blamed.now ≡ name) × IfSome (f.told name) (λ text. size_of role < length text)
+    × (f'.overlong_name ≡ Some name) × Rose f.overlong f'.overlong
+IsFileRefused (ReadFault blamed) role name f f' =
+    (blamed.now ≡ name) × (f'.fault_name ≡ Some name) × Rose f.faults f'.faults
+IsFileRefused NoMemory role name f f' = Unit {0}
+IsFileRefused _ role name f f' = ⊥
+
+-- the bytes of a file that was read: the told ones, where they are told
 abbrev pub IsLoaded : List ℕ → List ℕ → ℕ → FilesState → Type 0
-IsLoaded bytes name size f = IfSome (f.told name) (λ told. (bytes ≡ told) × (length told ≤ size))
+IsLoaded bytes name size f = (length bytes ≤ size) × IfSome (f.told name) (λ told. bytes ≡ told)
 
--- why a file wasn't loaded
-abbrev pub IsNotLoaded : Refusal → List ℕ → ℕ → FilesState → FilesState → Type 0
-IsNotLoaded (TooLong blamed) name size f f' =
-    (blamed.now ≡ name) × IfSome (f.told name) (λ told. size < length told) × (f'.overlong_name ≡ Some name) × Rose f.overlong f'.overlong
-IsNotLoaded (ReadFault blamed) name size f f' = (blamed.now ≡ name) × (f'.fault_name ≡ Some name) × Rose f.faults f'.faults
-IsNotLoaded NoMemory name size f f' = Unit {0}
-IsNotLoaded _ name size f f' = ⊥
+-- a count after so many more; it stands still at its type's end
+abbrev pub raised_by : ℕ → ℕ → ℕ
+raised_by n count = min (count + n) (2 ^ 64 - 1)
 
 -- what stays over a read: what is told, and that no count falls
 pub record GoesOn (f f' : FilesState) : Type 0 where

@@ -1,39 +1,130 @@
--- What a report promises that a finished replay wrote.
-use Rattle.std.specs.Prelude.{◌≡◌, ℕ, List, Option, Some, None, true, IsTrue}
+-- What the program promises of a whole call.
+use Rattle.std.specs.Prelude.{◌≡◌, ◌<◌, ◌≤◌, ◌⊎◌, ◌≢◌, ℕ, List, [], ◌∷◌, length, Option, Some, None, IsSomeAnd}
 use Rattle.std.specs.Io.KnownBytes.{append_known}
-use Rattle.gal_io.specs.Files.{FilesState}
-use Rattle.gal_io.specs.Sink.{SinkState}
-use Rattle.packet_fields.specs.declared.packet.Packet.{Packet}
-use Rattle.state_store.specs.Store.{start_store}
-use Rattle.element_lang.specs.Tree.{Tree}
-use Rattle.run_text.specs.declared.event.Event.{Event}
-use Rattle.run_text.specs.declared.run.Run.{Run as RunTold}
-use Rattle.run_text.specs.Report.{report_of}
-use Rattle.schedule_replay.specs.World.{first_world, steps}
-use Rattle.schedule_replay.specs.Run.{is_quiet}
-use Rattle.schedule_replay.specs.Serialises.{Serialises, AllReleased, IsDrained}
-use Rattle.gallium_cli.specs.Words.{Request, Run, Replay}
-use Rattle.gallium_cli.specs.Causes.{IsJob, IsDone}
+use Rattle.gal_io.specs.Count.{Rose}
+use Rattle.element_text.specs.Refused.{IsRefused}
+use Rattle.element_text.specs.declared.error.TextError.{TextError}
+use Rattle.element_text.specs.declared.error.TextError.TheVariants as errors
+use Rattle.gallium_cli.specs.declared.status.Status.{Status}
+use Rattle.gallium_cli.specs.declared.status.Status.TheVariants.{Done, Usage, Source, Trace, Schedule}
+use Rattle.gallium_cli.specs.declared.status.Status.TheVariants.{TooLong, ReadFault, WriteFault, NoMemory}
+use Rattle.gallium_cli.specs.Call.{Call}
+use Rattle.gallium_cli.specs.Words.{Request, request_of}
+use Rattle.gallium_cli.specs.Lines.{source_line}
+use Rattle.gallium_cli.specs.Roles.{Role, source, trace, schedule, size_of, files_of, source_of, IsGood, IsBad}
+use Rattle.gallium_cli.specs.Loads.{raised_by}
+use Rattle.gallium_cli.specs.Causes.{IsDone, Ends}
 
--- The text reports a run of these packets and events, and that run is a serial run of the source.
-pub record IsSerialReport (m : Tree) (packets : List Packet) (events : List Event) (text : List ℕ) : Type 0 where
-  pub run : RunTold
-  pub reported : text ≡ report_of m.objects run
-  pub serialises : Serialises m packets run
-  -- where the events leave nothing on its way, every admitted packet was released with its verdict
-  pub quiet : IsTrue (is_quiet (steps m packets (first_world (start_store m.objects)) events)) → AllReleased m packets run
-  -- and where the report says `drained yes`, every packet of the trace was
-  pub drained : run.drained ≡ true → IsDrained m packets run
+-- an end that writing and memory may bring whatever the words are
+abbrev pub IsWriteFault : Status → Type 0
+IsWriteFault WriteFault = Unit {0}
+IsWriteFault NoMemory = Unit {0}
+IsWriteFault _ = ⊥
 
--- Out has taken such a text of what the files spell, and nothing else. A run alone is a serial run by what it answers.
-abbrev pub IsSerial : Option Request → FilesState → SinkState → SinkState → Type 0
-IsSerial None f o o' = ⊥
-IsSerial (Some (Run s t)) f o o' = Unit {0}
-IsSerial (Some (Replay s t c)) f o o' =
-    (m : Tree) × (packets : List Packet) × (events : List Event) × IsJob f.told s t c m packets events
-    × (text : List ℕ) × IsSerialReport m packets events text × (o'.taken ≡ append_known o.taken text)
+-- an end that files, sinks and memory may bring whatever the texts are
+abbrev pub IsFault : Status → Type 0
+IsFault ReadFault = Unit {0}
+IsFault WriteFault = Unit {0}
+IsFault NoMemory = Unit {0}
+IsFault _ = ⊥
 
--- a request that was answered, with that promise
-pub record IsFinished (request : Option Request) (f : FilesState) (o o' : SinkState) : Type 0 where
-  pub done : IsDone request f o o'
-  pub serial : IsSerial request f o o'
+-- that status, or such a fault
+abbrev pub IsUnlessFault : Status → Status → Type 0
+IsUnlessFault status result = (result ≡ status) ⊎ IsFault result
+
+-- an end for which the words or a file are to blame
+abbrev pub BlamesInput : Status → Type 0
+BlamesInput Done = ⊥
+BlamesInput WriteFault = ⊥
+BlamesInput NoMemory = ⊥
+BlamesInput _ = Unit {0}
+
+-- every content is told and good
+abbrev pub AllGood : (List ℕ → Option (List ℕ)) → List (List ℕ × Role) → Type 0
+AllGood told [] = Unit {0}
+AllGood told (file ∷ files) = IsSomeAnd (told file.0) (IsGood file.1) × AllGood told files
+
+-- the status of a file that spells nothing
+abbrev pub refused_status : Role → Status
+refused_status source = Source
+refused_status trace = Trace
+refused_status schedule = Schedule
+
+-- a text is above its size, or spells nothing
+abbrev pub IsRefusedAs : Role → Status → List ℕ → Type 0
+IsRefusedAs role status text =
+    ((status ≡ TooLong) × (size_of role < length text)) ⊎ ((status ≡ refused_status role) × IsBad role text)
+
+-- the first content that isn't good is told, as are those before it, and is refused with this status
+abbrev pub IsFirstBad : (List ℕ → Option (List ℕ)) → List (List ℕ × Role) → Status → Type 0
+IsFirstBad told [] status = ⊥
+IsFirstBad told (file ∷ files) status =
+    IsSomeAnd (told file.0) (IsRefusedAs file.1 status)
+    ⊎ (IsSomeAnd (told file.0) (IsGood file.1) × IsFirstBad told files status)
+
+-- words with no form end in this status, unless the line can't be written; those with a form never do
+abbrev pub IsUsage : Option Request → Status → Type 0
+IsUsage None result = (result ≡ Usage) ⊎ IsWriteFault result
+IsUsage (Some request) result = result ≢ Usage
+
+-- where every content of a request is told and good, it is done unless there is a fault
+abbrev pub IsComplete : Option Request → Status → Call → Type 0
+IsComplete None result call = Unit {0}
+IsComplete (Some request) result call = AllGood call.files.told (files_of request) → IsUnlessFault Done result
+
+-- where the first bad content of a request is told, its status is answered unless there is a fault
+abbrev pub IsExact : Option Request → Status → Call → Type 0
+IsExact None result call = Unit {0}
+IsExact (Some request) result call =
+    (status : Status) → IsFirstBad call.files.told (files_of request) status → IsUnlessFault status result
+
+-- where the told source of a request is bad, for this cause, err receives the line of that cause, unless there is a
+-- fault
+abbrev pub IsCauseTold : Option Request → Status → Call → Type 0
+IsCauseTold None result call = Unit {0}
+IsCauseTold (Some request) result call =
+    (fault : TextError) → fault ≢ errors.NoMemory
+    → IsSomeAnd (call.files.told (source_of request)) (λ text. IsBad source text × IsRefused text fault)
+    → ((result ≡ Source) × (call.err_after.taken ≡ append_known call.err.taken (source_line fault))) ⊎ IsFault result
+
+-- there is at most one read for each file of a request, and where it is done, just one; with no request there is none
+abbrev pub IsReadOnce : Option Request → Status → Call → Type 0
+IsReadOnce None result call = call.files_after ≡ call.files
+IsReadOnce (Some request) result call =
+    let all = raised_by (length (files_of request)) call.files.reads in
+    (call.files_after.reads ≤ all) × (result ≡ Done → call.files_after.reads ≡ all)
+
+-- the blamed name is that of one of these files
+abbrev pub IsOneOf : List (List ℕ × Role) → Option (List ℕ) → Type 0
+IsOneOf [] blamed = ⊥
+IsOneOf (file ∷ files) blamed = (blamed ≡ Some file.0) ⊎ IsOneOf files blamed
+
+-- a count of files rose, and blames one that the request names
+abbrev pub IsBlamed : Option Request → ℕ → ℕ → Option (List ℕ) → Type 0
+IsBlamed None before now blamed = ⊥
+IsBlamed (Some request) before now blamed = Rose before now × IsOneOf (files_of request) blamed
+
+-- What is promised of a call that ends in this status. The first part says the whole of it: why it ended so, and what
+-- it left on both sinks. The others are read off it.
+pub record Promises (status : Status) (call : Call) : Type 0 where
+  pub ends : Ends status call
+  -- the answer of one run was written, which is a serial run of the source, whatever the schedule
+  pub done : status ≡ Done → IsDone (request_of call.words) call.files call.files_after call.out call.out_after
+  -- err is as it was, its count too
+  pub silent : status ≡ Done → call.err_after ≡ call.err
+  -- out is as it was, its count too
+  pub untouched : BlamesInput status → call.out_after ≡ call.out
+  -- each file is read once
+  pub once : IsReadOnce (request_of call.words) status call
+  -- which status comes, by the words and the told texts
+  pub usage : IsUsage (request_of call.words) status
+  pub exact : IsExact (request_of call.words) status call
+  pub cause : IsCauseTold (request_of call.words) status call
+  pub complete : IsComplete (request_of call.words) status call
+  -- which count rose, whether or not anything is told
+  pub too_long : status ≡ TooLong
+      → IsBlamed (request_of call.words) call.files.overlong call.files_after.overlong call.files_after.overlong_name
+  pub read_fault : status ≡ ReadFault
+      → IsBlamed (request_of call.words) call.files.faults call.files_after.faults call.files_after.fault_name
+  pub write_fault : status ≡ WriteFault
+      → Rose call.out.faults call.out_after.faults ⊎ Rose call.err.faults call.err_after.faults

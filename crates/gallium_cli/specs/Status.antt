@@ -1,7 +1,8 @@
 -- The exit code of each status.
 use Rattle.std.specs.Prelude.{ℕ}
 use Rattle.gallium_cli.specs.declared.status.Status.{Status}
-use Rattle.gallium_cli.specs.declared.status.Status.TheVariants.{Done, Usage, Source, Trace, Schedule, TooLong, ReadFault, WriteFault, NoMemory}
+use Rattle.gallium_cli.specs.declared.status.Status.TheVariants.{Done, Usage, Source, Trace, Schedule}
+use Rattle.gallium_cli.specs.declared.status.Status.TheVariants.{TooLong, ReadFault, WriteFault, NoMemory}
 
 abbrev pub code_of : Status → ℕ
 code_of Done = 0

@@ -12,7 +12,8 @@ pub data Request : Type 0 where
 -- what these words ask for: the place of a word alone tells what it is
 abbrev pub request_of : List (List ℕ) → Option Request
 request_of (word ∷ source ∷ trace ∷ []) = if bytes_eq word (codes "run") then Some (Run source trace) else None
-request_of (word ∷ source ∷ trace ∷ schedule ∷ []) = if bytes_eq word (codes "replay") then Some (Replay source trace schedule) else None
+request_of (word ∷ source ∷ trace ∷ schedule ∷ []) =
+    if bytes_eq word (codes "replay") then Some (Replay source trace schedule) else None
 request_of _ = None
 
 abbrev pub asked_by : Form → Request

@@ -1,6 +1,11 @@
 //! The program: reads a middlebox and a trace, and writes what a run of it, or a replay by a schedule, comes to.
 #![tactic(auto)]
 
+ghost use Rattle.std.specs.Prelude.{◌≡◌};
+ghost use Rattle.std.specs.Process.{exit_status};
+ghost use Rattle.gallium_cli.specs.Status.{code_of};
+
+mod formats;
 mod load;
 #[cfg(test)]
 mod print_tests;
@@ -13,6 +18,7 @@ mod tests;
 mod top;
 mod words;
 
+use crate::status::Status;
 use gal_io::{HostFiles, HostSink};
 use std::process::ExitCode;
 use std::{env, io};
@@ -22,6 +28,13 @@ const NO_MEMORY: u8 = 13;
 
 /// The code where the words can't be had for another cause. No status has it.
 const NO_WORDS: u8 = 18;
+
+/// How the process ends once the program has.
+fn ending(status: Status) -> ExitCode
+    ensures { exit_status result ≡ code_of status }
+{
+    ExitCode::from(status.code())
+}
 
 fn main(rt: HostRuntime) -> ExitCode {
     let alloc = rt.alloc();
@@ -38,6 +51,5 @@ fn main(rt: HostRuntime) -> ExitCode {
     let mut files = HostFiles::new(&rt);
     let mut out = HostSink::new(rt.stdout());
     let mut err = HostSink::new(rt.stderr());
-    let status = top::gallium(alloc, &words, &mut files, &mut out, &mut err);
-    ExitCode::from(status.code())
+    ending(top::gallium(alloc, &words, &mut files, &mut out, &mut err))
 }

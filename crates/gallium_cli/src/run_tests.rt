@@ -51,22 +51,32 @@ fn answers(rt: HostRuntime) -> Result<(), Fail> {
             "packet 0 send 9 ffffffffffff0000000000010800\nend\n",
         ),
         (
-            "map m (8) -> (1) capacity 2; process { put ok = m[meta.port] -> 1:1; if ok { send 1:8; } else { send 2:8; } }",
+            "map m (8) -> (1) capacity 2; process { put ok = m[meta.port] -> 1:1; if ok { send 1:8; } else { \
+            send 2:8; } }",
             "5 -\n6 -\n7 -",
             "packet 0 send 1 -\npacket 1 send 1 -\npacket 2 send 2 -\nobject m 2\n5 -> 1\n6 -> 1\nend\n",
         ),
         (
-            "vector v length 4 -> (8); process { put ok = v[4:32] -> 1:8; if ok { drop; } put in3 = v[3:32] -> 2:8; send 0:8; }",
+            "vector v length 4 -> (8); process { put ok = v[4:32] -> 1:8; if ok { drop; } put in3 = v[3:32] -> \
+            2:8; send 0:8; }",
             "0 -",
             "packet 0 send 0 -\nobject v 4\n0 -> 0\n1 -> 0\n2 -> 0\n3 -> 2\nend\n",
         ),
         (
-            "process { if has.udp == 0:1 { drop; } let s = adjust(udp.sum, udp.dport, 53:16); udp.sum = select(udp.sum == 0:16, 0:16, select(s == 0:16, 0xffff:16, s)); udp.dport = 53:16; send 2:8; }",
-            "0 02000000000102000000000208004500001c00000000401100000a0000010a000002100000450008ffef\n0 02000000000102000000000208004500001c00000000401100000a0000010a0000021000004500080000",
-            "packet 0 send 2 02000000000102000000000208004500001c00000000401100000a0000010a000002100000350008ffff\npacket 1 send 2 02000000000102000000000208004500001c00000000401100000a0000010a0000021000003500080000\nend\n",
+            "process { if has.udp == 0:1 { drop; } let s = adjust(udp.sum, udp.dport, 53:16); udp.sum = \
+            select(udp.sum == 0:16, 0:16, select(s == 0:16, 0xffff:16, s)); udp.dport = 53:16; send 2:8; }",
+            "0 02000000000102000000000208004500001c00000000401100000a0000010a000002100000450008ffef\n\
+            0 02000000000102000000000208004500001c00000000401100000a0000010a0000021000004500080000",
+            "packet 0 send 2 \
+            02000000000102000000000208004500001c00000000401100000a0000010a000002100000350008ffff\n\
+            packet 1 send 2 \
+            02000000000102000000000208004500001c00000000401100000a0000010a0000021000003500080000\n\
+            end\n",
         ),
         (
-            "int n : 8 = 40; table t (1) -> (8) { (1:1) -> (2:8); } map m (1) -> (8) capacity 1; process { repeat i 3 { look f, x = n[]; put k = n[] -> x + cast(8, i); } look g, y = t[1:1]; put l = m[0:1] -> y; del d = m[0:1]; del e = m[0:1]; if d & ~e { send y; } }",
+            "int n : 8 = 40; table t (1) -> (8) { (1:1) -> (2:8); } map m (1) -> (8) capacity 1; process { \
+            repeat i 3 { look f, x = n[]; put k = n[] -> x + cast(8, i); } look g, y = t[1:1]; put l = m[0:1] \
+            -> y; del d = m[0:1]; del e = m[0:1]; if d & ~e { send y; } }",
             "0 -\n1 -",
             "packet 0 send 2 -\npacket 1 send 2 -\nobject n 1\n-> 46\nobject m 0\nend\n",
         ),

@@ -1,14 +1,20 @@
 //! Whole calls over files and sinks in memory.
 
+use crate::ending;
 use crate::status::Status;
 use crate::top::gallium;
-use gal_io::{MemFiles, MemSink, NoMemory};
+use gal_io::{HostFiles, MemFiles, MemSink, NoMemory};
 use std::alloc::{AllocError, Global};
-use std::process::Abort;
+use std::process::{Abort, ExitCode};
 use std::test::Fail;
 
-const EMPTY: &str =
-    "report 1\npackets 0 admitted 0 decided 0 released 0\nevents 0 idle 0\nversion 0 visible 0\ndrained yes\norder -\nend\n";
+const EMPTY: &str = "report 1\n\
+    packets 0 admitted 0 decided 0 released 0\n\
+    events 0 idle 0\n\
+    version 0 visible 0\n\
+    drained yes\n\
+    order -\n\
+    end\n";
 
 // The words of a replay of the files `source`, `trace` and `schedule`.
 fn words(alloc: Global) -> Result<Vec<String>, AllocError> {
@@ -67,8 +73,18 @@ fn five_that_wait(rt: HostRuntime) -> Result<(), Fail> {
         "0 -\n0 -\n0 -\n0 -\n0 -\n",
         "a\na\na\na\na\nu 5\n",
     ];
-    let report =
-        "report 1\npackets 5 admitted 5 decided 0 released 0\nevents 6 idle 1\nversion 0 visible 0\ndrained no\npacket 0 up admitted 1\npacket 1 up admitted 2\npacket 2 up admitted 3\npacket 3 up admitted 4\npacket 4 up admitted 5\norder -\nend\n";
+    let report = "report 1\n\
+        packets 5 admitted 5 decided 0 released 0\n\
+        events 6 idle 1\n\
+        version 0 visible 0\n\
+        drained no\n\
+        packet 0 up admitted 1\n\
+        packet 1 up admitted 2\n\
+        packet 2 up admitted 3\n\
+        packet 3 up admitted 4\n\
+        packet 4 up admitted 5\n\
+        order -\n\
+        end\n";
     expect(&rt, rt.alloc(), texts, Status::Done, report, "")?;
     Ok(())
 }
@@ -80,8 +96,14 @@ fn comments_and_line_ends(rt: HostRuntime) -> Result<(), Fail> {
         "9 00Ff",
         "a\r\n# the server\r\nu 0\r\n\r\nh 0\r\nd 0\r",
     ];
-    let report =
-        "report 1\npackets 1 admitted 1 decided 1 released 1\nevents 4 idle 0\nversion 0 visible 0\ndrained yes\npacket 0 slow admitted 1 decided 2 version 0 released 4 send 7 00ff\norder 0\nend\n";
+    let report = "report 1\n\
+        packets 1 admitted 1 decided 1 released 1\n\
+        events 4 idle 0\n\
+        version 0 visible 0\n\
+        drained yes\n\
+        packet 0 slow admitted 1 decided 2 version 0 released 4 send 7 00ff\n\
+        order 0\n\
+        end\n";
     expect(&rt, rt.alloc(), texts, Status::Done, report, "")?;
     Ok(())
 }
@@ -123,16 +145,21 @@ fn words_of_no_form(rt: HostRuntime) {
     assert_eq!(rt; status.code(), 2);
 }
 
+// A run that is refused, over the files of the system: its code, its line, and nothing on out.
 #[test]
-fn a_missing_file(rt: HostRuntime) -> Result<(), Fail> {
+fn a_refused_run(rt: HostRuntime) -> Result<(), Fail> {
     let alloc = rt.alloc();
-    let words = words(alloc)?;
-    let mut files = MemFiles::new(alloc);
+    let mut words = Vec::new(alloc);
+    for word in ["run", "no such source", "no such trace"] {
+        words.push(String::from_str(alloc, word)?)?;
+    }
+    let mut files = HostFiles::new(&rt);
     let mut out = MemSink::new(alloc);
     let mut err = MemSink::new(alloc);
     let status = gallium(alloc, &words, &mut files, &mut out, &mut err);
-    assert_eq!(rt; status, Status::ReadFault);
-    assert_eq!(rt; err.bytes(), b"read fault: source\n".as_slice());
+    assert!(rt; ending(status) == ExitCode::from(10));
+    assert_eq!(rt; out.bytes(), b"".as_slice());
+    assert_eq!(rt; err.bytes(), b"read fault: no such source\n".as_slice());
     Ok(())
 }
 
@@ -171,12 +198,22 @@ fn a_failing_sink(rt: HostRuntime) -> Result<(), Fail> {
 #[test]
 fn the_order_of_decisions(rt: HostRuntime) -> Result<(), Fail> {
     let texts = [
-        "map m (8) -> (8) capacity 4; process { look f, v = m[meta.port]; if f { send v; } put k = m[meta.port] -> 9:8; drop; }",
+        "map m (8) -> (8) capacity 4; process { look f, v = m[meta.port]; if f { send v; } put k = \
+        m[meta.port] -> 9:8; drop; }",
         "1 -\n1 -\n",
         "a\na\nu 1\nu 0\nh 0\nd 0\nh 0\n",
     ];
-    let report =
-        "report 1\npackets 2 admitted 2 decided 2 released 1\nevents 7 idle 0\nversion 0 visible 0\ndrained no\npacket 0 slow admitted 1 decided 4 version 0 held\npacket 1 slow admitted 2 decided 3 version 0 released 6 drop\norder 1 0\nobject m 1\n1 -> 9\nend\n";
+    let report = "report 1\n\
+        packets 2 admitted 2 decided 2 released 1\n\
+        events 7 idle 0\n\
+        version 0 visible 0\n\
+        drained no\n\
+        packet 0 slow admitted 1 decided 4 version 0 held\n\
+        packet 1 slow admitted 2 decided 3 version 0 released 6 drop\n\
+        order 1 0\n\
+        object m 1\n\
+        1 -> 9\n\
+        end\n";
     expect(&rt, rt.alloc(), texts, Status::Done, report, "")?;
     Ok(())
 }
@@ -189,8 +226,18 @@ fn a_full_map(rt: HostRuntime) -> Result<(), Fail> {
         "1 -\n2 00\n1 0000\n",
         "a\na\na\nu 0\nu 0\nu 0\nh 0\nh 0\nh 0\nd 0\nd 0\nd 0\n",
     ];
-    let report =
-        "report 1\npackets 3 admitted 3 decided 3 released 3\nevents 12 idle 0\nversion 0 visible 0\ndrained yes\npacket 0 slow admitted 1 decided 4 version 0 released 10 send 1 -\npacket 1 slow admitted 2 decided 5 version 0 released 11 drop\npacket 2 slow admitted 3 decided 6 version 0 released 12 send 1 0000\norder 0 1 2\nobject m 1\n1 -> 2\nend\n";
+    let report = "report 1\n\
+        packets 3 admitted 3 decided 3 released 3\n\
+        events 12 idle 0\n\
+        version 0 visible 0\n\
+        drained yes\n\
+        packet 0 slow admitted 1 decided 4 version 0 released 10 send 1 -\n\
+        packet 1 slow admitted 2 decided 5 version 0 released 11 drop\n\
+        packet 2 slow admitted 3 decided 6 version 0 released 12 send 1 0000\n\
+        order 0 1 2\n\
+        object m 1\n\
+        1 -> 2\n\
+        end\n";
     expect(&rt, rt.alloc(), texts, Status::Done, report, "")?;
     Ok(())
 }
@@ -200,11 +247,29 @@ fn a_full_map(rt: HostRuntime) -> Result<(), Fail> {
 fn rows_in_order(rt: HostRuntime) -> Result<(), Fail> {
     let source =
         "map hosts (8) -> (16) capacity 3; process { put ok = hosts[meta.port] -> meta.len; }";
-    let empty =
-        "report 1\npackets 0 admitted 0 decided 0 released 0\nevents 0 idle 0\nversion 0 visible 0\ndrained yes\norder -\nobject hosts 0\nend\n";
+    let empty = "report 1\n\
+        packets 0 admitted 0 decided 0 released 0\n\
+        events 0 idle 0\n\
+        version 0 visible 0\n\
+        drained yes\n\
+        order -\n\
+        object hosts 0\n\
+        end\n";
     expect(&rt, rt.alloc(), [source, "", ""], Status::Done, empty, "")?;
-    let report =
-        "report 1\npackets 3 admitted 3 decided 3 released 0\nevents 6 idle 0\nversion 0 visible 0\ndrained no\npacket 0 slow admitted 1 decided 4 version 0 held\npacket 1 slow admitted 2 decided 5 version 0 held\npacket 2 slow admitted 3 decided 6 version 0 held\norder 0 1 2\nobject hosts 3\n0 -> 0\n20 -> 2\n100 -> 1\nend\n";
+    let report = "report 1\n\
+        packets 3 admitted 3 decided 3 released 0\n\
+        events 6 idle 0\n\
+        version 0 visible 0\n\
+        drained no\n\
+        packet 0 slow admitted 1 decided 4 version 0 held\n\
+        packet 1 slow admitted 2 decided 5 version 0 held\n\
+        packet 2 slow admitted 3 decided 6 version 0 held\n\
+        order 0 1 2\n\
+        object hosts 3\n\
+        0 -> 0\n\
+        20 -> 2\n\
+        100 -> 1\n\
+        end\n";
     let texts = [source, "100 ab\n20 abcd\n0 -\n", "a\na\na\nu 0\nu 0\nu 0\n"];
     expect(&rt, rt.alloc(), texts, Status::Done, report, "")?;
     Ok(())
@@ -219,7 +284,14 @@ fn expect_verdict(
     verdict: &str,
 ) -> Result<(), AllocError> {
     let report = format!(in alloc;
-        "report 1\npackets 1 admitted 1 decided 1 released 1\nevents 4 idle 0\nversion 0 visible 0\ndrained yes\npacket 0 slow admitted 1 decided 2 version 0 released 4 {verdict}\norder 0\nend\n"
+        "report 1\n\
+        packets 1 admitted 1 decided 1 released 1\n\
+        events 4 idle 0\n\
+        version 0 visible 0\n\
+        drained yes\n\
+        packet 0 slow admitted 1 decided 2 version 0 released 4 {verdict}\n\
+        order 0\n\
+        end\n"
     )?;
     let texts = [source, packet, "a\nu 0\nh 0\nd 0\n"];
     expect(rt, alloc, texts, Status::Done, &report, "")

@@ -1,20 +1,19 @@
 //! The whole program.
-ghost use Rattle.std.specs.Prelude.{◌≡◌, ◌≤◌, ◌<◌, ◌^◌, ◌⊎◌, Some, All, IsTrue, map, length, string_bytes, IfOk, IfErr, OnOk};
-ghost use Rattle.gal_io.specs.Count.{Rose};
+ghost use Rattle.std.specs.Prelude.{◌≡◌, ◌≤◌, ◌<◌, ◌^◌, Some, All, IsTrue, IfOk, IfErr, OnOk};
+ghost use Rattle.std.specs.Prelude.{map, length, string_bytes};
 ghost use Rattle.element_lang.specs.View.{tree};
 ghost use Rattle.element_lang.specs.Rules.{is_good};
-ghost use Rattle.packet_fields.specs.declared.packet.TheConstants.{MAX_PACKET_BYTES};
-ghost use Rattle.run_text.specs.declared.refusal.TheConstants.{MAX_PACKETS, MAX_EVENTS};
-ghost use Rattle.run_text.specs.Report.{report_of};
-ghost use Rattle.schedule_replay.specs.Run.{job_run};
 ghost use Rattle.gallium_cli.specs.Words.{request_of, Run, Replay};
-ghost use Rattle.gallium_cli.specs.Causes.{HasCause, IsDone, IsInput, IsJob, serial_answer, IsFirstRefused, Ends, IsUsage, IsExact, IsCauseTold, IsComplete, files_of};
-ghost use Rattle.gallium_cli.specs.Promises.{IsSerial, IsSerialReport, IsFinished};
-ghost use Rattle.gallium_cli.specs.declared.status.Status.{Status};
+ghost use Rattle.gallium_cli.specs.Roles.{files_of};
+ghost use Rattle.gallium_cli.specs.Answers.{IsInput, IsJob, IsReport, serial_answer};
+ghost use Rattle.gallium_cli.specs.Loads.{GoesOn, raised_by};
 ghost use Rattle.gallium_cli.specs.Puts.{IsPut, IsNotPut};
-ghost use Rattle.gallium_cli.specs.Loads.{GoesOn};
+ghost use Rattle.gallium_cli.specs.Causes.{HasCause, IsDone, IsFirstRefused};
+ghost use Rattle.gallium_cli.specs.Call.{Call};
+ghost use Rattle.gallium_cli.specs.Promises.{Promises};
 
-use crate::load::{load_schedule, load_source, load_trace};
+use crate::formats::{ScheduleFormat, SourceFormat, TraceFormat};
+use crate::load::load;
 use crate::refusal::{Refusal, tell};
 use crate::status::Status;
 use crate::words::{Form, form_of};
@@ -48,13 +47,16 @@ fn load_input<'a, F: Files>(
     ensures ok { IfOk result (λ x. IsInput (F.seen files.old).told source.now trace.now (tree x.0) x.1) }
     ensures good { IfOk result (λ x. IsTrue (is_good (tree x.0))) }
     ensures few_objects { IfOk result (λ x. length x.0.objects < 2 ^ 32) }
-    ensures few_packets { IfOk result (λ x. length x.1 ≤ MAX_PACKETS) }
-    ensures short_packets { IfOk result (λ x. All (λ p. length p.bytes ≤ MAX_PACKET_BYTES) x.1) }
-    ensures err { IfErr result (λ refusal. IsFirstRefused refusal (files_of (Run source.now trace.now)) (F.seen files.old) (F.seen files.new)) }
+    ensures few_packets { IfOk result (λ x. length x.1 ≤ 16384) }
+    ensures short_packets { IfOk result (λ x. All (λ p. length p.bytes ≤ 9216) x.1) }
+    ensures err { IfErr result (λ refusal. IsFirstRefused refusal (files_of (Run source.now trace.now))
+        (F.seen files.old) (F.seen files.new)) }
     ensures stays { GoesOn (F.seen files.old) (F.seen files.new) }
+    ensures read { OnOk result ((F.seen files.new).reads ≡ raised_by 2 (F.seen files.old).reads) }
+    ensures few_reads { (F.seen files.new).reads ≤ raised_by 2 (F.seen files.old).reads }
 {
-    let middlebox = load_source(alloc, files, source)?;
-    match load_trace(alloc, files, trace) {
+    let middlebox = load(alloc, files, &SourceFormat, source)?;
+    match load(alloc, files, &TraceFormat, trace) {
         Ok(packets) => Ok((middlebox, packets)),
         Err(refusal) => Err(refusal),
     }
@@ -68,16 +70,20 @@ fn load_job<'a, F: Files>(
     schedule: &'a str,
     files: &mut F,
 ) -> Result<Job, Refusal<'a>>
-    ensures ok { IfOk result (λ job. IsJob (F.seen files.old).told source.now trace.now schedule.now (tree job.middlebox) job.packets job.events) }
+    ensures ok { IfOk result (λ job. IsJob (F.seen files.old).told source.now trace.now schedule.now
+        (tree job.middlebox) job.packets job.events) }
     ensures good { IfOk result (λ job. IsTrue (is_good (tree job.middlebox))) }
     ensures few_objects { IfOk result (λ job. length job.middlebox.objects < 2 ^ 32) }
-    ensures few_packets { IfOk result (λ job. length job.packets ≤ MAX_PACKETS) }
-    ensures short_packets { IfOk result (λ job. All (λ p. length p.bytes ≤ MAX_PACKET_BYTES) job.packets) }
-    ensures few_events { IfOk result (λ job. length job.events ≤ MAX_EVENTS) }
-    ensures err { IfErr result (λ refusal. IsFirstRefused refusal (files_of (Replay source.now trace.now schedule.now)) (F.seen files.old) (F.seen files.new)) }
+    ensures few_packets { IfOk result (λ job. length job.packets ≤ 16384) }
+    ensures short_packets { IfOk result (λ job. All (λ p. length p.bytes ≤ 9216) job.packets) }
+    ensures few_events { IfOk result (λ job. length job.events ≤ 1048576) }
+    ensures err { IfErr result (λ refusal. IsFirstRefused refusal
+        (files_of (Replay source.now trace.now schedule.now)) (F.seen files.old) (F.seen files.new)) }
+    ensures read { OnOk result ((F.seen files.new).reads ≡ raised_by 3 (F.seen files.old).reads) }
+    ensures few_reads { (F.seen files.new).reads ≤ raised_by 3 (F.seen files.old).reads }
 {
     let (middlebox, packets) = load_input(alloc, source, trace, files)?;
-    match load_schedule(alloc, files, schedule) {
+    match load(alloc, files, &ScheduleFormat, schedule) {
         Ok(events) => Ok(Job {
             middlebox,
             packets,
@@ -91,7 +97,7 @@ fn load_job<'a, F: Files>(
 fn answer(alloc: Global, m: &Middlebox, packets: &[Packet]) -> Result<Text, NoMemory>
     requires good { IsTrue (is_good (tree m.now)) }
     requires few_objects { length m.now.objects < 2 ^ 32 }
-    requires short_packets { All (λ p. length p.bytes ≤ MAX_PACKET_BYTES) packets.now }
+    requires short_packets { All (λ p. length p.bytes ≤ 9216) packets.now }
     ensures { IfOk result (λ text. text ≡ serial_answer (tree m.now) packets.now) }
 {
     let served = run_all(alloc, m, packets)?;
@@ -107,7 +113,8 @@ fn perform_run<'a, F: Files, O: Sink>(
     files: &mut F,
     out: &mut O,
 ) -> Result<(), Refusal<'a>>
-    ensures ok { OnOk result (IsFinished (Some (Run source.now trace.now)) (F.seen files.old) (O.seen out.old) (O.seen out.new)) }
+    ensures ok { OnOk result (IsDone (Some (Run source.now trace.now))
+        (F.seen files.old) (F.seen files.new) (O.seen out.old) (O.seen out.new)) }
     ensures err { IfErr result (λ refusal. HasCause refusal (Some (Run source.now trace.now))
         (F.seen files.old) (F.seen files.new) (O.seen out.old) (O.seen out.new)) }
 {
@@ -122,11 +129,10 @@ fn perform_run<'a, F: Files, O: Sink>(
 fn report(alloc: Global, job: &Job) -> Result<Text, NoMemory>
     requires good { IsTrue (is_good (tree job.now.middlebox)) }
     requires few_objects { length job.now.middlebox.objects < 2 ^ 32 }
-    requires few_packets { length job.now.packets ≤ MAX_PACKETS }
-    requires short_packets { All (λ p. length p.bytes ≤ MAX_PACKET_BYTES) job.now.packets }
-    requires few_events { length job.now.events ≤ MAX_EVENTS }
-    ensures run { IfOk result (λ text. text ≡ report_of job.now.middlebox.objects (job_run (tree job.now.middlebox) job.now.packets job.now.events)) }
-    ensures serial { IfOk result (λ text. IsSerialReport (tree job.now.middlebox) job.now.packets job.now.events text) }
+    requires few_packets { length job.now.packets ≤ 16384 }
+    requires short_packets { All (λ p. length p.bytes ≤ 9216) job.now.packets }
+    requires few_events { length job.now.events ≤ 1048576 }
+    ensures { IfOk result (λ text. IsReport text (tree job.now.middlebox) job.now.packets job.now.events) }
 {
     let run = replay(alloc, job)?;
     print_run(alloc, &job.middlebox.objects, &run)
@@ -141,7 +147,8 @@ fn perform_replay<'a, F: Files, O: Sink>(
     files: &mut F,
     out: &mut O,
 ) -> Result<(), Refusal<'a>>
-    ensures ok { OnOk result (IsFinished (Some (Replay source.now trace.now schedule.now)) (F.seen files.old) (O.seen out.old) (O.seen out.new)) }
+    ensures ok { OnOk result (IsDone (Some (Replay source.now trace.now schedule.now))
+        (F.seen files.old) (F.seen files.new) (O.seen out.old) (O.seen out.new)) }
     ensures err { IfErr result (λ refusal. HasCause refusal (Some (Replay source.now trace.now schedule.now))
         (F.seen files.old) (F.seen files.new) (O.seen out.old) (O.seen out.new)) }
 {
@@ -159,7 +166,8 @@ fn perform<'a, F: Files, O: Sink>(
     files: &mut F,
     out: &mut O,
 ) -> Result<(), Refusal<'a>>
-    ensures ok { OnOk result (IsFinished (request_of (map string_bytes words.now)) (F.seen files.old) (O.seen out.old) (O.seen out.new)) }
+    ensures ok { OnOk result (IsDone (request_of (map string_bytes words.now))
+        (F.seen files.old) (F.seen files.new) (O.seen out.old) (O.seen out.new)) }
     ensures err { IfErr result (λ refusal. HasCause refusal (request_of (map string_bytes words.now))
         (F.seen files.old) (F.seen files.new) (O.seen out.old) (O.seen out.new)) }
 {
@@ -176,8 +184,9 @@ fn perform<'a, F: Files, O: Sink>(
     }
 }
 
-/// Does what the words after the program's name ask for, and answers how that ended. On Done, `out` has received one whole
-/// text. With every other status `err` receives one line.
+/// Does what the words after the program's name ask for, and answers how that ended. On Done, `out` has received one
+/// whole text. With every other status `err` receives one line. What is promised of a whole call, from its cause to what
+/// it leaves on both sinks, are the parts of `Promises`.
 pub fn gallium<F: Files, O: Sink, E: Sink>(
     alloc: Global,
     words: &[String],
@@ -185,27 +194,15 @@ pub fn gallium<F: Files, O: Sink, E: Sink>(
     out: &mut O,
     err: &mut E,
 ) -> Status
-    // The whole of it: why it ended so, and what it left on both sinks. The others are read off this one.
-    ensures ends { Ends result (request_of (map string_bytes words.now))
-        (F.seen files.old) (F.seen files.new) (O.seen out.old) (O.seen out.new) (E.seen err.old) (E.seen err.new) }
-
-    ensures done { result ≡ Status.Done → IsDone (request_of (map string_bytes words.now)) (F.seen files.old) (O.seen out.old) (O.seen out.new) }
-    // The headline: what was reported is a serial run of the source, whatever the schedule.
-    ensures serialises { result ≡ Status.Done → IsSerial (request_of (map string_bytes words.now)) (F.seen files.old) (O.seen out.old) (O.seen out.new) }
-
-    ensures silent { result ≡ Status.Done → (E.seen err.new).taken ≡ (E.seen err.old).taken }
-
-    // Which status comes, by the words and the told texts.
-    ensures usage { IsUsage (request_of (map string_bytes words.now)) result }
-    ensures exact { IsExact (request_of (map string_bytes words.now)) (F.seen files.old) result }
-    ensures cause { IsCauseTold (request_of (map string_bytes words.now)) (F.seen files.old) result (E.seen err.old) (E.seen err.new) }
-    ensures complete { IsComplete (request_of (map string_bytes words.now)) (F.seen files.old) result }
-
-    // Which count rose, whether or not anything is told.
-    ensures too_long { result ≡ Status.TooLong → Rose (F.seen files.old).overlong (F.seen files.new).overlong }
-    ensures read_fault { result ≡ Status.ReadFault → Rose (F.seen files.old).faults (F.seen files.new).faults }
-    ensures write_fault { result ≡ Status.WriteFault
-        → Rose (O.seen out.old).faults (O.seen out.new).faults ⊎ Rose (E.seen err.old).faults (E.seen err.new).faults }
+    ensures { let call : Call = record {
+      words = map string_bytes words.now;
+      files = F.seen files.old;
+      out = O.seen out.old;
+      err = E.seen err.old;
+      files_after = F.seen files.new;
+      out_after = O.seen out.new;
+      err_after = E.seen err.new;
+    } in Promises result call }
 {
     match perform(alloc, words, files, out) {
         Ok(()) => Status::Done,

@@ -1,10 +1,9 @@
-use Rattle.std.proofs.Common.{inr}
-use Rattle.gallium_cli.proofs.CauseTold.{cause_told}
-use Rattle.gallium_cli.proofs.Exact.{exact_ends}
+use Rattle.std.proofs.Common.{inl, inr, refl}
+use Rattle.gallium_cli.proofs.Promised.{promised}
 use Rattle.gallium_cli.proofs.top.gallium.Goals as goal
 
-pub returns-in-Err-clause-exact : goal.returns-in-Err-clause-exact
-returns-in-Err-clause-exact g c = exact_ends _ _ _ _ _ _ _ _ (inr (c.in-Err.refusal, c.in-Err.ensures.err, c.tell.ensures))
+pub returns-in-Ok : goal.returns-in-Ok
+returns-in-Ok g c = promised _ _ (inl (refl, c.in-Ok.ensures.ok, refl))
 
-pub returns-in-Err-clause-cause : goal.returns-in-Err-clause-cause
-returns-in-Err-clause-cause g c = cause_told _ _ _ _ _ _ _ _ (inr (c.in-Err.refusal, c.in-Err.ensures.err, c.tell.ensures))
+pub returns-in-Err : goal.returns-in-Err
+returns-in-Err g c = promised _ _ (inr (c.in-Err.refusal, c.in-Err.ensures.err, c.tell.ensures))

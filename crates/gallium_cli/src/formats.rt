@@ -1,0 +1,106 @@
+//! What the files of a command are read as.
+ghost use Rattle.std.specs.Prelude.{◌≡◌, ◌≤◌, ◌<◌, ◌^◌, IsTrue, All, Ok, length};
+ghost use Rattle.element_lang.specs.View.{tree};
+ghost use Rattle.element_lang.specs.Rules.{is_good};
+ghost use Rattle.element_lang.specs.Accepted.{IsSource};
+ghost use Rattle.run_text.specs.Trace.{trace_of, schedule_of};
+ghost use Rattle.gallium_cli.specs.Roles.{source, trace, schedule};
+ghost use Rattle.gallium_cli.specs.Loads.{refusal_of};
+
+use crate::load::Format;
+use crate::refusal::Refusal;
+use element_lang::Middlebox;
+use element_text::TextError;
+use packet_fields::Packets;
+use run_text::{Events, LinesError, read_schedule, read_trace};
+use std::alloc::Global;
+
+/// The most bytes of a source.
+const MAX_SOURCE: usize = 262_144;
+
+/// The most bytes of any other text file.
+const MAX_TEXT: usize = 67_108_864;
+
+/// The source of a middlebox.
+pub struct SourceFormat;
+
+/// The packets of a trace.
+pub struct TraceFormat;
+
+/// The events of a schedule.
+pub struct ScheduleFormat;
+
+// The refusal of a source that isn't read.
+fn source_refusal(fault: TextError) -> Refusal<'static>
+    ensures { result ≡ refusal_of fault }
+{
+    match fault {
+        TextError::NoMemory => Refusal::NoMemory,
+        _ => Refusal::Source(fault),
+    }
+}
+
+impl Format for SourceFormat {
+    type Value = Middlebox;
+
+    ghost role = { λ _. source };
+
+    ghost spells = { λ _ text m. IsSource text (tree m) };
+
+    ghost sound = { λ m. IsTrue (is_good (tree m)) × (length m.objects < 2 ^ 32) };
+
+    fn size(&self) -> usize {
+        MAX_SOURCE
+    }
+
+    fn read(&self, alloc: Global, text: &[u8]) -> Result<Middlebox, Refusal<'static>> {
+        match element_text::read(alloc, text) {
+            Ok(m) => Ok(m),
+            Err(fault) => Err(source_refusal(fault)),
+        }
+    }
+}
+
+impl Format for TraceFormat {
+    type Value = Packets;
+
+    ghost role = { λ _. trace };
+
+    ghost spells = { λ _ text packets. trace_of text ≡ Ok packets };
+
+    ghost sound = { λ packets. (length packets ≤ 16384) × All (λ p. length p.bytes ≤ 9216) packets };
+
+    fn size(&self) -> usize {
+        MAX_TEXT
+    }
+
+    fn read(&self, alloc: Global, text: &[u8]) -> Result<Packets, Refusal<'static>> {
+        match read_trace(alloc, text) {
+            Ok(packets) => Ok(packets),
+            Err(LinesError::NoMemory) => Err(Refusal::NoMemory),
+            Err(_) => Err(Refusal::Trace),
+        }
+    }
+}
+
+impl Format for ScheduleFormat {
+    type Value = Events;
+
+    ghost role = { λ _. schedule };
+
+    ghost spells = { λ _ text events. schedule_of text ≡ Ok events };
+
+    ghost sound = { λ events. length events ≤ 1048576 };
+
+    fn size(&self) -> usize {
+        MAX_TEXT
+    }
+
+    fn read(&self, alloc: Global, text: &[u8]) -> Result<Events, Refusal<'static>> {
+        match read_schedule(alloc, text) {
+            Ok(events) => Ok(events),
+            Err(LinesError::NoMemory) => Err(Refusal::NoMemory),
+            Err(_) => Err(Refusal::Schedule),
+        }
+    }
+}
