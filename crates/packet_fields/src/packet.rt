@@ -1,6 +1,6 @@
 //! Packets as they arrive.
-ghost use Rattle.std.specs.Prelude.{◌≡◌, ◌↔◌, ◌++◌, ◌∷◌, [], length, nat_le, IfOk, IsTrue, OnOk, OnErr};
-ghost use Rattle.packet_fields.specs.Sizes.{largest_packet};
+ghost use Rattle.std.specs.Prelude.{◌≡◌, ◌≤◌, ◌↔◌, ◌++◌, ◌∷◌, [], length, nat_le, IfOk, IsTrue, OnOk, OnErr};
+ghost use Rattle.packet_fields.specs.Sizes.{AreShort, largest_packet};
 
 use gal_io::{Bytes, NoMemory};
 use std::alloc::Global;
@@ -45,10 +45,13 @@ pub struct Packets {
 impl Model for Packets {
     ghost use Rattle.std.specs.Prelude.{List};
     ghost use Rattle.packet_fields.specs.declared.packet.Packet.{Packet};
+    ghost use Rattle.packet_fields.specs.Sizes.{AreShort};
 
     ghost Value = { List Packet };
 
     ghost view = { λ packets. packets.items.items };
+
+    ghost invariant = { λ packets. AreShort packets.items.items };
 }
 
 impl Packets {
@@ -61,7 +64,8 @@ impl Packets {
     }
 
     pub fn as_slice(&self) -> &[Packet]
-        ensures { result.now ≡ self.now }
+        ensures value { result.now ≡ self.now }
+        ensures short { AreShort self.now }
     {
         self.items.as_slice()
     }
@@ -78,6 +82,14 @@ impl Packets {
         self.items.is_empty()
     }
 
+    /// The list of these packets.
+    pub fn of(items: Vec<Packet>) -> Packets
+        requires { AreShort items.items }
+        ensures { result ≡ items.items }
+    {
+        Packets { items }
+    }
+
     /// Another list of the same packets.
     pub fn copy(&self, alloc: Global) -> Result<Self, NoMemory>
         ensures { IfOk result (λ made. made ≡ self.now) }
@@ -91,18 +103,11 @@ impl Packets {
 
     /// Puts a packet last.
     pub fn push(&mut self, packet: Packet) -> Result<(), NoMemory>
+        requires { length packet.bytes ≤ largest_packet }
         ensures ok { OnOk result (self.new ≡ self.old ++ packet ∷ []) }
         ensures err { OnErr result (self.new ≡ self.old) }
     {
         self.items.push(packet)?;
         Ok(())
-    }
-}
-
-impl From<Vec<Packet>> for Packets {
-    ghost from_gives = { λ items packets. packets ≡ items.items };
-
-    fn from(items: Vec<Packet>) -> Packets {
-        Packets { items }
     }
 }

@@ -1,6 +1,6 @@
 //! The text of a trace.
-ghost use Rattle.std.specs.Prelude.{◌≡◌, ◌≤◌, ◌⊎◌, length, All, IfOk, IfErr, Ok, Err};
-ghost use Rattle.packet_fields.specs.Sizes.{largest_packet};
+ghost use Rattle.std.specs.Prelude.{◌≡◌, ◌≤◌, ◌⊎◌, length, IfOk, IfErr, Ok, Err};
+ghost use Rattle.packet_fields.specs.Sizes.{AreShort};
 ghost use Rattle.run_text.specs.Sizes.{most_packets};
 ghost use Rattle.run_text.specs.Trace.{body_of, packet_line, trace_of};
 
@@ -54,8 +54,8 @@ pub fn read_trace(alloc: Global, text: &[u8]) -> Result<Packets, LinesError>
     ensures ok { IfOk result (λ packets. trace_of text.now ≡ Ok packets) }
     ensures err { IfErr result (λ e. (e ≡ LinesError.NoMemory) ⊎ (trace_of text.now ≡ Err e)) }
     ensures few { IfOk result (λ packets. length packets ≤ most_packets) }
-    ensures short { IfOk result (λ packets. All (λ p. length p.bytes ≤ largest_packet) packets) }
+    ensures short { IfOk result AreShort }
 {
     let packets = read_values(alloc, text, MAX_PACKETS)?;
-    Ok(Packets::from(packets))
+    Ok(Packets::of(packets))
 }
