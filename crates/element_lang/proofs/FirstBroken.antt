@@ -1,10 +1,10 @@
 -- The first of the parts of a source that break a rule.
-use Rattle.std.proofs.Common.{◌≡◌, ◌<◌, ◌≤◌, suc, ◌-◌, ◌==◌, ℕ, Bool, true, false, ◌&&◌, ◌||◌, List, [], ◌∷◌, ◌++◌, length, nat_lt, nat_eq, Option, Some, None, refl, sym, ap, subst, ◌∙◌, arith}
+use Rattle.std.proofs.Common.{◌≡◌, ◌<◌, ◌≤◌, suc, ◌-◌, ℕ, Bool, true, false, ◌&&◌, ◌||◌, List, [], ◌∷◌, ◌++◌, length, nat_lt, nat_eq, Option, Some, None, refl, sym, ap, subst, ◌∙◌, arith}
 use Rattle.std.proofs.lemmas.Bool.Decides.{nat_tests}
 use Rattle.state_store.specs.declared.object.ObjectDecl.{ObjectDecl}
 use Rattle.element_lang.specs.declared.broken.Broken.{Broken}
 use Rattle.element_lang.specs.Token.{Token}
-use Rattle.element_lang.specs.Surface.{SurfaceStmt, SurfaceBody, SurfaceDecl, Declared, Surface, let_local, assign, set_field, look, put, del, choose, repeat, send, drop, done, stmt, object_of}
+use Rattle.element_lang.specs.Surface.{SurfaceStmt, SurfaceBody, Declared, Surface, let_local, assign, set_field, look, put, del, choose, repeat, send, drop, done, stmt, object_of}
 use Rattle.element_lang.specs.Grammar.{Spells, IsStmt, IsElse, IsBody, IsMiddlebox}
 use Rattle.element_lang.specs.Grammar.IsStmt.{is_let, is_assign, is_set_field, is_look, is_put, is_del, is_if, is_repeat, is_send, is_drop}
 use Rattle.element_lang.specs.Grammar.IsElse.{is_absent, is_else}

@@ -1,5 +1,5 @@
 -- What stands behind a piece of a source has fewer tokens.
-use Rattle.std.proofs.Common.{◌≡◌, ◌<◌, ◌≤◌, ℕ, List, length, arith}
+use Rattle.std.proofs.Common.{◌<◌, ℕ, List, length, arith}
 use Rattle.element_lang.specs.declared.mark.Mark.{Mark}
 use Rattle.element_lang.specs.Token.{Token}
 use Rattle.element_lang.specs.Surface.{SurfaceExpr, SurfaceExprs, SurfaceRow, SurfaceDecl, Literal}

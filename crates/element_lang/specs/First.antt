@@ -3,10 +3,12 @@ use Rattle.std.specs.Prelude.{◌≡◌, ℕ, ◌<◌, ◌==◌, Bool, true, fal
 use Rattle.std.specs.List.{list_any}
 use Rattle.state_store.specs.declared.object.ObjectDecl.{ObjectDecl}
 use Rattle.element_lang.specs.declared.broken.Broken.{Broken}
-use Rattle.element_lang.specs.Surface.{SurfaceStmt, SurfaceBody, Declared, Surface, choose, repeat, done, stmt, object_of}
+use Rattle.element_lang.specs.Surface.{SurfaceStmt, SurfaceBody, Declared, Surface, choose, repeat, done, stmt}
+use Rattle.element_lang.specs.Surface.{object_of}
 use Rattle.element_lang.specs.Broken.{Sight, inside, in_repeat, behind, stmt_tests, decl_tests}
 
--- A declaration or a statement: how many tokens there are from its first one to the end of the source, and the rules that it can
+-- A declaration or a statement: how many tokens there are from its first one to the end of the source, and the rules
+-- that it can
 -- break, each with the test that says whether it does.
 pub record Part : Type 0 where
   pub at : ℕ
@@ -45,7 +47,8 @@ pub data StandsIn : Part → List Part → Type 0 where
 abbrev pub breaks : List (ℕ × Bool) → ℕ → Bool
 breaks tests rule = list_any (λ t. t.0 == rule && t.1) tests
 
--- One of these declarations and statements stands at the told place. It breaks the told rule and no lower one, and none that
+-- One of these declarations and statements stands at the told place. It breaks the told rule and no lower one, and none
+-- that
 -- stands before it breaks any.
 pub record IsFirstBroken (ps : List Part) (b : Broken) : Type 0 where
   pub part : Part

@@ -7,7 +7,8 @@ ghost use Rattle.element_lang.specs.Grammar.{Spells};
 ghost use Rattle.element_lang.specs.Broken.{first_broken};
 ghost use Rattle.element_lang.specs.First.{parts, IsFirstBroken, BreakNone};
 
-/// Of the declarations and statements of a source that break a rule, the told one stands first in the text; where none is told,
+/// Of the declarations and statements of a source that break a rule, the told one stands first in the text; where none
+/// is told,
 /// there is none. This does nothing: its contract is the law.
 pub fn the_first_is_told()
     ensures told { (ts : List Token) (surface : Surface) (b : Broken)
