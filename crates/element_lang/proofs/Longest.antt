@@ -1,5 +1,5 @@
 -- In a list of marks in which the longer ones stand in front, the first that fits is one that no longer one beats.
-use Rattle.std.proofs.Common.{◌≡◌, ℕ, Bool, true, false, not, ◌&&◌, ◌||◌, cond, List, [], ◌∷◌, ◌++◌, length, nat_lt, nat_le, Option, Some, None, refl, sym, ap, subst, arith, append_assoc}
+use Rattle.std.proofs.Common.{◌≡◌, ℕ, Bool, true, false, not, ◌&&◌, ◌||◌, cond, List, [], ◌∷◌, ◌++◌, length, nat_lt, Option, Some, refl, subst, arith, append_assoc}
 use Rattle.std.specs.List.{find, list_any, list_all}
 use Rattle.std.proofs.lemmas.Bool.Decides.{nat_tests}
 use Rattle.element_lang.specs.declared.mark.Mark.{Mark}

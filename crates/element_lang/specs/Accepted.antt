@@ -1,7 +1,8 @@
 -- Which texts are sources, and of which middlebox.
 use Rattle.std.specs.Prelude.{◌≡◌, ℕ, ◌+◌, ◌-◌, ◌≤◌, ◌<◌, ◌^◌, min, max, List, [], ◌∷◌, length, map, take, slice_get}
 use Rattle.std.specs.Prelude.{IsTrue, IsUtf8, Option, Some, None}
-use Rattle.element_lang.specs.declared.mark.Mark.TheVariants.{LeftParen, RightParen, LeftBracket, RightBracket, LeftBrace, RightBrace}
+use Rattle.element_lang.specs.declared.mark.Mark.TheVariants.{LeftParen, RightParen, LeftBracket, RightBracket}
+use Rattle.element_lang.specs.declared.mark.Mark.TheVariants.{LeftBrace, RightBrace}
 use Rattle.element_lang.specs.declared.sizes.What.TheVariants.{Depth, Objects, Entries, Writes}
 use Rattle.std.specs.List.{All}
 use Rattle.state_store.specs.declared.object.ObjectDecl.{ObjectDecl}
@@ -15,7 +16,8 @@ use Rattle.element_lang.specs.Broken.{first_broken}
 use Rattle.element_lang.specs.Bounds.{bound}
 use Rattle.element_lang.specs.Sizes.{entries, writes}
 
--- How many brackets are open behind a token, where so many were open before it. One that closes closes the last open one
+-- How many brackets are open behind a token, where so many were open before it. One that closes closes the last open
+-- one
 -- of whatever kind, or nothing where none is open.
 abbrev pub open_after : Token → ℕ → ℕ
 open_after (fixed LeftParen) n = n + 1
@@ -35,7 +37,8 @@ abbrev pub deepest : ℕ → List Token → ℕ
 deepest n [] = n
 deepest n (t ∷ ts) = max n (deepest (open_after t n) ts)
 
--- The text spells this middlebox, which keeps the rules: the tokens spell a surface tree that is the middlebox with its names put
+-- The text spells this middlebox, which keeps the rules: the tokens spell a surface tree that is the middlebox with its
+-- names put
 -- back. Brackets are open only so deep, and there are few enough objects.
 pub record IsSpelling (text : List ℕ) (m : Tree) : Type 0 where
   pub utf8 : IsUtf8 text
@@ -111,7 +114,8 @@ pub record HasManyObjects (text : List ℕ) (have allowed : ℕ) : Type 0 where
   pub limit : allowed ≡ bound Objects
   pub above : allowed < have
 
--- its tokens spell a surface tree, and of the declarations and statements that break a rule the first is at this offset, and this is
+-- its tokens spell a surface tree, and of the declarations and statements that break a rule the first is at this
+-- offset, and this is
 -- the lowest rule that it breaks
 pub record BreaksRule (text : List ℕ) (rule offset : ℕ) : Type 0 where
   pub utf8 : IsUtf8 text
@@ -125,7 +129,8 @@ pub record BreaksRule (text : List ℕ) (rule offset : ℕ) : Type 0 where
   pub first : first_broken surface ≡ Some (record { rule = rule; at = at })
   pub there : offset ≡ offset_at text placed (length placed - at)
 
--- It spells a middlebox that keeps the rules and has room for so many rows, which are too many. A count that 64 bits can't hold is told
+-- It spells a middlebox that keeps the rules and has room for so many rows, which are too many. A count that 64 bits
+-- can't hold is told
 -- as the greatest that they can.
 pub record HasManyEntries (text : List ℕ) (have allowed : ℕ) : Type 0 where
   pub m : Tree

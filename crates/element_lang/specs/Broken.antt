@@ -1,5 +1,6 @@
 -- Which rules a declaration or a statement breaks by its own parts, and the first in a source that breaks one.
-use Rattle.std.specs.Prelude.{ℕ, ◌^◌, Bool, true, false, not, ◌&&◌, ◌||◌, List, [], ◌∷◌, ◌++◌, map, length, nat_le, nat_lt, ◌==◌, if◌then◌else◌, Option, Some, None, is_none}
+use Rattle.std.specs.Prelude.{ℕ, ◌^◌, Bool, true, false, not, ◌&&◌, ◌||◌, List, [], ◌∷◌, ◌++◌, map, length, nat_le}
+use Rattle.std.specs.Prelude.{nat_lt, ◌==◌, if◌then◌else◌, Option, Some, None, is_none}
 use Rattle.std.specs.List.{list_any, list_all}
 use Rattle.std.specs.Str.{bytes_eq}
 use Rattle.gal_bits.specs.declared.op.Op.{Op}
@@ -8,8 +9,12 @@ use Rattle.packet_fields.specs.Table.{row}
 use Rattle.state_store.specs.declared.object.ObjectDecl.{ObjectDecl}
 use Rattle.element_lang.specs.declared.tree.Local.{Local}
 use Rattle.element_lang.specs.declared.broken.Broken.{Broken}
-use Rattle.element_lang.specs.Rules.{is_width, same_widths, fits_operator, is_count, fits_keys, fits_values, can_put, can_del, is_size, sum_of}
-use Rattle.element_lang.specs.Surface.{SurfaceExpr, SurfaceExprs, SurfaceStmt, SurfaceBody, Literal, SurfaceRow, SurfaceDecl, Declared, Surface, lit, name, field, byte, shift, apply, no_expr, expr, let_local, assign, set_field, look, put, del, choose, repeat, send, drop, done, stmt, table_decl, map_decl, vector_decl, int_decl, object_of}
+use Rattle.element_lang.specs.Rules.{is_width, same_widths, fits_operator, is_count, fits_keys, fits_values, can_put}
+use Rattle.element_lang.specs.Rules.{can_del, is_size, sum_of}
+use Rattle.element_lang.specs.Surface.{SurfaceExpr, SurfaceExprs, SurfaceStmt, SurfaceBody, Literal, SurfaceRow}
+use Rattle.element_lang.specs.Surface.{SurfaceDecl, Declared, Surface, lit, name, field, byte, shift, apply, no_expr}
+use Rattle.element_lang.specs.Surface.{expr, let_local, assign, set_field, look, put, del, choose, repeat, send, drop}
+use Rattle.element_lang.specs.Surface.{done, stmt, table_decl, map_decl, vector_decl, int_decl, object_of}
 
 -- ## What a statement sees
 
@@ -215,7 +220,8 @@ repeats_an_end _ = false
 abbrev pub is_lost : Sight → SurfaceStmt → Bool
 is_lost sight s = in_exprs (is_unknown sight.locals) (own_exprs s) || uses_unknown sight s
 
--- The rules that a statement can break, from the lowest on, each with the test that says whether it is broken. Where a name isn't
+-- The rules that a statement can break, from the lowest on, each with the test that says whether it is broken. Where a
+-- name isn't
 -- known, widths and objects aren't tested.
 abbrev pub stmt_tests : Sight → SurfaceStmt → List (ℕ × Bool)
 stmt_tests sight s =

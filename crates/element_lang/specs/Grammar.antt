@@ -1,4 +1,5 @@
--- Which tokens spell a surface tree. Each relation says: the first list of tokens is those of the tree, and then the second list.
+-- Which tokens spell a surface tree. Each relation says: the first list of tokens is those of the tree, and then the
+-- second list.
 use Rattle.std.specs.Prelude.{◌≡◌, ◌<◌, ◌≤◌, ℕ, suc, List, [], ◌∷◌, ◌++◌, length, take, Option, Some, None}
 use Rattle.gal_bits.specs.declared.op.Op.{Op}
 use Rattle.gal_bits.specs.declared.op.Op.TheVariants as ops
@@ -7,7 +8,10 @@ use Rattle.element_lang.specs.declared.mark.Mark.{Mark}
 use Rattle.element_lang.specs.declared.mark.Mark.TheVariants as marks
 use Rattle.element_lang.specs.Token.{Token, fixed, number}
 use Rattle.element_lang.specs.Token as tokens
-use Rattle.element_lang.specs.Surface.{SurfaceExpr, SurfaceExprs, SurfaceStmt, SurfaceBody, Literal, SurfaceRow, SurfaceDecl, Declared, Surface, lit, name, field, byte, shift, apply, no_expr, expr, let_local, assign, set_field, look, put, del, choose, repeat, send, drop, done, stmt, table_decl, map_decl, vector_decl, int_decl}
+use Rattle.element_lang.specs.Surface.{SurfaceExpr, SurfaceExprs, SurfaceStmt, SurfaceBody, Literal, SurfaceRow}
+use Rattle.element_lang.specs.Surface.{SurfaceDecl, Declared, Surface, lit, name, field, byte, shift, apply, no_expr}
+use Rattle.element_lang.specs.Surface.{expr, let_local, assign, set_field, look, put, del, choose, repeat, send, drop}
+use Rattle.element_lang.specs.Surface.{done, stmt, table_decl, map_decl, vector_decl, int_decl}
 
 -- the symbol between the two operands of an operator
 abbrev pub infix_of : Mark → Option Op
@@ -113,7 +117,8 @@ mutual
     is_absent : {rest : List Token} → IsElse done rest rest
     is_else : {b : SurfaceBody} {ts rest : List Token} → IsBody b ts rest → IsElse b (fixed marks.Else ∷ fixed marks.LeftBrace ∷ ts) rest
 
-  -- statements, and then the bracket that closes their block; each keeps how many tokens there are from its first one on
+  -- statements, and then the bracket that closes their block; each keeps how many tokens there are from its first one
+  -- on
   pub data IsBody : SurfaceBody → List Token → List Token → Type 0 where
     is_end : {rest : List Token} → IsBody done (fixed marks.RightBrace ∷ rest) rest
     is_more : {s : SurfaceStmt} {b : SurfaceBody} {ts between rest : List Token}
@@ -150,7 +155,8 @@ pub data IsDecl : SurfaceDecl → List Token → List Token → Type 0 where
   is_int : {word : List ℕ} {width start : ℕ} {rest : List Token}
       → IsDecl (int_decl word width start) (fixed marks.Int ∷ tokens.name word ∷ fixed marks.Colon ∷ number width ∷ fixed marks.Assign ∷ number start ∷ fixed marks.Semicolon ∷ rest) rest
 
--- Declarations, and then `process {` and the statements. Each declaration keeps how many tokens there are from its first one on.
+-- Declarations, and then `process {` and the statements. Each declaration keeps how many tokens there are from its
+-- first one on.
 pub data IsMiddlebox : List Declared → SurfaceBody → List Token → List Token → Type 0 where
   is_process : {b : SurfaceBody} {ts rest : List Token} → IsBody b ts rest → IsMiddlebox [] b (fixed marks.Process ∷ fixed marks.LeftBrace ∷ ts) rest
   is_declared : {d : SurfaceDecl} {ds : List Declared} {b : SurfaceBody} {ts us rest : List Token}
@@ -164,7 +170,8 @@ Spells ts surface = IsMiddlebox surface.objects surface.body ts []
 abbrev pub Begins : List Token → Type 0
 Begins front = (more : List Token) × (surface : Surface) × Spells (front ++ more) surface
 
--- The first wrong token stands at this place: those before it begin a source, and together with it they begin none. Where the
+-- The first wrong token stands at this place: those before it begin a source, and together with it they begin none.
+-- Where the
 -- place is behind the last one, the tokens end too early.
 pub record IsFirstWrong (ts : List Token) (place : ℕ) : Type 0 where
   pub within : place ≤ length ts

@@ -7,6 +7,7 @@ pub mod Grammar
 pub mod Widths
 pub mod Rules
 pub mod Broken
+pub mod First
 pub mod Bounds
 pub mod Sizes
 pub mod Accepted

@@ -3,12 +3,14 @@ use Rattle.std.specs.Prelude.{ℕ, Bool, not, ◌&&◌, List, [], ◌∷◌, len
 use Rattle.std.specs.List.{find, starts_with, list_any}
 use Rattle.std.specs.Str.{bytes_eq}
 use Rattle.element_lang.specs.declared.mark.Mark.{Mark}
-use Rattle.element_lang.specs.declared.mark.Mark.TheVariants.{Table, Map, Vector, Int, Capacity, Length, Process, Let, Look, Put, Del}
+use Rattle.element_lang.specs.declared.mark.Mark.TheVariants.{Table, Map, Vector, Int, Capacity, Length, Process, Let}
+use Rattle.element_lang.specs.declared.mark.Mark.TheVariants.{Look, Put, Del}
 use Rattle.element_lang.specs.declared.mark.Mark.TheVariants.{If, Else, Repeat, Send, Drop, Byte, Cast, Select, Adjust}
 use Rattle.element_lang.specs.declared.mark.Mark.TheVariants.{Arrow, Equal, NotEqual, AtMost, ShiftLeft, ShiftRight}
 use Rattle.element_lang.specs.declared.mark.Mark.TheVariants.{LeftParen, RightParen, LeftBracket, RightBracket}
 use Rattle.element_lang.specs.declared.mark.Mark.TheVariants.{LeftBrace, RightBrace, Comma, Semicolon, Colon, Assign}
-use Rattle.element_lang.specs.declared.mark.Mark.TheVariants.{Plus, Minus, Star, Slash, Percent, Ampersand, Bar, Caret, Tilde, Less}
+use Rattle.element_lang.specs.declared.mark.Mark.TheVariants.{Plus, Minus, Star, Slash, Percent, Ampersand, Bar, Caret}
+use Rattle.element_lang.specs.declared.mark.Mark.TheVariants.{Tilde, Less}
 
 -- how it is written
 abbrev pub spelling : Mark → List ℕ

@@ -1,5 +1,6 @@
 -- What a middlebox does to packets.
-use Rattle.std.specs.Prelude.{ℕ, zero, suc, ◌+◌, ◌%◌, ◌^◌, ◌==◌, Bool, true, false, List, [], ◌∷◌, map, length, replicate, is_some, if◌then◌else◌, slice_index, slice_set}
+use Rattle.std.specs.Prelude.{ℕ, zero, suc, ◌+◌, ◌%◌, ◌^◌, ◌==◌, Bool, true, false, List, [], ◌∷◌, map, length}
+use Rattle.std.specs.Prelude.{replicate, is_some, if◌then◌else◌, slice_index, slice_set}
 use Rattle.gal_bits.specs.Operators.{value_of as operator_value}
 use Rattle.packet_fields.specs.declared.field.Field.{Field}
 use Rattle.packet_fields.specs.declared.packet.Packet.{Packet}

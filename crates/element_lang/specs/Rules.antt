@@ -1,5 +1,6 @@
 -- The rules that a middlebox keeps, each as a test.
-use Rattle.std.specs.Prelude.{ℕ, suc, ◌+◌, ◌^◌, Bool, true, false, not, ◌&&◌, ◌||◌, List, [], ◌∷◌, ◌++◌, map, length, nat_le, nat_lt, ◌==◌, Option, Some, None, slice_get, slice_index}
+use Rattle.std.specs.Prelude.{ℕ, suc, ◌+◌, ◌^◌, Bool, true, false, not, ◌&&◌, ◌||◌, List, [], ◌∷◌, ◌++◌, map, length}
+use Rattle.std.specs.Prelude.{nat_le, nat_lt, ◌==◌, Option, Some, None, slice_get, slice_index}
 use Rattle.std.specs.List.{list_any, list_all}
 use Rattle.std.specs.Str.{bytes_eq}
 pub use Rattle.gal_bits.specs.Fitting.{is_width, same_widths, fits_operator, is_shift}
@@ -50,7 +51,8 @@ abbrev pub counted_from : ℕ → List ℕ → Bool
 counted_from n [] = true
 counted_from n (x ∷ xs) = x == n && counted_from (n + 1) xs
 
--- locals that are declared together have names of their own: none is that of an object, of a local in scope, or of another of them
+-- locals that are declared together have names of their own: none is that of an object, of a local in scope, or of
+-- another of them
 abbrev pub are_fresh : Tree → List ℕ → List ℕ → Bool
 are_fresh m scope [] = true
 are_fresh m scope (x ∷ xs) =

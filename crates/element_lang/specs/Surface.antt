@@ -38,7 +38,8 @@ mutual
     send : (port : SurfaceExpr) → SurfaceStmt
     drop : SurfaceStmt
 
-  -- Statements, in order. `at` tells where one begins: how many tokens there are from its first one to the end of the source.
+  -- Statements, in order. `at` tells where one begins: how many tokens there are from its first one to the end of the
+  -- source.
   pub data SurfaceBody : Type 0 where
     done : SurfaceBody
     stmt : (at : ℕ) → SurfaceStmt → SurfaceBody → SurfaceBody

@@ -1,5 +1,6 @@
 -- The tokens of a source.
-use Rattle.std.specs.Prelude.{◌≡◌, ℕ, suc, ◌+◌, ◌-◌, ◌*◌, ◌^◌, Bool, true, false, not, ◌&&◌, ◌||◌, List, [], ◌∷◌, length, drop}
+use Rattle.std.specs.Prelude.{◌≡◌, ℕ, suc, ◌+◌, ◌-◌, ◌*◌, ◌^◌, Bool, true, false, not, ◌&&◌, ◌||◌, List, [], ◌∷◌}
+use Rattle.std.specs.Prelude.{length, drop}
 use Rattle.std.specs.Prelude.{Option, Some, None, nat_eq, nat_lt, nat_le, ◌==◌, if◌then◌else◌, codes, take_while}
 use Rattle.std.specs.List.{starts_with, list_any}
 use Rattle.packet_fields.specs.declared.field.Field.{Field}
@@ -36,7 +37,8 @@ is_word_byte b = is_number_byte b || b == 46
 abbrev pub starts_comment : List ℕ → Bool
 starts_comment bs = starts_with nat_eq bs (codes "//")
 
--- How many bytes of blanks and comments stand in front. `inside` says whether a comment has begun; it ends before the next LF.
+-- How many bytes of blanks and comments stand in front. `inside` says whether a comment has begun; it ends before the
+-- next LF.
 abbrev pub gap : Bool → List ℕ → ℕ
 gap inside [] = 0
 gap true (b ∷ bs) = suc (gap (not (b == 10)) bs)
@@ -83,7 +85,8 @@ abbrev mutual
   hex_value (Some n) [] = Some n
   hex_value (Some n) (b ∷ bs) = hex_value (with_digit 16 n (hex_digit b)) bs
 
--- The number that these bytes spell: decimal digits, or `0x` and at least one hexadecimal digit, with a value below 2 ^ 64.
+-- The number that these bytes spell: decimal digits, or `0x` and at least one hexadecimal digit, with a value below 2 ^
+-- 64.
 -- Zeros may stand in front.
 abbrev pub number_value : List ℕ → Option ℕ
 number_value bs =

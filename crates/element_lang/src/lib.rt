@@ -3,6 +3,7 @@
 
 mod broken;
 mod copy;
+mod laws;
 mod mark;
 mod sizes;
 #[cfg(test)]
@@ -10,6 +11,7 @@ mod tests;
 mod tree;
 
 pub use broken::Broken;
+pub use laws::the_first_is_told;
 pub use mark::Mark;
 pub use sizes::{MAX_DEPTH, MAX_ENTRIES, MAX_OBJECTS, MAX_ROWS, MAX_WRITES, What, is_size};
 pub use tree::{Body, Expr, Local, Locals, Middlebox, Stmt};
