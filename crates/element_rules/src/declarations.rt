@@ -13,7 +13,7 @@ use crate::names::{name_of, object_named};
 use crate::rows::{any_row_too_large, has_bad_row, rows_have_good_widths};
 use crate::widths::{fits, is_list_of_numbers, is_width};
 use element_grammar::{At, SurfaceDecl};
-use element_lang::{Broken, MAX_ROWS};
+use element_lang::{Broken, is_size};
 use gal_io::NoMemory;
 use std::alloc::Global;
 
@@ -64,13 +64,6 @@ fn has_large_numbers(declaration: &SurfaceDecl) -> bool
         SurfaceDecl::Int { width, start, .. } => !fits(*start, *width),
         SurfaceDecl::Map { .. } | SurfaceDecl::Vector { .. } => false,
     }
-}
-
-// Whether a map may have room for so many rows, and a vector so many.
-fn is_size(size: u64) -> bool
-    ensures { result ≡ rules.is_size size }
-{
-    1 <= size && size <= MAX_ROWS as u64
 }
 
 // Whether a map has room for no rows or for too many, or a vector has none or too many.

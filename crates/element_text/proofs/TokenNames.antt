@@ -7,8 +7,8 @@ use Rattle.std.proofs.lemmas.List.Sums.{take_while-cons}
 use Rattle.packet_fields.specs.declared.field.Field.{Field}
 use Rattle.packet_fields.specs.Table.{field_named}
 use Rattle.element_lang.specs.declared.mark.Mark.{Mark}
-use Rattle.element_lang.specs.declared.mark.TheConstants.{KEYWORDS, SYMBOLS}
-use Rattle.element_lang.specs.Token.{Token, fixed, number, name, field, Lexeme, Placed, IsName, AreTokens, HasTokens, gap, lexeme, lexeme_of, is_letter, is_digit, is_word_byte, is_number_byte, field_token, plain_word, word_token, word_lexeme, number_token, number_value, number_lexeme, symbol_of, mark_written, mark_in_front}
+use Rattle.element_lang.specs.Mark.{keyword, symbol_in_front}
+use Rattle.element_lang.specs.Token.{Token, fixed, number, name, field, Lexeme, Placed, IsName, AreTokens, HasTokens, gap, lexeme, lexeme_of, is_letter, is_digit, is_word_byte, is_number_byte, field_token, plain_word, word_token, word_lexeme, number_token, number_value, number_lexeme, symbol_of}
 use Rattle.element_lang.specs.Accepted.{plain}
 
 -- every name among these tokens is one when it stands alone
@@ -65,7 +65,7 @@ held p (x ∷ xs) = by_test (p x) refl (held p xs)
 lexeme_alone : (b : ℕ) (rest : List ℕ) → is_letter b ≡ true → take_while is_word_byte (b ∷ rest) ≡ b ∷ rest → lexeme (b ∷ rest) ≡ word_lexeme (b ∷ rest)
 lexeme_alone b rest letter whole =
     ap (λ l. if l then word_lexeme (take_while is_word_byte (b ∷ rest)) else
-    (if is_digit b then number_lexeme (take_while is_number_byte (b ∷ rest)) else symbol_of (mark_in_front SYMBOLS (b ∷ rest)))) letter
+    (if is_digit b then number_lexeme (take_while is_number_byte (b ∷ rest)) else symbol_of (symbol_in_front (b ∷ rest)))) letter
     ∙ ap word_lexeme whole
 
 word_alone : (b : ℕ) (rest word : List ℕ) → is_letter b ≡ true → word ≡ b ∷ rest → take_while is_word_byte word ≡ word → word_token word ≡ Some (name word)
@@ -78,9 +78,9 @@ name_alone : (bs : List ℕ) (x : Lexeme) (w : List ℕ) → lexeme bs ≡ Some 
 name_alone [] x w e n = cc
 name_alone (b ∷ bs) x w e n =
     let word : List ℕ = take_while is_word_byte (b ∷ bs) in
-    let parts = name_is_word (is_letter b) (is_digit b) word (take_while is_number_byte (b ∷ bs)) (mark_in_front SYMBOLS (b ∷ bs)) x w e n in
+    let parts = name_is_word (is_letter b) (is_digit b) word (take_while is_number_byte (b ∷ bs)) (symbol_in_front (b ∷ bs)) x w e n in
     let token : word_token word ≡ Some (name w) = some_token (length word) (word_token word) x parts.1 ∙ ap Some n in
-    let same : word ≡ w = word_is (list_any (λ b. b == 46) word) (field_named word) word (mark_written KEYWORDS word) w token in
+    let same : word ≡ w = word_is (list_any (λ b. b == 46) word) (field_named word) word (keyword word) w token in
     let goes_on : is_word_byte b ≡ true = or_left (is_letter b || is_digit b || b == 95) (b == 46)
     (or_left (is_letter b || is_digit b) (b == 95) (or_left (is_letter b) (is_digit b) parts.0)) in
     let split : word ≡ b ∷ take_while is_word_byte bs = take_while-cons is_word_byte b bs ∙ ap (λ t. cond t (b ∷ take_while is_word_byte bs) []) goes_on in

@@ -1,7 +1,7 @@
 //! From a source's tree to a middlebox: names become numbers.
 ghost use Rattle.std.specs.Prelude.{◌≡◌, ◌≤◌, IsTrue, IfOk, IsSome, map, length, true, Some};
 ghost use Rattle.element_lang.specs.Tree.{Tree};
-ghost use Rattle.element_lang.specs.Tree.StmtTree as trees;
+ghost use Rattle.element_lang.specs.Tree as trees;
 ghost use Rattle.element_lang.specs.Rules.{is_count, is_good};
 ghost use Rattle.element_lang.specs.Surface.{named, unplaced};
 ghost use Rattle.element_lang.specs.Surface as surface;

@@ -13,7 +13,7 @@ use Rattle.element_text.proofs.Declarations.{one_by_one}
 use Rattle.element_text.proofs.Answering.{first_env, first_is, resolved_made, only_one}
 use Rattle.element_text.proofs.Sound.{resolved_named, resolved_good, resolved_names}
 use Rattle.element_text.proofs.rules.resolve.Goals as goal
-use Rattle.element_text.proofs.rules.resolve.Goals.{After-drop-scope-2}
+use Rattle.element_text.proofs.rules.resolve.Goals.{After-drop-scope-5}
 
 -- a tree that breaks no rule has a middlebox
 there : (s : Surface) → IsUnbroken s → IsSome (resolved s)
@@ -41,7 +41,7 @@ block-requires c =
     ap (λ l. is_some (made_body scope (surface_body text l))) c.deref-2.ensures.value ∙ ap (λ e. is_some (made_body e s.body)) first ∙ body_there s c.requires
 
 -- the resolution of the whole source
-whole : (c : After-drop-scope-2) → resolved (surface_tree c.args.text.now c.args.source.now) ≡ Some (tree (record { objects = c.block.new.scope.objects; locals = c.block.new.scope.locals; body = c.in_ok-body.body }))
+whole : (c : After-drop-scope-5) → resolved (surface_tree c.args.text.now c.args.source.now) ≡ Some (tree (record { objects = c.block.new.scope.objects; locals = c.block.new.scope.locals; body = c.in_ok-body.body }))
 whole c =
     let text = c.args.text.now in
     let s = surface_tree text c.args.source.now in
