@@ -1,5 +1,5 @@
 -- What follows from how a call ends.
-use Rattle.std.proofs.Common.{◌≡◌, ◌≤◌, ◌⊎◌, ℕ, List, [], ◌∷◌, Option, Some, None, sym, subst, ap, ◌∙◌, inl, inr}
+use Rattle.std.proofs.Common.{◌≡◌, ◌⊎◌, ℕ, List, [], ◌∷◌, Option, Some, None, sym, subst, ap, ◌∙◌, inl, inr}
 use Rattle.gal_io.specs.Count.{Rose}
 use Rattle.gal_io.specs.Files.{FilesState}
 use Rattle.gal_io.specs.declared.sink.SinkEnd.{SinkEnd}

@@ -185,8 +185,8 @@ fn perform<'a, F: Files, O: Sink>(
 }
 
 /// Does what the words after the program's name ask for, and answers how that ended. On Done, `out` has received one
-/// whole text. With every other status `err` receives one line. What is promised of a whole call, from its cause to what
-/// it leaves on both sinks, are the parts of `Promises`.
+/// whole text. With every other status `err` receives one line. The parts of `Promises` are what is promised of a whole
+/// call, from its cause to what it leaves on both sinks.
 pub fn gallium<F: Files, O: Sink, E: Sink>(
     alloc: Global,
     words: &[String],
