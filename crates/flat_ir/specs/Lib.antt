@@ -1,0 +1,6 @@
+pub mod Program
+pub mod Blocks
+pub mod Run
+pub mod Fits
+pub mod WellFormed
+pub mod Laws
