@@ -4,4 +4,6 @@ pub mod Run
 pub mod Fits
 pub mod Kinds
 pub mod WellFormed
+pub mod Sets
+pub mod Stages
 pub mod Laws

@@ -1,0 +1,7 @@
+mod Marks
+mod Placing
+mod Rising
+mod Guarding
+mod Falling
+mod Deep
+mod Least

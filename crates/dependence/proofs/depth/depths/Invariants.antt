@@ -1,0 +1,5 @@
+use Rattle.dependence.proofs.Deep.{IsDepthsSoFar}
+use Rattle.dependence.proofs.depth.depths.Given as goal
+
+abbrev pub invariant-loop-i : goal.invariant-loop-i
+invariant-loop-i l = IsDepthsSoFar l.f l.members l.i l.depths

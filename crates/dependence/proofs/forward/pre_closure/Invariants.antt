@@ -1,0 +1,5 @@
+use Rattle.dependence.proofs.Rising.{IsSoFar, PreMay, needed_of}
+use Rattle.dependence.proofs.forward.pre_closure.Given as goal
+
+abbrev pub invariant-loop-i : goal.invariant-loop-i
+invariant-loop-i l = IsSoFar l.f (PreMay l.f l.k) needed_of l.i l.pre

@@ -1,0 +1,5 @@
+use Rattle.dependence.proofs.Guarding.{AreWriteBlocksSoFar}
+use Rattle.dependence.proofs.guard.write_blocks.Given as goal
+
+abbrev pub invariant-loop-i : goal.invariant-loop-i
+invariant-loop-i l = AreWriteBlocksSoFar l.f l.i l.marks
