@@ -1,6 +1,12 @@
-pub mod Program
+pub mod Arrivals
 pub mod Blocks
-pub mod Run
 pub mod Fits
-pub mod WellFormed
 pub mod Laws
+pub mod Listing
+pub mod Program
+pub mod Registers
+pub mod Run
+pub mod Tests
+pub mod Turns
+pub mod WellFormed
+pub mod Writable
