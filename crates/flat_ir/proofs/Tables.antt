@@ -11,6 +11,7 @@ use Rattle.flat_ir.specs.Blocks.{Reading, is_live}
 use Rattle.flat_ir.specs.Run.{change_of, made, with_changes, is_stored, after}
 use Rattle.flat_ir.specs.WellFormed.{IsWellFormed, WritesNoTable, is_constant}
 use Rattle.flat_ir.specs.Laws.{KeepsTables}
+use Rattle.flat_ir.proofs.Fitting.{writes_no_table}
 
 module _ (alone : (st : Store) (number : ℕ) (object : Object) → IsChangedAlone st number object) where
   -- a change of one object leaves the others
@@ -44,5 +45,5 @@ module _ (alone : (st : Store) (number : ℕ) (object : Object) → IsChangedAlo
   pub keeps_tables : (f : Program) (st : Store) (packet : Packet) → IsWellFormed f → KeepsTables f st packet
   keeps_tables f st packet well number zero is le = refl
   keeps_tables f st packet well number (suc n) is le =
-      step_keeps f (after f st packet n).reads (is_live f.blocks (after f st packet n).reads (step_at f n).block) (after f st packet n).store number (step_at f n).work is (well.writes_no_table n le)
+      step_keeps f (after f st packet n).reads (is_live f.blocks (after f st packet n).reads (step_at f n).block) (after f st packet n).store number (step_at f n).work is (writes_no_table f (step_at f n).work (well.fit n le))
       ∙ keeps_tables f st packet well number n is (omega (arith, le))

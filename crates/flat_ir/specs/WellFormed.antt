@@ -9,7 +9,7 @@ use Rattle.flat_ir.specs.declared.program.ValueId.{ValueId}
 use Rattle.flat_ir.specs.declared.program.FieldValue.{FieldValue}
 use Rattle.flat_ir.specs.Program.{Program, Work, step_at, operands, is_named, width_of_value}
 use Rattle.flat_ir.specs.Program.Work.{const, field, apply, shift, select, byte, look, put, del}
-use Rattle.flat_ir.specs.Blocks.{block_at, line, is_above}
+use Rattle.flat_ir.specs.Blocks.{block_at, line, is_above, HasLowParents}
 use Rattle.flat_ir.specs.Fits.{fits}
 
 -- the value's block is this one or stands above it
@@ -62,7 +62,7 @@ pub record IsWritten (f : Program) (w : FieldValue) : Type 0 where
 
 pub record IsWellFormed (f : Program) : Type 0 where
   -- a block stands below one with a lower number
-  pub parents : (k : ℕ) → k < length f.blocks → (block_at f.blocks k).parent ≤ k
+  pub parents : HasLowParents f.blocks
   -- its condition is there, has 1 bit, and stands in its parent or above that
   pub names_conditions : (k : ℕ) → k < length f.blocks → IsTrue (is_named f (block_at f.blocks k).cond)
   pub condition_widths : (k : ℕ) → k < length f.blocks → width_of_value f (block_at f.blocks k).cond ≡ 1

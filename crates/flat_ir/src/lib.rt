@@ -1,8 +1,15 @@
 //! Flat programs: what they are, which are well formed, what they do to packets, and how they are listed.
 #![tactic(auto)]
 
+mod blocks;
+mod eval;
 mod laws;
+mod listing;
 mod program;
+mod registers;
+mod work;
 
+pub use eval::eval_flat;
 pub use laws::{a_run_is_its_changes, a_run_is_its_values, a_run_keeps_the_tables};
+pub use listing::print_flat;
 pub use program::{Block, Blocks, Code, FieldValue, Flat, Instr, InstrKind, Out, ValueId};

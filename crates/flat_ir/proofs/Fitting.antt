@@ -1,0 +1,56 @@
+-- What follows where an instruction's parts fit.
+use Rattle.std.proofs.Common.{◌≡◌, ◌≤◌, ℕ, zero, suc, Bool, true, false, not, ◌&&◌, ◌==◌, List, [], ◌∷◌, map, length, slice_get, slice_index, Option, Some, None, refl, sym, ap, ◌∙◌, subst, arith, true≢false}
+use Rattle.std.proofs.lemmas.Bool.{eqb-true}
+use Rattle.std.proofs.lemmas.List.{length-map}
+use Rattle.gal_bits.specs.declared.op.Op.{Op}
+use Rattle.gal_bits.specs.declared.op.Op.TheVariants.{Add, Sub, Mul, Div, Rem, And, Or, Xor, Not, Shl, Shr, Eq, Ne, Lt, Le, Cast, Select, Adjust}
+use Rattle.gal_bits.specs.Operators.{row_of}
+use Rattle.state_store.specs.declared.object.Kind.{Kind}
+use Rattle.state_store.specs.declared.object.Kind.TheVariants.{Table, Map, Vector, Int}
+use Rattle.state_store.specs.declared.object.ObjectDecl.{ObjectDecl}
+use Rattle.state_store.specs.Kinds.{is_table, is_map}
+use Rattle.flat_ir.specs.declared.program.ValueId.{ValueId}
+use Rattle.flat_ir.specs.Program.{Program, Work, step_at, width_of_value}
+use Rattle.flat_ir.specs.Program.Work.{const, field, apply, shift, select, byte, look, put, del}
+use Rattle.flat_ir.specs.Fits.{same_widths, fits_operator, is_shift, fits_keys, fits_values, can_put, can_del, widths_of, fits}
+use Rattle.flat_ir.specs.WellFormed.{WritesNoTable, is_constant}
+use Rattle.flat_ir.proofs.Parts.{left, right, not_true}
+
+pub same_list : (xs ys : List ℕ) → same_widths xs ys ≡ true → xs ≡ ys
+same_list [] [] h = refl
+same_list [] (y ∷ ys) h = absurd (true≢false (sym h))
+same_list (x ∷ xs) [] h = absurd (true≢false (sym h))
+same_list (x ∷ xs) (y ∷ ys) h =
+    let first : x ≡ y = eqb-true x y (left _ _ h) in
+    let rest : xs ≡ ys = same_list xs ys (right (x == y) (same_widths xs ys) h) in
+    cc
+
+-- ## What is written is no constant table
+
+no_table : (kind : Kind) → is_map kind ≡ true → is_table kind ≡ false
+no_table Table h = absurd (true≢false (sym h))
+no_table Map h = refl
+no_table Vector h = absurd (true≢false (sym h))
+no_table Int h = absurd (true≢false (sym h))
+
+put_free : (ds : List ObjectDecl) (o : ℕ) → can_put (slice_get ds o) ≡ true → is_constant ds o ≡ false
+put_free [] o h = refl
+put_free (d ∷ ds) zero h = not_true (is_table d.kind) h
+put_free (d ∷ ds) (suc o) h = put_free ds o h
+
+del_free : (ds : List ObjectDecl) (o : ℕ) → can_del (slice_get ds o) ≡ true → is_constant ds o ≡ false
+del_free [] o h = refl
+del_free (d ∷ ds) zero h = no_table d.kind h
+del_free (d ∷ ds) (suc o) h = del_free ds o h
+
+pub writes_no_table : (f : Program) (work : Work) → fits f work ≡ true → WritesNoTable f work
+writes_no_table f (put object keys values) h =
+    put_free f.objects object (left (can_put (slice_get f.objects object)) _ (left (can_put (slice_get f.objects object) && fits_keys (slice_get f.objects object) (widths_of f keys)) _ h))
+writes_no_table f (del object keys) h = del_free f.objects object (left (can_del (slice_get f.objects object)) _ h)
+writes_no_table f (const width number) h = tt
+writes_no_table f (field name) h = tt
+writes_no_table f (apply op width args) h = tt
+writes_no_table f (shift op width arg by) h = tt
+writes_no_table f (select width cond first second) h = tt
+writes_no_table f (byte index) h = tt
+writes_no_table f (look object keys) h = tt
