@@ -11,7 +11,7 @@ use Rattle.flat_ir.specs.Sets.{Reads, IsMarked, IsAt, IsPostClosed, IsGreatest}
 use Rattle.dependence.specs.Placed.{IsPlaced}
 use Rattle.dependence.specs.Guards.{AreGuards}
 use Rattle.dependence.specs.Barred.{Joins, IsPostFrom}
-use Rattle.dependence.proofs.Marks.{marked_set_kept, marked_set_same, marked_set_cases, unset_marked, not_both, not_marked, reads_append, append_reads, and_true, true_and, not_true, true_not}
+use Rattle.dependence.proofs.Marking.{marked_set_kept, marked_set_same, marked_set_cases, unset_marked, not_both, not_marked, reads_append, append_reads, and_true, true_and, not_true, true_not}
 
 pub joins_none : (marks : List Bool) → Joins marks marks []
 joins_none marks = record {

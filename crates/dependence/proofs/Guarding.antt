@@ -12,7 +12,7 @@ use Rattle.flat_ir.specs.Kinds.{is_write}
 use Rattle.flat_ir.specs.Sets.{IsMarked, IsAt, IsGuard, is_condition_of, decides_on}
 use Rattle.dependence.specs.Placed.{IsPlaced}
 use Rattle.dependence.specs.Guards.{AreGuards, AreWriteBlocks, AreGuardsFrom, HasWrite}
-use Rattle.dependence.proofs.Marks.{marked_set_kept, marked_set_same, marked_set_cases, unset_marked, marked_inside}
+use Rattle.dependence.proofs.Marking.{marked_set_kept, marked_set_same, marked_set_cases, unset_marked, marked_inside}
 
 -- ## The line of blocks above a block
 

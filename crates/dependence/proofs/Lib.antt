@@ -1,4 +1,4 @@
-mod Marks
+mod Marking
 mod Placing
 mod Rising
 mod Guarding

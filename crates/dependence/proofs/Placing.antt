@@ -12,7 +12,7 @@ use Rattle.flat_ir.specs.Blocks.{block_at}
 use Rattle.flat_ir.specs.WellFormed.{IsWellFormed}
 use Rattle.flat_ir.specs.Sets.{IsAt, Reads}
 use Rattle.dependence.specs.Placed.{IsPlaced}
-use Rattle.dependence.proofs.Marks.{and_true, lt_true}
+use Rattle.dependence.proofs.Marking.{and_true, lt_true}
 
 -- the instruction that is there is the one that `step_at` gives
 pub step_there : (f : Program) (i : ℕ) (one : Step) → IsAt f i one → step_at f i ≡ one

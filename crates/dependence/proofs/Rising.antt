@@ -11,7 +11,7 @@ use Rattle.flat_ir.specs.Kinds.{needed, fits_switch, is_mutable_look}
 use Rattle.flat_ir.specs.Sets.{Reads, IsMarked, IsAt, IsPreClosed, IsCarriedClosed, IsGreatest}
 use Rattle.dependence.specs.Placed.{IsPlaced}
 use Rattle.dependence.specs.Marked.{are_marked}
-use Rattle.dependence.proofs.Marks.{marked_push_old, marked_push_cases, marked_push_last, all_read, read_all, and_true, true_and, not_true, true_not, lt_true, true_lt}
+use Rattle.dependence.proofs.Marking.{marked_push_old, marked_push_cases, marked_push_last, all_read, read_all, and_true, true_and, not_true, true_not, lt_true, true_lt}
 
 -- what may be in the set by itself, and what it wants of its operands
 pub record IsClosed (f : Program) (May : ℕ → Type 0) (wants : Step → List ValueId) (marks : List Bool) : Type 0 where

@@ -47,12 +47,17 @@ fn bar_operands(barred: &mut Marks, kind: &InstrKind)
 {
     match kind {
         InstrKind::Const(..) | InstrKind::Field(_) => bar(barred, &[]),
-        InstrKind::Apply(_, _, args) => bar(barred, args),
-        InstrKind::Shift(_, _, arg, _) => bar(barred, &[*arg]),
-        InstrKind::Select(_, cond, first, second) => bar(barred, &[*cond, *first, *second]),
+        InstrKind::Apply { args, .. } => bar(barred, args),
+        InstrKind::Shift { arg, .. } => bar(barred, &[*arg]),
+        InstrKind::Select {
+            cond,
+            first,
+            second,
+            ..
+        } => bar(barred, &[*cond, *first, *second]),
         InstrKind::Byte(index) => bar(barred, &[*index]),
-        InstrKind::Look(_, keys) | InstrKind::Del(_, keys) => bar(barred, keys),
-        InstrKind::Put(_, keys, values) => bar_both(barred, keys, values),
+        InstrKind::Look { keys, .. } | InstrKind::Del { keys, .. } => bar(barred, keys),
+        InstrKind::Put { keys, values, .. } => bar_both(barred, keys, values),
     }
 }
 

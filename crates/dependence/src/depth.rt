@@ -43,14 +43,19 @@ fn deepest_operand(members: &Marks, depths: &Depths, kind: &InstrKind) -> u32
 {
     match kind {
         InstrKind::Const(..) | InstrKind::Field(_) => 0,
-        InstrKind::Apply(_, _, args) => deepest(members, depths, args),
-        InstrKind::Shift(_, _, arg, _) => deepest(members, depths, &[*arg]),
-        InstrKind::Select(_, cond, first, second) => {
-            deepest(members, depths, &[*cond, *first, *second])
-        }
+        InstrKind::Apply { args, .. } => deepest(members, depths, args),
+        InstrKind::Shift { arg, .. } => deepest(members, depths, &[*arg]),
+        InstrKind::Select {
+            cond,
+            first,
+            second,
+            ..
+        } => { deepest(members, depths, &[*cond, *first, *second]) }
         InstrKind::Byte(index) => deepest(members, depths, &[*index]),
-        InstrKind::Look(_, keys) | InstrKind::Del(_, keys) => deepest(members, depths, keys),
-        InstrKind::Put(_, keys, values) => deepest_of_both(members, depths, keys, values),
+        InstrKind::Look { keys, .. } | InstrKind::Del { keys, .. } => deepest(
+            members, depths, keys,
+        ),
+        InstrKind::Put { keys, values, .. } => deepest_of_both(members, depths, keys, values),
     }
 }
 

@@ -26,12 +26,17 @@ pub(crate) fn has_operands(marks: &Marks, kind: &InstrKind) -> bool
 {
     match kind {
         InstrKind::Const(..) | InstrKind::Field(_) => true,
-        InstrKind::Apply(_, _, args) => are_marked(marks, args),
-        InstrKind::Shift(_, _, arg, _) => are_marked(marks, &[*arg]),
-        InstrKind::Select(_, cond, first, second) => are_marked(marks, &[*cond, *first, *second]),
+        InstrKind::Apply { args, .. } => are_marked(marks, args),
+        InstrKind::Shift { arg, .. } => are_marked(marks, &[*arg]),
+        InstrKind::Select {
+            cond,
+            first,
+            second,
+            ..
+        } => are_marked(marks, &[*cond, *first, *second]),
         InstrKind::Byte(index) => are_marked(marks, &[*index]),
-        InstrKind::Look(_, keys) | InstrKind::Del(_, keys) => are_marked(marks, keys),
-        InstrKind::Put(_, keys, values) => are_marked(marks, keys) && are_marked(marks, values),
+        InstrKind::Look { keys, .. } | InstrKind::Del { keys, .. } => are_marked(marks, keys),
+        InstrKind::Put { keys, values, .. } => are_marked(marks, keys) && are_marked(marks, values),
     }
 }
 
@@ -40,7 +45,7 @@ pub(crate) fn has_needs(marks: &Marks, kind: &InstrKind) -> bool
     ensures { result ≡ are_marked marks.now (needed (work_of kind.now)) }
 {
     match kind {
-        InstrKind::Select(_, cond, _, _) => are_marked(marks, &[*cond]),
+        InstrKind::Select { cond, .. } => are_marked(marks, &[*cond]),
         _ => has_operands(marks, kind),
     }
 }
@@ -50,9 +55,9 @@ fn can_switch(kind: &InstrKind) -> bool
 {
     match kind {
         InstrKind::Const(..) | InstrKind::Field(_) => true,
-        InstrKind::Apply(op, _, _) => on_switch(*op),
-        InstrKind::Shift(..) | InstrKind::Select(..) | InstrKind::Look(..) => true,
-        InstrKind::Byte(_) | InstrKind::Put(..) | InstrKind::Del(..) => false,
+        InstrKind::Apply { op, .. } => on_switch(*op),
+        InstrKind::Shift { .. } | InstrKind::Select { .. } | InstrKind::Look { .. } => true,
+        InstrKind::Byte(_) | InstrKind::Put { .. } | InstrKind::Del { .. } => false,
     }
 }
 
@@ -78,7 +83,7 @@ pub(crate) fn is_mutable_look(f: &Flat, kind: &InstrKind) -> bool
     ensures { result ≡ is_mutable_look (program_of f.now) (work_of kind.now) }
 {
     match kind {
-        InstrKind::Look(object, _) => !is_constant(f.objects.as_slice(), *object),
+        InstrKind::Look { object, .. } => !is_constant(f.objects.as_slice(), *object),
         _ => false,
     }
 }
@@ -108,7 +113,7 @@ pub(crate) fn is_write(kind: &InstrKind) -> bool
     ensures { result ≡ is_write (work_of kind.now) }
 {
     match kind {
-        InstrKind::Put(..) | InstrKind::Del(..) => true,
+        InstrKind::Put { .. } | InstrKind::Del { .. } => true,
         _ => false,
     }
 }
