@@ -4,19 +4,19 @@ use Rattle.std.specs.Prelude.{slice_get, slice_index_or, Some, ◌==◌}
 use Rattle.std.specs.List.{list_any}
 use Rattle.std.proofs.lemmas.Option.{same_Some, slice_get_within}
 use Rattle.std.proofs.lemmas.Bool.{cases_lt, cases_eq, or_cases, or_left, or_right, eqb-true, eq-eqb, false≢true}
-use Rattle.std.proofs.lemmas.List.{length-replicate}
+use Rattle.std.proofs.lemmas.List.{length-replicate, get_or_default}
 use Rattle.flat_ir.specs.declared.program.Block.{Block}
 use Rattle.flat_ir.specs.Program.{Program, Step}
 use Rattle.flat_ir.specs.Blocks.{block_at, line, line_up}
 use Rattle.flat_ir.specs.Kinds.{is_write}
 use Rattle.flat_ir.specs.Sets.{IsMarked, IsAt, IsGuard, is_condition_of, decides_on}
 use Rattle.dependence.specs.Placed.{IsPlaced}
-use Rattle.dependence.specs.Guards.{AreGuards, AreWriteBlocks, AreGuardsFrom, HasWrite}
+use Rattle.dependence.specs.Guards.{AreGuards, AreWriteBlocks, AreWriteBlocksSoFar, AreGuardsFrom, HasWrite}
 use Rattle.dependence.proofs.Marking.{marked_set_kept, marked_set_same, marked_set_cases, unset_marked, marked_inside}
 
 -- ## The line of blocks above a block
 
-no_block : Block
+abbrev no_block : Block
 no_block = record { parent = 0; cond = record { instruction = 0; result = 0 }; polarity = true }
 
 beyond : (blocks : List Block) (k : ℕ) → length blocks ≤ k → (block_at blocks k).parent ≡ 0
@@ -53,12 +53,6 @@ decides_above f good j k h =
     decides_suc f good j k ∙ or_right (is_condition_of f j (suc k)) (decides_on f j (block_at f.blocks k).parent) h
 
 -- ## The blocks of the writes
-
--- the blocks of the writes among the first i instructions
-pub record AreWriteBlocksSoFar (f : Program) (i : ℕ) (marks : List Bool) : Type 0 where
-  pub count : length marks ≡ length f.blocks + 1
-  pub sound : (b : ℕ) → IsMarked marks b → HasWrite f b
-  pub complete : (k : ℕ) (one : Step) → k < i → IsAt f k one → is_write one.work ≡ true → IsMarked marks one.block
 
 pub no_blocks : (f : Program) → AreWriteBlocksSoFar f 0 (replicate (length f.blocks + 1) false)
 no_blocks f = record {
@@ -173,6 +167,14 @@ pass_block f k covering guards out from = record {
   covers = from.covers;
   sound = from.sound;
 }
+
+pub lifted : (f : Program) (b : ℕ) (d : Block) (covering guards : List Bool) → IsPlaced f → 0 < b → b ≤ length f.blocks → IsMarked covering b
+    → AreGuardsFrom f b covering guards
+    → AreGuardsFrom f (b - 1) (set covering (get_or f.blocks (b - 1) d).parent true) (set guards (get_or f.blocks (b - 1) d).cond.instruction true)
+lifted f zero d covering guards good some inside h from = absurd (omega (arith, some))
+lifted f (suc k) d covering guards good some inside h from =
+    let e : suc k - 1 ≡ k = omega arith in
+    rw e (lift_block f k (get_or f.blocks k d) covering guards good (get_or_default f.blocks k d no_block inside) inside h from)
 
 -- what decides on a covering block is marked
 pub chain_marked : (f : Program) (covering guards : List Bool) → IsPlaced f → AreGuardsFrom f 0 covering guards

@@ -1,3 +1,4 @@
+mod Constants
 mod Marking
 mod Placing
 mod Rising

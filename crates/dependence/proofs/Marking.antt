@@ -105,3 +105,9 @@ append_reads (v ∷ vs) ws j h = elim h [
   | inl p ↦ elim p [ inl e ↦ inl e | inr r ↦ inr (append_reads vs ws j (inl r)) ]
   | inr q ↦ inr (append_reads vs ws j (inr q))
 ]
+
+pub reads_first_part : (vs ws : List ValueId) (j : ℕ) → Reads vs j → Reads (vs ++ ws) j
+reads_first_part vs ws j r = append_reads vs ws j (inl r)
+
+pub reads_second_part : (vs ws : List ValueId) (j : ℕ) → Reads ws j → Reads (vs ++ ws) j
+reads_second_part vs ws j r = append_reads vs ws j (inr r)

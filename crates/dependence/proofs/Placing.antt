@@ -1,8 +1,9 @@
 -- From a well formed program to what the scans rest on, and from Rust's instructions to those of the program.
-use Rattle.std.proofs.Common.{◌≡◌, ℕ, ◌<◌, ◌≤◌, Bool, true, ◌&&◌, List, [], ◌∷◌, inl, inr, refl, sym, ap, ◌∙◌, subst, arith, length, map, get_or}
+use Rattle.std.proofs.Common.{◌≡◌, ℕ, ◌<◌, ◌≤◌, Bool, true, false, ◌&&◌, List, [], ◌∷◌, inl, inr, refl, sym, ap, ◌∙◌, subst, arith, length, map, get_or}
 use Rattle.std.specs.Prelude.{slice_get, Some, nat_lt}
 use Rattle.std.specs.Option.{option_map}
 use Rattle.std.specs.List.{AllByRecursion as Each}
+use Rattle.std.proofs.lemmas.List.{length-map}
 use Rattle.std.proofs.lemmas.Option.{slice_get-map, slice_get_within, slice_get_read, get_or_from_slice_get}
 use Rattle.flat_ir.specs.declared.program.ValueId.{ValueId}
 use Rattle.flat_ir.specs.declared.program.Instr.{Instr}
@@ -38,6 +39,9 @@ placed f well = record {
 }
 
 -- an instruction that is read at its place is there in the program
-pub here : (f : Flat) (n i : ℕ) (one : Instr) → n ≡ length f.code → i < n → one ≡ get_or f.code i one → IsAt (program_of f) i (step_of one)
-here f n i one count within is =
-    slice_get-map step_of f.code i ∙ ap (option_map step_of) (slice_get_read f.code n i one count within is)
+pub here : (f : Flat) (code : List Instr) (i : ℕ) (one : Instr) → code ≡ f.code → i < length code → one ≡ get_or code i one → IsAt (program_of f) i (step_of one)
+here f code i one same within is =
+    ap (λ c. slice_get (map step_of c) i) (sym same) ∙ slice_get-map step_of code i ∙ ap (option_map step_of) (slice_get_read code (length code) i one refl within is)
+
+pub as_many : (f : Flat) (code : List Instr) → code ≡ f.code → length code ≡ length (program_of f).code
+as_many f code same = ap length same ∙ sym (length-map f.code step_of)

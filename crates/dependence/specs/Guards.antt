@@ -24,6 +24,12 @@ pub record AreWriteBlocks (f : Program) (marks : List Bool) : Type 0 where
   pub sound : (b : ℕ) → IsMarked marks b → HasWrite f b
   pub complete : (i : ℕ) (one : Step) → IsAt f i one → is_write one.work ≡ true → IsMarked marks one.block
 
+-- the blocks of the writes among the first i instructions
+pub record AreWriteBlocksSoFar (f : Program) (i : ℕ) (marks : List Bool) : Type 0 where
+  pub count : length marks ≡ length f.blocks + 1
+  pub sound : (b : ℕ) → IsMarked marks b → HasWrite f b
+  pub complete : (k : ℕ) (one : Step) → k < i → IsAt f k one → is_write one.work ≡ true → IsMarked marks one.block
+
 -- what is known once the blocks above number b are done
 pub record AreGuardsFrom (f : Program) (b : ℕ) (covering guards : List Bool) : Type 0 where
   pub blocks : length covering ≡ length f.blocks + 1

@@ -1,5 +1,5 @@
 //! The set whose rule looks at readers, in falling order of instruction.
-ghost use Rattle.std.specs.Prelude.{◌≡◌, ℕ, ◌&&◌, not, slice_index_or, false, IfOk, ◌<◌, ◌^◌, length, ◌+◌};
+ghost use Rattle.std.specs.Prelude.{◌≡◌, ℕ, ◌&&◌, not, slice_index_or, false, IfOk, ◌<◌, ◌^◌, length, ◌+◌, ◌++◌};
 ghost use Rattle.flat_ir.specs.Program.{program_of, work_of, step_of, operands};
 ghost use Rattle.flat_ir.specs.Kinds.{fits_switch, is_mutable_look, is_field};
 ghost use Rattle.flat_ir.specs.WellFormed.{IsWellFormed};

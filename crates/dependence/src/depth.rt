@@ -30,6 +30,7 @@ fn deepest(members: &Marks, depths: &Depths, values: &[ValueId]) -> u32
 }
 
 // The greatest depth among what a put reads.
+#[tactic(auto, using(crate::proofs::Deep::deepest_append))]
 fn deepest_of_both(members: &Marks, depths: &Depths, keys: &[ValueId], values: &[ValueId]) -> u32
     ensures { result ≡ deepest members.now depths.now (keys.now ++ values.now) }
 {

@@ -68,13 +68,23 @@ pub(crate) fn fits_switch(one: &Instr) -> bool
     !one.looped && can_switch(&one.kind)
 }
 
+// Whether an object of this kind never changes.
+fn is_table(kind: Kind) -> bool
+    ensures { result ≡ is_table kind }
+{
+    match kind {
+        Kind::Table => true,
+        Kind::Map | Kind::Vector | Kind::Int => false,
+    }
+}
+
 // Whether the object of this number is a constant table.
 fn is_constant(objects: &[ObjectDecl], number: u32) -> bool
     ensures { result ≡ is_constant objects.now number }
 {
     match objects.get(number as usize) {
         None => false,
-        Some(object) => object.kind == Kind::Table,
+        Some(object) => is_table(object.kind),
     }
 }
 

@@ -7,5 +7,5 @@ use Rattle.dependence.proofs.guard.guards.Goals as goal
 
 pub returns : goal.returns
 returns c =
-    let z : c.loop-k.k ≡ 0 = omega arith in
-    guards_found (program_of c.args.f.now) c.loop-k.covering c.loop-k.guards (placed (program_of c.args.f.now) c.requires.formed) (subst (λ k. AreGuardsFrom (program_of c.args.f.now) k c.loop-k.covering c.loop-k.guards) z c.loop-k.invariant.from)
+    let z : c.loop-b.b ≡ 0 = omega arith in
+    guards_found (program_of c.args.f.now) c.loop-b.covering c.loop-b.guards (placed (program_of c.args.f.now) c.requires.formed) (subst (λ b. AreGuardsFrom (program_of c.args.f.now) b c.loop-b.covering c.loop-b.guards) z c.loop-b.invariant.from)

@@ -1,5 +1,5 @@
 use Rattle.flat_ir.specs.Program.{program_of}
-use Rattle.dependence.proofs.Guarding.{AreWriteBlocksSoFar}
+use Rattle.dependence.specs.Guards.{AreWriteBlocksSoFar}
 use Rattle.dependence.proofs.guard.write_blocks.Given as goal
 
 abbrev pub invariant-loop-i : goal.invariant-loop-i
