@@ -1,5 +1,5 @@
 -- What follows where an instruction's parts fit.
-use Rattle.std.proofs.Common.{◌≡◌, ◌≤◌, ℕ, zero, suc, Bool, true, false, not, ◌&&◌, ◌==◌, List, [], ◌∷◌, map, length, slice_get, slice_index, Option, Some, None, refl, sym, ap, ◌∙◌, subst, arith, true≢false}
+use Rattle.std.proofs.Common.{◌≡◌, ◌≤◌, ℕ, zero, suc, Bool, true, false, not, ◌&&◌, ◌==◌, List, [], ◌∷◌, map, length, get_or, slice_get, slice_index, Option, Some, None, refl, sym, ap, ◌∙◌, arith, true≢false}
 use Rattle.std.proofs.lemmas.Bool.{eqb-true}
 use Rattle.std.proofs.lemmas.List.{length-map}
 use Rattle.gal_bits.specs.declared.op.Op.{Op}
@@ -54,3 +54,40 @@ writes_no_table f (shift op width arg by) h = tt
 writes_no_table f (select width cond first second) h = tt
 writes_no_table f (byte index) h = tt
 writes_no_table f (look object keys) h = tt
+
+-- ## Counts
+
+exactly : (ws xs : List ℕ) → same_widths ws xs ≡ true → length xs ≤ 3 → (length ws ≡ length xs) × (length ws ≤ 3)
+exactly ws xs h le = let e = ap length (same_list ws xs h) in (e, omega (arith, e, le))
+
+-- an operator has as many arguments as it takes
+pub operator_count : (op : Op) (w : ℕ) (ws : List ℕ) → fits_operator op w ws ≡ true → (length ws ≡ (row_of op).arity) × (length ws ≤ 3)
+operator_count Add w ws h = exactly ws (w ∷ w ∷ []) h (omega arith)
+operator_count Sub w ws h = exactly ws (w ∷ w ∷ []) h (omega arith)
+operator_count Mul w ws h = exactly ws (w ∷ w ∷ []) h (omega arith)
+operator_count Div w ws h = exactly ws (w ∷ w ∷ []) h (omega arith)
+operator_count Rem w ws h = exactly ws (w ∷ w ∷ []) h (omega arith)
+operator_count And w ws h = exactly ws (w ∷ w ∷ []) h (omega arith)
+operator_count Or w ws h = exactly ws (w ∷ w ∷ []) h (omega arith)
+operator_count Xor w ws h = exactly ws (w ∷ w ∷ []) h (omega arith)
+operator_count Not w ws h = exactly ws (w ∷ []) h (omega arith)
+operator_count Shl w ws h = absurd (true≢false (sym h))
+operator_count Shr w ws h = absurd (true≢false (sym h))
+operator_count Eq w ws h = exactly ws (slice_index ws 0 ∷ slice_index ws 0 ∷ []) (right (w == 1) _ h) (omega arith)
+operator_count Ne w ws h = exactly ws (slice_index ws 0 ∷ slice_index ws 0 ∷ []) (right (w == 1) _ h) (omega arith)
+operator_count Lt w ws h = exactly ws (slice_index ws 0 ∷ slice_index ws 0 ∷ []) (right (w == 1) _ h) (omega arith)
+operator_count Le w ws h = exactly ws (slice_index ws 0 ∷ slice_index ws 0 ∷ []) (right (w == 1) _ h) (omega arith)
+operator_count Cast w ws h = let e = eqb-true (length ws) 1 h in (e, omega (arith, e))
+operator_count Select w ws h = absurd (true≢false (sym h))
+operator_count Adjust w ws h = exactly ws (16 ∷ 16 ∷ 16 ∷ []) (right (w == 16) _ h) (omega arith)
+
+-- a key, and the values of a row, are as many as declared
+pub keys_count : (ds : List ObjectDecl) (o : ℕ) (d : ObjectDecl) (ws : List ℕ) → fits_keys (slice_get ds o) ws ≡ true → d ≡ get_or ds o d → length ws ≡ length d.keys
+keys_count [] o d ws h is = absurd (true≢false (sym h))
+keys_count (x ∷ ds) zero d ws h is = ap length (same_list ws x.keys h) ∙ ap (λ (e : ObjectDecl). length e.keys) (sym is)
+keys_count (x ∷ ds) (suc o) d ws h is = keys_count ds o d ws h is
+
+pub values_count : (ds : List ObjectDecl) (o : ℕ) (d : ObjectDecl) (ws : List ℕ) → fits_values (slice_get ds o) ws ≡ true → d ≡ get_or ds o d → length ws ≡ length d.values
+values_count [] o d ws h is = absurd (true≢false (sym h))
+values_count (x ∷ ds) zero d ws h is = ap length (same_list ws x.values h) ∙ ap (λ (e : ObjectDecl). length e.values) (sym is)
+values_count (x ∷ ds) (suc o) d ws h is = values_count ds o d ws h is

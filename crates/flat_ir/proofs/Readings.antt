@@ -33,6 +33,10 @@ pub each_second : {X : Type 0} (P : X → Type 0) → (xs ys : List X) → Each 
 each_second P [] ys h = h
 each_second P (x ∷ xs) ys h = each_second P xs ys h.1
 
+pub each_all : {X : Type 0} (P : X → Type 0) → ((x : X) → P x) → (xs : List X) → Each P xs
+each_all P go [] = tt
+each_all P go (x ∷ xs) = (go x, each_all P go xs)
+
 -- two readings give the same number
 abbrev pub Same : Reading → Reading → ValueId → Type 0
 Same r r' v = r v ≡ r' v
@@ -110,6 +114,10 @@ holds_same blocks r r' (suc k) f e h = ap (λ n. same (block_at f.blocks k).pola
 pub condition_weaker : (f : Program) (P Q : ValueId → Type 0) → ((v : ValueId) → P v → Q v) → (k : ℕ) → EachCondition f P k → EachCondition f Q k
 condition_weaker f P Q go zero h = tt
 condition_weaker f P Q go (suc k) h = go (block_at f.blocks k).cond h
+
+pub condition_all : (f : Program) (P : ValueId → Type 0) → ((v : ValueId) → P v) → (k : ℕ) → EachCondition f P k
+condition_all f P go zero = tt
+condition_all f P go (suc k) = go (block_at f.blocks k).cond
 
 pub all_same : (f : Program) (r r' : Reading) (ks : List ℕ) → Each (EachCondition f (Same r r')) ks → list_all (holds f.blocks r) ks ≡ list_all (holds f.blocks r') ks
 all_same f r r' [] h = refl

@@ -30,14 +30,19 @@ pub record Change : Type 0 where
   pub key : List ℕ
   pub values : Option (List ℕ)
 
+-- what a put of a row, and a del of a key, change in a store, where they change it
+abbrev pub put_change : Store → ℕ → List ℕ → List ℕ → Option Change
+put_change st object key values =
+    if is_stored (put_answer (object_at st object) key) then Some (record { object = object; key = key; values = Some values }) else None
+
+abbrev pub del_change : Store → ℕ → List ℕ → Option Change
+del_change st object key =
+    if is_some (store.look (object_at st object) key) then Some (record { object = object; key = key; values = None }) else None
+
 -- what an instruction changes in a store, where it changes it
 abbrev pub change_of : Reading → Store → Work → Option Change
-change_of reads st (put object keys values) =
-    if is_stored (put_answer (object_at st object) (map reads keys))
-    then Some (record { object = object; key = map reads keys; values = Some (map reads values) }) else None
-change_of reads st (del object keys) =
-    if is_some (store.look (object_at st object) (map reads keys))
-    then Some (record { object = object; key = map reads keys; values = None }) else None
+change_of reads st (put object keys values) = put_change st object (map reads keys) (map reads values)
+change_of reads st (del object keys) = del_change st object (map reads keys)
 change_of reads st (const width number) = None
 change_of reads st (field name) = None
 change_of reads st (apply op width args) = None

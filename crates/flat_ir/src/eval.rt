@@ -32,7 +32,7 @@ fn take_turn(f: &Flat, arrival: &Arrival<'_>, i: usize, rows: &mut [Results], st
 {
     let instr = &f.code.as_slice()[i];
     let live = is_live(f.blocks.as_slice(), rows, instr.block);
-    rows[i] = work(store, arrival, rows, &instr.kind, live);
+    rows[i] = work(f, store, arrival, rows, &instr.kind, live);
 }
 
 // All turns, in order.

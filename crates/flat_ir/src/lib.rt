@@ -3,13 +3,16 @@
 
 mod blocks;
 mod eval;
+mod fits;
 mod laws;
 mod listing;
 mod program;
 mod registers;
+mod well_formed;
 mod work;
 
 pub use eval::eval_flat;
 pub use laws::{a_run_is_its_changes, a_run_is_its_values, a_run_keeps_the_tables};
 pub use listing::print_flat;
 pub use program::{Block, Blocks, Code, FieldValue, Flat, Instr, InstrKind, Out, ValueId};
+pub use well_formed::is_well_formed;

@@ -3,7 +3,7 @@ ghost use Rattle.std.specs.Prelude.{◌≡◌, ◌≤◌, [], ◌∷◌, length,
 ghost use Rattle.flat_ir.specs.Registers.{results_of, reads_of};
 
 use crate::program::ValueId;
-use gal_bits::Values;
+use gal_bits::{Values, Widths};
 
 /// The results of an instruction, of which there is at least one.
 #[derive(Clone, Copy, Debug)]
@@ -50,14 +50,26 @@ pub(crate) fn read(rows: &[Results], value: ValueId) -> u64
     }
 }
 
-/// The numbers of at most 8 values.
-pub(crate) fn read_all(rows: &[Results], values: &[ValueId]) -> Values
-    requires { length values.now ≤ 8 }
+/// The numbers of at most 3 values.
+pub(crate) fn read_few(rows: &[Results], values: &[ValueId]) -> Values
+    requires { length values.now ≤ 3 }
     ensures { result ≡ map (reads_of rows.now) values.now }
 {
     let mut numbers = Values::new();
     for value in values {
         numbers.push(read(rows, *value));
+    }
+    numbers
+}
+
+/// The numbers of a key or of a row's values, of which there are as many as widths.
+pub(crate) fn read_row(rows: &[Results], values: &[ValueId], widths: &Widths) -> Values
+    requires { length values.now ≡ length widths.now }
+    ensures { result ≡ map (reads_of rows.now) values.now }
+{
+    let mut numbers = Values::new();
+    for i in 0..widths.len() {
+        numbers.push(read(rows, values[i]));
     }
     numbers
 }
