@@ -1,5 +1,5 @@
 -- The tests of well-formedness hold exactly where the definition does.
-use Rattle.std.proofs.Common.{◌≡◌, ◌↔◌, ◌⊎◌, ◌<◌, ◌≤◌, ℕ, zero, suc, Bool, true, false, ◌&&◌, ◌||◌, ◌==◌, List, [], ◌∷◌, ◌++◌, length, nat_lt, nat_le, refl, sym, ap, ◌∙◌, subst, arith, true≢false, ⊎_elim}
+use Rattle.std.proofs.Common.{◌≡◌, ◌↔◌, ◌⊎◌, ◌<◌, ◌≤◌, ℕ, zero, suc, Bool, true, false, ◌&&◌, ◌||◌, ◌==◌, List, [], ◌∷◌, ◌++◌, length, nat_lt, nat_le, refl, sym, ap, ◌∙◌, subst, arith, true≢false, ⊎_elim, inl, inr}
 use Rattle.std.proofs.lemmas.Bool.{eqb-true, eq-eqb, leb-true, le-leb, ltb-true, lt-ltb, cases_lt, or_cases}
 use Rattle.std.proofs.Math.Nat.{eq-or-lt_of_le}
 use Rattle.std.specs.List.{AllByRecursion as Each, list_all}
@@ -76,11 +76,14 @@ module _ (f : Program) (i k : ℕ) where
 
 -- ## Arms of a select
 
+abbrev value_made : ℕ → ℕ → ValueId
+value_made i r = record { instruction = i; result = r }
+
 value_same : (v w : ValueId) → same_value v w ≡ true → v ≡ w
 value_same v w h =
     let first : v.instruction ≡ w.instruction = eqb-true v.instruction w.instruction (left (v.instruction == w.instruction) (v.result == w.result) h) in
     let second : v.result ≡ w.result = eqb-true v.result w.result (right (v.instruction == w.instruction) (v.result == w.result) h) in
-    cc
+    ap (λ n. value_made n v.result) first ∙ ap (λ n. value_made w.instruction n) second
 
 same_itself : (v : ValueId) → same_value v v ≡ true
 same_itself v = both (v.instruction == v.instruction) (v.result == v.result) (eq-eqb v.instruction v.instruction refl) (eq-eqb v.result v.result refl)
@@ -94,13 +97,16 @@ same_polarity : (b : Bool) → same b b ≡ true
 same_polarity true = refl
 same_polarity false = refl
 
+abbrev block_made : ℕ → ValueId → Bool → Block
+block_made k cond polarity = record { parent = k; cond = cond; polarity = polarity }
+
 block_same : (b : Block) (k : ℕ) (cond : ValueId) (polarity : Bool) → is_arm b k cond polarity ≡ true → b ≡ record { parent = k; cond = cond; polarity = polarity }
 block_same b k cond polarity h =
     let rest = right (b.parent == k) (same_value b.cond cond && same b.polarity polarity) h in
     let first : b.parent ≡ k = eqb-true b.parent k (left (b.parent == k) (same_value b.cond cond && same b.polarity polarity) h) in
     let second : b.cond ≡ cond = value_same b.cond cond (left (same_value b.cond cond) (same b.polarity polarity) rest) in
     let third : b.polarity ≡ polarity = polarity_same b.polarity polarity (right (same_value b.cond cond) (same b.polarity polarity) rest) in
-    cc
+    ap (λ n. block_made n b.cond b.polarity) first ∙ ap (λ v. block_made k v b.polarity) second ∙ ap (block_made k cond) third
 
 is_itself : (k : ℕ) (cond : ValueId) (polarity : Bool) → is_arm (record { parent = k; cond = cond; polarity = polarity }) k cond polarity ≡ true
 is_itself k cond polarity = both (k == k) (same_value cond cond && same polarity polarity) (eq-eqb k k refl) (both (same_value cond cond) (same polarity polarity) (same_itself cond) (same_polarity polarity))
@@ -179,7 +185,7 @@ module _ (f : Program) (i k : ℕ) where
       let c = read_so f i k cond (left (may_read f i k cond) (may_take f i k cond true first && may_take f i k cond false second) h) in
       let a = take_so f k cond true first i (left (may_take f i k cond true first) (may_take f i k cond false second) sides) in
       let b = take_so f k cond false second i (right (may_take f i k cond true first) (may_take f i k cond false second) sides) in
-      record { before = (c.before, a.before, b.before, tt); named = (c.named, a.named, b.named, tt); sees = (c.seen, a.seen, b.seen) }
+      record { before = (c.before, (a.before, (b.before, tt))); named = (c.named, (a.named, (b.named, tt))); sees = (c.seen, a.seen, b.seen) }
   work_so (byte index) h =
       let r = read_so f i k index h in
       record { before = (r.before, tt); named = (r.named, tt); sees = r.seen }
@@ -207,8 +213,8 @@ module _ (f : Program) (i k : ℕ) where
       both (may_read f i k cond) (may_take f i k cond true first && may_take f i k cond false second)
       (so_read f i k cond (record { before = r.before.0; named = r.named.0; seen = r.sees.0 }))
       (both (may_take f i k cond true first) (may_take f i k cond false second)
-      (so_take f k cond true first i (record { before = r.before.1.0; named = r.named.1.0; seen = r.sees.1.0 }))
-      (so_take f k cond false second i (record { before = r.before.1.1.0; named = r.named.1.1.0; seen = r.sees.1.1 })))
+      (so_take f k cond true first i (record { before = r.before.1.0; named = r.named.1.0; seen = r.sees.1 }))
+      (so_take f k cond false second i (record { before = r.before.1.1.0; named = r.named.1.1.0; seen = r.sees.2 })))
   so_work (byte index) r = so_read f i k index (record { before = r.before.0; named = r.named.0; seen = r.sees })
   so_work (look object keys) r = read_all f i k keys (together f i k keys r.before r.named r.sees)
   so_work (put object keys values) r =
@@ -403,16 +409,3 @@ is_exact f = (test_so f, so_test f)
 -- what the walks along lines of blocks ask for
 pub low_parents_hold : (blocks : List Block) → low_parents blocks ≡ true → HasLowParents blocks
 low_parents_hold = low_so
-
--- a test that fails at a number below one
-pub not_below : (n : ℕ) (test : ℕ → Bool) (k : ℕ) → k < n → test k ≡ false → all_below n test ≡ false
-not_below zero test k lt h = absurd (omega (arith, lt))
-not_below (suc n) test k lt h =
-    ⊎_elim
-    (λ e. ap (λ b. all_below n test && b) (ap test (sym e) ∙ h) ∙ none (all_below n test))
-    (λ less. ap (λ b. b && test n) (not_below n test k less h))
-    (eq-or-lt_of_le {n = k} {m = n} (omega (arith, lt)))
-  where
-    none : (b : Bool) → (b && false) ≡ false
-    none true = refl
-    none false = refl

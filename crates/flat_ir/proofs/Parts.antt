@@ -22,3 +22,7 @@ the_some x y e = cc
 
 pub none_some : {X : Type 0} → (x : X) → None ≡ Some x → ⊥
 none_some x e = cc
+
+pub false_from : (b : Bool) → (b ≡ true → ⊥) → b ≡ false
+false_from true h = absurd (h refl)
+false_from false h = refl

@@ -12,6 +12,7 @@ use Rattle.flat_ir.specs.Program.Work.{const, field, apply, shift, select, byte,
 use Rattle.flat_ir.specs.Blocks.{Reading, is_on, same, line, holds, is_live, block_at}
 use Rattle.flat_ir.specs.Run.{change_of, made, results}
 use Rattle.flat_ir.specs.WellFormed.{EachCondition}
+use Rattle.flat_ir.specs.Laws.{Same, SameFor}
 
 pub each_weaker : {X : Type 0} (P Q : X → Type 0) → ((x : X) → P x → Q x) → (xs : List X) → Each P xs → Each Q xs
 each_weaker P Q go [] h = tt
@@ -37,10 +38,6 @@ pub each_all : {X : Type 0} (P : X → Type 0) → ((x : X) → P x) → (xs : L
 each_all P go [] = tt
 each_all P go (x ∷ xs) = (go x, each_all P go xs)
 
--- two readings give the same number
-abbrev pub Same : Reading → Reading → ValueId → Type 0
-Same r r' v = r v ≡ r' v
-
 pub map_same : (r r' : Reading) (vs : List ValueId) → Each (Same r r') vs → map r vs ≡ map r' vs
 map_same r r' [] h = refl
 map_same r r' (v ∷ vs) h = ap (λ n. n ∷ map r vs) h.0 ∙ ap (λ ns. r' v ∷ ns) (map_same r r' vs h.1)
@@ -55,18 +52,7 @@ pub select_same : (w c c' a a' b b' : ℕ) → c ≡ c' → (is_on c ≡ true �
 select_same w c c' a a' b b' same first second =
     ap (λ n. operator_value Select w (n ∷ a ∷ b ∷ [])) same ∙ sides (is_on c') w c' a a' b b' refl (λ e. first (ap is_on same ∙ e)) (λ e. second (ap is_on same ∙ e))
 
--- ## What two readings have to agree on, for an instruction to have the same results
-
-abbrev pub SameFor : Reading → Reading → Work → Type 0
-SameFor r r' (const width number) = Unit {0}
-SameFor r r' (field name) = Unit {0}
-SameFor r r' (apply op width args) = Each (Same r r') args
-SameFor r r' (shift op width arg by) = Same r r' arg
-SameFor r r' (select width cond first second) = Same r r' cond × (is_on (r cond) ≡ true → Same r r' first) × (is_on (r cond) ≡ false → Same r r' second)
-SameFor r r' (byte index) = Same r r' index
-SameFor r r' (look object keys) = Each (Same r r') keys
-SameFor r r' (put object keys values) = Each (Same r r') keys × Each (Same r r') values
-SameFor r r' (del object keys) = Each (Same r r') keys
+-- ## Instructions
 
 pub same_for_operands : (r r' : Reading) (work : Work) → Each (Same r r') (operands work) → SameFor r r' work
 same_for_operands r r' (const width number) h = tt

@@ -20,7 +20,8 @@ use Rattle.flat_ir.specs.Run.{Machine, after, do_step, results, with_results, ma
 use Rattle.flat_ir.specs.WellFormed.{EachCondition}
 use Rattle.flat_ir.specs.Registers.{results_of, reads_of}
 use Rattle.flat_ir.specs.Turns.{StandAs, turn}
-use Rattle.flat_ir.proofs.Readings.{Same, same_for_operands, results_same, change_same, live_same, each_all, condition_all}
+use Rattle.flat_ir.specs.Laws.{Same}
+use Rattle.flat_ir.proofs.Readings.{same_for_operands, results_same, change_same, live_same, each_all, condition_all}
 use Rattle.flat_ir.proofs.Runs.{set_own, set_other}
 
 -- an entry of the code is the instruction of its number

@@ -76,7 +76,7 @@ fn has_result(objects: &[ObjectDecl], kind: &InstrKind, place: u32) -> bool
     ensures { result ≡ nat_lt place (result_count objects.now (work_of kind.now)) }
 {
     match kind {
-        InstrKind::Look { object, .. } => (place as usize) < value_count(objects, *object) + 1,
+        InstrKind::Look { object, .. } => place as usize <= value_count(objects, *object),
         _ => place == 0,
     }
 }
@@ -135,9 +135,7 @@ fn fits_operator(f: &Flat, op: Op, width: u64, args: &[ValueId]) -> bool
             have_widths(f, args, &[width, width])
         }
         Op::Not => have_widths(f, args, &[width]),
-        Op::Eq | Op::Ne | Op::Lt | Op::Le => {
-            width == 1 && have_widths(f, args, &[first, first])
-        }
+        Op::Eq | Op::Ne | Op::Lt | Op::Le => { width == 1 && have_widths(f, args, &[first, first]) }
         Op::Cast => args.len() == 1,
         Op::Adjust => width == 16 && have_widths(f, args, &[16, 16, 16]),
         Op::Shl | Op::Shr | Op::Select => false,
@@ -189,6 +187,7 @@ fn is_shift(op: Op) -> bool
 }
 
 // Whether a number is below 2 to the power of the width.
+#[tactic(auto, using(crate::proofs::Fails::in_width))]
 fn fits_width(number: u64, width: Width) -> bool
     ensures { result ≡ nat_lt number (2 ^ width) }
 {

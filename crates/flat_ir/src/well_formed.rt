@@ -1,5 +1,5 @@
 //! Whether a flat program is well formed.
-ghost use Rattle.std.specs.Prelude.{◌≡◌, ◌↔◌, ◌<◌, ◌≤◌, length, IsTrue};
+ghost use Rattle.std.specs.Prelude.{◌≡◌, ◌↔◌, ◌<◌, ◌≤◌, length, nat_le, IsTrue};
 ghost use Rattle.std.specs.List.{list_all};
 ghost use Rattle.flat_ir.specs.Program.{work_of, program_of, step_at};
 ghost use Rattle.flat_ir.specs.Blocks.{block_at, HasLowParents};
@@ -12,12 +12,20 @@ use crate::fits::{fits, is_named, width_of_value};
 use crate::program::{Block, FieldValue, Flat, InstrKind, ValueId};
 use packet_fields::{field_index, width, writable};
 
-// Whether each block stands below one with a lower number.
+// Whether the block at a place stands below one with a lower number.
+fn stands_low(blocks: &[Block], place: usize) -> bool
+    requires { place < length blocks.now }
+    ensures { result ≡ nat_le (block_at blocks.now place).parent place }
+{
+    blocks[place].parent as usize <= place
+}
+
+// Whether each block does.
 fn has_low_parents(blocks: &[Block]) -> bool
     ensures { result ≡ low_parents blocks.now }
 {
     for place in 0..blocks.len() {
-        if blocks[place].parent as usize > place {
+        if !stands_low(blocks, place) {
             return false;
         }
     }
@@ -116,8 +124,7 @@ fn may_take(f: &Flat, i: usize, side: Side, value: ValueId) -> bool
 {
     (value.instruction as usize) < i
         && is_named(f, value)
-        && (is_seen(f, side.block, value)
-            || is_arm(f.blocks.as_slice(), block_of(f, value), side))
+        && (is_seen(f, side.block, value) || is_arm(f.blocks.as_slice(), block_of(f, value), side))
 }
 
 fn reads_well(f: &Flat, i: usize, block: u32, kind: &InstrKind) -> bool
@@ -145,7 +152,9 @@ fn reads_well(f: &Flat, i: usize, block: u32, kind: &InstrKind) -> bool
                 cond: *cond,
                 polarity: false,
             };
-            may_read(f, i, block, *cond) && may_take(f, i, yes, *first) && may_take(f, i, no, *second)
+            may_read(f, i, block, *cond)
+                && may_take(f, i, yes, *first)
+                && may_take(f, i, no, *second)
         }
         InstrKind::Byte(index) => may_read(f, i, block, *index),
         InstrKind::Look { keys, .. } | InstrKind::Del { keys, .. } => {
@@ -251,15 +260,14 @@ fn has_good_out(f: &Flat) -> bool
 fn is_good(f: &Flat) -> bool
     ensures { result ≡ well_formed (program_of f.now) }
 {
-    has_low_parents(f.blocks.as_slice())
-        && has_good_blocks(f)
-        && has_good_code(f)
-        && has_good_out(f)
+    if !has_low_parents(f.blocks.as_slice()) {
+        return false;
+    }
+    has_good_blocks(f) && has_good_code(f) && has_good_out(f)
 }
 
 /// Whether a flat program, whatever its numbers, is well formed: all that it names is there and fits, an instruction stands
 /// behind those whose values it reads, in their block or below it, and the output stands in the root. This takes no memory.
-#[tactic(auto, using(crate::proofs::Exact::is_exact))]
 pub fn is_well_formed(f: &Flat) -> bool
     ensures { IsTrue result ↔ IsWellFormed (program_of f.now) }
 {
