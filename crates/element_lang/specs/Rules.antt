@@ -2,8 +2,8 @@
 use Rattle.std.specs.Prelude.{ℕ, suc, ◌+◌, ◌^◌, Bool, true, false, not, ◌&&◌, ◌||◌, List, [], ◌∷◌, ◌++◌, map, length, nat_le, nat_lt, ◌==◌, Option, Some, None, slice_get, slice_index}
 use Rattle.std.specs.List.{list_any, list_all}
 use Rattle.std.specs.Str.{bytes_eq}
-use Rattle.gal_bits.specs.declared.op.Op.{Op}
-use Rattle.gal_bits.specs.declared.op.Op.TheVariants.{Add, Sub, Mul, Div, Rem, And, Or, Xor, Not, Shl, Shr, Eq, Ne, Lt, Le, Cast, Select, Adjust}
+pub use Rattle.gal_bits.specs.Fitting.{is_width, same_widths, fits_operator, is_shift}
+pub use Rattle.state_store.specs.Fitting.{fits_keys, fits_values, can_put, can_del}
 use Rattle.packet_fields.specs.Table.{row}
 use Rattle.state_store.specs.declared.object.Kind.{Kind}
 use Rattle.state_store.specs.declared.object.Kind.TheVariants.{Table, Map, Vector, Int}
@@ -20,10 +20,6 @@ use Rattle.element_lang.specs.Tree.BodyTree.{done, stmt}
 use Rattle.element_lang.specs.Widths.{local_widths, width_of}
 use Rattle.element_lang.specs.Surface.{local_name}
 
--- a width is from 1 to 64
-abbrev pub is_width : ℕ → Bool
-is_width w = nat_le 1 w && nat_le w 64
-
 abbrev pub count_of : Exprs → ℕ
 count_of no_expr = 0
 count_of (expr e es) = suc (count_of es)
@@ -31,38 +27,6 @@ count_of (expr e es) = suc (count_of es)
 abbrev pub widths_of : List ℕ → Exprs → List ℕ
 widths_of widths no_expr = []
 widths_of widths (expr e es) = width_of widths e ∷ widths_of widths es
-
-abbrev pub same_widths : List ℕ → List ℕ → Bool
-same_widths [] [] = true
-same_widths [] (y ∷ ys) = false
-same_widths (x ∷ xs) [] = false
-same_widths (x ∷ xs) (y ∷ ys) = x == y && same_widths xs ys
-
--- the arguments' widths fit the operator and the width of its result
-abbrev pub fits_operator : Op → ℕ → List ℕ → Bool
-fits_operator Add w args = same_widths args (w ∷ w ∷ [])
-fits_operator Sub w args = same_widths args (w ∷ w ∷ [])
-fits_operator Mul w args = same_widths args (w ∷ w ∷ [])
-fits_operator Div w args = same_widths args (w ∷ w ∷ [])
-fits_operator Rem w args = same_widths args (w ∷ w ∷ [])
-fits_operator And w args = same_widths args (w ∷ w ∷ [])
-fits_operator Or w args = same_widths args (w ∷ w ∷ [])
-fits_operator Xor w args = same_widths args (w ∷ w ∷ [])
-fits_operator Not w args = same_widths args (w ∷ [])
-fits_operator Shl w args = false
-fits_operator Shr w args = false
-fits_operator Eq w args = w == 1 && same_widths args (slice_index args 0 ∷ slice_index args 0 ∷ [])
-fits_operator Ne w args = w == 1 && same_widths args (slice_index args 0 ∷ slice_index args 0 ∷ [])
-fits_operator Lt w args = w == 1 && same_widths args (slice_index args 0 ∷ slice_index args 0 ∷ [])
-fits_operator Le w args = w == 1 && same_widths args (slice_index args 0 ∷ slice_index args 0 ∷ [])
-fits_operator Cast w args = is_width w && length args == 1
-fits_operator Select w args = same_widths args (1 ∷ w ∷ w ∷ [])
-fits_operator Adjust w args = w == 16 && same_widths args (16 ∷ 16 ∷ 16 ∷ [])
-
-abbrev pub is_shift : Op → Bool
-is_shift Shl = true
-is_shift Shr = true
-is_shift _ = false
 
 -- Literals fit their widths, locals are among those in scope, and widths fit the operators.
 abbrev mutual
@@ -159,23 +123,6 @@ abbrev mutual
 abbrev pub is_empty : BodyTree → Bool
 is_empty done = true
 is_empty (stmt s b) = false
-
--- keys, and values or bound locals, fit the declaration in count and widths
-abbrev pub fits_keys : Option ObjectDecl → List ℕ → Bool
-fits_keys None widths = false
-fits_keys (Some o) widths = same_widths widths o.keys
-
-abbrev pub fits_values : Option ObjectDecl → List ℕ → Bool
-fits_values None widths = false
-fits_values (Some o) widths = same_widths widths o.values
-
-abbrev pub can_put : Option ObjectDecl → Bool
-can_put None = false
-can_put (Some o) = not (is_table o.kind)
-
-abbrev pub can_del : Option ObjectDecl → Bool
-can_del None = false
-can_del (Some o) = is_map o.kind
 
 -- a body is repeated 1 to 64 times
 abbrev pub is_count : ℕ → Bool

@@ -1,3 +1,4 @@
 pub mod Checksum
 pub mod Operators
 pub mod Padded
+pub mod Fitting

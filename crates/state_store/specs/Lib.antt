@@ -4,3 +4,4 @@ pub mod Kept
 pub mod Laws
 pub mod Places
 pub mod Store
+pub mod Fitting
