@@ -13,7 +13,7 @@ use Rattle.state_store.specs.declared.object.Kind.TheVariants.{Table}
 use Rattle.state_store.specs.declared.object.ObjectDecl.{ObjectDecl}
 use Rattle.state_store.specs.Kept.{have_widths, IsKeptObject, IsKept}
 use Rattle.state_store.specs.Kinds.{is_table, is_map}
-use Rattle.state_store.specs.Store.{key_cmp, Contents, Object, Store, is_out, is_full, put_row, del_row, object_at, with_object}
+use Rattle.state_store.specs.Store.{key_cmp, Contents, Object, Store, is_out, is_full, put_row, del_row, object_at, start_store, with_object}
 use Rattle.flat_ir.proofs.Parts.{the_some, none_some}
 
 -- every key and every value has these widths
@@ -120,3 +120,8 @@ put_is_kept os store n d key values is free key_fits values_fit kept =
 pub del_is_kept : (os : List ObjectDecl) (store : Store) (n : ℕ) (d : ObjectDecl) (key : List ℕ) → slice_get os n ≡ Some d
     → is_map d.kind ≡ true → IsKept os store → IsKept os (with_object store n (del_row (object_at store n) key))
 del_is_kept os store n d key is free kept = change_is_kept os store n d (del_row (object_at store n) key) is (del_kept_by d (object_at store n) key free (kept.each n d is)) kept
+
+-- where nothing is declared there is nothing to keep
+pub nothing_to_keep : (os : List ObjectDecl) (store : Store) → os ≡ [] → store ≡ start_store os → IsKept os store
+nothing_to_keep [] store e is = record { count = ap length is; each = λ number d got. absurd (none_some d got) }
+nothing_to_keep (o ∷ os) store e is = absurd (omega (arith, ap length e))

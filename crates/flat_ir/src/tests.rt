@@ -1,21 +1,21 @@
 //! What no clause can say: that calls succeed with ample memory, on listings from outside.
-ghost use Rattle.std.specs.Prelude.{◌≤◌};
+ghost use Rattle.std.specs.Prelude.{◌≡◌, ◌≤◌, [], IfOk};
 
 use crate::{
-    Block, Blocks, Code, FieldValue, Flat, Instr, InstrKind, Out, ValueId, is_well_formed,
-    print_flat,
+    Block, Blocks, Code, FieldValue, Flat, Instr, InstrKind, Out, ValueId, eval_flat,
+    is_well_formed, print_flat,
 };
 use gal_bits::{Op, Width, Widths};
 use gal_io::{Bytes, NoMemory};
-use packet_fields::Field;
-use state_store::{Kind, ObjectDecl, Objects, Rows};
+use packet_fields::{Field, Verdict};
+use state_store::{Kind, ObjectDecl, Objects, Rows, Store};
 use std::alloc::Global;
 use std::test::Fail;
 
-fn value(instruction: u32, result: u32) -> ValueId {
+fn value(instruction: u32, place: u32) -> ValueId {
     ValueId {
         instruction,
-        result,
+        result: place,
     }
 }
 
@@ -35,7 +35,9 @@ fn give(code: &mut Code, block: u32, kind: InstrKind) -> Result<(), NoMemory> {
 }
 
 // Packets leave by the port of their length and 3.
-fn chain(alloc: Global) -> Result<Flat, NoMemory> {
+fn chain(alloc: Global) -> Result<Flat, NoMemory>
+    ensures { IfOk result (λ f. f.objects ≡ []) }
+{
     let mut code = Code::new(alloc);
     give(&mut code, 0, InstrKind::Const(bits(1), 0))?;
     give(&mut code, 0, InstrKind::Const(bits(1), 1))?;
@@ -93,6 +95,22 @@ fn lists_a_chain_of_sums(rt: HostRuntime) -> Result<(), Fail> {
     assert!(rt; !is_well_formed(&f));
     f.out.port = value(4_000_000_000, 0);
     assert!(rt; !is_well_formed(&f));
+    Ok(())
+}
+
+#[test]
+#[tactic(auto, using(crate::proofs::KeptRows::nothing_to_keep))]
+fn sends_by_the_length_and_3(rt: HostRuntime) -> Result<(), Fail> {
+    let alloc = rt.alloc();
+    let f = chain(alloc)?;
+    let mut store = Store::new(alloc, &f.objects)?;
+    assert!(rt; is_well_formed(&f));
+    let packet = [1, 2, 3, 4, 5];
+    let Verdict::Send(port, bytes) = eval_flat(alloc, &f, &mut store, 0, &packet)? else {
+        return Err(Fail::from("dropped"));
+    };
+    assert_eq!(rt; port, 8);
+    assert_eq!(rt; bytes.as_slice(), packet.as_slice());
     Ok(())
 }
 
