@@ -12,6 +12,7 @@ use Rattle.state_store.specs.Kinds.{is_table, is_map}
 use Rattle.flat_ir.specs.declared.program.ValueId.{ValueId}
 use Rattle.flat_ir.specs.Program.{Program, Work, step_at, width_of_value}
 use Rattle.flat_ir.specs.Program.Work.{const, field, apply, shift, select, byte, look, put, del}
+use Rattle.gal_bits.specs.Fitting.{is_width}
 use Rattle.flat_ir.specs.Fits.{same_widths, fits_operator, is_shift, fits_keys, fits_values, can_put, can_del, widths_of, fits}
 use Rattle.flat_ir.specs.WellFormed.{WritesNoTable, is_constant}
 use Rattle.flat_ir.proofs.Parts.{left, right, not_true}
@@ -77,8 +78,8 @@ operator_count Eq w ws h = exactly ws (slice_index ws 0 ∷ slice_index ws 0 ∷
 operator_count Ne w ws h = exactly ws (slice_index ws 0 ∷ slice_index ws 0 ∷ []) (right (w == 1) _ h) (omega arith)
 operator_count Lt w ws h = exactly ws (slice_index ws 0 ∷ slice_index ws 0 ∷ []) (right (w == 1) _ h) (omega arith)
 operator_count Le w ws h = exactly ws (slice_index ws 0 ∷ slice_index ws 0 ∷ []) (right (w == 1) _ h) (omega arith)
-operator_count Cast w ws h = let e = eqb-true (length ws) 1 h in (e, omega (arith, e))
-operator_count Select w ws h = absurd (true≢false (sym h))
+operator_count Cast w ws h = let e = eqb-true (length ws) 1 (right (is_width w) (length ws == 1) h) in (e, omega (arith, e))
+operator_count Select w ws h = exactly ws (1 ∷ w ∷ w ∷ []) h (omega arith)
 operator_count Adjust w ws h = exactly ws (16 ∷ 16 ∷ 16 ∷ []) (right (w == 16) _ h) (omega arith)
 
 -- a key, and the values of a row, are as many as declared

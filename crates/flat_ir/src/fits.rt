@@ -2,7 +2,8 @@
 ghost use Rattle.std.specs.Prelude.{◌≡◌, ◌^◌, List, length, nat_lt, slice_get, slice_index};
 ghost use Rattle.state_store.specs.declared.object.ObjectDecl.{ObjectDecl as Declared};
 ghost use Rattle.flat_ir.specs.Program.{work_of, program_of, step_at, value_widths, result_widths, result_count, is_named, width_of_value};
-ghost use Rattle.flat_ir.specs.Fits.{same_widths, fits_operator, is_shift, fits_keys, fits_values, can_put, can_del, widths_of, fits};
+ghost use Rattle.gal_bits.specs.Fitting.{is_width};
+ghost use Rattle.flat_ir.specs.Fits.{same_widths, fits_operator, is_shift, is_select, fits_keys, fits_values, can_put, can_del, widths_of, fits};
 
 use crate::program::{Flat, InstrKind, ValueId};
 use gal_bits::{Op, Width, eval};
@@ -126,6 +127,22 @@ fn width_of_first(f: &Flat, values: &[ValueId]) -> u64
     }
 }
 
+// Whether it is a width, from 1 to 64.
+fn is_width(width: u64) -> bool
+    ensures { result ≡ is_width width }
+{
+    1 <= width && width <= 64
+}
+
+fn is_select(op: Op) -> bool
+    ensures { result ≡ is_select op }
+{
+    match op {
+        Op::Select => true,
+        _ => false,
+    }
+}
+
 fn fits_operator(f: &Flat, op: Op, width: u64, args: &[ValueId]) -> bool
     ensures { result ≡ fits_operator op width (widths_of (program_of f.now) args.now) }
 {
@@ -136,9 +153,10 @@ fn fits_operator(f: &Flat, op: Op, width: u64, args: &[ValueId]) -> bool
         }
         Op::Not => have_widths(f, args, &[width]),
         Op::Eq | Op::Ne | Op::Lt | Op::Le => { width == 1 && have_widths(f, args, &[first, first]) }
-        Op::Cast => args.len() == 1,
+        Op::Cast => is_width(width) && args.len() == 1,
+        Op::Select => have_widths(f, args, &[1, width, width]),
         Op::Adjust => width == 16 && have_widths(f, args, &[16, 16, 16]),
-        Op::Shl | Op::Shr | Op::Select => false,
+        Op::Shl | Op::Shr => false,
     }
 }
 
@@ -202,7 +220,7 @@ pub(crate) fn fits(f: &Flat, kind: &InstrKind) -> bool
         InstrKind::Const(width, number) => fits_width(*number, *width),
         InstrKind::Field(_) => true,
         InstrKind::Apply { op, width, args } => {
-            fits_operator(f, *op, u64::from(width.bits()), args)
+            !is_select(*op) && fits_operator(f, *op, u64::from(width.bits()), args)
         }
         InstrKind::Shift { op, width, arg, by } => {
             is_shift(*op) && *by <= 63 && width_of_value(f, *arg) == u64::from(width.bits())
