@@ -1,0 +1,4 @@
+pub mod Placed
+pub mod Marked
+pub mod Guards
+pub mod Barred

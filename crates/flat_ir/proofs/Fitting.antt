@@ -1,0 +1,94 @@
+-- What follows where an instruction's parts fit.
+use Rattle.std.proofs.Common.{◌≡◌, ◌≤◌, ℕ, zero, suc, Bool, true, false, not, ◌&&◌, ◌==◌, List, [], ◌∷◌, map, length, get_or, slice_get, slice_index, Option, Some, None, refl, sym, ap, ◌∙◌, arith, true≢false}
+use Rattle.std.proofs.lemmas.Bool.{eqb-true}
+use Rattle.std.proofs.lemmas.List.{length-map}
+use Rattle.gal_bits.specs.declared.op.Op.{Op}
+use Rattle.gal_bits.specs.declared.op.Op.TheVariants.{Add, Sub, Mul, Div, Rem, And, Or, Xor, Not, Shl, Shr, Eq, Ne, Lt, Le, Cast, Select, Adjust}
+use Rattle.gal_bits.specs.Operators.{row_of}
+use Rattle.state_store.specs.declared.object.Kind.{Kind}
+use Rattle.state_store.specs.declared.object.Kind.TheVariants.{Table, Map, Vector, Int}
+use Rattle.state_store.specs.declared.object.ObjectDecl.{ObjectDecl}
+use Rattle.state_store.specs.Kinds.{is_table, is_map}
+use Rattle.flat_ir.specs.declared.program.ValueId.{ValueId}
+use Rattle.flat_ir.specs.Program.{Program, Work, step_at, width_of_value}
+use Rattle.flat_ir.specs.Program.Work.{const, field, apply, shift, select, byte, look, put, del}
+use Rattle.gal_bits.specs.Fitting.{is_width}
+use Rattle.flat_ir.specs.Fits.{same_widths, fits_operator, is_shift, fits_keys, fits_values, can_put, can_del, widths_of, fits}
+use Rattle.flat_ir.specs.WellFormed.{WritesNoTable, is_constant}
+use Rattle.flat_ir.proofs.Parts.{left, right, not_true}
+
+pub same_list : (xs ys : List ℕ) → same_widths xs ys ≡ true → xs ≡ ys
+same_list [] [] h = refl
+same_list [] (y ∷ ys) h = absurd (true≢false (sym h))
+same_list (x ∷ xs) [] h = absurd (true≢false (sym h))
+same_list (x ∷ xs) (y ∷ ys) h =
+    let first : x ≡ y = eqb-true x y (left _ _ h) in
+    let rest : xs ≡ ys = same_list xs ys (right (x == y) (same_widths xs ys) h) in
+    cc
+
+-- ## What is written is no constant table
+
+no_table : (kind : Kind) → is_map kind ≡ true → is_table kind ≡ false
+no_table Table h = absurd (true≢false (sym h))
+no_table Map h = refl
+no_table Vector h = absurd (true≢false (sym h))
+no_table Int h = absurd (true≢false (sym h))
+
+put_free : (ds : List ObjectDecl) (o : ℕ) → can_put (slice_get ds o) ≡ true → is_constant ds o ≡ false
+put_free [] o h = refl
+put_free (d ∷ ds) zero h = not_true (is_table d.kind) h
+put_free (d ∷ ds) (suc o) h = put_free ds o h
+
+del_free : (ds : List ObjectDecl) (o : ℕ) → can_del (slice_get ds o) ≡ true → is_constant ds o ≡ false
+del_free [] o h = refl
+del_free (d ∷ ds) zero h = no_table d.kind h
+del_free (d ∷ ds) (suc o) h = del_free ds o h
+
+pub writes_no_table : (f : Program) (work : Work) → fits f work ≡ true → WritesNoTable f work
+writes_no_table f (put object keys values) h =
+    put_free f.objects object (left (can_put (slice_get f.objects object)) _ (left (can_put (slice_get f.objects object) && fits_keys (slice_get f.objects object) (widths_of f keys)) _ h))
+writes_no_table f (del object keys) h = del_free f.objects object (left (can_del (slice_get f.objects object)) _ h)
+writes_no_table f (const width number) h = tt
+writes_no_table f (field name) h = tt
+writes_no_table f (apply op width args) h = tt
+writes_no_table f (shift op width arg by) h = tt
+writes_no_table f (select width cond first second) h = tt
+writes_no_table f (byte index) h = tt
+writes_no_table f (look object keys) h = tt
+
+-- ## Counts
+
+exactly : (ws xs : List ℕ) → same_widths ws xs ≡ true → length xs ≤ 3 → (length ws ≡ length xs) × (length ws ≤ 3)
+exactly ws xs h le = let e = ap length (same_list ws xs h) in (e, omega (arith, e, le))
+
+-- an operator has as many arguments as it takes
+pub operator_count : (op : Op) (w : ℕ) (ws : List ℕ) → fits_operator op w ws ≡ true → (length ws ≡ (row_of op).arity) × (length ws ≤ 3)
+operator_count Add w ws h = exactly ws (w ∷ w ∷ []) h (omega arith)
+operator_count Sub w ws h = exactly ws (w ∷ w ∷ []) h (omega arith)
+operator_count Mul w ws h = exactly ws (w ∷ w ∷ []) h (omega arith)
+operator_count Div w ws h = exactly ws (w ∷ w ∷ []) h (omega arith)
+operator_count Rem w ws h = exactly ws (w ∷ w ∷ []) h (omega arith)
+operator_count And w ws h = exactly ws (w ∷ w ∷ []) h (omega arith)
+operator_count Or w ws h = exactly ws (w ∷ w ∷ []) h (omega arith)
+operator_count Xor w ws h = exactly ws (w ∷ w ∷ []) h (omega arith)
+operator_count Not w ws h = exactly ws (w ∷ []) h (omega arith)
+operator_count Shl w ws h = absurd (true≢false (sym h))
+operator_count Shr w ws h = absurd (true≢false (sym h))
+operator_count Eq w ws h = exactly ws (slice_index ws 0 ∷ slice_index ws 0 ∷ []) (right (w == 1) _ h) (omega arith)
+operator_count Ne w ws h = exactly ws (slice_index ws 0 ∷ slice_index ws 0 ∷ []) (right (w == 1) _ h) (omega arith)
+operator_count Lt w ws h = exactly ws (slice_index ws 0 ∷ slice_index ws 0 ∷ []) (right (w == 1) _ h) (omega arith)
+operator_count Le w ws h = exactly ws (slice_index ws 0 ∷ slice_index ws 0 ∷ []) (right (w == 1) _ h) (omega arith)
+operator_count Cast w ws h = let e = eqb-true (length ws) 1 (right (is_width w) (length ws == 1) h) in (e, omega (arith, e))
+operator_count Select w ws h = exactly ws (1 ∷ w ∷ w ∷ []) h (omega arith)
+operator_count Adjust w ws h = exactly ws (16 ∷ 16 ∷ 16 ∷ []) (right (w == 16) _ h) (omega arith)
+
+-- a key, and the values of a row, are as many as declared
+pub keys_count : (ds : List ObjectDecl) (o : ℕ) (d : ObjectDecl) (ws : List ℕ) → fits_keys (slice_get ds o) ws ≡ true → d ≡ get_or ds o d → length ws ≡ length d.keys
+keys_count [] o d ws h is = absurd (true≢false (sym h))
+keys_count (x ∷ ds) zero d ws h is = ap length (same_list ws x.keys h) ∙ ap (λ (e : ObjectDecl). length e.keys) (sym is)
+keys_count (x ∷ ds) (suc o) d ws h is = keys_count ds o d ws h is
+
+pub values_count : (ds : List ObjectDecl) (o : ℕ) (d : ObjectDecl) (ws : List ℕ) → fits_values (slice_get ds o) ws ≡ true → d ≡ get_or ds o d → length ws ≡ length d.values
+values_count [] o d ws h is = absurd (true≢false (sym h))
+values_count (x ∷ ds) zero d ws h is = ap length (same_list ws x.values h) ∙ ap (λ (e : ObjectDecl). length e.values) (sym is)
+values_count (x ∷ ds) (suc o) d ws h is = values_count ds o d ws h is

@@ -1,0 +1,28 @@
+-- Tests that hold, and their parts.
+use Rattle.std.proofs.Common.{◌≡◌, Bool, true, false, not, ◌&&◌, List, [], ◌∷◌, Option, None, Some, refl, sym, ap, true≢false}
+
+pub left : (a b : Bool) → (a && b) ≡ true → a ≡ true
+left true b h = refl
+left false b h = h
+
+pub right : (a b : Bool) → (a && b) ≡ true → b ≡ true
+right true b h = h
+right false b h = absurd (true≢false (sym h))
+
+pub both : (a b : Bool) → a ≡ true → b ≡ true → (a && b) ≡ true
+both true b h k = k
+both false b h k = h
+
+pub not_true : (b : Bool) → not b ≡ true → b ≡ false
+not_true true h = absurd (true≢false (sym h))
+not_true false h = refl
+
+pub the_some : {X : Type 0} → (x y : X) → Some x ≡ Some y → x ≡ y
+the_some x y e = cc
+
+pub none_some : {X : Type 0} → (x : X) → None ≡ Some x → ⊥
+none_some x e = cc
+
+pub false_from : (b : Bool) → (b ≡ true → ⊥) → b ≡ false
+false_from true h = absurd (h refl)
+false_from false h = refl

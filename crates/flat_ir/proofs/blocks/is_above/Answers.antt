@@ -1,0 +1,17 @@
+use Rattle.std.proofs.Common.{◌||◌, ◌-◌, sym, ap, ◌∙◌, arith, get_or, false}
+use Rattle.std.proofs.lemmas.Bool.{ne_eqb}
+use Rattle.flat_ir.specs.declared.program.Block.{Block}
+use Rattle.flat_ir.specs.Blocks.{is_above}
+use Rattle.flat_ir.proofs.Lines.{above_at, parent_below}
+use Rattle.flat_ir.proofs.blocks.is_above.Goals as goal
+
+pub loop-number-preserved : goal.loop-number-preserved
+loop-number-preserved c =
+    let blocks = c.args.blocks.now in
+    let d : Block = record { parent = 0; cond = record { instruction = 0; result = 0 }; polarity = false } in
+    let n = c.loop-number.number in
+    let up = get_or blocks (n - 1) d in
+    let below = parent_below blocks c.requires.low n d c.loop-number-test.true c.loop-number.invariant.1 in (
+      sym (above_at blocks c.requires.low c.args.above n d c.loop-number-test.true c.loop-number.invariant.1 ∙ ap (λ b. b || is_above blocks c.args.above up.parent) (ne_eqb n c.args.above c.if-number-above.false)) ∙ c.loop-number.invariant.0,
+      omega (arith, below, c.loop-number.invariant.1),
+    )

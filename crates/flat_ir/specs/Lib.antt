@@ -1,0 +1,15 @@
+pub mod Arrivals
+pub mod Blocks
+pub mod Fits
+pub mod Kinds
+pub mod Laws
+pub mod Listing
+pub mod Program
+pub mod Registers
+pub mod Run
+pub mod Sets
+pub mod Stages
+pub mod Tests
+pub mod Turns
+pub mod WellFormed
+pub mod Writable

@@ -1,0 +1,113 @@
+//! What a flat program does to a packet.
+ghost use Rattle.std.specs.Prelude.{◌≡◌, ◌≤◌, ◌<◌, ◌%◌, ◌^◌, length, IfOk, OnOk, OnErr};
+ghost use Rattle.std.specs.List.{AllByRecursion as Each};
+ghost use Rattle.packet_fields.specs.Shape.{shape_of};
+ghost use Rattle.packet_fields.specs.declared.packet.TheConstants.{MAX_PACKET_BYTES};
+ghost use Rattle.state_store.specs.Kept.{IsKept};
+ghost use Rattle.flat_ir.specs.Program.{program_of};
+ghost use Rattle.flat_ir.specs.Run.{after, flat_store, flat_verdict, verdict, with_writes};
+ghost use Rattle.flat_ir.specs.WellFormed.{IsWellFormed};
+ghost use Rattle.flat_ir.specs.Registers.{reads_of, packet_of};
+ghost use Rattle.flat_ir.specs.Turns.{StandAs, turn};
+ghost use Rattle.flat_ir.specs.Writable.{IsFitting};
+
+use crate::blocks::is_live;
+use crate::program::{FieldValue, Flat};
+use crate::registers::{Results, read};
+use crate::work::{Arrival, work};
+use gal_io::{Bytes, NoMemory};
+use packet_fields::{Shape, Verdict, set};
+use state_store::Store;
+use std::alloc::Global;
+
+// The turn of an instruction: it gets its results.
+fn take_turn(f: &Flat, arrival: &Arrival<'_>, i: usize, rows: &mut [Results], store: &mut Store)
+    requires well { IsWellFormed (program_of f.now) }
+    requires within { i < length f.now.code }
+    requires row { i < length rows.old }
+    requires size { length arrival.now.bytes.now ≤ MAX_PACKET_BYTES }
+    requires shape { arrival.now.shape ≡ shape_of arrival.now.bytes.now }
+    ensures turn { StandAs (turn (program_of f.now) (packet_of arrival.now) i (reads_of rows.old) store.old) (reads_of rows.new) store.new }
+    ensures count { length rows.new ≡ length rows.old }
+{
+    let instr = &f.code.as_slice()[i];
+    let live = is_live(f.blocks.as_slice(), rows, instr.block);
+    rows[i] = work(f, store, arrival, rows, &instr.kind, live);
+}
+
+// All turns, in order.
+fn take_turns(f: &Flat, arrival: &Arrival<'_>, rows: &mut [Results], store: &mut Store)
+    requires well { IsWellFormed (program_of f.now) }
+    requires rows { length rows.old ≡ length f.now.code }
+    requires size { length arrival.now.bytes.now ≤ MAX_PACKET_BYTES }
+    requires shape { arrival.now.shape ≡ shape_of arrival.now.bytes.now }
+    requires start { StandAs (after (program_of f.now) store.old (packet_of arrival.now) 0) (reads_of rows.old) store.old }
+    ensures { StandAs (after (program_of f.now) store.old (packet_of arrival.now) (length f.now.code)) (reads_of rows.new) store.new }
+{
+    for i in 0..f.code.len() {
+        take_turn(f, arrival, i, rows, store);
+    }
+}
+
+// Sets fields of a packet of this shape.
+fn write_fields(fields: &[FieldValue], rows: &[Results], shape: &Shape, bytes: &mut [u8])
+    requires fit { Each (IsFitting (reads_of rows.now)) fields.now }
+    requires size { length bytes.old ≤ MAX_PACKET_BYTES }
+    requires shape { shape.now ≡ shape_of bytes.old }
+    ensures { bytes.new ≡ with_writes fields.now (reads_of rows.now) bytes.old }
+{
+    for written in fields {
+        set(bytes, shape, written.field, read(rows, written.value));
+    }
+}
+
+// The lowest 8 bits.
+fn low_byte(value: u64) -> u8
+    ensures { result ≡ value % 2 ^ 8 }
+{
+    (value % 256) as u8
+}
+
+// What becomes of the packet, by the registers at the end.
+fn verdict(f: &Flat, arrival: &Arrival<'_>, rows: &[Results], copy: Vec<u8>) -> Verdict
+    requires copy { copy.items ≡ arrival.now.bytes.now }
+    requires fit { Each (IsFitting (reads_of rows.now)) f.now.out.fields.items }
+    requires size { length arrival.now.bytes.now ≤ MAX_PACKET_BYTES }
+    requires shape { arrival.now.shape ≡ shape_of arrival.now.bytes.now }
+    ensures { result ≡ verdict (program_of f.now) (packet_of arrival.now) (reads_of rows.now) }
+{
+    if read(rows, f.out.send) == 0 {
+        return Verdict::Drop;
+    }
+    let mut bytes = copy;
+    write_fields(&f.out.fields, rows, &arrival.shape, &mut bytes);
+    Verdict::Send(low_byte(read(rows, f.out.port)), Bytes::from(bytes))
+}
+
+/// What becomes of a packet of at most 9,216 bytes that arrives by this port, and what it leaves of the store. The memory is
+/// taken first: where there is none, the store is as before.
+pub fn eval_flat(
+    alloc: Global,
+    f: &Flat,
+    store: &mut Store,
+    port: u8,
+    packet: &[u8],
+) -> Result<Verdict, NoMemory>
+    requires well { IsWellFormed (program_of f.now) }
+    requires kept { IsKept f.now.objects store.old }
+    requires size { length packet.now ≤ MAX_PACKET_BYTES }
+    ensures verdict { IfOk result (λ verdict. verdict ≡ flat_verdict (program_of f.now) store.old (record { port = port; bytes = packet.now })) }
+    ensures store { OnOk result (store.new ≡ flat_store (program_of f.now) store.old (record { port = port; bytes = packet.now })) }
+    ensures err { OnErr result (store.new ≡ store.old) }
+    ensures kept { IsKept f.now.objects store.new }
+{
+    let copy = packet.to_vec(alloc)?;
+    let mut rows = vec![in alloc; Results::one(0); f.code.len()]?;
+    let arrival = Arrival {
+        port,
+        bytes: packet,
+        shape: Shape::of(packet),
+    };
+    take_turns(f, &arrival, &mut rows, store);
+    Ok(verdict(f, &arrival, &rows, copy))
+}

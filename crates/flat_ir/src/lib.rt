@@ -1,0 +1,23 @@
+//! Flat programs: what they are, which are well formed, what they do to packets, and how they are listed.
+#![tactic(auto)]
+
+mod blocks;
+mod eval;
+mod fits;
+mod laws;
+mod listing;
+mod program;
+mod registers;
+#[cfg(test)]
+mod tests;
+mod well_formed;
+mod work;
+
+pub use eval::eval_flat;
+pub use laws::{
+    a_run_goes_on, a_run_is_its_changes, a_run_is_its_values, a_run_keeps_the_tables,
+    a_run_keeps_widths, lines_of_blocks, readings_that_agree,
+};
+pub use listing::print_flat;
+pub use program::{Block, Blocks, Code, FieldValue, Flat, Instr, InstrKind, Out, ValueId};
+pub use well_formed::is_well_formed;

@@ -1,0 +1,39 @@
+-- Which objects preprocessing looks up, and which the switch has to be told of.
+use Rattle.std.specs.Prelude.{ℕ, ◌==◌, Bool, false, not, ◌&&◌, List}
+use Rattle.flat_ir.specs.Program.{Program, Work, step_at}
+use Rattle.flat_ir.specs.Program.Work.{const, field, apply, shift, select, byte, look, put, del}
+use Rattle.flat_ir.specs.WellFormed.{is_constant}
+use Rattle.split_model.specs.declared.split.Part.{Part}
+use Rattle.split_model.specs.Split.{is_pre, any_step}
+
+-- it looks up a row of the object
+abbrev pub looks_at : ℕ → Work → Bool
+looks_at o (look object keys) = object == o
+looks_at o (const width number) = false
+looks_at o (field name) = false
+looks_at o (apply op width args) = false
+looks_at o (shift op width arg by) = false
+looks_at o (select width cond first second) = false
+looks_at o (byte index) = false
+looks_at o (put object keys values) = false
+looks_at o (del object keys) = false
+
+-- it changes a row of the object
+abbrev pub writes_to : ℕ → Work → Bool
+writes_to o (put object keys values) = object == o
+writes_to o (del object keys) = object == o
+writes_to o (const width number) = false
+writes_to o (field name) = false
+writes_to o (apply op width args) = false
+writes_to o (shift op width arg by) = false
+writes_to o (select width cond first second) = false
+writes_to o (byte index) = false
+writes_to o (look object keys) = false
+
+-- preprocessing looks the object up
+abbrev pub is_shown : Program → List Part → ℕ → Bool
+is_shown f split o = any_step f (λ i. is_pre split i && looks_at o (step_at f i).work)
+
+-- it isn't a constant table, and preprocessing looks it up: so the switch follows the server
+abbrev pub is_replicated : Program → List Part → ℕ → Bool
+is_replicated f split o = not (is_constant f.objects o) && is_shown f split o

@@ -1,0 +1,52 @@
+-- What a split says of each instruction.
+use Rattle.std.specs.Prelude.{ℕ, zero, suc, Bool, true, false, ◌||◌, List, length, Option, Some, None, is_some, slice_index_or}
+use Rattle.flat_ir.specs.Program.{Program}
+use Rattle.split_model.specs.declared.split.Slow.{Slow}
+use Rattle.split_model.specs.declared.split.Slow.TheVariants.{Carried, Server, Post}
+use Rattle.split_model.specs.declared.split.Part.{Part}
+
+abbrev pub part_at : List Part → ℕ → Part
+part_at split i = slice_index_or split i (record { pre = None; slow = Server })
+
+-- the stage of an instruction in each pass, where it is computed there
+abbrev pub pre_stage : List Part → ℕ → Option ℕ
+pre_stage split i = (part_at split i).pre
+
+abbrev pub stage_after : Slow → Option ℕ
+stage_after Carried = None
+stage_after Server = None
+stage_after (Post stage) = Some stage
+
+abbrev pub post_stage : List Part → ℕ → Option ℕ
+post_stage split i = stage_after (part_at split i).slow
+
+abbrev pub is_carried_up : Slow → Bool
+is_carried_up Carried = true
+is_carried_up Server = false
+is_carried_up (Post stage) = false
+
+abbrev pub is_served : Slow → Bool
+is_served Carried = false
+is_served Server = true
+is_served (Post stage) = false
+
+abbrev pub is_pre : List Part → ℕ → Bool
+is_pre split i = is_some (pre_stage split i)
+
+abbrev pub is_carried : List Part → ℕ → Bool
+is_carried split i = is_carried_up (part_at split i).slow
+
+abbrev pub is_server : List Part → ℕ → Bool
+is_server split i = is_served (part_at split i).slow
+
+abbrev pub is_post : List Part → ℕ → Bool
+is_post split i = is_some (post_stage split i)
+
+-- some number below n passes the test
+abbrev pub any_below : ℕ → (ℕ → Bool) → Bool
+any_below zero test = false
+any_below (suc n) test = any_below n test || test n
+
+-- some instruction passes the test
+abbrev pub any_step : Program → (ℕ → Bool) → Bool
+any_step f test = any_below (length f.code) test

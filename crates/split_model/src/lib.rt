@@ -1,0 +1,8 @@
+//! A flat program in three parts: what is done on the switch before the server, by the server, and on the switch after it.
+#![tactic(auto)]
+
+mod layout;
+mod split;
+
+pub use layout::{Crossing, Layout};
+pub use split::{Part, Slow, Split};
