@@ -1,5 +1,5 @@
 //! Tables.
-ghost use Rattle.std.specs.Prelude.{◌≡◌, ◌≢◌, ℕ, ◌+◌, ◌*◌, ◌<◌, ◌≤◌, ◌<◌, Some, None, IfOk, length, is_some, if◌then◌else◌, not};
+ghost use Rattle.std.specs.Prelude.{◌≡◌, ◌<◌, ◌≤◌, false, IfOk, length, if◌then◌else◌};
 ghost use Rattle.std.specs.FinMap as map;
 ghost use Rattle.slot_table.specs.Table.{Table, held, is_full, IsWords, IsLaidOut};
 ghost use Rattle.slot_table.specs.declared.table.Slot.TheVariants.{Stored, Full};
@@ -18,7 +18,9 @@ pub enum Slot {
     Full,
 }
 
-/// Rows of so many words in a key and in a value.
+/// A finite map with a capacity: rows of K words in a key and V words in a value. K and V are 1 or 2.
+/// Rows lie in a circle of slots, more than twice as many as the capacity. A search begins at the home of its key and
+/// goes from slot to slot; a removal moves rows back, so that no search is cut short.
 #[derive(Drop)]
 pub struct SlotTable<const K: usize, const V: usize> {
     slots: Vec<Option<([u64; K], [u64; V])>>,
@@ -27,7 +29,6 @@ pub struct SlotTable<const K: usize, const V: usize> {
 }
 
 impl<const K: usize, const V: usize> Model for SlotTable<K, V> {
-    ghost use Rattle.std.specs.Prelude.{◌≡◌, ◌<◌, ◌≤◌, length};
     ghost use Rattle.slot_table.specs.Table.{Table, table_code, rows_in};
     ghost use Rattle.slot_table.specs.Probing.{IsTable};
 
@@ -41,7 +42,7 @@ impl<const K: usize, const V: usize> Model for SlotTable<K, V> {
 }
 
 impl<const K: usize, const V: usize> SlotTable<K, V> {
-    /// A table without rows, with the memory for so many.
+    /// A table without rows, with the memory for so many. No other call takes memory.
     pub fn new(alloc: Global, capacity: usize) -> Result<Self, NoMemory>
         requires keys { IsWords K }
         requires values { IsWords V }
@@ -64,12 +65,14 @@ impl<const K: usize, const V: usize> SlotTable<K, V> {
         })
     }
 
-    /// Sets the value under a key. This takes no memory.
+    /// Sets the value under a key. At capacity a new key is refused.
     pub fn insert(&mut self, key: [u64; K], value: [u64; V]) -> Slot
         requires keys { IsWords K }
         requires values { IsWords V }
         ensures answer { result ≡ (if is_full self.old key.entry then Full else Stored) }
-        ensures rows { self.new.rows ≡ (if is_full self.old key.entry then self.old.rows else map.insert self.old.rows key.entry value.entry) }
+        ensures rows { self.new.rows ≡ (if is_full self.old key.entry then self.old.rows
+            else map.insert self.old.rows key.entry value.entry) }
+        ensures unchanged { result ≡ Full → self.new ≡ self.old }
         ensures capacity { self.new.capacity ≡ self.old.capacity }
         ensures slots { length self.new.slots ≡ length self.old.slots }
     {
@@ -95,6 +98,7 @@ impl<const K: usize, const V: usize> SlotTable<K, V> {
         requires values { IsWords V }
         ensures was { result ≡ map.contains_key self.old.rows key.now }
         ensures rows { self.new.rows ≡ map.remove self.old.rows key.now }
+        ensures unchanged { result ≡ false → self.new ≡ self.old }
         ensures capacity { self.new.capacity ≡ self.old.capacity }
         ensures slots { length self.new.slots ≡ length self.old.slots }
     {
@@ -147,7 +151,7 @@ impl<const K: usize, const V: usize> SlotTable<K, V> {
         self.slots.len()
     }
 
-    /// The row in a slot.
+    /// The row in a slot, if it holds one. A walk over all slots meets each row once.
     pub fn slot(&self, i: usize) -> Option<([u64; K], [u64; V])>
         requires keys { IsWords K }
         requires values { IsWords V }
