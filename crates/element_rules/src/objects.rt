@@ -75,8 +75,17 @@ pub(crate) fn declare_values(
     match object {
         SurfaceDecl::Table { values, .. }
         | SurfaceDecl::Map { values, .. }
-        | SurfaceDecl::Vector { values, .. } => declare_all(alloc, text, objects, locals, names, values),
-        SurfaceDecl::Int { width, .. } => declare_all(alloc, text, objects, locals, names, &[*width]),
+        | SurfaceDecl::Vector { values, .. } => declare_all(
+            alloc, text, objects, locals, names, values,
+        ),
+        SurfaceDecl::Int { width, .. } => declare_all(
+            alloc,
+            text,
+            objects,
+            locals,
+            names,
+            &[*width],
+        ),
     }
 }
 

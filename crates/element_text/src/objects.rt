@@ -38,7 +38,12 @@ fn numbers_of(literals: &[Literal]) -> Values
 }
 
 // The rows of a table, whose keys and values have these widths.
-fn rows_of(alloc: Global, source: &[SurfaceRow], keys: &[u64], values: &[u64]) -> Result<Rows, NoMemory>
+fn rows_of(
+    alloc: Global,
+    source: &[SurfaceRow],
+    keys: &[u64],
+    values: &[u64],
+) -> Result<Rows, NoMemory>
     requires keys { length keys.now ≤ 8 }
     requires values { length values.now ≤ 8 }
     requires written { are_written keys.now values.now (map surface_row source.now) ≡ true }

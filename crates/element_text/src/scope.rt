@@ -52,11 +52,7 @@ pub(crate) fn number_of(place: usize) -> Result<u32, NoMemory>
 }
 
 /// The number of the object that has a name.
-pub(crate) fn object_named(
-    text: &[u8],
-    objects: &[ObjectDecl],
-    name: Span,
-) -> Result<u32, NoMemory>
+pub(crate) fn object_named(text: &[u8], objects: &[ObjectDecl], name: Span) -> Result<u32, NoMemory>
     requires { IsSome (object_from 0 objects.now (spelled text.now name)) }
     ensures number { IfOk result (λ number. object_from 0 objects.now (spelled text.now name) ≡ Some number) }
     ensures within { IfOk result (λ number. number < length objects.now) }

@@ -1,0 +1,164 @@
+//! Tables.
+ghost use Rattle.std.specs.Prelude.{◌≡◌, ◌<◌, ◌≤◌, false, IfOk, length, if◌then◌else◌};
+ghost use Rattle.std.specs.FinMap as map;
+ghost use Rattle.slot_table.specs.Table.{Table, held, is_full, IsWords, IsLaidOut};
+ghost use Rattle.slot_table.specs.declared.table.Slot.TheVariants.{Stored, Full};
+
+use crate::probing::{close, probe};
+use gal_io::NoMemory;
+use std::alloc::Global;
+use std::marker::Model;
+
+/// What an insert did.
+#[derive(Clone, Copy, Debug, PartialEq, Eq)]
+pub enum Slot {
+    /// The row is stored.
+    Stored,
+    /// The table is at its capacity and the key is new. Nothing has changed.
+    Full,
+}
+
+/// A finite map with a capacity: rows of K words in a key and V words in a value. K and V are 1 or 2.
+/// Rows lie in a circle of slots, more than twice as many as the capacity. A search begins at the home of its key and
+/// goes from slot to slot; a removal moves rows back, so that no search is cut short.
+#[derive(Drop)]
+pub struct SlotTable<const K: usize, const V: usize> {
+    slots: Vec<Option<([u64; K], [u64; V])>>,
+    len: usize,
+    capacity: usize,
+}
+
+impl<const K: usize, const V: usize> Model for SlotTable<K, V> {
+    ghost use Rattle.slot_table.specs.Table.{Table, table_code, rows_in};
+    ghost use Rattle.slot_table.specs.Probing.{IsTable};
+
+    ghost Value = { Table };
+
+    ghost coded = { table_code };
+
+    ghost view = { λ a. record { rows = rows_in a.slots.items; capacity = a.capacity; slots = a.slots.items } };
+
+    ghost invariant = { λ a. IsTable a.slots.items a.len a.capacity };
+}
+
+impl<const K: usize, const V: usize> SlotTable<K, V> {
+    /// A table without rows, with the memory for so many. No other call takes memory.
+    pub fn new(alloc: Global, capacity: usize) -> Result<Self, NoMemory>
+        requires keys { IsWords K }
+        requires values { IsWords V }
+        ensures rows { IfOk result (λ table. table.rows ≡ map.empty) }
+        ensures capacity { IfOk result (λ table. table.capacity ≡ capacity) }
+        ensures slots { IfOk result (λ table. capacity < length table.slots) }
+    {
+        if capacity > usize::MAX / 2 - 1 {
+            return Err(NoMemory);
+        }
+        let count = 2 * capacity + 1;
+        let mut slots = Vec::with_capacity(alloc, count)?;
+        for _ in 0..count {
+            slots.push(None)?;
+        }
+        Ok(SlotTable {
+            slots,
+            len: 0,
+            capacity,
+        })
+    }
+
+    /// Sets the value under a key. At capacity a new key is refused.
+    pub fn insert(&mut self, key: [u64; K], value: [u64; V]) -> Slot
+        requires keys { IsWords K }
+        requires values { IsWords V }
+        ensures answer { result ≡ (if is_full self.old key.entry then Full else Stored) }
+        ensures rows { self.new.rows ≡ (if is_full self.old key.entry then self.old.rows
+            else map.insert self.old.rows key.entry value.entry) }
+        ensures unchanged { result ≡ Full → self.new ≡ self.old }
+        ensures capacity { self.new.capacity ≡ self.old.capacity }
+        ensures slots { length self.new.slots ≡ length self.old.slots }
+    {
+        match probe(&self.slots, &key) {
+            Ok(place) => {
+                self.slots[place] = Some((key, value));
+                Slot::Stored
+            }
+            Err(gap) => {
+                if self.len >= self.capacity {
+                    return Slot::Full;
+                }
+                self.slots[gap] = Some((key, value));
+                self.len += 1;
+                Slot::Stored
+            }
+        }
+    }
+
+    /// Removes the row of a key. It answers whether there was one.
+    pub fn remove(&mut self, key: &[u64; K]) -> bool
+        requires keys { IsWords K }
+        requires values { IsWords V }
+        ensures was { result ≡ map.contains_key self.old.rows key.now }
+        ensures rows { self.new.rows ≡ map.remove self.old.rows key.now }
+        ensures unchanged { result ≡ false → self.new ≡ self.old }
+        ensures capacity { self.new.capacity ≡ self.old.capacity }
+        ensures slots { length self.new.slots ≡ length self.old.slots }
+    {
+        match probe(&self.slots, key) {
+            Ok(place) => {
+                self.slots[place] = None;
+                close(&mut self.slots, place);
+                self.len -= 1;
+                true
+            }
+            Err(_) => false,
+        }
+    }
+
+    /// The value under a key.
+    pub fn look(&self, key: &[u64; K]) -> Option<[u64; V]>
+        requires keys { IsWords K }
+        requires values { IsWords V }
+        ensures { result ≡ map.get self.now.rows key.now }
+    {
+        match probe(&self.slots, key) {
+            Ok(place) => match &self.slots[place] {
+                Some(row) => {
+                    let value = row.1;
+                    Some(value)
+                }
+                None => None,
+            },
+            Err(_) => None,
+        }
+    }
+
+    /// How many rows there are.
+    pub fn len(&self) -> usize
+        requires keys { IsWords K }
+        requires values { IsWords V }
+        ensures count { result ≡ map.len self.now.rows }
+        ensures within { map.len self.now.rows ≤ self.now.capacity }
+    {
+        self.len
+    }
+
+    /// How many slots there are.
+    pub fn slots(&self) -> usize
+        requires keys { IsWords K }
+        requires values { IsWords V }
+        ensures count { result ≡ length self.now.slots }
+        ensures spare { self.now.capacity < length self.now.slots }
+    {
+        self.slots.len()
+    }
+
+    /// The row in a slot, if it holds one. A walk over all slots meets each row once.
+    pub fn slot(&self, i: usize) -> Option<([u64; K], [u64; V])>
+        requires keys { IsWords K }
+        requires values { IsWords V }
+        requires within { i < length self.now.slots }
+        ensures held { result ≡ held self.now.slots i }
+        ensures rows { IsLaidOut self.now.rows self.now.slots }
+    {
+        self.slots[i]
+    }
+}
