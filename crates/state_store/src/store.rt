@@ -1,5 +1,6 @@
 //! Stores.
-ghost use Rattle.std.specs.Prelude.{◌≡◌, is_some, IfOk};
+ghost use Rattle.std.specs.Prelude.{◌≡◌, ◌≢◌, is_some, IfOk};
+ghost use Rattle.state_store.specs.declared.store.Put.TheVariants.{Stored};
 ghost use Rattle.state_store.specs.Store.{object_at, with_object, start_store, look, looked_up, put_answer, put_row, del_row, rows_of};
 
 use crate::object::{Objects, Rows};
@@ -78,6 +79,7 @@ impl Store {
     pub fn put(&mut self, object: u32, key: &Values, values: &Values) -> Put
         ensures answer { result ≡ put_answer (object_at self.old object) key.now }
         ensures after { self.new ≡ with_object self.old object (put_row (object_at self.old object) key.now values.now) }
+        ensures unchanged { result ≢ Stored → self.new ≡ self.old }
     {
         let number = object as usize;
         if number < self.objects.len() {
