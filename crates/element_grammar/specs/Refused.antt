@@ -5,17 +5,20 @@ use Rattle.element_lang.specs.declared.mark.Mark.{Mark}
 use Rattle.element_lang.specs.declared.mark.Mark.TheVariants as marks
 use Rattle.element_lang.specs.Token.{Token, fixed, name}
 use Rattle.element_lang.specs.Surface.{SurfaceExpr, SurfaceExprs, SurfaceStmt, SurfaceBody, SurfaceRow, Declared, apply}
-use Rattle.element_lang.specs.Grammar.{three, IsUnary, IsExpr, AreKeys, IsStmt, IsElse, AreWidths, AreLiterals, IsMiddlebox}
+use Rattle.element_lang.specs.Grammar.{three, IsUnary, IsExpr, AreKeys, IsStmt, IsElse, AreWidths, AreLiterals}
+use Rattle.element_lang.specs.Grammar.{IsMiddlebox}
 use Rattle.element_grammar.specs.declared.error.ParseError.{ParseError}
 use Rattle.element_grammar.specs.declared.error.ParseError.TheVariants.{Left}
-use Rattle.element_grammar.specs.Machine.{Awaited, mark, some_name, expr, operand, keys, stmt, otherwise, widths, literals, middlebox, skip, infix_at, shift_at}
+use Rattle.element_grammar.specs.Machine.{Awaited, mark, some_name, expr, operand, keys, stmt, otherwise, widths}
+use Rattle.element_grammar.specs.Machine.{literals, middlebox, skip, infix_at, shift_at}
 use Rattle.element_grammar.specs.Machine.{otherwise_move, left_at}
 
 -- what is awaited stands in front, and then the rest, to which it doesn't reach
 pub record Reads (a : Awaited) (ts rest : List Token) : Type 0 where
   pub way : (below : List Awaited) → left_at (a ∷ below) ts ≡ left_at below rest
 
--- what is awaited, one after another, doesn't stand in front: the error tells how many tokens are left at the first that doesn't fit
+-- what is awaited, one after another, doesn't stand in front: the error tells how many tokens are left at the first
+-- that doesn't fit
 pub record Misses (awaited : List Awaited) (ts : List Token) (e : ParseError) : Type 0 where
   pub tells : (left : ℕ) (below : List Awaited) → e ≡ Left left → left_at (awaited ++ below) ts ≡ Some left
 

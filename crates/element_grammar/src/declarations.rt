@@ -1,13 +1,17 @@
 //! Declarations.
 ghost use Rattle.std.specs.Prelude.{◌≡◌, ◌<◌, [], ◌∷◌, length, map, IfOk, IfErr};
-ghost use Rattle.element_lang.specs.declared.mark.Mark.TheVariants.{Table as TableMark, Map as MapMark, Vector as VectorMark, Int as IntMark, Process as ProcessMark, Colon as ColonMark};
+ghost use Rattle.element_lang.specs.declared.mark.Mark.TheVariants.{Table as TableMark, Map as MapMark};
+ghost use Rattle.element_lang.specs.declared.mark.Mark.TheVariants.{Vector as VectorMark, Int as IntMark};
+ghost use Rattle.element_lang.specs.declared.mark.Mark.TheVariants.{Process as ProcessMark, Colon as ColonMark};
 ghost use Rattle.element_lang.specs.Token.{fixed, number as number_token};
 ghost use Rattle.element_lang.specs.Surface as tree;
 ghost use Rattle.element_lang.specs.Grammar.{AreWidths, AreLiterals, AreRows, IsDecl};
 ghost use Rattle.element_tokens.specs.Tokens.{spelled, tokens_of};
 ghost use Rattle.element_grammar.specs.Surface.{surface_literal, surface_row, surface_decl, surface_object};
-ghost use Rattle.element_grammar.specs.Machine.{mark, some_number, widths as widths_part, literals as literals_part, rows as rows_part, middlebox};
-ghost use Rattle.element_grammar.specs.Refused.{NoMark, FoundHeader, FoundRow, FoundObjects, header_parts, row_parts, Misses};
+ghost use Rattle.element_grammar.specs.Machine.{mark, some_number, widths as widths_part, literals as literals_part};
+ghost use Rattle.element_grammar.specs.Machine.{rows as rows_part, middlebox};
+ghost use Rattle.element_grammar.specs.Refused.{NoMark, FoundHeader, FoundRow, FoundObjects, header_parts, row_parts};
+ghost use Rattle.element_grammar.specs.Refused.{Misses};
 
 use crate::cursor::{
     after_mark, after_marks, count, first, name_then, number, number_then, skip_mark, wrong,

@@ -7,7 +7,8 @@ use std::alloc::{AllocError, AllocFailed};
 /// Why there is no surface tree.
 #[derive(Clone, Copy, Debug, PartialEq, Eq)]
 pub enum ParseError {
-    /// So many tokens are left at the first wrong one, which is among them. None are left where the tokens end too early.
+    /// So many tokens are left at the first wrong one, which is among them. None are left where the tokens end too
+    /// early.
     Left(usize),
     /// No memory was found.
     NoMemory,

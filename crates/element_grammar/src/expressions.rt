@@ -7,7 +7,8 @@ ghost use Rattle.element_lang.specs.Grammar as grammar;
 ghost use Rattle.element_lang.specs.Grammar.{IsPrim, IsUnary, AreExprs, AreKeys, one, two, three};
 ghost use Rattle.element_tokens.specs.Tokens.{spelled, tokens_of};
 ghost use Rattle.element_grammar.specs.Surface.{surface_expr, surface_exprs};
-ghost use Rattle.element_grammar.specs.Machine.{mark, prim, unary as unary_part, operand, expr, exprs, keys as keys_part};
+ghost use Rattle.element_grammar.specs.Machine.{mark, prim, unary as unary_part, operand, expr, exprs};
+ghost use Rattle.element_grammar.specs.Machine.{keys as keys_part};
 ghost use Rattle.element_grammar.specs.Refused.{FoundOperand, FoundExpr, FoundBetween, FoundThree, three_parts, Misses};
 
 use crate::cursor::{after_mark, first, mark_in_front, number, number_then, skip_mark, wrong};

@@ -33,7 +33,8 @@ fn whole(alloc: Global, text: &[u8], tokens: &[Placed]) -> Result<SurfaceTree, P
     Ok(SurfaceTree { objects, body })
 }
 
-/// The surface tree that the tokens of a source spell, or where the first wrong token stands. Calls go as deep as brackets are
+/// The surface tree that the tokens of a source spell, or where the first wrong token stands. Calls go as deep as
+/// brackets are
 /// open, so that no more may be open at once than a source may have.
 pub fn parse(alloc: Global, text: &[u8], tokens: &[Placed]) -> Result<SurfaceTree, ParseError>
     requires shallow { deepest 0 (tokens_of text.now tokens.now) ≤ bound Depth }

@@ -1,6 +1,7 @@
 //! Statements and blocks.
 ghost use Rattle.std.specs.Prelude.{◌≡◌, ◌<◌, ◌≤◌, [], ◌∷◌, length, map, IfOk, IfErr};
-ghost use Rattle.element_lang.specs.declared.mark.Mark.TheVariants.{Let as LetMark, Look as LookMark, Put as PutMark, Del as DelMark, If as IfMark, Repeat as RepeatMark};
+ghost use Rattle.element_lang.specs.declared.mark.Mark.TheVariants.{Let as LetMark, Look as LookMark, Put as PutMark};
+ghost use Rattle.element_lang.specs.declared.mark.Mark.TheVariants.{Del as DelMark, If as IfMark, Repeat as RepeatMark};
 ghost use Rattle.element_lang.specs.Token.{fixed, name as name_token, field as field_token};
 ghost use Rattle.element_lang.specs.Surface as tree;
 ghost use Rattle.element_lang.specs.Grammar.{AreNames, IsBody};

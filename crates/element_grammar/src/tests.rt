@@ -101,7 +101,8 @@ fn refused(rt: HostRuntime) -> Result<(), Fail> {
     Ok(())
 }
 
-// How many statements stand in the two blocks of the first statement, if that is a branch, and at which place it begins.
+// How many statements stand in the two blocks of the first statement, if that is a branch, and at which place it
+// begins.
 fn blocks(body: &[At<SurfaceStmt>]) -> Option<(usize, usize, usize)> {
     let first = body.first()?;
     match &first.item {
