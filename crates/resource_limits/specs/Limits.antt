@@ -1,8 +1,8 @@
 -- What a limits file tells, and why one is refused.
 use Rattle.std.specs.Prelude.{◌≡◌, ◌≤◌, ℕ, ℤ, pos, int_le, unsigned_abs, Bool, true, false, not, ◌||◌, ◌&&◌, List, [], ◌∷◌, Option, Some, None, codes, cond, is_none, option_map, option_and_then}
 use Rattle.std.specs.List.{find}
-use Rattle.std.specs.Str.{is_utf8}
-use Rattle.toml.specs.Data.{Data, as_integer, Members, no_members, member, get_member, same_key}
+use Rattle.std.specs.Str.{is_utf8, bytes_eq}
+use Rattle.toml.specs.Data.{Data, as_integer, Members, no_members, member, get_member}
 use Rattle.toml.specs.Parse.{parse_document}
 use Rattle.resource_limits.specs.declared.limits.Limits.{Limits}
 use Rattle.resource_limits.specs.declared.limits.LimitsError.{LimitsError}
@@ -35,7 +35,9 @@ keys = TableBits ∷ Stages ∷ Writeback ∷ TransferBytes ∷ []
 
 -- the bytes are the name of a key
 abbrev pub is_name : List ℕ → Bool
-is_name name = same_key name (name_of TableBits) || (same_key name (name_of Stages) || (same_key name (name_of Writeback) || same_key name (name_of TransferBytes)))
+is_name name =
+    bytes_eq name (name_of TableBits) || (bytes_eq name (name_of Stages)
+    || (bytes_eq name (name_of Writeback) || bytes_eq name (name_of TransferBytes)))
 
 -- the integer itself, where it is in the range of the key
 abbrev pub whole_in : Key → ℤ → Option ℕ
@@ -59,14 +61,16 @@ abbrev pub has_other_key : Members → Bool
 has_other_key no_members = false
 has_other_key (member name value rest) = not (is_name name) || has_other_key rest
 
--- why a table is refused: the first missing key, then any other key, then the first key with a value outside of its range
+-- why a table is refused: the first missing key, then any other key,
+-- then the first key with a value outside of its range
 abbrev pub first_fault : Option Key → Bool → Option Key → Option LimitsError
 first_fault (Some key) other outside = Some (Missing key)
 first_fault None true outside = Some Unknown
 first_fault None false outside = option_map Range outside
 
 abbrev pub fault_of : Members → Option LimitsError
-fault_of table = first_fault (find (is_missing table) keys) (has_other_key table) (find (is_outside table) keys)
+fault_of table =
+    first_fault (find (is_missing table) keys) (has_other_key table) (find (is_outside table) keys)
 
 -- the table of a text, where it is UTF-8 and a TOML document
 abbrev pub document : List ℕ → Option Members

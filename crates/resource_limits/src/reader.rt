@@ -1,5 +1,5 @@
 //! The limits file, read.
-ghost use Rattle.std.specs.Prelude.{◌≡◌, ◌≤◌, ¬◌, Some, None, option_map, IfSome, IfOk, IfErr};
+ghost use Rattle.std.specs.Prelude.{◌≡◌, ◌≤◌, Some, None, option_map, IfSome, IfOk, IfErr};
 ghost use Rattle.std.specs.List.{find};
 ghost use Rattle.toml.specs.Data.{get_member};
 ghost use Rattle.toml.specs.View.{table_view, view};
@@ -115,7 +115,7 @@ fn is_key(name: &str) -> bool
 
 // The number at a key, where it is in the key's range.
 fn number_at(table: &Table, key: Key) -> Option<u64>
-    ensures { result ≡ number_at (table_view table.now) key }
+    ensures value { result ≡ number_at (table_view table.now) key }
     ensures in_range { IfSome result (λ n. (lowest key ≤ n) × (n ≤ highest key)) }
 {
     match value_at(table, key) {
@@ -128,7 +128,7 @@ fn number_at(table: &Table, key: Key) -> Option<u64>
 }
 
 fn whole_in(key: Key, number: i64) -> Option<u64>
-    ensures { result ≡ whole_in key number }
+    ensures value { result ≡ whole_in key number }
     ensures in_range { IfSome result (λ n. (lowest key ≤ n) × (n ≤ highest key)) }
 {
     if key.lowest() <= number && number <= key.highest() {

@@ -4,5 +4,5 @@ use Rattle.resource_limits.specs.Limits.{has_other_key}
 use Rattle.resource_limits.proofs.reader.other_key.Given as goal
 
 -- the keys that were seen are among the four
-abbrev pub invariant-other_key-loop-name : goal.invariant-other_key-loop-name
-invariant-other_key-loop-name l = has_other_key (members_view l.table.entries) ≡ has_other_key (members_view l.name-iterator)
+abbrev pub invariant-loop-name : goal.invariant-loop-name
+invariant-loop-name l = has_other_key (members_view l.table.entries) ≡ has_other_key (members_view l.name-iterator)
