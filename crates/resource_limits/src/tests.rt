@@ -7,7 +7,7 @@ const LIMITS: &[u8] = b"table_bits = 100000000\nstages = 32\nwriteback = 16\ntra
 #[test]
 fn limits_of_texts(rt: HostRuntime) {
     let alloc = rt.alloc();
-    assert!(
+    assert!(rt;
         read_limits(alloc, LIMITS)
             == Ok(Limits {
                 table_bits: 100_000_000,
@@ -40,6 +40,6 @@ fn refused_texts(rt: HostRuntime) {
         ),
         (b"=", LimitsError::Toml),
     ] {
-        assert!(read_limits(alloc, text) == Err(want));
+        assert!(rt; read_limits(alloc, text) == Err(want));
     }
 }
