@@ -16,7 +16,7 @@ use Rattle.flatten.specs.declared.error.FlatError.TheVariants.{TooLarge, NoMemor
 use Rattle.flatten.specs.declared.place.Ending.{Ending}
 use Rattle.flatten.specs.declared.place.Ending.TheVariants.{No, Yes, Maybe}
 use Rattle.flatten.specs.declared.place.Place.{Place}
-use Rattle.flatten.specs.Flatten.{Given, View, At, Valued, Listed, Scoped, Merged, EndedAt, Flattener, emit, give, opened, below, flat_expr, flat_exprs, operation, same_id, merge_id, merge_option, merge_ids, field_widths, merge, merge_ended, select_ended, with_ended, join, follow, go_on, in_order, bound, flat_turn, flat_turns, looping, second_side, flat_stmt, flat_body, give_field, give_fields}
+use Rattle.flatten.specs.Flatten.{Given, View, At, Valued, Listed, Scoped, Merged, EndedAt, Flattener, emit, give, opened, below, flat_expr, flat_exprs, operation, same_id, merge_id, merge_option, merge_ids, field_widths, merge, merge_ended, ends, select_ended, with_ended, join, follow, go_on, in_order, bound, flat_turn, flat_turns, looping, second_side, flat_stmt, flat_body, give_field, give_fields}
 use Rattle.flatten.specs.Over.{IsOver}
 use Rattle.flatten.specs.declared.stretch.Pending.{Pending}
 use Rattle.flatten.specs.Pending.{closed}
@@ -132,9 +132,9 @@ go_on_grows ws No go ok p g w = ok p g w
 go_on_grows ws Yes go ok p g w = grows g
 go_on_grows ws (Maybe v) go ok p g w =
     let o = opened p v false g in
-    let r = go (below p g) o (record w { ended = No }) in
+    let r = go (below p g) o (ends No w) in
     then_grows g o (follow ws p v go g w).given (open_grows p v false g)
-    (then_grows o r.given (follow ws p v go g w).given (ok (below p g) o (record w { ended = No })) (join_grows ws p v (record w { ended = Yes }) r))
+    (then_grows o r.given (follow ws p v go g w).given (ok (below p g) o (ends No w)) (join_grows ws p v (ends Yes w) r))
 
 pub in_order_grows : (ws : List ℕ) (first rest : Flattener) → Growing first → Growing rest → Growing (in_order ws first rest)
 in_order_grows ws first rest a b p g w =
@@ -192,3 +192,33 @@ mutual
   pub body_grows : (ws : List ℕ) (b : BodyTree) → Growing (flat_body ws b)
   body_grows ws done p g w = grows g
   body_grows ws (stmt s rest) p g w = in_order_grows ws (flat_stmt ws s) (flat_body ws rest) (stmt_grows ws s) (body_grows ws rest) p g w
+
+-- ## Choices
+
+-- what is given for the condition, for the first side, and for both, of a choice in this place
+abbrev pub cond_at : List ℕ → Place → ExprTree → Given → View → Valued
+cond_at ws p c g w = flat_expr ws p w c g
+
+abbrev pub first_at : List ℕ → Place → BodyTree → Valued → View → At
+first_at ws p first x w = flat_body ws first (below p x.given) (opened p x.id true x.given) w
+
+abbrev pub second_at : List ℕ → Place → BodyTree → ValueId → Given → View → At
+second_at ws p second v g w = second_side (is_empty second) p v (flat_body ws second) g w
+
+pub first_from : (ws : List ℕ) (p : Place) (first : BodyTree) (x : Valued) (w : View) → Grows x.given (first_at ws p first x w).given
+first_from ws p first x w =
+    let o = opened p x.id true x.given in
+    then_grows x.given o (first_at ws p first x w).given (open_grows p x.id true x.given) (body_grows ws first (below p x.given) o w)
+
+pub second_from : (ws : List ℕ) (p : Place) (second : BodyTree) (v : ValueId) (g : Given) (w : View) → Grows g (second_at ws p second v g w).given
+second_from ws p second v g w = second_grows (is_empty second) p v (flat_body ws second) (body_grows ws second) g w
+
+pub choose_from_second : (ws : List ℕ) (p : Place) (second : BodyTree) (v : ValueId) (a : At) (w : View) → Grows a.given (join ws p v a.view (second_at ws p second v a.given w)).given
+choose_from_second ws p second v a w =
+    let b = second_at ws p second v a.given w in
+    then_grows a.given b.given (join ws p v a.view b).given (second_from ws p second v a.given w) (join_grows ws p v a.view b)
+
+pub choose_from_first : (ws : List ℕ) (p : Place) (first second : BodyTree) (x : Valued) (w : View) → Grows x.given (join ws p x.id (first_at ws p first x w).view (second_at ws p second x.id (first_at ws p first x w).given w)).given
+choose_from_first ws p first second x w =
+    let a = first_at ws p first x w in
+    then_grows x.given a.given (join ws p x.id a.view (second_at ws p second x.id a.given w)).given (first_from ws p first x w) (choose_from_second ws p second x.id a w)

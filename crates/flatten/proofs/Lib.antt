@@ -1,2 +1,4 @@
 mod Examples
 pub mod Growth
+pub mod Steps
+pub mod Trees

@@ -204,6 +204,13 @@ join widths p v a b =
 
 -- ## What follows
 
+abbrev pub ends : Ending → View → View
+ends e w = record w { ended = e }
+
+-- the packet leaves by a port, or is dropped, and the run has ended
+abbrev pub finished : ValueId → ValueId → View → View
+finished out by w = record w { send = out; port = by; ended = Yes }
+
 abbrev pub Flattener : Type 0
 Flattener = Place → Given → View → At
 
@@ -211,7 +218,7 @@ Flattener = Place → Given → View → At
 -- where the run has ended.
 abbrev pub follow : List ℕ → Place → ValueId → Flattener → Given → View → At
 follow widths p v go g w =
-    join widths p v (record w { ended = Yes }) (go (below p g) (opened p v false g) (record w { ended = No }))
+    join widths p v (ends Yes w) (go (below p g) (opened p v false g) (ends No w))
 
 -- by whether the run has ended in front
 abbrev pub go_on : List ℕ → Ending → Place → Flattener → Given → View → At
@@ -240,11 +247,14 @@ abbrev pub assigned : Field → ValueId → View → View
 assigned f id w = record w { fields = slice_set w.fields (field_index f) (Some id) }
 
 -- those that were in scope before
+abbrev pub kept : Option ValueId → Option ValueId → Option ValueId
+kept None now = None
+kept (Some a) now = now
+
 abbrev pub in_scope : List (Option ValueId) → List (Option ValueId) → List (Option ValueId)
 in_scope [] now = []
 in_scope (a ∷ before) [] = []
-in_scope (None ∷ before) (b ∷ now) = None ∷ in_scope before now
-in_scope (Some a ∷ before) (b ∷ now) = b ∷ in_scope before now
+in_scope (a ∷ before) (b ∷ now) = kept a b ∷ in_scope before now
 
 -- what was declared in a body is out of scope behind it
 abbrev pub leave : View → View → View
@@ -302,8 +312,8 @@ abbrev mutual
   flat_stmt widths (repeat index count body) p g w = flat_turns widths count 0 index (flat_body widths body) (looping p) g w
   flat_stmt widths (send port) p g w =
       let r = flat_expr widths p w port g in
-      record { given = r.given; view = record w { send = one; port = r.id; ended = Yes } }
-  flat_stmt widths drop p g w = record { given = g; view = record w { send = nought; port = nought_port; ended = Yes } }
+      record { given = r.given; view = finished one r.id w }
+  flat_stmt widths drop p g w = record { given = g; view = finished nought nought_port w }
 
   pub flat_body : List ℕ → BodyTree → Flattener
   flat_body widths done p g w = record { given = g; view = w }
@@ -317,8 +327,8 @@ root = record { block = 0; looped = false }
 abbrev pub constants : Given
 constants = record {
   code = (record { block = 0; looped = false; work = flat.const 1 0 })
-    ∷ (record { block = 0; looped = false; work = flat.const 1 1 })
-    ∷ (record { block = 0; looped = false; work = flat.const 8 0 }) ∷ [];
+      ∷ (record { block = 0; looped = false; work = flat.const 1 1 })
+      ∷ (record { block = 0; looped = false; work = flat.const 8 0 }) ∷ [];
   blocks = [];
 }
 

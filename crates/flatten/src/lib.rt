@@ -7,13 +7,10 @@ mod merge;
 mod occurs;
 mod output;
 mod place;
-mod program;
 mod sizes;
 mod state;
-mod statement;
 mod stretch;
 mod value;
 
 pub use error::FlatError;
-pub use program::flatten;
 pub use sizes::MAX_INSTRUCTIONS;

@@ -1,7 +1,6 @@
 //! Two states made one.
 ghost use Rattle.std.specs.Prelude.{◌≡◌, ◌≤◌, IfOk, IfErr};
 ghost use Rattle.flatten.specs.Flatten as pure;
-ghost use Rattle.flatten.specs.Over.{IsOver};
 ghost use Rattle.flatten.specs.Pending.{valued, scoped, merged, ended_at, placed};
 
 use crate::error::FlatError;
@@ -34,14 +33,28 @@ fn width(bits: u32) -> Width
 
 impl Output {
     // The one value where the condition is 1, and else the other.
-    fn merge_id(&mut self, place: Place, cond: ValueId, bits: Width, a: ValueId, b: ValueId) -> Result<ValueId, FlatError>
-        ensures ok { IfOk result (λ id. valued self.new id ≡ pure.merge_id place cond bits a b self.old) }
-        ensures large { IfErr result (λ error. IsOver (pure.merge_id place cond bits a b self.old).given error) }
+    fn merge_id(
+        &mut self,
+        place: Place,
+        cond: ValueId,
+        bits: Width,
+        a: ValueId,
+        b: ValueId,
+    ) -> Result<ValueId, FlatError>
+        ensures { IfOk result (λ id. valued self.new id ≡ pure.merge_id place cond bits a b self.old) }
     {
         if a == b {
             Ok(a)
         } else {
-            self.give(place, InstrKind::Select { width: bits, cond, first: a, second: b })
+            self.give(
+                place,
+                InstrKind::Select {
+                    width: bits,
+                    cond,
+                    first: a,
+                    second: b,
+                },
+            )
         }
     }
 
@@ -54,8 +67,7 @@ impl Output {
         a: Option<ValueId>,
         b: Option<ValueId>,
     ) -> Result<Option<ValueId>, FlatError>
-        ensures ok { IfOk result (λ id. merged self.new id ≡ pure.merge_option place cond bits a b self.old) }
-        ensures large { IfErr result (λ error. IsOver (pure.merge_option place cond bits a b self.old).given error) }
+        ensures { IfOk result (λ id. merged self.new id ≡ pure.merge_option place cond bits a b self.old) }
     {
         match (a, b) {
             (Some(a), Some(b)) => Ok(Some(self.merge_id(place, cond, bits, a, b)?)),
@@ -73,15 +85,12 @@ impl Output {
         a: &[Option<ValueId>],
         b: &[Option<ValueId>],
     ) -> Result<Vec<Option<ValueId>>, FlatError>
-        ensures ok { IfOk result (λ ids. scoped self.new ids.items ≡ pure.merge_ids place cond widths.now a.now b.now self.old) }
-        ensures large { IfErr result (λ error. IsOver (pure.merge_ids place cond widths.now a.now b.now self.old).given error) }
+        ensures { IfOk result (λ ids. scoped self.new ids.items ≡ pure.merge_ids place cond widths.now a.now b.now self.old) }
     {
-        let mut ids = Vec::with_capacity(alloc, widths.len())?;
-        for (i, bits) in widths.iter().enumerate() {
-            if i >= a.len() || i >= b.len() {
-                break;
-            }
-            ids.push(self.merge_option(place, cond, *bits, a[i], b[i])?)?;
+        let count = widths.len().min(a.len()).min(b.len());
+        let mut ids = Vec::with_capacity(alloc, count)?;
+        for i in 0..count {
+            ids.push(self.merge_option(place, cond, widths[i], a[i], b[i])?)?;
         }
         Ok(ids)
     }
@@ -97,8 +106,7 @@ impl Output {
         b: &State,
     ) -> Result<State, FlatError>
         requires { frame.now.fields.items ≡ pure.field_widths }
-        ensures ok { IfOk result (λ w. placed self.new w ≡ pure.merge frame.now.locals.items place cond a.now b.now self.old) }
-        ensures large { IfErr result (λ error. IsOver (pure.merge frame.now.locals.items place cond a.now b.now self.old).given error) }
+        ensures { IfOk result (λ w. placed self.new w ≡ pure.merge frame.now.locals.items place cond a.now b.now self.old) }
     {
         let locals = self.merge_ids(alloc, place, cond, &frame.locals, &a.locals, &b.locals)?;
         let fields = self.merge_ids(alloc, place, cond, &frame.fields, &a.fields, &b.fields)?;
@@ -114,9 +122,14 @@ impl Output {
     }
 
     // Whether the run has ended, the one where the condition is 1, and else the other.
-    fn merge_ended(&mut self, place: Place, cond: ValueId, a: Ending, b: Ending) -> Result<Ending, FlatError>
-        ensures ok { IfOk result (λ ended. ended_at self.new ended ≡ pure.merge_ended place cond a b self.old) }
-        ensures large { IfErr result (λ error. IsOver (pure.merge_ended place cond a b self.old).given error) }
+    fn merge_ended(
+        &mut self,
+        place: Place,
+        cond: ValueId,
+        a: Ending,
+        b: Ending,
+    ) -> Result<Ending, FlatError>
+        ensures { IfOk result (λ ended. ended_at self.new ended ≡ pure.merge_ended place cond a b self.old) }
     {
         match (a, b) {
             (Ending::No, Ending::No) => Ok(Ending::No),
@@ -145,8 +158,7 @@ impl Output {
         b: &State,
     ) -> Result<State, FlatError>
         requires { frame.now.fields.items ≡ pure.field_widths }
-        ensures ok { IfOk result (λ w. placed self.new w ≡ pure.join frame.now.locals.items place cond a.now (placed self.old b.now)) }
-        ensures large { IfErr result (λ error. IsOver (pure.join frame.now.locals.items place cond a.now (placed self.old b.now)).given error) }
+        ensures { IfOk result (λ w. placed self.new w ≡ pure.join frame.now.locals.items place cond a.now (placed self.old b.now)) }
     {
         let both = self.merge(alloc, frame, place, cond, a, b)?;
         let ended = self.merge_ended(place, cond, a.ended, b.ended)?;

@@ -2,7 +2,6 @@
 ghost use Rattle.std.specs.Prelude.{◌≡◌, length, IfOk, IfErr};
 ghost use Rattle.flat_ir.specs.Program.{work_of};
 ghost use Rattle.flatten.specs.Flatten as pure;
-ghost use Rattle.flatten.specs.Over.{IsOver};
 ghost use Rattle.flatten.specs.Pending.{valued};
 
 use crate::error::FlatError;
@@ -35,8 +34,7 @@ impl Model for Output {
 impl Output {
     /// Gives one more instruction, and answers the first of its results.
     pub fn give(&mut self, place: Place, kind: InstrKind) -> Result<ValueId, FlatError>
-        ensures ok { IfOk result (λ id. valued self.new id ≡ pure.give place (work_of kind) self.old) }
-        ensures large { IfErr result (λ e. IsOver (pure.emit place (work_of kind) self.old) e) }
+        ensures { IfOk result (λ id. valued self.new id ≡ pure.give place (work_of kind) self.old) }
     {
         let instruction = self.code.len();
         if instruction >= MAX_INSTRUCTIONS {

@@ -44,15 +44,13 @@ impl Model for State {
 
     ghost Value = { View };
 
-    ghost view = {
-        λ w. record {
-            locals = w.locals.items;
-            fields = w.fields.items;
-            send = w.send;
-            port = w.port;
-            ended = w.ended
-        }
-    };
+    ghost view = { λ w. record {
+      locals = w.locals.items;
+      fields = w.fields.items;
+      send = w.send;
+      port = w.port;
+      ended = w.ended;
+    } };
 }
 
 // The value at a place, and 0 where there is none.
@@ -103,6 +101,22 @@ impl State {
         set_at(&mut self.fields, field_index(field), id);
     }
 
+    /// Says whether the run has ended.
+    pub fn end(&mut self, ended: Ending)
+        ensures { self.new ≡ pure.ends ended self.old }
+    {
+        self.ended = ended;
+    }
+
+    /// The run ends: the packet leaves by this port, or is dropped.
+    pub fn finish(&mut self, send: ValueId, port: ValueId)
+        ensures { self.new ≡ pure.finished send port self.old }
+    {
+        self.send = send;
+        self.port = port;
+        self.ended = Ending::Yes;
+    }
+
     /// The same state again.
     pub fn copy(&self, alloc: Global) -> Result<State, AllocError>
         ensures { IfOk result (λ made. made ≡ self.now) }
@@ -126,15 +140,24 @@ impl State {
 }
 
 // The values of the locals that were in scope before.
-fn in_scope(alloc: Global, before: &[Option<ValueId>], now: &[Option<ValueId>]) -> Result<Vec<Option<ValueId>>, AllocError>
+fn in_scope(
+    alloc: Global,
+    before: &[Option<ValueId>],
+    now: &[Option<ValueId>],
+) -> Result<Vec<Option<ValueId>>, AllocError>
     ensures { IfOk result (λ ids. ids.items ≡ pure.in_scope before.now now.now) }
 {
-    let mut ids = Vec::with_capacity(alloc, now.len())?;
-    for (i, id) in now.iter().enumerate() {
-        if i >= before.len() {
-            break;
-        }
-        ids.push(if before[i].is_some() { *id } else { None })?;
+    let count = before.len().min(now.len());
+    let mut ids = Vec::with_capacity(alloc, count)?;
+    for i in 0..count {
+        ids.push(kept(before[i], now[i]))?;
     }
     Ok(ids)
+}
+
+// The value of a local, where it was in scope before.
+fn kept(before: Option<ValueId>, now: Option<ValueId>) -> Option<ValueId>
+    ensures { result ≡ pure.kept before now }
+{
+    if before.is_some() { now } else { None }
 }

@@ -1,7 +1,6 @@
 //! Pieces in order, where the run may have ended in front of each.
 ghost use Rattle.std.specs.Prelude.{◌≡◌, [], ℕ, List, IfOk, IfErr, if◌then◌else◌};
 ghost use Rattle.flatten.specs.Flatten as pure;
-ghost use Rattle.flatten.specs.Over.{IsOver};
 ghost use Rattle.flatten.specs.Pending.{closed, placed};
 ghost use Rattle.flatten.specs.declared.error.FlatError.TheVariants.{NoMemory};
 
@@ -49,12 +48,11 @@ impl Stretch {
 impl Output {
     /// Whether another piece follows, which none does where the run has ended. Where it may have ended, a block is opened
     /// for what follows.
+    #[tactic(auto, using(crate::proofs::Steps::closed_last))]
     pub fn goes_on(&mut self, alloc: Global, stretch: &mut Stretch) -> Result<bool, FlatError>
-        ensures ok {
-            IfOk result (λ goes. (widths : List ℕ) (go : pure.Flattener) →
-                closed widths stretch.new.pending.items (if goes then go stretch.new.place self.new stretch.new.state else placed self.new stretch.new.state)
-                ≡ closed widths stretch.old.pending.items (pure.go_on widths stretch.old.state.ended stretch.old.place go self.old stretch.old.state))
-        }
+        ensures ok { IfOk result (λ goes. (widths : List ℕ) (go : pure.Flattener) →
+            closed widths stretch.new.pending.items (if goes then go stretch.new.place self.new stretch.new.state else placed self.new stretch.new.state)
+            ≡ closed widths stretch.old.pending.items (pure.go_on widths stretch.old.state.ended stretch.old.place go self.old stretch.old.state)) }
         ensures memory { IfErr result (λ error. error ≡ NoMemory) }
     {
         match stretch.state.ended {
@@ -63,24 +61,29 @@ impl Output {
             Ending::Maybe(ended) => {
                 let inner = self.open(stretch.place, ended, false)?;
                 let mut before = stretch.state.copy(alloc)?;
-                before.ended = Ending::Yes;
+                before.end(Ending::Yes);
                 stretch.pending.push(Pending {
                     place: stretch.place,
                     ended,
                     before,
                 })?;
                 stretch.place = inner;
-                stretch.state.ended = Ending::No;
+                stretch.state.end(Ending::No);
                 Ok(true)
             }
         }
     }
 
     /// The state behind all pieces: that in front of each open block, joined with what came of the block.
-    pub fn close(&mut self, alloc: Global, frame: &Frame, stretch: Stretch) -> Result<State, FlatError>
+    #[tactic(auto, using(crate::proofs::Steps::closed_last))]
+    pub fn close(
+        &mut self,
+        alloc: Global,
+        frame: &Frame,
+        stretch: Stretch,
+    ) -> Result<State, FlatError>
         requires { frame.now.fields.items ≡ pure.field_widths }
         ensures ok { IfOk result (λ w. placed self.new w ≡ closed frame.now.locals.items stretch.pending.items (placed self.old stretch.state)) }
-        ensures large { IfErr result (λ error. IsOver (closed frame.now.locals.items stretch.pending.items (placed self.old stretch.state)).given error) }
     {
         let mut state = stretch.state;
         let mut pending = stretch.pending;

@@ -3,7 +3,6 @@ ghost use Rattle.std.specs.Prelude.{◌≡◌, IfOk, IfErr};
 ghost use Rattle.element_lang.specs.View.{expr_tree, expr_trees};
 ghost use Rattle.flat_ir.specs.Program.{work_of};
 ghost use Rattle.flatten.specs.Flatten as pure;
-ghost use Rattle.flatten.specs.Over.{IsOver};
 ghost use Rattle.flatten.specs.Sized.{IsSizedExpr, AreSizedExprs};
 ghost use Rattle.flatten.specs.Pending.{valued, listed};
 
@@ -22,7 +21,12 @@ fn operation(op: Op, width: Width, args: Vec<ValueId>) -> InstrKind
     ensures { work_of result ≡ pure.operation op width args.items }
 {
     match (op, args.as_slice()) {
-        (Op::Select, [cond, first, second]) => InstrKind::Select { width, cond: *cond, first: *first, second: *second },
+        (Op::Select, [cond, first, second]) => InstrKind::Select {
+            width,
+            cond: *cond,
+            first: *first,
+            second: *second,
+        },
         _ => InstrKind::Apply { op, width, args },
     }
 }
@@ -39,8 +43,7 @@ impl Output {
         e: &Expr,
     ) -> Result<ValueId, FlatError>
         requires { IsSizedExpr frame.now.locals.items (expr_tree e.now) }
-        ensures ok { IfOk result (λ id. valued self.new id ≡ pure.flat_expr frame.now.locals.items place w.now (expr_tree e.now) self.old) }
-        ensures large { IfErr result (λ error. IsOver (pure.flat_expr frame.now.locals.items place w.now (expr_tree e.now) self.old).given error) }
+        ensures { IfOk result (λ id. valued self.new id ≡ pure.flat_expr frame.now.locals.items place w.now (expr_tree e.now) self.old) }
     {
         match e {
             Expr::Lit(number, width) => self.give(place, InstrKind::Const(*width, *number)),
@@ -78,8 +81,7 @@ impl Output {
         all: &[Expr],
     ) -> Result<Vec<ValueId>, FlatError>
         requires { AreSizedExprs frame.now.locals.items (expr_trees all.now) }
-        ensures ok { IfOk result (λ ids. listed self.new ids.items ≡ pure.flat_exprs frame.now.locals.items place w.now (expr_trees all.now) self.old) }
-        ensures large { IfErr result (λ error. IsOver (pure.flat_exprs frame.now.locals.items place w.now (expr_trees all.now) self.old).given error) }
+        ensures { IfOk result (λ ids. listed self.new ids.items ≡ pure.flat_exprs frame.now.locals.items place w.now (expr_trees all.now) self.old) }
     {
         let mut ids = Vec::new(alloc);
         for e in all {
