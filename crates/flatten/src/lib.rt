@@ -9,6 +9,7 @@ mod output;
 mod place;
 mod sizes;
 mod state;
+mod statement;
 mod stretch;
 mod value;
 
