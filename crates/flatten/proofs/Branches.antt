@@ -1,13 +1,15 @@
 -- The branches of statements and their loops, on plain values.
-use Rattle.std.proofs.Common.{◌≡◌, ℕ, zero, suc, ◌+◌, ◌-◌, ◌<◌, List, [], ◌∷◌, length, drop, get_or, false, true, refl, sym, ap, ◌∙◌, arith}
+use Rattle.std.proofs.Common.{◌≡◌, ℕ, zero, suc, ◌+◌, ◌-◌, ◌<◌, List, [], ◌∷◌, ◌++◌, length, drop, get_or, Option, false, true, refl, sym, ap, ◌∙◌, arith}
 use Rattle.element_lang.specs.declared.tree.Stmt.{Stmt}
 use Rattle.element_lang.specs.Tree.{ExprTree, BodyTree}
 use Rattle.element_lang.specs.Tree.StmtTree.{choose}
 use Rattle.element_lang.specs.Rules.{is_empty}
 use Rattle.element_lang.specs.View.{stmt_tree, body_tree}
 use Rattle.flat_ir.specs.declared.program.ValueId.{ValueId}
+use Rattle.flat_ir.specs.declared.program.FieldValue.{FieldValue}
+use Rattle.packet_fields.specs.declared.field.Field.{Field}
 use Rattle.flatten.specs.declared.place.Place.{Place}
-use Rattle.flatten.specs.Flatten.{Given, View, At, Valued, Flattener, flat_expr, flat_stmt, flat_body, flat_turn, flat_turns, in_order, opened, below, second_side, join}
+use Rattle.flatten.specs.Flatten.{Given, View, At, Valued, Flattener, flat_expr, flat_stmt, flat_body, flat_turn, flat_turns, in_order, opened, below, second_side, join, all_changed}
 use Rattle.flatten.specs.Pending.{placed}
 
 -- the statements from one on
@@ -47,3 +49,18 @@ pub choose_told : (ws : List ℕ) (p : Place) (c : ExprTree) (first second : Bod
 choose_told ws p c first second g w x k ra rb ex ek ea eb =
     choose_from ws p first second w x k ra rb ek ea eb
     ∙ ap (λ x. join ws p x.id (flat_body ws first (below p x.given) (opened p x.id true x.given) w).view (second_side (is_empty second) p x.id (flat_body ws second) (flat_body ws first (below p x.given) (opened p x.id true x.given) w).given w)) ex
+
+no_more : {X : Type 0} (xs : List X) → xs ≡ xs ++ []
+no_more [] = refl
+no_more (x ∷ xs) = ap (λ l. x ∷ l) (no_more xs)
+
+pub none_came : (made : List FieldValue) (fs : List Field) (xs ys : List (Option ValueId)) → length xs ≡ 0 → made ≡ made ++ all_changed fs xs ys
+none_came made [] xs ys e = no_more made
+none_came made (f ∷ fs) [] ys e = no_more made
+none_came made (f ∷ fs) (x ∷ xs) ys e = absurd (omega (arith, e))
+
+pub none_now : (made : List FieldValue) (fs : List Field) (xs ys : List (Option ValueId)) → length ys ≡ 0 → made ≡ made ++ all_changed fs xs ys
+none_now made [] xs ys e = no_more made
+none_now made (f ∷ fs) [] ys e = no_more made
+none_now made (f ∷ fs) (x ∷ xs) [] e = no_more made
+none_now made (f ∷ fs) (x ∷ xs) (y ∷ ys) e = absurd (omega (arith, e))

@@ -7,6 +7,7 @@ mod merge;
 mod occurs;
 mod output;
 mod place;
+mod program;
 mod sizes;
 mod state;
 mod statement;
@@ -14,4 +15,5 @@ mod stretch;
 mod value;
 
 pub use error::FlatError;
+pub use program::flatten;
 pub use sizes::MAX_INSTRUCTIONS;
