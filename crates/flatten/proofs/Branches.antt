@@ -1,0 +1,66 @@
+-- The branches of statements and their loops, on plain values.
+use Rattle.std.proofs.Common.{◌≡◌, ℕ, zero, suc, ◌+◌, ◌-◌, ◌<◌, List, [], ◌∷◌, ◌++◌, length, drop, get_or, Option, false, true, refl, sym, ap, ◌∙◌, arith}
+use Rattle.element_lang.specs.declared.tree.Stmt.{Stmt}
+use Rattle.element_lang.specs.Tree.{ExprTree, BodyTree}
+use Rattle.element_lang.specs.Tree.StmtTree.{choose}
+use Rattle.element_lang.specs.Rules.{is_empty}
+use Rattle.element_lang.specs.View.{stmt_tree, body_tree}
+use Rattle.flat_ir.specs.declared.program.ValueId.{ValueId}
+use Rattle.flat_ir.specs.declared.program.FieldValue.{FieldValue}
+use Rattle.packet_fields.specs.declared.field.Field.{Field}
+use Rattle.flatten.specs.declared.place.Place.{Place}
+use Rattle.flatten.specs.Flatten.{Given, View, At, Valued, Flattener, flat_expr, flat_stmt, flat_body, flat_turn, flat_turns, in_order, opened, below, second_side, join, all_changed}
+use Rattle.flatten.specs.Pending.{placed}
+
+-- the statements from one on
+pub split_at : (ss : List Stmt) (n : ℕ) (s : Stmt) → n < length ss → s ≡ get_or ss n s → drop n ss ≡ s ∷ drop (n + 1) ss
+split_at [] n s lt is = absurd (omega (arith, lt))
+split_at (t ∷ ss) zero s lt is = ap (λ x. x ∷ ss) (sym is)
+split_at (t ∷ ss) (suc n) s lt is =
+    let e : suc (n + 1) ≡ suc n + 1 = omega arith in
+    split_at ss n s (omega (arith, lt)) is ∙ ap (λ k. s ∷ drop k (t ∷ ss)) e
+
+pub turns_split : (ws : List ℕ) (count i x : ℕ) (go : Flattener) (p : Place) (g : Given) (w : View) → i < count → flat_turns ws (count - i) i x go p g w ≡ in_order ws (flat_turn i x go) (flat_turns ws (count - (i + 1)) (i + 1) x go) p g w
+turns_split ws count i x go p g w lt =
+    let e : count - i ≡ suc (count - (i + 1)) = omega (arith, lt) in
+    let n : suc i ≡ i + 1 = omega arith in
+    ap (λ n. flat_turns ws n i x go p g w) e ∙ ap (λ k. in_order ws (flat_turn i x go) (flat_turns ws (count - (i + 1)) k x go) p g w) n
+
+pub second_told : (ws : List ℕ) (ss : List Stmt) (p : Place) (v : ValueId) (g : Given) (w : View) → 0 < length ss
+    → second_side (is_empty (body_tree ss)) p v (flat_body ws (body_tree ss)) g w ≡ flat_body ws (body_tree ss) (below p g) (opened p v false g) w
+second_told ws [] p v g w lt = absurd (omega (arith, lt))
+second_told ws (s ∷ ss) p v g w lt = refl
+
+pub second_none : (ws : List ℕ) (ss : List Stmt) (p : Place) (v : ValueId) (g : Given) (w : View) → length ss ≡ 0
+    → second_side (is_empty (body_tree ss)) p v (flat_body ws (body_tree ss)) g w ≡ placed g w
+second_none ws [] p v g w e = refl
+second_none ws (s ∷ ss) p v g w e = absurd (omega (arith, e))
+
+choose_from : (ws : List ℕ) (p : Place) (first second : BodyTree) (w : View) (x : Valued) (k : Place) (ra rb : At) → k ≡ below p x.given → ra ≡ flat_body ws first k (opened p x.id true x.given) w
+    → rb ≡ second_side (is_empty second) p x.id (flat_body ws second) ra.given w
+    → join ws p x.id ra.view rb ≡ join ws p x.id (flat_body ws first (below p x.given) (opened p x.id true x.given) w).view (second_side (is_empty second) p x.id (flat_body ws second) (flat_body ws first (below p x.given) (opened p x.id true x.given) w).given w)
+choose_from ws p first second w x k ra rb ek ea eb =
+    let e : ra ≡ flat_body ws first (below p x.given) (opened p x.id true x.given) w = ea ∙ ap (λ n. flat_body ws first n (opened p x.id true x.given) w) ek in
+    ap (λ r. join ws p x.id ra.view r) eb ∙ ap (λ r. join ws p x.id r.view (second_side (is_empty second) p x.id (flat_body ws second) r.given w)) e
+
+pub choose_told : (ws : List ℕ) (p : Place) (c : ExprTree) (first second : BodyTree) (g : Given) (w : View) (x : Valued) (k : Place) (ra rb : At) → x ≡ flat_expr ws p w c g → k ≡ below p x.given
+    → ra ≡ flat_body ws first k (opened p x.id true x.given) w → rb ≡ second_side (is_empty second) p x.id (flat_body ws second) ra.given w
+    → join ws p x.id ra.view rb ≡ flat_stmt ws (choose c first second) p g w
+choose_told ws p c first second g w x k ra rb ex ek ea eb =
+    choose_from ws p first second w x k ra rb ek ea eb
+    ∙ ap (λ x. join ws p x.id (flat_body ws first (below p x.given) (opened p x.id true x.given) w).view (second_side (is_empty second) p x.id (flat_body ws second) (flat_body ws first (below p x.given) (opened p x.id true x.given) w).given w)) ex
+
+no_more : {X : Type 0} (xs : List X) → xs ≡ xs ++ []
+no_more [] = refl
+no_more (x ∷ xs) = ap (λ l. x ∷ l) (no_more xs)
+
+pub none_came : (made : List FieldValue) (fs : List Field) (xs ys : List (Option ValueId)) → length xs ≡ 0 → made ≡ made ++ all_changed fs xs ys
+none_came made [] xs ys e = no_more made
+none_came made (f ∷ fs) [] ys e = no_more made
+none_came made (f ∷ fs) (x ∷ xs) ys e = absurd (omega (arith, e))
+
+pub none_now : (made : List FieldValue) (fs : List Field) (xs ys : List (Option ValueId)) → length ys ≡ 0 → made ≡ made ++ all_changed fs xs ys
+none_now made [] xs ys e = no_more made
+none_now made (f ∷ fs) [] ys e = no_more made
+none_now made (f ∷ fs) (x ∷ xs) [] e = no_more made
+none_now made (f ∷ fs) (x ∷ xs) (y ∷ ys) e = absurd (omega (arith, e))

@@ -1,0 +1,5 @@
+pub mod Occurs
+pub mod Flatten
+pub mod Over
+pub mod Sized
+pub mod Pending

@@ -1,0 +1,19 @@
+//! Where instructions are given, and whether a run has ended.
+
+use flat_ir::ValueId;
+
+/// Where instructions are given: in a block, and for a `repeat` or not.
+#[derive(Clone, Copy, Debug)]
+pub struct Place {
+    pub block: u32,
+    pub looped: bool,
+}
+
+/// Whether the run has ended.
+#[derive(Clone, Copy, Debug)]
+pub enum Ending {
+    No,
+    Yes,
+    /// It has where this value, of 1 bit, is 1.
+    Maybe(ValueId),
+}

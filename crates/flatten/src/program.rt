@@ -1,0 +1,157 @@
+//! The flat program of a whole middlebox.
+ghost use Rattle.std.specs.Prelude.{◌≡◌, ◌++◌, ◌<◌, ◌≤◌, length, false, get_or, IfOk, IfErr, OnOk, IsTrue};
+ghost use Rattle.packet_fields.specs.declared.field.Field.{Field};
+ghost use Rattle.packet_fields.specs.Table.{all_fields, field_index};
+ghost use Rattle.element_lang.specs.View.{body_tree, tree};
+ghost use Rattle.element_lang.specs.Rules.{is_good};
+ghost use Rattle.flat_ir.specs.Program.{program_of, step_of};
+ghost use Rattle.flat_ir.specs.Program.Work.{const};
+ghost use Rattle.flatten.specs.Flatten as pure;
+ghost use Rattle.flatten.specs.Occurs.{is_in_body};
+ghost use Rattle.flatten.specs.Pending.{scoped};
+ghost use Rattle.flatten.specs.declared.sizes.TheConstants.{MAX_INSTRUCTIONS};
+
+use crate::error::FlatError;
+use crate::frame::Frame;
+use crate::occurs::Seen;
+use crate::output::Output;
+use crate::place::{Ending, Place};
+use crate::state::{NOUGHT, NOUGHT_PORT, State};
+use element_lang::{Middlebox, Stmt};
+use flat_ir::{Blocks, Code, FieldValue, Flat, Instr, InstrKind, Out, ValueId};
+use gal_bits::Width;
+use gal_io::NoMemory as Want;
+use packet_fields::{Field, fields};
+use std::alloc::{AllocFailed, Global};
+
+// A number in the root.
+fn constant(width: Width, number: u64) -> Instr
+    ensures { step_of result ≡ record { block = 0; looped = false; work = const width number } }
+{
+    Instr {
+        block: 0,
+        looped: false,
+        kind: InstrKind::Const(width, number),
+    }
+}
+
+impl Output {
+    // The constants that come first.
+    fn constants(alloc: Global) -> Result<Output, Want>
+        ensures { IfOk result (λ made. made ≡ pure.constants) }
+    {
+        let bit = Width::new(1).unwrap();
+        let byte = Width::new(8).unwrap();
+        let mut code = Code::new(alloc);
+        code.push(constant(bit, 0))?;
+        code.push(constant(bit, 1))?;
+        code.push(constant(byte, 0))?;
+        Ok(Output {
+            code,
+            blocks: Blocks::new(alloc),
+        })
+    }
+
+    // An instruction for each field that occurs.
+    fn fields(
+        &mut self,
+        alloc: Global,
+        seen: &Seen,
+        body: &[Stmt],
+    ) -> Result<Vec<Option<ValueId>>, FlatError>
+        requires { (f : Field) → get_or seen.now.marks (field_index f) false ≡ is_in_body f (body_tree body.now) }
+        ensures ok { IfOk result (λ ids. scoped self.new ids.items ≡ pure.give_fields (body_tree body.now) all_fields self.old) }
+    {
+        let root = Place {
+            block: 0,
+            looped: false,
+        };
+        let mut ids = Vec::with_capacity(alloc, 34)?;
+        for field in fields() {
+            let id = if seen.has(field) {
+                Some(self.give(root, InstrKind::Field(field))?)
+            } else {
+                None
+            };
+            ids.push(id)?;
+        }
+        Ok(ids)
+    }
+}
+
+// A field whose value isn't the one with which it came.
+fn push_changed(
+    made: &mut Vec<FieldValue>,
+    field: Field,
+    came: Option<ValueId>,
+    now: Option<ValueId>,
+) -> Result<(), AllocFailed<FieldValue>>
+    ensures { OnOk result (made.new.items ≡ made.old.items ++ pure.changed field came now) }
+{
+    if let (Some(came), Some(value)) = (came, now) {
+        if came != value {
+            made.push(FieldValue { field, value })?;
+        }
+    }
+    Ok(())
+}
+
+// All of these, in field order.
+#[tactic(auto, using(crate::proofs::Branches::none_came, crate::proofs::Branches::none_now))]
+fn push_all(
+    made: &mut Vec<FieldValue>,
+    all: &[Field],
+    came: &[Option<ValueId>],
+    now: &[Option<ValueId>],
+) -> Result<(), AllocFailed<FieldValue>>
+    ensures { OnOk result (made.new.items ≡ made.old.items ++ pure.all_changed all.now came.now now.now) }
+{
+    match (all, came, now) {
+        ([field, all @ ..], [a, came @ ..], [b, now @ ..]) => {
+            push_changed(made, *field, *a, *b)?;
+            push_all(made, all, came, now)
+        }
+        _ => Ok(()),
+    }
+}
+
+/// The flat program of a middlebox.
+///
+/// It stops at the first instruction beyond 4,096, so the time and the memory that it takes are bounded by the source and
+/// by 4,096 instructions; it recurses as deep as statements stand in one another, and not along a list of them.
+#[tactic(auto, using(crate::proofs::GoodSizes::good_sized))]
+pub fn flatten(alloc: Global, m: &Middlebox) -> Result<Flat, FlatError>
+    requires good { IsTrue (is_good (tree m.now)) }
+    ensures program { IfOk result (λ f. program_of f ≡ pure.flat_of (tree m.now)) }
+    ensures few { IfOk result (λ f. length (program_of f).code ≤ MAX_INSTRUCTIONS) }
+{
+    let frame = Frame::of(alloc, m.locals.as_slice())?;
+    let mut seen = Seen::new();
+    seen.body(&m.body);
+    let mut out = Output::constants(alloc)?;
+    let came = out.fields(alloc, &seen, &m.body)?;
+    let start = State {
+        locals: vec![in alloc; None; m.locals.len()]?,
+        fields: came.to_vec(alloc)?,
+        send: NOUGHT,
+        port: NOUGHT_PORT,
+        ended: Ending::No,
+    };
+    let root = Place {
+        block: 0,
+        looped: false,
+    };
+    let end = out.body(alloc, &frame, root, &m.body, start)?;
+    let mut changed = Vec::new(alloc);
+    push_all(&mut changed, &fields(), &came, &end.fields)?;
+    Ok(Flat {
+        objects: m.objects.copy(alloc)?,
+        blocks: out.blocks,
+        code: out.code,
+        out: Out {
+            send: end.send,
+            port: end.port,
+            fields: changed,
+        },
+    })
+}

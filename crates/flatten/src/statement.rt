@@ -1,0 +1,281 @@
+//! The instructions of statements.
+ghost use Rattle.std.specs.Prelude.{◌≡◌, ◌≤◌, ◌∷◌, length, IfOk, IfErr, OnOk};
+ghost use Rattle.element_lang.specs.View.{expr_tree, expr_trees, stmt_tree, body_tree};
+ghost use Rattle.element_lang.specs.Tree.StmtTree.{look, put, del};
+ghost use Rattle.element_lang.specs.Rules.{is_empty};
+ghost use Rattle.flatten.specs.Flatten as pure;
+ghost use Rattle.flatten.specs.Sized.{IsSizedExpr, AreSizedExprs, IsSizedStmt, IsSizedBody};
+ghost use Rattle.flatten.specs.Pending.{placed};
+
+use crate::error::FlatError;
+use crate::frame::Frame;
+use crate::output::Output;
+use crate::place::Place;
+use crate::state::{NOUGHT, NOUGHT_PORT, ONE, State};
+use crate::stretch::Stretch;
+use element_lang::{Expr, Stmt};
+use flat_ir::{InstrKind, ValueId};
+use gal_bits::Width;
+use std::alloc::Global;
+
+// Binds locals to the results of a look: the first to whether the key is there, and the others to its values.
+fn bind_results(look: u32, found: u32, into: &[u32], w: &mut State)
+    requires { length into.now ≤ 8 }
+    ensures { w.new ≡ pure.bound_to look 0 (found ∷ into.now) w.old }
+{
+    let mut id = ValueId {
+        instruction: look,
+        result: 0,
+    };
+    w.bind(found, id);
+    for x in into {
+        id.result += 1;
+        w.bind(*x, id);
+    }
+}
+
+impl Output {
+    // A look, which binds whether the key is there, and its values.
+    fn look(
+        &mut self,
+        alloc: Global,
+        frame: &Frame,
+        place: Place,
+        found: u32,
+        into: &[u32],
+        object: u32,
+        keys: &[Expr],
+        w: &mut State,
+    ) -> Result<(), FlatError>
+        requires keys { AreSizedExprs frame.now.locals.items (expr_trees keys.now) }
+        requires few { length into.now ≤ 8 }
+        ensures { OnOk result (placed self.new w.new ≡ pure.flat_stmt frame.now.locals.items (look found into.now object (expr_trees keys.now)) place self.old w.old) }
+    {
+        let keys = self.values(alloc, frame, place, w, keys)?;
+        let id = self.give(place, InstrKind::Look { object, keys })?;
+        bind_results(id.instruction, found, into, w);
+        Ok(())
+    }
+
+    // A put, which binds whether the row was stored.
+    fn put(
+        &mut self,
+        alloc: Global,
+        frame: &Frame,
+        place: Place,
+        ok: u32,
+        object: u32,
+        keys: &[Expr],
+        values: &[Expr],
+        w: &mut State,
+    ) -> Result<(), FlatError>
+        requires keys { AreSizedExprs frame.now.locals.items (expr_trees keys.now) }
+        requires values { AreSizedExprs frame.now.locals.items (expr_trees values.now) }
+        ensures { OnOk result (placed self.new w.new ≡ pure.flat_stmt frame.now.locals.items (put ok object (expr_trees keys.now) (expr_trees values.now)) place self.old w.old) }
+    {
+        let keys = self.values(alloc, frame, place, w, keys)?;
+        let values = self.values(alloc, frame, place, w, values)?;
+        let kind = InstrKind::Put {
+            object,
+            keys,
+            values,
+        };
+        let id = self.give(place, kind)?;
+        w.bind(ok, id);
+        Ok(())
+    }
+
+    // A del, which binds whether the key was there.
+    fn del(
+        &mut self,
+        alloc: Global,
+        frame: &Frame,
+        place: Place,
+        was: u32,
+        object: u32,
+        keys: &[Expr],
+        w: &mut State,
+    ) -> Result<(), FlatError>
+        requires { AreSizedExprs frame.now.locals.items (expr_trees keys.now) }
+        ensures { OnOk result (placed self.new w.new ≡ pure.flat_stmt frame.now.locals.items (del was object (expr_trees keys.now)) place self.old w.old) }
+    {
+        let keys = self.values(alloc, frame, place, w, keys)?;
+        let id = self.give(place, InstrKind::Del { object, keys })?;
+        w.bind(was, id);
+        Ok(())
+    }
+
+    // The instructions of a statement; the state becomes that behind it.
+    #[cycle(flatten)]
+    fn stmt(
+        &mut self,
+        alloc: Global,
+        frame: &Frame,
+        place: Place,
+        s: &Stmt,
+        w: &mut State,
+    ) -> Result<(), FlatError>
+        requires fields { frame.now.fields.items ≡ pure.field_widths }
+        requires sized { IsSizedStmt frame.now.locals.items (stmt_tree s.now) }
+        ensures { OnOk result (placed self.new w.new ≡ pure.flat_stmt frame.now.locals.items (stmt_tree s.now) place self.old w.old) }
+    {
+        match s {
+            Stmt::Let { local, value } | Stmt::Assign { local, value } => {
+                let id = self.value(alloc, frame, place, w, value)?;
+                w.bind(*local, id);
+            }
+            Stmt::SetField { field, value } => {
+                let id = self.value(alloc, frame, place, w, value)?;
+                w.assign(*field, id);
+            }
+            Stmt::Look {
+                found,
+                into,
+                object,
+                keys,
+            } => self.look(alloc, frame, place, *found, into, *object, keys, w)?,
+            Stmt::Put {
+                ok,
+                object,
+                keys,
+                values,
+            } => self.put(alloc, frame, place, *ok, *object, keys, values, w)?,
+            Stmt::Del { was, object, keys } => self.del(
+                alloc, frame, place, *was, *object, keys, w,
+            )?,
+            Stmt::If { cond, yes, no } => {
+                let v = self.value(alloc, frame, place, w, cond)?;
+                let first = self.open(place, v, true)?;
+                let start = w.copy(alloc)?;
+                let a = self.body(alloc, frame, first, yes, start)?;
+                let b = self.second(alloc, frame, place, v, no, w)?;
+                *w = self.join(alloc, frame, place, v, &a, &b)?;
+            }
+            Stmt::Repeat { index, count, body } => {
+                let place = Place {
+                    block: place.block,
+                    looped: true,
+                };
+                *w = self.turns(alloc, frame, place, *index, *count, body, w)?;
+            }
+            Stmt::Send { port } => {
+                let id = self.value(alloc, frame, place, w, port)?;
+                w.finish(ONE, id);
+            }
+            Stmt::Drop => w.finish(NOUGHT, NOUGHT_PORT),
+        }
+        Ok(())
+    }
+
+    // The second side of an `if`, which opens no block where it is empty.
+    #[cycle(flatten)]
+    #[tactic(auto, using(crate::proofs::Branches::second_told, crate::proofs::Branches::second_none))]
+    fn second(
+        &mut self,
+        alloc: Global,
+        frame: &Frame,
+        place: Place,
+        cond: ValueId,
+        no: &[Stmt],
+        w: &State,
+    ) -> Result<State, FlatError>
+        requires fields { frame.now.fields.items ≡ pure.field_widths }
+        requires sized { IsSizedBody frame.now.locals.items (body_tree no.now) }
+        ensures { let second = pure.flat_body frame.now.locals.items (body_tree no.now) in
+            IfOk result (λ made. placed self.new made ≡ pure.second_side (is_empty (body_tree no.now)) place cond second self.old w.now) }
+    {
+        let start = w.copy(alloc)?;
+        if no.is_empty() {
+            return Ok(start);
+        }
+        let inner = self.open(place, cond, false)?;
+        self.body(alloc, frame, inner, no, start)
+    }
+
+    // The turns of a `repeat`.
+    #[cycle(flatten)]
+    fn turns(
+        &mut self,
+        alloc: Global,
+        frame: &Frame,
+        place: Place,
+        index: u32,
+        count: u8,
+        body: &[Stmt],
+        w: &State,
+    ) -> Result<State, FlatError>
+        requires fields { frame.now.fields.items ≡ pure.field_widths }
+        requires sized { IsSizedBody frame.now.locals.items (body_tree body.now) }
+        ensures { let widths = frame.now.locals.items in
+            IfOk result (λ made. placed self.new made ≡ pure.flat_turns widths count 0 index (pure.flat_body widths (body_tree body.now)) place self.old w.now) }
+    {
+        let mut stretch = Stretch::new(alloc, place, w.copy(alloc)?);
+        for turn in 0..count {
+            let goes = self.goes_on(alloc, &mut stretch)?;
+            if !goes {
+                return self.close(alloc, frame, stretch);
+            }
+            self.turn(
+                alloc,
+                frame,
+                stretch.place,
+                index,
+                turn,
+                body,
+                &mut stretch.state,
+            )?;
+        }
+        self.close(alloc, frame, stretch)
+    }
+
+    // One turn, whose number the local `index` has. What is declared in it is out of scope behind it.
+    #[cycle(flatten)]
+    fn turn(
+        &mut self,
+        alloc: Global,
+        frame: &Frame,
+        place: Place,
+        index: u32,
+        turn: u8,
+        body: &[Stmt],
+        w: &mut State,
+    ) -> Result<(), FlatError>
+        requires fields { frame.now.fields.items ≡ pure.field_widths }
+        requires sized { IsSizedBody frame.now.locals.items (body_tree body.now) }
+        ensures { OnOk result (placed self.new w.new ≡ pure.flat_turn turn index (pure.flat_body frame.now.locals.items (body_tree body.now)) place self.old w.old) }
+    {
+        let number = InstrKind::Const(Width::new(32).unwrap(), u64::from(turn));
+        let id = self.give(place, number)?;
+        let mut start = w.copy(alloc)?;
+        start.bind(index, id);
+        let mut end = self.body(alloc, frame, place, body, start)?;
+        end.leave(alloc, w)?;
+        *w = end;
+        Ok(())
+    }
+
+    /// The instructions of statements, one after the other, and the state behind them.
+    #[cycle(flatten)]
+    pub fn body(
+        &mut self,
+        alloc: Global,
+        frame: &Frame,
+        place: Place,
+        body: &[Stmt],
+        w: State,
+    ) -> Result<State, FlatError>
+        requires fields { frame.now.fields.items ≡ pure.field_widths }
+        requires sized { IsSizedBody frame.now.locals.items (body_tree body.now) }
+        ensures { IfOk result (λ made. placed self.new made ≡ pure.flat_body frame.now.locals.items (body_tree body.now) place self.old w) }
+    {
+        let mut stretch = Stretch::new(alloc, place, w);
+        for s in body {
+            let goes = self.goes_on(alloc, &mut stretch)?;
+            if !goes {
+                return self.close(alloc, frame, stretch);
+            }
+            self.stmt(alloc, frame, stretch.place, s, &mut stretch.state)?;
+        }
+        self.close(alloc, frame, stretch)
+    }
+}
