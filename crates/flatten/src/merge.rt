@@ -1,15 +1,15 @@
 //! Two states made one.
-ghost use Rattle.std.specs.Prelude.{◌≡◌, ◌≤◌, IfOk, IfErr};
+ghost use Rattle.std.specs.Prelude.{◌≡◌, ◌≤◌, IfOk};
 ghost use Rattle.flatten.specs.Flatten as pure;
 ghost use Rattle.flatten.specs.Pending.{valued, scoped, merged, ended_at, placed};
 
-use crate::error::FlatError;
 use crate::frame::Frame;
 use crate::output::Output;
 use crate::place::{Ending, Place};
 use crate::state::{NOUGHT, ONE, State};
 use flat_ir::{InstrKind, ValueId};
 use gal_bits::Width;
+use gal_io::NoMemory;
 use std::alloc::Global;
 
 // The value that says whether a run has ended.
@@ -40,7 +40,7 @@ impl Output {
         bits: Width,
         a: ValueId,
         b: ValueId,
-    ) -> Result<ValueId, FlatError>
+    ) -> Result<ValueId, NoMemory>
         ensures { IfOk result (λ id. valued self.new id ≡ pure.merge_id place cond bits a b self.old) }
     {
         if a == b {
@@ -66,7 +66,7 @@ impl Output {
         bits: Width,
         a: Option<ValueId>,
         b: Option<ValueId>,
-    ) -> Result<Option<ValueId>, FlatError>
+    ) -> Result<Option<ValueId>, NoMemory>
         ensures { IfOk result (λ id. merged self.new id ≡ pure.merge_option place cond bits a b self.old) }
     {
         match (a, b) {
@@ -84,7 +84,7 @@ impl Output {
         widths: &[Width],
         a: &[Option<ValueId>],
         b: &[Option<ValueId>],
-    ) -> Result<Vec<Option<ValueId>>, FlatError>
+    ) -> Result<Vec<Option<ValueId>>, NoMemory>
         ensures { IfOk result (λ ids. scoped self.new ids.items ≡ pure.merge_ids place cond widths.now a.now b.now self.old) }
     {
         let count = widths.len().min(a.len()).min(b.len());
@@ -104,7 +104,7 @@ impl Output {
         cond: ValueId,
         a: &State,
         b: &State,
-    ) -> Result<State, FlatError>
+    ) -> Result<State, NoMemory>
         requires { frame.now.fields.items ≡ pure.field_widths }
         ensures { IfOk result (λ w. placed self.new w ≡ pure.merge frame.now.locals.items place cond a.now b.now self.old) }
     {
@@ -128,7 +128,7 @@ impl Output {
         cond: ValueId,
         a: Ending,
         b: Ending,
-    ) -> Result<Ending, FlatError>
+    ) -> Result<Ending, NoMemory>
         ensures { IfOk result (λ ended. ended_at self.new ended ≡ pure.merge_ended place cond a b self.old) }
     {
         match (a, b) {
@@ -156,7 +156,7 @@ impl Output {
         cond: ValueId,
         a: &State,
         b: &State,
-    ) -> Result<State, FlatError>
+    ) -> Result<State, NoMemory>
         requires { frame.now.fields.items ≡ pure.field_widths }
         ensures { IfOk result (λ w. placed self.new w ≡ pure.join frame.now.locals.items place cond a.now (placed self.old b.now)) }
     {

@@ -4,14 +4,12 @@ ghost use Rattle.flat_ir.specs.Program.{work_of};
 ghost use Rattle.flatten.specs.Flatten as pure;
 ghost use Rattle.flatten.specs.Pending.{valued};
 
-use crate::error::FlatError;
 use crate::place::Place;
-use crate::sizes::MAX_INSTRUCTIONS;
 use flat_ir::{Block, Blocks, Code, Instr, InstrKind, ValueId};
 use gal_io::NoMemory;
 use std::marker::Model;
 
-/// The instructions and blocks that are given so far, at most 4,096 and fewer than 2^32.
+/// The instructions and blocks that are given so far, fewer than 2^32 of each.
 #[derive(Debug, Drop)]
 pub(crate) struct Output {
     pub code: Code,
@@ -19,26 +17,25 @@ pub(crate) struct Output {
 }
 
 impl Model for Output {
-    ghost use Rattle.std.specs.Prelude.{length, map, ◌≤◌, ◌<◌, ◌^◌};
+    ghost use Rattle.std.specs.Prelude.{length, map, ◌<◌, ◌^◌};
     ghost use Rattle.flat_ir.specs.Program.{step_of};
-    ghost use Rattle.flatten.specs.declared.sizes.TheConstants.{MAX_INSTRUCTIONS};
     ghost use Rattle.flatten.specs.Flatten.{Given};
 
     ghost Value = { Given };
 
     ghost view = { λ out. record { code = map step_of out.code; blocks = out.blocks } };
 
-    ghost invariant = { λ out. (length out.code ≤ MAX_INSTRUCTIONS) × (length out.blocks < 2 ^ 32) };
+    ghost invariant = { λ out. (length out.code < 2 ^ 32) × (length out.blocks < 2 ^ 32) };
 }
 
 impl Output {
-    /// Gives one more instruction, and answers the first of its results.
-    pub fn give(&mut self, place: Place, kind: InstrKind) -> Result<ValueId, FlatError>
+    /// Gives one more instruction, and answers the first of its results. There is no memory for 2^32 instructions.
+    pub fn give(&mut self, place: Place, kind: InstrKind) -> Result<ValueId, NoMemory>
         ensures { IfOk result (λ id. valued self.new id ≡ pure.give place (work_of kind) self.old) }
     {
         let instruction = self.code.len();
-        if instruction >= MAX_INSTRUCTIONS {
-            return Err(FlatError::TooLarge);
+        if instruction >= u32::MAX as usize {
+            return Err(NoMemory);
         }
         self.code.push(Instr {
             block: place.block,

@@ -10,12 +10,14 @@ ghost use Rattle.flatten.specs.Flatten as pure;
 ghost use Rattle.flatten.specs.Occurs.{is_in_body};
 ghost use Rattle.flatten.specs.Pending.{scoped};
 ghost use Rattle.flatten.specs.declared.sizes.TheConstants.{MAX_INSTRUCTIONS};
+ghost use Rattle.flatten.specs.declared.error.FlatError.TheVariants.{TooLarge};
 
 use crate::error::FlatError;
 use crate::frame::Frame;
 use crate::occurs::Seen;
 use crate::output::Output;
 use crate::place::{Ending, Place};
+use crate::sizes::MAX_INSTRUCTIONS;
 use crate::state::{NOUGHT, NOUGHT_PORT, State};
 use element_lang::{Middlebox, Stmt};
 use flat_ir::{Blocks, Code, FieldValue, Flat, Instr, InstrKind, Out, ValueId};
@@ -58,9 +60,9 @@ impl Output {
         alloc: Global,
         seen: &Seen,
         body: &[Stmt],
-    ) -> Result<Vec<Option<ValueId>>, FlatError>
+    ) -> Result<Vec<Option<ValueId>>, Want>
         requires { (f : Field) → get_or seen.now.marks (field_index f) false ≡ is_in_body f (body_tree body.now) }
-        ensures ok { IfOk result (λ ids. scoped self.new ids.items ≡ pure.give_fields (body_tree body.now) all_fields self.old) }
+        ensures { IfOk result (λ ids. scoped self.new ids.items ≡ pure.give_fields (body_tree body.now) all_fields self.old) }
     {
         let root = Place {
             block: 0,
@@ -117,13 +119,14 @@ fn push_all(
 
 /// The flat program of a middlebox.
 ///
-/// It stops at the first instruction beyond 4,096, so the time and the memory that it takes are bounded by the source and
-/// by 4,096 instructions; it recurses as deep as statements stand in one another, and not along a list of them.
+/// It counts the instructions once all are given, so the time and the memory that it takes grow with the flat program also
+/// where that is too large. It recurses as deep as statements stand in one another, and not along a list of them.
 #[tactic(auto, using(crate::proofs::GoodSizes::good_sized))]
 pub fn flatten(alloc: Global, m: &Middlebox) -> Result<Flat, FlatError>
     requires good { IsTrue (is_good (tree m.now)) }
     ensures program { IfOk result (λ f. program_of f ≡ pure.flat_of (tree m.now)) }
     ensures few { IfOk result (λ f. length (program_of f).code ≤ MAX_INSTRUCTIONS) }
+    ensures large { IfErr result (λ error. error ≡ TooLarge → MAX_INSTRUCTIONS < length (pure.flat_of (tree m.now)).code) }
 {
     let frame = Frame::of(alloc, m.locals.as_slice())?;
     let mut seen = Seen::new();
@@ -142,6 +145,9 @@ pub fn flatten(alloc: Global, m: &Middlebox) -> Result<Flat, FlatError>
         looped: false,
     };
     let end = out.body(alloc, &frame, root, &m.body, start)?;
+    if out.code.len() > MAX_INSTRUCTIONS {
+        return Err(FlatError::TooLarge);
+    }
     let mut changed = Vec::new(alloc);
     push_all(&mut changed, &fields(), &came, &end.fields)?;
     Ok(Flat {

@@ -1,5 +1,5 @@
 //! The instructions of statements.
-ghost use Rattle.std.specs.Prelude.{◌≡◌, ◌≤◌, ◌∷◌, length, IfOk, IfErr, OnOk};
+ghost use Rattle.std.specs.Prelude.{◌≡◌, ◌≤◌, ◌∷◌, length, IfOk, OnOk};
 ghost use Rattle.element_lang.specs.View.{expr_tree, expr_trees, stmt_tree, body_tree};
 ghost use Rattle.element_lang.specs.Tree.StmtTree.{look, put, del};
 ghost use Rattle.element_lang.specs.Rules.{is_empty};
@@ -7,7 +7,6 @@ ghost use Rattle.flatten.specs.Flatten as pure;
 ghost use Rattle.flatten.specs.Sized.{IsSizedExpr, AreSizedExprs, IsSizedStmt, IsSizedBody};
 ghost use Rattle.flatten.specs.Pending.{placed};
 
-use crate::error::FlatError;
 use crate::frame::Frame;
 use crate::output::Output;
 use crate::place::Place;
@@ -16,6 +15,7 @@ use crate::stretch::Stretch;
 use element_lang::{Expr, Stmt};
 use flat_ir::{InstrKind, ValueId};
 use gal_bits::Width;
+use gal_io::NoMemory;
 use std::alloc::Global;
 
 // Binds locals to the results of a look: the first to whether the key is there, and the others to its values.
@@ -46,7 +46,7 @@ impl Output {
         object: u32,
         keys: &[Expr],
         w: &mut State,
-    ) -> Result<(), FlatError>
+    ) -> Result<(), NoMemory>
         requires keys { AreSizedExprs frame.now.locals.items (expr_trees keys.now) }
         requires few { length into.now ≤ 8 }
         ensures { OnOk result (placed self.new w.new ≡ pure.flat_stmt frame.now.locals.items (look found into.now object (expr_trees keys.now)) place self.old w.old) }
@@ -68,7 +68,7 @@ impl Output {
         keys: &[Expr],
         values: &[Expr],
         w: &mut State,
-    ) -> Result<(), FlatError>
+    ) -> Result<(), NoMemory>
         requires keys { AreSizedExprs frame.now.locals.items (expr_trees keys.now) }
         requires values { AreSizedExprs frame.now.locals.items (expr_trees values.now) }
         ensures { OnOk result (placed self.new w.new ≡ pure.flat_stmt frame.now.locals.items (put ok object (expr_trees keys.now) (expr_trees values.now)) place self.old w.old) }
@@ -95,7 +95,7 @@ impl Output {
         object: u32,
         keys: &[Expr],
         w: &mut State,
-    ) -> Result<(), FlatError>
+    ) -> Result<(), NoMemory>
         requires { AreSizedExprs frame.now.locals.items (expr_trees keys.now) }
         ensures { OnOk result (placed self.new w.new ≡ pure.flat_stmt frame.now.locals.items (del was object (expr_trees keys.now)) place self.old w.old) }
     {
@@ -114,7 +114,7 @@ impl Output {
         place: Place,
         s: &Stmt,
         w: &mut State,
-    ) -> Result<(), FlatError>
+    ) -> Result<(), NoMemory>
         requires fields { frame.now.fields.items ≡ pure.field_widths }
         requires sized { IsSizedStmt frame.now.locals.items (stmt_tree s.now) }
         ensures { OnOk result (placed self.new w.new ≡ pure.flat_stmt frame.now.locals.items (stmt_tree s.now) place self.old w.old) }
@@ -178,7 +178,7 @@ impl Output {
         cond: ValueId,
         no: &[Stmt],
         w: &State,
-    ) -> Result<State, FlatError>
+    ) -> Result<State, NoMemory>
         requires fields { frame.now.fields.items ≡ pure.field_widths }
         requires sized { IsSizedBody frame.now.locals.items (body_tree no.now) }
         ensures { let second = pure.flat_body frame.now.locals.items (body_tree no.now) in
@@ -203,7 +203,7 @@ impl Output {
         count: u8,
         body: &[Stmt],
         w: &State,
-    ) -> Result<State, FlatError>
+    ) -> Result<State, NoMemory>
         requires fields { frame.now.fields.items ≡ pure.field_widths }
         requires sized { IsSizedBody frame.now.locals.items (body_tree body.now) }
         ensures { let widths = frame.now.locals.items in
@@ -239,7 +239,7 @@ impl Output {
         turn: u8,
         body: &[Stmt],
         w: &mut State,
-    ) -> Result<(), FlatError>
+    ) -> Result<(), NoMemory>
         requires fields { frame.now.fields.items ≡ pure.field_widths }
         requires sized { IsSizedBody frame.now.locals.items (body_tree body.now) }
         ensures { OnOk result (placed self.new w.new ≡ pure.flat_turn turn index (pure.flat_body frame.now.locals.items (body_tree body.now)) place self.old w.old) }
@@ -263,7 +263,7 @@ impl Output {
         place: Place,
         body: &[Stmt],
         w: State,
-    ) -> Result<State, FlatError>
+    ) -> Result<State, NoMemory>
         requires fields { frame.now.fields.items ≡ pure.field_widths }
         requires sized { IsSizedBody frame.now.locals.items (body_tree body.now) }
         ensures { IfOk result (λ made. placed self.new made ≡ pure.flat_body frame.now.locals.items (body_tree body.now) place self.old w) }

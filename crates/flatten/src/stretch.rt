@@ -1,15 +1,14 @@
 //! Pieces in order, where the run may have ended in front of each.
-ghost use Rattle.std.specs.Prelude.{◌≡◌, [], ℕ, List, IfOk, IfErr, if◌then◌else◌};
+ghost use Rattle.std.specs.Prelude.{◌≡◌, [], ℕ, List, IfOk, if◌then◌else◌};
 ghost use Rattle.flatten.specs.Flatten as pure;
 ghost use Rattle.flatten.specs.Pending.{closed, placed};
-ghost use Rattle.flatten.specs.declared.error.FlatError.TheVariants.{NoMemory};
 
-use crate::error::FlatError;
 use crate::frame::Frame;
 use crate::output::Output;
 use crate::place::{Ending, Place};
 use crate::state::State;
 use flat_ir::ValueId;
+use gal_io::NoMemory;
 use std::alloc::Global;
 
 /// A block that is open because the run may have ended in front of it.
@@ -49,11 +48,10 @@ impl Output {
     /// Whether another piece follows, which none does where the run has ended. Where it may have ended, a block is opened
     /// for what follows.
     #[tactic(auto, using(crate::proofs::Steps::closed_last))]
-    pub fn goes_on(&mut self, alloc: Global, stretch: &mut Stretch) -> Result<bool, FlatError>
-        ensures ok { IfOk result (λ goes. (widths : List ℕ) (go : pure.Flattener) →
+    pub fn goes_on(&mut self, alloc: Global, stretch: &mut Stretch) -> Result<bool, NoMemory>
+        ensures { IfOk result (λ goes. (widths : List ℕ) (go : pure.Flattener) →
             closed widths stretch.new.pending.items (if goes then go stretch.new.place self.new stretch.new.state else placed self.new stretch.new.state)
             ≡ closed widths stretch.old.pending.items (pure.go_on widths stretch.old.state.ended stretch.old.place go self.old stretch.old.state)) }
-        ensures memory { IfErr result (λ error. error ≡ NoMemory) }
     {
         match stretch.state.ended {
             Ending::No => Ok(true),
@@ -81,9 +79,9 @@ impl Output {
         alloc: Global,
         frame: &Frame,
         stretch: Stretch,
-    ) -> Result<State, FlatError>
+    ) -> Result<State, NoMemory>
         requires { frame.now.fields.items ≡ pure.field_widths }
-        ensures ok { IfOk result (λ w. placed self.new w ≡ closed frame.now.locals.items stretch.pending.items (placed self.old stretch.state)) }
+        ensures { IfOk result (λ w. placed self.new w ≡ closed frame.now.locals.items stretch.pending.items (placed self.old stretch.state)) }
     {
         let mut state = stretch.state;
         let mut pending = stretch.pending;

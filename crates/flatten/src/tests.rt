@@ -63,10 +63,19 @@ fn sums(alloc: Global) -> Result<Middlebox, Fail>
         objects: Objects::new(alloc),
         locals,
         body: vec![in alloc;
-            Stmt::Let { local: 0, value: first },
-            Stmt::Let { local: 1, value: second },
-            Stmt::Let { local: 2, value: third },
-            Stmt::Send { port }
+            Stmt::Let {
+                local: 0,
+                value: first
+            },
+            Stmt::Let {
+                local: 1,
+                value: second
+            },
+            Stmt::Let {
+                local: 2,
+                value: third
+            },
+            Stmt::Send { port },
         ]?,
     })
 }

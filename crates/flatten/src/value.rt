@@ -1,12 +1,11 @@
 //! The instructions of expressions.
-ghost use Rattle.std.specs.Prelude.{◌≡◌, IfOk, IfErr};
+ghost use Rattle.std.specs.Prelude.{◌≡◌, IfOk};
 ghost use Rattle.element_lang.specs.View.{expr_tree, expr_trees};
 ghost use Rattle.flat_ir.specs.Program.{work_of};
 ghost use Rattle.flatten.specs.Flatten as pure;
 ghost use Rattle.flatten.specs.Sized.{IsSizedExpr, AreSizedExprs};
 ghost use Rattle.flatten.specs.Pending.{valued, listed};
 
-use crate::error::FlatError;
 use crate::frame::Frame;
 use crate::output::Output;
 use crate::place::Place;
@@ -14,6 +13,7 @@ use crate::state::State;
 use element_lang::Expr;
 use flat_ir::{InstrKind, ValueId};
 use gal_bits::{Op, Width};
+use gal_io::NoMemory;
 use std::alloc::Global;
 
 // What an operator other than a shift does.
@@ -41,7 +41,7 @@ impl Output {
         place: Place,
         w: &State,
         e: &Expr,
-    ) -> Result<ValueId, FlatError>
+    ) -> Result<ValueId, NoMemory>
         requires { IsSizedExpr frame.now.locals.items (expr_tree e.now) }
         ensures { IfOk result (λ id. valued self.new id ≡ pure.flat_expr frame.now.locals.items place w.now (expr_tree e.now) self.old) }
     {
@@ -79,7 +79,7 @@ impl Output {
         place: Place,
         w: &State,
         all: &[Expr],
-    ) -> Result<Vec<ValueId>, FlatError>
+    ) -> Result<Vec<ValueId>, NoMemory>
         requires { AreSizedExprs frame.now.locals.items (expr_trees all.now) }
         ensures { IfOk result (λ ids. listed self.new ids.items ≡ pure.flat_exprs frame.now.locals.items place w.now (expr_trees all.now) self.old) }
     {

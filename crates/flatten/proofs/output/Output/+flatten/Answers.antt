@@ -18,7 +18,7 @@ body-loop-s-preserved t c =
     let sized = subst (λ l. IsSizedBody ws (body_tree l)) split c.loop-s.invariant.sized in
     record {
       told = order_step ws (pure.flat_stmt ws (stmt_tree c.s-item.result)) (pure.flat_body ws (body_tree rest)) c.loop-s.stretch.pending.items c.goes_on.new.stretch.pending.items c.loop-s.stretch.place c.goes_on.new.stretch.place c.loop-s.self c.goes_on.new.self c.loop-s.stretch.state c.goes_on.new.stretch.state (placed c.stmt.new.self c.stmt.new.w) _ told
-          (λ widths go. subst (λ (b : Bool). closed widths c.goes_on.new.stretch.pending.items (if b then go c.goes_on.new.stretch.place c.goes_on.new.self c.goes_on.new.stretch.state else placed c.goes_on.new.self c.goes_on.new.stretch.state) ≡ closed widths c.loop-s.stretch.pending.items (pure.go_on widths c.loop-s.stretch.state.ended c.loop-s.stretch.place go c.loop-s.self c.loop-s.stretch.state)) c.if-not-goes.false (c.in_ok-goes.ensures.ok widths go))
+          (λ widths go. subst (λ (b : Bool). closed widths c.goes_on.new.stretch.pending.items (if b then go c.goes_on.new.stretch.place c.goes_on.new.self c.goes_on.new.stretch.state else placed c.goes_on.new.self c.goes_on.new.stretch.state) ≡ closed widths c.loop-s.stretch.pending.items (pure.go_on widths c.loop-s.stretch.state.ended c.loop-s.stretch.place go c.loop-s.self c.loop-s.stretch.state)) c.if-not-goes.false (c.in_ok-goes.ensures widths go))
           c.in_ok-stmt.ensures;
       sized = sized.1;
       fields = c.loop-s.invariant.fields;
@@ -32,7 +32,7 @@ turns-loop-turn-preserved t c =
     let split = turns_split ws c.args.count n c.args.index go c.loop-turn.stretch.place c.loop-turn.self c.loop-turn.stretch.state c.loop-turn-test.true in
     record {
       told = order_step ws (pure.flat_turn n c.args.index go) (pure.flat_turns ws (c.args.count - (n + 1)) (n + 1) c.args.index go) c.loop-turn.stretch.pending.items c.goes_on.new.stretch.pending.items c.loop-turn.stretch.place c.goes_on.new.stretch.place c.loop-turn.self c.goes_on.new.self c.loop-turn.stretch.state c.goes_on.new.stretch.state (placed c.turn.new.self c.turn.new.w) _ (ap (closed ws c.loop-turn.stretch.pending.items) (sym split) ∙ c.loop-turn.invariant.told)
-          (λ widths go. subst (λ (b : Bool). closed widths c.goes_on.new.stretch.pending.items (if b then go c.goes_on.new.stretch.place c.goes_on.new.self c.goes_on.new.stretch.state else placed c.goes_on.new.self c.goes_on.new.stretch.state) ≡ closed widths c.loop-turn.stretch.pending.items (pure.go_on widths c.loop-turn.stretch.state.ended c.loop-turn.stretch.place go c.loop-turn.self c.loop-turn.stretch.state)) c.if-not-goes.false (c.in_ok-goes.ensures.ok widths go))
+          (λ widths go. subst (λ (b : Bool). closed widths c.goes_on.new.stretch.pending.items (if b then go c.goes_on.new.stretch.place c.goes_on.new.self c.goes_on.new.stretch.state else placed c.goes_on.new.self c.goes_on.new.stretch.state) ≡ closed widths c.loop-turn.stretch.pending.items (pure.go_on widths c.loop-turn.stretch.state.ended c.loop-turn.stretch.place go c.loop-turn.self c.loop-turn.stretch.state)) c.if-not-goes.false (c.in_ok-goes.ensures widths go))
           c.in_ok-turn.ensures;
       sized = c.loop-turn.invariant.sized;
       fields = c.loop-turn.invariant.fields;
