@@ -1,5 +1,5 @@
 -- Small middleboxes, flattened.
-use Rattle.std.proofs.Common.{◌≡◌, ℕ, List, [], ◌∷◌, codes, refl, true, false}
+use Rattle.std.proofs.Common.{◌≡◌, ℕ, [], ◌∷◌, codes, refl, true, false}
 use Rattle.gal_bits.specs.declared.op.Op.TheVariants.{Add, Cast, Eq}
 use Rattle.packet_fields.specs.declared.field.Field.TheVariants.{MetaLen, MetaPort}
 use Rattle.packet_fields.specs.Table.{all_fields}

@@ -1,6 +1,5 @@
 -- What is given only grows.
-use Rattle.std.proofs.Common.{◌≡◌, ℕ, zero, suc, ◌+◌, ◌<◌, ◌≤◌, Bool, true, false, List, [], ◌∷◌, ◌++◌, length, Option, Some, None, refl, sym, ap, ◌∙◌, subst, arith, length-append, cond}
-use Rattle.gal_bits.specs.declared.op.Op.{Op}
+use Rattle.std.proofs.Common.{◌≡◌, ℕ, zero, suc, ◌≤◌, Bool, true, false, List, [], ◌∷◌, length, Option, Some, None, ap, ◌∙◌, subst, arith, length-append, cond}
 use Rattle.element_lang.specs.Tree.{ExprTree, Exprs, StmtTree, BodyTree}
 use Rattle.element_lang.specs.Tree.ExprTree.{lit, local, field, byte, shift, apply}
 use Rattle.element_lang.specs.Tree.Exprs.{no_expr, expr}
@@ -16,7 +15,7 @@ use Rattle.flatten.specs.declared.error.FlatError.TheVariants.{TooLarge, NoMemor
 use Rattle.flatten.specs.declared.place.Ending.{Ending}
 use Rattle.flatten.specs.declared.place.Ending.TheVariants.{No, Yes, Maybe}
 use Rattle.flatten.specs.declared.place.Place.{Place}
-use Rattle.flatten.specs.Flatten.{Given, View, At, Valued, Listed, Scoped, Merged, EndedAt, Flattener, emit, give, opened, below, flat_expr, flat_exprs, operation, same_id, merge_id, merge_option, merge_ids, field_widths, merge, merge_ended, ends, select_ended, with_ended, join, follow, go_on, in_order, bound, flat_turn, flat_turns, looping, second_side, flat_stmt, flat_body, give_field, give_fields}
+use Rattle.flatten.specs.Flatten.{Given, View, At, Valued, Flattener, emit, give, opened, below, flat_expr, flat_exprs, operation, same_id, merge_id, merge_option, merge_ids, field_widths, merge, merge_ended, ends, select_ended, join, follow, go_on, in_order, bound, flat_turn, flat_turns, looping, second_side, flat_stmt, flat_body}
 use Rattle.flatten.specs.Over.{IsOver}
 use Rattle.flatten.specs.declared.stretch.Pending.{Pending}
 use Rattle.flatten.specs.Pending.{closed}
@@ -198,20 +197,12 @@ over_stmt ws s p g w e over = over_later g (flat_stmt ws s p g w).given e (stmt_
 
 -- ## Choices
 
--- what is given for the condition, for the first side, and for both, of a choice in this place
-abbrev pub cond_at : List ℕ → Place → ExprTree → Given → View → Valued
-cond_at ws p c g w = flat_expr ws p w c g
-
+-- what is given for the first side of a choice in this place, and for the second
 abbrev pub first_at : List ℕ → Place → BodyTree → Valued → View → At
 first_at ws p first x w = flat_body ws first (below p x.given) (opened p x.id true x.given) w
 
 abbrev pub second_at : List ℕ → Place → BodyTree → ValueId → Given → View → At
 second_at ws p second v g w = second_side (is_empty second) p v (flat_body ws second) g w
-
-pub first_from : (ws : List ℕ) (p : Place) (first : BodyTree) (x : Valued) (w : View) → Grows x.given (first_at ws p first x w).given
-first_from ws p first x w =
-    let o = opened p x.id true x.given in
-    then_grows x.given o (first_at ws p first x w).given (open_grows p x.id true x.given) (body_grows ws first (below p x.given) o w)
 
 pub second_from : (ws : List ℕ) (p : Place) (second : BodyTree) (v : ValueId) (g : Given) (w : View) → Grows g (second_at ws p second v g w).given
 second_from ws p second v g w = second_grows (is_empty second) p v (flat_body ws second) (body_grows ws second) g w

@@ -1,5 +1,5 @@
 -- The tree of a statement, from its parts.
-use Rattle.std.proofs.Common.{◌≡◌, ℕ, Vec, Global, rules, List}
+use Rattle.std.proofs.Common.{◌≡◌, ℕ, Vec, Global, rules}
 use Rattle.packet_fields.specs.declared.field.Field.{Field}
 use Rattle.element_lang.specs.declared.tree.Expr.{Expr}
 use Rattle.element_lang.specs.declared.tree.Stmt.{Stmt, If, SetField, Repeat, the_lemmas}

@@ -1,10 +1,10 @@
-use Rattle.std.proofs.Common.{◌≡◌, ℕ, ◌+◌, ◌-◌, ◌<◌, suc, drop, length, arith, refl, sym, ap, ◌∙◌, subst, if◌then◌else◌, List, Bool, true, rules}
+use Rattle.std.proofs.Common.{◌≡◌, ◌+◌, ◌-◌, drop, sym, ap, ◌∙◌, subst, if◌then◌else◌, Bool, true, rules}
 use Rattle.element_lang.specs.View.{expr_tree, stmt_tree, body_tree}
 use Rattle.flatten.specs.Flatten as pure
 use Rattle.flatten.specs.Sized.{IsSizedBody}
 use Rattle.flatten.specs.Pending.{closed, placed, valued}
 use Rattle.flatten.specs.Over.{IsOver}
-use Rattle.flatten.proofs.Growth.{first_over, second_over, turns_grow, body_grows, over_later, emit_grows}
+use Rattle.flatten.proofs.Growth.{first_over, second_over, turns_grow, body_grows}
 use Rattle.flatten.proofs.Steps.{order_step, order_over}
 use Rattle.flatten.proofs.Branches.{split_at, turns_split, choose_told}
 use Rattle.flatten.proofs.Trees.{tree_if, tree_repeat}
