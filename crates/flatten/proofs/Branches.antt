@@ -4,7 +4,7 @@ use Rattle.element_lang.specs.declared.tree.Stmt.{Stmt}
 use Rattle.element_lang.specs.Tree.{ExprTree, BodyTree}
 use Rattle.element_lang.specs.Tree.StmtTree.{choose}
 use Rattle.element_lang.specs.Rules.{is_empty}
-use Rattle.element_lang.specs.View.{stmt_tree, body_tree}
+use Rattle.element_lang.specs.View.{body_tree}
 use Rattle.flat_ir.specs.declared.program.ValueId.{ValueId}
 use Rattle.flat_ir.specs.declared.program.FieldValue.{FieldValue}
 use Rattle.packet_fields.specs.declared.field.Field.{Field}

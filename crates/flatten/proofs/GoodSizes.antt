@@ -1,5 +1,5 @@
 -- The expressions of a middlebox that keeps the rules have bits, and its looks bind few locals.
-use Rattle.std.proofs.Common.{◌≡◌, ◌≤◌, ◌+◌, ℕ, zero, suc, Bool, true, false, ◌==◌, ◌&&◌, ◌||◌, List, [], ◌∷◌, ◌++◌, length, map, nat_le, Option, Some, None, slice_get, slice_index, refl, sym, ap, ◌∙◌, subst, arith, true≢false, ⊎_elim}
+use Rattle.std.proofs.Common.{◌≡◌, ◌≤◌, ◌+◌, ℕ, zero, suc, Bool, true, ◌==◌, ◌&&◌, List, [], ◌∷◌, ◌++◌, length, map, nat_le, Option, Some, None, slice_get, slice_index, refl, sym, ap, subst, arith, true≢false, ⊎_elim}
 use Rattle.std.proofs.lemmas.Bool.{leb-true, eqb-true, or_cases, and_parts, false≢true}
 use Rattle.std.specs.List.{list_any, list_all}
 use Rattle.gal_bits.specs.declared.op.Op.{Op}

@@ -1,6 +1,5 @@
 -- What is given only grows.
-use Rattle.std.proofs.Common.{◌≡◌, ℕ, zero, suc, ◌+◌, ◌<◌, ◌≤◌, Bool, true, false, List, [], ◌∷◌, ◌++◌, length, Option, Some, None, refl, sym, ap, ◌∙◌, arith, length-append, cond}
-use Rattle.gal_bits.specs.declared.op.Op.{Op}
+use Rattle.std.proofs.Common.{◌≡◌, ℕ, zero, suc, ◌≤◌, Bool, true, false, List, [], ◌∷◌, length, Option, Some, None, ap, ◌∙◌, subst, arith, length-append, cond}
 use Rattle.element_lang.specs.Tree.{ExprTree, Exprs, StmtTree, BodyTree}
 use Rattle.element_lang.specs.Tree.ExprTree.{lit, local, field, byte, shift, apply}
 use Rattle.element_lang.specs.Tree.Exprs.{no_expr, expr}
@@ -16,7 +15,7 @@ use Rattle.flatten.specs.declared.error.FlatError.TheVariants.{TooLarge, NoMemor
 use Rattle.flatten.specs.declared.place.Ending.{Ending}
 use Rattle.flatten.specs.declared.place.Ending.TheVariants.{No, Yes, Maybe}
 use Rattle.flatten.specs.declared.place.Place.{Place}
-use Rattle.flatten.specs.Flatten.{Given, View, At, Valued, Listed, Scoped, Merged, EndedAt, Flattener, emit, give, opened, below, flat_expr, flat_exprs, operation, same_id, merge_id, merge_option, merge_ids, field_widths, merge, merge_ended, ends, select_ended, with_ended, join, follow, go_on, in_order, bound, flat_turn, flat_turns, looping, second_side, flat_stmt, flat_body, give_field, give_fields}
+use Rattle.flatten.specs.Flatten.{Given, View, At, Valued, Flattener, emit, give, opened, below, flat_expr, flat_exprs, operation, same_id, merge_id, merge_option, merge_ids, field_widths, merge, merge_ended, ends, select_ended, join, follow, go_on, in_order, bound, flat_turn, flat_turns, looping, second_side, flat_stmt, flat_body}
 use Rattle.flatten.specs.Over.{IsOver}
 use Rattle.flatten.specs.declared.stretch.Pending.{Pending}
 use Rattle.flatten.specs.Pending.{closed}
@@ -193,22 +192,17 @@ mutual
   body_grows ws done p g w = grows g
   body_grows ws (stmt s rest) p g w = in_order_grows ws (flat_stmt ws s) (flat_body ws rest) (stmt_grows ws s) (body_grows ws rest) p g w
 
+pub over_stmt : (ws : List ℕ) (s : StmtTree) (p : Place) (g : Given) (w : View) (e : FlatError) → IsOver g e → IsOver (flat_stmt ws s p g w).given e
+over_stmt ws s p g w e over = over_later g (flat_stmt ws s p g w).given e (stmt_grows ws s p g w) over
+
 -- ## Choices
 
--- what is given for the condition, for the first side, and for both, of a choice in this place
-abbrev pub cond_at : List ℕ → Place → ExprTree → Given → View → Valued
-cond_at ws p c g w = flat_expr ws p w c g
-
+-- what is given for the first side of a choice in this place, and for the second
 abbrev pub first_at : List ℕ → Place → BodyTree → Valued → View → At
 first_at ws p first x w = flat_body ws first (below p x.given) (opened p x.id true x.given) w
 
 abbrev pub second_at : List ℕ → Place → BodyTree → ValueId → Given → View → At
 second_at ws p second v g w = second_side (is_empty second) p v (flat_body ws second) g w
-
-pub first_from : (ws : List ℕ) (p : Place) (first : BodyTree) (x : Valued) (w : View) → Grows x.given (first_at ws p first x w).given
-first_from ws p first x w =
-    let o = opened p x.id true x.given in
-    then_grows x.given o (first_at ws p first x w).given (open_grows p x.id true x.given) (body_grows ws first (below p x.given) o w)
 
 pub second_from : (ws : List ℕ) (p : Place) (second : BodyTree) (v : ValueId) (g : Given) (w : View) → Grows g (second_at ws p second v g w).given
 second_from ws p second v g w = second_grows (is_empty second) p v (flat_body ws second) (body_grows ws second) g w
@@ -218,7 +212,24 @@ choose_from_second ws p second v a w =
     let b = second_at ws p second v a.given w in
     then_grows a.given b.given (join ws p v a.view b).given (second_from ws p second v a.given w) (join_grows ws p v a.view b)
 
-pub choose_from_first : (ws : List ℕ) (p : Place) (first second : BodyTree) (x : Valued) (w : View) → Grows x.given (join ws p x.id (first_at ws p first x w).view (second_at ws p second x.id (first_at ws p first x w).given w)).given
-choose_from_first ws p first second x w =
-    let a = first_at ws p first x w in
-    then_grows x.given a.given (join ws p x.id a.view (second_at ws p second x.id a.given w)).given (first_from ws p first x w) (choose_from_second ws p second x.id a w)
+-- too much in the first side of a choice, and in the second
+pub first_over : (ws : List ℕ) (p : Place) (c : ExprTree) (first second b : BodyTree) (g o : Given) (w v : View) (x : Valued) (k : Place) (e : FlatError) → x ≡ flat_expr ws p w c g → k ≡ below p x.given
+    → o ≡ opened p x.id true x.given → v ≡ w → b ≡ first → IsOver (flat_body ws b k o v).given e → IsOver (flat_stmt ws (choose c first second) p g w).given e
+first_over ws p c first second b g o w v x k e ex ek eo ew eb over =
+    let told : flat_body ws b k o v ≡ first_at ws p first x w =
+    ap (λ b. flat_body ws b k o v) eb ∙ ap (λ k. flat_body ws first k o v) ek ∙ ap (λ o. flat_body ws first (below p x.given) o v) eo
+    ∙ ap (λ v. flat_body ws first (below p x.given) (opened p x.id true x.given) v) ew in
+    let y = flat_expr ws p w c g in
+    let a = first_at ws p first y w in
+    over_later a.given (join ws p y.id a.view (second_at ws p second y.id a.given w)).given e (choose_from_second ws p second y.id a w)
+    (subst (λ z. IsOver (first_at ws p first z w).given e) ex (subst (λ r. IsOver r.given e) told over))
+
+pub second_over : (ws : List ℕ) (p : Place) (c : ExprTree) (first second b : BodyTree) (g : Given) (w : View) (x : Valued) (ra : At) (e : FlatError) → x ≡ flat_expr ws p w c g → ra ≡ first_at ws p first x w
+    → b ≡ second → IsOver (second_at ws p b x.id ra.given w).given e → IsOver (flat_stmt ws (choose c first second) p g w).given e
+second_over ws p c first second b g w x ra e ex ea eb over =
+    let y = flat_expr ws p w c g in
+    let a = first_at ws p first y w in
+    let r = second_at ws p second y.id a.given w in
+    over_later r.given (join ws p y.id a.view r).given e (join_grows ws p y.id a.view r)
+    (subst (λ z. IsOver (second_at ws p second z.id (first_at ws p first z w).given w).given e) ex
+    (subst (λ r. IsOver (second_at ws p second x.id r.given w).given e) ea (subst (λ b. IsOver (second_at ws p b x.id ra.given w).given e) eb over)))

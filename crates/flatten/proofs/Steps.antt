@@ -1,17 +1,13 @@
 -- The steps of the code's loops, on plain values.
-use Rattle.std.proofs.Common.{◌≡◌, ℕ, zero, suc, ◌+◌, ◌<◌, ◌≤◌, ◌||◌, Bool, true, false, List, [], ◌∷◌, ◌++◌, length, drop, min, map, get_or, Option, Some, None, refl, sym, ap, ◌∙◌, subst, arith, length-append}
-use Rattle.element_lang.specs.declared.tree.Expr.{Expr}
-use Rattle.element_lang.specs.View.{expr_tree, expr_trees}
-use Rattle.packet_fields.specs.declared.field.Field.{Field}
+use Rattle.std.proofs.Common.{◌≡◌, ℕ, zero, suc, List, [], ◌∷◌, ◌++◌, length, drop, min, Option, refl, sym, ap, ◌∙◌, subst, arith}
 use Rattle.flat_ir.specs.declared.program.ValueId.{ValueId}
-use Rattle.flat_ir.specs.declared.program.FieldValue.{FieldValue}
 use Rattle.flatten.specs.declared.error.FlatError.{FlatError}
 use Rattle.flatten.specs.declared.place.Place.{Place}
 use Rattle.flatten.specs.declared.stretch.Pending.{Pending}
-use Rattle.flatten.specs.Flatten.{Given, View, At, Valued, Listed, Scoped, Merged, flat_expr, flat_exprs, merge_option, merge_ids, join, in_scope, all_changed, Flattener, go_on, in_order}
+use Rattle.flatten.specs.Flatten.{Given, View, At, Scoped, merge_ids, join, in_scope, Flattener, go_on, in_order}
 use Rattle.flatten.specs.Over.{IsOver}
-use Rattle.flatten.specs.Pending.{closed, in_front, scoped_front, scoped, placed}
-use Rattle.flatten.proofs.Growth.{Grows, over_later, then_grows, expr_grows, exprs_grow, merge_option_grows, merge_ids_grow, join_grows, closed_grows, Growing}
+use Rattle.flatten.specs.Pending.{closed, scoped_front, scoped}
+use Rattle.flatten.proofs.Growth.{over_later, closed_grows, Growing}
 
 append_none : {X : Type 0} (xs : List X) → xs ++ [] ≡ xs
 append_none [] = refl
@@ -25,12 +21,6 @@ closed_last ws (q ∷ ps) p r = ap (λ r. join ws q.place q.ended q.before r) (c
 pub over_join : (ws : List ℕ) (ps : List Pending) (r total : At) (e : FlatError) → closed ws ps r ≡ total → IsOver r.given e → IsOver total.given e
 over_join ws ps r total e is over = subst (λ t. IsOver t.given e) is (over_later r.given (closed ws ps r).given e (closed_grows ws ps r) over)
 
--- an expression too much
-pub over_exprs : (ws : List ℕ) (p : Place) (w : View) (first : Expr) (rest : List Expr) (ids : List ValueId) (g : Given) (total : Listed) (e : FlatError) → in_front ids (flat_exprs ws p w (expr_trees (first ∷ rest)) g) ≡ total
-    → IsOver (flat_expr ws p w (expr_tree first) g).given e → IsOver total.given e
-over_exprs ws p w first rest ids g total e is over =
-    subst (λ t. IsOver t.given e) is (over_later (flat_expr ws p w (expr_tree first) g).given (flat_exprs ws p w (expr_trees rest) (flat_expr ws p w (expr_tree first) g).given).given e (exprs_grow ws p w (expr_trees rest) (flat_expr ws p w (expr_tree first) g).given) over)
-
 -- where a list of two or three ends
 pub merge_end : (p : Place) (v : ValueId) (n : ℕ) (ws : List ℕ) (xs ys : List (Option ValueId)) (g : Given) → n ≡ min (min (length ws) (length xs)) (length ys) → merge_ids p v (drop n ws) (drop n xs) (drop n ys) g ≡ scoped g []
 merge_end p v zero [] xs ys g e = refl
@@ -41,18 +31,6 @@ merge_end p v zero (b ∷ ws) (x ∷ xs) [] g e = refl
 merge_end p v (suc n) (b ∷ ws) (x ∷ xs) [] g e = absurd (omega (arith, e))
 merge_end p v zero (b ∷ ws) (x ∷ xs) (y ∷ ys) g e = absurd (omega (arith, e))
 merge_end p v (suc n) (b ∷ ws) (x ∷ xs) (y ∷ ys) g e = merge_end p v n ws xs ys g (omega (arith, e))
-
--- a variable too much
-pub over_merge_ids : (p : Place) (v : ValueId) (n : ℕ) (ws : List ℕ) (xs ys : List (Option ValueId)) (ids : List (Option ValueId)) (g : Given) (total : Scoped) (e : FlatError) → n < min (min (length ws) (length xs)) (length ys)
-    → scoped_front ids (merge_ids p v (drop n ws) (drop n xs) (drop n ys) g) ≡ total
-    → IsOver (merge_option p v (get_or ws n 0) (get_or xs n None) (get_or ys n None) g).given e → IsOver total.given e
-over_merge_ids p v n [] xs ys ids g total e lt is over = absurd (omega (arith, lt))
-over_merge_ids p v n (b ∷ ws) [] ys ids g total e lt is over = absurd (omega (arith, lt))
-over_merge_ids p v n (b ∷ ws) (x ∷ xs) [] ids g total e lt is over = absurd (omega (arith, lt))
-over_merge_ids p v zero (b ∷ ws) (x ∷ xs) (y ∷ ys) ids g total e lt is over =
-    let r = merge_option p v b x y g in
-    subst (λ t. IsOver t.given e) is (over_later r.given (merge_ids p v ws xs ys r.given).given e (merge_ids_grow p v ws xs ys r.given) over)
-over_merge_ids p v (suc n) (b ∷ ws) (x ∷ xs) (y ∷ ys) ids g total e lt is over = over_merge_ids p v n ws xs ys ids g total e (omega (arith, lt)) is over
 
 scope_end : (n : ℕ) (xs ys : List (Option ValueId)) → n ≡ min (length xs) (length ys) → in_scope (drop n xs) (drop n ys) ≡ []
 scope_end zero [] ys e = refl
@@ -70,36 +48,16 @@ pub merge_ended_at : (p : Place) (v : ValueId) (n : ℕ) (ws : List ℕ) (xs ys 
 merge_ended_at p v n ws xs ys ids g total e told =
     ap (λ l. scoped g l) (sym (append_none ids)) ∙ ap (scoped_front ids) (sym (merge_end p v n ws xs ys g e)) ∙ told
 
-changed_end : (n : ℕ) (fs : List Field) (xs ys : List (Option ValueId)) → n ≡ min (min (length xs) (length ys)) (length fs) → all_changed (drop n fs) (drop n xs) (drop n ys) ≡ []
-changed_end zero [] xs ys e = refl
-changed_end (suc n) [] xs ys e = refl
-changed_end zero (f ∷ fs) [] ys e = refl
-changed_end (suc n) (f ∷ fs) [] ys e = absurd (omega (arith, e))
-changed_end zero (f ∷ fs) (x ∷ xs) [] e = refl
-changed_end (suc n) (f ∷ fs) (x ∷ xs) [] e = absurd (omega (arith, e))
-changed_end zero (f ∷ fs) (x ∷ xs) (y ∷ ys) e = absurd (omega (arith, e))
-changed_end (suc n) (f ∷ fs) (x ∷ xs) (y ∷ ys) e = changed_end n fs xs ys (omega (arith, e))
-
-pub all_changed_ended : (n : ℕ) (fs : List Field) (xs ys : List (Option ValueId)) (made total : List FieldValue) → n ≡ min (min (length xs) (length ys)) (length fs) → made ++ all_changed (drop n fs) (drop n xs) (drop n ys) ≡ total → made ≡ total
-all_changed_ended n fs xs ys made total e told = sym (append_none made) ∙ ap (λ l. made ++ l) (sym (changed_end n fs xs ys e)) ∙ told
-
 -- ## Bodies and turns
 
 -- how a block for what follows was opened, or wasn't
 abbrev Goes : List Pending → Place → Given → View → List Pending → Place → Given → View → Type 0
 Goes ps p g w ps' p' g' w' = (widths : List ℕ) (go : Flattener) → closed widths ps' (go p' g' w') ≡ closed widths ps (go_on widths w.ended p go g w)
 
-abbrev Stops : List Pending → Place → Given → View → List Pending → Given → View → Type 0
-Stops ps p g w ps' g' w' = (widths : List ℕ) (go : Flattener) → closed widths ps' (placed g' w') ≡ closed widths ps (go_on widths w.ended p go g w)
-
 pub order_step : (ws : List ℕ) (first rest : Flattener) (ps ps' : List Pending) (p p' : Place) (g g' : Given) (w w' : View) (r total : At) → closed ws ps (in_order ws first rest p g w) ≡ total → Goes ps p g w ps' p' g' w'
     → r ≡ first p' g' w' → closed ws ps' (rest p' r.given r.view) ≡ total
 order_step ws first rest ps ps' p p' g g' w w' r total told goes did =
     ap (λ x. closed ws ps' (rest p' x.given x.view)) did ∙ goes ws (λ q h u. let x = first q h u in rest q x.given x.view) ∙ told
-
-pub order_stop : (ws : List ℕ) (first rest : Flattener) (ps ps' : List Pending) (p : Place) (g g' : Given) (w w' : View) (total : At) → closed ws ps (in_order ws first rest p g w) ≡ total → Stops ps p g w ps' g' w'
-    → closed ws ps' (placed g' w') ≡ total
-order_stop ws first rest ps ps' p g g' w w' total told stops = stops ws (λ q h u. let x = first q h u in rest q x.given x.view) ∙ told
 
 pub order_over : (ws : List ℕ) (first rest : Flattener) (ps ps' : List Pending) (p p' : Place) (g g' : Given) (w w' : View) (total : At) (e : FlatError) → Growing rest → closed ws ps (in_order ws first rest p g w) ≡ total → Goes ps p g w ps' p' g' w'
     → IsOver (first p' g' w').given e → IsOver total.given e

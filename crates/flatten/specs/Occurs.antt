@@ -1,5 +1,5 @@
 -- Which fields occur in a body.
-use Rattle.std.specs.Prelude.{ℕ, Bool, false, ◌||◌, ◌==◌}
+use Rattle.std.specs.Prelude.{Bool, false, ◌||◌, ◌==◌}
 use Rattle.packet_fields.specs.declared.field.Field.{Field}
 use Rattle.packet_fields.specs.Table.{field_index}
 use Rattle.element_lang.specs.Tree.{ExprTree, Exprs, StmtTree, BodyTree}

@@ -1,10 +1,14 @@
 //! What is given so far of a flat program.
-ghost use Rattle.std.specs.Prelude.{◌≡◌, length, IfOk, IfErr};
+ghost use Rattle.std.specs.Prelude.{◌≡◌, ◌≤◌, length, IfOk, IfErr, OnOk};
 ghost use Rattle.flat_ir.specs.Program.{work_of};
 ghost use Rattle.flatten.specs.Flatten as pure;
+ghost use Rattle.flatten.specs.Over.{IsOver};
 ghost use Rattle.flatten.specs.Pending.{valued};
+ghost use Rattle.flatten.specs.declared.sizes.TheConstants.{MAX_INSTRUCTIONS};
 
+use crate::error::FlatError;
 use crate::place::Place;
+use crate::sizes::MAX_INSTRUCTIONS;
 use flat_ir::{Block, Blocks, Code, Instr, InstrKind, ValueId};
 use gal_io::NoMemory;
 use std::marker::Model;
@@ -46,6 +50,17 @@ impl Output {
             instruction: instruction as u32,
             result: 0,
         })
+    }
+
+    /// Fails where there are more instructions than a flat program may have.
+    pub fn keeps_size(&self) -> Result<(), FlatError>
+        ensures ok { OnOk result (length self.now.code ≤ MAX_INSTRUCTIONS) }
+        ensures large { IfErr result (λ error. IsOver self.now error) }
+    {
+        if self.code.len() > MAX_INSTRUCTIONS {
+            return Err(FlatError::TooLarge);
+        }
+        Ok(())
     }
 
     /// Opens a block below a place, and answers the place in it. There is no memory for 2^32 blocks.

@@ -17,7 +17,6 @@ use crate::frame::Frame;
 use crate::occurs::Seen;
 use crate::output::Output;
 use crate::place::{Ending, Place};
-use crate::sizes::MAX_INSTRUCTIONS;
 use crate::state::{NOUGHT, NOUGHT_PORT, State};
 use element_lang::{Middlebox, Stmt};
 use flat_ir::{Blocks, Code, FieldValue, Flat, Instr, InstrKind, Out, ValueId};
@@ -119,14 +118,16 @@ fn push_all(
 
 /// The flat program of a middlebox.
 ///
-/// It counts the instructions once all are given, so the time and the memory that it takes grow with the flat program also
-/// where that is too large. It recurses as deep as statements stand in one another, and not along a list of them.
+/// It stops in front of the first statement before which more than 4,096 instructions are given, so turns of a repeat
+/// beyond that cost neither time nor memory. It recurses as deep as statements stand in one another, and not along a
+/// list of them.
 #[tactic(auto, using(crate::proofs::GoodSizes::good_sized))]
 pub fn flatten(alloc: Global, m: &Middlebox) -> Result<Flat, FlatError>
     requires good { IsTrue (is_good (tree m.now)) }
     ensures program { IfOk result (λ f. program_of f ≡ pure.flat_of (tree m.now)) }
     ensures few { IfOk result (λ f. length (program_of f).code ≤ MAX_INSTRUCTIONS) }
-    ensures large { IfErr result (λ error. error ≡ TooLarge → MAX_INSTRUCTIONS < length (pure.flat_of (tree m.now)).code) }
+    ensures large { IfErr result (λ error.
+        error ≡ TooLarge → MAX_INSTRUCTIONS < length (pure.flat_of (tree m.now)).code) }
 {
     let frame = Frame::of(alloc, m.locals.as_slice())?;
     let mut seen = Seen::new();
@@ -145,9 +146,7 @@ pub fn flatten(alloc: Global, m: &Middlebox) -> Result<Flat, FlatError>
         looped: false,
     };
     let end = out.body(alloc, &frame, root, &m.body, start)?;
-    if out.code.len() > MAX_INSTRUCTIONS {
-        return Err(FlatError::TooLarge);
-    }
+    out.keeps_size()?;
     let mut changed = Vec::new(alloc);
     push_all(&mut changed, &fields(), &came, &end.fields)?;
     Ok(Flat {

@@ -1,12 +1,14 @@
 //! The instructions of statements.
-ghost use Rattle.std.specs.Prelude.{◌≡◌, ◌≤◌, ◌∷◌, length, IfOk, OnOk};
+ghost use Rattle.std.specs.Prelude.{◌≡◌, ◌≤◌, ◌∷◌, length, IfOk, IfErr, OnOk};
 ghost use Rattle.element_lang.specs.View.{expr_tree, expr_trees, stmt_tree, body_tree};
 ghost use Rattle.element_lang.specs.Tree.StmtTree.{look, put, del};
 ghost use Rattle.element_lang.specs.Rules.{is_empty};
 ghost use Rattle.flatten.specs.Flatten as pure;
 ghost use Rattle.flatten.specs.Sized.{IsSizedExpr, AreSizedExprs, IsSizedStmt, IsSizedBody};
+ghost use Rattle.flatten.specs.Over.{IsOver};
 ghost use Rattle.flatten.specs.Pending.{placed};
 
+use crate::error::FlatError;
 use crate::frame::Frame;
 use crate::output::Output;
 use crate::place::Place;
@@ -107,6 +109,7 @@ impl Output {
 
     // The instructions of a statement; the state becomes that behind it.
     #[cycle(flatten)]
+    #[tactic(auto, using(crate::proofs::Growth::over_stmt))]
     fn stmt(
         &mut self,
         alloc: Global,
@@ -114,11 +117,13 @@ impl Output {
         place: Place,
         s: &Stmt,
         w: &mut State,
-    ) -> Result<(), NoMemory>
+    ) -> Result<(), FlatError>
         requires fields { frame.now.fields.items ≡ pure.field_widths }
         requires sized { IsSizedStmt frame.now.locals.items (stmt_tree s.now) }
-        ensures { OnOk result (placed self.new w.new ≡ pure.flat_stmt frame.now.locals.items (stmt_tree s.now) place self.old w.old) }
+        ensures ok { OnOk result (placed self.new w.new ≡ pure.flat_stmt frame.now.locals.items (stmt_tree s.now) place self.old w.old) }
+        ensures large { IfErr result (λ error. IsOver (pure.flat_stmt frame.now.locals.items (stmt_tree s.now) place self.old w.old).given error) }
     {
+        self.keeps_size()?;
         match s {
             Stmt::Let { local, value } | Stmt::Assign { local, value } => {
                 let id = self.value(alloc, frame, place, w, value)?;
@@ -178,11 +183,13 @@ impl Output {
         cond: ValueId,
         no: &[Stmt],
         w: &State,
-    ) -> Result<State, NoMemory>
+    ) -> Result<State, FlatError>
         requires fields { frame.now.fields.items ≡ pure.field_widths }
         requires sized { IsSizedBody frame.now.locals.items (body_tree no.now) }
-        ensures { let second = pure.flat_body frame.now.locals.items (body_tree no.now) in
+        ensures ok { let second = pure.flat_body frame.now.locals.items (body_tree no.now) in
             IfOk result (λ made. placed self.new made ≡ pure.second_side (is_empty (body_tree no.now)) place cond second self.old w.now) }
+        ensures large { let second = pure.flat_body frame.now.locals.items (body_tree no.now) in
+            IfErr result (λ error. IsOver (pure.second_side (is_empty (body_tree no.now)) place cond second self.old w.now).given error) }
     {
         let start = w.copy(alloc)?;
         if no.is_empty() {
@@ -203,17 +210,19 @@ impl Output {
         count: u8,
         body: &[Stmt],
         w: &State,
-    ) -> Result<State, NoMemory>
+    ) -> Result<State, FlatError>
         requires fields { frame.now.fields.items ≡ pure.field_widths }
         requires sized { IsSizedBody frame.now.locals.items (body_tree body.now) }
-        ensures { let widths = frame.now.locals.items in
+        ensures ok { let widths = frame.now.locals.items in
             IfOk result (λ made. placed self.new made ≡ pure.flat_turns widths count 0 index (pure.flat_body widths (body_tree body.now)) place self.old w.now) }
+        ensures large { let widths = frame.now.locals.items in
+            IfErr result (λ error. IsOver (pure.flat_turns widths count 0 index (pure.flat_body widths (body_tree body.now)) place self.old w.now).given error) }
     {
         let mut stretch = Stretch::new(alloc, place, w.copy(alloc)?);
         for turn in 0..count {
             let goes = self.goes_on(alloc, &mut stretch)?;
             if !goes {
-                return self.close(alloc, frame, stretch);
+                return Ok(self.close(alloc, frame, stretch)?);
             }
             self.turn(
                 alloc,
@@ -225,7 +234,7 @@ impl Output {
                 &mut stretch.state,
             )?;
         }
-        self.close(alloc, frame, stretch)
+        Ok(self.close(alloc, frame, stretch)?)
     }
 
     // One turn, whose number the local `index` has. What is declared in it is out of scope behind it.
@@ -239,10 +248,11 @@ impl Output {
         turn: u8,
         body: &[Stmt],
         w: &mut State,
-    ) -> Result<(), NoMemory>
+    ) -> Result<(), FlatError>
         requires fields { frame.now.fields.items ≡ pure.field_widths }
         requires sized { IsSizedBody frame.now.locals.items (body_tree body.now) }
-        ensures { OnOk result (placed self.new w.new ≡ pure.flat_turn turn index (pure.flat_body frame.now.locals.items (body_tree body.now)) place self.old w.old) }
+        ensures ok { OnOk result (placed self.new w.new ≡ pure.flat_turn turn index (pure.flat_body frame.now.locals.items (body_tree body.now)) place self.old w.old) }
+        ensures large { IfErr result (λ error. IsOver (pure.flat_turn turn index (pure.flat_body frame.now.locals.items (body_tree body.now)) place self.old w.old).given error) }
     {
         let number = InstrKind::Const(Width::new(32).unwrap(), u64::from(turn));
         let id = self.give(place, number)?;
@@ -263,19 +273,20 @@ impl Output {
         place: Place,
         body: &[Stmt],
         w: State,
-    ) -> Result<State, NoMemory>
+    ) -> Result<State, FlatError>
         requires fields { frame.now.fields.items ≡ pure.field_widths }
         requires sized { IsSizedBody frame.now.locals.items (body_tree body.now) }
-        ensures { IfOk result (λ made. placed self.new made ≡ pure.flat_body frame.now.locals.items (body_tree body.now) place self.old w) }
+        ensures ok { IfOk result (λ made. placed self.new made ≡ pure.flat_body frame.now.locals.items (body_tree body.now) place self.old w) }
+        ensures large { IfErr result (λ error. IsOver (pure.flat_body frame.now.locals.items (body_tree body.now) place self.old w).given error) }
     {
         let mut stretch = Stretch::new(alloc, place, w);
         for s in body {
             let goes = self.goes_on(alloc, &mut stretch)?;
             if !goes {
-                return self.close(alloc, frame, stretch);
+                return Ok(self.close(alloc, frame, stretch)?);
             }
             self.stmt(alloc, frame, stretch.place, s, &mut stretch.state)?;
         }
-        self.close(alloc, frame, stretch)
+        Ok(self.close(alloc, frame, stretch)?)
     }
 }

@@ -1,5 +1,6 @@
 //! What no clause can say: that calls succeed with ample memory, on listings from outside.
-ghost use Rattle.std.specs.Prelude.{◌≡◌, ◌≤◌, IfOk, IsTrue};
+ghost use Rattle.std.specs.Prelude.{◌≡◌, ◌≤◌, ◌∷◌, [], IfOk, IsTrue};
+ghost use Rattle.state_store.specs.declared.object.Kind.TheVariants.{Map};
 ghost use Rattle.element_lang.specs.View.{tree};
 ghost use Rattle.element_lang.specs.Rules.{is_good};
 
@@ -105,7 +106,10 @@ fn lists_a_chain_of_sums(rt: HostRuntime) -> Result<(), Fail> {
 }
 
 // `map m (8) -> (8) capacity 4;`
-fn map(alloc: Global) -> Result<ObjectDecl, Fail> {
+fn map(alloc: Global) -> Result<ObjectDecl, Fail>
+    ensures { IfOk result (λ o. o ≡
+        record { name = 109 ∷ []; kind = Map; keys = 8 ∷ []; values = 8 ∷ []; size = 4; start = 0; rows = [] }) }
+{
     let mut keys = Widths::new();
     keys.push(8);
     let mut values = Widths::new();

@@ -1,4 +1,4 @@
-use Rattle.std.proofs.Common.{◌≡◌, subst, ap, sym, ◌∙◌, List, ℕ, true, rules, map}
+use Rattle.std.proofs.Common.{◌≡◌, subst, ap, sym, ◌∙◌, true, rules, map}
 use Rattle.element_lang.specs.Rules.{is_good}
 use Rattle.element_lang.specs.View.{body_tree, tree}
 use Rattle.flatten.specs.Sized.{IsSizedBody}

@@ -1,4 +1,4 @@
-use Rattle.std.proofs.Common.{◌≡◌, arith}
+use Rattle.std.proofs.Common.{arith}
 use Rattle.flatten.proofs.Steps.{in_scope_ended}
 use Rattle.flatten.proofs.state.in_scope.Goals as goal
 

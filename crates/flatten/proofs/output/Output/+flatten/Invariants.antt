@@ -2,7 +2,7 @@ use Rattle.std.proofs.Common.{◌≡◌, ◌-◌, drop}
 use Rattle.element_lang.specs.View.{body_tree}
 use Rattle.flatten.specs.Flatten as pure
 use Rattle.flatten.specs.Sized.{IsSizedBody}
-use Rattle.flatten.specs.Pending.{closed, placed}
+use Rattle.flatten.specs.Pending.{closed}
 use Rattle.flatten.proofs.output.Output.+flatten.Given as goal
 
 -- the statements that are left give from here what all give from the start

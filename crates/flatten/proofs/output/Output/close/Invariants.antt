@@ -1,5 +1,4 @@
 use Rattle.std.proofs.Common.{◌≡◌, length}
-use Rattle.flatten.specs.Flatten as pure
 use Rattle.flatten.specs.Pending.{closed, placed}
 use Rattle.flatten.proofs.output.Output.close.Given as goal
 

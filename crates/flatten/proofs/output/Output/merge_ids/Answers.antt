@@ -1,4 +1,4 @@
-use Rattle.std.proofs.Common.{◌≡◌, ◌≤◌, length, min, arith}
+use Rattle.std.proofs.Common.{arith}
 use Rattle.flatten.proofs.Steps.{merge_ended_at}
 use Rattle.flatten.proofs.output.Output.merge_ids.Goals as goal
 
