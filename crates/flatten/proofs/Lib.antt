@@ -4,3 +4,9 @@ pub mod Steps
 pub mod Trees
 pub mod GoodSizes
 pub mod Branches
+pub mod BothParts
+pub mod FieldOrder
+pub mod Fitting
+pub mod KeptObjects
+pub mod KeptRuns
+pub mod Views
