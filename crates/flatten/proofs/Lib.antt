@@ -10,3 +10,4 @@ pub mod Fitting
 pub mod KeptObjects
 pub mod KeptRuns
 pub mod Views
+pub mod Meanings

@@ -1,0 +1,660 @@
+-- What a piece of a flat program does is what its source does.
+use Rattle.std.proofs.Common.{◌≡◌, ◌≢◌, ℕ, zero, suc, ◌+◌, ◌<◌, ◌≤◌, ◌^◌, ◌%◌, ◌==◌, Bool, true, false, ◌&&◌, ◌||◌, cond, List, [], ◌∷◌, ◌++◌, map, length, get_or, Option, Some, None, is_some, refl, sym, ap, ◌∙◌, subst, arith, length-append, slice_index, slice_set, if◌then◌else◌, true≢false, eqb-true, eq-eqb, ne_eqb, lit<, ⊎_elim}
+use Rattle.std.proofs.Math.ListN.{get_or-append}
+use Rattle.std.proofs.Math.Seq.{get_or-append_seam}
+use Rattle.std.proofs.Math.Nat.{mod-eq_of_lt}
+use Rattle.std.proofs.lemmas.Bool.{cond-true, cond-false, cases_lt, and_parts}
+use Rattle.std.specs.List.{list_all}
+use Rattle.gal_bits.specs.declared.op.Op.{Op}
+use Rattle.gal_bits.specs.declared.op.Op.TheVariants.{Add, Sub, Mul, Div, Rem, And, Or, Xor, Not, Shl, Shr, Eq, Ne, Lt, Le, Cast, Select, Adjust}
+use Rattle.gal_bits.specs.Operators.{value_of as operator_value}
+use Rattle.packet_fields.specs.declared.field.Field.{Field}
+use Rattle.packet_fields.specs.declared.packet.Packet.{Packet}
+use Rattle.packet_fields.specs.Table.{row, all_fields, field_index}
+use Rattle.packet_fields.specs.Fields.{field_value}
+use Rattle.state_store.specs.Store.{Store}
+use Rattle.element_lang.specs.Tree.{ExprTree, Exprs, StmtTree, BodyTree, Tree}
+use Rattle.element_lang.specs.Tree.ExprTree.{lit, local}
+use Rattle.element_lang.specs.Tree.Exprs.{no_expr, expr}
+use Rattle.element_lang.specs.Widths.{local_widths, width_of}
+use Rattle.element_lang.specs.Meaning.{State, value_of, values_of}
+use Rattle.element_lang.specs.Rules.{is_good_expr, are_good_exprs}
+use Rattle.std.specs.List.{AllByRecursion as Each}
+use Rattle.flat_ir.specs.declared.program.ValueId.{ValueId}
+use Rattle.flat_ir.specs.declared.program.Block.{Block}
+use Rattle.flat_ir.specs.Program as flat
+use Rattle.flat_ir.specs.Program.{Program, Step, Work, step_at}
+use Rattle.flat_ir.specs.Program.Work.{const, field, apply, shift, select, byte, look, put, del}
+use Rattle.flat_ir.specs.Blocks.{Reading, is_on, same, block_at, line, line_up, holds, is_live, HasLowParents}
+use Rattle.flat_ir.specs.Run.{Machine, Change, after, do_step, results, with_results, made, change_of, with_changes, start}
+use Rattle.flatten.specs.declared.place.Place.{Place}
+use Rattle.flatten.specs.declared.place.Ending.{Ending}
+use Rattle.flatten.specs.declared.place.Ending.TheVariants.{No, Yes, Maybe}
+use Rattle.flatten.specs.Flatten.{Given, View, At, Valued, Listed, Scoped, Merged, EndedAt, Flattener, result_of, nought, one, nought_port, emit, give, opened, below, operation, same_id, merge_id, merge_option, merge_ids, field_widths, merge, merge_ended, ended_id, ends, select_ended, with_ended, join, follow, go_on, in_order, flat_expr, flat_exprs}
+use Rattle.flatten.specs.Occurs.{is_in_expr, is_in_exprs}
+use Rattle.flatten.proofs.BothParts.{left, right}
+use Rattle.flatten.proofs.Views.{Below, InRange, Meets, Agree, HasId, IsThere, range_more, range_at, range_set, meets_more, agree_more, agree_at, agree_set, there_set, there_new, Knows, known_at}
+use Rattle.flatten.proofs.Fitting.{AtWidths}
+
+-- ## Lines of blocks
+
+beyond : {X : Type 0} (xs : List X) (k : ℕ) (d : X) → length xs ≤ k → get_or xs k d ≡ d
+beyond [] k d le = refl
+beyond (x ∷ xs) zero d le = absurd (omega (arith, le))
+beyond (x ∷ xs) (suc k) d le = beyond xs k d (omega (arith, le))
+
+abbrev blank : Block
+blank = record { parent = 0; cond = record { instruction = 0; result = 0 }; polarity = true }
+
+abbrev blank_step : Step
+blank_step = record { block = 0; looped = false; work = const 1 0 }
+
+module _ (blocks : List Block) (low : HasLowParents blocks) where
+  parent_le : (k : ℕ) → (block_at blocks k).parent ≤ k
+  parent_le k =
+      ⊎_elim (λ lt. low k lt) (λ le. let e = ap (λ (b : Block). b.parent) (beyond blocks k blank le) in omega (arith, e)) (cases_lt k (length blocks))
+
+  fuel : (n n' k : ℕ) → k ≤ n → k ≤ n' → line_up n blocks k ≡ line_up n' blocks k
+  fuel n n' zero le le' = refl
+  fuel zero n' (suc k) le le' = absurd (omega (arith, le))
+  fuel (suc n) zero (suc k) le le' = absurd (omega (arith, le'))
+  fuel (suc n) (suc n') (suc k) le le' =
+      ap (λ l. suc k ∷ l) (fuel n n' (block_at blocks k).parent (omega (arith, parent_le k, le)) (omega (arith, parent_le k, le')))
+
+  -- a block is live where its condition holds and its parent is live
+  pub live_suc : (r : Reading) (k : ℕ) → is_live blocks r (suc k) ≡ (holds blocks r (suc k) && is_live blocks r (block_at blocks k).parent)
+  live_suc r k = ap (λ l. list_all (holds blocks r) (suc k ∷ l)) (fuel k (block_at blocks k).parent (block_at blocks k).parent (parent_le k) (omega arith))
+
+-- one more block below one that is there
+low_more : (blocks : List Block) (b : Block) → b.parent ≤ length blocks → HasLowParents blocks → HasLowParents (blocks ++ b ∷ [])
+low_more blocks b le low k lt =
+    ⊎_elim
+    (λ within. subst (λ (c : Block). c.parent ≤ k) (sym (get_or-append blocks (b ∷ []) blank k within)) (low k within))
+    (λ past.
+      let last : k ≡ length blocks = omega (arith, past, lt, length-append blocks (b ∷ [])) in
+      subst (λ n. (block_at (blocks ++ b ∷ []) n).parent ≤ n) (sym last) (subst (λ (c : Block). c.parent ≤ length blocks) (sym (get_or-append_seam blocks b [] blank)) le))
+    (cases_lt k (length blocks))
+
+-- ## Single instructions
+
+set_other : (i : ℕ) (rs : List ℕ) (reads : Reading) (v : ValueId) → v.instruction ≢ i → with_results i rs reads v ≡ reads v
+set_other i rs reads v ne = cond-false (v.instruction == i) (slice_index rs v.result) (reads v) (ne_eqb v.instruction i ne)
+
+set_own : (i : ℕ) (rs : List ℕ) (reads : Reading) (v : ValueId) → v.instruction ≡ i → with_results i rs reads v ≡ slice_index rs v.result
+set_own i rs reads v e = cond-true (v.instruction == i) (slice_index rs v.result) (reads v) (eq-eqb v.instruction i e)
+
+or_left : (a b : Bool) → a ≡ true → (a || b) ≡ true
+or_left true b e = refl
+or_left false b e = absurd (true≢false (sym e))
+
+or_right : (a b : Bool) → b ≡ true → (a || b) ≡ true
+or_right true b e = refl
+or_right false b e = e
+
+-- a select, by its condition
+select_first : (w c a b : ℕ) → c ≡ 1 → a < 2 ^ w → operator_value Select w (c ∷ a ∷ b ∷ []) ≡ a
+unfolding operator_value
+select_first w c a b e lt = ap (λ n. (if n == 1 then a else b) % 2 ^ w) e ∙ mod-eq_of_lt lt
+
+select_second : (w c a b : ℕ) → c ≡ 0 → b < 2 ^ w → operator_value Select w (c ∷ a ∷ b ∷ []) ≡ b
+unfolding operator_value
+select_second w c a b e lt = ap (λ n. (if n == 1 then a else b) % 2 ^ w) e ∙ mod-eq_of_lt lt
+
+abbrev Gives : Work → Op → ℕ → List ValueId → Type 0
+Gives work op w ids = (reads : Reading) (live : Bool) (st : Store) (packet : Packet) → (results reads live st packet work ≡ operator_value op w (map reads ids) ∷ []) × (change_of reads st work ≡ None)
+
+gives_apply : (op : Op) (w : ℕ) (ids : List ValueId) → Gives (flat.apply op w ids) op w ids
+gives_apply op w ids reads live st packet = (refl, refl)
+
+pub operation_gives : (op : Op) (w : ℕ) (ids : List ValueId) → Gives (operation op w ids) op w ids
+operation_gives Add w ids = gives_apply Add w ids
+operation_gives Sub w ids = gives_apply Sub w ids
+operation_gives Mul w ids = gives_apply Mul w ids
+operation_gives Div w ids = gives_apply Div w ids
+operation_gives Rem w ids = gives_apply Rem w ids
+operation_gives And w ids = gives_apply And w ids
+operation_gives Or w ids = gives_apply Or w ids
+operation_gives Xor w ids = gives_apply Xor w ids
+operation_gives Not w ids = gives_apply Not w ids
+operation_gives Shl w ids = gives_apply Shl w ids
+operation_gives Shr w ids = gives_apply Shr w ids
+operation_gives Eq w ids = gives_apply Eq w ids
+operation_gives Ne w ids = gives_apply Ne w ids
+operation_gives Lt w ids = gives_apply Lt w ids
+operation_gives Le w ids = gives_apply Le w ids
+operation_gives Cast w ids = gives_apply Cast w ids
+operation_gives Adjust w ids = gives_apply Adjust w ids
+operation_gives Select w [] = gives_apply Select w []
+operation_gives Select w (a ∷ []) = gives_apply Select w (a ∷ [])
+operation_gives Select w (a ∷ b ∷ []) = gives_apply Select w (a ∷ b ∷ [])
+operation_gives Select w (a ∷ b ∷ c ∷ []) = λ reads live st packet. (refl, refl)
+operation_gives Select w (a ∷ b ∷ c ∷ d ∷ rest) = gives_apply Select w (a ∷ b ∷ c ∷ d ∷ rest)
+
+made_none : (live : Bool) → made live None ≡ []
+made_none true = refl
+made_none false = refl
+
+same_ids : (a b : ValueId) → same_id a b ≡ true → a ≡ b
+same_ids a b e =
+    let parts = and_parts (a.instruction == b.instruction) (a.result == b.result) e in
+    let first : a.instruction ≡ b.instruction = eqb-true a.instruction b.instruction parts.0 in
+    let second : a.result ≡ b.result = eqb-true a.result b.result parts.1 in
+    ap (λ i. result_of i a.result) first ∙ ap (λ j. result_of b.instruction j) second
+
+same_itself : (a : ValueId) → same_id a a ≡ true
+same_itself a = ap (λ t. t && a.result == a.result) (eq-eqb a.instruction a.instruction refl) ∙ eq-eqb a.result a.result refl
+
+module _ (F : Program) (st0 : Store) (packet : Packet) where
+  -- what is given so far, with all blocks that there will be
+  abbrev pub prog : List Step → Program
+  prog code = record { objects = F.objects; blocks = F.blocks; code = code; send = F.send; port = F.port; fields = F.fields }
+
+  abbrev pub run : Given → Machine
+  run g = after (prog g.code) st0 packet (length g.code)
+
+  abbrev pub get : Given → ValueId → ℕ
+  get g v = (run g).reads v
+
+  abbrev pub lv : Given → ℕ → Bool
+  lv g k = is_live F.blocks (run g).reads k
+
+  abbrev stepped : Machine → ℕ → Step → Machine
+  stepped m n s = do_step (is_live F.blocks m.reads s.block) packet n s.work m
+
+  after_front : (code more : List Step) (n : ℕ) → n ≤ length code → after (prog (code ++ more)) st0 packet n ≡ after (prog code) st0 packet n
+  after_front code more zero le = refl
+  after_front code more (suc n) le =
+      ap (λ s. stepped (after (prog (code ++ more)) st0 packet n) n s) (get_or-append code more blank_step n le)
+      ∙ ap (λ m. stepped m n (step_at (prog code) n)) (after_front code more n (omega (arith, le)))
+
+  run_emit : (p : Place) (work : Work) (g : Given) → run (emit p work g) ≡ do_step (lv g p.block) packet (length g.code) work (run g)
+  run_emit p work g =
+      let s : Step = record { block = p.block; looped = p.looped; work = work } in
+      let code = g.code ++ s ∷ [] in
+      let n = length g.code in
+      let e : length code ≡ suc n = omega (arith, length-append g.code (s ∷ [])) in
+      ap (after (prog code) st0 packet) e
+      ∙ ap (λ t. stepped (after (prog code) st0 packet n) n t) (get_or-append_seam g.code s [] blank_step)
+      ∙ ap (λ m. stepped m n s) (after_front g.code (s ∷ []) n (omega arith))
+
+  pub emit_length : (p : Place) (work : Work) (g : Given) → length (emit p work g).code ≡ suc (length g.code)
+  emit_length p work g = omega (arith, length-append g.code (record { block = p.block; looped = p.looped; work = work } ∷ []))
+
+  pub emit_reads : (p : Place) (work : Work) (g : Given) (j : ℕ) → get (emit p work g) (result_of (length g.code) j) ≡ slice_index (results (run g).reads (lv g p.block) (run g).store packet work) j
+  emit_reads p work g j =
+      ap (λ m. m.reads (result_of (length g.code) j)) (run_emit p work g)
+      ∙ set_own (length g.code) (results (run g).reads (lv g p.block) (run g).store packet work) (run g).reads (result_of (length g.code) j) refl
+
+  pub emit_keeps : (p : Place) (work : Work) (g : Given) (v : ValueId) → v.instruction < length g.code → get (emit p work g) v ≡ get g v
+  emit_keeps p work g v lt =
+      ap (λ m. m.reads v) (run_emit p work g)
+      ∙ set_other (length g.code) (results (run g).reads (lv g p.block) (run g).store packet work) (run g).reads v (λ e. omega (arith, lt, e))
+
+  pub emit_store : (p : Place) (work : Work) (g : Given) → (run (emit p work g)).store ≡ with_changes (run g).store (made (lv g p.block) (change_of (run g).reads (run g).store work))
+  emit_store p work g = ap (λ m. m.store) (run_emit p work g)
+
+  pub emit_still : (p : Place) (work : Work) (g : Given) → change_of (run g).reads (run g).store work ≡ None → (run (emit p work g)).store ≡ (run g).store
+  emit_still p work g e =
+      emit_store p work g ∙ ap (λ c. with_changes (run g).store (made (lv g p.block) c)) e ∙ ap (with_changes (run g).store) (made_none (lv g p.block))
+
+  -- one comes later than another
+  pub record Grows (g g' : Given) : Type 0 where
+    pub longer : length g.code ≤ length g'.code
+    pub keeps : (v : ValueId) → v.instruction < length g.code → get g' v ≡ get g v
+    pub more : length g.blocks ≤ length g'.blocks
+    pub blocks : (k : ℕ) → k < length g.blocks → block_at g'.blocks k ≡ block_at g.blocks k
+    pub low : HasLowParents g.blocks → HasLowParents g'.blocks
+
+  pub grows_refl : (g : Given) → Grows g g
+  grows_refl g = record { longer = omega arith; keeps = λ v lt. refl; more = omega arith; blocks = λ k lt. refl; low = λ h. h }
+
+  pub grows_trans : (g g' g'' : Given) → Grows g g' → Grows g' g'' → Grows g g''
+  grows_trans g g' g'' p q = record {
+    longer = omega (arith, p.longer, q.longer);
+    keeps = λ v lt. q.keeps v (omega (arith, p.longer, lt)) ∙ p.keeps v lt;
+    more = omega (arith, p.more, q.more);
+    blocks = λ k lt. q.blocks k (omega (arith, p.more, lt)) ∙ p.blocks k lt;
+    low = λ h. q.low (p.low h);
+  }
+
+  pub grows_emit : (p : Place) (work : Work) (g : Given) → Grows g (emit p work g)
+  grows_emit p work g =
+      record { longer = omega (arith, emit_length p work g); keeps = emit_keeps p work g; more = omega arith; blocks = λ k lt. refl; low = λ h. h }
+
+  pub grows_open : (p : Place) (v : ValueId) (polarity : Bool) (g : Given) → p.block ≤ length g.blocks → Grows g (opened p v polarity g)
+  grows_open p v polarity g le =
+      let b : Block = record { parent = p.block; cond = v; polarity = polarity } in
+      record {
+        longer = omega arith;
+        keeps = λ v lt. refl;
+        more = omega (arith, length-append g.blocks (b ∷ []));
+        blocks = λ k lt. get_or-append g.blocks (b ∷ []) blank k lt;
+        low = low_more g.blocks b le;
+      }
+
+  -- the program has the blocks given so far, and each stands below one with a lower number
+  pub record InBlocks (g : Given) : Type 0 where
+    pub at : (k : ℕ) → k < length g.blocks → block_at F.blocks k ≡ block_at g.blocks k
+    pub low : HasLowParents F.blocks
+
+  pub in_before : (g g' : Given) → Grows g g' → InBlocks g' → InBlocks g
+  in_before g g' p h = record { at = λ k lt. h.at k (omega (arith, p.more, lt)) ∙ p.blocks k lt; low = h.low }
+
+  -- a block that is live or not whatever comes later
+  pub record Here (g : Given) (k : ℕ) : Type 0 where
+    pub steady : (r : Reading) → ((v : ValueId) → v.instruction < length g.code → r v ≡ get g v) → is_live F.blocks r k ≡ lv g k
+
+  pub here_root : (g : Given) → Here g 0
+  here_root g = record { steady = λ r e. refl }
+
+  pub here_later : (g g' : Given) (k : ℕ) → Grows g g' → Here g k → Here g' k
+  here_later g g' k p h = record {
+    steady = λ r e.
+      h.steady r (λ v lt. e v (omega (arith, p.longer, lt)) ∙ p.keeps v lt) ∙ sym (h.steady (run g').reads p.keeps)
+  }
+
+  pub lv_later : (g g' : Given) (k : ℕ) → Grows g g' → Here g k → lv g' k ≡ lv g k
+  lv_later g g' k p h = h.steady (run g').reads p.keeps
+
+  pub open_live : (p : Place) (v : ValueId) (polarity : Bool) (g : Given) → InBlocks (opened p v polarity g) → (r : Reading) → is_live F.blocks r (suc (length g.blocks)) ≡ (same polarity (is_on (r v)) && is_live F.blocks r p.block)
+  open_live p v polarity g h r =
+      let b : Block = record { parent = p.block; cond = v; polarity = polarity } in
+      let lt : length g.blocks < length (g.blocks ++ b ∷ []) = omega (arith, length-append g.blocks (b ∷ [])) in
+      let is : block_at F.blocks (length g.blocks) ≡ b = h.at (length g.blocks) lt ∙ get_or-append_seam g.blocks b [] blank in
+      live_suc F.blocks h.low r (length g.blocks) ∙ ap (λ (c : Block). same c.polarity (is_on (r c.cond)) && is_live F.blocks r c.parent) is
+
+  pub here_open : (p : Place) (v : ValueId) (polarity : Bool) (g : Given) → InBlocks (opened p v polarity g) → Here g p.block → v.instruction < length g.code → Here (opened p v polarity g) (suc (length g.blocks))
+  here_open p v polarity g h here lt = record {
+    steady = λ r e.
+      open_live p v polarity g h r
+      ∙ ap (λ l. same polarity (is_on (r v)) && l) (here.steady r e)
+      ∙ ap (λ n. same polarity (is_on n) && lv g p.block) (e v lt)
+      ∙ sym (open_live p v polarity g h (run g).reads)
+  }
+
+  -- the constants that come first are there
+  pub record Based (g : Given) : Type 0 where
+    pub some : 2 < length g.code
+    pub nought : get g nought ≡ 0
+    pub one : get g one ≡ 1
+
+  pub based_later : (g g' : Given) → Grows g g' → Based g → Based g'
+  based_later g g' p b = record {
+    some = omega (arith, p.longer, b.some);
+    nought = p.keeps nought (omega (arith, b.some)) ∙ b.nought;
+    one = p.keeps one (omega (arith, b.some)) ∙ b.one;
+  }
+
+  -- ## Merges
+
+  -- a value that comes later has the number of one before, where it fits
+  abbrev pub Passes : ℕ → Given → ValueId → Given → ValueId → Type 0
+  Passes w g a g' b = (u : ℕ) → u < 2 ^ w → get g a ≡ u → get g' b ≡ u
+
+  -- one value of two
+  pub record Chosen (v : ValueId) (w : ℕ) (a b : ValueId) (g : Given) (r : Valued) : Type 0 where
+    pub grows : Grows g r.given
+    pub inside : r.id.instruction < length r.given.code
+    pub store : (run r.given).store ≡ (run g).store
+    pub first : get g v ≡ 1 → Passes w g a r.given r.id
+    pub second : get g v ≡ 0 → Passes w g b r.given r.id
+    pub alike : a ≡ b → r.id ≡ a
+
+  chosen_select : (p : Place) (v : ValueId) (w : ℕ) (a b : ValueId) (g : Given) → same_id a b ≡ false → Chosen v w a b g (give p (flat.select w v a b) g)
+  chosen_select p v w a b g e =
+      let work = flat.select w v a b in
+      record {
+        grows = grows_emit p work g;
+        inside = omega (arith, emit_length p work g);
+        store = emit_still p work g refl;
+        first = λ on u lt is. emit_reads p work g 0 ∙ select_first w (get g v) (get g a) (get g b) on (subst (λ n. n < 2 ^ w) (sym is) lt) ∙ is;
+        second = λ off u lt is. emit_reads p work g 0 ∙ select_second w (get g v) (get g a) (get g b) off (subst (λ n. n < 2 ^ w) (sym is) lt) ∙ is;
+        alike = λ same. absurd (true≢false (sym (same_itself a) ∙ ap (λ c. same_id a c) same ∙ e));
+      }
+
+  chosen_case : (c : Bool) (p : Place) (v : ValueId) (w : ℕ) (a b : ValueId) (g : Given) → same_id a b ≡ c → a.instruction < length g.code → Chosen v w a b g (cond c (record { given = g; id = a }) (give p (flat.select w v a b) g))
+  chosen_case true p v w a b g e lt = record {
+    grows = grows_refl g;
+    inside = lt;
+    store = refl;
+    first = λ on u lt is. is;
+    second = λ off u lt is. ap (get g) (same_ids a b e) ∙ is;
+    alike = λ same. refl;
+  }
+  chosen_case false p v w a b g e lt = chosen_select p v w a b g e
+
+  pub merge_id_chosen : (p : Place) (v : ValueId) (w : ℕ) (a b : ValueId) (g : Given) → a.instruction < length g.code → Chosen v w a b g (merge_id p v w a b g)
+  merge_id_chosen p v w a b g lt = chosen_case (same_id a b) p v w a b g refl lt
+
+  abbrev pub MayPass : ℕ → Given → Option ValueId → Given → Option ValueId → Type 0
+  MayPass w g x g' y = (u : ℕ) → u < 2 ^ w → Meets (get g) x u → Meets (get g') y u
+
+  -- one variable of two
+  pub record ChosenOption (v : ValueId) (w : ℕ) (x y : Option ValueId) (g : Given) (r : Merged) : Type 0 where
+    pub grows : Grows g r.given
+    pub inside : Below (length r.given.code) r.id
+    pub store : (run r.given).store ≡ (run g).store
+    pub there : HasId x → HasId y → HasId r.id
+    pub first : get g v ≡ 1 → MayPass w g x r.given r.id
+    pub second : get g v ≡ 0 → MayPass w g y r.given r.id
+    pub alike : x ≡ y → r.id ≡ x
+
+  some_same : {X : Type 0} (x y : X) → Some x ≡ Some y → x ≡ y
+  some_same x y e = cc
+
+  none_some : {X : Type 0} (x : X) → Some x ≡ None → ⊥
+  none_some x e = cc
+
+  merge_option_chosen : (p : Place) (v : ValueId) (w : ℕ) (x y : Option ValueId) (g : Given) → Below (length g.code) x → ChosenOption v w x y g (merge_option p v w x y g)
+  merge_option_chosen p v w None y g lt =
+      record { grows = grows_refl g; inside = tt; store = refl; there = λ h h'. h; first = λ on u lt is. tt; second = λ off u lt is. tt; alike = λ e. refl }
+  merge_option_chosen p v w (Some a) None g lt =
+      record { grows = grows_refl g; inside = tt; store = refl; there = λ h h'. h'; first = λ on u lt is. tt; second = λ off u lt is. tt; alike = λ e. absurd (none_some a e) }
+  merge_option_chosen p v w (Some a) (Some b) g lt =
+      let s = merge_id_chosen p v w a b g lt in
+      record { grows = s.grows; inside = s.inside; store = s.store; there = λ h h'. tt; first = s.first; second = s.second; alike = λ e. ap Some (s.alike (some_same a b e)) }
+
+  abbrev pub AllPass : List ℕ → Given → List (Option ValueId) → Given → List (Option ValueId) → Type 0
+  AllPass ws g xs g' ys = (us : List ℕ) → AtWidths ws us → Agree (get g) xs us → Agree (get g') ys us
+
+  -- variables of two states
+  pub record ChosenAll (v : ValueId) (ws : List ℕ) (xs ys : List (Option ValueId)) (g : Given) (r : Scoped) : Type 0 where
+    pub grows : Grows g r.given
+    pub inside : InRange (length r.given.code) ws r.ids
+    pub store : (run r.given).store ≡ (run g).store
+    pub there : (x : ℕ) → IsThere xs x → IsThere ys x → IsThere r.ids x
+    pub first : get g v ≡ 1 → AllPass ws g xs r.given r.ids
+    pub second : get g v ≡ 0 → AllPass ws g ys r.given r.ids
+    pub alike : (x : ℕ) → get_or xs x None ≡ get_or ys x None → get_or r.ids x None ≡ get_or xs x None
+
+  all_cons : (w : ℕ) (ws : List ℕ) (g g1 g2 : Given) (i j : Option ValueId) (is js : List (Option ValueId)) → MayPass w g i g2 j → AllPass ws g is g2 js → AllPass (w ∷ ws) g (i ∷ is) g2 (j ∷ js)
+  all_cons w ws g g1 g2 i j is js here rest [] fit a = a
+  all_cons w ws g g1 g2 i j is js here rest (u ∷ us) fit a = (here u (fit 0) a.0, rest us (λ place. fit (suc place)) a.1)
+
+  there_cons : (i i' j : Option ValueId) (is is' js : List (Option ValueId)) → (HasId i → HasId i' → HasId j) → ((x : ℕ) → IsThere is x → IsThere is' x → IsThere js x) → (x : ℕ) → IsThere (i ∷ is) x → IsThere (i' ∷ is') x → IsThere (j ∷ js) x
+  there_cons i i' j is is' js here rest zero = here
+  there_cons i i' j is is' js here rest (suc x) = rest x
+
+  alike_cons : (i i' j : Option ValueId) (is is' js : List (Option ValueId)) → (i ≡ i' → j ≡ i) → ((x : ℕ) → get_or is x None ≡ get_or is' x None → get_or js x None ≡ get_or is x None)
+      → (x : ℕ) → get_or (i ∷ is) x None ≡ get_or (i' ∷ is') x None → get_or (j ∷ js) x None ≡ get_or (i ∷ is) x None
+  alike_cons i i' j is is' js here rest zero = here
+  alike_cons i i' j is is' js here rest (suc x) = rest x
+
+  below_later : (g g' : Given) (i : Option ValueId) → Grows g g' → Below (length g.code) i → Below (length g'.code) i
+  below_later g g' None p lt = tt
+  below_later g g' (Some v) p lt = omega (arith, p.longer, lt)
+
+  pub merge_ids_chosen : (p : Place) (v : ValueId) (ws : List ℕ) (xs ys : List (Option ValueId)) (g : Given) → v.instruction < length g.code → InRange (length g.code) ws xs → InRange (length g.code) ws ys → ChosenAll v ws xs ys g (merge_ids p v ws xs ys g)
+  merge_ids_chosen p v [] [] [] g lt fx fy =
+      record { grows = grows_refl g; inside = tt; store = refl; there = λ x h h'. tt; first = λ on us fit a. a; second = λ off us fit a. a; alike = λ x e. refl }
+  merge_ids_chosen p v [] [] (y ∷ ys) g lt fx fy = absurd fy
+  merge_ids_chosen p v [] (x ∷ xs) ys g lt fx fy = absurd fx
+  merge_ids_chosen p v (w ∷ ws) [] ys g lt fx fy = absurd fx
+  merge_ids_chosen p v (w ∷ ws) (x ∷ xs) [] g lt fx fy = absurd fy
+  merge_ids_chosen p v (w ∷ ws) (x ∷ xs) (y ∷ ys) g lt fx fy =
+      let r = merge_option p v w x y g in
+      let n = length g.code in
+      let n' = length r.given.code in
+      let s1 = merge_option_chosen p v w x y g fx.0 in
+      let lt' : v.instruction < n' = omega (arith, s1.grows.longer, lt) in
+      let rest = merge_ids p v ws xs ys r.given in
+      let s2 = merge_ids_chosen p v ws xs ys r.given lt' (range_more n n' ws xs s1.grows.longer fx.1) (range_more n n' ws ys s1.grows.longer fy.1) in
+      let same_v : get r.given v ≡ get g v = s1.grows.keeps v lt in
+      let later : (u : ℕ) → Meets (get r.given) r.id u → Meets (get rest.given) r.id u = λ u. meets_more (get r.given) (get rest.given) n' r.id u s2.grows.keeps s1.inside in
+      record {
+        grows = grows_trans g r.given rest.given s1.grows s2.grows;
+        inside = (below_later r.given rest.given r.id s2.grows s1.inside, s2.inside);
+        store = s2.store ∙ s1.store;
+        there = there_cons x y r.id xs ys rest.ids s1.there s2.there;
+        first = λ on. all_cons w ws g r.given rest.given x r.id xs rest.ids (λ u fit a. later u (s1.first on u fit a)) (λ us fit a. s2.first (same_v ∙ on) us fit (agree_more (get g) (get r.given) n ws xs us s1.grows.keeps fx.1 a));
+        second = λ off. all_cons w ws g r.given rest.given y r.id ys rest.ids (λ u fit a. later u (s1.second off u fit a)) (λ us fit a. s2.second (same_v ∙ off) us fit (agree_more (get g) (get r.given) n ws ys us s1.grows.keeps fy.1 a));
+        alike = alike_cons x y r.id xs ys rest.ids s1.alike s2.alike;
+      }
+
+  -- whether the run has ended, of two states
+  pub record ChosenEnd (v : ValueId) (x y : Ending) (g : Given) (r : EndedAt) : Type 0 where
+    pub grows : Grows g r.given
+    pub inside : (ended_id r.ended).instruction < length r.given.code
+    pub store : (run r.given).store ≡ (run g).store
+    pub first : get g v ≡ 1 → Passes 1 g (ended_id x) r.given (ended_id r.ended)
+    pub second : get g v ≡ 0 → Passes 1 g (ended_id y) r.given (ended_id r.ended)
+
+  end_as : (v : ValueId) (x y e : Ending) (g : Given) → (ended_id e).instruction < length g.code → (get g v ≡ 1 → Passes 1 g (ended_id x) g (ended_id e)) → (get g v ≡ 0 → Passes 1 g (ended_id y) g (ended_id e)) → ChosenEnd v x y g (record { given = g; ended = e })
+  end_as v x y e g lt p q = record { grows = grows_refl g; inside = lt; store = refl; first = p; second = q }
+
+  end_select : (p : Place) (v : ValueId) (x y : Ending) (g : Given) → ChosenEnd v x y g (select_ended p v x y g)
+  end_select p v x y g =
+      let a = ended_id x in
+      let b = ended_id y in
+      let work = flat.select 1 v a b in
+      record {
+        grows = grows_emit p work g;
+        inside = omega (arith, emit_length p work g);
+        store = emit_still p work g refl;
+        first = λ on u lt is. emit_reads p work g 0 ∙ select_first 1 (get g v) (get g a) (get g b) on (subst (λ n. n < 2 ^ 1) (sym is) lt) ∙ is;
+        second = λ off u lt is. emit_reads p work g 0 ∙ select_second 1 (get g v) (get g a) (get g b) off (subst (λ n. n < 2 ^ 1) (sym is) lt) ∙ is;
+      }
+
+  merge_ended_chosen : (p : Place) (v : ValueId) (x y : Ending) (g : Given) → Based g → v.instruction < length g.code → ChosenEnd v x y g (merge_ended p v x y g)
+  merge_ended_chosen p v No No g b lt = end_as v No No No g (omega (arith, b.some)) (λ on u lt is. is) (λ off u lt is. is)
+  merge_ended_chosen p v Yes Yes g b lt = end_as v Yes Yes Yes g (omega (arith, b.some)) (λ on u lt is. is) (λ off u lt is. is)
+  merge_ended_chosen p v Yes No g b lt = end_as v Yes No (Maybe v) g lt (λ on u lt is. on ∙ sym b.one ∙ is) (λ off u lt is. off ∙ sym b.nought ∙ is)
+  merge_ended_chosen p v No Yes g b lt = end_select p v No Yes g
+  merge_ended_chosen p v No (Maybe u) g b lt = end_select p v No (Maybe u) g
+  merge_ended_chosen p v Yes (Maybe u) g b lt = end_select p v Yes (Maybe u) g
+  merge_ended_chosen p v (Maybe t) No g b lt = end_select p v (Maybe t) No g
+  merge_ended_chosen p v (Maybe t) Yes g b lt = end_select p v (Maybe t) Yes g
+  merge_ended_chosen p v (Maybe t) (Maybe u) g b lt = end_select p v (Maybe t) (Maybe u) g
+
+  -- what passes in the middle passes from before to behind
+  through : (w : ℕ) (g g1 g2 g3 : Given) (a b : ValueId) → Grows g g1 → a.instruction < length g.code → Passes w g1 a g2 b → Grows g2 g3 → b.instruction < length g2.code → Passes w g a g3 b
+  through w g g1 g2 g3 a b p lt mid q lt' u fit is = q.keeps b lt' ∙ mid u fit (p.keeps a lt ∙ is)
+
+  all_through : (ws : List ℕ) (g g1 g2 g3 : Given) (xs ys : List (Option ValueId)) → Grows g g1 → InRange (length g.code) ws xs → AllPass ws g1 xs g2 ys → Grows g2 g3 → InRange (length g2.code) ws ys → AllPass ws g xs g3 ys
+  all_through ws g g1 g2 g3 xs ys p r mid q r' us fit a =
+      agree_more (get g2) (get g3) (length g2.code) ws ys us q.keeps r' (mid us fit (agree_more (get g) (get g1) (length g.code) ws xs us p.keeps r a))
+
+  module _ (m : Tree) (occurs : Field → Bool) where
+    -- the values of a state are there
+    pub record Within (g : Given) (w : View) : Type 0 where
+      pub locals : InRange (length g.code) (local_widths m) w.locals
+      pub fields : InRange (length g.code) field_widths w.fields
+      pub send : w.send.instruction < length g.code
+      pub port : w.port.instruction < length g.code
+      pub ended : (ended_id w.ended).instruction < length g.code
+
+    pub within_later : (g g' : Given) (w : View) → Grows g g' → Within g w → Within g' w
+    within_later g g' w p f = record {
+      locals = range_more (length g.code) (length g'.code) (local_widths m) w.locals p.longer f.locals;
+      fields = range_more (length g.code) (length g'.code) field_widths w.fields p.longer f.fields;
+      send = omega (arith, p.longer, f.send);
+      port = omega (arith, p.longer, f.port);
+      ended = omega (arith, p.longer, f.ended);
+    }
+
+    pub within_ends : (g : Given) (w : View) (e : Ending) → (ended_id e).instruction < length g.code → Within g w → Within g (ends e w)
+    within_ends g w e lt f = record { locals = f.locals; fields = f.fields; send = f.send; port = f.port; ended = lt }
+
+    -- one state has later what another one had before
+    pub record Alike (g : Given) (w : View) (g' : Given) (w' : View) : Type 0 where
+      pub locals : AllPass (local_widths m) g w.locals g' w'.locals
+      pub fields : AllPass field_widths g w.fields g' w'.fields
+      pub send : Passes 1 g w.send g' w'.send
+      pub port : Passes 8 g w.port g' w'.port
+      pub ended : Passes 1 g (ended_id w.ended) g' (ended_id w'.ended)
+      pub store : (run g').store ≡ (run g).store
+
+    pub alike_later : (g g' : Given) (w : View) → Grows g g' → Within g w → (run g').store ≡ (run g).store → Alike g w g' w
+    alike_later g g' w p f e = record {
+      locals = λ us fit a. agree_more (get g) (get g') (length g.code) (local_widths m) w.locals us p.keeps f.locals a;
+      fields = λ us fit a. agree_more (get g) (get g') (length g.code) field_widths w.fields us p.keeps f.fields a;
+      send = λ u fit is. p.keeps w.send f.send ∙ is;
+      port = λ u fit is. p.keeps w.port f.port ∙ is;
+      ended = λ u fit is. p.keeps (ended_id w.ended) f.ended ∙ is;
+      store = e;
+    }
+
+    -- what is in scope stays so, and so does the value of a field that can't be written
+    pub record Keeps (w w' : View) : Type 0 where
+      pub locals : (x : ℕ) → IsThere w.locals x → IsThere w'.locals x
+      pub fields : (x : ℕ) → IsThere w.fields x → IsThere w'.fields x
+      pub fixed : (f : Field) → (row f).writable ≡ false → get_or w'.fields (field_index f) None ≡ get_or w.fields (field_index f) None
+
+    pub keeps_refl : (w : View) → Keeps w w
+    keeps_refl w = record { locals = λ x h. h; fields = λ x h. h; fixed = λ f e. refl }
+
+    pub keeps_trans : (w w' w'' : View) → Keeps w w' → Keeps w' w'' → Keeps w w''
+    keeps_trans w w' w'' p q = record { locals = λ x h. q.locals x (p.locals x h); fields = λ x h. q.fields x (p.fields x h); fixed = λ f e. q.fixed f e ∙ p.fixed f e }
+
+    -- two states are made one
+    pub record Joined (v : ValueId) (g : Given) (a b : View) (r : At) : Type 0 where
+      pub grows : Grows g r.given
+      pub within : Within r.given r.view
+      pub store : (run r.given).store ≡ (run g).store
+      pub keeps : (w : View) → Keeps w a → Keeps w b → Keeps w r.view
+      pub first : get g v ≡ 1 → Alike g a r.given r.view
+      pub second : get g v ≡ 0 → Alike g b r.given r.view
+
+    pub join_chosen : (p : Place) (v : ValueId) (a : View) (rb : At) → Based rb.given → v.instruction < length rb.given.code → Within rb.given a → Within rb.given rb.view → Joined v rb.given a rb.view (join (local_widths m) p v a rb)
+    join_chosen p v a rb base lt fa fb =
+        let ws = local_widths m in
+        let b = rb.view in
+        let g = rb.given in
+        let r1 = merge_ids p v ws a.locals b.locals g in
+        let s1 = merge_ids_chosen p v ws a.locals b.locals g lt fa.locals fb.locals in
+        let g1 = r1.given in
+        let p1 = s1.grows in
+        let fa1 = within_later g g1 a p1 fa in
+        let fb1 = within_later g g1 b p1 fb in
+        let lt1 : v.instruction < length g1.code = omega (arith, p1.longer, lt) in
+        let r2 = merge_ids p v field_widths a.fields b.fields g1 in
+        let s2 = merge_ids_chosen p v field_widths a.fields b.fields g1 lt1 fa1.fields fb1.fields in
+        let g2 = r2.given in
+        let p2 = grows_trans g g1 g2 p1 s2.grows in
+        let r3 = merge_id p v 1 a.send b.send g2 in
+        let s3 = merge_id_chosen p v 1 a.send b.send g2 (omega (arith, p2.longer, fa.send)) in
+        let g3 = r3.given in
+        let p3 = grows_trans g g2 g3 p2 s3.grows in
+        let r4 = merge_id p v 8 a.port b.port g3 in
+        let s4 = merge_id_chosen p v 8 a.port b.port g3 (omega (arith, p3.longer, fa.port)) in
+        let g4 = r4.given in
+        let p4 = grows_trans g g3 g4 p3 s4.grows in
+        let r5 = merge_ended p v a.ended b.ended g4 in
+        let s5 = merge_ended_chosen p v a.ended b.ended g4 (based_later g g4 p4 base) (omega (arith, p4.longer, lt)) in
+        let g5 = r5.given in
+        let q4 = s5.grows in
+        let q3 = grows_trans g3 g4 g5 s4.grows q4 in
+        let q2 = grows_trans g2 g3 g5 s3.grows q3 in
+        let q1 = grows_trans g1 g2 g5 s2.grows q2 in
+        let still : (run g5).store ≡ (run g).store = s5.store ∙ s4.store ∙ s3.store ∙ s2.store ∙ s1.store in
+        record {
+          grows = grows_trans g g1 g5 p1 q1;
+          within = record {
+            locals = range_more (length g1.code) (length g5.code) ws r1.ids q1.longer s1.inside;
+            fields = range_more (length g2.code) (length g5.code) field_widths r2.ids q2.longer s2.inside;
+            send = omega (arith, q3.longer, s3.inside);
+            port = omega (arith, q4.longer, s4.inside);
+            ended = s5.inside;
+          };
+          store = still;
+          keeps = λ w ka kb. record {
+            locals = λ x h. s1.there x (ka.locals x h) (kb.locals x h);
+            fields = λ x h. s2.there x (ka.fields x h) (kb.fields x h);
+            fixed = λ f e. s2.alike (field_index f) (ka.fixed f e ∙ sym (kb.fixed f e)) ∙ ka.fixed f e;
+          };
+          first = λ on. record {
+            locals = all_through ws g g g1 g5 a.locals r1.ids (grows_refl g) fa.locals (s1.first on) q1 s1.inside;
+            fields = all_through field_widths g g1 g2 g5 a.fields r2.ids p1 fa.fields (s2.first (p1.keeps v lt ∙ on)) q2 s2.inside;
+            send = through 1 g g2 g3 g5 a.send r3.id p2 fa.send (s3.first (p2.keeps v lt ∙ on)) q3 s3.inside;
+            port = through 8 g g3 g4 g5 a.port r4.id p3 fa.port (s4.first (p3.keeps v lt ∙ on)) q4 s4.inside;
+            ended = through 1 g g4 g5 g5 (ended_id a.ended) (ended_id r5.ended) p4 fa.ended (s5.first (p4.keeps v lt ∙ on)) (grows_refl g5) s5.inside;
+            store = still;
+          };
+          second = λ off. record {
+            locals = all_through ws g g g1 g5 b.locals r1.ids (grows_refl g) fb.locals (s1.second off) q1 s1.inside;
+            fields = all_through field_widths g g1 g2 g5 b.fields r2.ids p1 fb.fields (s2.second (p1.keeps v lt ∙ off)) q2 s2.inside;
+            send = through 1 g g2 g3 g5 b.send r3.id p2 fb.send (s3.second (p2.keeps v lt ∙ off)) q3 s3.inside;
+            port = through 8 g g3 g4 g5 b.port r4.id p3 fb.port (s4.second (p3.keeps v lt ∙ off)) q4 s4.inside;
+            ended = through 1 g g4 g5 g5 (ended_id b.ended) (ended_id r5.ended) p4 fb.ended (s5.second (p4.keeps v lt ∙ off)) (grows_refl g5) s5.inside;
+            store = still;
+          };
+        }
+
+    -- ## Expressions
+
+    abbrev pub Shown : (Field → Bool) → View → Type 0
+    Shown test w = (f : Field) → test f ≡ true → IsThere w.fields (field_index f)
+
+    -- what an expression gives is its value
+    pub record Valuable (e : ExprTree) (w : View) (g : Given) (r : Valued) : Type 0 where
+      pub grows : Grows g r.given
+      pub inside : r.id.instruction < length r.given.code
+      pub store : (run r.given).store ≡ (run g).store
+      pub reads : (s : State) → Agree (get g) w.locals s.locals → Agree (get g) w.fields s.fields → get r.given r.id ≡ value_of (local_widths m) packet e s
+
+    pub record Listable (es : Exprs) (w : View) (g : Given) (r : Listed) : Type 0 where
+      pub grows : Grows g r.given
+      pub inside : Each (λ (v : ValueId). v.instruction < length r.given.code) r.ids
+      pub store : (run r.given).store ≡ (run g).store
+      pub reads : (s : State) → Agree (get g) w.locals s.locals → Agree (get g) w.fields s.fields → map (get r.given) r.ids ≡ values_of (local_widths m) packet es s
+
+    -- one instruction that gives a number from those of a part
+    valued_emit : (p : Place) (work : Work) (e : ExprTree) (w : View) (g h : Given) → Grows g h → (run h).store ≡ (run g).store → change_of (run h).reads (run h).store work ≡ None
+        → ((s : State) → Agree (get g) w.locals s.locals → Agree (get g) w.fields s.fields → slice_index (results (run h).reads (lv h p.block) (run h).store packet work) 0 ≡ value_of (local_widths m) packet e s)
+        → Valuable e w g (give p work h)
+    valued_emit p work e w g h grows still none told = record {
+      grows = grows_trans g h (emit p work h) grows (grows_emit p work h);
+      inside = omega (arith, emit_length p work h);
+      store = emit_still p work h none ∙ still;
+      reads = λ s a a'. emit_reads p work h 0 ∙ told s a a';
+    }
+
+    mutual
+      pub expr_sound : (scope : List ℕ) (p : Place) (w : View) (e : ExprTree) (g : Given) → is_good_expr (local_widths m) scope e ≡ true → Knows scope w.locals → Shown (λ f. is_in_expr f e) w → Based g → Within g w → Valuable e w g (flat_expr (local_widths m) p w e g)
+      expr_sound scope p w (lit value width) g good kn sh b f =
+          valued_emit p (flat.const width value) (lit value width) w g g (grows_refl g) refl refl (λ s a a'. refl)
+      expr_sound scope p w (local x) g good kn sh b f = record {
+        grows = grows_refl g;
+        inside = range_at (length g.code) (local_widths m) w.locals x (omega (arith, b.some)) f.locals;
+        store = refl;
+        reads = λ s a a'. agree_at (get g) w.locals s.locals x b.nought (known_at scope w.locals x kn good) a;
+      }
+      expr_sound scope p w (ExprTree.field h) g good kn sh b f = record {
+        grows = grows_refl g;
+        inside = range_at (length g.code) field_widths w.fields (field_index h) (omega (arith, b.some)) f.fields;
+        store = refl;
+        reads = λ s a a'. agree_at (get g) w.fields s.fields (field_index h) b.nought (sh h (eq-eqb (field_index h) (field_index h) refl)) a';
+      }
+      expr_sound scope p w (ExprTree.byte index) g good kn sh b f =
+          let r = flat_expr (local_widths m) p w index g in
+          let s = expr_sound scope p w index g (left _ _ good) kn sh b f in
+          valued_emit p (flat.byte r.id) (ExprTree.byte index) w g r.given s.grows s.store refl (λ st a a'. ap (slice_index packet.bytes) (s.reads st a a'))
+      expr_sound scope p w (ExprTree.shift op by arg) g good kn sh b f =
+          let r = flat_expr (local_widths m) p w arg g in
+          let s = expr_sound scope p w arg g (right _ (is_good_expr (local_widths m) scope arg) good) kn sh b f in
+          let width = width_of (local_widths m) arg in
+          valued_emit p (flat.shift op width r.id by) (ExprTree.shift op by arg) w g r.given s.grows s.store refl (λ st a a'. ap (λ n. operator_value op width (n ∷ by ∷ [])) (s.reads st a a'))
+      expr_sound scope p w (ExprTree.apply op width args) g good kn sh b f =
+          let r = flat_exprs (local_widths m) p w args g in
+          let s = exprs_sound scope p w args g (left (are_good_exprs (local_widths m) scope args) _ good) kn sh b f in
+          let gives = operation_gives op width r.ids (run r.given).reads (lv r.given p.block) (run r.given).store packet in
+          valued_emit p (operation op width r.ids) (ExprTree.apply op width args) w g r.given s.grows s.store gives.1
+          (λ st a a'. ap (λ l. slice_index l 0) gives.0 ∙ ap (operator_value op width) (s.reads st a a'))
+
+      pub exprs_sound : (scope : List ℕ) (p : Place) (w : View) (es : Exprs) (g : Given) → are_good_exprs (local_widths m) scope es ≡ true → Knows scope w.locals → Shown (λ f. is_in_exprs f es) w → Based g → Within g w → Listable es w g (flat_exprs (local_widths m) p w es g)
+      exprs_sound scope p w no_expr g good kn sh b f = record { grows = grows_refl g; inside = tt; store = refl; reads = λ s a a'. refl }
+      exprs_sound scope p w (expr e es) g good kn sh b f =
+          let r = flat_expr (local_widths m) p w e g in
+          let s = expr_sound scope p w e g (left (is_good_expr (local_widths m) scope e) _ good) kn (λ h is. sh h (or_left (is_in_expr h e) (is_in_exprs h es) is)) b f in
+          let rest = flat_exprs (local_widths m) p w es r.given in
+          let f' = within_later g r.given w s.grows f in
+          let t = exprs_sound scope p w es r.given (right _ (are_good_exprs (local_widths m) scope es) good) kn (λ h is. sh h (or_right (is_in_expr h e) (is_in_exprs h es) is)) (based_later g r.given s.grows b) f' in
+          record {
+            grows = grows_trans g r.given rest.given s.grows t.grows;
+            inside = (omega (arith, s.inside, t.grows.longer), t.inside);
+            store = t.store ∙ s.store;
+            reads = λ st a a'.
+              ap (λ n. n ∷ map (get rest.given) rest.ids) (t.grows.keeps r.id s.inside ∙ s.reads st a a')
+              ∙ ap (λ l. value_of (local_widths m) packet e st ∷ l)
+              (t.reads st (agree_more (get g) (get r.given) (length g.code) (local_widths m) w.locals st.locals s.grows.keeps f.locals a) (agree_more (get g) (get r.given) (length g.code) field_widths w.fields st.fields s.grows.keeps f.fields a'));
+          }
