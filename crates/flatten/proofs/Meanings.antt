@@ -1,5 +1,5 @@
 -- What a piece of a flat program does is what its source does.
-use Rattle.std.proofs.Common.{◌≡◌, ◌≢◌, ℕ, zero, suc, ◌+◌, ◌<◌, ◌≤◌, ◌^◌, ◌%◌, ◌==◌, Bool, true, false, ◌&&◌, ◌||◌, cond, List, [], ◌∷◌, ◌++◌, map, length, get_or, Option, Some, None, is_some, refl, sym, ap, ◌∙◌, subst, arith, length-append, slice_index, slice_set, if◌then◌else◌, true≢false, eqb-true, eq-eqb, ne_eqb, lit<, ⊎_elim}
+use Rattle.std.proofs.Common.{◌≡◌, ◌≢◌, ℕ, zero, suc, ◌+◌, ◌<◌, ◌≤◌, ◌^◌, ◌%◌, ◌==◌, Bool, true, false, ◌&&◌, ◌||◌, cond, List, [], ◌∷◌, ◌++◌, map, length, get_or, Option, Some, None, is_some, refl, sym, ap, ◌∙◌, subst, arith, length-append, slice_index, slice_set, if◌then◌else◌, true≢false, eqb-true, eq-eqb, ne_eqb, lit<, ◌⊎◌, inl, inr, ⊎_elim}
 use Rattle.std.proofs.Math.ListN.{get_or-append}
 use Rattle.std.proofs.Math.Seq.{get_or-append_seam}
 use Rattle.std.proofs.Math.Nat.{mod-eq_of_lt}
@@ -10,6 +10,8 @@ use Rattle.gal_bits.specs.declared.op.Op.TheVariants.{Add, Sub, Mul, Div, Rem, A
 use Rattle.gal_bits.specs.Operators.{value_of as operator_value}
 use Rattle.packet_fields.specs.declared.field.Field.{Field}
 use Rattle.packet_fields.specs.declared.packet.Packet.{Packet}
+use Rattle.packet_fields.specs.declared.verdict.Verdict.{Verdict}
+use Rattle.packet_fields.specs.declared.verdict.Verdict.TheVariants.{Drop, Send}
 use Rattle.packet_fields.specs.Table.{row, all_fields, field_index}
 use Rattle.packet_fields.specs.Fields.{field_value}
 use Rattle.state_store.specs.Store.{Store}
@@ -17,7 +19,7 @@ use Rattle.element_lang.specs.Tree.{ExprTree, Exprs, StmtTree, BodyTree, Tree}
 use Rattle.element_lang.specs.Tree.ExprTree.{lit, local}
 use Rattle.element_lang.specs.Tree.Exprs.{no_expr, expr}
 use Rattle.element_lang.specs.Widths.{local_widths, width_of}
-use Rattle.element_lang.specs.Meaning.{State, value_of, values_of}
+use Rattle.element_lang.specs.Meaning.{State, Outcome, Running, Ended, then_do, with_fields, value_of, values_of}
 use Rattle.element_lang.specs.Rules.{is_good_expr, are_good_exprs}
 use Rattle.std.specs.List.{AllByRecursion as Each}
 use Rattle.flat_ir.specs.declared.program.ValueId.{ValueId}
@@ -35,6 +37,7 @@ use Rattle.flatten.specs.Occurs.{is_in_expr, is_in_exprs}
 use Rattle.flatten.proofs.BothParts.{left, right}
 use Rattle.flatten.proofs.Views.{Below, InRange, Meets, Agree, HasId, IsThere, range_more, range_at, range_set, meets_more, agree_more, agree_at, agree_set, there_set, there_new, Knows, known_at}
 use Rattle.flatten.proofs.Fitting.{AtWidths}
+use Rattle.flatten.proofs.KeptRuns.{Fits, FitsOutcome}
 
 -- ## Lines of blocks
 
@@ -82,6 +85,9 @@ set_other i rs reads v ne = cond-false (v.instruction == i) (slice_index rs v.re
 
 set_own : (i : ℕ) (rs : List ℕ) (reads : Reading) (v : ValueId) → v.instruction ≡ i → with_results i rs reads v ≡ slice_index rs v.result
 set_own i rs reads v e = cond-true (v.instruction == i) (slice_index rs v.result) (reads v) (eq-eqb v.instruction i e)
+
+zero_one : (n : ℕ) → n ≡ 0 → n ≡ 1 → ⊥
+zero_one n e e' = omega (arith, e, e')
 
 or_left : (a b : Bool) → a ≡ true → (a || b) ≡ true
 or_left true b e = refl
@@ -658,3 +664,284 @@ module _ (F : Program) (st0 : Store) (packet : Packet) where
               ∙ ap (λ l. value_of (local_widths m) packet e st ∷ l)
               (t.reads st (agree_more (get g) (get r.given) (length g.code) (local_widths m) w.locals st.locals s.grows.keeps f.locals a) (agree_more (get g) (get r.given) (length g.code) field_widths w.fields st.fields s.grows.keeps f.fields a'));
           }
+
+    -- ## How a run stands
+
+    -- a field that doesn't occur has its first value
+    abbrev pub Still : List ℕ → Type 0
+    Still us = (f : Field) → occurs f ≡ false → slice_index us (field_index f) ≡ field_value packet.bytes packet.port f
+
+    -- the source's run goes on, and the state stands for its variables
+    pub record Going (g : Given) (w : View) (s : State) : Type 0 where
+      pub fits : Fits m s
+      pub locals : Agree (get g) w.locals s.locals
+      pub fields : Agree (get g) w.fields s.fields
+      pub still : Still s.fields
+      pub ended : get g (ended_id w.ended) ≡ 0
+      pub send : get g w.send ≡ 0
+      pub store : (run g).store ≡ s.store
+
+    -- the packet leaves by this port as these bytes
+    pub record Leaves (g : Given) (w : View) (by : ℕ) (now : List ℕ) : Type 0 where
+      pub values : List ℕ
+      pub fits : AtWidths field_widths values
+      pub fields : Agree (get g) w.fields values
+      pub still : Still values
+      pub bytes : now ≡ with_fields all_fields values packet.bytes
+      pub send : get g w.send ≡ 1
+      pub port : get g w.port ≡ by
+      pub small : by < 2 ^ 8
+
+    abbrev pub Does : Given → View → Verdict → Type 0
+    Does g w Drop = get g w.send ≡ 0
+    Does g w (Send port bytes) = Leaves g w port bytes
+
+    -- the source's run has ended
+    pub record Gone (g : Given) (w : View) (st : Store) (verdict : Verdict) : Type 0 where
+      pub ended : get g (ended_id w.ended) ≡ 1
+      pub does : Does g w verdict
+      pub store : (run g).store ≡ st
+
+    abbrev pub Stands : Given → View → Outcome → Type 0
+    Stands g w (Running s) = Going g w s
+    Stands g w (Ended st verdict) = Gone g w st verdict
+
+    going_alike : (g : Given) (w : View) (g' : Given) (w' : View) (s : State) → Alike g w g' w' → Going g w s → Going g' w' s
+    going_alike g w g' w' s e z = record {
+      fits = z.fits;
+      locals = e.locals s.locals z.fits.locals z.locals;
+      fields = e.fields s.fields z.fits.fields z.fields;
+      still = z.still;
+      ended = e.ended 0 (lit< tt) z.ended;
+      send = e.send 0 (lit< tt) z.send;
+      store = e.store ∙ z.store;
+    }
+
+    does_alike : (g : Given) (w : View) (g' : Given) (w' : View) (verdict : Verdict) → Alike g w g' w' → Does g w verdict → Does g' w' verdict
+    does_alike g w g' w' Drop e z = e.send 0 (lit< tt) z
+    does_alike g w g' w' (Send port bytes) e z = record {
+      values = z.values;
+      fits = z.fits;
+      fields = e.fields z.values z.fits z.fields;
+      still = z.still;
+      bytes = z.bytes;
+      send = e.send 1 (lit< tt) z.send;
+      port = e.port port z.small z.port;
+      small = z.small;
+    }
+
+    gone_alike : (g : Given) (w : View) (g' : Given) (w' : View) (st : Store) (verdict : Verdict) → Alike g w g' w' → Gone g w st verdict → Gone g' w' st verdict
+    gone_alike g w g' w' st verdict e z =
+        record { ended = e.ended 1 (lit< tt) z.ended; does = does_alike g w g' w' verdict e z.does; store = e.store ∙ z.store }
+
+    pub stands_alike : (g : Given) (w : View) (g' : Given) (w' : View) (o : Outcome) → Alike g w g' w' → Stands g w o → Stands g' w' o
+    stands_alike g w g' w' (Running s) e z = going_alike g w g' w' s e z
+    stands_alike g w g' w' (Ended st verdict) e z = gone_alike g w g' w' st verdict e z
+
+    -- ## Pieces
+
+    abbrev pub Doing : Type 0
+    Doing = State → Outcome
+
+    -- a piece does what the source does where its block is live, and nothing to the store where it isn't
+    pub record Sound (p : Place) (g : Given) (w : View) (go : Doing) (r : At) : Type 0 where
+      pub grows : Grows g r.given
+      pub within : Within r.given r.view
+      pub keeps : Keeps w r.view
+      pub dead : InBlocks r.given → Here g p.block → lv g p.block ≡ false → (run r.given).store ≡ (run g).store
+      pub alive : InBlocks r.given → Here g p.block → lv g p.block ≡ true → (s : State) → Going g w s → Stands r.given r.view (go s)
+
+    -- and it leaves a run that has ended
+    pub record Carried (p : Place) (g : Given) (w : View) (go : Doing) (r : At) : Type 0 where
+      pub sound : Sound p g w go r
+      pub over : InBlocks r.given → Here g p.block → lv g p.block ≡ true → (st : Store) (verdict : Verdict) → Gone g w st verdict → Gone r.given r.view st verdict
+
+    -- the same of a piece in a block below, which is live where v has this polarity
+    pub record Side (p : Place) (v : ValueId) (polarity : Bool) (g : Given) (w : View) (go : Doing) (r : At) : Type 0 where
+      pub grows : Grows g r.given
+      pub within : Within r.given r.view
+      pub keeps : Keeps w r.view
+      pub dead : InBlocks r.given → Here g p.block → (same polarity (is_on (get g v)) && lv g p.block) ≡ false → (run r.given).store ≡ (run g).store
+      pub alive : InBlocks r.given → Here g p.block → (same polarity (is_on (get g v)) && lv g p.block) ≡ true → (s : State) → Going g w s → Stands r.given r.view (go s)
+
+    going_opened : (p : Place) (v : ValueId) (polarity : Bool) (g : Given) (w : View) (s : State) → Going g w s → Going (opened p v polarity g) w s
+    going_opened p v polarity g w s z =
+        record { fits = z.fits; locals = z.locals; fields = z.fields; still = z.still; ended = z.ended; send = z.send; store = z.store }
+
+    side_sound : (p : Place) (v : ValueId) (polarity : Bool) (g : Given) (w : View) (go : Doing) (r : At) → p.block ≤ length g.blocks → v.instruction < length g.code → Sound (below p g) (opened p v polarity g) w go r → Side p v polarity g w go r
+    side_sound p v polarity g w go r le lt s =
+        let o = opened p v polarity g in
+        record {
+          grows = grows_trans g o r.given (grows_open p v polarity g le) s.grows;
+          within = s.within;
+          keeps = s.keeps;
+          dead = λ h here off.
+            let h' = in_before o r.given s.grows h in
+            s.dead h (here_open p v polarity g h' here lt) (open_live p v polarity g h' (run g).reads ∙ off);
+          alive = λ h here on st z.
+            let h' = in_before o r.given s.grows h in
+            s.alive h (here_open p v polarity g h' here lt) (open_live p v polarity g h' (run g).reads ∙ on) st (going_opened p v polarity g w st z);
+        }
+
+    side_empty : (p : Place) (v : ValueId) (polarity : Bool) (g : Given) (w : View) → Within g w → Side p v polarity g w Running (record { given = g; view = w })
+    side_empty p v polarity g w f =
+        record { grows = grows_refl g; within = f; keeps = keeps_refl w; dead = λ h here off. refl; alive = λ h here on s z. z }
+
+    off_first : (a b : Bool) → a ≡ false → (a && b) ≡ false
+    off_first a b e = ap (λ x. x && b) e
+
+    off_second : (a b : Bool) → b ≡ false → (a && b) ≡ false
+    off_second true b e = e
+    off_second false b e = refl
+
+    both_on : (a b : Bool) → a ≡ true → b ≡ true → (a && b) ≡ true
+    both_on a b e h = ap (λ x. x && b) e ∙ h
+
+    -- a condition is 0 or 1
+    bit_cases : (n : ℕ) → n < 2 ^ 1 → (n ≡ 0) ⊎ (n ≡ 1)
+    bit_cases zero lt = inl refl
+    bit_cases (suc zero) lt = inr refl
+    bit_cases (suc (suc n)) lt = absurd (omega (arith, lt))
+
+    -- a choice, from its condition and its sides
+    choose_sound : (p : Place) (g : Given) (w : View) (c : ExprTree) (x : Valued) (fa fb : Doing) (ra rb : At) → Based g → Within g w → ((s : State) → Fits m s → value_of (local_widths m) packet c s < 2 ^ 1) → Valuable c w g x
+        → Side p x.id true x.given w fa ra → Side p x.id false ra.given w fb rb
+        → Sound p g w (λ s. if value_of (local_widths m) packet c s == 0 then fb s else fa s) (join (local_widths m) p x.id ra.view rb)
+    choose_sound p g w c x fa fb ra rb base f small sx sa sb =
+        let v = x.id in
+        let k = p.block in
+        let j = join (local_widths m) p v ra.view rb in
+        let pxa = sa.grows in
+        let pab = sb.grows in
+        let pga = grows_trans g x.given ra.given sx.grows pxa in
+        let pgb = grows_trans g ra.given rb.given pga pab in
+        let lta : v.instruction < length ra.given.code = omega (arith, sx.inside, pxa.longer) in
+        let ltb : v.instruction < length rb.given.code = omega (arith, lta, pab.longer) in
+        let js = join_chosen p v ra.view rb (based_later g rb.given pgb base) ltb (within_later ra.given rb.given ra.view pab sa.within) sb.within in
+        let va : get ra.given v ≡ get x.given v = pxa.keeps v sx.inside in
+        let vb : get rb.given v ≡ get ra.given v = pab.keeps v lta in
+        let live_x : Here g k → lv x.given k ≡ lv g k = λ here. lv_later g x.given k sx.grows here in
+        let live_a : Here g k → lv ra.given k ≡ lv g k = λ here. lv_later g ra.given k pga here in
+        record {
+          grows = grows_trans g rb.given j.given pgb js.grows;
+          within = js.within;
+          keeps = js.keeps w sa.keeps sb.keeps;
+          dead = λ h here off.
+            let hb = in_before rb.given j.given js.grows h in
+            let ha = in_before ra.given rb.given pab hb in
+            js.store
+            ∙ sb.dead hb (here_later g ra.given k pga here) (off_second (same false (is_on (get ra.given v))) (lv ra.given k) (live_a here ∙ off))
+            ∙ sa.dead ha (here_later g x.given k sx.grows here) (off_second (same true (is_on (get x.given v))) (lv x.given k) (live_x here ∙ off))
+            ∙ sx.store;
+          alive = λ h here l s z.
+            let hb = in_before rb.given j.given js.grows h in
+            let ha = in_before ra.given rb.given pab hb in
+            let herex = here_later g x.given k sx.grows here in
+            let herea = here_later g ra.given k pga here in
+            let val : get x.given v ≡ value_of (local_widths m) packet c s = sx.reads s z.locals z.fields in
+            let at_x : Going x.given w s = going_alike g w x.given w s (alike_later g x.given w sx.grows f sx.store) z in
+            let fx = within_later g x.given w sx.grows f in
+            ⊎_elim
+            (λ zero.
+              let e : get x.given v ≡ 0 = val ∙ zero in
+              let o = fb s in
+              let off = sa.dead ha herex (off_first (same true (is_on (get x.given v))) (lv x.given k) (ap (λ n. same true (is_on n)) e)) in
+              let at_a = going_alike x.given w ra.given w s (alike_later x.given ra.given w pxa fx off) at_x in
+              let s1 = sb.alive hb herea (both_on (same false (is_on (get ra.given v))) (lv ra.given k) (ap (λ n. same false (is_on n)) (va ∙ e)) (live_a here ∙ l)) s at_a in
+              subst (λ t. Stands j.given j.view (cond (t == 0) (fb s) (fa s))) (sym zero) (stands_alike rb.given rb.view j.given j.view o (js.second (vb ∙ va ∙ e)) s1))
+            (λ on.
+              let e : get x.given v ≡ 1 = val ∙ on in
+              let o = fa s in
+              let s1 = sa.alive ha herex (both_on (same true (is_on (get x.given v))) (lv x.given k) (ap (λ n. same true (is_on n)) e) (live_x here ∙ l)) s at_x in
+              let off = sb.dead hb herea (off_first (same false (is_on (get ra.given v))) (lv ra.given k) (ap (λ n. same false (is_on n)) (va ∙ e))) in
+              let s2 = stands_alike ra.given ra.view rb.given ra.view o (alike_later ra.given rb.given ra.view pab sa.within off) s1 in
+              subst (λ t. Stands j.given j.view (cond (t == 0) (fb s) (fa s))) (sym on) (stands_alike rb.given ra.view j.given j.view o (js.first (vb ∙ va ∙ e)) s2))
+            (bit_cases (value_of (local_widths m) packet c s) (small s z.fits));
+        }
+
+    -- ## What follows
+
+    then_stands : (g : Given) (w : View) (g' : Given) (w' : View) (go : Doing) (o : Outcome) → Stands g w o → ((s : State) → Going g w s → Stands g' w' (go s)) → ((st : Store) (verdict : Verdict) → Gone g w st verdict → Gone g' w' st verdict) → Stands g' w' (then_do o go)
+    then_stands g w g' w' go (Running s) z runs ends = runs s z
+    then_stands g w g' w' go (Ended st verdict) z runs ends = ends st verdict z
+
+    -- one piece and then another
+    both_sound : (p : Place) (g : Given) (w : View) (f go : Doing) (r r' : At) → Sound p g w f r → Carried p r.given r.view go r' → Sound p g w (λ s. then_do (f s) go) r'
+    both_sound p g w f go r r' a b =
+        let k = p.block in
+        let b' = b.sound in
+        record {
+          grows = grows_trans g r.given r'.given a.grows b'.grows;
+          within = b'.within;
+          keeps = keeps_trans w r.view r'.view a.keeps b'.keeps;
+          dead = λ h here off.
+            b'.dead h (here_later g r.given k a.grows here) (lv_later g r.given k a.grows here ∙ off) ∙ a.dead (in_before r.given r'.given b'.grows h) here off;
+          alive = λ h here l s z.
+            let here' = here_later g r.given k a.grows here in
+            let l' = lv_later g r.given k a.grows here ∙ l in
+            then_stands r.given r.view r'.given r'.view go (f s) (a.alive (in_before r.given r'.given b'.grows h) here l s z) (b'.alive h here' l') (b.over h here' l');
+        }
+
+    -- where no run has ended
+    carried_running : (p : Place) (g : Given) (w : View) (go : Doing) (r : At) → Based g → w.ended ≡ No → Sound p g w go r → Carried p g w go r
+    carried_running p g w go r base e s = record {
+      sound = s;
+      over = λ h here l st verdict z.
+        let off : get g (ended_id w.ended) ≡ 0 = ap (λ x. get g (ended_id x)) e ∙ base.nought in
+        absurd (zero_one (get g (ended_id w.ended)) off z.ended);
+    }
+
+    -- where every run has ended
+    carried_ended : (p : Place) (g : Given) (w : View) (go : Doing) → Based g → Within g w → w.ended ≡ Yes → Carried p g w go (record { given = g; view = w })
+    carried_ended p g w go base f e = record {
+      sound = record {
+        grows = grows_refl g;
+        within = f;
+        keeps = keeps_refl w;
+        dead = λ h here off. refl;
+        alive = λ h here l s z.
+          let on : get g (ended_id w.ended) ≡ 1 = ap (λ x. get g (ended_id x)) e ∙ base.one in
+          absurd (zero_one (get g (ended_id w.ended)) z.ended on);
+      };
+      over = λ h here l st verdict z. z;
+    }
+
+    does_ends : (g : Given) (w : View) (verdict : Verdict) → Does g w verdict → Does g (ends Yes w) verdict
+    does_ends g w Drop z = z
+    does_ends g w (Send port bytes) z =
+        record { values = z.values; fits = z.fits; fields = z.fields; still = z.still; bytes = z.bytes; send = z.send; port = z.port; small = z.small }
+
+    -- a run that may have ended
+    follow_carried : (p : Place) (u : ValueId) (g : Given) (w : View) (go : Doing) (rb : At) → Based g → Within g w → w.ended ≡ Maybe u → Side p u false g (ends No w) go rb → Carried p g w go (join (local_widths m) p u (ends Yes w) rb)
+    follow_carried p u g w go rb base f e sb =
+        let k = p.block in
+        let j = join (local_widths m) p u (ends Yes w) rb in
+        let pb = sb.grows in
+        let lt : u.instruction < length g.code = subst (λ (x : Ending). (ended_id x).instruction < length g.code) e f.ended in
+        let ltb : u.instruction < length rb.given.code = omega (arith, lt, pb.longer) in
+        let fy : Within g (ends Yes w) = within_ends g w Yes (omega (arith, base.some)) f in
+        let js = join_chosen p u (ends Yes w) rb (based_later g rb.given pb base) ltb (within_later g rb.given (ends Yes w) pb fy) sb.within in
+        let ub : get rb.given u ≡ get g u = pb.keeps u lt in
+        let is_u : get g (ended_id w.ended) ≡ get g u = ap (λ x. get g (ended_id x)) e in
+        let ky : Keeps w (ends Yes w) = record { locals = λ x h. h; fields = λ x h. h; fixed = λ h q. refl } in
+        let kn : Keeps w (ends No w) = record { locals = λ x h. h; fields = λ x h. h; fixed = λ h q. refl } in
+        record {
+          sound = record {
+            grows = grows_trans g rb.given j.given pb js.grows;
+            within = js.within;
+            keeps = js.keeps w ky (keeps_trans w (ends No w) rb.view kn sb.keeps);
+            dead = λ h here off.
+              js.store ∙ sb.dead (in_before rb.given j.given js.grows h) here (off_second (same false (is_on (get g u))) (lv g k) off);
+            alive = λ h here l s z.
+              let off : get g u ≡ 0 = sym is_u ∙ z.ended in
+              let z' : Going g (ends No w) s = record { fits = z.fits; locals = z.locals; fields = z.fields; still = z.still; ended = base.nought; send = z.send; store = z.store } in
+              let s1 = sb.alive (in_before rb.given j.given js.grows h) here (both_on (same false (is_on (get g u))) (lv g k) (ap (λ n. same false (is_on n)) off) l) s z' in
+              stands_alike rb.given rb.view j.given j.view (go s) (js.second (ub ∙ off)) s1;
+          };
+          over = λ h here l st verdict z.
+            let on : get g u ≡ 1 = sym is_u ∙ z.ended in
+            let still = sb.dead (in_before rb.given j.given js.grows h) here (off_first (same false (is_on (get g u))) (lv g k) (ap (λ n. same false (is_on n)) on)) in
+            let z' : Gone g (ends Yes w) st verdict = record { ended = base.one; does = does_ends g w verdict z.does; store = z.store } in
+            let s1 = gone_alike g (ends Yes w) rb.given (ends Yes w) st verdict (alike_later g rb.given (ends Yes w) pb fy still) z' in
+            gone_alike rb.given (ends Yes w) j.given j.view st verdict (js.first (ub ∙ on)) s1;
+        }
