@@ -30,7 +30,7 @@ AreRows keys values contents = (key there : List ℕ) → get contents key ≡ S
 no_rows : (keys values : List ℕ) → AreRows keys values empty
 no_rows keys values key there is = absurd (none_some there (sym (get-empty key_cmp key) ∙ is))
 
-is_equal : (o : Ordering) → is_eq o ≡ true → o ≡ Equal
+pub is_equal : (o : Ordering) → is_eq o ≡ true → o ≡ Equal
 is_equal Less e = absurd (true≢false (sym e))
 is_equal Equal e = refl
 is_equal Greater e = absurd (true≢false (sym e))

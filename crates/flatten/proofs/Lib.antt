@@ -11,3 +11,4 @@ pub mod KeptObjects
 pub mod KeptRuns
 pub mod Views
 pub mod Meanings
+pub mod Writes

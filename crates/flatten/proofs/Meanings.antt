@@ -14,7 +14,10 @@ use Rattle.packet_fields.specs.declared.verdict.Verdict.{Verdict}
 use Rattle.packet_fields.specs.declared.verdict.Verdict.TheVariants.{Drop, Send}
 use Rattle.packet_fields.specs.Table.{row, all_fields, field_index}
 use Rattle.packet_fields.specs.Fields.{field_value}
-use Rattle.state_store.specs.Store.{Store}
+use Rattle.state_store.specs.Store.{Store, object_at, looked_up}
+use Rattle.state_store.specs.Store as store
+use Rattle.element_lang.specs.Meaning as source
+use Rattle.flat_ir.specs.Run as flat_run
 use Rattle.element_lang.specs.Tree.{ExprTree, Exprs, StmtTree, BodyTree, Tree}
 use Rattle.element_lang.specs.Tree.ExprTree.{lit, local}
 use Rattle.element_lang.specs.Tree.Exprs.{no_expr, expr}
@@ -28,15 +31,19 @@ use Rattle.flat_ir.specs.Program as flat
 use Rattle.flat_ir.specs.Program.{Program, Step, Work, step_at}
 use Rattle.flat_ir.specs.Program.Work.{const, field, apply, shift, select, byte, look, put, del}
 use Rattle.flat_ir.specs.Blocks.{Reading, is_on, same, block_at, line, line_up, holds, is_live, HasLowParents}
-use Rattle.flat_ir.specs.Run.{Machine, Change, after, do_step, results, with_results, made, change_of, with_changes, start}
+use Rattle.flat_ir.specs.Run.{Machine, Change, after, do_step, results, with_results, made, change_of, put_change, del_change, with_changes, start}
 use Rattle.flatten.specs.declared.place.Place.{Place}
 use Rattle.flatten.specs.declared.place.Ending.{Ending}
 use Rattle.flatten.specs.declared.place.Ending.TheVariants.{No, Yes, Maybe}
-use Rattle.flatten.specs.Flatten.{Given, View, At, Valued, Listed, Scoped, Merged, EndedAt, Flattener, result_of, nought, one, nought_port, emit, give, opened, below, operation, same_id, merge_id, merge_option, merge_ids, field_widths, merge, merge_ended, ended_id, ends, select_ended, with_ended, join, follow, go_on, in_order, flat_expr, flat_exprs}
+use Rattle.flatten.specs.Flatten.{Given, View, At, Valued, Listed, Scoped, Merged, EndedAt, Flattener, result_of, nought, one, nought_port, emit, give, opened, below, operation, same_id, merge_id, merge_option, merge_ids, field_widths, merge, merge_ended, ended_id, ends, select_ended, with_ended, join, follow, go_on, in_order, flat_expr, flat_exprs, bound, bound_to, assigned}
 use Rattle.flatten.specs.Occurs.{is_in_expr, is_in_exprs}
 use Rattle.flatten.proofs.BothParts.{left, right}
-use Rattle.flatten.proofs.Views.{Below, InRange, Meets, Agree, HasId, IsThere, range_more, range_at, range_set, meets_more, agree_more, agree_at, agree_set, there_set, there_new, Knows, known_at}
-use Rattle.flatten.proofs.Fitting.{AtWidths}
+use Rattle.flatten.proofs.Views.{Below, InRange, Meets, Agree, HasId, IsThere, range_more, range_at, range_set, meets_more, agree_more, agree_at, agree_set, there_set, there_new, Knows, known_at, knows_later}
+use Rattle.flatten.proofs.Fitting.{AtWidths, at_place}
+use Rattle.flatten.proofs.FieldOrder.{at_index}
+use Rattle.flatten.proofs.Writes.{bit_same, put_tells, del_tells}
+use Rattle.std.proofs.lemmas.List.{get_or-set_other}
+use Rattle.packet_fields.specs.declared.field.Field.TheVariants.{MetaPort}
 use Rattle.flatten.proofs.KeptRuns.{Fits, FitsOutcome}
 
 -- ## Lines of blocks
@@ -149,6 +156,39 @@ same_ids a b e =
 
 same_itself : (a : ValueId) → same_id a a ≡ true
 same_itself a = ap (λ t. t && a.result == a.result) (eq-eqb a.instruction a.instruction refl) ∙ eq-eqb a.result a.result refl
+
+-- ## Locals that have the results of an instruction
+
+abbrev pub set_all : ℕ → ℕ → List ℕ → List (Option ValueId) → List (Option ValueId)
+set_all n j [] ids = ids
+set_all n j (x ∷ xs) ids = set_all n (suc j) xs (slice_set ids x (Some (result_of n j)))
+
+bound_all : (n j : ℕ) (xs : List ℕ) (w : View) → bound_to n j xs w ≡ record w { locals = set_all n j xs w.locals }
+bound_all n j [] w = refl
+bound_all n j (x ∷ xs) w = bound_all n (suc j) xs (bound x (result_of n j) w)
+
+range_all : (size : ℕ) (ws : List ℕ) (n : ℕ) → n < size → (j : ℕ) (xs : List ℕ) (ids : List (Option ValueId)) → InRange size ws ids → InRange size ws (set_all n j xs ids)
+range_all size ws n lt j [] ids r = r
+range_all size ws n lt j (x ∷ xs) ids r = range_all size ws n lt (suc j) xs (slice_set ids x (Some (result_of n j))) (range_set size ws ids x (result_of n j) lt r)
+
+there_all : (n j : ℕ) (xs : List ℕ) (ids : List (Option ValueId)) (y : ℕ) → IsThere ids y → IsThere (set_all n j xs ids) y
+there_all n j [] ids y h = h
+there_all n j (x ∷ xs) ids y h = there_all n (suc j) xs (slice_set ids x (Some (result_of n j))) y (there_set ids x y (result_of n j) h)
+
+-- these are in scope, and what was stays so
+knows_all : (scope : List ℕ) (n j : ℕ) (xs : List ℕ) (ids : List (Option ValueId)) → Knows scope ids → Knows (xs ++ scope) (set_all n j xs ids)
+knows_all scope n j [] ids k = k
+knows_all scope n j (x ∷ xs) ids k =
+    let ids' = slice_set ids x (Some (result_of n j)) in
+    (there_all n (suc j) xs ids' x (there_new ids x (result_of n j)), knows_all scope n (suc j) xs ids' (knows_later scope ids ids' (λ y h. there_set ids x y (result_of n j) h) k))
+
+agree_all : (f : ValueId → ℕ) (n : ℕ) (values : List ℕ) → ((i : ℕ) → f (result_of n (suc i)) ≡ slice_index values i) → (i j : ℕ) → j ≡ suc i → (xs : List ℕ) (ids : List (Option ValueId)) (us : List ℕ)
+    → Agree f ids us → Agree f (set_all n j xs ids) (source.bind_from i xs values us)
+agree_all f n values told i j e [] ids us a = a
+agree_all f n values told i j e (x ∷ xs) ids us a =
+    let next : suc j ≡ suc (i + 1) = omega (arith, e) in
+    agree_all f n values told (i + 1) (suc j) next xs (slice_set ids x (Some (result_of n j))) (slice_set us x (slice_index values i))
+    (agree_set f ids us x (result_of n j) (slice_index values i) (ap (λ k. f (result_of n k)) e ∙ told i) a)
 
 module _ (F : Program) (st0 : Store) (packet : Packet) where
   -- what is given so far, with all blocks that there will be
@@ -945,3 +985,237 @@ module _ (F : Program) (st0 : Store) (packet : Packet) where
             let s1 = gone_alike g (ends Yes w) rb.given (ends Yes w) st verdict (alike_later g rb.given (ends Yes w) pb fy still) z' in
             gone_alike rb.given (ends Yes w) j.given j.view st verdict (js.first (ub ∙ on)) s1;
         }
+
+    -- pieces of a scope, in any place
+    abbrev pub IsSound : List ℕ → Doing → Flattener → Type 0
+    IsSound scope go flat = (p : Place) (g : Given) (w : View) → p.block ≤ length g.blocks → Based g → Within g w → Knows scope w.locals → Shown occurs w → Sound p g w go (flat p g w)
+
+    abbrev pub IsCarried : List ℕ → Doing → Flattener → Type 0
+    IsCarried scope go flat = (p : Place) (g : Given) (w : View) → p.block ≤ length g.blocks → Based g → Within g w → Knows scope w.locals → Shown occurs w → Carried p g w go (flat p g w)
+
+    -- what is in scope behind a piece
+    abbrev pub Leads : List ℕ → List ℕ → Flattener → Type 0
+    Leads scope scope' flat = (p : Place) (g : Given) (w : View) → Knows scope w.locals → Keeps w (flat p g w).view → Knows scope' (flat p g w).view.locals
+
+    both_is_sound : (scope scope' : List ℕ) (f go : Doing) (first rest : Flattener) → IsSound scope f first → Leads scope scope' first → IsCarried scope' go rest
+        → IsSound scope (λ s. then_do (f s) go) (λ q h u. let r = first q h u in rest q r.given r.view)
+    both_is_sound scope scope' f go first rest sf leads sr p g w le base wi kn sh =
+        let r = first p g w in
+        let a = sf p g w le base wi kn sh in
+        both_sound p g w f go r (rest p r.given r.view) a
+        (sr p r.given r.view (omega (arith, le, a.grows.more)) (based_later g r.given a.grows base) a.within (leads p g w kn a.keeps) (λ h e. a.keeps.fields (field_index h) (sh h e)))
+
+    go_on_carried : (ending : Ending) (scope : List ℕ) (go : Doing) (flat : Flattener) → IsSound scope go flat
+        → (p : Place) (g : Given) (w : View) → w.ended ≡ ending → p.block ≤ length g.blocks → Based g → Within g w → Knows scope w.locals → Shown occurs w → Carried p g w go (go_on (local_widths m) ending p flat g w)
+    go_on_carried No scope go flat ih p g w e le base wi kn sh = carried_running p g w go (flat p g w) base e (ih p g w le base wi kn sh)
+    go_on_carried Yes scope go flat ih p g w e le base wi kn sh = carried_ended p g w go base wi e
+    go_on_carried (Maybe u) scope go flat ih p g w e le base wi kn sh =
+        let o = opened p u false g in
+        let q = below p g in
+        let w' = ends No w in
+        let po = grows_open p u false g le in
+        let lt : u.instruction < length g.code = subst (λ (x : Ending). (ended_id x).instruction < length g.code) e wi.ended in
+        let le' : suc (length g.blocks) ≤ length o.blocks = omega (arith, length-append g.blocks (record { parent = p.block; cond = u; polarity = false } ∷ [])) in
+        let wi' : Within o w' = within_later g o w' po (within_ends g w No (omega (arith, base.some)) wi) in
+        follow_carried p u g w go (flat q o w') base wi e (side_sound p u false g w' go (flat q o w') le lt (ih q o w' le' (based_later g o po base) wi' kn sh))
+
+    in_order_carried : (scope scope' : List ℕ) (f go : Doing) (first rest : Flattener) → IsSound scope f first → Leads scope scope' first → IsCarried scope' go rest → IsCarried scope (λ s. then_do (f s) go) (in_order (local_widths m) first rest)
+    in_order_carried scope scope' f go first rest sf leads sr p g w =
+        go_on_carried w.ended scope (λ s. then_do (f s) go) (λ q h u. let r = first q h u in rest q r.given r.view) (both_is_sound scope scope' f go first rest sf leads sr) p g w refl
+
+    nothing_carried : (p : Place) (g : Given) (w : View) → Within g w → Carried p g w Running (record { given = g; view = w })
+    nothing_carried p g w f = record {
+      sound = record { grows = grows_refl g; within = f; keeps = keeps_refl w; dead = λ h here off. refl; alive = λ h here l s z. z };
+      over = λ h here l st verdict z. z;
+    }
+
+    -- ## Statements
+
+    within_bound : (g : Given) (w : View) (x : ℕ) (id : ValueId) → id.instruction < length g.code → Within g w → Within g (bound x id w)
+    within_bound g w x id lt f =
+        record { locals = range_set (length g.code) (local_widths m) w.locals x id lt f.locals; fields = f.fields; send = f.send; port = f.port; ended = f.ended }
+
+    keeps_bound : (x : ℕ) (id : ValueId) (w : View) → Keeps w (bound x id w)
+    keeps_bound x id w = record { locals = λ y h. there_set w.locals x y id h; fields = λ y h. h; fixed = λ f e. refl }
+
+    -- a value comes to a local, and the store may change
+    going_bound : (g g' : Given) (w : View) (x : ℕ) (id : ValueId) (s : State) (u : ℕ) (st : Store) → Grows g g' → Within g w → Going g w s → get g' id ≡ u → (run g').store ≡ st
+        → Fits m (record { locals = slice_set s.locals x u; fields = s.fields; store = st }) → Going g' (bound x id w) (record { locals = slice_set s.locals x u; fields = s.fields; store = st })
+    going_bound g g' w x id s u st p f z is left fit = record {
+      fits = fit;
+      locals = agree_set (get g') w.locals s.locals x id u is (agree_more (get g) (get g') (length g.code) (local_widths m) w.locals s.locals p.keeps f.locals z.locals);
+      fields = agree_more (get g) (get g') (length g.code) field_widths w.fields s.fields p.keeps f.fields z.fields;
+      still = z.still;
+      ended = p.keeps (ended_id w.ended) f.ended ∙ z.ended;
+      send = p.keeps w.send f.send ∙ z.send;
+      store = left;
+    }
+
+    bind_sound : (p : Place) (g : Given) (w : View) (x : ℕ) (e : ExprTree) (r : Valued) → Within g w → Valuable e w g r → ((s : State) → Fits m s → Fits m (source.bound x (value_of (local_widths m) packet e s) s))
+        → Sound p g w (λ s. Running (source.bound x (value_of (local_widths m) packet e s) s)) (record { given = r.given; view = bound x r.id w })
+    bind_sound p g w x e r f v fit = record {
+      grows = v.grows;
+      within = within_bound r.given w x r.id v.inside (within_later g r.given w v.grows f);
+      keeps = keeps_bound x r.id w;
+      dead = λ h here off. v.store;
+      alive = λ h here l s z. going_bound g r.given w x r.id s (value_of (local_widths m) packet e s) s.store v.grows f z (v.reads s z.locals z.fields) (v.store ∙ z.store) (fit s z.fits);
+    }
+
+    -- fields in the same place are one
+    same_place : (f h : Field) → field_index f ≡ field_index h → f ≡ h
+    same_place f h e = sym (at_index f) ∙ ap (λ i. get_or all_fields i MetaPort) e ∙ at_index h
+
+    set_field_sound : (p : Place) (g : Given) (w : View) (f : Field) (e : ExprTree) (r : Valued) → Within g w → Valuable e w g r → (row f).writable ≡ true → occurs f ≡ true
+        → ((s : State) → Fits m s → value_of (local_widths m) packet e s < 2 ^ (row f).width) → ((s : State) → Fits m s → Fits m (source.assigned f (value_of (local_widths m) packet e s) s))
+        → Sound p g w (λ s. Running (source.assigned f (value_of (local_widths m) packet e s) s)) (record { given = r.given; view = assigned f r.id w })
+    set_field_sound p g w f e r wi v may occurs_f small fit =
+        let wi' = within_later g r.given w v.grows wi in
+        record {
+          grows = v.grows;
+          within = record { locals = wi'.locals; fields = range_set (length r.given.code) field_widths w.fields (field_index f) r.id v.inside wi'.fields; send = wi'.send; port = wi'.port; ended = wi'.ended };
+          keeps = record {
+            locals = λ y h. h;
+            fields = λ y h. there_set w.fields (field_index f) y r.id h;
+            fixed = λ h no. get_or-set_other w.fields (field_index f) (field_index h) (Some r.id) None
+                (λ same. true≢false (sym may ∙ ap (λ (k : Field). (row k).writable) (sym (same_place h f same)) ∙ no));
+          };
+          dead = λ h here off. v.store;
+          alive = λ h here l s z.
+            let value = value_of (local_widths m) packet e s in
+            let z' = going_alike g w r.given w s (alike_later g r.given w v.grows wi v.store) z in
+            let is : get r.given r.id ≡ value % 2 ^ (row f).width = v.reads s z.locals z.fields ∙ sym (mod-eq_of_lt (small s z.fits)) in
+            record {
+              fits = fit s z.fits;
+              locals = z'.locals;
+              fields = agree_set (get r.given) w.fields s.fields (field_index f) r.id (value % 2 ^ (row f).width) is z'.fields;
+              still = λ k no.
+                at_place (λ n. n ≡ field_value packet.bytes packet.port k) s.fields (field_index f) (value % 2 ^ (row f).width) (field_index k) (z.still k no)
+                (λ same. absurd (true≢false (sym occurs_f ∙ ap occurs (same_place f k same) ∙ no)));
+              ended = z'.ended;
+              send = z'.send;
+              store = z'.store;
+            };
+        }
+
+    map_later : (g g' : Given) (ids : List ValueId) → Grows g g' → Each (λ (v : ValueId). v.instruction < length g.code) ids → map (get g') ids ≡ map (get g) ids
+    map_later g g' [] p h = refl
+    map_later g g' (v ∷ ids) p h = ap (λ n. n ∷ map (get g') ids) (p.keeps v h.0) ∙ ap (λ l. get g v ∷ l) (map_later g g' ids p h.1)
+
+    put_sound : (p : Place) (g : Given) (w : View) (ok object : ℕ) (keys values : Exprs) (ks vs : Listed) → Within g w → Listable keys w g ks → Listable values w ks.given vs
+        → ((s : State) → Fits m s → Fits m (source.stored ok object (values_of (local_widths m) packet keys s) (values_of (local_widths m) packet values s) s))
+        → Sound p g w (λ s. Running (source.stored ok object (values_of (local_widths m) packet keys s) (values_of (local_widths m) packet values s) s))
+            (record { given = emit p (flat.put object ks.ids vs.ids) vs.given; view = bound ok (result_of (length vs.given.code) 0) w })
+    put_sound p g w ok object keys values ks vs f sk sv fit =
+        let work = flat.put object ks.ids vs.ids in
+        let k = p.block in
+        let mm = run vs.given in
+        let o = emit p work vs.given in
+        let id = result_of (length vs.given.code) 0 in
+        let pv = grows_trans g ks.given vs.given sk.grows sv.grows in
+        let po = grows_trans g vs.given o pv (grows_emit p work vs.given) in
+        let inside : id.instruction < length o.code = omega (arith, emit_length p work vs.given) in
+        record {
+          grows = po;
+          within = within_bound o w ok id inside (within_later g o w po f);
+          keeps = keeps_bound ok id w;
+          dead = λ h here off.
+            emit_store p work vs.given ∙ ap (λ l. with_changes mm.store (made l (change_of mm.reads mm.store work))) (lv_later g vs.given k pv here ∙ off) ∙ sv.store ∙ sk.store;
+          alive = λ h here l s z.
+            let K = values_of (local_widths m) packet keys s in
+            let V = values_of (local_widths m) packet values s in
+            let lr : lv vs.given k ≡ true = lv_later g vs.given k pv here ∙ l in
+            let cs : mm.store ≡ s.store = sv.store ∙ sk.store ∙ z.store in
+            let ck : map mm.reads ks.ids ≡ K = map_later ks.given vs.given ks.ids sv.grows sk.inside ∙ sk.reads s z.locals z.fields in
+            let z1 = going_alike g w ks.given w s (alike_later g ks.given w sk.grows f sk.store) z in
+            let cv : map mm.reads vs.ids ≡ V = sv.reads s z1.locals z1.fields in
+            let changes : made (lv vs.given k) (put_change mm.store object (map mm.reads ks.ids) (map mm.reads vs.ids)) ≡ made true (put_change s.store object K V) =
+              ap (λ l. made l (put_change mm.store object (map mm.reads ks.ids) (map mm.reads vs.ids))) lr
+              ∙ ap (λ st. made true (put_change st object (map mm.reads ks.ids) (map mm.reads vs.ids))) cs
+              ∙ ap (λ key. made true (put_change s.store object key (map mm.reads vs.ids))) ck
+              ∙ ap (λ row. made true (put_change s.store object K row)) cv in
+            let tells = put_tells s.store object K V in
+            going_bound g o w ok id s _ _ po f z
+            (emit_reads p work vs.given 0 ∙ ap length changes ∙ tells.0)
+            (emit_store p work vs.given ∙ ap (with_changes mm.store) changes ∙ ap (λ st. with_changes st (made true (put_change s.store object K V))) cs ∙ tells.1)
+            (fit s z.fits);
+        }
+
+    del_sound : (p : Place) (g : Given) (w : View) (was object : ℕ) (keys : Exprs) (ks : Listed) → Within g w → Listable keys w g ks
+        → ((s : State) → Fits m s → Fits m (source.deleted was object (values_of (local_widths m) packet keys s) s))
+        → Sound p g w (λ s. Running (source.deleted was object (values_of (local_widths m) packet keys s) s))
+            (record { given = emit p (flat.del object ks.ids) ks.given; view = bound was (result_of (length ks.given.code) 0) w })
+    del_sound p g w was object keys ks f sk fit =
+        let work = flat.del object ks.ids in
+        let k = p.block in
+        let mm = run ks.given in
+        let o = emit p work ks.given in
+        let id = result_of (length ks.given.code) 0 in
+        let po = grows_trans g ks.given o sk.grows (grows_emit p work ks.given) in
+        let inside : id.instruction < length o.code = omega (arith, emit_length p work ks.given) in
+        record {
+          grows = po;
+          within = within_bound o w was id inside (within_later g o w po f);
+          keeps = keeps_bound was id w;
+          dead = λ h here off.
+            emit_store p work ks.given ∙ ap (λ l. with_changes mm.store (made l (change_of mm.reads mm.store work))) (lv_later g ks.given k sk.grows here ∙ off) ∙ sk.store;
+          alive = λ h here l s z.
+            let K = values_of (local_widths m) packet keys s in
+            let lr : lv ks.given k ≡ true = lv_later g ks.given k sk.grows here ∙ l in
+            let cs : mm.store ≡ s.store = sk.store ∙ z.store in
+            let ck : map mm.reads ks.ids ≡ K = sk.reads s z.locals z.fields in
+            let changes : made (lv ks.given k) (del_change mm.store object (map mm.reads ks.ids)) ≡ made true (del_change s.store object K) =
+              ap (λ l. made l (del_change mm.store object (map mm.reads ks.ids))) lr
+              ∙ ap (λ st. made true (del_change st object (map mm.reads ks.ids))) cs
+              ∙ ap (λ key. made true (del_change s.store object key)) ck in
+            let tells = del_tells s.store object K in
+            going_bound g o w was id s _ _ po f z
+            (emit_reads p work ks.given 0 ∙ ap length changes ∙ tells.0)
+            (emit_store p work ks.given ∙ ap (with_changes mm.store) changes ∙ ap (λ st. with_changes st (made true (del_change s.store object K))) cs ∙ tells.1)
+            (fit s z.fits);
+        }
+
+    look_sound : (p : Place) (g : Given) (w : View) (found : ℕ) (into : List ℕ) (object : ℕ) (keys : Exprs) (ks : Listed) → Within g w → Listable keys w g ks
+        → ((s : State) → Fits m s → Fits m (source.looked found into object (values_of (local_widths m) packet keys s) s))
+        → Sound p g w (λ s. Running (source.looked found into object (values_of (local_widths m) packet keys s) s))
+            (record { given = emit p (flat.look object ks.ids) ks.given; view = bound_to (length ks.given.code) 0 (found ∷ into) w })
+    look_sound p g w found into object keys ks f sk fit =
+        let work = flat.look object ks.ids in
+        let n = length ks.given.code in
+        let mm = run ks.given in
+        let o = emit p work ks.given in
+        let po = grows_trans g ks.given o sk.grows (grows_emit p work ks.given) in
+        let still : (run o).store ≡ (run g).store = emit_still p work ks.given refl ∙ sk.store in
+        let lt : n < length o.code = omega (arith, emit_length p work ks.given) in
+        let f' = within_later g o w po f in
+        subst (λ v. Sound p g w (λ s. Running (source.looked found into object (values_of (local_widths m) packet keys s) s)) (record { given = o; view = v })) (sym (bound_all n 0 (found ∷ into) w))
+        (record {
+          grows = po;
+          within = record { locals = range_all (length o.code) (local_widths m) n lt 0 (found ∷ into) w.locals f'.locals; fields = f'.fields; send = f'.send; port = f'.port; ended = f'.ended };
+          keeps = record { locals = λ y h. there_all n 0 (found ∷ into) w.locals y h; fields = λ y h. h; fixed = λ h e. refl };
+          dead = λ h here off. still;
+          alive = λ h here l s z.
+            let K = values_of (local_widths m) packet keys s in
+            let cs : mm.store ≡ s.store = sk.store ∙ z.store in
+            let ck : map mm.reads ks.ids ≡ K = sk.reads s z.locals z.fields in
+            let z' = going_alike g w o w s (alike_later g o w po f still) z in
+            let there : get o (result_of n 0) ≡ source.bit (is_some (store.look (object_at s.store object) K)) =
+              emit_reads p work ks.given 0
+              ∙ ap (λ st. flat_run.bit (is_some (store.look (object_at st object) (map mm.reads ks.ids)))) cs
+              ∙ ap (λ key. flat_run.bit (is_some (store.look (object_at s.store object) key))) ck
+              ∙ bit_same (is_some (store.look (object_at s.store object) K)) in
+            let told : (i : ℕ) → get o (result_of n (suc i)) ≡ slice_index (looked_up (object_at s.store object) K) i = λ i.
+              emit_reads p work ks.given (suc i)
+              ∙ ap (λ st. slice_index (looked_up (object_at st object) (map mm.reads ks.ids)) i) cs
+              ∙ ap (λ key. slice_index (looked_up (object_at s.store object) key) i) ck in
+            record {
+              fits = fit s z.fits;
+              locals = agree_all (get o) n (looked_up (object_at s.store object) K) told 0 1 refl into (slice_set w.locals found (Some (result_of n 0)))
+                  (slice_set s.locals found (source.bit (is_some (store.look (object_at s.store object) K))))
+                  (agree_set (get o) w.locals s.locals found (result_of n 0) (source.bit (is_some (store.look (object_at s.store object) K))) there z'.locals);
+              fields = z'.fields;
+              still = z'.still;
+              ended = z'.ended;
+              send = z'.send;
+              store = z'.store;
+            };
+        })
