@@ -1,5 +1,5 @@
 -- What a piece of a flat program does is what its source does.
-use Rattle.std.proofs.Common.{◌≡◌, ◌≢◌, ℕ, zero, suc, ◌+◌, ◌<◌, ◌≤◌, ◌^◌, ◌%◌, ◌==◌, Bool, true, false, ◌&&◌, ◌||◌, cond, List, [], ◌∷◌, ◌++◌, map, length, get_or, Option, Some, None, is_some, refl, sym, ap, ◌∙◌, subst, arith, length-append, slice_index, slice_set, if◌then◌else◌, true≢false, eqb-true, eq-eqb, ne_eqb, lit<, ◌⊎◌, inl, inr, ⊎_elim}
+use Rattle.std.proofs.Common.{◌≡◌, ◌≢◌, ℕ, zero, suc, ◌+◌, ◌<◌, ◌≤◌, ◌^◌, ◌%◌, ◌==◌, Bool, true, false, ◌&&◌, ◌||◌, cond, List, [], ◌∷◌, ◌++◌, map, length, get_or, Option, Some, None, is_some, refl, sym, ap, ◌∙◌, subst, arith, length-append, slice_index, slice_set, if◌then◌else◌, true≢false, eqb-true, leb-true, nat_le, eq-eqb, ne_eqb, lit<, ◌⊎◌, inl, inr, ⊎_elim}
 use Rattle.std.proofs.Math.ListN.{get_or-append}
 use Rattle.std.proofs.Math.Seq.{get_or-append_seam}
 use Rattle.std.proofs.Math.Nat.{mod-eq_of_lt}
@@ -22,8 +22,8 @@ use Rattle.element_lang.specs.Tree.{ExprTree, Exprs, StmtTree, BodyTree, Tree}
 use Rattle.element_lang.specs.Tree.ExprTree.{lit, local}
 use Rattle.element_lang.specs.Tree.Exprs.{no_expr, expr}
 use Rattle.element_lang.specs.Widths.{local_widths, width_of}
-use Rattle.element_lang.specs.Meaning.{State, Outcome, Running, Ended, then_do, with_fields, value_of, values_of}
-use Rattle.element_lang.specs.Rules.{is_good_expr, are_good_exprs}
+use Rattle.element_lang.specs.Meaning.{State, Outcome, Running, Ended, then_do, with_fields, value_of, values_of, turns, do_stmt, do_body}
+use Rattle.element_lang.specs.Rules.{is_good_expr, are_good_exprs, is_good_stmt, is_good_body, binds, is_empty, is_count, declared_in, declared_by}
 use Rattle.std.specs.List.{AllByRecursion as Each}
 use Rattle.flat_ir.specs.declared.program.ValueId.{ValueId}
 use Rattle.flat_ir.specs.declared.program.Block.{Block}
@@ -35,16 +35,17 @@ use Rattle.flat_ir.specs.Run.{Machine, Change, after, do_step, results, with_res
 use Rattle.flatten.specs.declared.place.Place.{Place}
 use Rattle.flatten.specs.declared.place.Ending.{Ending}
 use Rattle.flatten.specs.declared.place.Ending.TheVariants.{No, Yes, Maybe}
-use Rattle.flatten.specs.Flatten.{Given, View, At, Valued, Listed, Scoped, Merged, EndedAt, Flattener, result_of, nought, one, nought_port, emit, give, opened, below, operation, same_id, merge_id, merge_option, merge_ids, field_widths, merge, merge_ended, ended_id, ends, select_ended, with_ended, join, follow, go_on, in_order, flat_expr, flat_exprs, bound, bound_to, assigned}
-use Rattle.flatten.specs.Occurs.{is_in_expr, is_in_exprs}
+use Rattle.flatten.specs.Flatten.{Given, View, At, Valued, Listed, Scoped, Merged, EndedAt, Flattener, result_of, nought, one, nought_port, emit, give, opened, below, operation, same_id, merge_id, merge_option, merge_ids, field_widths, merge, merge_ended, ended_id, ends, select_ended, with_ended, join, follow, go_on, in_order, flat_expr, flat_exprs, bound, bound_to, assigned, finished, leave, looping, second_side, flat_turn, flat_turns, flat_stmt, flat_body}
+use Rattle.flatten.specs.Occurs.{same_field, is_in_expr, is_in_exprs, is_in_stmt, is_in_body}
 use Rattle.flatten.proofs.BothParts.{left, right}
-use Rattle.flatten.proofs.Views.{Below, InRange, Meets, Agree, HasId, IsThere, range_more, range_at, range_set, meets_more, agree_more, agree_at, agree_set, there_set, there_new, Knows, known_at, knows_later}
+use Rattle.flatten.proofs.Views.{Below, InRange, Meets, Agree, HasId, IsThere, range_more, range_at, range_set, meets_more, agree_more, agree_at, agree_set, there_set, there_new, Knows, known_at, knows_later, range_scope, agree_scope, there_scope}
 use Rattle.flatten.proofs.Fitting.{AtWidths, at_place}
 use Rattle.flatten.proofs.FieldOrder.{at_index}
 use Rattle.flatten.proofs.Writes.{bit_same, put_tells, del_tells}
 use Rattle.std.proofs.lemmas.List.{get_or-set_other}
 use Rattle.packet_fields.specs.declared.field.Field.TheVariants.{MetaPort}
-use Rattle.flatten.proofs.KeptRuns.{Fits, FitsOutcome}
+use Rattle.flatten.proofs.KeptRuns.{Fits, value_fits, bound_fits, stmt_fits}
+use Rattle.flat_ir.specs.Arrivals.{IsArrival}
 
 -- ## Lines of blocks
 
@@ -1219,3 +1220,212 @@ module _ (F : Program) (st0 : Store) (packet : Packet) where
               store = z'.store;
             };
         })
+
+    -- a local that goes out of scope
+    going_leave : (g : Given) (before : View) (n : ℕ) (w : View) (s : State) → InRange n (local_widths m) before.locals → Within g w → Going g w s → Going g (leave before w) s
+    going_leave g before n w s r f z = record {
+      fits = z.fits;
+      locals = agree_scope (get g) n (length g.code) (local_widths m) before.locals w.locals s.locals r f.locals z.locals;
+      fields = z.fields;
+      still = z.still;
+      ended = z.ended;
+      send = z.send;
+      store = z.store;
+    }
+
+    does_leave : (g : Given) (before : View) (w : View) (verdict : Verdict) → Does g w verdict → Does g (leave before w) verdict
+    does_leave g before w Drop z = z
+    does_leave g before w (Send port bytes) z =
+        record { values = z.values; fits = z.fits; fields = z.fields; still = z.still; bytes = z.bytes; send = z.send; port = z.port; small = z.small }
+
+    stands_leave : (g : Given) (before : View) (n : ℕ) (w : View) (o : Outcome) → InRange n (local_widths m) before.locals → Within g w → Stands g w o → Stands g (leave before w) o
+    stands_leave g before n w (Running s) r f z = going_leave g before n w s r f z
+    stands_leave g before n w (Ended st verdict) r f z = record { ended = z.ended; does = does_leave g before w verdict z.does; store = z.store }
+
+    -- one turn
+    turn_is_sound : (scope : List ℕ) (i x : ℕ) (go : Doing) (piece : Flattener) → slice_index (local_widths m) x ≡ 32 → i < 2 ^ 32 → IsCarried (x ∷ scope) go piece → IsSound scope (λ s. go (source.bound x i s)) (flat_turn i x piece)
+    turn_is_sound scope i x go piece wide small ih p g w le base wi kn sh =
+        let work = flat.const 32 i in
+        let n = give p work g in
+        let pn = grows_emit p work g in
+        let w1 = bound x n.id w in
+        let r = piece p n.given w1 in
+        let k = p.block in
+        let inside : n.id.instruction < length n.given.code = omega (arith, emit_length p work g) in
+        let kn1 : Knows (x ∷ scope) w1.locals = (there_new w.locals x n.id, knows_later scope w.locals w1.locals (λ y h. there_set w.locals x y n.id h) kn) in
+        let c = (ih p n.given w1 le (based_later g n.given pn base) (within_bound n.given w x n.id inside (within_later g n.given w pn wi)) kn1 sh).sound in
+        let pr = grows_trans g n.given r.given pn c.grows in
+        let same_store : (run n.given).store ≡ (run g).store = emit_still p work g refl in
+        let out = c.within in
+        record {
+          grows = pr;
+          within = record { locals = range_scope (length r.given.code) (local_widths m) w.locals r.view.locals (range_more (length g.code) (length r.given.code) (local_widths m) w.locals pr.longer wi.locals) out.locals; fields = out.fields; send = out.send; port = out.port; ended = out.ended };
+          keeps = record { locals = λ y h. there_scope w.locals r.view.locals y h (c.keeps.locals y (there_set w.locals x y n.id h)); fields = c.keeps.fields; fixed = c.keeps.fixed };
+          dead = λ h here off. c.dead h (here_later g n.given k pn here) (lv_later g n.given k pn here ∙ off) ∙ same_store;
+          alive = λ h here l s z.
+            let fit : Fits m (source.bound x i s) = bound_fits m x i s z.fits (subst (λ b. i < 2 ^ b) (sym wide) small) in
+            let z1 : Going n.given w1 (source.bound x i s) = going_bound g n.given w x n.id s i s.store pn wi z (emit_reads p work g 0) (same_store ∙ z.store) fit in
+            stands_leave r.given w (length g.code) r.view (go (source.bound x i s)) wi.locals out (c.alive h (here_later g n.given k pn here) (lv_later g n.given k pn here ∙ l) (source.bound x i s) z1);
+        }
+
+    turns_carried : (scope : List ℕ) (x : ℕ) (go : Doing) (flat : Flattener) → slice_index (local_widths m) x ≡ 32 → IsCarried (x ∷ scope) go flat → (n i : ℕ) → i + n ≤ 64 → IsCarried scope (turns n i x go) (flat_turns (local_widths m) n i x flat)
+    turns_carried scope x go flat wide ih zero i le = λ p g w below_le base wi kn sh. nothing_carried p g w wi
+    turns_carried scope x go flat wide ih (suc n) i le =
+        in_order_carried scope scope (λ s. go (source.bound x i s)) (turns n (suc i) x go) (flat_turn i x flat) (flat_turns (local_widths m) n (suc i) x flat)
+        (turn_is_sound scope i x go flat wide (omega (arith, le)) ih)
+        (λ p g w kn k. knows_later scope w.locals (flat_turn i x flat p g w).view.locals k.locals kn)
+        (turns_carried scope x go flat wide ih n (suc i) (omega (arith, le)))
+
+    side_of : (scope : List ℕ) (b : BodyTree) (p : Place) (v : ValueId) (polarity : Bool) (g : Given) (w : View) → p.block ≤ length g.blocks → Based g → Within g w → Knows scope w.locals → Shown occurs w → v.instruction < length g.code
+        → IsCarried scope (do_body (local_widths m) packet b) (flat_body (local_widths m) b) → Side p v polarity g w (do_body (local_widths m) packet b) (flat_body (local_widths m) b (below p g) (opened p v polarity g) w)
+    side_of scope b p v polarity g w le base wi kn sh lt ih =
+        let o = opened p v polarity g in
+        let po = grows_open p v polarity g le in
+        let le' : suc (length g.blocks) ≤ length o.blocks = omega (arith, length-append g.blocks (record { parent = p.block; cond = v; polarity = polarity } ∷ [])) in
+        side_sound p v polarity g w (do_body (local_widths m) packet b) (flat_body (local_widths m) b (below p g) o w) le lt
+        ((ih (below p g) o w le' (based_later g o po base) (within_later g o w po wi) kn sh).sound)
+
+    -- the second side, which opens no block where it is empty
+    second_of : (scope : List ℕ) (b : BodyTree) (p : Place) (v : ValueId) (g : Given) (w : View) → p.block ≤ length g.blocks → Based g → Within g w → Knows scope w.locals → Shown occurs w → v.instruction < length g.code
+        → IsCarried scope (do_body (local_widths m) packet b) (flat_body (local_widths m) b) → Side p v false g w (do_body (local_widths m) packet b) (second_side (is_empty b) p v (flat_body (local_widths m) b) g w)
+    second_of scope BodyTree.done p v g w le base wi kn sh lt ih = side_empty p v false g w wi
+    second_of scope (BodyTree.stmt t rest) p v g w le base wi kn sh lt ih = side_of scope (BodyTree.stmt t rest) p v false g w le base wi kn sh lt ih
+
+    send_sound : (p : Place) (g : Given) (w : View) (e : ExprTree) (r : Valued) → Based g → Within g w → Valuable e w g r → ((s : State) → Fits m s → value_of (local_widths m) packet e s < 2 ^ 8)
+        → Sound p g w (λ s. Ended s.store (Send (value_of (local_widths m) packet e s % 2 ^ 8) (with_fields all_fields s.fields packet.bytes))) (record { given = r.given; view = finished one r.id w })
+    send_sound p g w e r base wi v small =
+        let wi' = within_later g r.given w v.grows wi in
+        let base' = based_later g r.given v.grows base in
+        record {
+          grows = v.grows;
+          within = record { locals = wi'.locals; fields = wi'.fields; send = omega (arith, base'.some); port = v.inside; ended = omega (arith, base'.some) };
+          keeps = record { locals = λ y h. h; fields = λ y h. h; fixed = λ f h. refl };
+          dead = λ h here off. v.store;
+          alive = λ h here l s z.
+            let z' = going_alike g w r.given w s (alike_later g r.given w v.grows wi v.store) z in
+            let value = value_of (local_widths m) packet e s in
+            let cut : value % 2 ^ 8 ≡ value = mod-eq_of_lt (small s z.fits) in
+            record {
+              ended = base'.one;
+              does = record {
+                values = s.fields;
+                fits = z.fits.fields;
+                fields = z'.fields;
+                still = z.still;
+                bytes = refl;
+                send = base'.one;
+                port = v.reads s z.locals z.fields ∙ sym cut;
+                small = subst (λ n. n < 2 ^ 8) (sym cut) (small s z.fits);
+              };
+              store = z'.store;
+            };
+        }
+
+    drop_sound : (p : Place) (g : Given) (w : View) → Based g → Within g w → Sound p g w (λ s. Ended s.store Drop) (record { given = g; view = finished nought nought_port w })
+    drop_sound p g w base wi = record {
+      grows = grows_refl g;
+      within = record { locals = wi.locals; fields = wi.fields; send = omega (arith, base.some); port = omega (arith, base.some); ended = omega (arith, base.some) };
+      keeps = record { locals = λ y h. h; fields = λ y h. h; fixed = λ f h. refl };
+      dead = λ h here off. refl;
+      alive = λ h here l s z. record { ended = base.one; does = base.nought; store = z.store };
+    }
+
+    -- what is in scope behind a statement
+    knows_after : (t : StmtTree) (scope : List ℕ) → Leads scope (binds t ++ scope) (flat_stmt (local_widths m) t)
+    knows_after (StmtTree.let_local x e) scope p g w kn k =
+        let id = (flat_expr (local_widths m) p w e g).id in
+        (there_new w.locals x id, knows_later scope w.locals (slice_set w.locals x (Some id)) (λ y h. there_set w.locals x y id h) kn)
+    knows_after (StmtTree.assign x e) scope p g w kn k = knows_later scope w.locals _ k.locals kn
+    knows_after (StmtTree.set_field f e) scope p g w kn k = kn
+    knows_after (StmtTree.look found into object keys) scope p g w kn k =
+        let n = length (flat_exprs (local_widths m) p w keys g).given.code in
+        subst (λ (v : View). Knows (found ∷ (into ++ scope)) v.locals) (sym (bound_all n 0 (found ∷ into) w)) (knows_all scope n 0 (found ∷ into) w.locals kn)
+    knows_after (StmtTree.put ok object keys values) scope p g w kn k =
+        let id = result_of (length (flat_exprs (local_widths m) p w values (flat_exprs (local_widths m) p w keys g).given).given.code) 0 in
+        (there_new w.locals ok id, knows_later scope w.locals (slice_set w.locals ok (Some id)) (λ y h. there_set w.locals ok y id h) kn)
+    knows_after (StmtTree.del was object keys) scope p g w kn k =
+        let id = result_of (length (flat_exprs (local_widths m) p w keys g).given.code) 0 in
+        (there_new w.locals was id, knows_later scope w.locals (slice_set w.locals was (Some id)) (λ y h. there_set w.locals was y id h) kn)
+    knows_after (StmtTree.choose c first second) scope p g w kn k = knows_later scope w.locals _ k.locals kn
+    knows_after (StmtTree.repeat index count body) scope p g w kn k = knows_later scope w.locals _ k.locals kn
+    knows_after (StmtTree.send e) scope p g w kn k = kn
+    knows_after StmtTree.drop scope p g w kn k = kn
+
+    module _ (arrives : IsArrival packet) where
+      width_fits : (scope : List ℕ) (e : ExprTree) (width : ℕ) → is_good_expr (local_widths m) scope e ≡ true → width_of (local_widths m) e ≡ width → (s : State) → Fits m s → value_of (local_widths m) packet e s < 2 ^ width
+      width_fits scope e width good is s fit = subst (λ b. value_of (local_widths m) packet e s < 2 ^ b) is (value_fits m packet scope s arrives fit e good)
+
+      mutual
+        pub stmt_sound : (t : StmtTree) (scope : List ℕ) (next : ℕ) → is_good_stmt m scope next t ≡ true → ((f : Field) → is_in_stmt f t ≡ true → occurs f ≡ true) → IsSound scope (do_stmt (local_widths m) packet t) (flat_stmt (local_widths m) t)
+        stmt_sound (StmtTree.let_local x e) scope next good cov p g w le base wi kn sh =
+            bind_sound p g w x e (flat_expr (local_widths m) p w e g) wi
+            (expr_sound scope p w e g (left _ _ (left _ _ (left _ _ good))) kn (λ f h. sh f (cov f h)) base wi)
+            (λ s fit. stmt_fits m packet scope next (StmtTree.let_local x e) s arrives fit good)
+        stmt_sound (StmtTree.assign x e) scope next good cov p g w le base wi kn sh =
+            bind_sound p g w x e (flat_expr (local_widths m) p w e g) wi
+            (expr_sound scope p w e g (left _ _ (left _ _ good)) kn (λ f h. sh f (cov f h)) base wi)
+            (λ s fit. stmt_fits m packet scope next (StmtTree.assign x e) s arrives fit good)
+        stmt_sound (StmtTree.set_field f e) scope next good cov p g w le base wi kn sh =
+            let good_e = left _ _ (left _ _ good) in
+            set_field_sound p g w f e (flat_expr (local_widths m) p w e g) wi
+            (expr_sound scope p w e g good_e kn (λ h is. sh h (cov h (or_right (same_field h f) (is_in_expr h e) is))) base wi)
+            (right _ _ (left _ _ good))
+            (cov f (or_left (same_field f f) (is_in_expr f e) (eq-eqb (field_index f) (field_index f) refl)))
+            (width_fits scope e (row f).width good_e (eqb-true (width_of (local_widths m) e) (row f).width (right _ _ good)))
+            (λ s fit. stmt_fits m packet scope next (StmtTree.set_field f e) s arrives fit good)
+        stmt_sound (StmtTree.look found into object keys) scope next good cov p g w le base wi kn sh =
+            let three = left _ _ (left _ _ good) in
+            look_sound p g w found into object keys (flat_exprs (local_widths m) p w keys g) wi
+            (exprs_sound scope p w keys g (left _ _ (left _ _ (left _ _ three))) kn (λ f h. sh f (cov f h)) base wi)
+            (λ s fit. stmt_fits m packet scope next (StmtTree.look found into object keys) s arrives fit good)
+        stmt_sound (StmtTree.put ok object keys values) scope next good cov p g w le base wi kn sh =
+            let two = left _ _ (left _ _ (left _ _ (left _ _ (left _ _ (left _ _ good))))) in
+            let ks = flat_exprs (local_widths m) p w keys g in
+            let sk = exprs_sound scope p w keys g (left _ _ two) kn (λ f h. sh f (cov f (or_left (is_in_exprs f keys) (is_in_exprs f values) h))) base wi in
+            put_sound p g w ok object keys values ks (flat_exprs (local_widths m) p w values ks.given) wi sk
+            (exprs_sound scope p w values ks.given (right _ _ two) kn (λ f h. sh f (cov f (or_right (is_in_exprs f keys) (is_in_exprs f values) h))) (based_later g ks.given sk.grows base) (within_later g ks.given w sk.grows wi))
+            (λ s fit. stmt_fits m packet scope next (StmtTree.put ok object keys values) s arrives fit good)
+        stmt_sound (StmtTree.del was object keys) scope next good cov p g w le base wi kn sh =
+            let four = left _ _ (left _ _ good) in
+            del_sound p g w was object keys (flat_exprs (local_widths m) p w keys g) wi
+            (exprs_sound scope p w keys g (left _ _ (left _ _ (left _ _ four))) kn (λ f h. sh f (cov f h)) base wi)
+            (λ s fit. stmt_fits m packet scope next (StmtTree.del was object keys) s arrives fit good)
+        stmt_sound (StmtTree.choose c first second) scope next good cov p g w le base wi kn sh =
+            let three = left _ _ good in
+            let two = left _ _ three in
+            let good_c = left _ _ two in
+            let x = flat_expr (local_widths m) p w c g in
+            let sx = expr_sound scope p w c g good_c kn (λ f h. sh f (cov f (or_left (is_in_expr f c || is_in_body f first) (is_in_body f second) (or_left (is_in_expr f c) (is_in_body f first) h)))) base wi in
+            let bx = based_later g x.given sx.grows base in
+            let wx = within_later g x.given w sx.grows wi in
+            let lex : p.block ≤ length x.given.blocks = omega (arith, le, sx.grows.more) in
+            let ra = flat_body (local_widths m) first (below p x.given) (opened p x.id true x.given) w in
+            let sa = side_of scope first p x.id true x.given w lex bx wx kn sh sx.inside
+                (body_sound first scope next (right _ _ three) (λ f h. cov f (or_left (is_in_expr f c || is_in_body f first) (is_in_body f second) (or_right (is_in_expr f c) (is_in_body f first) h)))) in
+            let sb = second_of scope second p x.id ra.given w (omega (arith, lex, sa.grows.more)) (based_later x.given ra.given sa.grows bx) (within_later x.given ra.given w sa.grows wx) kn sh (omega (arith, sx.inside, sa.grows.longer))
+                (body_sound second scope (next + declared_by first) (right _ _ good) (λ f h. cov f (or_right (is_in_expr f c || is_in_body f first) (is_in_body f second) h))) in
+            choose_sound p g w c x (do_body (local_widths m) packet first) (do_body (local_widths m) packet second) ra (second_side (is_empty second) p x.id (flat_body (local_widths m) second) ra.given w) base wi
+            (width_fits scope c 1 good_c (eqb-true (width_of (local_widths m) c) 1 (right _ _ two))) sx sa sb
+        stmt_sound (StmtTree.repeat index count body) scope next good cov p g w le base wi kn sh =
+            let four = left _ _ (left _ _ (left _ _ good)) in
+            let times = left (is_count count) _ (left _ _ (left _ _ four)) in
+            let few : count ≤ 64 = leb-true count 64 (right _ (nat_le count 64) times) in
+            let c = turns_carried scope index (do_body (local_widths m) packet body) (flat_body (local_widths m) body) (eqb-true (slice_index (local_widths m) index) 32 (right _ _ four))
+                (body_sound body (index ∷ scope) (next + 1) (right _ _ good) cov) count 0 (omega (arith, few)) (looping p) g w le base wi kn sh in
+            let s = c.sound in
+            record { grows = s.grows; within = s.within; keeps = s.keeps; dead = s.dead; alive = s.alive }
+        stmt_sound (StmtTree.send e) scope next good cov p g w le base wi kn sh =
+            let good_e = left _ _ good in
+            send_sound p g w e (flat_expr (local_widths m) p w e g) base wi
+            (expr_sound scope p w e g good_e kn (λ f h. sh f (cov f h)) base wi)
+            (width_fits scope e 8 good_e (eqb-true (width_of (local_widths m) e) 8 (right _ _ good)))
+        stmt_sound StmtTree.drop scope next good cov p g w le base wi kn sh = drop_sound p g w base wi
+
+        pub body_sound : (b : BodyTree) (scope : List ℕ) (next : ℕ) → is_good_body m scope next b ≡ true → ((f : Field) → is_in_body f b ≡ true → occurs f ≡ true) → IsCarried scope (do_body (local_widths m) packet b) (flat_body (local_widths m) b)
+        body_sound BodyTree.done scope next good cov p g w le base wi kn sh = nothing_carried p g w wi
+        body_sound (BodyTree.stmt t b) scope next good cov p g w le base wi kn sh =
+            in_order_carried scope (binds t ++ scope) (do_stmt (local_widths m) packet t) (do_body (local_widths m) packet b) (flat_stmt (local_widths m) t) (flat_body (local_widths m) b)
+            (stmt_sound t scope next (left _ _ (left _ _ good)) (λ f h. cov f (or_left (is_in_stmt f t) (is_in_body f b) h)))
+            (knows_after t scope)
+            (body_sound b (binds t ++ scope) (next + declared_in t) (right _ _ good) (λ f h. cov f (or_right (is_in_stmt f t) (is_in_body f b) h)))
+            p g w le base wi kn sh
