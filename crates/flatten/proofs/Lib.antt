@@ -12,3 +12,4 @@ pub mod KeptRuns
 pub mod Views
 pub mod Meanings
 pub mod Writes
+pub mod Written
