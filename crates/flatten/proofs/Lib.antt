@@ -13,3 +13,4 @@ pub mod Views
 pub mod Meanings
 pub mod Writes
 pub mod Written
+pub mod Whole

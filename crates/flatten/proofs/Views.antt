@@ -37,7 +37,7 @@ IsThere [] x = Unit {0}
 IsThere (i ∷ is) zero = HasId i
 IsThere (i ∷ is) (suc x) = IsThere is x
 
-below_more : (n n' : ℕ) (i : Option ValueId) → n ≤ n' → Below n i → Below n' i
+pub below_more : (n n' : ℕ) (i : Option ValueId) → n ≤ n' → Below n i → Below n' i
 below_more n n' None le r = tt
 below_more n n' (Some v) le r = omega (arith, r, le)
 
