@@ -14,3 +14,8 @@ pub mod Meanings
 pub mod Writes
 pub mod Written
 pub mod Whole
+pub mod BitRows
+pub mod FieldList
+pub mod Places
+pub mod SetFields
+pub mod Alone
