@@ -26,10 +26,10 @@ own_row row s w n bits =
     ⊎_elim
     (λ before. replaced_before row s w (spelled row s w) n before)
     (λ from.
-      ⊎_elim
-      (λ below. replaced_inside row s w (spelled row s w) n from below ∙ own_bit row s w n bits from below)
-      (λ behind. replaced_behind row s w (spelled row s w) n behind)
-      (cases_lt n (s + w)))
+    ⊎_elim
+    (λ below. replaced_inside row s w (spelled row s w) n from below ∙ own_bit row s w n bits from below)
+    (λ behind. replaced_behind row s w (spelled row s w) n behind)
+    (cases_lt n (s + w)))
     (cases_lt n s)
 
 -- a number written over itself
@@ -37,7 +37,7 @@ own_number : (bytes : List ℕ) (s w : ℕ) → AreBytes bytes → with_number_a
 own_number bytes s w are =
     let row = replaced (bit_of bytes) s w (spelled (bit_of bytes) s w) in
     sym (is_bytes_of row bytes (length bytes) refl (λ i lt.
-      sym (spelled-same row (bit_of bytes) (8 * i) 8 (λ n from below. own_row (bit_of bytes) s w n (bit_of-lt bytes)) ∙ byte_of bytes i (are i))))
+    sym (spelled-same row (bit_of bytes) (8 * i) 8 (λ n from below. own_row (bit_of bytes) s w n (bit_of-lt bytes)) ∙ byte_of bytes i (are i))))
 
 own_by : (bytes : List ℕ) (f : Field) (port : ℕ) → AreBytes bytes → (o : Option ℕ) → place (shape_of bytes) f ≡ o → with_field bytes f (field_value bytes port f) ≡ bytes
 own_by bytes f port are None at = sym (with_field_absent bytes (shape_of bytes) f (field_value bytes port f) refl (sym at))

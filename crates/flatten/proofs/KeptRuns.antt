@@ -214,4 +214,3 @@ start_fits m st packet arrives kept = record {
   fields = fields_fit packet arrives;
   store = kept;
 }
-

@@ -82,8 +82,8 @@ low_more blocks b le low k lt =
     ⊎_elim
     (λ within. subst (λ (c : Block). c.parent ≤ k) (sym (get_or-append blocks (b ∷ []) blank k within)) (low k within))
     (λ past.
-      let last : k ≡ length blocks = omega (arith, past, lt, length-append blocks (b ∷ [])) in
-      subst (λ n. (block_at (blocks ++ b ∷ []) n).parent ≤ n) (sym last) (subst (λ (c : Block). c.parent ≤ length blocks) (sym (get_or-append_seam blocks b [] blank)) le))
+    let last : k ≡ length blocks = omega (arith, past, lt, length-append blocks (b ∷ [])) in
+    subst (λ n. (block_at (blocks ++ b ∷ []) n).parent ≤ n) (sym last) (subst (λ (c : Block). c.parent ≤ length blocks) (sym (get_or-append_seam blocks b [] blank)) le))
     (cases_lt k (length blocks))
 
 -- ## Single instructions
@@ -297,7 +297,7 @@ module _ (F : Program) (st0 : Store) (packet : Packet) where
   pub here_later : (g g' : Given) (k : ℕ) → Grows g g' → Here g k → Here g' k
   here_later g g' k p h = record {
     steady = λ r e.
-      h.steady r (λ v lt. e v (omega (arith, p.longer, lt)) ∙ p.keeps v lt) ∙ sym (h.steady (run g').reads p.keeps)
+        h.steady r (λ v lt. e v (omega (arith, p.longer, lt)) ∙ p.keeps v lt) ∙ sym (h.steady (run g').reads p.keeps);
   }
 
   pub lv_later : (g g' : Given) (k : ℕ) → Grows g g' → Here g k → lv g' k ≡ lv g k
@@ -313,10 +313,10 @@ module _ (F : Program) (st0 : Store) (packet : Packet) where
   pub here_open : (p : Place) (v : ValueId) (polarity : Bool) (g : Given) → InBlocks (opened p v polarity g) → Here g p.block → v.instruction < length g.code → Here (opened p v polarity g) (suc (length g.blocks))
   here_open p v polarity g h here lt = record {
     steady = λ r e.
-      open_live p v polarity g h r
-      ∙ ap (λ l. same polarity (is_on (r v)) && l) (here.steady r e)
-      ∙ ap (λ n. same polarity (is_on n) && lv g p.block) (e v lt)
-      ∙ sym (open_live p v polarity g h (run g).reads)
+        open_live p v polarity g h r
+        ∙ ap (λ l. same polarity (is_on (r v)) && l) (here.steady r e)
+        ∙ ap (λ n. same polarity (is_on n) && lv g p.block) (e v lt)
+        ∙ sym (open_live p v polarity g h (run g).reads);
   }
 
   -- the constants that come first are there
@@ -701,9 +701,9 @@ module _ (F : Program) (st0 : Store) (packet : Packet) where
             inside = (omega (arith, s.inside, t.grows.longer), t.inside);
             store = t.store ∙ s.store;
             reads = λ st a a'.
-              ap (λ n. n ∷ map (get rest.given) rest.ids) (t.grows.keeps r.id s.inside ∙ s.reads st a a')
-              ∙ ap (λ l. value_of (local_widths m) packet e st ∷ l)
-              (t.reads st (agree_more (get g) (get r.given) (length g.code) (local_widths m) w.locals st.locals s.grows.keeps f.locals a) (agree_more (get g) (get r.given) (length g.code) field_widths w.fields st.fields s.grows.keeps f.fields a'));
+                ap (λ n. n ∷ map (get rest.given) rest.ids) (t.grows.keeps r.id s.inside ∙ s.reads st a a')
+                ∙ ap (λ l. value_of (local_widths m) packet e st ∷ l)
+                (t.reads st (agree_more (get g) (get r.given) (length g.code) (local_widths m) w.locals st.locals s.grows.keeps f.locals a) (agree_more (get g) (get r.given) (length g.code) field_widths w.fields st.fields s.grows.keeps f.fields a'));
           }
 
     -- ## How a run stands
@@ -817,11 +817,11 @@ module _ (F : Program) (st0 : Store) (packet : Packet) where
           within = s.within;
           keeps = s.keeps;
           dead = λ h here off.
-            let h' = in_before o r.given s.grows h in
-            s.dead h (here_open p v polarity g h' here lt) (open_live p v polarity g h' (run g).reads ∙ off);
+              let h' = in_before o r.given s.grows h in
+              s.dead h (here_open p v polarity g h' here lt) (open_live p v polarity g h' (run g).reads ∙ off);
           alive = λ h here on st z.
-            let h' = in_before o r.given s.grows h in
-            s.alive h (here_open p v polarity g h' here lt) (open_live p v polarity g h' (run g).reads ∙ on) st (going_opened p v polarity g w st z);
+              let h' = in_before o r.given s.grows h in
+              s.alive h (here_open p v polarity g h' here lt) (open_live p v polarity g h' (run g).reads ∙ on) st (going_opened p v polarity g w st z);
         }
 
     side_empty : (p : Place) (v : ValueId) (polarity : Bool) (g : Given) (w : View) → Within g w → Side p v polarity g w Running (record { given = g; view = w })
@@ -868,36 +868,36 @@ module _ (F : Program) (st0 : Store) (packet : Packet) where
           within = js.within;
           keeps = js.keeps w sa.keeps sb.keeps;
           dead = λ h here off.
-            let hb = in_before rb.given j.given js.grows h in
-            let ha = in_before ra.given rb.given pab hb in
-            js.store
-            ∙ sb.dead hb (here_later g ra.given k pga here) (off_second (same false (is_on (get ra.given v))) (lv ra.given k) (live_a here ∙ off))
-            ∙ sa.dead ha (here_later g x.given k sx.grows here) (off_second (same true (is_on (get x.given v))) (lv x.given k) (live_x here ∙ off))
-            ∙ sx.store;
+              let hb = in_before rb.given j.given js.grows h in
+              let ha = in_before ra.given rb.given pab hb in
+              js.store
+              ∙ sb.dead hb (here_later g ra.given k pga here) (off_second (same false (is_on (get ra.given v))) (lv ra.given k) (live_a here ∙ off))
+              ∙ sa.dead ha (here_later g x.given k sx.grows here) (off_second (same true (is_on (get x.given v))) (lv x.given k) (live_x here ∙ off))
+              ∙ sx.store;
           alive = λ h here l s z.
-            let hb = in_before rb.given j.given js.grows h in
-            let ha = in_before ra.given rb.given pab hb in
-            let herex = here_later g x.given k sx.grows here in
-            let herea = here_later g ra.given k pga here in
-            let val : get x.given v ≡ value_of (local_widths m) packet c s = sx.reads s z.locals z.fields in
-            let at_x : Going x.given w s = going_alike g w x.given w s (alike_later g x.given w sx.grows f sx.store) z in
-            let fx = within_later g x.given w sx.grows f in
-            ⊎_elim
-            (λ zero.
+              let hb = in_before rb.given j.given js.grows h in
+              let ha = in_before ra.given rb.given pab hb in
+              let herex = here_later g x.given k sx.grows here in
+              let herea = here_later g ra.given k pga here in
+              let val : get x.given v ≡ value_of (local_widths m) packet c s = sx.reads s z.locals z.fields in
+              let at_x : Going x.given w s = going_alike g w x.given w s (alike_later g x.given w sx.grows f sx.store) z in
+              let fx = within_later g x.given w sx.grows f in
+              ⊎_elim
+              (λ zero.
               let e : get x.given v ≡ 0 = val ∙ zero in
               let o = fb s in
               let off = sa.dead ha herex (off_first (same true (is_on (get x.given v))) (lv x.given k) (ap (λ n. same true (is_on n)) e)) in
               let at_a = going_alike x.given w ra.given w s (alike_later x.given ra.given w pxa fx off) at_x in
               let s1 = sb.alive hb herea (both_on (same false (is_on (get ra.given v))) (lv ra.given k) (ap (λ n. same false (is_on n)) (va ∙ e)) (live_a here ∙ l)) s at_a in
               subst (λ t. Stands j.given j.view (cond (t == 0) (fb s) (fa s))) (sym zero) (stands_alike rb.given rb.view j.given j.view o (js.second (vb ∙ va ∙ e)) s1))
-            (λ on.
+              (λ on.
               let e : get x.given v ≡ 1 = val ∙ on in
               let o = fa s in
               let s1 = sa.alive ha herex (both_on (same true (is_on (get x.given v))) (lv x.given k) (ap (λ n. same true (is_on n)) e) (live_x here ∙ l)) s at_x in
               let off = sb.dead hb herea (off_first (same false (is_on (get ra.given v))) (lv ra.given k) (ap (λ n. same false (is_on n)) (va ∙ e))) in
               let s2 = stands_alike ra.given ra.view rb.given ra.view o (alike_later ra.given rb.given ra.view pab sa.within off) s1 in
               subst (λ t. Stands j.given j.view (cond (t == 0) (fb s) (fa s))) (sym on) (stands_alike rb.given ra.view j.given j.view o (js.first (vb ∙ va ∙ e)) s2))
-            (bit_cases (value_of (local_widths m) packet c s) (small s z.fits));
+              (bit_cases (value_of (local_widths m) packet c s) (small s z.fits));
         }
 
     -- ## What follows
@@ -916,11 +916,11 @@ module _ (F : Program) (st0 : Store) (packet : Packet) where
           within = b'.within;
           keeps = keeps_trans w r.view r'.view a.keeps b'.keeps;
           dead = λ h here off.
-            b'.dead h (here_later g r.given k a.grows here) (lv_later g r.given k a.grows here ∙ off) ∙ a.dead (in_before r.given r'.given b'.grows h) here off;
+              b'.dead h (here_later g r.given k a.grows here) (lv_later g r.given k a.grows here ∙ off) ∙ a.dead (in_before r.given r'.given b'.grows h) here off;
           alive = λ h here l s z.
-            let here' = here_later g r.given k a.grows here in
-            let l' = lv_later g r.given k a.grows here ∙ l in
-            then_stands r.given r.view r'.given r'.view go (f s) (a.alive (in_before r.given r'.given b'.grows h) here l s z) (b'.alive h here' l') (b.over h here' l');
+              let here' = here_later g r.given k a.grows here in
+              let l' = lv_later g r.given k a.grows here ∙ l in
+              then_stands r.given r.view r'.given r'.view go (f s) (a.alive (in_before r.given r'.given b'.grows h) here l s z) (b'.alive h here' l') (b.over h here' l');
         }
 
     -- where no run has ended
@@ -928,8 +928,8 @@ module _ (F : Program) (st0 : Store) (packet : Packet) where
     carried_running p g w go r base e s = record {
       sound = s;
       over = λ h here l st verdict z.
-        let off : get g (ended_id w.ended) ≡ 0 = ap (λ x. get g (ended_id x)) e ∙ base.nought in
-        absurd (zero_one (get g (ended_id w.ended)) off z.ended);
+          let off : get g (ended_id w.ended) ≡ 0 = ap (λ x. get g (ended_id x)) e ∙ base.nought in
+          absurd (zero_one (get g (ended_id w.ended)) off z.ended);
     }
 
     -- where every run has ended
@@ -941,8 +941,8 @@ module _ (F : Program) (st0 : Store) (packet : Packet) where
         keeps = keeps_refl w;
         dead = λ h here off. refl;
         alive = λ h here l s z.
-          let on : get g (ended_id w.ended) ≡ 1 = ap (λ x. get g (ended_id x)) e ∙ base.one in
-          absurd (zero_one (get g (ended_id w.ended)) z.ended on);
+            let on : get g (ended_id w.ended) ≡ 1 = ap (λ x. get g (ended_id x)) e ∙ base.one in
+            absurd (zero_one (get g (ended_id w.ended)) z.ended on);
       };
       over = λ h here l st verdict z. z;
     }
@@ -972,19 +972,19 @@ module _ (F : Program) (st0 : Store) (packet : Packet) where
             within = js.within;
             keeps = js.keeps w ky (keeps_trans w (ends No w) rb.view kn sb.keeps);
             dead = λ h here off.
-              js.store ∙ sb.dead (in_before rb.given j.given js.grows h) here (off_second (same false (is_on (get g u))) (lv g k) off);
+                js.store ∙ sb.dead (in_before rb.given j.given js.grows h) here (off_second (same false (is_on (get g u))) (lv g k) off);
             alive = λ h here l s z.
-              let off : get g u ≡ 0 = sym is_u ∙ z.ended in
-              let z' : Going g (ends No w) s = record { fits = z.fits; locals = z.locals; fields = z.fields; still = z.still; ended = base.nought; send = z.send; store = z.store } in
-              let s1 = sb.alive (in_before rb.given j.given js.grows h) here (both_on (same false (is_on (get g u))) (lv g k) (ap (λ n. same false (is_on n)) off) l) s z' in
-              stands_alike rb.given rb.view j.given j.view (go s) (js.second (ub ∙ off)) s1;
+                let off : get g u ≡ 0 = sym is_u ∙ z.ended in
+                let z' : Going g (ends No w) s = record { fits = z.fits; locals = z.locals; fields = z.fields; still = z.still; ended = base.nought; send = z.send; store = z.store } in
+                let s1 = sb.alive (in_before rb.given j.given js.grows h) here (both_on (same false (is_on (get g u))) (lv g k) (ap (λ n. same false (is_on n)) off) l) s z' in
+                stands_alike rb.given rb.view j.given j.view (go s) (js.second (ub ∙ off)) s1;
           };
           over = λ h here l st verdict z.
-            let on : get g u ≡ 1 = sym is_u ∙ z.ended in
-            let still = sb.dead (in_before rb.given j.given js.grows h) here (off_first (same false (is_on (get g u))) (lv g k) (ap (λ n. same false (is_on n)) on)) in
-            let z' : Gone g (ends Yes w) st verdict = record { ended = base.one; does = does_ends g w verdict z.does; store = z.store } in
-            let s1 = gone_alike g (ends Yes w) rb.given (ends Yes w) st verdict (alike_later g rb.given (ends Yes w) pb fy still) z' in
-            gone_alike rb.given (ends Yes w) j.given j.view st verdict (js.first (ub ∙ on)) s1;
+              let on : get g u ≡ 1 = sym is_u ∙ z.ended in
+              let still = sb.dead (in_before rb.given j.given js.grows h) here (off_first (same false (is_on (get g u))) (lv g k) (ap (λ n. same false (is_on n)) on)) in
+              let z' : Gone g (ends Yes w) st verdict = record { ended = base.one; does = does_ends g w verdict z.does; store = z.store } in
+              let s1 = gone_alike g (ends Yes w) rb.given (ends Yes w) st verdict (alike_later g rb.given (ends Yes w) pb fy still) z' in
+              gone_alike rb.given (ends Yes w) j.given j.view st verdict (js.first (ub ∙ on)) s1;
         }
 
     -- pieces of a scope, in any place
@@ -1082,20 +1082,20 @@ module _ (F : Program) (st0 : Store) (packet : Packet) where
           };
           dead = λ h here off. v.store;
           alive = λ h here l s z.
-            let value = value_of (local_widths m) packet e s in
-            let z' = going_alike g w r.given w s (alike_later g r.given w v.grows wi v.store) z in
-            let is : get r.given r.id ≡ value % 2 ^ (row f).width = v.reads s z.locals z.fields ∙ sym (mod-eq_of_lt (small s z.fits)) in
-            record {
-              fits = fit s z.fits;
-              locals = z'.locals;
-              fields = agree_set (get r.given) w.fields s.fields (field_index f) r.id (value % 2 ^ (row f).width) is z'.fields;
-              still = λ k no.
-                at_place (λ n. n ≡ field_value packet.bytes packet.port k) s.fields (field_index f) (value % 2 ^ (row f).width) (field_index k) (z.still k no)
-                (λ same. absurd (true≢false (sym occurs_f ∙ ap occurs (same_place f k same) ∙ no)));
-              ended = z'.ended;
-              send = z'.send;
-              store = z'.store;
-            };
+              let value = value_of (local_widths m) packet e s in
+              let z' = going_alike g w r.given w s (alike_later g r.given w v.grows wi v.store) z in
+              let is : get r.given r.id ≡ value % 2 ^ (row f).width = v.reads s z.locals z.fields ∙ sym (mod-eq_of_lt (small s z.fits)) in
+              record {
+                fits = fit s z.fits;
+                locals = z'.locals;
+                fields = agree_set (get r.given) w.fields s.fields (field_index f) r.id (value % 2 ^ (row f).width) is z'.fields;
+                still = λ k no.
+                    at_place (λ n. n ≡ field_value packet.bytes packet.port k) s.fields (field_index f) (value % 2 ^ (row f).width) (field_index k) (z.still k no)
+                    (λ same. absurd (true≢false (sym occurs_f ∙ ap occurs (same_place f k same) ∙ no)));
+                ended = z'.ended;
+                send = z'.send;
+                store = z'.store;
+              };
         }
 
     map_later : (g g' : Given) (ids : List ValueId) → Grows g g' → Each (λ (v : ValueId). v.instruction < length g.code) ids → map (get g') ids ≡ map (get g) ids
@@ -1105,7 +1105,7 @@ module _ (F : Program) (st0 : Store) (packet : Packet) where
     put_sound : (p : Place) (g : Given) (w : View) (ok object : ℕ) (keys values : Exprs) (ks vs : Listed) → Within g w → Listable keys w g ks → Listable values w ks.given vs
         → ((s : State) → Fits m s → Fits m (source.stored ok object (values_of (local_widths m) packet keys s) (values_of (local_widths m) packet values s) s))
         → Sound p g w (λ s. Running (source.stored ok object (values_of (local_widths m) packet keys s) (values_of (local_widths m) packet values s) s))
-            (record { given = emit p (flat.put object ks.ids vs.ids) vs.given; view = bound ok (result_of (length vs.given.code) 0) w })
+        (record { given = emit p (flat.put object ks.ids vs.ids) vs.given; view = bound ok (result_of (length vs.given.code) 0) w })
     put_sound p g w ok object keys values ks vs f sk sv fit =
         let work = flat.put object ks.ids vs.ids in
         let k = p.block in
@@ -1120,31 +1120,31 @@ module _ (F : Program) (st0 : Store) (packet : Packet) where
           within = within_bound o w ok id inside (within_later g o w po f);
           keeps = keeps_bound ok id w;
           dead = λ h here off.
-            emit_store p work vs.given ∙ ap (λ l. with_changes mm.store (made l (change_of mm.reads mm.store work))) (lv_later g vs.given k pv here ∙ off) ∙ sv.store ∙ sk.store;
+              emit_store p work vs.given ∙ ap (λ l. with_changes mm.store (made l (change_of mm.reads mm.store work))) (lv_later g vs.given k pv here ∙ off) ∙ sv.store ∙ sk.store;
           alive = λ h here l s z.
-            let K = values_of (local_widths m) packet keys s in
-            let V = values_of (local_widths m) packet values s in
-            let lr : lv vs.given k ≡ true = lv_later g vs.given k pv here ∙ l in
-            let cs : mm.store ≡ s.store = sv.store ∙ sk.store ∙ z.store in
-            let ck : map mm.reads ks.ids ≡ K = map_later ks.given vs.given ks.ids sv.grows sk.inside ∙ sk.reads s z.locals z.fields in
-            let z1 = going_alike g w ks.given w s (alike_later g ks.given w sk.grows f sk.store) z in
-            let cv : map mm.reads vs.ids ≡ V = sv.reads s z1.locals z1.fields in
-            let changes : made (lv vs.given k) (put_change mm.store object (map mm.reads ks.ids) (map mm.reads vs.ids)) ≡ made true (put_change s.store object K V) =
+              let K = values_of (local_widths m) packet keys s in
+              let V = values_of (local_widths m) packet values s in
+              let lr : lv vs.given k ≡ true = lv_later g vs.given k pv here ∙ l in
+              let cs : mm.store ≡ s.store = sv.store ∙ sk.store ∙ z.store in
+              let ck : map mm.reads ks.ids ≡ K = map_later ks.given vs.given ks.ids sv.grows sk.inside ∙ sk.reads s z.locals z.fields in
+              let z1 = going_alike g w ks.given w s (alike_later g ks.given w sk.grows f sk.store) z in
+              let cv : map mm.reads vs.ids ≡ V = sv.reads s z1.locals z1.fields in
+              let changes : made (lv vs.given k) (put_change mm.store object (map mm.reads ks.ids) (map mm.reads vs.ids)) ≡ made true (put_change s.store object K V) =
               ap (λ l. made l (put_change mm.store object (map mm.reads ks.ids) (map mm.reads vs.ids))) lr
               ∙ ap (λ st. made true (put_change st object (map mm.reads ks.ids) (map mm.reads vs.ids))) cs
               ∙ ap (λ key. made true (put_change s.store object key (map mm.reads vs.ids))) ck
               ∙ ap (λ row. made true (put_change s.store object K row)) cv in
-            let tells = put_tells s.store object K V in
-            going_bound g o w ok id s _ _ po f z
-            (emit_reads p work vs.given 0 ∙ ap length changes ∙ tells.0)
-            (emit_store p work vs.given ∙ ap (with_changes mm.store) changes ∙ ap (λ st. with_changes st (made true (put_change s.store object K V))) cs ∙ tells.1)
-            (fit s z.fits);
+              let tells = put_tells s.store object K V in
+              going_bound g o w ok id s _ _ po f z
+              (emit_reads p work vs.given 0 ∙ ap length changes ∙ tells.0)
+              (emit_store p work vs.given ∙ ap (with_changes mm.store) changes ∙ ap (λ st. with_changes st (made true (put_change s.store object K V))) cs ∙ tells.1)
+              (fit s z.fits);
         }
 
     del_sound : (p : Place) (g : Given) (w : View) (was object : ℕ) (keys : Exprs) (ks : Listed) → Within g w → Listable keys w g ks
         → ((s : State) → Fits m s → Fits m (source.deleted was object (values_of (local_widths m) packet keys s) s))
         → Sound p g w (λ s. Running (source.deleted was object (values_of (local_widths m) packet keys s) s))
-            (record { given = emit p (flat.del object ks.ids) ks.given; view = bound was (result_of (length ks.given.code) 0) w })
+        (record { given = emit p (flat.del object ks.ids) ks.given; view = bound was (result_of (length ks.given.code) 0) w })
     del_sound p g w was object keys ks f sk fit =
         let work = flat.del object ks.ids in
         let k = p.block in
@@ -1158,27 +1158,27 @@ module _ (F : Program) (st0 : Store) (packet : Packet) where
           within = within_bound o w was id inside (within_later g o w po f);
           keeps = keeps_bound was id w;
           dead = λ h here off.
-            emit_store p work ks.given ∙ ap (λ l. with_changes mm.store (made l (change_of mm.reads mm.store work))) (lv_later g ks.given k sk.grows here ∙ off) ∙ sk.store;
+              emit_store p work ks.given ∙ ap (λ l. with_changes mm.store (made l (change_of mm.reads mm.store work))) (lv_later g ks.given k sk.grows here ∙ off) ∙ sk.store;
           alive = λ h here l s z.
-            let K = values_of (local_widths m) packet keys s in
-            let lr : lv ks.given k ≡ true = lv_later g ks.given k sk.grows here ∙ l in
-            let cs : mm.store ≡ s.store = sk.store ∙ z.store in
-            let ck : map mm.reads ks.ids ≡ K = sk.reads s z.locals z.fields in
-            let changes : made (lv ks.given k) (del_change mm.store object (map mm.reads ks.ids)) ≡ made true (del_change s.store object K) =
+              let K = values_of (local_widths m) packet keys s in
+              let lr : lv ks.given k ≡ true = lv_later g ks.given k sk.grows here ∙ l in
+              let cs : mm.store ≡ s.store = sk.store ∙ z.store in
+              let ck : map mm.reads ks.ids ≡ K = sk.reads s z.locals z.fields in
+              let changes : made (lv ks.given k) (del_change mm.store object (map mm.reads ks.ids)) ≡ made true (del_change s.store object K) =
               ap (λ l. made l (del_change mm.store object (map mm.reads ks.ids))) lr
               ∙ ap (λ st. made true (del_change st object (map mm.reads ks.ids))) cs
               ∙ ap (λ key. made true (del_change s.store object key)) ck in
-            let tells = del_tells s.store object K in
-            going_bound g o w was id s _ _ po f z
-            (emit_reads p work ks.given 0 ∙ ap length changes ∙ tells.0)
-            (emit_store p work ks.given ∙ ap (with_changes mm.store) changes ∙ ap (λ st. with_changes st (made true (del_change s.store object K))) cs ∙ tells.1)
-            (fit s z.fits);
+              let tells = del_tells s.store object K in
+              going_bound g o w was id s _ _ po f z
+              (emit_reads p work ks.given 0 ∙ ap length changes ∙ tells.0)
+              (emit_store p work ks.given ∙ ap (with_changes mm.store) changes ∙ ap (λ st. with_changes st (made true (del_change s.store object K))) cs ∙ tells.1)
+              (fit s z.fits);
         }
 
     look_sound : (p : Place) (g : Given) (w : View) (found : ℕ) (into : List ℕ) (object : ℕ) (keys : Exprs) (ks : Listed) → Within g w → Listable keys w g ks
         → ((s : State) → Fits m s → Fits m (source.looked found into object (values_of (local_widths m) packet keys s) s))
         → Sound p g w (λ s. Running (source.looked found into object (values_of (local_widths m) packet keys s) s))
-            (record { given = emit p (flat.look object ks.ids) ks.given; view = bound_to (length ks.given.code) 0 (found ∷ into) w })
+        (record { given = emit p (flat.look object ks.ids) ks.given; view = bound_to (length ks.given.code) 0 (found ∷ into) w })
     look_sound p g w found into object keys ks f sk fit =
         let work = flat.look object ks.ids in
         let n = length ks.given.code in
@@ -1195,30 +1195,30 @@ module _ (F : Program) (st0 : Store) (packet : Packet) where
           keeps = record { locals = λ y h. there_all n 0 (found ∷ into) w.locals y h; fields = λ y h. h; fixed = λ h e. refl };
           dead = λ h here off. still;
           alive = λ h here l s z.
-            let K = values_of (local_widths m) packet keys s in
-            let cs : mm.store ≡ s.store = sk.store ∙ z.store in
-            let ck : map mm.reads ks.ids ≡ K = sk.reads s z.locals z.fields in
-            let z' = going_alike g w o w s (alike_later g o w po f still) z in
-            let there : get o (result_of n 0) ≡ source.bit (is_some (store.look (object_at s.store object) K)) =
+              let K = values_of (local_widths m) packet keys s in
+              let cs : mm.store ≡ s.store = sk.store ∙ z.store in
+              let ck : map mm.reads ks.ids ≡ K = sk.reads s z.locals z.fields in
+              let z' = going_alike g w o w s (alike_later g o w po f still) z in
+              let there : get o (result_of n 0) ≡ source.bit (is_some (store.look (object_at s.store object) K)) =
               emit_reads p work ks.given 0
               ∙ ap (λ st. flat_run.bit (is_some (store.look (object_at st object) (map mm.reads ks.ids)))) cs
               ∙ ap (λ key. flat_run.bit (is_some (store.look (object_at s.store object) key))) ck
               ∙ bit_same (is_some (store.look (object_at s.store object) K)) in
-            let told : (i : ℕ) → get o (result_of n (suc i)) ≡ slice_index (looked_up (object_at s.store object) K) i = λ i.
+              let told : (i : ℕ) → get o (result_of n (suc i)) ≡ slice_index (looked_up (object_at s.store object) K) i = λ i.
               emit_reads p work ks.given (suc i)
               ∙ ap (λ st. slice_index (looked_up (object_at st object) (map mm.reads ks.ids)) i) cs
               ∙ ap (λ key. slice_index (looked_up (object_at s.store object) key) i) ck in
-            record {
-              fits = fit s z.fits;
-              locals = agree_all (get o) n (looked_up (object_at s.store object) K) told 0 1 refl into (slice_set w.locals found (Some (result_of n 0)))
-                  (slice_set s.locals found (source.bit (is_some (store.look (object_at s.store object) K))))
-                  (agree_set (get o) w.locals s.locals found (result_of n 0) (source.bit (is_some (store.look (object_at s.store object) K))) there z'.locals);
-              fields = z'.fields;
-              still = z'.still;
-              ended = z'.ended;
-              send = z'.send;
-              store = z'.store;
-            };
+              record {
+                fits = fit s z.fits;
+                locals = agree_all (get o) n (looked_up (object_at s.store object) K) told 0 1 refl into (slice_set w.locals found (Some (result_of n 0)))
+                    (slice_set s.locals found (source.bit (is_some (store.look (object_at s.store object) K))))
+                    (agree_set (get o) w.locals s.locals found (result_of n 0) (source.bit (is_some (store.look (object_at s.store object) K))) there z'.locals);
+                fields = z'.fields;
+                still = z'.still;
+                ended = z'.ended;
+                send = z'.send;
+                store = z'.store;
+              };
         })
 
     -- a local that goes out of scope
@@ -1263,9 +1263,9 @@ module _ (F : Program) (st0 : Store) (packet : Packet) where
           keeps = record { locals = λ y h. there_scope w.locals r.view.locals y h (c.keeps.locals y (there_set w.locals x y n.id h)); fields = c.keeps.fields; fixed = c.keeps.fixed };
           dead = λ h here off. c.dead h (here_later g n.given k pn here) (lv_later g n.given k pn here ∙ off) ∙ same_store;
           alive = λ h here l s z.
-            let fit : Fits m (source.bound x i s) = bound_fits m x i s z.fits (subst (λ b. i < 2 ^ b) (sym wide) small) in
-            let z1 : Going n.given w1 (source.bound x i s) = going_bound g n.given w x n.id s i s.store pn wi z (emit_reads p work g 0) (same_store ∙ z.store) fit in
-            stands_leave r.given w (length g.code) r.view (go (source.bound x i s)) wi.locals out (c.alive h (here_later g n.given k pn here) (lv_later g n.given k pn here ∙ l) (source.bound x i s) z1);
+              let fit : Fits m (source.bound x i s) = bound_fits m x i s z.fits (subst (λ b. i < 2 ^ b) (sym wide) small) in
+              let z1 : Going n.given w1 (source.bound x i s) = going_bound g n.given w x n.id s i s.store pn wi z (emit_reads p work g 0) (same_store ∙ z.store) fit in
+              stands_leave r.given w (length g.code) r.view (go (source.bound x i s)) wi.locals out (c.alive h (here_later g n.given k pn here) (lv_later g n.given k pn here ∙ l) (source.bound x i s) z1);
         }
 
     turns_carried : (scope : List ℕ) (x : ℕ) (go : Doing) (flat : Flattener) → slice_index (local_widths m) x ≡ 32 → IsCarried (x ∷ scope) go flat → (n i : ℕ) → i + n ≤ 64 → IsCarried scope (turns n i x go) (flat_turns (local_widths m) n i x flat)
@@ -1302,23 +1302,23 @@ module _ (F : Program) (st0 : Store) (packet : Packet) where
           keeps = record { locals = λ y h. h; fields = λ y h. h; fixed = λ f h. refl };
           dead = λ h here off. v.store;
           alive = λ h here l s z.
-            let z' = going_alike g w r.given w s (alike_later g r.given w v.grows wi v.store) z in
-            let value = value_of (local_widths m) packet e s in
-            let cut : value % 2 ^ 8 ≡ value = mod-eq_of_lt (small s z.fits) in
-            record {
-              ended = base'.one;
-              does = record {
-                values = s.fields;
-                fits = z.fits.fields;
-                fields = z'.fields;
-                still = z.still;
-                bytes = refl;
-                send = base'.one;
-                port = v.reads s z.locals z.fields ∙ sym cut;
-                small = subst (λ n. n < 2 ^ 8) (sym cut) (small s z.fits);
+              let z' = going_alike g w r.given w s (alike_later g r.given w v.grows wi v.store) z in
+              let value = value_of (local_widths m) packet e s in
+              let cut : value % 2 ^ 8 ≡ value = mod-eq_of_lt (small s z.fits) in
+              record {
+                ended = base'.one;
+                does = record {
+                  values = s.fields;
+                  fits = z.fits.fields;
+                  fields = z'.fields;
+                  still = z.still;
+                  bytes = refl;
+                  send = base'.one;
+                  port = v.reads s z.locals z.fields ∙ sym cut;
+                  small = subst (λ n. n < 2 ^ 8) (sym cut) (small s z.fits);
+                };
+                store = z'.store;
               };
-              store = z'.store;
-            };
         }
 
     drop_sound : (p : Place) (g : Given) (w : View) → Based g → Within g w → Sound p g w (λ s. Ended s.store Drop) (record { given = g; view = finished nought nought_port w })
@@ -1401,9 +1401,9 @@ module _ (F : Program) (st0 : Store) (packet : Packet) where
             let lex : p.block ≤ length x.given.blocks = omega (arith, le, sx.grows.more) in
             let ra = flat_body (local_widths m) first (below p x.given) (opened p x.id true x.given) w in
             let sa = side_of scope first p x.id true x.given w lex bx wx kn sh sx.inside
-                (body_sound first scope next (right _ _ three) (λ f h. cov f (or_left (is_in_expr f c || is_in_body f first) (is_in_body f second) (or_right (is_in_expr f c) (is_in_body f first) h)))) in
+            (body_sound first scope next (right _ _ three) (λ f h. cov f (or_left (is_in_expr f c || is_in_body f first) (is_in_body f second) (or_right (is_in_expr f c) (is_in_body f first) h)))) in
             let sb = second_of scope second p x.id ra.given w (omega (arith, lex, sa.grows.more)) (based_later x.given ra.given sa.grows bx) (within_later x.given ra.given w sa.grows wx) kn sh (omega (arith, sx.inside, sa.grows.longer))
-                (body_sound second scope (next + declared_by first) (right _ _ good) (λ f h. cov f (or_right (is_in_expr f c || is_in_body f first) (is_in_body f second) h))) in
+            (body_sound second scope (next + declared_by first) (right _ _ good) (λ f h. cov f (or_right (is_in_expr f c || is_in_body f first) (is_in_body f second) h))) in
             choose_sound p g w c x (do_body (local_widths m) packet first) (do_body (local_widths m) packet second) ra (second_side (is_empty second) p x.id (flat_body (local_widths m) second) ra.given w) base wi
             (width_fits scope c 1 good_c (eqb-true (width_of (local_widths m) c) 1 (right _ _ two))) sx sa sb
         stmt_sound (StmtTree.repeat index count body) scope next good cov p g w le base wi kn sh =
@@ -1411,7 +1411,7 @@ module _ (F : Program) (st0 : Store) (packet : Packet) where
             let times = left (is_count count) _ (left _ _ (left _ _ four)) in
             let few : count ≤ 64 = leb-true count 64 (right _ (nat_le count 64) times) in
             let c = turns_carried scope index (do_body (local_widths m) packet body) (flat_body (local_widths m) body) (eqb-true (slice_index (local_widths m) index) 32 (right _ _ four))
-                (body_sound body (index ∷ scope) (next + 1) (right _ _ good) cov) count 0 (omega (arith, few)) (looping p) g w le base wi kn sh in
+            (body_sound body (index ∷ scope) (next + 1) (right _ _ good) cov) count 0 (omega (arith, few)) (looping p) g w le base wi kn sh in
             let s = c.sound in
             record { grows = s.grows; within = s.within; keeps = s.keeps; dead = s.dead; alive = s.alive }
         stmt_sound (StmtTree.send e) scope next good cov p g w le base wi kn sh =

@@ -72,10 +72,10 @@ module _ (F : Program) (st : Store) (packet : Packet) where
       let rest = give_fields body fs r.given in
       let b = all_came body fs r.given in
       let there_at : (i : ℕ) → i < suc (length fs) → is_in_body (get_or (f ∷ fs) i MetaPort) body ≡ true → IsThere (r.id ∷ rest.ids) i =
-        λ i. elim i as (λ i. i < suc (length fs) → is_in_body (get_or (f ∷ fs) i MetaPort) body ≡ true → IsThere (r.id ∷ rest.ids) i) [
-          zero ↦ λ lt e. a.there e
+      λ i. elim i as (λ i. i < suc (length fs) → is_in_body (get_or (f ∷ fs) i MetaPort) body ≡ true → IsThere (r.id ∷ rest.ids) i) [
+        | zero ↦ λ lt e. a.there e
         | suc j ↦ λ lt e. b.there j (omega (arith, lt)) e
-        ] in
+      ] in
       record {
         grows = grows_trans F st packet g r.given rest.given a.grows b.grows;
         inside = (below_more (length r.given.code) (length rest.given.code) r.id b.grows.longer a.inside, b.inside);
@@ -203,13 +203,13 @@ module _ (m : Tree) (st : Store) (packet : Packet) (good : is_good m ≡ true) (
           now = meets_index reads (end_of m).view.fields values x now;
           fixed = body_whole.keeps.fixed f;
           still = λ apart.
-            ⊎_elim
-            (λ yes_it.
+              ⊎_elim
+              (λ yes_it.
               let first = there_has (length g0.code) field_widths (arrived m).ids x came.inside (within_fields f) (shown f yes_it) in
               let second = there_has (length (end_of m).given.code) field_widths (end_of m).view.fields x body_whole.within.fields (within_fields f) (body_whole.keeps.fields x (shown f yes_it)) in
               absurd (apart first second))
-            (λ not_it. still f not_it)
-            (cases_Bool (occurs f));
+              (λ not_it. still f not_it)
+              (cases_Bool (occurs f));
         }
 
     pub writes_told : FieldsStandAlone packet.port → (by : ℕ) (now : List ℕ) → Leaves F st packet m occurs (end_of m).given (end_of m).view by now
@@ -217,11 +217,11 @@ module _ (m : Tree) (st : Store) (packet : Packet) (good : is_good m ≡ true) (
     writes_told alone by now z =
         let reads = get F st packet (end_of m).given in
         let before : Agree reads (arrived m).ids (map (field_value packet.bytes packet.port) all_fields)
-          = agree_more (get F st packet g0) reads (length g0.code) field_widths (arrived m).ids (map (field_value packet.bytes packet.port) all_fields) body_whole.grows.keeps came.inside came.meets in
+        = agree_more (get F st packet g0) reads (length g0.code) field_widths (arrived m).ids (map (field_value packet.bytes packet.port) all_fields) body_whole.grows.keeps came.inside came.meets in
         let places : HasPlaces packet.port alone reads (field_value packet.bytes packet.port) 0 (arrived m).ids (end_of m).view.fields z.values = λ f le.
-          let none : field_index f ≡ field_index f - 0 = omega arith in
-          subst (λ n. IsPlace packet.port alone reads (field_value packet.bytes packet.port) f (get_or (arrived m).ids n None) (get_or (end_of m).view.fields n None) (slice_index z.values (field_index f))) none
-          (field_place reads z.values before z.fields z.still alone f) in
+        let none : field_index f ≡ field_index f - 0 = omega arith in
+        subst (λ n. IsPlace packet.port alone reads (field_value packet.bytes packet.port) f (get_or (arrived m).ids n None) (get_or (end_of m).view.fields n None) (slice_index z.values (field_index f))) none
+        (field_place reads z.values before z.fields z.still alone f) in
         written_all packet.port alone reads (field_value packet.bytes packet.port) all_fields 0 (length g0.code) (length (end_of m).given.code) (arrived m).ids (end_of m).view.fields z.values packet.bytes all_counted
         came.inside body_whole.within.fields places arrives.bytes (λ f le. refl)
         ∙ sym z.bytes

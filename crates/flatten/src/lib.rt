@@ -3,6 +3,7 @@
 
 mod error;
 mod frame;
+mod laws;
 mod merge;
 mod occurs;
 mod output;
@@ -15,5 +16,6 @@ mod stretch;
 mod value;
 
 pub use error::FlatError;
+pub use laws::flattening_keeps_the_meaning;
 pub use program::flatten;
 pub use sizes::MAX_INSTRUCTIONS;
