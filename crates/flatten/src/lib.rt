@@ -3,6 +3,7 @@
 
 mod error;
 mod frame;
+mod laws;
 mod merge;
 mod occurs;
 mod output;
@@ -17,5 +18,6 @@ mod tests;
 mod value;
 
 pub use error::FlatError;
+pub use laws::flattening_keeps_the_meaning;
 pub use program::flatten;
 pub use sizes::MAX_INSTRUCTIONS;
