@@ -19,3 +19,4 @@ pub mod FieldList
 pub mod Places
 pub mod SetFields
 pub mod Alone
+mod Handed

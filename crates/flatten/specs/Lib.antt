@@ -3,3 +3,4 @@ pub mod Flatten
 pub mod Over
 pub mod Sized
 pub mod Pending
+pub mod Same

@@ -9,11 +9,13 @@ ghost use Rattle.flat_ir.specs.Program.Work.{const};
 ghost use Rattle.flatten.specs.Flatten as pure;
 ghost use Rattle.flatten.specs.Occurs.{is_in_body};
 ghost use Rattle.flatten.specs.Pending.{scoped};
+ghost use Rattle.flatten.specs.Same.{MeansTheSame};
 ghost use Rattle.flatten.specs.declared.sizes.TheConstants.{MAX_INSTRUCTIONS};
 ghost use Rattle.flatten.specs.declared.error.FlatError.TheVariants.{TooLarge};
 
 use crate::error::FlatError;
 use crate::frame::Frame;
+use crate::laws::flattening_keeps_the_meaning;
 use crate::occurs::Seen;
 use crate::output::Output;
 use crate::place::{Ending, Place};
@@ -116,13 +118,9 @@ fn push_all(
     }
 }
 
-/// The flat program of a middlebox.
-///
-/// It stops in front of the first statement before which more than 4,096 instructions are given, so turns of a repeat
-/// beyond that cost neither time nor memory. It recurses as deep as statements stand in one another, and not along a
-/// list of them.
+// The flat program of a middlebox.
 #[tactic(auto, using(crate::proofs::GoodSizes::good_sized))]
-pub fn flatten(alloc: Global, m: &Middlebox) -> Result<Flat, FlatError>
+fn built(alloc: Global, m: &Middlebox) -> Result<Flat, FlatError>
     requires good { IsTrue (is_good (tree m.now)) }
     ensures program { IfOk result (λ f. program_of f ≡ pure.flat_of (tree m.now)) }
     ensures few { IfOk result (λ f. length (program_of f).code ≤ MAX_INSTRUCTIONS) }
@@ -159,4 +157,21 @@ pub fn flatten(alloc: Global, m: &Middlebox) -> Result<Flat, FlatError>
             fields: changed,
         },
     })
+}
+
+/// The flat program of a middlebox.
+///
+/// It stops in front of the first statement before which more than 4,096 instructions are given, so turns of a repeat
+/// beyond that cost neither time nor memory. It recurses as deep as statements stand in one another, and not along a
+/// list of them.
+pub fn flatten(alloc: Global, m: &Middlebox) -> Result<Flat, FlatError>
+    requires good { IsTrue (is_good (tree m.now)) }
+    ensures program { IfOk result (λ f. program_of f ≡ pure.flat_of (tree m.now)) }
+    ensures few { IfOk result (λ f. length (program_of f).code ≤ 4096) }
+    ensures large { IfErr result (λ error.
+        error ≡ TooLarge → 4096 < length (pure.flat_of (tree m.now)).code) }
+    ensures meaning { IfOk result (λ f. MeansTheSame (program_of f) (tree m.now)) }
+{
+    flattening_keeps_the_meaning();
+    built(alloc, m)
 }

@@ -1,12 +1,10 @@
-use Rattle.std.proofs.Common.{◌≡◌, subst, ap, sym, ◌∙◌, true, rules, map}
-use Rattle.element_lang.specs.Rules.{is_good}
-use Rattle.element_lang.specs.View.{body_tree, tree}
-use Rattle.flatten.specs.Sized.{IsSizedBody}
-use Rattle.flatten.proofs.GoodSizes.{good_sized}
+use Rattle.element_lang.specs.View.{tree}
+use Rattle.flatten.proofs.Handed.{handed}
 use Rattle.flatten.proofs.program.flatten.Goals as goal
 
-pub body-requires-2-clause-sized : goal.body-requires-2-clause-sized
-body-requires-2-clause-sized c =
-    let good : is_good (tree c.args.m.now) ≡ true = search (rules, c.requires) in
-    subst (λ ss. IsSizedBody c.in_ok-frame.frame.locals.items (body_tree ss)) (sym c.deref-4.ensures.value)
-    (subst (λ ws. IsSizedBody ws (body_tree c.args.m.now.body.items)) (sym (c.in_ok-frame.ensures.locals ∙ ap (map (λ l. l.width)) c.as_slice.ensures)) (good_sized (tree c.args.m.now) good))
+pub returns-clause-meaning : goal.returns-clause-meaning
+returns-clause-meaning c =
+    let m = tree c.args.m.now in
+    handed m c.built.result
+    (λ st packet kept arrives. (c.flattening_keeps_the_meaning.ensures.store m st packet c.requires.good kept arrives, c.flattening_keeps_the_meaning.ensures.verdict m st packet c.requires.good kept arrives))
+    c.built.ensures.program
