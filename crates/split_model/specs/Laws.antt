@@ -21,18 +21,22 @@ pub record IsExact (f : Program) (split : List Part) (st tables : Store) (packet
 
 -- the carried values of a pass over any tables are those of the whole run over any store
 abbrev pub CarriedStand : Program → List Part → Store → Store → Packet → Type 0
-CarriedStand f split st tables packet = (v : ValueId) → is_carried split v.instruction ≡ true → pre_values f split tables packet v ≡ (flat_run f st packet).reads v
+CarriedStand f split st tables packet =
+    (v : ValueId) → is_carried split v.instruction ≡ true
+    → pre_values f split tables packet v ≡ (flat_run f st packet).reads v
 
 -- A packet that goes up with the numbers of a pass over any tables, through the server and down leaves the store, the changes and the
 -- verdict of the whole run from the server's store.
 pub record IsWhole (f : Program) (split : List Part) (st tables : Store) (packet : Packet) (up down : Reading) : Type 0 where
   pub store : (server_run f split up st packet).store ≡ flat_store f st packet
   pub changes : (server_run f split up st packet).changes ≡ flat_changes f st packet
-  pub verdict : IsHanded (crosses_down f split) (server_run f split up st packet).reads down → post_verdict f split (server_run f split up st packet).reads down tables packet ≡ flat_verdict f st packet
+  pub verdict : IsHanded (crosses_down f split) (server_run f split up st packet).reads down
+      → post_verdict f split (server_run f split up st packet).reads down tables packet ≡ flat_verdict f st packet
 
 -- Whether a packet is fast, and its verdict then, hang on what preprocessing reads of the store alone; and a run that changes no replicated
 -- object leaves what it reads.
 pub record IsShownAlone (f : Program) (split : List Part) (st : Store) (packet : Packet) : Type 0 where
   pub fast : (other : Store) → Shows f split other st → is_fast f split other packet ≡ is_fast f split st packet
-  pub verdict : (other : Store) → Shows f split other st → is_fast f split st packet ≡ true → flat_verdict f other packet ≡ flat_verdict f st packet
+  pub verdict : (other : Store) → Shows f split other st → is_fast f split st packet ≡ true
+      → flat_verdict f other packet ≡ flat_verdict f st packet
   pub leaves : replicated_changes f split (flat_changes f st packet) ≡ [] → Shows f split (flat_store f st packet) st

@@ -1,5 +1,6 @@
 -- What the parts of a split program compute.
-use Rattle.std.specs.Prelude.{◌≡◌, ℕ, zero, suc, ◌==◌, ◌%◌, ◌^◌, Bool, true, false, not, ◌&&◌, ◌||◌, List, [], length, Option, Some, None, if◌then◌else◌, slice_index}
+use Rattle.std.specs.Prelude.{◌≡◌, ℕ, zero, suc, ◌==◌, ◌%◌, ◌^◌, Bool, true, false, not, ◌&&◌, ◌||◌, List, [], length}
+use Rattle.std.specs.Prelude.{Option, Some, None, if◌then◌else◌, slice_index}
 use Rattle.packet_fields.specs.declared.packet.Packet.{Packet}
 use Rattle.packet_fields.specs.declared.verdict.Verdict.{Verdict}
 use Rattle.packet_fields.specs.declared.verdict.Verdict.TheVariants.{Drop, Send}
@@ -89,7 +90,8 @@ IsHanded crosses from to = (v : ValueId) → crosses v ≡ true → to v ≡ fro
 abbrev pub given_down : Program → List Part → Reading → Packet → Reading
 given_down f split down packet v =
     if crosses_down f split v then down v
-    else (if is_at_hand f split (step_at f v.instruction).work then slice_index (results nothing false [] packet (step_at f v.instruction).work) v.result else 0)
+    else (if is_at_hand f split (step_at f v.instruction).work
+    then slice_index (results nothing false [] packet (step_at f v.instruction).work) v.result else 0)
 
 abbrev pub post_values : Program → List Part → Reading → Store → Packet → Reading
 post_values f split down tables packet = pass f (post_stage split) (given_down f split down packet) tables packet
