@@ -4,5 +4,6 @@ pub mod Shown
 pub mod Crossing
 pub mod Layouts
 pub mod Counts
+pub mod Bounds
 pub mod Passes
 pub mod Laws
