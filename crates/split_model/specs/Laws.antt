@@ -8,7 +8,7 @@ use Rattle.flat_ir.specs.Blocks.{Reading}
 use Rattle.flat_ir.specs.Run.{flat_run, flat_store, flat_changes, flat_verdict}
 use Rattle.split_model.specs.declared.split.Part.{Part}
 use Rattle.split_model.specs.Split.{is_carried}
-use Rattle.split_model.specs.Crossing.{crosses_up, crosses_down}
+use Rattle.split_model.specs.Crossing.{crosses_down}
 use Rattle.split_model.specs.Passes.{pre_verdict, pre_values, is_fast, meets_rest, Shows, IsHanded, server_run, replicated_changes, post_verdict}
 
 -- Preprocessing finishes a packet exactly where it is fast over the store that the tables show, with the whole run's verdict; and a fast

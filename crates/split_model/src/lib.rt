@@ -2,7 +2,11 @@
 #![tactic(auto)]
 
 mod layout;
+mod layouts;
+mod shown;
 mod split;
 
 pub use layout::{Crossing, Layout};
+pub use layouts::{down_layout, up_layout};
+pub use shown::replicated;
 pub use split::{Part, Slow, Split};

@@ -1,0 +1,4 @@
+mod Constants
+mod Passing
+mod Steps
+mod Sums
