@@ -1,0 +1,71 @@
+-- The numbers of a program's values.
+use Rattle.std.proofs.Common.{◌≡◌, ℕ, zero, suc, ◌+◌, ◌-◌, ◌<◌, ◌≤◌, Bool, true, List, [], ◌∷◌, ◌++◌, get_or, length, map, refl, sym, ap, ◌∙◌, inl, inr, arith, length-append}
+use Rattle.std.specs.Prelude.{Some, slice_get, IsTrue}
+use Rattle.std.specs.List.{All, AllPairs, filter}
+use Rattle.std.proofs.lemmas.Bool.{cases_lt}
+use Rattle.std.proofs.lemmas.List.{get_or_append_left, get_or-append_right, get_or-append-add, get_or_push, get_or-map}
+use Rattle.std.proofs.lemmas.List.Elements.{All-map, All-filter}
+use Rattle.std.proofs.lemmas.List.Kept.{AllPairs-filter}
+use Rattle.std.proofs.lemmas.Option.{slice_get-get_or}
+use Rattle.flat_ir.specs.declared.program.ValueId.{ValueId}
+use Rattle.flat_ir.specs.Program.{Program, step_at, result_count, is_named}
+use Rattle.split_model.specs.declared.split.Part.{Part}
+use Rattle.split_model.specs.declared.layout.Crossing.{Crossing}
+use Rattle.split_model.specs.Layouts.{first_results, values_below, values_of, number_of, crossing}
+use Rattle.transfer_header.specs.Registers.{value_in, reads_of, FitsLayout, Holds}
+
+abbrev count_of : Program → ℕ → ℕ
+count_of f n = result_count f.objects (step_at f n).work
+
+length-first_results : (i n : ℕ) → length (first_results i n) ≡ n
+length-first_results i zero = refl
+length-first_results i (suc n) = length-append (first_results i n) (record { instruction = i; result = n } ∷ []) ∙ omega (arith, length-first_results i n)
+
+get_or-first_results : (i n j : ℕ) (d : ValueId) → j < n → get_or (first_results i n) j d ≡ record { instruction = i; result = j }
+get_or-first_results i zero j d below = absurd (omega arith)
+get_or-first_results i (suc n) j d below =
+    let last : ValueId = record { instruction = i; result = n } in
+    elim (cases_lt j n) [
+      | inl front ↦ get_or_append_left (first_results i n) (last ∷ []) d j (omega (arith, length-first_results i n)) ∙ get_or-first_results i n j d front
+      | inr back ↦ let same : n ≡ j = omega arith in
+          get_or_push (first_results i n) last d j (omega (arith, length-first_results i n)) ∙ ap (λ (k : ℕ). record { instruction = i; result = k }) same
+    ]
+
+length-values_below : (f : Program) (n : ℕ) → length (values_below f (suc n)) ≡ length (values_below f n) + count_of f n
+length-values_below f n =
+    length-append (values_below f n) (first_results n (count_of f n)) ∙ ap (λ k. length (values_below f n) + k) (length-first_results n (count_of f n))
+
+-- the value at a place has that number
+number-get_or : (f : Program) (n k : ℕ) (d : ValueId) → k < length (values_below f n) → number_of f (get_or (values_below f n) k d) ≡ k
+number-get_or f zero k d below = absurd (omega arith)
+number-get_or f (suc n) k d below =
+    let front : List ValueId = values_below f n in
+    let back : List ValueId = first_results n (count_of f n) in
+    elim (cases_lt k (length front)) [
+      | inl early ↦ ap (number_of f) (get_or_append_left front back d k early) ∙ number-get_or f n k d early
+      | inr late ↦
+          let here : get_or (front ++ back) k d ≡ record { instruction = n; result = k - length front } =
+              get_or-append_right front back (length front) k d refl late ∙ get_or-first_results n (count_of f n) (k - length front) d (omega (arith, length-values_below f n)) in
+          ap (number_of f) here ∙ omega arith
+    ]
+
+-- and each value stands at its number
+stands : (f : Program) (n i r : ℕ) (d : ValueId) → i < n → r < count_of f i
+    → (length (values_below f i) + r < length (values_below f n)) × (get_or (values_below f n) (length (values_below f i) + r) d ≡ record { instruction = i; result = r })
+stands f zero i r d within named = absurd (omega arith)
+stands f (suc n) i r d within named =
+    let front : List ValueId = values_below f n in
+    let back : List ValueId = first_results n (count_of f n) in
+    elim (cases_lt i n) [
+      | inl early ↦
+          let rest = stands f n i r d early named in
+          (omega (arith, rest.0, length-values_below f n), get_or_append_left front back d (length (values_below f i) + r) rest.0 ∙ rest.1)
+      | inr late ↦ last f n i r d (omega arith) named
+    ]
+  where
+    last : (f : Program) (n i r : ℕ) (d : ValueId) → n ≡ i → r < count_of f i
+        → (length (values_below f i) + r < length (values_below f (suc n))) × (get_or (values_below f (suc n)) (length (values_below f i) + r) d ≡ record { instruction = i; result = r })
+    last f n i r d refl named = (
+      omega (arith, length-values_below f n),
+      get_or-append-add (values_below f n) (first_results n (count_of f n)) r d ∙ get_or-first_results n (count_of f n) r d named,
+    )

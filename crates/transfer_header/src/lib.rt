@@ -1,0 +1,14 @@
+//! Frames: what goes up to the server with a packet, and what comes down with it.
+#![tactic(auto)]
+
+mod bits;
+mod frame;
+mod laws;
+mod registers;
+
+pub use frame::{Head, Malformed, pack_down, pack_up, unpack_down, unpack_up};
+pub use laws::{
+    frames_of_equal_values, frames_tell_their_parts, layouts_fit, registers_are_a_reading,
+    values_have_their_numbers,
+};
+pub use registers::Regs;
