@@ -1,11 +1,17 @@
-//! The limits of a split: the text of a limits file, read.
+//! What a split takes of the switch, and the limits that it has to keep.
 #![tactic(auto)]
 
+mod counting;
+mod exceeding;
 mod limits;
 mod reader;
+mod tally;
 
+pub use counting::{Counts, count};
+pub use exceeding::{LimitName, Over, first_exceeded};
 pub use limits::{Key, Limits, LimitsError};
 pub use reader::read_limits;
+pub use tally::Tally;
 
 #[cfg(test)]
 mod tests;
