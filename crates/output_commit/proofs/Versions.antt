@@ -1,10 +1,10 @@
 -- How the count of versions goes on by one command.
-use Rattle.std.proofs.Common.{◌≡◌, ◌≤◌, ◌<◌, ℕ, zero, suc, ◌+◌, List, [], ◌∷◌, length, take, Some, refl, ap, ◌∙◌, arith, get_or, sym, ◌^◌}
+use Rattle.std.proofs.Common.{◌≡◌, ◌≤◌, ◌<◌, ℕ, zero, suc, ◌+◌, List, [], ◌∷◌, ◌++◌, length, take, Some, refl, ap, ◌∙◌, arith, get_or, sym, ◌^◌}
 use Rattle.std.specs.Prelude.{slice_get}
 use Rattle.writeback_table.specs.declared.command.Command.{Command}
 use Rattle.writeback_table.specs.declared.command.Command.TheVariants.{Stage, On, Main, Off, Clear}
-use Rattle.writeback_table.specs.Commands.{ons}
-use Rattle.output_commit.specs.Commit.{counts_on, IsCounted}
+use Rattle.writeback_table.specs.Commands.{counts_on, ons}
+use Rattle.output_commit.specs.Commit.{Commit, IsInOrder, IsCounted}
 
 small : (c : Command) → counts_on c ≤ 1
 small (Stage u) = omega arith
@@ -30,28 +30,26 @@ there (c ∷ cs) zero d h = refl
 there (c ∷ cs) (suc n) d h = there cs n d (omega arith)
 
 -- one more command was applied
-pub one_applied : (cs : List Command) (sent done acked seen known : ℕ) (c : Command) (n : ℕ) → IsCounted cs sent done acked seen known → done < sent → c ≡ get_or cs done c → n ≡ counts_on c
-    → IsCounted cs sent (done + 1) acked (seen + n) known
-one_applied cs sent done acked seen known c n i lt e m =
-    let next = ons_next cs done c (there cs done c (omega (arith, i.sent_within)) ∙ ap Some (sym e)) in
+pub one_applied : (c : Commit) (seen known : ℕ) (d : Command) (n : ℕ) → IsCounted c seen known → c.done < c.sent → d ≡ get_or c.commands c.done d → n ≡ counts_on d
+    → IsCounted (record c { done = c.done + 1 }) (seen + n) known
+one_applied c seen known d n i lt e m =
+    let o = i.in_order in
+    let next = ons_next c.commands c.done d (there c.commands c.done d (omega (arith, o.sent_within)) ∙ ap Some (sym e)) in
     record {
-      sent_within = i.sent_within;
-      done_within = omega arith;
-      acked_within = omega (arith, i.acked_within);
+      in_order = record { acked_within = omega (arith, o.acked_within); done_within = omega arith; sent_within = o.sent_within };
       seen = omega (arith, i.seen, next, m);
       known = i.known;
       few = i.few;
     }
 
 -- one more was acknowledged
-pub one_acknowledged : (cs : List Command) (sent done acked seen known : ℕ) (c : Command) (n : ℕ) → IsCounted cs sent done acked seen known → acked < done → c ≡ get_or cs acked c → n ≡ counts_on c
-    → IsCounted cs sent done (acked + 1) seen (known + n)
-one_acknowledged cs sent done acked seen known c n i lt e m =
-    let next = ons_next cs acked c (there cs acked c (omega (arith, i.sent_within, i.done_within)) ∙ ap Some (sym e)) in
+pub one_acknowledged : (c : Commit) (seen known : ℕ) (d : Command) (n : ℕ) → IsCounted c seen known → c.acked < c.done → d ≡ get_or c.commands c.acked d → n ≡ counts_on d
+    → IsCounted (record c { acked = c.acked + 1 }) seen (known + n)
+one_acknowledged c seen known d n i lt e m =
+    let o = i.in_order in
+    let next = ons_next c.commands c.acked d (there c.commands c.acked d (omega (arith, o.sent_within, o.done_within)) ∙ ap Some (sym e)) in
     record {
-      sent_within = i.sent_within;
-      done_within = i.done_within;
-      acked_within = omega arith;
+      in_order = record { acked_within = omega arith; done_within = o.done_within; sent_within = o.sent_within };
       seen = i.seen;
       known = omega (arith, i.known, next, m);
       few = i.few;

@@ -32,11 +32,7 @@ pub fn batch_of(alloc: Global, updates: &[Update]) -> Result<Vec<Command>, NoMem
 }
 
 // Puts the commands of a group last, in the order of the changes.
-fn push_group(
-    batch: &mut Vec<Command>,
-    group: Group,
-    updates: &[Update],
-) -> Result<(), NoMemory>
+fn push_group(batch: &mut Vec<Command>, group: Group, updates: &[Update]) -> Result<(), NoMemory>
     ensures { OnOk result (batch.new.items ≡ batch.old.items ++ map (command_in group) updates.now) }
 {
     for update in updates {
