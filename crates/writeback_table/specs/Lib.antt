@@ -1,0 +1,4 @@
+pub mod Batches
+pub mod Commands
+pub mod Pair
+pub mod Staging
