@@ -1,4 +1,16 @@
+mod Below
+mod Carrying
 mod Constants
+mod Crossings
+mod Exactness
 mod Passing
+mod Posting
+mod Rules
+mod Served
+mod Serving
+mod Showing
+mod Sights
+mod Stages
 mod Steps
 mod Sums
+mod Wholes

@@ -1,11 +1,17 @@
 //! A flat program in three parts: what is done on the switch before the server, by the server, and on the switch after it.
 #![tactic(auto)]
 
+mod laws;
 mod layout;
 mod layouts;
 mod shown;
 mod split;
 
+pub use laws::{
+    a_server_reads_what_crosses, a_split_is_the_whole, carried_values_stand,
+    kept_stores_have_tables, postprocessing_reads_what_crosses, preprocessing_is_exact,
+    what_preprocessing_reads_is_all,
+};
 pub use layout::{Crossing, Layout};
 pub use layouts::{down_layout, up_layout};
 pub use shown::replicated;

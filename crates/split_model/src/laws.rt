@@ -1,0 +1,82 @@
+//! What holds of the parts of every legally split program, as the definitions give it. These functions do nothing:
+//! their contracts are the laws.
+ghost use Rattle.std.specs.Prelude.{List};
+ghost use Rattle.packet_fields.specs.declared.packet.Packet.{Packet};
+ghost use Rattle.state_store.specs.Kept.{IsKept};
+ghost use Rattle.state_store.specs.Store.{Store};
+ghost use Rattle.flat_ir.specs.Program.{Program};
+ghost use Rattle.flat_ir.specs.Blocks.{Reading};
+ghost use Rattle.flat_ir.specs.WellFormed.{HasTables, IsWellFormed};
+ghost use Rattle.split_model.specs.declared.split.Part.{Part};
+ghost use Rattle.split_model.specs.Crossing.{crosses_down, crosses_up, is_written_value};
+ghost use Rattle.split_model.specs.Legal.{IsLegal};
+ghost use Rattle.split_model.specs.Passes.{IsHanded, Shows, pre_values};
+ghost use Rattle.split_model.specs.Laws.{CarriedStand, IsExact, IsLoaded, IsShownAlone, IsWhole};
+ghost use Rattle.split_model.specs.Laws.{IsSentAlike, IsServedAlike};
+
+use flat_ir::{
+    a_run_goes_on, a_run_is_its_changes, a_run_is_its_values, a_run_keeps_the_tables,
+    lines_of_blocks, readings_that_agree,
+};
+use state_store::rows_change_alone;
+
+/// A store that keeps what was declared has the declared constant tables.
+pub fn kept_stores_have_tables()
+    ensures { (f : Program) (st : Store) → IsKept f.objects st → HasTables f st }
+{}
+
+/// Preprocessing over tables that show a store finishes exactly the packets that are fast over it, with their verdicts.
+pub fn preprocessing_is_exact()
+    ensures { (f : Program) (split : List Part) (st tables : Store) (packet : Packet) → IsWellFormed f → IsLegal f split → Shows f split tables st → IsExact f split st tables packet }
+{
+    a_run_is_its_values();
+    readings_that_agree();
+    lines_of_blocks();
+}
+
+/// Carried values hang on the packet and on the constant tables alone.
+pub fn carried_values_stand()
+    ensures { (f : Program) (split : List Part) (st tables : Store) (packet : Packet) → IsWellFormed f → IsLegal f split → HasTables f st → IsLoaded f split tables → CarriedStand f split st tables packet }
+{
+    a_run_is_its_values();
+    a_run_keeps_the_tables();
+    readings_that_agree();
+}
+
+/// The server's run hangs on what is handed up alone: on no number of a value that doesn't cross.
+pub fn a_server_reads_what_crosses()
+    ensures { (f : Program) (split : List Part) (st : Store) (packet : Packet) (up other : Reading) → IsWellFormed f → IsLegal f split → IsHanded (crosses_up f split) up other → IsServedAlike f split st packet up other }
+{
+    readings_that_agree();
+    lines_of_blocks();
+}
+
+/// Postprocessing hangs on what is handed down alone, and on the server's numbers for the fields that the server sets.
+pub fn postprocessing_reads_what_crosses()
+    ensures { (f : Program) (split : List Part) (tables : Store) (packet : Packet) (server down other_server other_down : Reading) → IsHanded (is_written_value f split) server other_server → IsHanded (crosses_down f split) down other_down → IsSentAlike f split tables packet server down other_server other_down }
+{
+    readings_that_agree();
+}
+
+/// The way up, through the server and down is the whole run from the server's store. What is handed up comes from a
+/// pass over any tables that have the declared constant ones, and the numbers of other values play no part.
+pub fn a_split_is_the_whole()
+    ensures { (f : Program) (split : List Part) (st tables_up tables : Store) (packet : Packet) (up down : Reading) → IsWellFormed f → IsLegal f split → HasTables f st → IsLoaded f split tables_up → IsLoaded f split tables → IsHanded (crosses_up f split) (pre_values f split tables_up packet) up → IsWhole f split st tables packet up down }
+{
+    a_run_goes_on();
+    a_run_is_its_values();
+    a_run_keeps_the_tables();
+    readings_that_agree();
+    lines_of_blocks();
+    carried_values_stand();
+}
+
+/// Preprocessing hangs on what it reads of the store alone.
+pub fn what_preprocessing_reads_is_all()
+    ensures { (f : Program) (split : List Part) (st : Store) (packet : Packet) → IsWellFormed f → IsLegal f split → IsShownAlone f split st packet }
+{
+    rows_change_alone();
+    a_run_keeps_the_tables();
+    a_run_is_its_changes();
+    preprocessing_is_exact();
+}
