@@ -60,12 +60,13 @@ value_bits-more places i p reads within is =
     ap (λ x. value_bits x reads) (take_more places i p within) ∙ value_bits-push (take i places) (get_or places i p) reads
     ∙ ap (λ (q : Crossing). value_bits (take i places) reads ++ bits_of q.width (reads q)) (sym is)
 
--- one place more is packed
-pub more_packed : (places : List Crossing) (registers before after : List ℕ) (i width : ℕ) (p : Crossing) → i < length places → p ≡ get_or places i p → width ≡ p.width
-    → before ≡ value_bits (take i places) (value_in registers) → after ≡ before ++ bits_of width (get_or registers p.number 0) → after ≡ value_bits (take (i + 1) places) (value_in registers)
-more_packed places registers before after i width p within is same so_far put =
-    put ∙ ap (λ x. x ++ bits_of width (get_or registers p.number 0)) so_far ∙ ap (λ k. value_bits (take i places) (value_in registers) ++ bits_of k (get_or registers p.number 0)) same
-    ∙ sym (value_bits-more places i p (value_in registers) within is)
+-- one value more is packed
+pub more_packed : (layout : List Crossing) (registers before after : List ℕ) (i width number : ℕ) (c : Crossing) → i < length layout → c ≡ get_or layout i c → width ≡ c.width → number ≡ value_in registers c
+    → before ≡ value_bits (take i layout) (value_in registers) → after ≡ before ++ bits_of width number → after ≡ value_bits (take (i + 1) layout) (value_in registers)
+more_packed layout registers before after i width number c within is wide read so_far put =
+    put ∙ ap (λ x. x ++ bits_of width number) so_far ∙ ap (λ k. value_bits (take i layout) (value_in registers) ++ bits_of k number) wide
+    ∙ ap (λ n. value_bits (take i layout) (value_in registers) ++ bits_of c.width n) read
+    ∙ sym (value_bits-more layout i c (value_in registers) within is)
 
 pub value_bits-same : (places : List Crossing) (reads others : Crossing → ℕ) → Agree places reads others → value_bits places reads ≡ value_bits places others
 value_bits-same [] reads others agree = value_bits-nil reads ∙ sym (value_bits-nil others)
@@ -139,8 +140,12 @@ narrow_written layout registers i c number rising within is among so_far fits =
     (subst (λ (q : Crossing). now q < 2 ^ q.width) is (subst (λ x. x < 2 ^ c.width) (sym own) fits))
 
 -- a value ends within the bits of its layout
-pub value_within : (layout : List Crossing) (i at width : ℕ) (c : Crossing) → i < length layout → c ≡ get_or layout i c → width ≡ c.width → at ≡ total (take i layout) → at + width ≤ total layout
-value_within layout i at width c within is same so_far = omega (arith, total-more layout i c within is, total-take layout (i + 1))
+pub value_within : (items layout : List Crossing) (i at width : ℕ) (c : Crossing) → items ≡ layout → i < length items → c ≡ get_or items i c → width ≡ c.width → at ≡ total (take i items) → at + width ≤ total layout
+value_within items layout i at width c all within is same so_far = omega (arith, total-more items i c within is, total-take items (i + 1), ap total all)
+
+pub among_at : (items layout : List Crossing) (i registers : ℕ) (c : Crossing) → items ≡ layout → i < length items → c ≡ get_or items i c → All (λ (q : Crossing). q.number < registers) layout → c.number < registers
+among_at items layout i registers c all within is among =
+    subst (λ (q : Crossing). q.number < registers) (sym is) (subst (λ (x : List Crossing). All (λ (q : Crossing). q.number < registers) x) (sym all) among i c within)
 
 -- no other register is written
 pub nothing_changed : (layout : List Crossing) (registers : List ℕ) → ChangesOnly layout registers registers

@@ -1,9 +1,9 @@
 -- The numbers of a program's values.
-use Rattle.std.proofs.Common.{◌≡◌, ℕ, zero, suc, ◌+◌, ◌-◌, ◌<◌, ◌≤◌, Bool, true, List, [], ◌∷◌, ◌++◌, get_or, length, map, refl, sym, ap, ◌∙◌, inl, inr, arith, length-append}
-use Rattle.std.specs.Prelude.{Some, slice_get, IsTrue}
+use Rattle.std.proofs.Common.{◌≡◌, ℕ, zero, suc, ◌+◌, ◌-◌, ◌<◌, ◌≤◌, Bool, true, List, [], ◌∷◌, ◌++◌, get_or, length, map, refl, sym, ap, subst, ◌∙◌, inl, inr, arith, length-append}
+use Rattle.std.specs.Prelude.{Some, slice_get, IsTrue, nat_lt}
 use Rattle.std.specs.List.{All, AllPairs, filter}
-use Rattle.std.proofs.lemmas.Bool.{cases_lt}
-use Rattle.std.proofs.lemmas.List.{get_or_append_left, get_or-append_right, get_or-append-add, get_or_push, get_or-map}
+use Rattle.std.proofs.lemmas.Bool.{cases_lt, and_parts, ltb-true}
+use Rattle.std.proofs.lemmas.List.{length-map, get_or_append_left, get_or-append_right, get_or-append-add, get_or_push, get_or-map}
 use Rattle.std.proofs.lemmas.List.Elements.{All-map, All-filter}
 use Rattle.std.proofs.lemmas.List.Kept.{AllPairs-filter}
 use Rattle.std.proofs.lemmas.Option.{slice_get-get_or}
@@ -45,7 +45,7 @@ number-get_or f (suc n) k d below =
       | inl early ↦ ap (number_of f) (get_or_append_left front back d k early) ∙ number-get_or f n k d early
       | inr late ↦
           let here : get_or (front ++ back) k d ≡ record { instruction = n; result = k - length front } =
-              get_or-append_right front back (length front) k d refl late ∙ get_or-first_results n (count_of f n) (k - length front) d (omega (arith, length-values_below f n)) in
+          get_or-append_right front back (length front) k d refl late ∙ get_or-first_results n (count_of f n) (k - length front) d (omega (arith, length-values_below f n)) in
           ap (number_of f) here ∙ omega arith
     ]
 
@@ -60,12 +60,44 @@ stands f (suc n) i r d within named =
       | inl early ↦
           let rest = stands f n i r d early named in
           (omega (arith, rest.0, length-values_below f n), get_or_append_left front back d (length (values_below f i) + r) rest.0 ∙ rest.1)
-      | inr late ↦ last f n i r d (omega arith) named
+      | inr late ↦
+          let same : n ≡ i = omega arith in
+          let Stands : ℕ → Type 0 = λ k. (length (values_below f k) + r < length (values_below f (suc n))) × (get_or (values_below f (suc n)) (length (values_below f k) + r) d ≡ record { instruction = k; result = r }) in
+          let named' : r < count_of f n = subst (λ k. r < count_of f k) (sym same) named in
+          subst Stands same (omega (arith, named', length-values_below f n), get_or-append-add front back r d ∙ get_or-first_results n (count_of f n) r d named')
     ]
-  where
-    last : (f : Program) (n i r : ℕ) (d : ValueId) → n ≡ i → r < count_of f i
-        → (length (values_below f i) + r < length (values_below f (suc n))) × (get_or (values_below f (suc n)) (length (values_below f i) + r) d ≡ record { instruction = i; result = r })
-    last f n i r d refl named = (
-      omega (arith, length-values_below f n),
-      get_or-append-add (values_below f n) (first_results n (count_of f n)) r d ∙ get_or-first_results n (count_of f n) r d named,
-    )
+
+-- ---- the laws
+-- a value that is there has both its numbers in range
+in_range : (f : Program) (v : ValueId) → IsTrue (is_named f v) → (v.instruction < length f.code) × (v.result < count_of f v.instruction)
+in_range f v named =
+    let both = and_parts (nat_lt v.instruction (length f.code)) (nat_lt v.result (count_of f v.instruction)) named in
+    (ltb-true v.instruction (length f.code) both.0, ltb-true v.result (count_of f v.instruction) both.1)
+
+pub value_at_number : (f : Program) (v : ValueId) → IsTrue (is_named f v) → slice_get (values_of f) (number_of f v) ≡ Some v
+value_at_number f v named =
+    let range = in_range f v named in
+    let there = stands f (length f.code) v.instruction v.result v range.0 range.1 in
+    slice_get-get_or (values_of f) (number_of f v) v there.0 ∙ ap (λ (x : ValueId). Some x) there.1
+
+AllPairs-map : {X Y : Type 0} (R : Y → Y → Type 0) (g : X → Y) (h : Y → X) (xs : List X) → AllPairs (λ a b. R (g a) (g b)) xs → AllPairs R (map g xs)
+AllPairs-map R g h xs each i j d order within =
+    let len : length (map g xs) ≡ length xs = length-map xs g in
+    let first : get_or (map g xs) i d ≡ g (get_or xs i (h d)) = get_or-map g xs i (h d) d (omega (arith, len)) in
+    let second : get_or (map g xs) j d ≡ g (get_or xs j (h d)) = get_or-map g xs j (h d) d (omega (arith, len)) in
+    subst (λ y. R y (get_or (map g xs) j d)) (sym first) (subst (R (g (get_or xs i (h d)))) (sym second) (each i j (h d) order (omega (arith, len))))
+
+-- whatever values of a program cross, registers for all its values have theirs
+pub crossings_fit : (f : Program) (test : ValueId → Bool) (registers : List ℕ) → length registers ≡ length (values_of f) → FitsLayout (map (crossing f) (filter test (values_of f))) registers
+crossings_fit f test registers len = record {
+  rising = AllPairs-map (λ (a b : Crossing). a.number < b.number) (crossing f) (λ (c : Crossing). c.value) (filter test (values_of f))
+      (AllPairs-filter (λ v w. number_of f v < number_of f w) test (values_of f)
+      (λ i j d order within. omega (arith, number-get_or f (length f.code) i d (omega arith), number-get_or f (length f.code) j d within)));
+  among = All-map (λ (c : Crossing). c.number < length registers) (crossing f) (filter test (values_of f))
+      (All-filter test (λ v. number_of f v < length registers) (values_of f)
+      (λ k d within. omega (arith, number-get_or f (length f.code) k d within, len)));
+}
+
+pub crossings_read : (f : Program) (test : ValueId → Bool) (registers : List ℕ) → Holds (map (crossing f) (filter test (values_of f))) registers (reads_of f registers)
+crossings_read f test registers =
+    All-map (λ (c : Crossing). value_in registers c ≡ reads_of f registers c.value) (crossing f) (filter test (values_of f)) (λ k d within. refl)

@@ -110,17 +110,24 @@ frames_of_same kind layout number port values others packet agree =
     ap (λ bits. kind ∷ to_be_bytes w32 number ++ port ∷ packed bits ++ packet) (value_bits-same layout values others agree)
 
 -- ---- what is no frame
-pub wrong_length : (kind : ℕ) (layout : List Crossing) (frame : List ℕ) (number port : ℕ) (values : Crossing → ℕ) (packet : List ℕ) → length frame ≢ 6 + bytes_for (total layout) + length packet → frame ≢ frame_of kind layout number port values packet
-wrong_length kind layout frame number port values packet other is = other (ap (λ (x : List ℕ). length x) is ∙ length-frame_of kind layout number port values packet)
+-- a frame has its kind in front, and is neither too short nor too long
+pub outline : (kind : ℕ) (layout : List Crossing) (frame : List ℕ) → IsFrame kind layout frame
+    → (6 + bytes_for (total layout) ≤ length frame) × (length frame ≤ 6 + bytes_for (total layout) + 9216) × (get_or frame 0 0 ≡ kind)
+outline kind layout frame is =
+    let len : length frame ≡ 6 + bytes_for (total layout) + length is.packet = ap (λ (x : List ℕ). length x) is.bytes ∙ length-frame_of kind layout is.number is.port is.values is.packet in
+    (omega arith, omega (arith, is.parts.short), ap (λ x. get_or x 0 0) is.bytes)
 
-pub wrong_kind : (kind : ℕ) (layout : List Crossing) (frame : List ℕ) (number port : ℕ) (values : Crossing → ℕ) (packet : List ℕ) → get_or frame 0 0 ≢ kind → frame ≢ frame_of kind layout number port values packet
-wrong_kind kind layout frame number port values packet other is = other (ap (λ x. get_or x 0 0) is)
+-- and zeros behind its values
+pub zeros_behind : (kind : ℕ) (layout : List Crossing) (frame header : List ℕ) → header ≡ take (bytes_for (total layout)) (drop 6 frame) → IsFrame kind layout frame
+    → drop (total layout) (bits_in header) ≡ replicate (8 * length header - total layout) 0
+zeros_behind kind layout frame header part is =
+    let own : header ≡ packed (value_bits layout is.values) = part ∙ ap (λ x. take (bytes_for (total layout)) (drop 6 x)) is.bytes ∙ header-frame_of kind layout is.number is.port is.values is.packet in
+    ap (λ x. drop (total layout) (bits_in x)) own ∙ last_bits layout is.values ∙ sym (ap (λ k. replicate (8 * k - total layout) 0) (ap (λ (x : List ℕ). length x) own ∙ length-packed layout is.values))
 
-pub wrong_filling : (kind : ℕ) (layout : List Crossing) (frame header : List ℕ) (number port : ℕ) (values : Crossing → ℕ) (packet : List ℕ) → header ≡ take (bytes_for (total layout)) (drop 6 frame)
-    → drop (total layout) (bits_in header) ≢ replicate (8 * length header - total layout) 0 → frame ≢ frame_of kind layout number port values packet
-wrong_filling kind layout frame header number port values packet part other is =
-    let own : header ≡ packed (value_bits layout values) = part ∙ ap (λ x. take (bytes_for (total layout)) (drop 6 x)) is ∙ header-frame_of kind layout number port values packet in
-    other (ap (λ x. drop (total layout) (bits_in x)) own ∙ last_bits layout values ∙ sym (ap (λ k. replicate (8 * k - total layout) 0) (ap (λ (x : List ℕ). length x) own ∙ length-packed layout values)))
+pub no_frame : (kind : ℕ) (layout : List Crossing) (frame : List ℕ) (number port : ℕ) (values : Crossing → ℕ) (packet : List ℕ) → ¬ IsFrame kind layout frame
+    → AreParts layout number port values packet → frame ≢ frame_of kind layout number port values packet
+no_frame kind layout frame number port values packet none parts made =
+    none (record { number = number; port = port; values = values; packet = packet; parts = parts; bytes = made })
 
 -- what a test of the filling says, of the number of bits as it was computed
 pub not_filled : (header : List ℕ) (bits all : ℕ) (answer : Bool) → bits ≡ all → answer ≡ false → (drop bits (bits_in header) ≡ replicate (8 * length header - bits) 0 → answer ≡ true)

@@ -4,7 +4,7 @@ ghost use Rattle.flat_ir.specs.Blocks.{Reading};
 ghost use Rattle.split_model.specs.declared.layout.Crossing.{Crossing as Item};
 ghost use Rattle.packet_fields.specs.Sizes.{largest_packet};
 ghost use Rattle.transfer_header.specs.Bits.{bits_in, bytes_for, packed};
-ghost use Rattle.transfer_header.specs.Values.{total, value_bits, AreNarrow, Agree};
+ghost use Rattle.transfer_header.specs.Values.{total, value_bits, AreNarrow};
 ghost use Rattle.transfer_header.specs.Registers.{value_in, ChangesOnly, FitsLayout, Holds};
 ghost use Rattle.transfer_header.specs.Frames.{frame_of, up_frame, down_frame, AreParts, IsFrame, IsUnpacked, IsReadBack};
 
@@ -110,7 +110,6 @@ fn pack(
     requires narrow { AreNarrow layout.now (value_in values.now) }
     requires short { length packet.now ≤ largest_packet }
     ensures bytes { IfOk result (λ made. made ≡ frame_of kind layout.now number port (value_in values.now) packet.now) }
-    ensures reading { (others : Item → ℕ) → Agree layout.now (value_in values.now) others → IfOk result (λ made. made ≡ frame_of kind layout.now number port others packet.now) }
     ensures frame { IfOk result (λ made. IsFrame kind layout.now made) }
 {
     let header = pack_values(alloc, layout, values)?;
@@ -138,9 +137,11 @@ fn pack_values(alloc: Global, layout: &Layout, values: &Regs) -> Result<Bytes, N
 fn unpack(kind: u8, layout: &Layout, frame: &[u8], into: &mut Regs) -> Result<Head, Malformed>
     requires { FitsLayout layout.now into.old }
     ensures ok { IfOk result (λ head. IsUnpacked kind layout.now frame.now into.old into.new head) }
-    ensures err { OnErr result (¬ IsFrame kind layout.now frame.now) }
+    ensures exact { (IsOk result) ↔ (IsFrame kind layout.now frame.now) }
     ensures kept { OnErr result (into.new ≡ into.old) }
+    ensures read_back { (number port : ℕ) (values : Item → ℕ) (packet : List ℕ) → AreParts layout.now number port values packet → frame.now ≡ frame_of kind layout.now number port values packet → IsOkAnd result (λ head. IsReadBack layout.now number port values packet frame.now into.new head) }
 {
+    prove!(layout.len() <= into.len() as usize);
     let bits = total_bits(layout);
     let packet_at = FIXED_BYTES + (bits + 7) / 8;
     if frame.len() < packet_at || frame.len() - packet_at > MAX_PACKET_BYTES || frame[0] != kind {

@@ -12,3 +12,6 @@ pub use laws::{
     values_have_their_numbers,
 };
 pub use registers::Regs;
+
+#[cfg(test)]
+mod tests;
