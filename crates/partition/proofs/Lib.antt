@@ -3,3 +3,4 @@ pub mod Unique
 pub mod Server
 pub mod Last
 pub mod Shrunk
+pub mod Chosen

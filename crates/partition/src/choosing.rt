@@ -7,12 +7,13 @@ ghost use Rattle.split_model.specs.Legal.{IsLegal};
 ghost use Rattle.resource_limits.specs.Limits.{AreInRange};
 ghost use Rattle.resource_limits.specs.Kept.{KeepsLimits};
 ghost use Rattle.resource_limits.specs.declared.exceeding.Over.{Over};
-ghost use Rattle.partition.specs.Choice.{IsFirstKept, IsChosen, IsKept, IsExceeded, HasLowStages, shrinking};
+ghost use Rattle.partition.specs.Choice.{IsChosen, IsRefused, HasLowStages};
 ghost use Rattle.partition.specs.declared.choosing.PartError.TheVariants.{NoMemory as without_memory};
 ghost use Rattle.partition.specs.Causes.{IsCause};
 ghost use Rattle.partition.specs.Tried.{IsTried, IsTriedTwice};
 
 use crate::greatest::{all_on_server, greatest_split};
+use crate::laws::greatest_split_is_one;
 use flat_ir::Flat;
 use gal_io::NoMemory;
 use resource_limits::{Limits, Over, count, first_exceeded};
@@ -84,7 +85,7 @@ fn try_twice(alloc: Global, f: &Flat, limits: &Limits, k: usize) -> Result<Optio
 fn shrunk(alloc: Global, f: &Flat, limits: &Limits) -> Result<Split, NoMemory>
     requires bounded { IsBounded (program_of f.now) }
     requires in_range { AreInRange limits.now }
-    ensures { IfOk result (λ split. IsFirstKept (program_of f.now) limits.now (shrinking (length f.now.code)) split) }
+    ensures { IfOk result (λ split. IsChosen (program_of f.now) limits.now true split) }
 {
     let mut k = f.code.len();
     while k > 0 {
@@ -110,10 +111,17 @@ pub fn partition(alloc: Global, f: &Flat, limits: &Limits, shrink: bool) -> Resu
     ensures legal { IfOk result (λ split. IsLegal (program_of f.now) split) }
     ensures keeps { IfOk result (λ split. KeepsLimits (program_of f.now) split limits.now) }
     ensures low { IfOk result HasLowStages }
-    ensures not_refused { (split : List Part) → shrink ≡ false → IsKept (program_of f.now) limits.now (length f.now.code) true split
+    ensures not_refused { (split : List Part) → IsChosen (program_of f.now) limits.now shrink split
         → IfErr result (λ error. error ≡ without_memory) }
-    ensures not_chosen { (over : Over) → shrink ≡ false → IsExceeded (program_of f.now) limits.now (length f.now.code) true over
-        → IfOk result (λ split. ⊥) }
+    ensures not_chosen { (over : Over) → IsRefused (program_of f.now) limits.now shrink over → IfOk result (λ split. ⊥) }
 {
-    Err(PartError::NoMemory)
+    greatest_split_is_one();
+    if shrink {
+        let split = shrunk(alloc, f, limits)?;
+        return Ok(split);
+    }
+    match try_split(alloc, f, limits, f.code.len(), true)? {
+        Tried::Kept(split) => Ok(split),
+        Tried::Exceeding(over) => Err(PartError::Exceeds(over)),
+    }
 }

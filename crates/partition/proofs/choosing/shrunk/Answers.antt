@@ -1,7 +1,8 @@
-use Rattle.std.proofs.Common.{◌≡◌, List, length, true, false, sym, subst, arith}
+use Rattle.std.proofs.Common.{◌≡◌, List, length, true, false, ◌∙◌, sym, subst, arith}
 use Rattle.std.specs.Prelude.{Option}
 use Rattle.std.proofs.lemmas.Result.{IfOk-weaker}
-use Rattle.flat_ir.specs.Program.{program_of}
+use Rattle.std.proofs.lemmas.List.{length-map}
+use Rattle.flat_ir.specs.Program.{program_of, step_of}
 use Rattle.split_model.specs.declared.split.Part.{Part}
 use Rattle.split_model.specs.Greatest.{IsGreatestSplit}
 use Rattle.partition.specs.declared.choosing.Tried.{Tried}
@@ -10,6 +11,12 @@ use Rattle.partition.specs.Tried.{IsTriedTwice, IsTried}
 use Rattle.partition.proofs.Shrunk.{tried_some, tried_none, tried_last}
 use Rattle.partition.proofs.Last.{last_keeps}
 use Rattle.partition.proofs.choosing.shrunk.Goals as goal
+
+pub loop-k-init : goal.loop-k-init
+loop-k-init c =
+    let f = program_of c.args.f.now in
+    let e : c.len-k.result ≡ length f.code = c.len-k.ensures ∙ sym (length-map c.args.f.now.code step_of) in
+    λ split h. subst (λ n. IsFirstKept f c.args.limits.now (shrinking n) split) e h
 
 pub returns-in-Some : goal.returns-in-Some
 returns-in-Some c =
@@ -29,9 +36,9 @@ returns-in-Exceeding c =
     let z : c.loop-k.k ≡ 0 = omega arith in
     let exceeded = subst (λ (t : Tried). IsTried f c.args.limits.now 0 true t) c.in-Exceeding.is c.in_ok-split-2.ensures in
     IfOk-weaker c.all_on_server.result (λ (split : List Part). IsGreatestSplit f 0 false split)
-    (λ (split : List Part). IsFirstKept f c.args.limits.now (shrinking (length c.args.f.now.code)) split)
+    (λ (split : List Part). IsFirstKept f c.args.limits.now (shrinking (length f.code)) split)
     (λ split greatest. c.loop-k.invariant split
     (subst (λ k. IsFirstKept f c.args.limits.now (shrinking k) split) (sym z)
-    (tried_last f c.args.limits.now c.in-Exceeding.field-0 split exceeded
+    (tried_last f c.args.limits.now c.in-Exceeding.field-0 split exceeded.exceeded
     (record { greatest = greatest; keeps = last_keeps f c.args.limits.now split c.requires.bounded.formed c.requires.in_range greatest }))))
     c.all_on_server.ensures.greatest

@@ -8,7 +8,7 @@ use Rattle.partition.proofs.choosing.shrunk.Given as goal
 abbrev pub invariant-loop-k : goal.invariant-loop-k
 invariant-loop-k l =
     (split : List Part) → IsFirstKept (program_of l.f) l.limits (shrinking l.k) split
-    → IsFirstKept (program_of l.f) l.limits (shrinking (length l.f.code)) split
+    → IsFirstKept (program_of l.f) l.limits (shrinking (length (program_of l.f).code)) split
 
 abbrev pub decreases-loop-k : goal.decreases-loop-k
 decreases-loop-k l = l.k
