@@ -3,6 +3,9 @@ mod Carrying
 mod Constants
 mod Crossings
 mod Exactness
+mod Guarding
+mod Marking
+mod Numbering
 mod Passing
 mod Posting
 mod Rules
@@ -14,3 +17,4 @@ mod Stages
 mod Steps
 mod Sums
 mod Wholes
+mod Wide

@@ -1,11 +1,15 @@
 //! A flat program in three parts: what is done on the switch before the server, by the server, and on the switch after it.
 #![tactic(auto)]
 
+mod guards;
+mod kinds;
 mod laws;
 mod layout;
 mod layouts;
+mod readers;
 mod shown;
 mod split;
+mod values;
 
 pub use laws::{
     a_server_reads_what_crosses, a_split_is_the_whole, carried_values_stand,
