@@ -3,7 +3,9 @@
 
 mod batch;
 mod commit;
+mod laws;
 mod output;
 
 pub use commit::Commit;
+pub use laws::{a_held_output_waits, counts_stay_in_order};
 pub use output::{Output, Release};

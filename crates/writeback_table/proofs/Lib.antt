@@ -4,3 +4,4 @@ pub mod Phases
 pub mod Batches
 pub mod Histories
 pub mod Joins
+pub mod Trees

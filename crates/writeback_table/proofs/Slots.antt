@@ -67,7 +67,7 @@ get_with_row : (key : List ℕ) (row : Option (List ℕ)) (rows : Contents) (q :
 get_with_row key (Some values) rows q = get-insert nat_list_cmp_total rows key values q
 get_with_row key None rows q = get-remove nat_list_cmp_total rows key q
 
-get_with_staged : (es : List (List ℕ × Option (List ℕ))) (rows : Contents) (q : List ℕ) → get (with_staged es rows) q ≡ over (find key_cmp q es) (get rows q)
+pub get_with_staged : (es : List (List ℕ × Option (List ℕ))) (rows : Contents) (q : List ℕ) → get (with_staged es rows) q ≡ over (find key_cmp q es) (get rows q)
 get_with_staged [] rows q = sym (ap (λ x. over x (get rows q)) (sym (get-from_entries nat_list_cmp_total [] q) ∙ get-empty key_cmp q))
 get_with_staged (e ∷ es) rows q =
     get_with_row e.0 e.1 (with_staged es rows) q ∙ ap (cond (eq_by_cmp key_cmp q e.0) e.1) (get_with_staged es rows q)

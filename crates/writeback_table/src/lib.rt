@@ -5,6 +5,7 @@ mod command;
 mod laws;
 mod one_object;
 mod pair;
+mod seen_rows;
 mod updates;
 mod write_back;
 

@@ -1,11 +1,12 @@
 //! The two tables of one object.
-ghost use Rattle.std.specs.Prelude.{◌≡◌, ◌≤◌, length, is_some, replicate, IfOk, if◌then◌else◌};
+ghost use Rattle.std.specs.Prelude.{◌≡◌, ◌≤◌, length, is_some, replicate, IfOk, true, if◌then◌else◌};
 ghost use Rattle.std.specs.FinMap as map;
 ghost use Rattle.state_store.specs.Store.{start_object};
 ghost use Rattle.writeback_table.specs.Pair as spec;
 
 use crate::command::{Applied, Command, To, Update};
 use crate::one_object::OneObject;
+use crate::seen_rows::SeenRows;
 use crate::write_back::WriteBack;
 use gal_bits::Values;
 use gal_io::NoMemory;
@@ -111,9 +112,23 @@ impl Pair {
     pub fn rows(&self, alloc: Global, bit: bool) -> Result<Rows, NoMemory>
         ensures { IfOk result (λ rows. rows ≡ spec.visible_rows bit self.now) }
     {
-        let _ = alloc;
-        let _ = bit;
-        Err(NoMemory)
+        if bit {
+            self.rows_with_staged(alloc)
+        } else {
+            self.main.rows(alloc)
+        }
+    }
+
+    #[tactic(auto, using(crate::proofs::Trees::all_again))]
+    fn rows_with_staged(&self, alloc: Global) -> Result<Rows, NoMemory>
+        ensures { IfOk result (λ rows. rows ≡ spec.visible_rows true self.now) }
+    {
+        let main = self.main.rows(alloc)?;
+        let mut seen = SeenRows::new(alloc);
+        seen.put_all(main.as_slice())?;
+        self.staged.write_over(alloc, &mut seen)?;
+        let rows = seen.list(alloc)?;
+        Ok(rows)
     }
 }
 

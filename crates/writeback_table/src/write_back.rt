@@ -1,13 +1,14 @@
 //! The write-back table of one object.
-ghost use Rattle.std.specs.Prelude.{◌≡◌, ◌<◌, ◌-◌, ◌^◌, false, length, IfOk, if◌then◌else◌};
+ghost use Rattle.std.specs.Prelude.{◌≡◌, ◌<◌, ◌-◌, ◌^◌, false, length, IfOk, OnOk, if◌then◌else◌};
 ghost use Rattle.std.specs.FinMap as map;
 ghost use Rattle.state_store.specs.Store.{start_object};
-ghost use Rattle.writeback_table.specs.Pair.{can_stage, values_of, with_change};
+ghost use Rattle.writeback_table.specs.Pair.{can_stage, values_of, with_change, with_staged};
 ghost use Rattle.writeback_table.specs.Staging.{joined, IsCounted, values_then, gone_then};
 ghost use Rattle.writeback_table.specs.Staging as rows;
 
 use crate::command::{Applied, To, Update};
 use crate::one_object::OneObject;
+use crate::seen_rows::SeenRows;
 use gal_bits::Values;
 use gal_io::{Bytes, NoMemory};
 use state_store::{Kind, ObjectDecl, Rows};
@@ -102,6 +103,18 @@ impl WriteBack {
             update,
         );
         Applied::Done
+    }
+
+    /// Writes what is staged over the rows of a table.
+    #[tactic(auto, using(crate::proofs::Trees::written_over))]
+    pub fn write_over(&self, alloc: Global, rows: &mut SeenRows) -> Result<(), NoMemory>
+        ensures { OnOk result (rows.new ≡ with_staged (map.entries self.now.rows) rows.old) }
+    {
+        let gone = self.gone.rows(alloc)?;
+        rows.remove_all(gone.as_slice());
+        let values = self.values.rows(alloc)?;
+        rows.put_all(values.as_slice())?;
+        Ok(())
     }
 
     /// Removes a key from what is staged.
