@@ -1,10 +1,10 @@
 -- The numbers of a program's values.
-use Rattle.std.proofs.Common.{◌≡◌, ℕ, zero, suc, ◌+◌, ◌-◌, ◌<◌, ◌≤◌, Bool, true, List, [], ◌∷◌, ◌++◌, get_or, length, map, refl, sym, ap, subst, ◌∙◌, inl, inr, arith, length-append}
-use Rattle.std.specs.Prelude.{Some, slice_get, IsTrue, nat_lt}
+use Rattle.std.proofs.Common.{◌≡◌, ℕ, zero, suc, ◌+◌, ◌-◌, ◌<◌, ◌≤◌, Bool, true, cond, List, [], ◌∷◌, ◌++◌, get_or, length, map, refl, sym, ap, subst, ◌∙◌, inl, inr, arith, length-append}
+use Rattle.std.specs.Prelude.{Some, slice_get, IsTrue, nat_lt, not, ◌&&◌}
 use Rattle.std.specs.List.{All, AllPairs, filter}
-use Rattle.std.proofs.lemmas.Bool.{cases_lt, and_parts, ltb-true}
+use Rattle.std.proofs.lemmas.Bool.{cases_lt, cond_both, and_parts, ltb-true}
 use Rattle.std.proofs.lemmas.List.{length-map, get_or_append_left, get_or-append_right, get_or-append-add, get_or_push, get_or-map}
-use Rattle.std.proofs.lemmas.List.Elements.{All-map, All-filter}
+use Rattle.std.proofs.lemmas.List.Elements.{All-map, All-filter, All-head, All-tail, filter_passes}
 use Rattle.std.proofs.lemmas.List.Kept.{AllPairs-filter}
 use Rattle.std.proofs.lemmas.Option.{slice_get-get_or}
 use Rattle.flat_ir.specs.declared.program.ValueId.{ValueId}
@@ -12,7 +12,10 @@ use Rattle.flat_ir.specs.Program.{Program, step_at, result_count, is_named}
 use Rattle.split_model.specs.declared.split.Part.{Part}
 use Rattle.split_model.specs.declared.layout.Crossing.{Crossing}
 use Rattle.split_model.specs.Layouts.{first_results, values_below, values_of, number_of, crossing}
-use Rattle.transfer_header.specs.Registers.{value_in, reads_of, FitsLayout, Holds}
+use Rattle.split_model.specs.Split.{is_carried, is_post}
+use Rattle.split_model.specs.Crossing.{crosses_up, crosses_down}
+use Rattle.flat_ir.specs.Kinds.{is_input}
+use Rattle.transfer_header.specs.Registers.{FitsLayout}
 
 abbrev count_of : Program → ℕ → ℕ
 count_of f n = result_count f.objects (step_at f n).work
@@ -98,6 +101,33 @@ crossings_fit f test registers len = record {
       (λ k d within. omega (arith, number-get_or f (length f.code) k d within, len)));
 }
 
-pub crossings_read : (f : Program) (test : ValueId → Bool) (registers : List ℕ) → Holds (map (crossing f) (filter test (values_of f))) registers (reads_of f registers)
-crossings_read f test registers =
-    All-map (λ (c : Crossing). value_in registers c ≡ reads_of f registers c.value) (crossing f) (filter test (values_of f)) (λ k d within. refl)
+-- ---- what crosses, and the values of a layout
+-- what holds of each element that a filter keeps holds of each element that passes
+kept_by_filter : {X : Type 0} (P : X → Type 0) (test : X → Bool) (xs : List X) (k : ℕ) (d : X) → k < length xs → test (get_or xs k d) ≡ true → All P (filter test xs) → P (get_or xs k d)
+kept_by_filter P test [] k d within passes all = absurd (omega arith)
+kept_by_filter P test (x ∷ xs) zero d within passes all = All-head P x (filter test xs) (subst (All P) (ap (λ b. cond b (x ∷ filter test xs) (filter test xs)) passes) all)
+kept_by_filter P test (x ∷ xs) (suc k) d within passes all =
+    kept_by_filter P test xs k d (omega arith) passes
+    (cond_both (test x) (x ∷ filter test xs) (filter test xs) (λ ys. All P ys → All P (filter test xs)) (λ _ here. All-tail P x (filter test xs) here) (λ _ here. here) all)
+
+-- what holds of the values of a layout, and what holds of all that crosses
+pub to_all : (f : Program) (test : ValueId → Bool) (P : Crossing → Type 0) → ((v : ValueId) → test v ≡ true → P (crossing f v)) → All P (map (crossing f) (filter test (values_of f)))
+to_all f test P each = All-map P (crossing f) (filter test (values_of f)) (λ k d within. each (get_or (filter test (values_of f)) k d) (filter_passes test (values_of f) k d within))
+
+pub from_all : (f : Program) (test : ValueId → Bool) (P : Crossing → Type 0) → ((v : ValueId) → test v ≡ true → IsTrue (is_named f v)) → All P (map (crossing f) (filter test (values_of f))) → (v : ValueId) → test v ≡ true → P (crossing f v)
+from_all f test P named all v passes =
+    let range = in_range f v (named v passes) in
+    let there = stands f (length f.code) v.instruction v.result v range.0 range.1 in
+    let ys : List ValueId = filter test (values_of f) in
+    let each : All (λ w. P (crossing f w)) ys = λ k d within. subst P (get_or-map (crossing f) ys k d (crossing f d) within) (all k (crossing f d) (omega (arith, length-map ys (crossing f)))) in
+    subst (λ w. P (crossing f w)) there.1 (kept_by_filter (λ w. P (crossing f w)) test (values_of f) (number_of f v) v there.0 (subst (λ w. test w ≡ true) (sym there.1) passes) each)
+
+pub named_up : (f : Program) (split : List Part) (v : ValueId) → crosses_up f split v ≡ true → IsTrue (is_named f v)
+named_up f split v crosses =
+    let all = and_parts (is_named f v && (is_carried split v.instruction && not (is_input (step_at f v.instruction).work))) _ crosses in
+    (and_parts (is_named f v) _ all.0).0
+
+pub named_down : (f : Program) (split : List Part) (v : ValueId) → crosses_down f split v ≡ true → IsTrue (is_named f v)
+named_down f split v crosses =
+    let all = and_parts (is_named f v && not (is_post split v.instruction)) _ crosses in
+    (and_parts (is_named f v) _ all.0).0

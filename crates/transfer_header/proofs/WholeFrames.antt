@@ -8,7 +8,7 @@ use Rattle.std.specs.Int.{to_be_bytes, from_be_bytes, w32}
 use Rattle.transfer_header.specs.declared.frame.Head.{Head}
 use Rattle.split_model.specs.declared.layout.Crossing.{Crossing}
 use Rattle.transfer_header.specs.Bits.{bits_in, bytes_for, filled, packed}
-use Rattle.transfer_header.specs.Frames.{frame_of, AreParts, AreSame, IsFrame, IsUnpacked, IsReadBack}
+use Rattle.transfer_header.specs.Frames.{frame_of, AreSame, IsFrameOf, IsFrame, IsUnpacked, IsReadBack}
 use Rattle.transfer_header.specs.Values.{total, value_bits, Agree}
 use Rattle.transfer_header.specs.Registers.{value_in}
 use Rattle.transfer_header.proofs.BitLists.{AreBytes, bits_in-packed, length-cut, is_packed}
@@ -91,16 +91,17 @@ frame_is kind layout frame number at values are is within kind_is number_is head
     ∙ sym (ap (λ x. kind ∷ x ++ get_or frame 5 0 ∷ (packed (value_bits layout values) ++ drop at frame)) bytes)
 
 -- ---- frames of the same bytes
-pub frames_are_same : (kind : ℕ) (layout : List Crossing) (number number' port port' : ℕ) (values values' : Crossing → ℕ) (packet packet' : List ℕ) → AreParts layout number port values packet → AreParts layout number' port' values' packet'
-    → frame_of kind layout number port values packet ≡ frame_of kind layout number' port' values' packet' → AreSame layout number number' port port' values values' packet packet'
-frames_are_same kind layout number number' port port' values values' packet packet' parts parts' same =
+pub frames_are_same : (kind : ℕ) (layout : List Crossing) (number number' port port' : ℕ) (values values' : Crossing → ℕ) (packet packet' frame : List ℕ)
+    → IsFrameOf kind layout number port values packet frame → IsFrameOf kind layout number' port' values' packet' frame → AreSame layout number number' port port' values values' packet packet'
+frames_are_same kind layout number number' port port' values values' packet packet' frame is is' =
+    let same : frame_of kind layout number port values packet ≡ frame_of kind layout number' port' values' packet' = sym is.bytes ∙ is'.bytes in
     let four_bytes : to_be_bytes w32 number ≡ to_be_bytes w32 number' = sym (number-frame_of kind layout number port values packet) ∙ ap (λ x. take 4 (drop 1 x)) same ∙ number-frame_of kind layout number' port' values' packet' in
     let headers : packed (value_bits layout values) ≡ packed (value_bits layout values') =
     sym (header-frame_of kind layout number port values packet) ∙ ap (λ x. take (bytes_for (total layout)) (drop 6 x)) same ∙ header-frame_of kind layout number' port' values' packet' in
     record {
-      same_number = sym (from_be_bytes-to_be_bytes_4 number parts.four_bytes) ∙ ap (from_be_bytes w32) four_bytes ∙ from_be_bytes-to_be_bytes_4 number' parts'.four_bytes;
+      same_number = sym (from_be_bytes-to_be_bytes_4 number is.four_bytes) ∙ ap (from_be_bytes w32) four_bytes ∙ from_be_bytes-to_be_bytes_4 number' is'.four_bytes;
       same_port = sym (port-frame_of kind layout number port values packet) ∙ ap (λ x. get_or x 5 0) same ∙ port-frame_of kind layout number' port' values' packet';
-      same_values = agree_by_bits layout values values' parts.narrow parts'.narrow (sym (first_bits layout values) ∙ ap (λ x. take (total layout) (bits_in x)) headers ∙ first_bits layout values');
+      same_values = agree_by_bits layout values values' is.narrow is'.narrow (sym (first_bits layout values) ∙ ap (λ x. take (total layout) (bits_in x)) headers ∙ first_bits layout values');
       same_packet = sym (packet-frame_of kind layout number port values packet) ∙ ap (λ x. drop (bytes_for (total layout)) (drop 6 x)) same ∙ packet-frame_of kind layout number' port' values' packet';
     }
 
@@ -114,20 +115,15 @@ frames_of_same kind layout number port values others packet agree =
 pub outline : (kind : ℕ) (layout : List Crossing) (frame : List ℕ) → IsFrame kind layout frame
     → (6 + bytes_for (total layout) ≤ length frame) × (length frame ≤ 6 + bytes_for (total layout) + 9216) × (get_or frame 0 0 ≡ kind)
 outline kind layout frame is =
-    let len : length frame ≡ 6 + bytes_for (total layout) + length is.packet = ap (λ (x : List ℕ). length x) is.bytes ∙ length-frame_of kind layout is.number is.port is.values is.packet in
-    (omega arith, omega (arith, is.parts.short), ap (λ x. get_or x 0 0) is.bytes)
+    let len : length frame ≡ 6 + bytes_for (total layout) + length is.packet = ap (λ (x : List ℕ). length x) is.is.bytes ∙ length-frame_of kind layout is.number is.port is.values is.packet in
+    (omega arith, omega (arith, is.is.short), ap (λ x. get_or x 0 0) is.is.bytes)
 
 -- and zeros behind its values
 pub zeros_behind : (kind : ℕ) (layout : List Crossing) (frame header : List ℕ) → header ≡ take (bytes_for (total layout)) (drop 6 frame) → IsFrame kind layout frame
     → drop (total layout) (bits_in header) ≡ replicate (8 * length header - total layout) 0
 zeros_behind kind layout frame header part is =
-    let own : header ≡ packed (value_bits layout is.values) = part ∙ ap (λ x. take (bytes_for (total layout)) (drop 6 x)) is.bytes ∙ header-frame_of kind layout is.number is.port is.values is.packet in
+    let own : header ≡ packed (value_bits layout is.values) = part ∙ ap (λ x. take (bytes_for (total layout)) (drop 6 x)) is.is.bytes ∙ header-frame_of kind layout is.number is.port is.values is.packet in
     ap (λ x. drop (total layout) (bits_in x)) own ∙ last_bits layout is.values ∙ sym (ap (λ k. replicate (8 * k - total layout) 0) (ap (λ (x : List ℕ). length x) own ∙ length-packed layout is.values))
-
-pub no_frame : (kind : ℕ) (layout : List Crossing) (frame : List ℕ) (number port : ℕ) (values : Crossing → ℕ) (packet : List ℕ) → ¬ IsFrame kind layout frame
-    → AreParts layout number port values packet → frame ≢ frame_of kind layout number port values packet
-no_frame kind layout frame number port values packet none parts made =
-    none (record { number = number; port = port; values = values; packet = packet; parts = parts; bytes = made })
 
 -- what a test of the filling says, of the number of bits as it was computed
 pub not_filled : (header : List ℕ) (bits all : ℕ) (answer : Bool) → bits ≡ all → answer ≡ false → (drop bits (bits_in header) ≡ replicate (8 * length header - bits) 0 → answer ≡ true)
@@ -147,17 +143,12 @@ length_range frame bits all same within =
     length-take (6 + (bits + 7) / 8 - 6) (drop 6 frame) ∙ min-eq_left (omega (arith, length-drop 6 frame)) ∙ omega arith
 
 -- ---- there and back
-pub read_back : (kind : ℕ) (layout : List Crossing) (number port : ℕ) (values : Crossing → ℕ) (packet frame before after : List ℕ) (head : Head) → AreParts layout number port values packet
-    → frame ≡ frame_of kind layout number port values packet → IsUnpacked kind layout frame before after head → IsReadBack layout number port values packet frame after head
-read_back kind layout number port values packet frame before after head parts made read =
-    frames_are_same kind layout head.number number head.port port (value_in after) values (drop head.packet_at frame) packet read.parts parts (sym read.bytes ∙ made)
+pub read_back : (kind : ℕ) (layout : List Crossing) (number port : ℕ) (values : Crossing → ℕ) (packet frame before after : List ℕ) (head : Head)
+    → IsUnpacked kind layout frame before after head → IsFrameOf kind layout number port values packet frame → IsReadBack layout number port values packet frame after head
+read_back kind layout number port values packet frame before after head told is =
+    frames_are_same kind layout head.number number head.port port (value_in after) values (drop head.packet_at frame) packet frame told.is is
 
-pub unpacked_is_frame : (kind : ℕ) (layout : List Crossing) (frame before after : List ℕ) (head : Head) → IsUnpacked kind layout frame before after head → IsFrame kind layout frame
-unpacked_is_frame kind layout frame before after head read = record {
-  number = head.number;
-  port = head.port;
-  values = value_in after;
-  packet = drop head.packet_at frame;
-  parts = read.parts;
-  bytes = read.bytes;
-}
+-- bytes that are the frame of some parts are a frame
+pub a_frame : (kind : ℕ) (layout : List Crossing) (number port : ℕ) (values : Crossing → ℕ) (packet frame : List ℕ)
+    → IsFrameOf kind layout number port values packet frame → IsFrame kind layout frame
+a_frame kind layout number port values packet frame is = record { number = number; port = port; values = values; packet = packet; is = is }

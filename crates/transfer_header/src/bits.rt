@@ -1,5 +1,6 @@
 //! Numbers packed into bytes bit by bit.
-ghost use Rattle.std.specs.Prelude.{◌≡◌, ℕ, ◌+◌, ◌-◌, ◌*◌, ◌/◌, ◌%◌, ◌^◌, ◌<◌, ◌≤◌, ◌++◌, [], length, take, drop, IfOk, OnOk};
+ghost use Rattle.std.specs.Prelude.{◌≡◌, ◌+◌, ◌-◌, ◌*◌, ◌%◌, ◌^◌, ◌<◌, ◌≤◌};
+ghost use Rattle.std.specs.Prelude.{◌++◌, [], length, take, drop, IfOk, OnOk};
 ghost use Rattle.transfer_header.specs.Bits.{bits_of, bits_in, packed};
 
 use gal_io::{Bytes, NoMemory};
@@ -23,7 +24,8 @@ impl Model for BitWriter {
 
     ghost view = { λ writer. bits_in writer.bytes.items ++ bits_of writer.count writer.held };
 
-    ghost invariant = { λ writer. (writer.count < 8) × (writer.held < 2 ^ writer.count) × All (λ byte. byte < 256) writer.bytes.items };
+    ghost invariant = { λ writer. (writer.count < 8) × (writer.held < 2 ^ writer.count)
+        × All (λ byte. byte < 256) writer.bytes.items };
 }
 
 impl BitWriter {

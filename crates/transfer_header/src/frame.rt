@@ -1,12 +1,13 @@
 //! Frames as bytes.
-ghost use Rattle.std.specs.Prelude.{◌≡◌, ◌↔◌, ℕ, ◌+◌, ◌-◌, ◌*◌, ◌^◌, ◌<◌, ◌≤◌, List, length, take, drop, replicate, IsOk, IsOkAnd, IsTrue, IfOk, OnErr};
-ghost use Rattle.flat_ir.specs.Blocks.{Reading};
-ghost use Rattle.split_model.specs.declared.layout.Crossing.{Crossing as Item};
+ghost use Rattle.std.specs.Prelude.{◌≡◌, ◌↔◌, ℕ, ◌+◌, ◌-◌, ◌*◌, ◌^◌, ◌<◌, ◌≤◌, List, length, take, drop, replicate};
+ghost use Rattle.std.specs.Prelude.{IsOk, IsOkAnd, IsTrue, IfOk, OnErr};
 ghost use Rattle.packet_fields.specs.Sizes.{largest_packet};
+ghost use Rattle.flat_ir.specs.Blocks.{Reading};
+ghost use Rattle.split_model.specs.declared.layout.Crossing.{Crossing};
 ghost use Rattle.transfer_header.specs.Bits.{bits_in, bytes_for, packed};
 ghost use Rattle.transfer_header.specs.Values.{total, value_bits, AreNarrow};
 ghost use Rattle.transfer_header.specs.Registers.{value_in, ChangesOnly, FitsLayout, Holds};
-ghost use Rattle.transfer_header.specs.Frames.{frame_of, up_frame, down_frame, AreParts, IsFrame, IsUnpacked, IsReadBack};
+ghost use Rattle.transfer_header.specs.Frames.{up_frame, down_frame, IsFrame, IsFrameOf, IsUnpacked, IsReadBack};
 
 use crate::bits::{BitWriter, read_bits};
 use crate::registers::Regs;
@@ -23,7 +24,8 @@ const UP: u8 = 1;
 
 const DOWN: u8 = 2;
 
-/// What a frame says besides its values: the number and the port of arrival of its packet, and the place of the packet's first byte.
+/// What a frame says besides its values: the number and the port of arrival of its packet, and the place of the
+/// packet's first byte.
 #[derive(Clone, Copy, Debug, PartialEq, Eq)]
 pub struct Head {
     pub number: u32,
@@ -35,8 +37,9 @@ pub struct Head {
 #[derive(Clone, Copy, Debug, PartialEq, Eq)]
 pub struct Malformed;
 
-/// The frame that goes up to the server with a packet: a byte 1, the packet's number in four bytes, the highest first, its port of arrival, the
-/// values of a layout, from the highest bit of each, with no gaps and zero bits up to a whole byte, and the packet.
+/// The frame that goes up to the server with a packet: a byte 1, the packet's number in four bytes, the highest first,
+/// its port of arrival, the values of a layout, each from its highest bit on, with no gaps between them and zero bits
+/// up to a whole byte, and the packet.
 pub fn pack_up(
     alloc: Global,
     layout: &Layout,
@@ -48,9 +51,9 @@ pub fn pack_up(
     requires fits { FitsLayout layout.now values.now }
     requires narrow { AreNarrow layout.now (value_in values.now) }
     requires short { length packet.now ≤ largest_packet }
-    ensures bytes { IfOk result (λ made. made ≡ frame_of 1 layout.now number port (value_in values.now) packet.now) }
-    ensures reading { (reads : Reading) → Holds layout.now values.now reads → IfOk result (λ made. made ≡ up_frame layout.now number port reads packet.now) }
-    ensures frame { IfOk result (λ made. IsFrame 1 layout.now made) }
+    ensures frame { IfOk result (λ made. IsFrameOf 1 layout.now number port (value_in values.now) packet.now made) }
+    ensures reading { (reads : Reading) → Holds layout.now values.now reads
+        → IfOk result (λ made. made ≡ up_frame layout.now number port reads packet.now) }
 {
     pack(alloc, UP, layout, number, port, values, packet)
 }
@@ -67,21 +70,23 @@ pub fn pack_down(
     requires fits { FitsLayout layout.now values.now }
     requires narrow { AreNarrow layout.now (value_in values.now) }
     requires short { length packet.now ≤ largest_packet }
-    ensures bytes { IfOk result (λ made. made ≡ frame_of 2 layout.now number port (value_in values.now) packet.now) }
-    ensures reading { (reads : Reading) → Holds layout.now values.now reads → IfOk result (λ made. made ≡ down_frame layout.now number port reads packet.now) }
-    ensures frame { IfOk result (λ made. IsFrame 2 layout.now made) }
+    ensures frame { IfOk result (λ made. IsFrameOf 2 layout.now number port (value_in values.now) packet.now made) }
+    ensures reading { (reads : Reading) → Holds layout.now values.now reads
+        → IfOk result (λ made. made ≡ down_frame layout.now number port reads packet.now) }
 {
     pack(alloc, DOWN, layout, number, port, values, packet)
 }
 
-/// What a frame says that goes up, with the numbers of its values put into registers. Where the bytes are no such frame of the layout, it is
-/// malformed, and the registers stay.
+/// What a frame says that goes up, with the numbers of its values put into registers. Where the bytes are no such frame
+/// of the layout, it is malformed, and the registers stay. This takes no memory.
 pub fn unpack_up(layout: &Layout, frame: &[u8], into: &mut Regs) -> Result<Head, Malformed>
     requires { FitsLayout layout.now into.old }
     ensures ok { IfOk result (λ head. IsUnpacked 1 layout.now frame.now into.old into.new head) }
     ensures exact { (IsOk result) ↔ (IsFrame 1 layout.now frame.now) }
     ensures kept { OnErr result (into.new ≡ into.old) }
-    ensures read_back { (number port : ℕ) (values : Item → ℕ) (packet : List ℕ) → AreParts layout.now number port values packet → frame.now ≡ frame_of 1 layout.now number port values packet → IsOkAnd result (λ head. IsReadBack layout.now number port values packet frame.now into.new head) }
+    ensures read_back { (number port : ℕ) (values : Crossing → ℕ) (packet : List ℕ)
+        → IsFrameOf 1 layout.now number port values packet frame.now
+        → IsOkAnd result (λ head. IsReadBack layout.now number port values packet frame.now into.new head) }
 {
     unpack(UP, layout, frame, into)
 }
@@ -92,7 +97,9 @@ pub fn unpack_down(layout: &Layout, frame: &[u8], into: &mut Regs) -> Result<Hea
     ensures ok { IfOk result (λ head. IsUnpacked 2 layout.now frame.now into.old into.new head) }
     ensures exact { (IsOk result) ↔ (IsFrame 2 layout.now frame.now) }
     ensures kept { OnErr result (into.new ≡ into.old) }
-    ensures read_back { (number port : ℕ) (values : Item → ℕ) (packet : List ℕ) → AreParts layout.now number port values packet → frame.now ≡ frame_of 2 layout.now number port values packet → IsOkAnd result (λ head. IsReadBack layout.now number port values packet frame.now into.new head) }
+    ensures read_back { (number port : ℕ) (values : Crossing → ℕ) (packet : List ℕ)
+        → IsFrameOf 2 layout.now number port values packet frame.now
+        → IsOkAnd result (λ head. IsReadBack layout.now number port values packet frame.now into.new head) }
 {
     unpack(DOWN, layout, frame, into)
 }
@@ -109,8 +116,7 @@ fn pack(
     requires fits { FitsLayout layout.now values.now }
     requires narrow { AreNarrow layout.now (value_in values.now) }
     requires short { length packet.now ≤ largest_packet }
-    ensures bytes { IfOk result (λ made. made ≡ frame_of kind layout.now number port (value_in values.now) packet.now) }
-    ensures frame { IfOk result (λ made. IsFrame kind layout.now made) }
+    ensures { IfOk result (λ made. IsFrameOf kind layout.now number port (value_in values.now) packet.now made) }
 {
     let header = pack_values(alloc, layout, values)?;
     let mut frame = Bytes::new(alloc);
@@ -139,7 +145,9 @@ fn unpack(kind: u8, layout: &Layout, frame: &[u8], into: &mut Regs) -> Result<He
     ensures ok { IfOk result (λ head. IsUnpacked kind layout.now frame.now into.old into.new head) }
     ensures exact { (IsOk result) ↔ (IsFrame kind layout.now frame.now) }
     ensures kept { OnErr result (into.new ≡ into.old) }
-    ensures read_back { (number port : ℕ) (values : Item → ℕ) (packet : List ℕ) → AreParts layout.now number port values packet → frame.now ≡ frame_of kind layout.now number port values packet → IsOkAnd result (λ head. IsReadBack layout.now number port values packet frame.now into.new head) }
+    ensures read_back { (number port : ℕ) (values : Crossing → ℕ) (packet : List ℕ)
+        → IsFrameOf kind layout.now number port values packet frame.now
+        → IsOkAnd result (λ head. IsReadBack layout.now number port values packet frame.now into.new head) }
 {
     prove!(layout.len() <= into.len() as usize);
     let bits = total_bits(layout);

@@ -5,8 +5,8 @@ use gal_io::NoMemory;
 use std::alloc::Global;
 use std::marker::Model;
 
-/// A number for each value of a flat program, at the value's place among all of them, in order of instruction and result.
-/// Contracts see the list of the numbers.
+/// A number for each value of a flat program, at the value's place among all of them, in order of instruction and
+/// result. Contracts see the list of the numbers.
 #[derive(Debug, Drop)]
 pub struct Regs {
     items: Vec<u64>,

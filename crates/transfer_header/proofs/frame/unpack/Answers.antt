@@ -9,7 +9,7 @@ use Rattle.transfer_header.specs.Registers.{value_in}
 use Rattle.transfer_header.specs.Frames.{IsFrame, IsUnpacked}
 use Rattle.transfer_header.proofs.BitLists.{AreBytes}
 use Rattle.transfer_header.proofs.LayoutValues.{length_rising}
-use Rattle.transfer_header.proofs.WholeFrames.{header_is, frame_is, outline, zeros_behind, no_frame, not_filled, is_filled_at, range_is, length_range, read_back, unpacked_is_frame}
+use Rattle.transfer_header.proofs.WholeFrames.{header_is, frame_is, outline, zeros_behind, not_filled, is_filled_at, range_is, length_range, read_back, a_frame}
 use Rattle.transfer_header.proofs.frame.unpack.Goals as goal
 use Rattle.transfer_header.proofs.frame.unpack.Goals.{then-frame-packet_at-via-then-frame-packet_at, then-frame-packet_at-via-else-frame-packet_at+then-frame-packet_at-gt-MAX_PACKET_BYTES, then-frame-packet_at-via-else-frame-packet_at+else-frame-packet_at-gt-MAX_PACKET_BYTES+then-frame-kind}
 
@@ -31,8 +31,8 @@ returns-then-frame-packet_at-clause-exact c = (λ no. absurd (true≢false (sym 
         ]
 
 pub returns-then-frame-packet_at-clause-read_back : goal.returns-then-frame-packet_at-clause-read_back
-returns-then-frame-packet_at-clause-read_back c number port values packet =
-    no_frame c.args.kind c.args.layout.now c.args.frame.now number port values packet (λ is. true≢false (sym ((returns-then-frame-packet_at-clause-exact c).1 is)))
+returns-then-frame-packet_at-clause-read_back c number port values packet is =
+    absurd (true≢false (sym ((returns-then-frame-packet_at-clause-exact c).1 (a_frame c.args.kind c.args.layout.now number port values packet c.args.frame.now is))))
 
 -- ---- a bit in the filling
 pub returns-then-not-is_filled-clause-exact : goal.returns-then-not-is_filled-clause-exact
@@ -47,8 +47,8 @@ returns-then-not-is_filled-clause-exact c = (λ no. absurd (true≢false (sym no
         (zeros_behind c.args.kind c.args.layout.now frame header (range_is frame bits (total c.args.layout.now) c.total_bits-bits.ensures.value) is)
 
 pub returns-then-not-is_filled-clause-read_back : goal.returns-then-not-is_filled-clause-read_back
-returns-then-not-is_filled-clause-read_back c number port values packet =
-    no_frame c.args.kind c.args.layout.now c.args.frame.now number port values packet (λ is. true≢false (sym ((returns-then-not-is_filled-clause-exact c).1 is)))
+returns-then-not-is_filled-clause-read_back c number port values packet is =
+    absurd (true≢false (sym ((returns-then-not-is_filled-clause-exact c).1 (a_frame c.args.kind c.args.layout.now number port values packet c.args.frame.now is))))
 
 -- ---- a frame
 pub returns-clause-ok : goal.returns-clause-ok
@@ -66,23 +66,25 @@ returns-clause-ok c =
     header_is layout header values are_header (length_range frame bits (total layout) same c.if-frame-packet_at.false) c.unpack_values.ensures.bits
     (is_filled_at header bits (total layout) c.is_filled.result same c.if-not-is_filled.false c.is_filled.ensures.0) in
     record {
-      parts = record {
+      is = record {
+        bytes = frame_is c.args.kind layout frame c.from_be_bytes.result (6 + (bits + 7) / 8) values are (omega (arith, same)) c.if-frame-packet_at.false
+            c.if-frame-kind.false c.from_be_bytes.ensures (sym part ∙ whole);
         four_bytes = omega (arith, c.from_be_bytes.type_inv);
         one_byte = omega (arith, c.type_inv.frame 5);
         narrow = c.unpack_values.ensures.narrow;
         short = omega (arith, c.if-frame-packet_at-gt-MAX_PACKET_BYTES.false, length-drop (6 + (bits + 7) / 8) frame);
       };
-      bytes = frame_is c.args.kind layout frame c.from_be_bytes.result (6 + (bits + 7) / 8) values are (omega (arith, same)) c.if-frame-packet_at.false
-          c.if-frame-kind.false c.from_be_bytes.ensures (sym part ∙ whole);
       place = omega (arith, same);
       within = omega (arith, c.if-frame-packet_at.false);
       kept = c.unpack_values.ensures.kept;
     }
 
 pub returns-clause-exact : goal.returns-clause-exact
-returns-clause-exact c =
-    (λ yes. unpacked_is_frame c.args.kind c.args.layout.now c.args.frame.now c.args.into.now c.unpack_values.new.into (record { number = c.from_be_bytes.result; port = slice_index_or c.args.frame.now 5 0; packet_at = 6 + (c.total_bits-bits.result + 7) / 8 }) (returns-clause-ok c), λ is. refl)
+returns-clause-exact c = (
+  λ yes. a_frame c.args.kind c.args.layout.now c.from_be_bytes.result (slice_index_or c.args.frame.now 5 0) (value_in c.unpack_values.new.into) (drop (6 + (c.total_bits-bits.result + 7) / 8) c.args.frame.now) c.args.frame.now (returns-clause-ok c).is,
+  λ is. refl,
+)
 
 pub returns-clause-read_back : goal.returns-clause-read_back
-returns-clause-read_back c number port values packet parts made =
-    read_back c.args.kind c.args.layout.now number port values packet c.args.frame.now c.args.into.now c.unpack_values.new.into (record { number = c.from_be_bytes.result; port = slice_index_or c.args.frame.now 5 0; packet_at = 6 + (c.total_bits-bits.result + 7) / 8 }) parts made (returns-clause-ok c)
+returns-clause-read_back c number port values packet =
+    read_back c.args.kind c.args.layout.now number port values packet c.args.frame.now c.args.into.now c.unpack_values.new.into (record { number = c.from_be_bytes.result; port = slice_index_or c.args.frame.now 5 0; packet_at = 6 + (c.total_bits-bits.result + 7) / 8 }) (returns-clause-ok c)
