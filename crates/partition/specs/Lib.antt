@@ -1,4 +1,5 @@
 pub mod Joined
 pub mod Choice
 pub mod Causes
+pub mod Front
 pub mod Tried

@@ -1,5 +1,5 @@
 //! The choice of a split.
-ghost use Rattle.std.specs.Prelude.{◌≡◌, ℕ, ◌-◌, length, IfOk, IfErr, true, false, List};
+ghost use Rattle.std.specs.Prelude.{◌≡◌, ◌↔◌, ℕ, ◌<◌, ◌-◌, length, IfOk, IfErr, true, false, List};
 ghost use Rattle.flat_ir.specs.Program.{program_of};
 ghost use Rattle.split_model.specs.declared.split.Part.{Part};
 ghost use Rattle.split_model.specs.Bounds.{IsBounded};
@@ -10,8 +10,10 @@ ghost use Rattle.resource_limits.specs.declared.exceeding.Over.{Over};
 ghost use Rattle.partition.specs.Choice.{IsChosen, IsRefused, HasLowStages};
 ghost use Rattle.partition.specs.declared.choosing.PartError.TheVariants.{NoMemory as without_memory};
 ghost use Rattle.partition.specs.Causes.{IsCause};
-ghost use Rattle.partition.specs.Tried.{IsTried, IsTriedTwice};
+ghost use Rattle.partition.specs.Tried.{IsTried, IsFound, IsFoundOfTwo, IsStep};
+ghost use Rattle.partition.specs.Front.{IsFront};
 
+use crate::front::Front;
 use crate::greatest::{all_on_server, greatest_split};
 use crate::laws::greatest_split_is_one;
 use flat_ir::Flat;
@@ -66,18 +68,75 @@ fn try_split(
     }
 }
 
-// The same with postprocessing and else without it.
-fn try_twice(alloc: Global, f: &Flat, limits: &Limits, k: usize) -> Result<Option<Split>, NoMemory>
+// Whether a split keeps the limits.
+fn keeps(alloc: Global, f: &Flat, split: &Split, limits: &Limits) -> Result<bool, NoMemory>
+    requires bounded { IsBounded (program_of f.now) }
+    requires parts { length split.now ≡ length f.now.code }
+    requires in_range { AreInRange limits.now }
+    ensures { IfOk result (λ keeps. (keeps ≡ true) ↔ KeepsLimits (program_of f.now) split.now limits.now) }
+{
+    let counts = count(alloc, f, split, limits.writeback)?;
+    Ok(first_exceeded(&counts, limits).is_none())
+}
+
+// The greatest split with these sets, where it keeps the limits.
+fn find(
+    alloc: Global,
+    f: &Flat,
+    limits: &Limits,
+    front: &Front,
+    all: bool,
+) -> Result<Option<Split>, NoMemory>
     requires bounded { IsBounded (program_of f.now) }
     requires in_range { AreInRange limits.now }
-    ensures { IfOk result (λ found. IsTriedTwice (program_of f.now) limits.now k found) }
+    requires front { IsFront (program_of f.now) front.now }
+    ensures { IfOk result (λ found. IsFound (program_of f.now) limits.now front.now.count all found) }
 {
-    if let Tried::Kept(split) = try_split(alloc, f, limits, k, true)? {
+    greatest_split_is_one();
+    let split = front.split(alloc, f, all)?;
+    if keeps(alloc, f, &split, limits)? {
+        Ok(Some(split))
+    } else {
+        Ok(None)
+    }
+}
+
+// The same with postprocessing and else without it.
+fn find_of_two(
+    alloc: Global,
+    f: &Flat,
+    limits: &Limits,
+    front: &Front,
+) -> Result<Option<Split>, NoMemory>
+    requires bounded { IsBounded (program_of f.now) }
+    requires in_range { AreInRange limits.now }
+    requires front { IsFront (program_of f.now) front.now }
+    ensures { IfOk result (λ found. IsFoundOfTwo (program_of f.now) limits.now front.now.count found) }
+{
+    if let Some(split) = find(alloc, f, limits, front, true)? {
         return Ok(Some(split));
     }
-    match try_split(alloc, f, limits, k, false)? {
-        Tried::Kept(split) => Ok(Some(split)),
-        Tried::Exceeding(_) => Ok(None),
+    find(alloc, f, limits, front, false)
+}
+
+// The first split of those on so many instructions or fewer, where it is one on so many. Where preprocessing hasn't the
+// last of them, these are the splits on one less.
+fn step(
+    alloc: Global,
+    f: &Flat,
+    limits: &Limits,
+    front: &Front,
+) -> Result<Option<Split>, NoMemory>
+    requires bounded { IsBounded (program_of f.now) }
+    requires in_range { AreInRange limits.now }
+    requires front { IsFront (program_of f.now) front.now }
+    requires some { 0 < front.now.count }
+    ensures { IfOk result (λ found. IsStep (program_of f.now) limits.now front.now.count found) }
+{
+    if front.has_last() {
+        find_of_two(alloc, f, limits, front)
+    } else {
+        Ok(None)
     }
 }
 
@@ -87,16 +146,16 @@ fn shrunk(alloc: Global, f: &Flat, limits: &Limits) -> Result<Split, NoMemory>
     requires in_range { AreInRange limits.now }
     ensures { IfOk result (λ split. IsChosen (program_of f.now) limits.now true split) }
 {
-    let mut k = f.code.len();
-    while k > 0 {
-        if let Some(split) = try_twice(alloc, f, limits, k)? {
+    let mut front = Front::new(alloc, f, f.code.len())?;
+    while front.count > 0 {
+        if let Some(split) = step(alloc, f, limits, &front)? {
             return Ok(split);
         }
-        k -= 1;
+        front.narrow();
     }
-    match try_split(alloc, f, limits, 0, true)? {
-        Tried::Kept(split) => Ok(split),
-        Tried::Exceeding(_) => all_on_server(alloc, f),
+    match find(alloc, f, limits, &front, true)? {
+        Some(split) => Ok(split),
+        None => all_on_server(alloc, f),
     }
 }
 

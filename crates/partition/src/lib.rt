@@ -2,6 +2,7 @@
 #![tactic(auto)]
 
 mod choosing;
+mod front;
 mod greatest;
 mod laws;
 
