@@ -4,6 +4,7 @@ ghost use Rattle.std.specs.Prelude.{List};
 ghost use Rattle.packet_fields.specs.declared.packet.Packet.{Packet};
 ghost use Rattle.state_store.specs.Kept.{IsKept};
 ghost use Rattle.state_store.specs.Store.{Store};
+ghost use Rattle.flat_ir.specs.Arrivals.{IsArrival};
 ghost use Rattle.flat_ir.specs.Program.{Program};
 ghost use Rattle.flat_ir.specs.Blocks.{Reading};
 ghost use Rattle.flat_ir.specs.WellFormed.{HasTables, IsWellFormed};
@@ -11,12 +12,12 @@ ghost use Rattle.split_model.specs.declared.split.Part.{Part};
 ghost use Rattle.split_model.specs.Crossing.{crosses_down, crosses_up, is_written_value};
 ghost use Rattle.split_model.specs.Legal.{IsLegal};
 ghost use Rattle.split_model.specs.Passes.{IsHanded, Shows, pre_values};
-ghost use Rattle.split_model.specs.Laws.{CarriedStand, IsExact, IsLoaded, IsShownAlone, IsWhole};
+ghost use Rattle.split_model.specs.Laws.{CarriedStand, FitAcross, IsExact, IsLoaded, IsShownAlone, IsWhole};
 ghost use Rattle.split_model.specs.Laws.{IsSentAlike, IsServedAlike};
 
 use flat_ir::{
     a_run_goes_on, a_run_is_its_changes, a_run_is_its_values, a_run_keeps_the_tables,
-    lines_of_blocks, readings_that_agree,
+    a_run_keeps_widths, lines_of_blocks, readings_that_agree,
 };
 use state_store::rows_change_alone;
 
@@ -41,6 +42,15 @@ pub fn carried_values_stand()
     a_run_is_its_values();
     a_run_keeps_the_tables();
     readings_that_agree();
+}
+
+/// What preprocessing hands up fits the widths of the values, over any tables that have the declared constant ones.
+pub fn what_is_handed_up_fits()
+    ensures { (f : Program) (split : List Part) (st tables : Store) (packet : Packet) → IsWellFormed f → IsLegal f split → IsArrival packet → IsKept f.objects st → IsLoaded f split tables → FitAcross f (crosses_up f split) (pre_values f split tables packet) }
+{
+    a_run_keeps_widths();
+    kept_stores_have_tables();
+    carried_values_stand();
 }
 
 /// The server's run hangs on what is handed up alone: on no number of a value that doesn't cross.
