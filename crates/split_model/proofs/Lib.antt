@@ -3,6 +3,7 @@ mod Carrying
 mod Constants
 mod Crossings
 mod Exactness
+mod Fitness
 mod Passing
 mod Posting
 mod Rules

@@ -2,6 +2,7 @@
 use Rattle.std.specs.Prelude.{◌≡◌, ◌<◌, ◌^◌, ℕ, Bool, true, not, ◌||◌, List, [], Some, None, slice_get, if◌then◌else◌}
 use Rattle.packet_fields.specs.declared.packet.Packet.{Packet}
 use Rattle.state_store.specs.declared.object.ObjectDecl.{ObjectDecl}
+use Rattle.state_store.specs.Kept.{IsKept}
 use Rattle.state_store.specs.Kinds.{is_table}
 use Rattle.state_store.specs.Store.{Store, object_at, start_object}
 use Rattle.flat_ir.specs.declared.program.ValueId.{ValueId}
@@ -75,3 +76,10 @@ pub record IsSentAlike (f : Program) (split : List Part) (tables : Store) (packe
 -- where values cross, the numbers have no more bits than the values' widths
 abbrev pub FitAcross : Program → (ValueId → Bool) → Reading → Type 0
 FitAcross f crosses reads = (v : ValueId) → crosses v ≡ true → reads v < 2 ^ width_of_value f v
+
+-- the server leaves a store that keeps what was declared, and its numbers of values that cross down or that it sets
+-- fields to fit
+pub record IsServedWithin (f : Program) (split : List Part) (st : Store) (packet : Packet) (up : Reading) : Type 0 where
+  pub kept : IsKept f.objects (server_run f split up st packet).store
+  pub down : FitAcross f (crosses_down f split) (server_run f split up st packet).reads
+  pub written : FitAcross f (is_written_value f split) (server_run f split up st packet).reads

@@ -1,23 +1,24 @@
 //! What holds of the parts of every legally split program, as the definitions give it. These functions do nothing:
 //! their contracts are the laws.
-ghost use Rattle.std.specs.Prelude.{List};
+ghost use Rattle.std.specs.Prelude.{◌≤◌, ℕ, List, length};
 ghost use Rattle.packet_fields.specs.declared.packet.Packet.{Packet};
 ghost use Rattle.state_store.specs.Kept.{IsKept};
 ghost use Rattle.state_store.specs.Store.{Store};
 ghost use Rattle.flat_ir.specs.Arrivals.{IsArrival};
 ghost use Rattle.flat_ir.specs.Program.{Program};
 ghost use Rattle.flat_ir.specs.Blocks.{Reading};
+ghost use Rattle.flat_ir.specs.Laws.{AllFit, KeepsWidths};
 ghost use Rattle.flat_ir.specs.WellFormed.{HasTables, IsWellFormed};
 ghost use Rattle.split_model.specs.declared.split.Part.{Part};
 ghost use Rattle.split_model.specs.Crossing.{crosses_down, crosses_up, is_written_value};
 ghost use Rattle.split_model.specs.Legal.{IsLegal};
-ghost use Rattle.split_model.specs.Passes.{IsHanded, Shows, pre_values};
+ghost use Rattle.split_model.specs.Passes.{IsHanded, Shows, pre_values, served};
 ghost use Rattle.split_model.specs.Laws.{CarriedStand, FitAcross, IsExact, IsLoaded, IsShownAlone, IsWhole};
-ghost use Rattle.split_model.specs.Laws.{IsSentAlike, IsServedAlike};
+ghost use Rattle.split_model.specs.Laws.{IsSentAlike, IsServedAlike, IsServedWithin};
 
 use flat_ir::{
     a_run_goes_on, a_run_is_its_changes, a_run_is_its_values, a_run_keeps_the_tables,
-    a_run_keeps_widths, lines_of_blocks, readings_that_agree,
+    a_run_keeps_widths, a_turn_keeps_widths, lines_of_blocks, readings_that_agree,
 };
 use state_store::rows_change_alone;
 
@@ -59,6 +60,16 @@ pub fn a_server_reads_what_crosses()
 {
     readings_that_agree();
     lines_of_blocks();
+}
+
+/// From numbers that fit the server's store keeps what was declared, and its numbers fit: at every turn where all numbers
+/// that it begins with fit, and at the end where those of values that cross do.
+pub fn a_server_keeps_widths()
+    ensures turns { (f : Program) (split : List Part) (st : Store) (packet : Packet) (up : Reading) (n : ℕ) → IsWellFormed f → IsArrival packet → IsKept f.objects st → AllFit f up → n ≤ length f.code → KeepsWidths f (served f split up st packet n) }
+    ensures runs { (f : Program) (split : List Part) (st : Store) (packet : Packet) (up : Reading) → IsWellFormed f → IsLegal f split → IsArrival packet → IsKept f.objects st → FitAcross f (crosses_up f split) up → IsServedWithin f split st packet up }
+{
+    a_turn_keeps_widths();
+    a_server_reads_what_crosses();
 }
 
 /// Postprocessing hangs on what is handed down alone, and on the server's numbers for the fields that the server sets.
