@@ -5,7 +5,8 @@ use Rattle.std.specs.List.{AllByRecursion as Each, list_any}
 use Rattle.flat_ir.specs.declared.program.FieldValue.{FieldValue}
 use Rattle.flat_ir.specs.declared.program.ValueId.{ValueId}
 use Rattle.flat_ir.specs.Kinds.{is_input}
-use Rattle.flat_ir.specs.Program.{Program, step_at, is_named}
+use Rattle.flat_ir.specs.Program.{Program, Work, step_at, is_named}
+use Rattle.flat_ir.specs.Program.Work.{const, field, apply, shift, select, byte, look, put, del}
 use Rattle.flat_ir.specs.WellFormed.{IsWellFormed, IsWritten}
 use Rattle.split_model.specs.Crossing.{is_value, is_among, is_read_by, is_at_hand, is_server_write, is_written_value, guards_write, crosses_down, crosses_up}
 use Rattle.split_model.specs.declared.split.Part.{Part}
@@ -16,6 +17,18 @@ use Rattle.split_model.proofs.Sights.{value_self}
 pub not_true : (b : Bool) → not b ≡ true → b ≡ false
 not_true true e = absurd (false≢true e)
 not_true false e = refl
+
+-- what is at hand is a const or a field
+pub input_from : (f : Program) (split : List Part) (work : Work) → is_at_hand f split work ≡ true → is_input work ≡ true
+input_from f split (const width number) e = refl
+input_from f split (field name) e = refl
+input_from f split (apply op width args) e = absurd (false≢true e)
+input_from f split (shift op width arg by) e = absurd (false≢true e)
+input_from f split (select width c first second) e = absurd (false≢true e)
+input_from f split (byte index) e = absurd (false≢true e)
+input_from f split (look object keys) e = absurd (false≢true e)
+input_from f split (put object keys values) e = absurd (false≢true e)
+input_from f split (del object keys) e = absurd (false≢true e)
 
 -- what is handed up is carried
 pub carried_up : (f : Program) (split : List Part) (v : ValueId) → crosses_up f split v ≡ true → is_carried split v.instruction ≡ true

@@ -1,5 +1,5 @@
 -- The way up, through the server and down is the whole run.
-use Rattle.std.proofs.Common.{◌≡◌, ℕ, zero, suc, ◌==◌, ◌<◌, ◌≤◌, ◌%◌, ◌^◌, true, false, not, ◌&&◌, ◌||◌, List, [], ◌∷◌, length, refl, sym, ap, ◌∙◌, subst, arith, ⊎_elim, slice_index, if◌then◌else◌}
+use Rattle.std.proofs.Common.{◌≡◌, ℕ, zero, suc, ◌==◌, ◌<◌, ◌≤◌, ◌%◌, ◌^◌, true, false, not, ◌&&◌, ◌||◌, List, [], ◌∷◌, length, sym, ap, ◌∙◌, subst, arith, ⊎_elim, slice_index, if◌then◌else◌}
 use Rattle.std.proofs.lemmas.Bool.{false≢true, cases_Bool, cond-true, cond-false, and_from, or_left, or_right}
 use Rattle.std.proofs.Math.Nat.{eq-or-lt_of_le}
 use Rattle.std.specs.List.{AllByRecursion as Each}
@@ -10,10 +10,8 @@ use Rattle.state_store.specs.Store.{Store}
 use Rattle.flat_ir.specs.declared.program.FieldValue.{FieldValue}
 use Rattle.flat_ir.specs.declared.program.ValueId.{ValueId}
 use Rattle.flat_ir.specs.Blocks.{Reading, nothing, is_live}
-use Rattle.flat_ir.specs.Kinds.{is_input}
 use Rattle.flat_ir.specs.Laws.{KeepsTables, Same}
 use Rattle.flat_ir.specs.Program.{Program, Work, step_at, operands, is_named}
-use Rattle.flat_ir.specs.Program.Work.{const, field, apply, shift, select, byte, look, put, del}
 use Rattle.flat_ir.specs.Run.{after, flat_run, flat_verdict, results, with_writes}
 use Rattle.flat_ir.specs.WellFormed.{IsWellFormed, HasTables, IsOutput, IsWritten}
 use Rattle.split_model.specs.Crossing.{is_among, is_read_by, is_at_hand, is_written_value, crosses_down, crosses_up}
@@ -24,23 +22,12 @@ use Rattle.split_model.specs.Passes.{pre_values, IsHanded, served, server_run, g
 use Rattle.split_model.specs.Split.{post_stage, is_post}
 use Rattle.split_model.proofs.Below.{Agreements, AreItsValues, Lines, Stays, each_weaker, each_both}
 use Rattle.split_model.proofs.Carrying.{constants, constant_sight, post_shown}
-use Rattle.split_model.proofs.Crossings.{carried_up, each_written}
+use Rattle.split_model.proofs.Crossings.{carried_up, each_written, input_from}
 use Rattle.split_model.proofs.Passing.{any_passes}
 use Rattle.split_model.proofs.Rules.{post_kind, post_look, post_rises}
 use Rattle.split_model.proofs.Serving.{server_does, whole_does, claim, knows_all}
 use Rattle.split_model.proofs.Sights.{each_among, named_within, seen_same, input_same, writes_same}
 use Rattle.split_model.proofs.Stages.{staged_value, given_value}
-
-input_from : (f : Program) (split : List Part) (work : Work) → is_at_hand f split work ≡ true → is_input work ≡ true
-input_from f split (const width number) e = refl
-input_from f split (field name) e = refl
-input_from f split (apply op width args) e = absurd (false≢true e)
-input_from f split (shift op width arg by) e = absurd (false≢true e)
-input_from f split (select width c first second) e = absurd (false≢true e)
-input_from f split (byte index) e = absurd (false≢true e)
-input_from f split (look object keys) e = absurd (false≢true e)
-input_from f split (put object keys values) e = absurd (false≢true e)
-input_from f split (del object keys) e = absurd (false≢true e)
 
 module _ (f : Program) (split : List Part) (st tables : Store) (packet : Packet) (c D : Reading) where
   abbrev F : Reading

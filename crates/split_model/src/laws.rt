@@ -1,18 +1,20 @@
 //! What holds of the parts of every legally split program, as the definitions give it. These functions do nothing:
 //! their contracts are the laws.
-ghost use Rattle.std.specs.Prelude.{◌≤◌, ℕ, List, length};
+ghost use Rattle.std.specs.Prelude.{◌≡◌, ◌<◌, ◌≤◌, ℕ, List, Option, Some, length};
 ghost use Rattle.packet_fields.specs.declared.packet.Packet.{Packet};
 ghost use Rattle.state_store.specs.Kept.{IsKept};
 ghost use Rattle.state_store.specs.Store.{Store};
 ghost use Rattle.flat_ir.specs.Arrivals.{IsArrival};
+ghost use Rattle.flat_ir.specs.declared.program.ValueId.{ValueId};
 ghost use Rattle.flat_ir.specs.Program.{Program};
-ghost use Rattle.flat_ir.specs.Blocks.{Reading};
+ghost use Rattle.flat_ir.specs.Blocks.{Reading, nothing};
 ghost use Rattle.flat_ir.specs.Laws.{AllFit, KeepsWidths};
 ghost use Rattle.flat_ir.specs.WellFormed.{HasTables, IsWellFormed};
 ghost use Rattle.split_model.specs.declared.split.Part.{Part};
 ghost use Rattle.split_model.specs.Crossing.{crosses_down, crosses_up, is_written_value};
+ghost use Rattle.split_model.specs.Split.{post_stage, pre_stage};
 ghost use Rattle.split_model.specs.Legal.{IsLegal};
-ghost use Rattle.split_model.specs.Passes.{IsHanded, Shows, pre_values, served};
+ghost use Rattle.split_model.specs.Passes.{IsHanded, Shows, done_below, given_down, pass, post_values, pre_values, served};
 ghost use Rattle.split_model.specs.Laws.{CarriedStand, FitAcross, IsExact, IsLoaded, IsShownAlone, IsWhole};
 ghost use Rattle.split_model.specs.Laws.{IsSentAlike, IsServedAlike, IsServedWithin};
 
@@ -70,6 +72,23 @@ pub fn a_server_keeps_widths()
 {
     a_turn_keeps_widths();
     a_server_reads_what_crosses();
+}
+
+/// From numbers that fit, over tables that keep what was declared, all numbers of a pass fit: at every stage, and at its end.
+pub fn passes_keep_widths()
+    ensures pre_stages { (f : Program) (split : List Part) (tables : Store) (packet : Packet) (t : ℕ) → IsWellFormed f → IsLegal f split → IsArrival packet → IsKept f.objects tables → AllFit f (done_below f (pre_stage split) nothing tables packet t) }
+    ensures pre { (f : Program) (split : List Part) (tables : Store) (packet : Packet) → IsWellFormed f → IsLegal f split → IsArrival packet → IsKept f.objects tables → AllFit f (pre_values f split tables packet) }
+    ensures post_stages { (f : Program) (split : List Part) (down : Reading) (tables : Store) (packet : Packet) (t : ℕ) → IsWellFormed f → IsLegal f split → IsArrival packet → IsKept f.objects tables → FitAcross f (crosses_down f split) down → AllFit f (done_below f (post_stage split) (given_down f split down packet) tables packet t) }
+    ensures post { (f : Program) (split : List Part) (down : Reading) (tables : Store) (packet : Packet) → IsWellFormed f → IsLegal f split → IsArrival packet → IsKept f.objects tables → FitAcross f (crosses_down f split) down → AllFit f (post_values f split down tables packet) }
+{
+    a_turn_keeps_widths();
+}
+
+/// Once all stages of a pass up to that of a value are done, the value is the pass's: it stays.
+pub fn a_pass_is_done_by_stages()
+    ensures { (f : Program) (stage : ℕ → Option ℕ) (given : Reading) (tables : Store) (packet : Packet) (t : ℕ) (v : ValueId) → ((own : ℕ) → stage v.instruction ≡ Some own → own < t) → done_below f stage given tables packet t v ≡ pass f stage given tables packet v }
+{
+    readings_that_agree();
 }
 
 /// Postprocessing hangs on what is handed down alone, and on the server's numbers for the fields that the server sets.
