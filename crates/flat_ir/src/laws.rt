@@ -48,7 +48,9 @@ pub fn a_run_keeps_widths()
 /// An instruction keeps what was declared of the store, and numbers that fit: from any numbers that fit their values'
 /// widths, and in a block that is live or not.
 pub fn a_turn_keeps_widths()
-    ensures { (f : Program) (packet : Packet) (live : Bool) (i : ℕ) (m : Machine) → IsWellFormed f → IsArrival packet → i < length f.code → KeepsWidths f m → KeepsWidths f (do_step live packet i (step_at f i).work m) }
+    ensures { (f : Program) (packet : Packet) (live : Bool) (i : ℕ) (m : Machine)
+        → IsWellFormed f → IsArrival packet → i < length f.code → KeepsWidths f m
+        → KeepsWidths f (do_step live packet i (step_at f i).work m) }
 {}
 
 /// Readings that agree on what an instruction reads give it the same results and changes, and readings that agree on the
