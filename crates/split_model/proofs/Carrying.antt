@@ -62,7 +62,7 @@ constant_sight f st st' (byte index) same e = tt
 constant_sight f st st' (put object keys values) same e = tt
 constant_sight f st st' (del object keys) same e = tt
 
-beyond : {X : Type 0} (xs : List X) (k : ℕ) (d : X) → length xs ≤ k → get_or xs k d ≡ d
+pub beyond : {X : Type 0} (xs : List X) (k : ℕ) (d : X) → length xs ≤ k → get_or xs k d ≡ d
 beyond [] k d le = refl
 beyond (x ∷ xs) zero d le = absurd (omega (arith, le))
 beyond (x ∷ xs) (suc k) d le = beyond xs k d (omega (arith, le))

@@ -4,11 +4,13 @@ use Rattle.std.proofs.lemmas.Bool.{false≢true, and_from, and_parts, or_left, o
 use Rattle.std.specs.List.{AllByRecursion as Each, list_any}
 use Rattle.flat_ir.specs.declared.program.FieldValue.{FieldValue}
 use Rattle.flat_ir.specs.declared.program.ValueId.{ValueId}
-use Rattle.flat_ir.specs.Program.{Program, step_at, is_named}
+use Rattle.flat_ir.specs.Kinds.{is_input}
+use Rattle.flat_ir.specs.Program.{Program, Work, step_at, is_named}
+use Rattle.flat_ir.specs.Program.Work.{const, field, apply, shift, select, byte, look, put, del}
 use Rattle.flat_ir.specs.WellFormed.{IsWellFormed, IsWritten}
-use Rattle.split_model.specs.Crossing.{is_value, is_among, is_read_by, is_at_hand, is_server_write, is_written_value, crosses_down}
+use Rattle.split_model.specs.Crossing.{is_value, is_among, is_read_by, is_at_hand, is_server_write, is_written_value, guards_write, crosses_down, crosses_up}
 use Rattle.split_model.specs.declared.split.Part.{Part}
-use Rattle.split_model.specs.Split.{is_post}
+use Rattle.split_model.specs.Split.{is_carried, is_post, is_server}
 use Rattle.split_model.proofs.Below.{each_weaker}
 use Rattle.split_model.proofs.Sights.{value_self}
 
@@ -16,7 +18,26 @@ pub not_true : (b : Bool) → not b ≡ true → b ≡ false
 not_true true e = absurd (false≢true e)
 not_true false e = refl
 
--- they are there, and not of postprocessing
+-- what is at hand is a const or a field
+pub input_from : (f : Program) (split : List Part) (work : Work) → is_at_hand f split work ≡ true → is_input work ≡ true
+input_from f split (const width number) e = refl
+input_from f split (field name) e = refl
+input_from f split (apply op width args) e = absurd (false≢true e)
+input_from f split (shift op width arg by) e = absurd (false≢true e)
+input_from f split (select width c first second) e = absurd (false≢true e)
+input_from f split (byte index) e = absurd (false≢true e)
+input_from f split (look object keys) e = absurd (false≢true e)
+input_from f split (put object keys values) e = absurd (false≢true e)
+input_from f split (del object keys) e = absurd (false≢true e)
+
+-- what is handed up is carried
+pub carried_up : (f : Program) (split : List Part) (v : ValueId) → crosses_up f split v ≡ true → is_carried split v.instruction ≡ true
+carried_up f split v e =
+    let own = is_carried split v.instruction && not (is_input (step_at f v.instruction).work) in
+    let parts = and_parts (is_named f v && own) (is_read_by f (is_server split) v || (guards_write f v || (crosses_down f split v || is_written_value f split v))) e in
+    (and_parts (is_carried split v.instruction) (not (is_input (step_at f v.instruction).work)) ((and_parts (is_named f v) own parts.0).1)).0
+
+-- what is handed down is there, and not of postprocessing
 pub down_parts : (f : Program) (split : List Part) (v : ValueId) → crosses_down f split v ≡ true → (is_named f v ≡ true) × (is_post split v.instruction ≡ false)
 down_parts f split v e =
     let reasons = is_among v (f.send ∷ f.port ∷ []) || (not (is_at_hand f split (step_at f v.instruction).work) && is_read_by f (is_post split) v) in

@@ -6,6 +6,7 @@ mod Exactness
 mod Guarding
 mod Marking
 mod Numbering
+mod Fitness
 mod Passing
 mod Posting
 mod Rules

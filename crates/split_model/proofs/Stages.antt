@@ -44,15 +44,15 @@ module _ (agree : Agreements) (f : Program) (stage : ℕ → Option ℕ) (given 
       (λ less. cond-false (is_stage (stage v.instruction) t) (made_of (done t) v) (done t v) (ap (λ o. is_stage o t) e ∙ ne_eqb own t (λ same. omega (arith, less, same))) ∙ done_stage t own v e less)
       (eq-or-lt_of_le {n = own} {m = t} (omega (arith, lt)))
 
-  -- below its stage an instruction reads what it would read of the whole pass
-  pub lower_case : (own : ℕ) (v : ValueId) (o : Option ℕ) → stage v.instruction ≡ o → IsLower stage own v → done own v ≡ all v
-  lower_case own v None e low = done_given own v e ∙ sym (pass_given v e)
-  lower_case own v (Some other) e low = done_stage own other v e (low other e)
+  -- once the stages up to its own are done, a value is the pass's
+  pub done_by : (t : ℕ) (v : ValueId) (o : Option ℕ) → stage v.instruction ≡ o → IsLower stage t v → done t v ≡ all v
+  done_by t v None e low = done_given t v e ∙ sym (pass_given v e)
+  done_by t v (Some own) e low = done_stage t own v e (low own e)
 
   pub pass_value : (v : ValueId) (own : ℕ) → stage v.instruction ≡ Some own → Each (IsLower stage own) (operands (step_at f v.instruction).work) → all v ≡ made_of all v
   pass_value v own e low =
       pass_stage v own e
-      ∙ ap (λ rs. slice_index rs v.result) (agree.results (done own) all false tables packet (step_at f v.instruction).work (agree.operands (done own) all (step_at f v.instruction).work (each_weaker (IsLower stage own) (Same (done own) all) (λ w. lower_case own w (stage w.instruction) refl) (operands (step_at f v.instruction).work) low)))
+      ∙ ap (λ rs. slice_index rs v.result) (agree.results (done own) all false tables packet (step_at f v.instruction).work (agree.operands (done own) all (step_at f v.instruction).work (each_weaker (IsLower stage own) (Same (done own) all) (λ w. done_by own w (stage w.instruction) refl) (operands (step_at f v.instruction).work) low)))
 
   value_case : (v : ValueId) (o : Option ℕ) → stage v.instruction ≡ o → is_some o ≡ true → IsRising f stage → v.instruction < length f.code → all v ≡ made_of all v
   value_case v None e some rising lt = absurd (false≢true some)

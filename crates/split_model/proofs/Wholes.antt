@@ -1,6 +1,6 @@
 -- The way up, through the server and down is the whole run.
-use Rattle.std.proofs.Common.{◌≡◌, ℕ, zero, suc, ◌==◌, ◌<◌, ◌≤◌, ◌%◌, ◌^◌, true, false, not, ◌&&◌, ◌||◌, List, [], ◌∷◌, length, refl, sym, ap, ◌∙◌, subst, arith, ⊎_elim, slice_index, if◌then◌else◌}
-use Rattle.std.proofs.lemmas.Bool.{false≢true, cases_Bool, cond-true, cond-false, and_from, and_parts, or_left, or_right}
+use Rattle.std.proofs.Common.{◌≡◌, ℕ, zero, suc, ◌==◌, ◌<◌, ◌≤◌, ◌%◌, ◌^◌, true, false, not, ◌&&◌, ◌||◌, List, [], ◌∷◌, length, sym, ap, ◌∙◌, subst, arith, ⊎_elim, slice_index, if◌then◌else◌}
+use Rattle.std.proofs.lemmas.Bool.{false≢true, cases_Bool, cond-true, cond-false, and_from, or_left, or_right}
 use Rattle.std.proofs.Math.Nat.{eq-or-lt_of_le}
 use Rattle.std.specs.List.{AllByRecursion as Each}
 use Rattle.packet_fields.specs.Table.{row}
@@ -10,37 +10,24 @@ use Rattle.state_store.specs.Store.{Store}
 use Rattle.flat_ir.specs.declared.program.FieldValue.{FieldValue}
 use Rattle.flat_ir.specs.declared.program.ValueId.{ValueId}
 use Rattle.flat_ir.specs.Blocks.{Reading, nothing, is_live}
-use Rattle.flat_ir.specs.Kinds.{is_input}
 use Rattle.flat_ir.specs.Laws.{KeepsTables, Same}
 use Rattle.flat_ir.specs.Program.{Program, Work, step_at, operands, is_named}
-use Rattle.flat_ir.specs.Program.Work.{const, field, apply, shift, select, byte, look, put, del}
 use Rattle.flat_ir.specs.Run.{after, flat_run, flat_verdict, results, with_writes}
 use Rattle.flat_ir.specs.WellFormed.{IsWellFormed, HasTables, IsOutput, IsWritten}
-use Rattle.split_model.specs.Crossing.{is_among, is_read_by, guards_write, is_at_hand, is_written_value, crosses_down, crosses_up}
+use Rattle.split_model.specs.Crossing.{is_among, is_read_by, is_at_hand, is_written_value, crosses_down, crosses_up}
 use Rattle.split_model.specs.declared.split.Part.{Part}
 use Rattle.split_model.specs.Laws.{CarriedStand, IsLoaded, IsWhole}
 use Rattle.split_model.specs.Legal.{IsLegal}
 use Rattle.split_model.specs.Passes.{pre_values, IsHanded, served, server_run, given_down, post_values, leaving, post_verdict}
-use Rattle.split_model.specs.Split.{post_stage, is_post, is_carried, is_server}
+use Rattle.split_model.specs.Split.{post_stage, is_post}
 use Rattle.split_model.proofs.Below.{Agreements, AreItsValues, Lines, Stays, each_weaker, each_both}
 use Rattle.split_model.proofs.Carrying.{constants, constant_sight, post_shown}
-use Rattle.split_model.proofs.Crossings.{each_written}
+use Rattle.split_model.proofs.Crossings.{carried_up, each_written, input_from}
 use Rattle.split_model.proofs.Passing.{any_passes}
 use Rattle.split_model.proofs.Rules.{post_kind, post_look, post_rises}
 use Rattle.split_model.proofs.Serving.{server_does, whole_does, claim, knows_all}
 use Rattle.split_model.proofs.Sights.{each_among, named_within, seen_same, input_same, writes_same}
 use Rattle.split_model.proofs.Stages.{staged_value, given_value}
-
-input_from : (f : Program) (split : List Part) (work : Work) → is_at_hand f split work ≡ true → is_input work ≡ true
-input_from f split (const width number) e = refl
-input_from f split (field name) e = refl
-input_from f split (apply op width args) e = absurd (false≢true e)
-input_from f split (shift op width arg by) e = absurd (false≢true e)
-input_from f split (select width c first second) e = absurd (false≢true e)
-input_from f split (byte index) e = absurd (false≢true e)
-input_from f split (look object keys) e = absurd (false≢true e)
-input_from f split (put object keys values) e = absurd (false≢true e)
-input_from f split (del object keys) e = absurd (false≢true e)
 
 module _ (f : Program) (split : List Part) (st tables : Store) (packet : Packet) (c D : Reading) where
   abbrev F : Reading
@@ -137,17 +124,10 @@ module _ (f : Program) (split : List Part) (st tables : Store) (packet : Packet)
         ∙ ap (λ n. if F f.send == 0 then Drop else Send (n % 2 ^ 8) (with_writes f.fields L packet.bytes)) (out_same f.port (named_within f f.port well.port.named) well.port.named ends.1.0)
         ∙ ap (λ bytes. if F f.send == 0 then Drop else Send (F f.port % 2 ^ 8) bytes) (writes_same L F f.fields packet.bytes writes_all)
 
--- what was handed up is carried
-pub carried_from : (f : Program) (split : List Part) (v : ValueId) → crosses_up f split v ≡ true → is_carried split v.instruction ≡ true
-carried_from f split v e =
-    let own = is_carried split v.instruction && not (is_input (step_at f v.instruction).work) in
-    let parts = and_parts (is_named f v && own) (is_read_by f (is_server split) v || (guards_write f v || (crosses_down f split v || is_written_value f split v))) e in
-    (and_parts (is_carried split v.instruction) (not (is_input (step_at f v.instruction).work)) ((and_parts (is_named f v) own parts.0).1)).0
-
 pub is_whole : (f : Program) (split : List Part) (st tables_up tables : Store) (packet : Packet) (up down : Reading) (agree : Agreements) (lines : Lines f) (stays : Stays f st packet) (its : AreItsValues f st packet) (keeps : KeepsTables f st packet) (stand : CarriedStand f split st tables_up packet) (well : IsWellFormed f) (legal : IsLegal f split) (has : HasTables f st) (loaded : IsLoaded f split tables) (handed : IsHanded (crosses_up f split) (pre_values f split tables_up packet) up) → IsWhole f split st tables packet up down
 is_whole f split st tables_up tables packet up down agree lines stays its keeps stand well legal has loaded handed =
     let F = (flat_run f st packet).reads in
-    let carried : (v : ValueId) → crosses_up f split v ≡ true → up v ≡ F v = λ v e. handed v e ∙ stand v (carried_from f split v e) in
+    let carried : (v : ValueId) → crosses_up f split v ≡ true → up v ≡ F v = λ v e. handed v e ∙ stand v (carried_up f split v e) in
     let all = claim f split agree lines well legal packet st up F (served f split up st packet) (after f st packet) (server_does f split packet st up) (whole_does f split legal packet st stays) carried (length f.code) (omega arith) in
     record {
       store = all.1;

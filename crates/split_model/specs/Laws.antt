@@ -1,11 +1,12 @@
 -- What holds of the parts of a split program.
-use Rattle.std.specs.Prelude.{◌≡◌, ℕ, true, not, ◌||◌, List, [], Some, None, slice_get, if◌then◌else◌}
+use Rattle.std.specs.Prelude.{◌≡◌, ◌<◌, ◌^◌, ℕ, Bool, true, not, ◌||◌, List, [], Some, None, slice_get, if◌then◌else◌}
 use Rattle.packet_fields.specs.declared.packet.Packet.{Packet}
 use Rattle.state_store.specs.declared.object.ObjectDecl.{ObjectDecl}
+use Rattle.state_store.specs.Kept.{IsKept}
 use Rattle.state_store.specs.Kinds.{is_table}
 use Rattle.state_store.specs.Store.{Store, object_at, start_object}
 use Rattle.flat_ir.specs.declared.program.ValueId.{ValueId}
-use Rattle.flat_ir.specs.Program.{Program}
+use Rattle.flat_ir.specs.Program.{Program, width_of_value}
 use Rattle.flat_ir.specs.Blocks.{Reading}
 use Rattle.flat_ir.specs.Run.{flat_run, flat_store, flat_changes, flat_verdict}
 use Rattle.split_model.specs.declared.split.Part.{Part}
@@ -71,3 +72,14 @@ pub record IsSentAlike (f : Program) (split : List Part) (tables : Store) (packe
   pub values : (v : ValueId) → post_values f split other_down tables packet v ≡ post_values f split down tables packet v
   pub verdict : post_verdict f split other_server other_down tables packet
       ≡ post_verdict f split server down tables packet
+
+-- where values cross, the numbers have no more bits than the values' widths
+abbrev pub FitAcross : Program → (ValueId → Bool) → Reading → Type 0
+FitAcross f crosses reads = (v : ValueId) → crosses v ≡ true → reads v < 2 ^ width_of_value f v
+
+-- the server leaves a store that keeps what was declared, and its numbers of values that cross down or that it sets
+-- fields to fit
+pub record IsServedWithin (f : Program) (split : List Part) (st : Store) (packet : Packet) (up : Reading) : Type 0 where
+  pub kept : IsKept f.objects (server_run f split up st packet).store
+  pub down : FitAcross f (crosses_down f split) (server_run f split up st packet).reads
+  pub written : FitAcross f (is_written_value f split) (server_run f split up st packet).reads

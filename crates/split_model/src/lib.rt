@@ -12,8 +12,9 @@ mod split;
 mod values;
 
 pub use laws::{
-    a_server_reads_what_crosses, a_split_is_the_whole, carried_values_stand,
-    kept_stores_have_tables, postprocessing_reads_what_crosses, preprocessing_is_exact,
+    a_pass_is_done_by_stages, a_server_keeps_widths, a_server_reads_what_crosses,
+    a_split_is_the_whole, carried_values_stand, kept_stores_have_tables, passes_keep_widths,
+    postprocessing_reads_what_crosses, preprocessing_is_exact, what_is_handed_up_fits,
     what_preprocessing_reads_is_all,
 };
 pub use layout::{Crossing, Layout};
