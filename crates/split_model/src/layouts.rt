@@ -1,12 +1,12 @@
 //! Which values are handed up and down.
-ghost use Rattle.std.specs.Prelude.{◌≡◌, ◌+◌, ◌*◌, ◌<◌, ◌≤◌, ◌^◌, ◌++◌, ◌∷◌, [], length, map, IfOk, OnOk, IsTrue};
-ghost use Rattle.std.specs.List.{filter};
+ghost use Rattle.std.specs.Prelude.{◌≡◌, ◌+◌, ◌*◌, ◌<◌, ◌≤◌, ◌^◌, ◌++◌, ◌∷◌, [], length, IfOk, OnOk, IsTrue};
 ghost use Rattle.flat_ir.specs.Program.{program_of, work_of, is_named, step_at, result_count};
 ghost use Rattle.flat_ir.specs.WellFormed.{IsWellFormed};
 ghost use Rattle.split_model.specs.Bounds.{IsBounded};
-ghost use Rattle.split_model.specs.Crossing.{is_written, is_left_field, is_at_hand, is_among, crosses_up, crosses_down};
-ghost use Rattle.split_model.specs.Layouts.{first_results, values_below, crossing, number_of, values_of, up_layout, down_layout};
-ghost use Rattle.split_model.specs.Marked.{AreFound, crosses};
+ghost use Rattle.split_model.specs.Crossing.{is_written, is_at_hand, crosses_up, crosses_down};
+ghost use Rattle.split_model.specs.Layouts.{first_results, values_below, values_of, number_of};
+ghost use Rattle.split_model.specs.Layouts.{up_layout, down_layout};
+ghost use Rattle.split_model.specs.Marked.{crosses, crossings_of, AreFound};
 
 use crate::guards::guards;
 use crate::kinds::{is_const, is_input, result_count, result_width};
@@ -134,7 +134,8 @@ impl Crossings {
         requires named { IsTrue (is_named (program_of f.now) value) }
         requires low { value.result < 9 }
         requires numbered { number ≡ number_of (program_of f.now) value }
-        ensures { OnOk result (layout.new ≡ layout.old ++ map (crossing (program_of f.now)) (filter (crosses way (program_of f.now) s.now) (value ∷ []))) }
+        ensures { OnOk result (
+            layout.new ≡ layout.old ++ crossings_of way (program_of f.now) s.now (value ∷ [])) }
     {
         if self.cross(f, s, way, value) {
             let kind = &f.code.as_slice()[value.instruction as usize].kind;
@@ -148,7 +149,8 @@ impl Crossings {
         Ok(())
     }
 
-    // Puts the results of instruction `i` that cross last. `first` is the number of its first result; the answer is how many it has.
+    // Puts the results of instruction `i` that cross last. `first` is the number of its first result. The answer is how many
+    // results it has.
     fn put_results(
         &self,
         f: &Flat,
@@ -164,8 +166,10 @@ impl Crossings {
         requires numbered { first ≡ length (values_below (program_of f.now) i) }
         requires low { first ≤ 9 * i }
         ensures few { IfOk result (λ count. count ≤ 9) }
-        ensures count { IfOk result (λ count. count ≡ result_count f.now.objects (step_at (program_of f.now) i).work) }
-        ensures all { IfOk result (λ count. layout.new ≡ layout.old ++ map (crossing (program_of f.now)) (filter (crosses way (program_of f.now) s.now) (first_results i count))) }
+        ensures count { IfOk result (λ count.
+            count ≡ result_count f.now.objects (step_at (program_of f.now) i).work) }
+        ensures all { IfOk result (λ count.
+            layout.new ≡ layout.old ++ crossings_of way (program_of f.now) s.now (first_results i count)) }
     {
         let count = result_count(f.objects.as_slice(), &f.code.as_slice()[i as usize].kind);
         for place in 0..count {
@@ -182,7 +186,8 @@ impl Crossings {
 // The values that cross this way.
 fn layout_of(alloc: Global, f: &Flat, s: &Split, way: Way) -> Result<Layout, NoMemory>
     requires bounded { IsBounded (program_of f.now) }
-    ensures exact { IfOk result (λ layout. layout ≡ map (crossing (program_of f.now)) (filter (crosses way (program_of f.now) s.now) (values_of (program_of f.now)))) }
+    ensures exact { IfOk result (λ layout.
+        layout ≡ crossings_of way (program_of f.now) s.now (values_of (program_of f.now))) }
     ensures few { IfOk result (λ layout. length layout < 2 ^ 32) }
 {
     let found = Crossings::find(alloc, f, s)?;

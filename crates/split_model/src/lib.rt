@@ -1,6 +1,8 @@
-//! A flat program in three parts: what is done on the switch before the server, by the server, and on the switch after it.
+//! A flat program in three parts: what is done on the switch before the server, by the server, and on the switch after
+//! it.
 #![tactic(auto)]
 
+mod bounds;
 mod guards;
 mod kinds;
 mod laws;
@@ -9,8 +11,11 @@ mod layouts;
 mod readers;
 mod shown;
 mod split;
+#[cfg(test)]
+mod tests;
 mod values;
 
+pub use bounds::is_bounded;
 pub use laws::{
     a_pass_is_done_by_stages, a_server_keeps_widths, a_server_reads_what_crosses,
     a_split_is_the_whole, carried_values_stand, kept_stores_have_tables, passes_keep_widths,

@@ -1,9 +1,8 @@
 //! Which values are read by the server and by postprocessing, and which are set into fields.
-ghost use Rattle.std.specs.Prelude.{◌≡◌, ◌<◌, ◌^◌, ◌&&◌, ◌||◌, ℕ, Bool, length, IfOk};
-ghost use Rattle.flat_ir.specs.declared.program.ValueId.{ValueId as Value};
-ghost use Rattle.flat_ir.specs.Program.{program_of, step_at, operands};
-ghost use Rattle.split_model.specs.Crossing.{is_value, is_among, is_read_by, is_server_write, is_written_value};
-ghost use Rattle.split_model.specs.Marked.{AreMarked, is_of};
+ghost use Rattle.std.specs.Prelude.{◌≡◌, ◌<◌, ◌^◌, length, IfOk};
+ghost use Rattle.flat_ir.specs.Program.{program_of};
+ghost use Rattle.split_model.specs.Crossing.{is_read_by, is_written_value};
+ghost use Rattle.split_model.specs.Marked.{is_of, is_read_at, is_set_to, AreMarked, Adds};
 
 use crate::split::Split;
 use crate::values::ValueSet;
@@ -33,7 +32,7 @@ impl Reader {
 // Marks the operands of instruction `i`, where the reader computes it.
 fn mark_operands(f: &Flat, s: &Split, reader: Reader, i: usize, set: &mut ValueSet)
     requires inside { i < length f.now.code }
-    ensures { (n : ℕ) (test : Value → Bool) → AreMarked n test set.old → AreMarked n (λ v. test v || (is_of reader s.now i && is_among v (operands (step_at (program_of f.now) i).work))) set.new }
+    ensures { Adds (is_read_at (program_of f.now) s.now reader i) set.old set.new }
 {
     if reader.has(s, i) {
         set.insert_operands(&f.code.as_slice()[i].kind);
@@ -48,7 +47,8 @@ pub(crate) fn read_by(
     reader: Reader,
 ) -> Result<ValueSet, NoMemory>
     requires few { length f.now.code < 2 ^ 32 }
-    ensures { IfOk result (λ set. AreMarked (length f.now.code) (is_read_by (program_of f.now) (is_of reader s.now)) set) }
+    ensures { IfOk result (λ set.
+        AreMarked (length f.now.code) (is_read_by (program_of f.now) (is_of reader s.now)) set) }
 {
     let mut set = ValueSet::new(alloc, f.code.len())?;
     for i in 0..f.code.len() {
@@ -59,7 +59,7 @@ pub(crate) fn read_by(
 
 // Marks the value of a field, where the server sets the field.
 fn mark_written(s: &Split, written: FieldValue, set: &mut ValueSet)
-    ensures { (n : ℕ) (test : Value → Bool) → AreMarked n test set.old → AreMarked n (λ v. test v || (is_server_write s.now written && is_value v written.value)) set.new }
+    ensures { Adds (is_set_to s.now written) set.old set.new }
 {
     if !s.is_post(written.value.instruction as usize) {
         set.insert(written.value);

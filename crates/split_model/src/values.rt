@@ -1,9 +1,8 @@
 //! Sets of values.
-ghost use Rattle.std.specs.Prelude.{◌≡◌, ◌<◌, ◌^◌, ◌||◌, ℕ, Bool, false, IfOk};
-ghost use Rattle.flat_ir.specs.declared.program.ValueId.{ValueId as Value};
+ghost use Rattle.std.specs.Prelude.{◌≡◌, ◌<◌, ◌^◌, false, IfOk};
 ghost use Rattle.flat_ir.specs.Program.{work_of, operands};
 ghost use Rattle.split_model.specs.Crossing.{is_value, is_among};
-ghost use Rattle.split_model.specs.Marked.{is_marked, AreMarked};
+ghost use Rattle.split_model.specs.Marked.{is_marked, AreMarked, Adds};
 
 use flat_ir::{InstrKind, ValueId};
 use gal_io::NoMemory;
@@ -55,7 +54,7 @@ impl ValueSet {
 
     /// Puts a value into the set, where there is room for it.
     pub fn insert(&mut self, value: ValueId)
-        ensures { (n : ℕ) (test : Value → Bool) → AreMarked n test self.old → AreMarked n (λ v. test v || is_value v value) self.new }
+        ensures { Adds (λ v. is_value v value) self.old self.new }
     {
         let place = 9 * value.instruction as usize + value.result as usize;
         if value.result < 9 && place < self.marks.len() {
@@ -65,7 +64,7 @@ impl ValueSet {
 
     /// Puts several values into the set.
     pub fn insert_all(&mut self, values: &[ValueId])
-        ensures { (n : ℕ) (test : Value → Bool) → AreMarked n test self.old → AreMarked n (λ v. test v || is_among v values.now) self.new }
+        ensures { Adds (λ v. is_among v values.now) self.old self.new }
     {
         for value in values {
             self.insert(*value);
@@ -74,7 +73,7 @@ impl ValueSet {
 
     /// Puts the operands of an instruction into the set.
     pub fn insert_operands(&mut self, kind: &InstrKind)
-        ensures { (n : ℕ) (test : Value → Bool) → AreMarked n test self.old → AreMarked n (λ v. test v || is_among v (operands (work_of kind.now))) self.new }
+        ensures { Adds (λ v. is_among v (operands (work_of kind.now))) self.old self.new }
     {
         match kind {
             InstrKind::Const(..) | InstrKind::Field(_) => {}
