@@ -3,7 +3,7 @@ ghost use Rattle.std.specs.Prelude.{◌≡◌, ◌<◌, ◌≤◌, List, length,
 ghost use Rattle.gal_bits.specs.Fitting.{is_width};
 ghost use Rattle.flat_ir.specs.Program.{work_of, value_widths, result_count, result_widths};
 ghost use Rattle.state_store.specs.declared.object.ObjectDecl.{ObjectDecl as Declared};
-ghost use Rattle.flat_ir.specs.Kinds.{is_write, is_const, is_input};
+ghost use Rattle.flat_ir.specs.Kinds.{is_write, is_input};
 ghost use Rattle.split_model.specs.Bounds.{IsSmall};
 
 use flat_ir::InstrKind;
@@ -17,16 +17,6 @@ pub(crate) fn is_write(kind: &InstrKind) -> bool
 {
     match kind {
         InstrKind::Put { .. } | InstrKind::Del { .. } => true,
-        _ => false,
-    }
-}
-
-/// Whether it is a const.
-pub(crate) fn is_const(kind: &InstrKind) -> bool
-    ensures { result ≡ is_const (work_of kind.now) }
-{
-    match kind {
-        InstrKind::Const(..) => true,
         _ => false,
     }
 }

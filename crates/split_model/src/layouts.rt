@@ -9,7 +9,7 @@ ghost use Rattle.split_model.specs.Layouts.{up_layout, down_layout};
 ghost use Rattle.split_model.specs.Marked.{crosses, crossings_of, AreFound};
 
 use crate::guards::guards;
-use crate::kinds::{is_const, is_input, result_count, result_width};
+use crate::kinds::{is_input, result_count, result_width};
 use crate::layout::{Crossing, Layout};
 use crate::readers::{Reader, read_by, written_values};
 use crate::split::Split;

@@ -150,7 +150,7 @@ fn remember(alloc: Global) -> Result<Flat, NoMemory> {
     })
 }
 
-// Packets leave by the port that is stored under theirs, with a byte that is stored nowhere.
+// Packets leave by the port that is stored under theirs, and live as long as its other bits say.
 fn recall(alloc: Global) -> Result<Flat, NoMemory> {
     let mut code = beginning(alloc)?;
     give(&mut code, 0, InstrKind::Field(Field::MetaPort))?;

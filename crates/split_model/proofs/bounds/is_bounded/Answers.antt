@@ -1,4 +1,4 @@
-use Rattle.std.proofs.Common.{◌≡◌, ◌∙◌, ◌≤◌, List, sym, subst, arith, All, length}
+use Rattle.std.proofs.Common.{◌∙◌, ◌≤◌, List, sym, subst, arith, All}
 use Rattle.std.proofs.lemmas.Bool.{false≢true, leb-true}
 use Rattle.std.proofs.lemmas.List.{length-map}
 use Rattle.state_store.specs.declared.object.ObjectDecl.{ObjectDecl}

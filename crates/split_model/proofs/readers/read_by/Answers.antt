@@ -1,4 +1,4 @@
-use Rattle.std.proofs.Common.{◌≡◌, length}
+use Rattle.std.proofs.Common.{length}
 use Rattle.flat_ir.specs.Program.{program_of}
 use Rattle.split_model.specs.Split.{any_below}
 use Rattle.split_model.specs.Marked.{is_read_at}
