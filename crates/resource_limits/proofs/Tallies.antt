@@ -1,5 +1,5 @@
 -- A number for each object, counted in one pass.
-use Rattle.std.proofs.Common.{◌≡◌, ℕ, zero, suc, ◌+◌, ◌-◌, ◌<◌, ◌≤◌, ◌^◌, Bool, List, [], ◌∷◌, inl, inr, refl, sym, ap, ◌∙◌, arith, length, get_or}
+use Rattle.std.proofs.Common.{◌≡◌, ℕ, zero, suc, ◌+◌, ◌-◌, ◌<◌, ◌≤◌, ◌^◌, Bool, List, [], ◌∷◌, ◌++◌, add-one, inl, inr, refl, sym, ap, ◌∙◌, arith, length, get_or}
 use Rattle.std.specs.Prelude.{slice_index}
 use Rattle.std.proofs.lemmas.List.{same_lists, length-append, get_or_past, get_or_default, get_or_append_left, get_or-append_right}
 use Rattle.std.proofs.lemmas.Bool.{cases_lt, cases_Bool}
@@ -27,6 +27,12 @@ get_or-first_numbers (suc n) g o d h =
       | inr last ↦ (let e : o ≡ n = omega arith in let z : o - n ≡ 0 = omega arith in
           get_or-append_right (first_numbers n g) (g n ∷ []) n o d count last ∙ rw z (ap g (sym e)))
     ]
+
+-- a number more
+pub numbers_more : (n : ℕ) (g : ℕ → ℕ) (old new : List ℕ) (x : ℕ) → new ≡ old ++ x ∷ [] → x ≡ g n → old ≡ first_numbers n g
+    → new ≡ first_numbers (n + 1) g
+numbers_more n g old new x pushed is so =
+    rw add-one (pushed ∙ ap (λ (ns : List ℕ). ns ++ x ∷ []) so ∙ ap (λ (m : ℕ). first_numbers n g ++ m ∷ []) is)
 
 -- the same numbers, one by one
 pub are_numbers : (n : ℕ) (g : ℕ → ℕ) (tally : List ℕ) → length tally ≡ n → ((o : ℕ) → o < n → slice_index tally o ≡ g o)
