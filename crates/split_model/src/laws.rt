@@ -16,8 +16,8 @@ ghost use Rattle.split_model.specs.Split.{post_stage, pre_stage};
 ghost use Rattle.split_model.specs.Legal.{IsLegal};
 ghost use Rattle.split_model.specs.Passes.{IsHanded, Shows, pre_values, post_values, served};
 ghost use Rattle.split_model.specs.Passes.{done_below, given_down, pass};
-ghost use Rattle.split_model.specs.Laws.{CarriedStand, FitAcross, IsExact, IsLoaded, IsShownAlone, IsWhole};
-ghost use Rattle.split_model.specs.Laws.{IsSentAlike, IsServedAlike, IsServedWithin};
+ghost use Rattle.split_model.specs.Laws.{CarriedStand, IsExact, IsLoaded, IsShownAlone, IsWhole};
+ghost use Rattle.split_model.specs.Laws.{FitAcross, HasEveryPart, IsSentAlike, IsServedAlike, IsServedWithin};
 
 use flat_ir::{
     a_run_goes_on, a_run_is_its_changes, a_run_is_its_values, a_run_keeps_the_tables,
@@ -152,3 +152,8 @@ pub fn what_preprocessing_reads_is_all()
     a_run_is_its_changes();
     preprocessing_is_exact();
 }
+
+/// There is a well-formed program with a legal split in which every part has work: what these laws ask for can be met.
+pub fn some_legal_split_has_every_part()
+    ensures { (f : Program) × (split : List Part) × IsWellFormed f × IsLegal f split × HasEveryPart f split }
+{}
