@@ -17,7 +17,7 @@ use Rattle.split_model.specs.Counts.{is_post_shown}
 use Rattle.split_model.specs.Crossing.{crosses_up, crosses_down, is_written_value}
 use Rattle.split_model.specs.Passes.{pre_verdict, pre_values, is_fast, meets_rest, Shows, IsHanded, server_run}
 use Rattle.split_model.specs.Passes.{replicated_changes, post_values, post_verdict}
-use Rattle.split_model.specs.Shown.{is_shown}
+use Rattle.split_model.specs.Shown.{is_shown, is_replicated}
 
 -- Preprocessing finishes a packet exactly where it is fast over the store that the tables show, with the whole run's
 -- verdict; and a fast packet leaves the store.
@@ -32,6 +32,10 @@ pub record IsExact (f : Program) (split : List Part) (st tables : Store) (packet
 pub record IsLoaded (f : Program) (split : List Part) (tables : Store) : Type 0 where
   pub rows : (o : ℕ) (d : ObjectDecl) → slice_get f.objects o ≡ Some d → is_table d.kind ≡ true
       → (is_shown f split o || is_post_shown f split o) ≡ true → object_at tables o ≡ start_object d
+
+-- the tables have the store's replicated objects
+abbrev pub HasReplicated : Program → List Part → Store → Store → Type 0
+HasReplicated f split st tables = (o : ℕ) → is_replicated f split o ≡ true → object_at tables o ≡ object_at st o
 
 -- the carried values of a pass over any tables are those of the whole run over any store
 abbrev pub CarriedStand : Program → List Part → Store → Store → Packet → Type 0

@@ -17,7 +17,7 @@ ghost use Rattle.split_model.specs.Legal.{IsLegal};
 ghost use Rattle.split_model.specs.Passes.{IsHanded, Shows, pre_values, post_values, served};
 ghost use Rattle.split_model.specs.Passes.{done_below, given_down, pass};
 ghost use Rattle.split_model.specs.Laws.{CarriedStand, IsExact, IsLoaded, IsShownAlone, IsWhole};
-ghost use Rattle.split_model.specs.Laws.{FitAcross, HasEveryPart, IsSentAlike, IsServedAlike, IsServedWithin};
+ghost use Rattle.split_model.specs.Laws.{FitAcross, HasEveryPart, HasReplicated, IsSentAlike, IsServedAlike, IsServedWithin};
 
 use flat_ir::{
     a_run_goes_on, a_run_is_its_changes, a_run_is_its_values, a_run_keeps_the_tables,
@@ -28,6 +28,12 @@ use state_store::rows_change_alone;
 /// A store that keeps what was declared has the declared constant tables.
 pub fn kept_stores_have_tables()
     ensures { (f : Program) (st : Store) → IsKept f.objects st → HasTables f st }
+{}
+
+/// Tables that have the declared constant ones, and the store's replicated objects, show the store.
+pub fn replicated_objects_show()
+    ensures { (f : Program) (split : List Part) (st tables : Store)
+        → HasTables f st → IsLoaded f split tables → HasReplicated f split st tables → Shows f split tables st }
 {}
 
 /// Preprocessing over tables that show a store finishes exactly the packets that are fast over it, with their verdicts.
