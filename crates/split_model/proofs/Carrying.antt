@@ -1,6 +1,6 @@
 -- Carried values hang on the packet and on the constant tables alone.
-use Rattle.std.proofs.Common.{◌≡◌, ℕ, zero, suc, ◌<◌, ◌≤◌, true, false, ◌&&◌, ◌||◌, List, [], ◌∷◌, length, Some, None, refl, sym, ap, ◌∙◌, subst, arith, ⊎_elim, slice_index, slice_get, get_or}
-use Rattle.std.proofs.lemmas.Bool.{false≢true, and_from, or_left, or_right, eq-eqb, cases_lt}
+use Rattle.std.proofs.Common.{◌≡◌, ℕ, zero, suc, ◌<◌, ◌≤◌, true, false, not, ◌&&◌, ◌||◌, List, [], ◌∷◌, length, Some, None, refl, sym, ap, ◌∙◌, subst, arith, ⊎_elim, slice_index, slice_get, get_or}
+use Rattle.std.proofs.lemmas.Bool.{false≢true, and_from, or_left, or_right, eq-eqb, cases_Bool, cases_lt}
 use Rattle.std.proofs.Math.Nat.{eq-or-lt_of_le}
 use Rattle.packet_fields.specs.declared.packet.Packet.{Packet}
 use Rattle.state_store.specs.declared.object.ObjectDecl.{ObjectDecl}
@@ -19,9 +19,9 @@ use Rattle.flat_ir.specs.Laws.{KeepsTables, Same}
 use Rattle.split_model.specs.declared.split.Part.{Part}
 use Rattle.split_model.specs.declared.split.Slow.TheVariants.{Server}
 use Rattle.split_model.specs.Counts.{is_post_shown}
-use Rattle.split_model.specs.Laws.{CarriedStand, IsLoaded}
+use Rattle.split_model.specs.Laws.{CarriedStand, HasReplicated, IsLoaded}
 use Rattle.split_model.specs.Legal.{IsLegal}
-use Rattle.split_model.specs.Passes.{pre_values}
+use Rattle.split_model.specs.Passes.{Shows, pre_values}
 use Rattle.split_model.specs.Shown.{is_shown, looks_at}
 use Rattle.split_model.specs.Split.{pre_stage, is_pre, is_post, is_carried, is_carried_up}
 use Rattle.split_model.proofs.Below.{Agreements, AreItsValues, each_weaker, each_both}
@@ -40,6 +40,13 @@ declared_at (d ∷ ds) (suc o) e = declared_at ds o e
 pub tables_agree : (f : Program) (split : List Part) (st tables : Store) → HasTables f st → IsLoaded f split tables → (o : ℕ) → is_constant f.objects o ≡ true → (is_shown f split o || is_post_shown f split o) ≡ true → object_at tables o ≡ object_at st o
 tables_agree f split st tables has loaded o e shown =
     let d = declared_at f.objects o e in loaded.rows o d.0 d.1 d.2 shown ∙ sym (has.tables o d.0 d.1 d.2)
+
+pub replicated_show : (f : Program) (split : List Part) (st tables : Store) → HasTables f st → IsLoaded f split tables → HasReplicated f split st tables → Shows f split tables st
+replicated_show f split st tables has loaded replicated o shown =
+    ⊎_elim
+    (λ constant. tables_agree f split st tables has loaded o constant (or_left (is_shown f split o) (is_post_shown f split o) shown))
+    (λ mutable. replicated o (and_from (not (is_constant f.objects o)) (is_shown f split o) (ap not mutable) shown))
+    (cases_Bool (is_constant f.objects o))
 
 -- what a pass looks up
 pub pre_shown : (f : Program) (split : List Part) (i o : ℕ) → i < length f.code → is_pre split i ≡ true → looks_at o (step_at f i).work ≡ true → (is_shown f split o || is_post_shown f split o) ≡ true

@@ -3,10 +3,11 @@ mod Carrying
 mod Constants
 mod Crossings
 mod Exactness
+mod Example
+mod Fitness
 mod Guarding
 mod Marking
 mod Numbering
-mod Fitness
 mod Passing
 mod Posting
 mod Rules

@@ -1,21 +1,23 @@
 -- What holds of the parts of a split program.
-use Rattle.std.specs.Prelude.{◌≡◌, ◌<◌, ◌^◌, ℕ, Bool, true, not, ◌||◌, List, [], Some, None, slice_get, if◌then◌else◌}
+use Rattle.std.specs.Prelude.{◌≡◌, ◌<◌, ◌^◌, ℕ, Bool, true, not, ◌&&◌, ◌||◌, List, [], Some, None, slice_get}
+use Rattle.std.specs.Prelude.{if◌then◌else◌}
 use Rattle.packet_fields.specs.declared.packet.Packet.{Packet}
 use Rattle.state_store.specs.declared.object.ObjectDecl.{ObjectDecl}
 use Rattle.state_store.specs.Kept.{IsKept}
 use Rattle.state_store.specs.Kinds.{is_table}
 use Rattle.state_store.specs.Store.{Store, object_at, start_object}
 use Rattle.flat_ir.specs.declared.program.ValueId.{ValueId}
-use Rattle.flat_ir.specs.Program.{Program, width_of_value}
+use Rattle.flat_ir.specs.Program.{Program, step_at, width_of_value}
 use Rattle.flat_ir.specs.Blocks.{Reading}
+use Rattle.flat_ir.specs.Kinds.{is_const, is_mutable_look, is_write}
 use Rattle.flat_ir.specs.Run.{flat_run, flat_store, flat_changes, flat_verdict}
 use Rattle.split_model.specs.declared.split.Part.{Part}
-use Rattle.split_model.specs.Split.{is_carried}
+use Rattle.split_model.specs.Split.{is_carried, is_post, is_pre, any_step}
 use Rattle.split_model.specs.Counts.{is_post_shown}
-use Rattle.split_model.specs.Crossing.{crosses_down, is_written_value}
+use Rattle.split_model.specs.Crossing.{crosses_up, crosses_down, is_written_value}
 use Rattle.split_model.specs.Passes.{pre_verdict, pre_values, is_fast, meets_rest, Shows, IsHanded, server_run}
 use Rattle.split_model.specs.Passes.{replicated_changes, post_values, post_verdict}
-use Rattle.split_model.specs.Shown.{is_shown}
+use Rattle.split_model.specs.Shown.{is_shown, is_replicated}
 
 -- Preprocessing finishes a packet exactly where it is fast over the store that the tables show, with the whole run's
 -- verdict; and a fast packet leaves the store.
@@ -30,6 +32,10 @@ pub record IsExact (f : Program) (split : List Part) (st tables : Store) (packet
 pub record IsLoaded (f : Program) (split : List Part) (tables : Store) : Type 0 where
   pub rows : (o : ℕ) (d : ObjectDecl) → slice_get f.objects o ≡ Some d → is_table d.kind ≡ true
       → (is_shown f split o || is_post_shown f split o) ≡ true → object_at tables o ≡ start_object d
+
+-- the tables have the store's replicated objects
+abbrev pub HasReplicated : Program → List Part → Store → Store → Type 0
+HasReplicated f split st tables = (o : ℕ) → is_replicated f split o ≡ true → object_at tables o ≡ object_at st o
 
 -- the carried values of a pass over any tables are those of the whole run over any store
 abbrev pub CarriedStand : Program → List Part → Store → Store → Packet → Type 0
@@ -83,3 +89,12 @@ pub record IsServedWithin (f : Program) (split : List Part) (st : Store) (packet
   pub kept : IsKept f.objects (server_run f split up st packet).store
   pub down : FitAcross f (crosses_down f split) (server_run f split up st packet).reads
   pub written : FitAcross f (is_written_value f split) (server_run f split up st packet).reads
+
+-- Every part of the split has work: preprocessing looks up rows that can change, the server writes, values cross up and
+-- down, and postprocessing computes more than it is handed.
+pub record HasEveryPart (f : Program) (split : List Part) : Type 0 where
+  pub looks : any_step f (λ i. is_pre split i && is_mutable_look f (step_at f i).work) ≡ true
+  pub writes : any_step f (λ i. is_write (step_at f i).work) ≡ true
+  pub up : (v : ValueId) × (crosses_up f split v ≡ true)
+  pub down : (v : ValueId) × (crosses_down f split v ≡ true)
+  pub adds : any_step f (λ i. is_post split i && not (is_const (step_at f i).work)) ≡ true

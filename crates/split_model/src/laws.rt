@@ -16,8 +16,8 @@ ghost use Rattle.split_model.specs.Split.{post_stage, pre_stage};
 ghost use Rattle.split_model.specs.Legal.{IsLegal};
 ghost use Rattle.split_model.specs.Passes.{IsHanded, Shows, pre_values, post_values, served};
 ghost use Rattle.split_model.specs.Passes.{done_below, given_down, pass};
-ghost use Rattle.split_model.specs.Laws.{CarriedStand, FitAcross, IsExact, IsLoaded, IsShownAlone, IsWhole};
-ghost use Rattle.split_model.specs.Laws.{IsSentAlike, IsServedAlike, IsServedWithin};
+ghost use Rattle.split_model.specs.Laws.{CarriedStand, IsExact, IsLoaded, IsShownAlone, IsWhole};
+ghost use Rattle.split_model.specs.Laws.{FitAcross, HasEveryPart, HasReplicated, IsSentAlike, IsServedAlike, IsServedWithin};
 
 use flat_ir::{
     a_run_goes_on, a_run_is_its_changes, a_run_is_its_values, a_run_keeps_the_tables,
@@ -28,6 +28,12 @@ use state_store::rows_change_alone;
 /// A store that keeps what was declared has the declared constant tables.
 pub fn kept_stores_have_tables()
     ensures { (f : Program) (st : Store) → IsKept f.objects st → HasTables f st }
+{}
+
+/// Tables that have the declared constant ones, and the store's replicated objects, show the store.
+pub fn replicated_objects_show()
+    ensures { (f : Program) (split : List Part) (st tables : Store)
+        → HasTables f st → IsLoaded f split tables → HasReplicated f split st tables → Shows f split tables st }
 {}
 
 /// Preprocessing over tables that show a store finishes exactly the packets that are fast over it, with their verdicts.
@@ -152,3 +158,8 @@ pub fn what_preprocessing_reads_is_all()
     a_run_is_its_changes();
     preprocessing_is_exact();
 }
+
+/// There is a well-formed program with a legal split in which every part has work: what these laws ask for can be met.
+pub fn some_legal_split_has_every_part()
+    ensures { (f : Program) × (split : List Part) × IsWellFormed f × IsLegal f split × HasEveryPart f split }
+{}
