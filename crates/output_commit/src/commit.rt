@@ -1,5 +1,5 @@
 //! Held outputs, and the list of commands.
-ghost use Rattle.std.specs.Prelude.{◌≡◌, ◌≤◌, ◌<◌, ◌+◌, ◌^◌, ◌++◌, ◌∷◌, [], length, take, nat_lt, slice_get, OnOk, OnErr, IfNone, if◌then◌else◌};
+ghost use Rattle.std.specs.Prelude.{◌≡◌, ◌≤◌, ◌<◌, ◌+◌, ◌-◌, ◌^◌, ◌++◌, ◌∷◌, [], length, take, nat_lt, slice_get, OnOk, OnErr, IfNone, if◌then◌else◌};
 ghost use Rattle.writeback_table.specs.Commands as commands;
 ghost use Rattle.output_commit.specs.Commit as spec;
 
@@ -11,9 +11,8 @@ use std::collections::VecDeque;
 use std::marker::Model;
 use writeback_table::{Command, Updates};
 
-/// The outputs that wait, and all commands with the counts of those that were sent, applied and acknowledged. A version of the
-/// server is seen by lookups on the switch once the command that sets the bit is applied, as the batches make their versions in
-/// order.
+/// The outputs that wait, and all commands with the counts of those that were sent, applied and acknowledged. Each batch of
+/// commands makes one version, which lookups on the switch see once its command that sets the bit is applied.
 #[derive(Debug, Drop)]
 pub struct Commit {
     alloc: Global,
@@ -32,9 +31,21 @@ impl Model for Commit {
 
     ghost Value = { spec.Commit };
 
-    ghost view = { λ c. record { commands = c.commands.items; sent = c.sent; done = c.done; acked = c.acked; held = c.held.items } };
+    ghost view = { λ c. record {
+      commands = c.commands.items;
+      sent = c.sent;
+      done = c.done;
+      acked = c.acked;
+      held = c.held.items;
+    } };
 
-    ghost invariant = { λ c. IsCounted (record { commands = c.commands.items; sent = c.sent; done = c.done; acked = c.acked; held = c.held.items }) c.visible c.acknowledged };
+    ghost invariant = { λ c. IsCounted (record {
+      commands = c.commands.items;
+      sent = c.sent;
+      done = c.done;
+      acked = c.acked;
+      held = c.held.items;
+    }) c.visible c.acknowledged };
 }
 
 fn counts_on(command: &Command) -> u32
@@ -63,7 +74,7 @@ impl Commit {
         }
     }
 
-    /// Lets an output wait behind the others, until the version `need` is known to be seen. Its changes, if there are any, become
+    /// Lets an output wait behind the others until the version `need` is acknowledged. Its changes, if there are any, become
     /// one batch of commands behind all others. After want of memory all is as before.
     pub fn hold(
         &mut self,
@@ -73,7 +84,8 @@ impl Commit {
         updates: &Updates,
     ) -> Result<(), NoMemory>
         requires few { length self.old.commands + length (spec.batch_of updates.now) < 2 ^ 32 }
-        ensures ok { OnOk result (self.new ≡ spec.with_output self.old (record { number = number; need = need; frame = frame }) updates.now) }
+        ensures ok { OnOk result (self.new
+            ≡ spec.with_output self.old (record { number = number; need = need; frame = frame }) updates.now) }
         ensures err { OnErr result (self.new ≡ self.old) }
     {
         let batch = batch_of(self.alloc, updates.as_slice())?;
@@ -102,8 +114,8 @@ impl Commit {
         }
     }
 
-    /// The next command that the switch is to apply, which counts as applied from then on. It is `None` exactly where all sent ones
-    /// are applied.
+    /// The next command that the switch is to apply, which counts as applied from then on. It is `None` exactly where all
+    /// sent ones are applied.
     pub fn next_command(&mut self) -> Option<Command>
         ensures did { result ≡ spec.next self.old }
         ensures after { self.new ≡ spec.after_next self.old }
@@ -153,6 +165,13 @@ impl Commit {
         self.commands.len() as u32
     }
 
+    /// How many commands aren't applied, sent or not.
+    pub fn unapplied(&self) -> u32
+        ensures { result ≡ length self.now.commands - self.now.done }
+    {
+        self.commands() - self.done
+    }
+
     /// Whether no output waits, and all commands are acknowledged.
     pub fn is_quiet(&self) -> bool
         ensures { result ≡ spec.is_quiet self.now }
@@ -160,8 +179,8 @@ impl Commit {
         self.held.is_empty() && self.acked as usize == self.commands.len()
     }
 
-    /// Lets the output at place `j` go, counted from 0 in the order in which they came, where its version is acknowledged. Those
-    /// behind it close up.
+    /// Lets the output at place `j` go, counted from 0 in the order in which they came, where its version is acknowledged.
+    /// Those behind it close up.
     pub fn release(&mut self, j: usize) -> Release
         ensures answer { result ≡ spec.answer self.old (slice_get self.old.held j) }
         ensures after { self.new ≡ spec.after_release self.old j (slice_get self.old.held j) }

@@ -3,8 +3,8 @@ ghost use Rattle.std.specs.Prelude.{ℕ, List};
 ghost use Rattle.output_commit.specs.declared.output.Output.{Output};
 ghost use Rattle.output_commit.specs.Laws.{Call, IsKeptInOrder, IsSeenFromThenOn};
 
-/// Only sent commands are applied, only applied ones are acknowledged, and the version that is acknowledged is never above the
-/// one that lookups see.
+/// Only sent commands are applied, only applied ones are acknowledged, and the version that is acknowledged is never above
+/// the one that lookups see. The commands are those of the batches, in order.
 pub fn counts_stay_in_order()
     ensures { (calls : List Call) → IsKeptInOrder calls }
 {}

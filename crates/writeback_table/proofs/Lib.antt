@@ -4,4 +4,5 @@ pub mod Phases
 pub mod Batches
 pub mod Histories
 pub mod Joins
+pub mod Rooms
 pub mod Trees

@@ -1,4 +1,5 @@
 pub mod Batches
+pub mod Codes
 pub mod Commands
 pub mod Pair
 pub mod Seen

@@ -34,7 +34,7 @@ abbrev pub with_staged : List (List ℕ × Option (List ℕ)) → Contents → C
 with_staged [] rows = rows
 with_staged (staged ∷ more) rows = with_row staged.0 staged.1 (with_staged more rows)
 
--- the table that lookups see: with bit 0 the main table, and with bit 1 the main table with the write-back table over it
+-- the table that lookups see: with bit 0 the main table, and with bit 1 that table with the write-back table over it
 abbrev pub visible : Bool → Pair → Contents
 visible false pair = pair.main.contents
 visible true pair = with_staged (map.entries pair.staged) pair.main.contents
@@ -84,7 +84,8 @@ can_stage rows room key = map.contains_key rows key || nat_lt (map.len rows) roo
 
 -- the staged rows with one more, where there is room for it
 abbrev pub with_change : Staged → ℕ → Update → Staged
-with_change rows room update = if can_stage rows room update.key then map.insert rows update.key (values_of update.to) else rows
+with_change rows room update =
+    if can_stage rows room update.key then map.insert rows update.key (values_of update.to) else rows
 
 -- whether the command finds room in the table that it touches
 abbrev pub has_room : Pair → Command → Bool

@@ -1,15 +1,11 @@
 -- A write-back table that is kept as two maps: the values that are staged, and the keys that are to be gone.
 use Rattle.std.specs.Prelude.{◌≡◌, ◌≤◌, ◌+◌, ◌-◌, ℕ, Bool, if◌then◌else◌, List, [], ◌∷◌, Option, Some, None}
-use Rattle.std.specs.Coded.{Coded, coded_ℕ, coded_list, coded_option}
 use Rattle.std.specs.FinMap as map
 use Rattle.state_store.specs.Store.{Contents, Object, put_row, del_row}
 use Rattle.state_store.specs.declared.object.Kind.TheVariants.{Map}
 use Rattle.writeback_table.specs.declared.command.To.{To}
 use Rattle.writeback_table.specs.declared.command.To.TheVariants.{Value, Gone}
 use Rattle.writeback_table.specs.Pair.{Staged}
-
-abbrev pub staged_code : Coded Staged
-staged_code = map.code (coded_list coded_ℕ) (coded_option (coded_list coded_ℕ))
 
 -- a write-back table: its rows, and how many it may have
 pub record WriteBack : Type 0 where

@@ -38,7 +38,7 @@ pub enum Command {
 #[derive(Clone, Copy, Debug, PartialEq, Eq)]
 pub enum Applied {
     Done,
-    /// The table that the command touches is at its capacity and the key is new, or a vector has no such index. Nothing has
-    /// changed.
+    /// The table that the command touches is at its capacity and the key is new, or a vector has no such index. Nothing
+    /// has changed.
     NoRoom,
 }

@@ -14,8 +14,8 @@ use state_store::{Found, ObjectDecl, Put, Rows};
 use std::alloc::Global;
 use std::marker::Model;
 
-/// The main table of an object and its write-back table. The bit that says whether lookups see the second is not kept here,
-/// since all objects share it.
+/// The main table of an object and its write-back table. The bit that says whether lookups see the second is not kept
+/// here, since all objects share it.
 #[derive(Debug, Drop)]
 pub struct Pair {
     main: OneObject,
@@ -25,14 +25,12 @@ pub struct Pair {
 
 impl Model for Pair {
     ghost use Rattle.std.specs.Prelude.{◌≡◌, replicate};
-    ghost use Rattle.std.specs.Coded.{codes};
-    ghost use Rattle.state_store.specs.Codes.{object_code};
-    ghost use Rattle.writeback_table.specs.Staging.{staged_code};
+    ghost use Rattle.writeback_table.specs.Codes.{pair_code};
     ghost use Rattle.writeback_table.specs.Pair as spec;
 
     ghost Value = { spec.Pair };
 
-    ghost coded = { Prim.hlevel (codes, object_code, staged_code) };
+    ghost coded = { pair_code };
 
     ghost view = { λ p. record { main = p.main; staged = p.staged.rows; room = p.staged.room } };
 
@@ -40,10 +38,11 @@ impl Model for Pair {
 }
 
 impl Pair {
-    /// The tables of an object before any command, with the memory for its size and for so many staged rows. Each staged key
-    /// counts as one row, also one that is to be gone.
+    /// The tables of an object before any command, with the memory for its size and for `writeback` staged rows. A key
+    /// that is to be gone counts as a row there.
     pub fn new(alloc: Global, object: &ObjectDecl, writeback: u32) -> Result<Pair, NoMemory>
-        ensures { IfOk result (λ pair. pair ≡ record { main = start_object object.now; staged = map.empty; room = writeback }) }
+        ensures { IfOk result (λ pair. pair
+            ≡ record { main = start_object object.now; staged = map.empty; room = writeback }) }
     {
         let main = OneObject::new(alloc, object)?;
         let staged = WriteBack::new(alloc, object, writeback)?;
@@ -54,10 +53,13 @@ impl Pair {
         })
     }
 
-    /// Applies a command that names the object of this pair, or none. On and Off change nothing here. This takes no memory.
+    /// Applies a command that names the object of this pair, or none. On and Off change nothing here. This takes no
+    /// memory.
+    #[tactic(auto, using(crate::proofs::Rooms::refused))]
     pub fn apply(&mut self, command: &Command) -> Applied
         ensures answer { result ≡ (if spec.has_room self.old command.now then Applied.Done else Applied.NoRoom) }
         ensures after { self.new ≡ spec.applied self.old command.now }
+        ensures no_room { result ≡ Applied.NoRoom → self.new ≡ self.old }
     {
         match command {
             Command::Stage(update) => self.staged.stage(update),
@@ -86,7 +88,8 @@ impl Pair {
         }
     }
 
-    /// What a lookup finds under a key where the bit is this: the values, zeros where there are none. This takes no memory.
+    /// What a lookup finds under a key where the bit is this: the values, zeros where there are none. This takes no
+    /// memory.
     #[tactic(auto, using(crate::proofs::Slots::seen_staged, crate::proofs::Slots::seen_other))]
     pub fn look(&self, bit: bool, key: &Values) -> Found
         ensures found { result.found ≡ is_some (spec.seen bit self.now key.now) }

@@ -15,8 +15,8 @@ use state_store::{Kind, ObjectDecl, Rows};
 use std::alloc::Global;
 use std::marker::Model;
 
-/// Rows that are staged: under a key the values that it is to have, or none where it is to be gone. A key is in at most one of
-/// the two maps.
+/// Rows that are staged: under a key the values that it is to have, or none where it is to be gone. A key is in at most
+/// one of the two maps.
 #[derive(Debug, Drop)]
 pub struct WriteBack {
     values: OneObject,
@@ -26,13 +26,13 @@ pub struct WriteBack {
 }
 
 impl Model for WriteBack {
-    ghost use Rattle.std.specs.Coded.{codes};
-    ghost use Rattle.writeback_table.specs.Staging.{staged_code, joined, IsCounted};
+    ghost use Rattle.writeback_table.specs.Codes.{write_back_code};
+    ghost use Rattle.writeback_table.specs.Staging.{joined, IsCounted};
     ghost use Rattle.writeback_table.specs.Staging as rows;
 
     ghost Value = { rows.WriteBack };
 
-    ghost coded = { Prim.hlevel (codes, staged_code) };
+    ghost coded = { write_back_code };
 
     ghost view = { λ t. record { rows = joined t.values.contents t.gone.contents; room = t.room } };
 
@@ -41,7 +41,8 @@ impl Model for WriteBack {
 
 // A map of this size for rows like those of an object.
 fn staging(object: &ObjectDecl, alloc: Global, size: u32) -> ObjectDecl
-    ensures { start_object result ≡ record { kind = Kind.Map; size = size; count = length object.now.values; contents = map.empty } }
+    ensures { start_object result
+        ≡ record { kind = Kind.Map; size = size; count = length object.now.values; contents = map.empty } }
 {
     ObjectDecl {
         name: Bytes::new(alloc),
@@ -87,7 +88,8 @@ impl WriteBack {
 
     /// Stages a change. This takes no memory.
     pub fn stage(&mut self, update: &Update) -> Applied
-        ensures answer { result ≡ (if can_stage self.old.rows self.old.room update.now.key then Applied.Done else Applied.NoRoom) }
+        ensures answer { let fits = can_stage self.old.rows self.old.room update.now.key in
+            result ≡ (if fits then Applied.Done else Applied.NoRoom) }
         ensures after { self.new ≡ record self.old { rows = with_change self.old.rows self.old.room update.now } }
     {
         let known = self.row(&update.key).is_some();
@@ -145,7 +147,8 @@ fn stage_row(
     requires counted { IsCounted values.old gone.old count room }
     requires known { known ≡ map.contains_key (joined values.old.contents gone.old.contents) update.now.key }
     requires few { known ≡ false → count < room }
-    ensures rows { joined values.new.contents gone.new.contents ≡ map.insert (joined values.old.contents gone.old.contents) update.now.key (values_of update.now.to) }
+    ensures rows { joined values.new.contents gone.new.contents
+        ≡ map.insert (joined values.old.contents gone.old.contents) update.now.key (values_of update.now.to) }
     ensures counted { IsCounted values.new gone.new result room }
 {
     write_row(values, gone, update);
@@ -197,7 +200,8 @@ fn clear_row(
 ) -> u32
     requires counted { IsCounted values.old gone.old count room }
     requires known { known ≡ map.contains_key (joined values.old.contents gone.old.contents) key.now }
-    ensures rows { joined values.new.contents gone.new.contents ≡ map.remove (joined values.old.contents gone.old.contents) key.now }
+    ensures rows { joined values.new.contents gone.new.contents
+        ≡ map.remove (joined values.old.contents gone.old.contents) key.now }
     ensures counted { IsCounted values.new gone.new result room }
 {
     values.del(key);
