@@ -1,5 +1,5 @@
 -- Laws of the values of a layout.
-use Rattle.std.proofs.Common.{◌≡◌, ◌≢◌, ℕ, zero, suc, ◌+◌, ◌^◌, ◌<◌, ◌≤◌, List, [], ◌∷◌, ◌++◌, get_or, set, length, take, drop, refl, sym, ap, ◌∙◌, subst, inl, inr, arith, length-append, length-take, get_or-take, append_assoc, get_or-set_same, get_or-set_other, length-set, mod-eq_of_lt}
+use Rattle.std.proofs.Common.{◌≡◌, ◌≢◌, ℕ, zero, suc, ◌+◌, ◌^◌, ◌<◌, ◌≤◌, List, [], ◌∷◌, ◌++◌, get_or, set, length, take, drop, refl, sym, ap, ◌∙◌, subst, arith, length-append, length-take, get_or-take, append_assoc, get_or-set_same, get_or-set_other, length-set, mod-eq_of_lt}
 use Rattle.std.proofs.Math.Nat.{min-eq_left}
 use Rattle.std.proofs.Math.Seq.{take-add}
 use Rattle.std.proofs.lemmas.List.{append-nil, get_or_read, take_more, take_at, drop_at, take-append-drop}
@@ -12,53 +12,53 @@ use Rattle.transfer_header.specs.Registers.{value_in, ChangesOnly}
 use Rattle.transfer_header.proofs.BitLists.{AreBits, are_bits_of, length-bits_of, number_of-bits_of}
 
 -- ---- how many bits they have
-pub total-append : (places others : List Crossing) → total (places ++ others) ≡ total places + total others
+pub total-append : (layout others : List Crossing) → total (layout ++ others) ≡ total layout + total others
 total-append [] others = omega arith
-total-append (p ∷ ps) others = omega (arith, total-append ps others)
+total-append (c ∷ cs) others = omega (arith, total-append cs others)
 
-pub total_push : (places : List Crossing) (p : Crossing) → total (places ++ p ∷ []) ≡ total places + p.width
-total_push places p = omega (arith, total-append places (p ∷ []))
+pub total_push : (layout : List Crossing) (c : Crossing) → total (layout ++ c ∷ []) ≡ total layout + c.width
+total_push layout c = omega (arith, total-append layout (c ∷ []))
 
-pub total-more : (places : List Crossing) (i : ℕ) (p : Crossing) → i < length places → p ≡ get_or places i p → total (take (i + 1) places) ≡ total (take i places) + p.width
-total-more places i p within is =
-    ap total (take_more places i p within) ∙ total_push (take i places) (get_or places i p) ∙ ap (λ (q : Crossing). total (take i places) + q.width) (sym is)
+pub total-more : (layout : List Crossing) (i : ℕ) (c : Crossing) → i < length layout → c ≡ get_or layout i c → total (take (i + 1) layout) ≡ total (take i layout) + c.width
+total-more layout i c within is =
+    ap total (take_more layout i c within) ∙ total_push (take i layout) (get_or layout i c) ∙ ap (λ (q : Crossing). total (take i layout) + q.width) (sym is)
 
-pub total-take : (places : List Crossing) (i : ℕ) → total (take i places) ≤ total places
-total-take places i = omega (arith, total-append (take i places) (drop i places), ap total (take-append-drop i places))
+pub total-take : (layout : List Crossing) (i : ℕ) → total (take i layout) ≤ total layout
+total-take layout i = omega (arith, total-append (take i layout) (drop i layout), ap total (take-append-drop i layout))
 
 -- ---- bits of the values
-pub value_bits-nil : (reads : Crossing → ℕ) → value_bits [] reads ≡ []
+pub value_bits-nil : (values : Crossing → ℕ) → value_bits [] values ≡ []
 unfolding value_bits
-value_bits-nil reads = refl
+value_bits-nil values = refl
 
-pub value_bits-cons : (p : Crossing) (ps : List Crossing) (reads : Crossing → ℕ) → value_bits (p ∷ ps) reads ≡ bits_of p.width (reads p) ++ value_bits ps reads
+pub value_bits-cons : (c : Crossing) (cs : List Crossing) (values : Crossing → ℕ) → value_bits (c ∷ cs) values ≡ bits_of c.width (values c) ++ value_bits cs values
 unfolding value_bits
-value_bits-cons p ps reads = refl
+value_bits-cons c cs values = refl
 
-pub length-value_bits : (places : List Crossing) (reads : Crossing → ℕ) → length (value_bits places reads) ≡ total places
-length-value_bits [] reads = ap (λ (x : List ℕ). length x) (value_bits-nil reads)
-length-value_bits (p ∷ ps) reads =
-    ap (λ (x : List ℕ). length x) (value_bits-cons p ps reads) ∙ length-append (bits_of p.width (reads p)) (value_bits ps reads)
-    ∙ omega (arith, length-bits_of p.width (reads p), length-value_bits ps reads)
+pub length-value_bits : (layout : List Crossing) (values : Crossing → ℕ) → length (value_bits layout values) ≡ total layout
+length-value_bits [] values = ap (λ (x : List ℕ). length x) (value_bits-nil values)
+length-value_bits (c ∷ cs) values =
+    ap (λ (x : List ℕ). length x) (value_bits-cons c cs values) ∙ length-append (bits_of c.width (values c)) (value_bits cs values)
+    ∙ omega (arith, length-bits_of c.width (values c), length-value_bits cs values)
 
-pub are_value_bits : (places : List Crossing) (reads : Crossing → ℕ) → AreBits (value_bits places reads)
-are_value_bits [] reads = subst AreBits (sym (value_bits-nil reads)) (All-nil (λ bit. bit < 2))
-are_value_bits (p ∷ ps) reads = subst AreBits (sym (value_bits-cons p ps reads)) (All-append (λ bit. bit < 2) (bits_of p.width (reads p)) (value_bits ps reads) (are_bits_of p.width (reads p)) (are_value_bits ps reads))
+pub are_value_bits : (layout : List Crossing) (values : Crossing → ℕ) → AreBits (value_bits layout values)
+are_value_bits [] values = subst AreBits (sym (value_bits-nil values)) (All-nil (λ bit. bit < 2))
+are_value_bits (c ∷ cs) values = subst AreBits (sym (value_bits-cons c cs values)) (All-append (λ bit. bit < 2) (bits_of c.width (values c)) (value_bits cs values) (are_bits_of c.width (values c)) (are_value_bits cs values))
 
-pub value_bits-push : (places : List Crossing) (p : Crossing) (reads : Crossing → ℕ) → value_bits (places ++ p ∷ []) reads ≡ value_bits places reads ++ bits_of p.width (reads p)
-value_bits-push [] p reads =
-    value_bits-cons p [] reads ∙ ap (λ x. bits_of p.width (reads p) ++ x) (value_bits-nil reads) ∙ append-nil (bits_of p.width (reads p))
-    ∙ sym (ap (λ x. x ++ bits_of p.width (reads p)) (value_bits-nil reads))
-value_bits-push (q ∷ qs) p reads =
-    value_bits-cons q (qs ++ p ∷ []) reads ∙ ap (λ x. bits_of q.width (reads q) ++ x) (value_bits-push qs p reads)
-    ∙ sym (append_assoc (bits_of q.width (reads q)) (value_bits qs reads) (bits_of p.width (reads p)))
-    ∙ sym (ap (λ x. x ++ bits_of p.width (reads p)) (value_bits-cons q qs reads))
+pub value_bits-push : (layout : List Crossing) (c : Crossing) (values : Crossing → ℕ) → value_bits (layout ++ c ∷ []) values ≡ value_bits layout values ++ bits_of c.width (values c)
+value_bits-push [] c values =
+    value_bits-cons c [] values ∙ ap (λ x. bits_of c.width (values c) ++ x) (value_bits-nil values) ∙ append-nil (bits_of c.width (values c))
+    ∙ sym (ap (λ x. x ++ bits_of c.width (values c)) (value_bits-nil values))
+value_bits-push (q ∷ ds) c values =
+    value_bits-cons q (ds ++ c ∷ []) values ∙ ap (λ x. bits_of q.width (values q) ++ x) (value_bits-push ds c values)
+    ∙ sym (append_assoc (bits_of q.width (values q)) (value_bits ds values) (bits_of c.width (values c)))
+    ∙ sym (ap (λ x. x ++ bits_of c.width (values c)) (value_bits-cons q ds values))
 
-pub value_bits-more : (places : List Crossing) (i : ℕ) (p : Crossing) (reads : Crossing → ℕ) → i < length places → p ≡ get_or places i p
-    → value_bits (take (i + 1) places) reads ≡ value_bits (take i places) reads ++ bits_of p.width (reads p)
-value_bits-more places i p reads within is =
-    ap (λ x. value_bits x reads) (take_more places i p within) ∙ value_bits-push (take i places) (get_or places i p) reads
-    ∙ ap (λ (q : Crossing). value_bits (take i places) reads ++ bits_of q.width (reads q)) (sym is)
+pub value_bits-more : (layout : List Crossing) (i : ℕ) (c : Crossing) (values : Crossing → ℕ) → i < length layout → c ≡ get_or layout i c
+    → value_bits (take (i + 1) layout) values ≡ value_bits (take i layout) values ++ bits_of c.width (values c)
+value_bits-more layout i c values within is =
+    ap (λ x. value_bits x values) (take_more layout i c within) ∙ value_bits-push (take i layout) (get_or layout i c) values
+    ∙ ap (λ (q : Crossing). value_bits (take i layout) values ++ bits_of q.width (values q)) (sym is)
 
 -- one value more is packed
 pub more_packed : (layout : List Crossing) (registers before after : List ℕ) (i width number : ℕ) (c : Crossing) → i < length layout → c ≡ get_or layout i c → width ≡ c.width → number ≡ value_in registers c
@@ -68,29 +68,29 @@ more_packed layout registers before after i width number c within is wide read s
     ∙ ap (λ n. value_bits (take i layout) (value_in registers) ++ bits_of c.width n) read
     ∙ sym (value_bits-more layout i c (value_in registers) within is)
 
-pub value_bits-same : (places : List Crossing) (reads others : Crossing → ℕ) → Agree places reads others → value_bits places reads ≡ value_bits places others
-value_bits-same [] reads others agree = value_bits-nil reads ∙ sym (value_bits-nil others)
-value_bits-same (p ∷ ps) reads others agree =
-    value_bits-cons p ps reads
-    ∙ ap (λ x. bits_of p.width x ++ value_bits ps reads) (All-head (λ (q : Crossing). reads q ≡ others q) p ps agree)
-    ∙ ap (λ x. bits_of p.width (others p) ++ x) (value_bits-same ps reads others (All-tail (λ (q : Crossing). reads q ≡ others q) p ps agree))
-    ∙ sym (value_bits-cons p ps others)
+pub value_bits-same : (layout : List Crossing) (values others : Crossing → ℕ) → Agree layout values others → value_bits layout values ≡ value_bits layout others
+value_bits-same [] values others agree = value_bits-nil values ∙ sym (value_bits-nil others)
+value_bits-same (c ∷ cs) values others agree =
+    value_bits-cons c cs values
+    ∙ ap (λ x. bits_of c.width x ++ value_bits cs values) (All-head (λ (q : Crossing). values q ≡ others q) c cs agree)
+    ∙ ap (λ x. bits_of c.width (others c) ++ x) (value_bits-same cs values others (All-tail (λ (q : Crossing). values q ≡ others q) c cs agree))
+    ∙ sym (value_bits-cons c cs others)
 
 -- two readings that fit and give the same bits agree
-pub agree_by_bits : (places : List Crossing) (reads others : Crossing → ℕ) → AreNarrow places reads → AreNarrow places others → value_bits places reads ≡ value_bits places others → Agree places reads others
-agree_by_bits [] reads others fits fits' same = All-nil (λ (p : Crossing). reads p ≡ others p)
-agree_by_bits (p ∷ ps) reads others fits fits' same =
-    let w : ℕ = p.width in
-    let one : List ℕ = bits_of w (reads p) in
-    let two : List ℕ = bits_of w (others p) in
-    let both : one ++ value_bits ps reads ≡ two ++ value_bits ps others = sym (value_bits-cons p ps reads) ∙ same ∙ value_bits-cons p ps others in
-    let first : one ≡ two = sym (take_at one (value_bits ps reads) w (length-bits_of w (reads p))) ∙ ap (take w) both ∙ take_at two (value_bits ps others) w (length-bits_of w (others p)) in
-    let rest : value_bits ps reads ≡ value_bits ps others = sym (drop_at one (value_bits ps reads) w (length-bits_of w (reads p))) ∙ ap (drop w) both ∙ drop_at two (value_bits ps others) w (length-bits_of w (others p)) in
-    let number : reads p ≡ others p =
-    sym (mod-eq_of_lt (All-head (λ (q : Crossing). reads q < 2 ^ q.width) p ps fits)) ∙ sym (number_of-bits_of w (reads p)) ∙ ap number_of first
-    ∙ number_of-bits_of w (others p) ∙ mod-eq_of_lt (All-head (λ (q : Crossing). others q < 2 ^ q.width) p ps fits') in
-    All-cons (λ (q : Crossing). reads q ≡ others q) p ps number
-    (agree_by_bits ps reads others (All-tail (λ (q : Crossing). reads q < 2 ^ q.width) p ps fits) (All-tail (λ (q : Crossing). others q < 2 ^ q.width) p ps fits') rest)
+pub agree_by_bits : (layout : List Crossing) (values others : Crossing → ℕ) → AreNarrow layout values → AreNarrow layout others → value_bits layout values ≡ value_bits layout others → Agree layout values others
+agree_by_bits [] values others fits fits' same = All-nil (λ (c : Crossing). values c ≡ others c)
+agree_by_bits (c ∷ cs) values others fits fits' same =
+    let w : ℕ = c.width in
+    let one : List ℕ = bits_of w (values c) in
+    let two : List ℕ = bits_of w (others c) in
+    let both : one ++ value_bits cs values ≡ two ++ value_bits cs others = sym (value_bits-cons c cs values) ∙ same ∙ value_bits-cons c cs others in
+    let first : one ≡ two = sym (take_at one (value_bits cs values) w (length-bits_of w (values c))) ∙ ap (take w) both ∙ take_at two (value_bits cs others) w (length-bits_of w (others c)) in
+    let rest : value_bits cs values ≡ value_bits cs others = sym (drop_at one (value_bits cs values) w (length-bits_of w (values c))) ∙ ap (drop w) both ∙ drop_at two (value_bits cs others) w (length-bits_of w (others c)) in
+    let number : values c ≡ others c =
+    sym (mod-eq_of_lt (All-head (λ (q : Crossing). values q < 2 ^ q.width) c cs fits)) ∙ sym (number_of-bits_of w (values c)) ∙ ap number_of first
+    ∙ number_of-bits_of w (others c) ∙ mod-eq_of_lt (All-head (λ (q : Crossing). others q < 2 ^ q.width) c cs fits') in
+    All-cons (λ (q : Crossing). values q ≡ others q) c cs number
+    (agree_by_bits cs values others (All-tail (λ (q : Crossing). values q < 2 ^ q.width) c cs fits) (All-tail (λ (q : Crossing). others q < 2 ^ q.width) c cs fits') rest)
 
 -- ---- numbers that rise
 abbrev pub IsRising : List Crossing → Type 0

@@ -5,7 +5,7 @@ ghost use Rattle.transfer_header.specs.Registers.{FitsLayout};
 use super::*;
 use flat_ir::ValueId;
 use gal_bits::Width;
-use gal_io::NoMemory;
+use gal_io::{Bytes, NoMemory};
 use split_model::{Crossing, Layout};
 use std::alloc::Global;
 use std::test::Fail;
@@ -26,10 +26,19 @@ const DOWN: [u8; 23] = [
     0x08, 0,
 ];
 
+const HEAD: Head = Head {
+    number: 0,
+    port: 3,
+    packet_at: 9,
+};
+
 // The only result of an instruction, in a program in which each has one.
 fn result_of(instruction: u32, width: Width) -> Crossing
-    ensures { let value = record { instruction = instruction; result = 0 } in
-        result ≡ record { value = value; number = instruction; width = width } }
+    ensures { result ≡ record {
+      value = record { instruction = instruction; result = 0 };
+      number = instruction;
+      width = width;
+    } }
 {
     let value = ValueId {
         instruction,
@@ -105,15 +114,10 @@ fn told_down(alloc: Global, frame: &[u8]) -> Result<(Option<Head>, u64, u64), No
 #[test]
 fn told_of_a_frame(rt: HostRuntime) -> Result<(), Fail> {
     let alloc = rt.alloc();
-    let head = Head {
-        number: 0,
-        port: 3,
-        packet_at: 9,
-    };
     for end in 9..24 {
         assert_eq!(rt;
             told_down(alloc, &DOWN[..end])?,
-            (Some(head), 1, 17),
+            (Some(HEAD), 1, 17),
             "{end} bytes"
         );
     }
@@ -142,17 +146,18 @@ fn refuses_other_bytes(rt: HostRuntime) -> Result<(), Fail> {
             "filled with {filled}"
         );
     }
-    let mut long = vec![in alloc; 0u8; 9 + 9217]?;
-    for (place, byte) in DOWN[..9].iter().enumerate() {
-        long[place] = *byte;
-    }
-    assert_eq!(rt; told_down(alloc, long.as_slice())?, (None, 5, 6));
-    let head = Head {
-        number: 0,
-        port: 3,
-        packet_at: 9,
-    };
-    assert_eq!(rt; told_down(alloc, &long[..9 + 9216])?, (Some(head), 1, 17));
+    Ok(())
+}
+
+#[test]
+fn packets_have_a_most(rt: HostRuntime) -> Result<(), Fail> {
+    let alloc = rt.alloc();
+    let mut frame = Bytes::from_slice(alloc, &DOWN[..9])?;
+    let zeros = vec![in alloc; 0u8; 9216]?;
+    frame.extend(zeros.as_slice())?;
+    assert_eq!(rt; told_down(alloc, frame.as_slice())?, (Some(HEAD), 1, 17));
+    frame.push(0)?;
+    assert_eq!(rt; told_down(alloc, frame.as_slice())?, (None, 5, 6));
     Ok(())
 }
 

@@ -1,12 +1,11 @@
-use Rattle.std.proofs.Common.{◌≡◌, ◌+◌, ◌-◌, ◌/◌, ◌<◌, ◌≤◌, ℕ, Bool, true, false, List, take, drop, length, length-drop, slice_index_or, sym, refl, ◌∙◌, arith}
+use Rattle.std.proofs.Common.{◌≡◌, ◌+◌, ◌-◌, ◌/◌, ◌<◌, ℕ, List, take, drop, length, length-drop, slice_index_or, sym, refl, ◌∙◌, arith}
 use Rattle.std.proofs.lemmas.Bool.{true≢false}
 use Rattle.std.proofs.lemmas.List.Elements.{All-from_get_or, All-take, All-drop}
 use Rattle.split_model.specs.declared.layout.Crossing.{Crossing}
-use Rattle.transfer_header.specs.declared.frame.Head.{Head}
 use Rattle.transfer_header.specs.Bits.{bytes_for, packed}
 use Rattle.transfer_header.specs.Values.{total, value_bits}
 use Rattle.transfer_header.specs.Registers.{value_in}
-use Rattle.transfer_header.specs.Frames.{IsFrame, IsUnpacked}
+use Rattle.transfer_header.specs.Frames.{IsFrame}
 use Rattle.transfer_header.proofs.BitLists.{AreBytes}
 use Rattle.transfer_header.proofs.LayoutValues.{length_rising}
 use Rattle.transfer_header.proofs.WholeFrames.{header_is, frame_is, outline, zeros_behind, not_filled, is_filled_at, range_is, length_range, read_back, a_frame}
