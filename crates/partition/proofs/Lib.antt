@@ -6,3 +6,4 @@ pub mod Narrow
 pub mod Shrunk
 pub mod Steps
 pub mod Chosen
+pub mod Deeper

@@ -3,3 +3,4 @@ pub mod Choice
 pub mod Causes
 pub mod Front
 pub mod Tried
+pub mod Deeper

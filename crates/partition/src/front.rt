@@ -1,5 +1,6 @@
 //! What preprocessing computes and hands up, of the first instructions of a program.
-ghost use Rattle.std.specs.Prelude.{◌≡◌, ℕ, ◌<◌, ◌-◌, length, IfOk, slice_set, slice_index, slice_index_or, false, true};
+ghost use Rattle.std.specs.Prelude.{◌≡◌, ℕ, ◌<◌, ◌-◌, length, IfOk, slice_set, slice_index, slice_index_or, false, true, nat_lt};
+ghost use Rattle.std.specs.List.{list_any};
 ghost use Rattle.flat_ir.specs.Program.{program_of};
 ghost use Rattle.split_model.specs.Bounds.{IsBounded};
 ghost use Rattle.split_model.specs.Greatest.{IsGreatestSplit};
@@ -45,6 +46,16 @@ impl Front {
         ensures { result ≡ slice_index_or self.now.pre (self.now.count - 1) false }
     {
         self.pre.at(self.count - 1)
+    }
+
+    /// Whether preprocessing needs a stage above this one.
+    pub(crate) fn is_deeper_than(&self, stage: u32) -> bool
+        ensures { result ≡ list_any (λ depth. nat_lt stage depth) self.now.depths }
+    {
+        self.depths
+            .as_slice()
+            .iter()
+            .any(|depth| stage < *depth)
     }
 
     /// Leaves out the last of the first instructions: what is left of the sets are the sets among the others.

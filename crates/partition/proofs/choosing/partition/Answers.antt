@@ -1,14 +1,11 @@
 use Rattle.std.proofs.Common.{◌≡◌, length, true, false, Bool, sym, subst, ◌∙◌}
 use Rattle.std.proofs.lemmas.List.{length-map}
 use Rattle.flat_ir.specs.Program.{program_of, step_of}
-use Rattle.partition.specs.Choice.{IsChosen, IsRefused, IsKept, IsExceeded}
-use Rattle.partition.specs.Tried.{IsTriedKept, IsTriedExceeded}
-use Rattle.partition.specs.Causes.{IsCause}
-use Rattle.partition.specs.declared.choosing.PartError.TheVariants.{Exceeds}
+use Rattle.partition.specs.Choice.{IsChosen, IsRefused}
 use Rattle.partition.specs.declared.choosing.Tried.{Tried}
 use Rattle.partition.specs.declared.choosing.Tried.TheVariants.{Kept, Exceeding}
 use Rattle.partition.specs.Tried.{IsTried}
-use Rattle.partition.proofs.Chosen.{sound, IsSound, kept_not_exceeded, exceeded_not_kept}
+use Rattle.partition.proofs.Chosen.{sound, kept_not_exceeded, exceeded_not_kept}
 use Rattle.partition.proofs.choosing.partition.Goals as goal
 
 pub returns-then-shrink-clause-chosen : goal.returns-then-shrink-clause-chosen

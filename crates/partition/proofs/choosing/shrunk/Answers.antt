@@ -1,10 +1,10 @@
-use Rattle.std.proofs.Common.{◌≡◌, ◌∙◌, ◌<◌, ℕ, List, length, true, false, None, sym, subst, arith}
+use Rattle.std.proofs.Common.{◌≡◌, ◌<◌, ℕ, List, true, false, None, sym, subst, arith}
 use Rattle.std.specs.Prelude.{Option}
 use Rattle.std.proofs.lemmas.Result.{IfOk-weaker}
 use Rattle.flat_ir.specs.Program.{program_of}
 use Rattle.split_model.specs.declared.split.Part.{Part}
 use Rattle.split_model.specs.Greatest.{IsGreatestSplit}
-use Rattle.partition.specs.Choice.{IsChosen, IsFirstKept, IsKept, shrinking}
+use Rattle.partition.specs.Choice.{IsChosen, IsFirstKept, shrinking}
 use Rattle.partition.specs.Tried.{IsFound}
 use Rattle.partition.proofs.Steps.{narrowed, stepped}
 use Rattle.partition.proofs.Shrunk.{found_last}
