@@ -1,15 +1,19 @@
 -- What the sizes of a source bound in its flat program.
-use Rattle.std.specs.Prelude.{◌≤◌, List, length, All}
+use Rattle.std.specs.Prelude.{◌≤◌, length, All, IsTrue}
+use Rattle.std.specs.List.{list_all}
+use Rattle.gal_bits.specs.Fitting.{is_width}
 use Rattle.state_store.specs.declared.object.ObjectDecl.{ObjectDecl}
 use Rattle.flat_ir.specs.Program.{Program}
 use Rattle.flat_ir.specs.WellFormed.{IsWellFormed}
 use Rattle.split_model.specs.Counts.{sum_of}
 
--- an object has at most 1,048,576 rows, and keys and values of at most 128 bits
+-- an object has at most 1,048,576 rows, and keys and values of at most 128 bits, and a number of a value
+-- has 1 to 64
 pub record IsSmall (d : ObjectDecl) : Type 0 where
   pub size : d.size ≤ 1048576
   pub keys : sum_of d.keys ≤ 128
   pub values : sum_of d.values ≤ 128
+  pub widths : IsTrue (list_all is_width d.values)
 
 -- a well-formed program with at most 4,096 instructions and 64 objects, all of them small
 pub record IsBounded (f : Program) : Type 0 where

@@ -3,10 +3,9 @@ use Rattle.std.specs.Prelude.{ℕ, zero, suc, ◌+◌, ◌++◌, List, [], ◌�
 use Rattle.std.specs.List.{filter}
 use Rattle.flat_ir.specs.declared.program.ValueId.{ValueId}
 use Rattle.flat_ir.specs.Program.{Program, step_at, result_count, width_of_value}
-use Rattle.flat_ir.specs.Blocks.{Reading}
 use Rattle.split_model.specs.declared.split.Part.{Part}
 use Rattle.split_model.specs.declared.layout.Crossing.{Crossing}
-use Rattle.split_model.specs.Crossing.{is_value, crosses_up, crosses_down}
+use Rattle.split_model.specs.Crossing.{crosses_up, crosses_down}
 
 -- the first n results of an instruction
 abbrev pub first_results : ℕ → ℕ → List ValueId

@@ -2,8 +2,7 @@
 use Rattle.std.specs.Prelude.{◌≡◌, ℕ, zero, suc, ◌==◌, ◌<◌, Bool, true, false, not, ◌&&◌, ◌||◌, List, [], ◌∷◌, length}
 use Rattle.std.specs.Prelude.{nat_lt, Option, Some, None, slice_index_or}
 use Rattle.std.specs.List.{list_all, list_any}
-use Rattle.flat_ir.specs.declared.program.ValueId.{ValueId}
-use Rattle.flat_ir.specs.Program.{Program, Work, step_at, operands}
+use Rattle.flat_ir.specs.Program.{Program, step_at, operands}
 use Rattle.flat_ir.specs.Blocks.{line, block_at, same}
 use Rattle.flat_ir.specs.Kinds.{fits_switch, is_write, is_field, is_input, is_mutable_look, needed}
 use Rattle.split_model.specs.declared.split.Part.{Part}

@@ -7,8 +7,7 @@ use Rattle.packet_fields.specs.declared.verdict.Verdict.TheVariants.{Drop, Send}
 use Rattle.state_store.specs.Store.{Store, object_at}
 use Rattle.std.specs.List.{filter}
 use Rattle.flat_ir.specs.declared.program.ValueId.{ValueId}
-use Rattle.flat_ir.specs.Program.{Program, Work, step_at}
-use Rattle.flat_ir.specs.Program.Work.{const, field, apply, shift, select, byte, look, put, del}
+use Rattle.flat_ir.specs.Program.{Program, step_at}
 use Rattle.flat_ir.specs.Blocks.{Reading, nothing, is_live}
 use Rattle.flat_ir.specs.Run.{Machine, Change, do_step, results, verdict, flat_run, with_writes}
 use Rattle.split_model.specs.declared.split.Part.{Part}

@@ -1,5 +1,6 @@
 //! What is handed from one part to the next.
-ghost use Rattle.std.specs.Prelude.{◌≡◌, ◌++◌, ◌∷◌, [], length, IfOk, OnOk, OnErr};
+ghost use Rattle.std.specs.Prelude.{◌≡◌, ◌<◌, ◌++◌, ◌∷◌, ◌^◌, [], length, IfOk, OnOk, OnErr};
+ghost use Rattle.split_model.specs.Counts.{layout_bytes};
 
 use flat_ir::ValueId;
 use gal_bits::Width;
@@ -50,6 +51,18 @@ impl Layout {
         ensures { result ≡ length self.now }
     {
         self.items.len()
+    }
+
+    /// How many bytes hold the values, one after the other and each in as many bits as its width.
+    pub fn bytes(&self) -> usize
+        requires few { length self.now < 2 ^ 32 }
+        ensures { result ≡ layout_bytes self.now }
+    {
+        let mut bits = 7usize;
+        for crossing in &self.items {
+            bits += crossing.width.bits() as usize;
+        }
+        bits / 8
     }
 
     /// Puts a value last.

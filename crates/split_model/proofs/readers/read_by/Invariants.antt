@@ -1,0 +1,10 @@
+use Rattle.std.proofs.Common.{◌&&◌, length}
+use Rattle.flat_ir.specs.Program.{program_of, step_at, operands}
+use Rattle.split_model.specs.Split.{any_below}
+use Rattle.split_model.specs.Crossing.{is_among}
+use Rattle.split_model.specs.Marked.{AreMarked, is_of}
+use Rattle.split_model.proofs.readers.read_by.Given as goal
+
+abbrev pub invariant-loop-i : goal.invariant-loop-i
+invariant-loop-i l =
+    AreMarked (length l.f.code) (λ v. any_below l.i (λ i. is_of l.reader l.s i && is_among v (operands (step_at (program_of l.f) i).work))) l.set

@@ -1,0 +1,5 @@
+pub mod Batches
+pub mod Commands
+pub mod Pair
+pub mod Seen
+pub mod Staging
