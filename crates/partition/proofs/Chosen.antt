@@ -90,7 +90,7 @@ module _ (one : (f : Program) (k : ℕ) (all : Bool) (split other : List Part) �
   kept_not_exceeded split over kept exceeded =
       let e : exceeded.split ≡ split = one f k all exceeded.split split formed exceeded.greatest kept.kept.greatest in
       let s : first_over (counts_of f split limits.writeback) limits ≡ Some over =
-          subst (λ (s : List Part). first_over (counts_of f s limits.writeback) limits ≡ Some over) e exceeded.exceeds in
+      subst (λ (s : List Part). first_over (counts_of f s limits.writeback) limits ≡ Some over) e exceeded.exceeds in
       let n = kept.none in
       cc
 

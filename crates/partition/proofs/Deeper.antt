@@ -56,7 +56,7 @@ pub front_not_kept : ((f : Program) (members : List Bool) (depths : List ℕ) �
 front_not_kept staged least f limits front well is deep all other kept =
     let sets : pre_marks other ≡ front.pre = same_sets f (IsPreClosed f front.count) (pre_marks other) front.pre kept.greatest.pre is.pre in
     let depths : pre_stages other ≡ front.depths =
-        same_depths staged least f well front.pre (pre_stages other) front.depths (subst (λ (m : List Bool). IsDepths f m (pre_stages other)) sets kept.greatest.pre_depths) is.depths in
+    same_depths staged least f well front.pre (pre_stages other) front.depths (subst (λ (m : List Bool). IsDepths f m (pre_stages other)) sets kept.greatest.pre_depths) is.depths in
     let g = greater_at limits.stages front.depths deep in
     let i = g.0 in
     let lt : i < length f.code = (let l = g.1.0 in let c = is.depths.count in omega (arith, l, c)) in

@@ -126,13 +126,13 @@ either_bits f p q r (v ∷ vs) h =
     let rest = either_bits f p q r vs h in
     elim (cases_Bool (p v)) [
       | inr n ↦ rw n (elim (cases_Bool (q v)) [
-          | inl x ↦ rw x (elim (cases_Bool (r v)) [ | inl y ↦ rw y (omega (arith, rest)) | inr y ↦ rw y (omega (arith, rest)) ])
-          | inr x ↦ rw x (elim (cases_Bool (r v)) [ | inl y ↦ rw y (omega (arith, rest)) | inr y ↦ rw y (omega (arith, rest)) ])
-        ])
+        | inl x ↦ rw x (elim (cases_Bool (r v)) [ inl y ↦ rw y (omega (arith, rest)) | inr y ↦ rw y (omega (arith, rest)) ])
+        | inr x ↦ rw x (elim (cases_Bool (r v)) [ inl y ↦ rw y (omega (arith, rest)) | inr y ↦ rw y (omega (arith, rest)) ])
+      ])
       | inl t ↦ rw t (elim (h v t) [
-          | inl x ↦ rw x (elim (cases_Bool (r v)) [ | inl y ↦ rw y (omega (arith, rest)) | inr y ↦ rw y (omega (arith, rest)) ])
-          | inr y ↦ rw y (elim (cases_Bool (q v)) [ | inl x ↦ rw x (omega (arith, rest)) | inr x ↦ rw x (omega (arith, rest)) ])
-        ])
+        | inl x ↦ rw x (elim (cases_Bool (r v)) [ inl y ↦ rw y (omega (arith, rest)) | inr y ↦ rw y (omega (arith, rest)) ])
+        | inr y ↦ rw y (elim (cases_Bool (q v)) [ inl x ↦ rw x (omega (arith, rest)) | inr x ↦ rw x (omega (arith, rest)) ])
+      ])
     ]
 
 -- the bits of one value among a list

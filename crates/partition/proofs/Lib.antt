@@ -7,3 +7,4 @@ pub mod Shrunk
 pub mod Steps
 pub mod Chosen
 pub mod Deeper
+pub mod Twice

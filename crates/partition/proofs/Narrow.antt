@@ -99,7 +99,7 @@ fewer f k others out closed = record {
 }
   where
     under : (i k : ℕ) → i < suc k → (i ≡ k → ⊥) → i < k
-    under i k l apart = elim (cases_eq i k) [ | inl e ↦ absurd (apart e) | inr n ↦ omega (arith, l, n) ]
+    under i k l apart = elim (cases_eq i k) [ inl e ↦ absurd (apart e) | inr n ↦ omega (arith, l, n) ]
 
 module _ (f : Program) (well : IsWellFormed f) (k : ℕ) (pre carried : List Bool) (depths : List ℕ)
     (old : IsGreatest f (IsPreClosed f (suc k)) pre) (handed : IsGreatest f (IsCarriedClosed f pre) carried) (deep : IsDepths f pre depths) where
@@ -108,7 +108,7 @@ module _ (f : Program) (well : IsWellFormed f) (k : ℕ) (pre carried : List Boo
   left_below i m =
       let s = still pre k i m in
       let l = old.closed.below i s.0 in
-      elim (cases_eq i k) [ | inl e ↦ absurd (s.1 e) | inr n ↦ omega (arith, l, n) ]
+      elim (cases_eq i k) [ inl e ↦ absurd (s.1 e) | inr n ↦ omega (arith, l, n) ]
 
   pub pre_left : IsGreatest f (IsPreClosed f k) (slice_set pre k false)
   pre_left = record {

@@ -39,10 +39,13 @@ module _ (f : Program) (limits : Limits) (k : ℕ)
       → IsFirstKept f limits ((suc k, true) ∷ ((suc k, false) ∷ ((k, true) ∷ ((k, false) ∷ rest)))) split
   from_two rest split h = elim h [
     | inl p ↦ inl (kept_up true split p)
-    | inr q ↦ inr (not_up true q.0, elim q.1 [
+    | inr q ↦ inr (
+      not_up true q.0,
+      elim q.1 [
         | inl p ↦ inl (kept_up false split p)
         | inr r ↦ inr (not_up false r.0, inr (q.0, inr (r.0, r.1)))
-      ])
+      ],
+    )
   ]
 
   pub same_first : (split : List Part) → IsFirstKept f limits (shrinking k) split → IsFirstKept f limits (shrinking (suc k)) split

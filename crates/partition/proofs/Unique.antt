@@ -123,7 +123,7 @@ marked_inside (x ∷ xs) (suc i) m = let h = marked_inside xs i m in omega (arit
 pub legal_closed : (f : Program) (other : List Part) → IsLegal f other → IsPreClosed f (length f.code) (pre_marks other)
 legal_closed f other legal =
     let inside : (i : ℕ) → IsMarked (pre_marks other) i → i < length f.code = λ i m.
-        (let n = marked_inside (pre_marks other) i m in let c = legal.count in let e = length-map other (λ (part : Part). is_some part.pre) in omega (arith, n, c, e)) in
+    (let n = marked_inside (pre_marks other) i m in let c = legal.count in let e = length-map other (λ (part : Part). is_some part.pre) in omega (arith, n, c, e)) in
     record {
       below = inside;
       kinds = λ i m.

@@ -4,3 +4,4 @@ pub mod Causes
 pub mod Front
 pub mod Tried
 pub mod Deeper
+pub mod Looks

@@ -13,18 +13,18 @@ ghost use Rattle.partition.specs.Causes.{IsCause};
 ghost use Rattle.partition.specs.Tried.{IsTried, IsFound, IsFoundOfTwo, IsStep};
 ghost use Rattle.partition.specs.Front.{IsFront};
 ghost use Rattle.std.specs.List.{list_any};
-ghost use Rattle.split_model.specs.Split.{stage_after};
 ghost use Rattle.split_model.specs.Counts.{stage_or_zero};
 ghost use Rattle.partition.specs.Deeper.{is_deeper};
 
 use crate::front::Front;
 use crate::greatest::{all_on_server, greatest_split};
 use crate::laws::greatest_split_is_one;
+use crate::looks::looks_twice;
 use dependence::depths_are_least;
 use flat_ir::Flat;
 use gal_io::NoMemory;
 use resource_limits::{Limits, Over, count, first_exceeded};
-use split_model::{Part, Slow, Split};
+use split_model::{Part, Split};
 use std::alloc::Global;
 use thiserror::Error;
 
@@ -80,21 +80,11 @@ fn or_zero(stage: Option<u32>) -> u32
     stage.unwrap_or(0)
 }
 
-// The stage in postprocessing, or 0 where there is none.
-fn stage_after(slow: Slow) -> u32
-    ensures { result ≡ stage_or_zero (stage_after slow) }
-{
-    match slow {
-        Slow::Carried | Slow::Server => 0,
-        Slow::Post(stage) => stage,
-    }
-}
-
 // Whether a pass has an instruction at a stage above this one.
 fn is_deeper(most: u32, part: &Part) -> bool
     ensures { result ≡ is_deeper most part.now }
 {
-    most < or_zero(part.pre) || most < stage_after(part.slow)
+    most < or_zero(part.pre) || most < or_zero(part.slow.stage())
 }
 
 // Whether some pass has a stage above this one.
@@ -140,7 +130,8 @@ fn find(
     }
 }
 
-// The same with postprocessing and else without it. Neither keeps the limits where preprocessing alone is too deep.
+// The same with postprocessing and else without it. Neither keeps the limits where preprocessing alone is
+// too deep, or looks one object up twice.
 fn find_of_two(
     alloc: Global,
     f: &Flat,
@@ -156,6 +147,9 @@ fn find_of_two(
     if front.is_deeper_than(limits.stages) {
         return Ok(None);
     }
+    if looks_twice(alloc, f, &front.pre)? {
+        return Ok(None);
+    }
     if let Some(split) = find(alloc, f, limits, front, true)? {
         return Ok(Some(split));
     }
@@ -164,12 +158,7 @@ fn find_of_two(
 
 // The first split of those on so many instructions or fewer, where it is one on so many. Where preprocessing hasn't the
 // last of them, these are the splits on one less.
-fn step(
-    alloc: Global,
-    f: &Flat,
-    limits: &Limits,
-    front: &Front,
-) -> Result<Option<Split>, NoMemory>
+fn step(alloc: Global, f: &Flat, limits: &Limits, front: &Front) -> Result<Option<Split>, NoMemory>
     requires bounded { IsBounded (program_of f.now) }
     requires in_range { AreInRange limits.now }
     requires front { IsFront (program_of f.now) front.now }

@@ -52,10 +52,7 @@ impl Front {
     pub(crate) fn is_deeper_than(&self, stage: u32) -> bool
         ensures { result ≡ list_any (λ depth. nat_lt stage depth) self.now.depths }
     {
-        self.depths
-            .as_slice()
-            .iter()
-            .any(|depth| stage < *depth)
+        self.depths.as_slice().iter().any(|depth| stage < *depth)
     }
 
     /// Leaves out the last of the first instructions: what is left of the sets are the sets among the others.
@@ -83,6 +80,13 @@ impl Front {
     {
         let post = post_set(alloc, f, all, &self.carried)?;
         let post_depths = depths(alloc, f, &post)?;
-        join(alloc, &self.pre, &self.carried, &post, &self.depths, &post_depths)
+        join(
+            alloc,
+            &self.pre,
+            &self.carried,
+            &post,
+            &self.depths,
+            &post_depths,
+        )
     }
 }

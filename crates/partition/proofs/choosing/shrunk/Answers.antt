@@ -31,7 +31,7 @@ returns c =
     let l = c.args.limits.now in
     let z : c.loop-front.front.count ≡ 0 = omega (arith, c.loop-front-test.false) in
     let none : IsFound f l 0 true None =
-        subst (λ (n : ℕ). IsFound f l n true None) z (subst (λ (o : Option (List Part)). IsFound f l c.loop-front.front.count true o) c.in-None.is c.in_ok-split-2.ensures) in
+    subst (λ (n : ℕ). IsFound f l n true None) z (subst (λ (o : Option (List Part)). IsFound f l c.loop-front.front.count true o) c.in-None.is c.in_ok-split-2.ensures) in
     IfOk-weaker c.all_on_server.result (λ (split : List Part). IsGreatestSplit f 0 false split) (λ (split : List Part). IsChosen f l true split)
     (λ split greatest. c.loop-front.invariant.first split
     (subst (λ k. IsFirstKept f l (shrinking k) split) (sym z)
