@@ -1,11 +1,11 @@
 -- What holds of each split that is chosen, and when none is.
-use Rattle.std.proofs.Common.{◌≡◌, ℕ, zero, suc, ◌<◌, ◌≤◌, max, Bool, true, false, List, [], ◌∷◌, Option, Some, None, inl, inr, refl, sym, ap, ◌∙◌, subst, arith, length}
+use Rattle.std.proofs.Common.{◌≡◌, ℕ, zero, suc, ◌<◌, ◌≤◌, Bool, true, false, List, [], ◌∷◌, Some, None, inl, inr, refl, ap, subst, arith, length}
 use Rattle.std.proofs.lemmas.Bool.{cases_lt}
 use Rattle.flat_ir.specs.Program.{Program}
 use Rattle.flat_ir.specs.WellFormed.{IsWellFormed}
 use Rattle.split_model.specs.declared.split.Part.{Part}
 use Rattle.split_model.specs.Split.{part_at, pre_stage, post_stage, stage_after}
-use Rattle.split_model.specs.Counts.{stage_or_zero, highest_below, stages}
+use Rattle.split_model.specs.Counts.{stage_or_zero, highest_below}
 use Rattle.split_model.specs.Legal.{IsLegal}
 use Rattle.split_model.specs.Greatest.{IsGreatestSplit}
 use Rattle.resource_limits.specs.declared.limits.Limits.{Limits}
@@ -35,14 +35,14 @@ chosen_is_kept f limits true split k = first_is_kept f limits (shrinking (length
 
 -- ## Stages
 
-pre_low : (split : List Part) (n i : ℕ) → i < n → stage_or_zero (pre_stage split i) ≤ highest_below split n
+pub pre_low : (split : List Part) (n i : ℕ) → i < n → stage_or_zero (pre_stage split i) ≤ highest_below split n
 pre_low split zero i lt = absurd (omega (arith, lt))
 pre_low split (suc n) i lt = elim (cases_lt i n) [
   | inl less ↦ (let h = pre_low split n i less in omega (arith, h))
   | inr le ↦ (let e : i ≡ n = omega (arith, lt, le) in let h = ap (λ j. stage_or_zero (pre_stage split j)) e in omega (arith, h))
 ]
 
-post_low : (split : List Part) (n i : ℕ) → i < n → stage_or_zero (post_stage split i) ≤ highest_below split n
+pub post_low : (split : List Part) (n i : ℕ) → i < n → stage_or_zero (post_stage split i) ≤ highest_below split n
 post_low split zero i lt = absurd (omega (arith, lt))
 post_low split (suc n) i lt = elim (cases_lt i n) [
   | inl less ↦ (let h = post_low split n i less in omega (arith, h))
@@ -90,7 +90,7 @@ module _ (one : (f : Program) (k : ℕ) (all : Bool) (split other : List Part) �
   kept_not_exceeded split over kept exceeded =
       let e : exceeded.split ≡ split = one f k all exceeded.split split formed exceeded.greatest kept.kept.greatest in
       let s : first_over (counts_of f split limits.writeback) limits ≡ Some over =
-          subst (λ (s : List Part). first_over (counts_of f s limits.writeback) limits ≡ Some over) e exceeded.exceeds in
+      subst (λ (s : List Part). first_over (counts_of f s limits.writeback) limits ≡ Some over) e exceeded.exceeds in
       let n = kept.none in
       cc
 

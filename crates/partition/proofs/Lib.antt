@@ -6,3 +6,5 @@ pub mod Narrow
 pub mod Shrunk
 pub mod Steps
 pub mod Chosen
+pub mod Deeper
+pub mod Twice

@@ -1,20 +1,18 @@
 -- The sets of preprocessing on one instruction fewer.
-use Rattle.std.proofs.Common.{◌≡◌, ℕ, zero, suc, ◌-◌, ◌<◌, ◌≤◌, max, Bool, true, false, List, [], ◌∷◌, inl, inr, refl, sym, ap, ◌∙◌, subst, arith, length}
+use Rattle.std.proofs.Common.{◌≡◌, ℕ, zero, suc, ◌<◌, Bool, false, List, [], ◌∷◌, inl, inr, refl, sym, ap, ◌∙◌, subst, arith, length}
 use Rattle.std.specs.Prelude.{slice_index, slice_index_or, slice_set, if◌then◌else◌}
 use Rattle.std.specs.List.{AllByRecursion as Each}
-use Rattle.std.proofs.lemmas.Bool.{cases_Bool, cases_eq}
+use Rattle.std.proofs.lemmas.Bool.{cases_eq}
 use Rattle.std.proofs.lemmas.Option.{slice_get_within}
 use Rattle.flat_ir.specs.declared.program.ValueId.{ValueId}
-use Rattle.flat_ir.specs.Program.{Program, Step, Work, step_at, operands}
+use Rattle.flat_ir.specs.Program.{Program, Step, Work, operands}
 use Rattle.flat_ir.specs.Program.Work.{const, field, apply, shift, select, byte, look, put, del}
 use Rattle.flat_ir.specs.Kinds.{needed, is_input}
 use Rattle.flat_ir.specs.WellFormed.{IsWellFormed}
-use Rattle.flat_ir.specs.Sets.{IsMarked, IsAt, Reads, IsWithin, IsPreClosed, IsCarriedClosed, IsGreatest}
+use Rattle.flat_ir.specs.Sets.{IsMarked, IsAt, Reads, IsPreClosed, IsCarriedClosed, IsGreatest}
 use Rattle.flat_ir.specs.Stages.{IsDepths, deepest, depth_of}
 use Rattle.split_model.specs.declared.split.Part.{Part}
 use Rattle.split_model.specs.Greatest.{pre_marks, IsGreatestSplit}
-use Rattle.partition.specs.declared.front.Front.{Front}
-use Rattle.partition.specs.Front.{IsFront}
 use Rattle.partition.proofs.Lawful.{no_more, step_there}
 
 -- ## One mark less
@@ -101,7 +99,7 @@ fewer f k others out closed = record {
 }
   where
     under : (i k : ℕ) → i < suc k → (i ≡ k → ⊥) → i < k
-    under i k l apart = elim (cases_eq i k) [ | inl e ↦ absurd (apart e) | inr n ↦ omega (arith, l, n) ]
+    under i k l apart = elim (cases_eq i k) [ inl e ↦ absurd (apart e) | inr n ↦ omega (arith, l, n) ]
 
 module _ (f : Program) (well : IsWellFormed f) (k : ℕ) (pre carried : List Bool) (depths : List ℕ)
     (old : IsGreatest f (IsPreClosed f (suc k)) pre) (handed : IsGreatest f (IsCarriedClosed f pre) carried) (deep : IsDepths f pre depths) where
@@ -110,7 +108,7 @@ module _ (f : Program) (well : IsWellFormed f) (k : ℕ) (pre carried : List Boo
   left_below i m =
       let s = still pre k i m in
       let l = old.closed.below i s.0 in
-      elim (cases_eq i k) [ | inl e ↦ absurd (s.1 e) | inr n ↦ omega (arith, l, n) ]
+      elim (cases_eq i k) [ inl e ↦ absurd (s.1 e) | inr n ↦ omega (arith, l, n) ]
 
   pub pre_left : IsGreatest f (IsPreClosed f k) (slice_set pre k false)
   pre_left = record {

@@ -1,5 +1,5 @@
 -- The shrinking list, one step on and at its end.
-use Rattle.std.proofs.Common.{◌≡◌, ℕ, zero, suc, ◌-◌, ◌<◌, Bool, true, false, List, [], ◌∷◌, Option, Some, None, inl, inr, refl, sym, subst, arith}
+use Rattle.std.proofs.Common.{◌≡◌, ℕ, zero, suc, ◌-◌, ◌<◌, Bool, true, false, List, [], ◌∷◌, Some, None, inl, inr, refl, sym, subst, arith}
 use Rattle.flat_ir.specs.Program.{Program}
 use Rattle.split_model.specs.declared.split.Part.{Part}
 use Rattle.split_model.specs.Greatest.{IsGreatestSplit}
@@ -39,10 +39,13 @@ module _ (f : Program) (limits : Limits) (k : ℕ)
       → IsFirstKept f limits ((suc k, true) ∷ ((suc k, false) ∷ ((k, true) ∷ ((k, false) ∷ rest)))) split
   from_two rest split h = elim h [
     | inl p ↦ inl (kept_up true split p)
-    | inr q ↦ inr (not_up true q.0, elim q.1 [
+    | inr q ↦ inr (
+      not_up true q.0,
+      elim q.1 [
         | inl p ↦ inl (kept_up false split p)
         | inr r ↦ inr (not_up false r.0, inr (q.0, inr (r.0, r.1)))
-      ])
+      ],
+    )
   ]
 
   pub same_first : (split : List Part) → IsFirstKept f limits (shrinking k) split → IsFirstKept f limits (shrinking (suc k)) split

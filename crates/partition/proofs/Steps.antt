@@ -1,5 +1,5 @@
 -- A step of the search along the shrinking list.
-use Rattle.std.proofs.Common.{◌≡◌, ℕ, suc, ◌-◌, ◌<◌, true, false, List, Option, Some, None, refl, sym, ap, ◌∙◌, subst, arith, length}
+use Rattle.std.proofs.Common.{◌≡◌, ℕ, suc, ◌-◌, ◌<◌, false, List, Option, Some, None, sym, subst, arith}
 use Rattle.std.specs.Prelude.{slice_index_or, slice_set, Bool}
 use Rattle.flat_ir.specs.Program.{Program}
 use Rattle.flat_ir.specs.WellFormed.{IsWellFormed}

@@ -1,5 +1,4 @@
 -- What preprocessing has of the first instructions.
-use Rattle.std.specs.Prelude.{ℕ, suc, ◌<◌, length, slice_index, slice_index_or, List, Bool}
 use Rattle.flat_ir.specs.Program.{Program}
 use Rattle.flat_ir.specs.Sets.{IsPreClosed, IsCarriedClosed, IsGreatest}
 use Rattle.flat_ir.specs.Stages.{IsDepths}

@@ -3,3 +3,5 @@ pub mod Choice
 pub mod Causes
 pub mod Front
 pub mod Tried
+pub mod Deeper
+pub mod Looks

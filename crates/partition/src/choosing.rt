@@ -12,14 +12,19 @@ ghost use Rattle.partition.specs.declared.choosing.PartError.TheVariants.{NoMemo
 ghost use Rattle.partition.specs.Causes.{IsCause};
 ghost use Rattle.partition.specs.Tried.{IsTried, IsFound, IsFoundOfTwo, IsStep};
 ghost use Rattle.partition.specs.Front.{IsFront};
+ghost use Rattle.std.specs.List.{list_any};
+ghost use Rattle.split_model.specs.Counts.{stage_or_zero};
+ghost use Rattle.partition.specs.Deeper.{is_deeper};
 
 use crate::front::Front;
 use crate::greatest::{all_on_server, greatest_split};
 use crate::laws::greatest_split_is_one;
+use crate::looks::looks_twice;
+use dependence::depths_are_least;
 use flat_ir::Flat;
 use gal_io::NoMemory;
 use resource_limits::{Limits, Over, count, first_exceeded};
-use split_model::Split;
+use split_model::{Part, Split};
 use std::alloc::Global;
 use thiserror::Error;
 
@@ -68,13 +73,37 @@ fn try_split(
     }
 }
 
-// Whether a split keeps the limits.
+// A stage, or 0 where there is none.
+fn or_zero(stage: Option<u32>) -> u32
+    ensures { result ≡ stage_or_zero stage }
+{
+    stage.unwrap_or(0)
+}
+
+// Whether a pass has an instruction at a stage above this one.
+fn is_deeper(most: u32, part: &Part) -> bool
+    ensures { result ≡ is_deeper most part.now }
+{
+    most < or_zero(part.pre) || most < or_zero(part.slow.stage())
+}
+
+// Whether some pass has a stage above this one.
+fn has_deeper(most: u32, split: &Split) -> bool
+    ensures { result ≡ list_any (is_deeper most) split.now }
+{
+    split.as_slice().iter().any(|part| is_deeper(most, part))
+}
+
+// Whether a split keeps the limits. The stages are looked at first, since that is quickly done.
 fn keeps(alloc: Global, f: &Flat, split: &Split, limits: &Limits) -> Result<bool, NoMemory>
     requires bounded { IsBounded (program_of f.now) }
     requires parts { length split.now ≡ length f.now.code }
     requires in_range { AreInRange limits.now }
     ensures { IfOk result (λ keeps. (keeps ≡ true) ↔ KeepsLimits (program_of f.now) split.now limits.now) }
 {
+    if has_deeper(limits.stages, split) {
+        return Ok(false);
+    }
     let counts = count(alloc, f, split, limits.writeback)?;
     Ok(first_exceeded(&counts, limits).is_none())
 }
@@ -101,7 +130,8 @@ fn find(
     }
 }
 
-// The same with postprocessing and else without it.
+// The same with postprocessing and else without it. Neither keeps the limits where preprocessing alone is
+// too deep, or looks one object up twice.
 fn find_of_two(
     alloc: Global,
     f: &Flat,
@@ -113,6 +143,13 @@ fn find_of_two(
     requires front { IsFront (program_of f.now) front.now }
     ensures { IfOk result (λ found. IsFoundOfTwo (program_of f.now) limits.now front.now.count found) }
 {
+    depths_are_least();
+    if front.is_deeper_than(limits.stages) {
+        return Ok(None);
+    }
+    if looks_twice(alloc, f, &front.pre)? {
+        return Ok(None);
+    }
     if let Some(split) = find(alloc, f, limits, front, true)? {
         return Ok(Some(split));
     }
@@ -121,12 +158,7 @@ fn find_of_two(
 
 // The first split of those on so many instructions or fewer, where it is one on so many. Where preprocessing hasn't the
 // last of them, these are the splits on one less.
-fn step(
-    alloc: Global,
-    f: &Flat,
-    limits: &Limits,
-    front: &Front,
-) -> Result<Option<Split>, NoMemory>
+fn step(alloc: Global, f: &Flat, limits: &Limits, front: &Front) -> Result<Option<Split>, NoMemory>
     requires bounded { IsBounded (program_of f.now) }
     requires in_range { AreInRange limits.now }
     requires front { IsFront (program_of f.now) front.now }

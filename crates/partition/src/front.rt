@@ -1,5 +1,6 @@
 //! What preprocessing computes and hands up, of the first instructions of a program.
-ghost use Rattle.std.specs.Prelude.{◌≡◌, ℕ, ◌<◌, ◌-◌, length, IfOk, slice_set, slice_index, slice_index_or, false, true};
+ghost use Rattle.std.specs.Prelude.{◌≡◌, ℕ, ◌<◌, ◌-◌, length, IfOk, slice_set, slice_index, slice_index_or, false, true, nat_lt};
+ghost use Rattle.std.specs.List.{list_any};
 ghost use Rattle.flat_ir.specs.Program.{program_of};
 ghost use Rattle.split_model.specs.Bounds.{IsBounded};
 ghost use Rattle.split_model.specs.Greatest.{IsGreatestSplit};
@@ -47,6 +48,13 @@ impl Front {
         self.pre.at(self.count - 1)
     }
 
+    /// Whether preprocessing needs a stage above this one.
+    pub(crate) fn is_deeper_than(&self, stage: u32) -> bool
+        ensures { result ≡ list_any (λ depth. nat_lt stage depth) self.now.depths }
+    {
+        self.depths.as_slice().iter().any(|depth| stage < *depth)
+    }
+
     /// Leaves out the last of the first instructions: what is left of the sets are the sets among the others.
     pub(crate) fn narrow(&mut self)
         requires some { 0 < self.old.count }
@@ -72,6 +80,13 @@ impl Front {
     {
         let post = post_set(alloc, f, all, &self.carried)?;
         let post_depths = depths(alloc, f, &post)?;
-        join(alloc, &self.pre, &self.carried, &post, &self.depths, &post_depths)
+        join(
+            alloc,
+            &self.pre,
+            &self.carried,
+            &post,
+            &self.depths,
+            &post_depths,
+        )
     }
 }

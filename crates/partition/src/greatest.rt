@@ -85,7 +85,12 @@ pub(crate) fn join(
 }
 
 // The set of postprocessing: the greatest one, or none. A block's number has 32 bits, and no memory holds more blocks.
-pub(crate) fn post_set(alloc: Global, f: &Flat, all: bool, carried: &Marks) -> Result<Marks, NoMemory>
+pub(crate) fn post_set(
+    alloc: Global,
+    f: &Flat,
+    all: bool,
+    carried: &Marks,
+) -> Result<Marks, NoMemory>
     requires { IsWellFormed (program_of f.now) }
     ensures { IfOk result (λ post. IsPostSet (program_of f.now) all carried.now post) }
 {

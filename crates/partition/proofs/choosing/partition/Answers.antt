@@ -1,14 +1,11 @@
 use Rattle.std.proofs.Common.{◌≡◌, length, true, false, Bool, sym, subst, ◌∙◌}
 use Rattle.std.proofs.lemmas.List.{length-map}
 use Rattle.flat_ir.specs.Program.{program_of, step_of}
-use Rattle.partition.specs.Choice.{IsChosen, IsRefused, IsKept, IsExceeded}
-use Rattle.partition.specs.Tried.{IsTriedKept, IsTriedExceeded}
-use Rattle.partition.specs.Causes.{IsCause}
-use Rattle.partition.specs.declared.choosing.PartError.TheVariants.{Exceeds}
+use Rattle.partition.specs.Choice.{IsChosen, IsRefused}
 use Rattle.partition.specs.declared.choosing.Tried.{Tried}
 use Rattle.partition.specs.declared.choosing.Tried.TheVariants.{Kept, Exceeding}
 use Rattle.partition.specs.Tried.{IsTried}
-use Rattle.partition.proofs.Chosen.{sound, IsSound, kept_not_exceeded, exceeded_not_kept}
+use Rattle.partition.proofs.Chosen.{sound, kept_not_exceeded, exceeded_not_kept}
 use Rattle.partition.proofs.choosing.partition.Goals as goal
 
 pub returns-then-shrink-clause-chosen : goal.returns-then-shrink-clause-chosen
@@ -36,7 +33,7 @@ returns-in-Kept-clause-chosen c =
     let l = c.args.limits.now in
     let e : c.len.result ≡ length f.code = c.len.ensures ∙ sym (length-map c.args.f.now.code step_of) in
     let tried : IsTried f l (length f.code) true (Kept c.in-Kept.split) =
-        subst (λ n. IsTried f l n true (Kept c.in-Kept.split)) e (subst (λ (t : Tried). IsTried f l c.len.result true t) c.in-Kept.is c.in_ok-split-2.ensures) in
+    subst (λ n. IsTried f l n true (Kept c.in-Kept.split)) e (subst (λ (t : Tried). IsTried f l c.len.result true t) c.in-Kept.is c.in_ok-split-2.ensures) in
     subst (λ (b : Bool). IsChosen f l b c.in-Kept.split) (sym c.if-shrink.false) tried.kept
 
 pub returns-in-Kept-clause-legal : goal.returns-in-Kept-clause-legal
@@ -45,7 +42,7 @@ returns-in-Kept-clause-legal c =
     let l = c.args.limits.now in
     let e : c.len.result ≡ length f.code = c.len.ensures ∙ sym (length-map c.args.f.now.code step_of) in
     let tried : IsTried f l (length f.code) true (Kept c.in-Kept.split) =
-        subst (λ n. IsTried f l n true (Kept c.in-Kept.split)) e (subst (λ (t : Tried). IsTried f l c.len.result true t) c.in-Kept.is c.in_ok-split-2.ensures) in
+    subst (λ n. IsTried f l n true (Kept c.in-Kept.split)) e (subst (λ (t : Tried). IsTried f l c.len.result true t) c.in-Kept.is c.in_ok-split-2.ensures) in
     (sound c.greatest_split_is_one.ensures.legal f l false c.in-Kept.split c.requires.bounded.formed c.requires.in_range tried.kept).legal
 
 pub returns-in-Kept-clause-keeps : goal.returns-in-Kept-clause-keeps
@@ -54,7 +51,7 @@ returns-in-Kept-clause-keeps c =
     let l = c.args.limits.now in
     let e : c.len.result ≡ length f.code = c.len.ensures ∙ sym (length-map c.args.f.now.code step_of) in
     let tried : IsTried f l (length f.code) true (Kept c.in-Kept.split) =
-        subst (λ n. IsTried f l n true (Kept c.in-Kept.split)) e (subst (λ (t : Tried). IsTried f l c.len.result true t) c.in-Kept.is c.in_ok-split-2.ensures) in
+    subst (λ n. IsTried f l n true (Kept c.in-Kept.split)) e (subst (λ (t : Tried). IsTried f l c.len.result true t) c.in-Kept.is c.in_ok-split-2.ensures) in
     (sound c.greatest_split_is_one.ensures.legal f l false c.in-Kept.split c.requires.bounded.formed c.requires.in_range tried.kept).keeps
 
 pub returns-in-Kept-clause-low : goal.returns-in-Kept-clause-low
@@ -63,7 +60,7 @@ returns-in-Kept-clause-low c =
     let l = c.args.limits.now in
     let e : c.len.result ≡ length f.code = c.len.ensures ∙ sym (length-map c.args.f.now.code step_of) in
     let tried : IsTried f l (length f.code) true (Kept c.in-Kept.split) =
-        subst (λ n. IsTried f l n true (Kept c.in-Kept.split)) e (subst (λ (t : Tried). IsTried f l c.len.result true t) c.in-Kept.is c.in_ok-split-2.ensures) in
+    subst (λ n. IsTried f l n true (Kept c.in-Kept.split)) e (subst (λ (t : Tried). IsTried f l c.len.result true t) c.in-Kept.is c.in_ok-split-2.ensures) in
     (sound c.greatest_split_is_one.ensures.legal f l false c.in-Kept.split c.requires.bounded.formed c.requires.in_range tried.kept).low
 
 pub returns-in-Kept-clause-not_chosen : goal.returns-in-Kept-clause-not_chosen
@@ -72,7 +69,7 @@ returns-in-Kept-clause-not_chosen c =
     let l = c.args.limits.now in
     let e : c.len.result ≡ length f.code = c.len.ensures ∙ sym (length-map c.args.f.now.code step_of) in
     let tried : IsTried f l (length f.code) true (Kept c.in-Kept.split) =
-        subst (λ n. IsTried f l n true (Kept c.in-Kept.split)) e (subst (λ (t : Tried). IsTried f l c.len.result true t) c.in-Kept.is c.in_ok-split-2.ensures) in
+    subst (λ n. IsTried f l n true (Kept c.in-Kept.split)) e (subst (λ (t : Tried). IsTried f l c.len.result true t) c.in-Kept.is c.in_ok-split-2.ensures) in
     λ over refused. kept_not_exceeded c.greatest_split_is_one.ensures.one f l (length f.code) true c.requires.bounded.formed c.in-Kept.split over tried
     (subst (λ (b : Bool). IsRefused f l b over) c.if-shrink.false refused)
 
@@ -82,7 +79,7 @@ returns-in-Exceeding-clause-refused c =
     let l = c.args.limits.now in
     let e : c.len.result ≡ length f.code = c.len.ensures ∙ sym (length-map c.args.f.now.code step_of) in
     let tried : IsTried f l (length f.code) true (Exceeding c.in-Exceeding.over) =
-        subst (λ n. IsTried f l n true (Exceeding c.in-Exceeding.over)) e (subst (λ (t : Tried). IsTried f l c.len.result true t) c.in-Exceeding.is c.in_ok-split-2.ensures) in
+    subst (λ n. IsTried f l n true (Exceeding c.in-Exceeding.over)) e (subst (λ (t : Tried). IsTried f l c.len.result true t) c.in-Exceeding.is c.in_ok-split-2.ensures) in
     subst (λ (b : Bool). IsRefused f l b c.in-Exceeding.over) (sym c.if-shrink.false) tried.exceeded
 
 pub returns-in-Exceeding-clause-not_refused : goal.returns-in-Exceeding-clause-not_refused
@@ -91,6 +88,6 @@ returns-in-Exceeding-clause-not_refused c =
     let l = c.args.limits.now in
     let e : c.len.result ≡ length f.code = c.len.ensures ∙ sym (length-map c.args.f.now.code step_of) in
     let tried : IsTried f l (length f.code) true (Exceeding c.in-Exceeding.over) =
-        subst (λ n. IsTried f l n true (Exceeding c.in-Exceeding.over)) e (subst (λ (t : Tried). IsTried f l c.len.result true t) c.in-Exceeding.is c.in_ok-split-2.ensures) in
+    subst (λ n. IsTried f l n true (Exceeding c.in-Exceeding.over)) e (subst (λ (t : Tried). IsTried f l c.len.result true t) c.in-Exceeding.is c.in_ok-split-2.ensures) in
     λ split chosen. absurd (exceeded_not_kept c.greatest_split_is_one.ensures.one f l (length f.code) true c.requires.bounded.formed split c.in-Exceeding.over tried
     (subst (λ (b : Bool). IsChosen f l b split) c.if-shrink.false chosen))

@@ -1,10 +1,10 @@
-use Rattle.std.proofs.Common.{◌≡◌, ◌∙◌, ◌<◌, ℕ, List, length, true, false, None, sym, subst, arith}
+use Rattle.std.proofs.Common.{◌≡◌, ◌<◌, ℕ, List, true, false, None, sym, subst, arith}
 use Rattle.std.specs.Prelude.{Option}
 use Rattle.std.proofs.lemmas.Result.{IfOk-weaker}
 use Rattle.flat_ir.specs.Program.{program_of}
 use Rattle.split_model.specs.declared.split.Part.{Part}
 use Rattle.split_model.specs.Greatest.{IsGreatestSplit}
-use Rattle.partition.specs.Choice.{IsChosen, IsFirstKept, IsKept, shrinking}
+use Rattle.partition.specs.Choice.{IsChosen, IsFirstKept, shrinking}
 use Rattle.partition.specs.Tried.{IsFound}
 use Rattle.partition.proofs.Steps.{narrowed, stepped}
 use Rattle.partition.proofs.Shrunk.{found_last}
@@ -31,7 +31,7 @@ returns c =
     let l = c.args.limits.now in
     let z : c.loop-front.front.count ≡ 0 = omega (arith, c.loop-front-test.false) in
     let none : IsFound f l 0 true None =
-        subst (λ (n : ℕ). IsFound f l n true None) z (subst (λ (o : Option (List Part)). IsFound f l c.loop-front.front.count true o) c.in-None.is c.in_ok-split-2.ensures) in
+    subst (λ (n : ℕ). IsFound f l n true None) z (subst (λ (o : Option (List Part)). IsFound f l c.loop-front.front.count true o) c.in-None.is c.in_ok-split-2.ensures) in
     IfOk-weaker c.all_on_server.result (λ (split : List Part). IsGreatestSplit f 0 false split) (λ (split : List Part). IsChosen f l true split)
     (λ split greatest. c.loop-front.invariant.first split
     (subst (λ k. IsFirstKept f l (shrinking k) split) (sym z)

@@ -1,5 +1,4 @@
 use Rattle.std.proofs.Common.{◌≡◌, Some, None, sym, subst, ◌∙◌}
-use Rattle.flat_ir.specs.Program.{program_of}
 use Rattle.resource_limits.specs.declared.counting.Counts.{Counts}
 use Rattle.resource_limits.specs.Kept.{first_over, Keeps}
 use Rattle.partition.proofs.choosing.try_split.Goals as goal
