@@ -1,7 +1,7 @@
 -- Laws of rows of bits, and of the bytes that hold them.
-use Rattle.std.proofs.Common.{◌≡◌, ℕ, zero, suc, ◌+◌, ◌-◌, ◌*◌, ◌/◌, ◌%◌, ◌^◌, ◌<◌, ◌≤◌, ◌⊎◌, ◌&&◌, List, get_or, length, nat_le, nat_lt, refl, sym, ap, ◌∙◌, inl, inr, arith, pow-suc, add-suc, add-zero, add-one, lit<, mod-eq_of_lt, zero-add}
+use Rattle.std.proofs.Common.{◌≡◌, ℕ, zero, suc, ◌+◌, ◌-◌, ◌*◌, ◌/◌, ◌%◌, ◌^◌, ◌<◌, ◌≤◌, ◌⊎◌, ◌&&◌, Bool, true, false, cond, List, get_or, length, nat_le, nat_lt, refl, sym, ap, ◌∙◌, inl, inr, arith, pow-suc, add-suc, add-zero, add-one, lit<, mod-eq_of_lt, zero-add}
 use Rattle.std.proofs.Math.Nat.{pow-le-pow_right}
-use Rattle.std.proofs.lemmas.Bool.{lt-ltb, le-leb, le-ltb, lt-leb, cases_lt, and_from, and_left, and_right, cond-true, cond-false, cond_both}
+use Rattle.std.proofs.lemmas.Bool.{lt-ltb, le-leb, le-ltb, lt-leb, cases_lt, and_from, and_left, and_right, cond-true, cond-false, cond_both, and_parts, leb-true, ltb-true}
 use Rattle.std.proofs.lemmas.List.FromFn.{get_or-map-range_with_len, length-map-range_with_len, fill_by_all}
 use Rattle.std.proofs.lemmas.Nat.{shr_high, mod_low, shr-shr, mod-pow-add}
 use Rattle.std.proofs.lemmas.Nat.Bits.{bit_at-zero, bit_at-lt}
@@ -169,6 +169,44 @@ number_at-with_apart bytes start width value s w apart =
           ∙ elim apart [ inl behind ↦ replaced_behind (bit_of bytes) start width value n (omega arith) | inr before ↦ replaced_before (bit_of bytes) start width value n (omega arith) ]
       | inr past ↦ bit_of_past (bytes_of row (length bytes)) n (omega (arith, len)) ∙ sym (bit_of_past bytes n past)
     ])
+
+-- two ranges with no bit in common may be written in either order
+choices_apart : (p q : Bool) (a b r : ℕ) → (p ≡ true → q ≡ true → ⊥) → cond p a (cond q b r) ≡ cond q b (cond p a r)
+choices_apart true true a b r apart = absurd (apart refl refl)
+choices_apart true false a b r apart = refl
+choices_apart false q a b r apart = refl
+
+in_range : (start width n : ℕ) → (nat_le start n && nat_lt n (start + width)) ≡ true → (start ≤ n) × (n < start + width)
+in_range start width n test = let both = and_parts (nat_le start n) (nat_lt n (start + width)) test in (leb-true start n both.0, ltb-true n (start + width) both.1)
+
+replaced_swapped : (row : ℕ → ℕ) (i w v j u x n : ℕ) → (i + w ≤ j) ⊎ (j + u ≤ i) → replaced (replaced row i w v) j u x n ≡ replaced (replaced row j u x) i w v n
+unfolding replaced
+replaced_swapped row i w v j u x n apart =
+    choices_apart (nat_le j n && nat_lt n (j + u)) (nat_le i n && nat_lt n (i + w)) _ _ (row n)
+    (λ one other. let here = in_range j u n one in let there = in_range i w n other in elim apart [ inl before ↦ absurd (omega arith) | inr behind ↦ absurd (omega arith) ])
+
+replaced-same : (row other : ℕ → ℕ) (start width value n : ℕ) → row n ≡ other n → replaced row start width value n ≡ replaced other start width value n
+unfolding replaced
+replaced-same row other start width value n same = ap (λ x. cond (nat_le start n && nat_lt n (start + width)) (bit_at value (start + width - 1 - n)) x) same
+
+bytes_of-same : (row other : ℕ → ℕ) (count : ℕ) → ((n : ℕ) → n < 8 * count → row n ≡ other n) → bytes_of row count ≡ bytes_of other count
+bytes_of-same row other count same =
+    is_bytes_of other (bytes_of row count) count (length-bytes_of row count)
+    (λ i below. get_or-bytes_of row count i below ∙ spelled-same row other (8 * i) 8 (λ n from under. same n (omega arith)))
+
+-- what stands behind one write, by the row that it wrote
+after_first : (bytes : List ℕ) (i w v j u x : ℕ) → with_number_at (with_number_at bytes i w v) j u x ≡ bytes_of (replaced (replaced (bit_of bytes) i w v) j u x) (length bytes)
+after_first bytes i w v j u x =
+    let first : List ℕ = with_number_at bytes i w v in
+    ap (bytes_of (replaced (bit_of first) j u x)) (length-with_number_at bytes i w v)
+    ∙ bytes_of-same (replaced (bit_of first) j u x) (replaced (replaced (bit_of bytes) i w v) j u x) (length bytes)
+    (λ n below. replaced-same (bit_of first) (replaced (bit_of bytes) i w v) j u x n (bit_of-bytes_of (replaced (bit_of bytes) i w v) (length bytes) n (replaced-lt (bit_of bytes) i w v (bit_of-lt bytes)) below))
+
+pub with_number_at_swapped : (bytes : List ℕ) (i w v j u x : ℕ) → (i + w ≤ j) ⊎ (j + u ≤ i) → with_number_at (with_number_at bytes i w v) j u x ≡ with_number_at (with_number_at bytes j u x) i w v
+with_number_at_swapped bytes i w v j u x apart =
+    after_first bytes i w v j u x
+    ∙ bytes_of-same _ _ (length bytes) (λ n below. replaced_swapped (bit_of bytes) i w v j u x n apart)
+    ∙ sym (after_first bytes j u x i w v)
 
 -- ---- bytes one behind the other
 pub no_bytes : (bytes : List ℕ) → 0 ≡ number_at bytes 0 (8 * 0)

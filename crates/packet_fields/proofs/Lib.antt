@@ -2,4 +2,6 @@ pub mod BitRows
 pub mod FieldList
 pub mod Places
 pub mod SetFields
+pub mod AnyOrder
+pub mod Alone
 pub mod Windows

@@ -68,7 +68,7 @@ outline_stays bytes f first value at may =
     let g = outline_field bytes f IpProto first value 14 at (unlike f IpProto may refl) refl in
     cc
 
-shape_stays : (bytes : List ℕ) (f : Field) (first value : ℕ) → place (shape_of bytes) f ≡ Some first → (row f).writable ≡ true → shape_of (with_number_at bytes first (row f).width value) ≡ shape_of bytes
+pub shape_stays : (bytes : List ℕ) (f : Field) (first value : ℕ) → place (shape_of bytes) f ≡ Some first → (row f).writable ≡ true → shape_of (with_number_at bytes first (row f).width value) ≡ shape_of bytes
 unfolding shape_of
 shape_stays bytes f first value at may = ap shape_from (outline_stays bytes f first value at may)
 
@@ -79,11 +79,11 @@ pub record IsSet (bytes next : List ℕ) (shape : Shape) (f : Field) (value : �
   pub others : (g : Field) (port : ℕ) → g ≢ f → field_value next port g ≡ field_value bytes port g
   pub same_shape : shape_of next ≡ shape
 
-with_field_there : (bytes : List ℕ) (f : Field) (first value : ℕ) → place (shape_of bytes) f ≡ Some first → with_field bytes f value ≡ with_number_at bytes first (row f).width value
+pub with_field_there : (bytes : List ℕ) (f : Field) (first value : ℕ) → place (shape_of bytes) f ≡ Some first → with_field bytes f value ≡ with_number_at bytes first (row f).width value
 unfolding with_field
 with_field_there bytes f first value at = ap (λ o. unwrap_or (option_map (λ first. with_number_at bytes first (row f).width value) o) bytes) at
 
-other_value : (bytes next : List ℕ) (f g : Field) (first value port : ℕ) → place (shape_of bytes) f ≡ Some first → f ≢ g → next ≡ with_number_at bytes first (row f).width value
+pub other_value : (bytes next : List ℕ) (f g : Field) (first value port : ℕ) → place (shape_of bytes) f ≡ Some first → f ≢ g → next ≡ with_number_at bytes first (row f).width value
     → shape_of next ≡ shape_of bytes → (o : Option ℕ) → place (shape_of bytes) g ≡ o → field_value next port g ≡ field_value bytes port g
 other_value bytes next f g first value port at other is same None there =
     let len : length next ≡ length bytes = ap (λ (x : List ℕ). length x) is ∙ length-with_number_at bytes first (row f).width value in
