@@ -13,7 +13,7 @@ use Rattle.element_lang.specs.Tree.Exprs.{no_expr, expr}
 use Rattle.element_lang.specs.Tree.StmtTree.{let_local, put, choose, repeat, send}
 use Rattle.element_lang.specs.Tree.BodyTree.{done, stmt}
 use Rattle.element_lang.specs.Rules.{is_good}
-use Rattle.element_lang.specs.View.{body_of, stmt_tree, body_tree}
+use Rattle.element_lang.specs.View.{body_of, stmt_tree}
 use Rattle.flat_ir.specs.declared.program.ValueId.{ValueId}
 use Rattle.flat_ir.specs.Program as flat
 use Rattle.flat_ir.specs.Program.{Step, Work}

@@ -1,28 +1,20 @@
 -- Values fit their widths.
-use Rattle.std.proofs.Common.{◌≡◌, ◌≤◌, ◌<◌, ◌+◌, ◌-◌, ◌%◌, ◌/◌, ◌^◌, ℕ, zero, suc, Bool, true, false, cond, ◌==◌, List, [], ◌∷◌, length, map, replicate, nat_lt, Option, Some, None, is_some, unwrap_or, slice_index, slice_set, refl, sym, ap, ◌∙◌, subst, arith, lit<, pow-suc, true≢false}
+use Rattle.std.proofs.Common.{◌≡◌, ◌<◌, ◌%◌, ◌^◌, ℕ, zero, suc, true, ◌==◌, List, [], ◌∷◌, length, map, replicate, nat_lt, slice_index, slice_set, refl, sym, ap, ◌∙◌, subst, arith, lit<, true≢false}
 use Rattle.std.proofs.Math.Nat.{mod-lt}
 use Rattle.std.proofs.lemmas.Bool.{and_from, eqb-true, lt-ltb, ltb-true}
 use Rattle.std.proofs.lemmas.List.{get_or-map}
 use Rattle.std.proofs.lemmas.Nat.{pow_pos}
-use Rattle.std.proofs.lemmas.Nat.Bits.{bit_at-lt}
-use Rattle.std.specs.Option.{option_map}
 use Rattle.gal_bits.specs.declared.op.Op.{Op}
 use Rattle.gal_bits.specs.Operators.{row_of, value_of as operator_value}
 use Rattle.packet_fields.specs.declared.field.Field.{Field}
-use Rattle.packet_fields.specs.declared.field.Field.TheVariants.{MetaPort, MetaLen, HasIp, HasTcp, HasUdp}
-use Rattle.packet_fields.specs.declared.packet.Packet.{Packet}
-use Rattle.packet_fields.specs.declared.shape.Shape.{Shape}
-use Rattle.packet_fields.specs.Bits.{bit_of, spelled, number_at}
-use Rattle.packet_fields.specs.Fields.{place, meta_value, field_value}
-use Rattle.packet_fields.specs.Shape.{shape_of}
+use Rattle.packet_fields.specs.declared.field.Field.TheVariants.{MetaPort}
+use Rattle.packet_fields.specs.Fields.{place}
 use Rattle.packet_fields.specs.Table.{row, all_fields, field_index}
 use Rattle.state_store.specs.Kept.{have_widths}
 use Rattle.element_lang.specs.Rules.{same_widths}
-use Rattle.flat_ir.specs.Arrivals.{IsArrival}
 use Rattle.flatten.specs.Flatten.{field_widths}
 use Rattle.flatten.proofs.FieldOrder.{at_index, index-lt, length-all_fields}
 use Rattle.flatten.proofs.BothParts.{left, right}
-use Rattle.packet_fields.specs.declared.packet.TheConstants.{MAX_PACKET_BYTES}
 
 -- the values at all places fit the widths there
 abbrev pub AtWidths : List ℕ → List ℕ → Type 0
@@ -67,38 +59,7 @@ pub operator_fits : (op : Op) (w : ℕ) (args : List ℕ) → operator_value op 
 unfolding operator_value
 operator_fits op w args = cut_fits ((row_of op).number w (slice_index args 0) (slice_index args 1) (slice_index args 2)) w
 
--- ---- the fields of a packet as it arrives
-bit_fits : (bytes : List ℕ) (n : ℕ) → bit_of bytes n < 2
-unfolding bit_of
-bit_fits bytes n = bit_at-lt (slice_index bytes (n / 8)) (7 - n % 8)
-
-spelled_fits : (bytes : List ℕ) (start width : ℕ) → spelled (bit_of bytes) start width < 2 ^ width
-unfolding spelled
-spelled_fits bytes start zero = lit< tt
-spelled_fits bytes start (suc width) = omega (arith, pow-suc 2 width, spelled_fits bytes start width, bit_fits bytes (start + width))
-
-one_bit : (b : Bool) → cond b 1 0 < 2 ^ 1
-one_bit true = lit< tt
-one_bit false = lit< tt
-
-meta_fits : (bytes : ℕ) (shape : Shape) (port : ℕ) (f : Field) → bytes ≤ MAX_PACKET_BYTES → port < 2 ^ 8 → meta_value bytes shape port f < 2 ^ (row f).width
-meta_fits bytes shape port MetaPort size fits = fits
-meta_fits bytes shape port MetaLen size fits = omega arith
-meta_fits bytes shape port HasIp size fits = one_bit (is_some shape.ip)
-meta_fits bytes shape port HasTcp size fits = one_bit (is_some shape.tcp)
-meta_fits bytes shape port HasUdp size fits = one_bit (is_some shape.udp)
-meta_fits bytes shape port f size fits = pow_pos (row f).width
-
-either_fits : (g : ℕ → ℕ) (other bound : ℕ) (o : Option ℕ) → ((n : ℕ) → g n < bound) → other < bound → unwrap_or (option_map g o) other < bound
-either_fits g other bound None each rest = rest
-either_fits g other bound (Some n) each rest = each n
-
-field_fits : (packet : Packet) (f : Field) → IsArrival packet → field_value packet.bytes packet.port f < 2 ^ (row f).width
-unfolding field_value
-field_fits packet f arrives =
-    either_fits (λ first. number_at packet.bytes first (row f).width) (meta_value (length packet.bytes) (shape_of packet.bytes) packet.port f) (2 ^ (row f).width) (place (shape_of packet.bytes) f)
-    (λ first. spelled_fits packet.bytes first (row f).width) (meta_fits (length packet.bytes) (shape_of packet.bytes) packet.port f arrives.size arrives.port)
-
+-- ---- fields
 -- the widths of the fields at their places
 pub field_width_at : (f : Field) → slice_index field_widths (field_index f) ≡ (row f).width
 field_width_at f =
@@ -111,8 +72,8 @@ all_at g w fits [] place = lit< tt
 all_at g w fits (f ∷ fs) zero = fits f
 all_at g w fits (f ∷ fs) (suc place) = all_at g w fits fs place
 
-pub fields_fit : (packet : Packet) → IsArrival packet → AtWidths field_widths (map (field_value packet.bytes packet.port) all_fields)
-fields_fit packet arrives = all_at (field_value packet.bytes packet.port) (λ f. (row f).width) (λ f. field_fits packet f arrives) all_fields
+pub fields_fit : (g : Field → ℕ) → ((f : Field) → g f < 2 ^ (row f).width) → AtWidths field_widths (map g all_fields)
+fields_fit g fits = all_at g (λ f. (row f).width) fits all_fields
 
 pub field_assigned : (f : Field) (value : ℕ) (values : List ℕ) → AtWidths field_widths values → AtWidths field_widths (slice_set values (field_index f) (value % 2 ^ (row f).width))
 field_assigned f value values fit place =

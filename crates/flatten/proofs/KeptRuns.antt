@@ -1,7 +1,9 @@
 -- A run of a middlebox that keeps the rules leaves a store that keeps what was declared.
 use Rattle.std.proofs.Common.{◌≡◌, ◌≤◌, ◌<◌, ◌+◌, ◌^◌, ◌==◌, ℕ, zero, suc, Bool, true, false, cond, not, ◌&&◌, List, [], ◌∷◌, ◌++◌, length, nat_le, map, replicate, Option, Some, None, is_some, unwrap_or, slice_get, slice_index, slice_set, refl, sym, subst, arith, lit<, true≢false}
 use Rattle.std.proofs.lemmas.Bool.{cond_both, eqb-true, leb-true, ltb-true}
-use Rattle.packet_fields.specs.Table.{field_index}
+use Rattle.packet_fields.specs.declared.field.Field.{Field}
+use Rattle.packet_fields.specs.Fields.{field_value}
+use Rattle.packet_fields.specs.Table.{row, field_index}
 use Rattle.packet_fields.specs.declared.packet.Packet.{Packet}
 use Rattle.state_store.specs.declared.object.ObjectDecl.{ObjectDecl}
 use Rattle.state_store.specs.Kept.{have_widths, IsKeptObject, IsKept}
@@ -205,9 +207,9 @@ mutual
       (λ after goes. body_fits m packet (binds t ++ scope) (next + declared_in t) b after arrives goes (right _ _ h))
 
 -- ---- whole runs
-pub start_fits : (m : Tree) (st : Store) (packet : Packet) → IsArrival packet → IsKept m.objects st → Fits m (start_state m st packet)
-start_fits m st packet arrives kept = record {
+pub start_fits : (m : Tree) (st : Store) (packet : Packet) → ((f : Field) → field_value packet.bytes packet.port f < 2 ^ (row f).width) → IsKept m.objects st → Fits m (start_state m st packet)
+start_fits m st packet small kept = record {
   locals = λ place. zero_at (length m.locals) place (slice_index (local_widths m) place);
-  fields = fields_fit packet arrives;
+  fields = fields_fit (field_value packet.bytes packet.port) small;
   store = kept;
 }

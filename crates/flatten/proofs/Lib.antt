@@ -17,9 +17,4 @@ pub mod Whole
 pub mod Forming
 pub mod Formed
 pub mod FormedWhole
-pub mod BitRows
-pub mod FieldList
-pub mod Places
-pub mod SetFields
-pub mod Alone
 mod Handed

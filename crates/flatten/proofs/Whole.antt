@@ -139,7 +139,7 @@ is_sent F packet reads by now e port small writes =
 
 -- ## The whole
 
-module _ (m : Tree) (st : Store) (packet : Packet) (good : is_good m ≡ true) (kept : IsKept m.objects st) (arrives : IsArrival packet) where
+module _ (m : Tree) (st : Store) (packet : Packet) (good : is_good m ≡ true) (kept : IsKept m.objects st) (arrives : IsArrival packet) (small : (f : Field) → field_value packet.bytes packet.port f < 2 ^ (row f).width) where
   abbrev occurs : Field → Bool
   occurs f = is_in_body f m.body
 
@@ -172,7 +172,7 @@ module _ (m : Tree) (st : Store) (packet : Packet) (good : is_good m ≡ true) (
 
     starts : Going F st packet m occurs g0 (start_view m) (start_state m st packet)
     starts = record {
-      fits = start_fits m st packet arrives kept;
+      fits = start_fits m st packet small kept;
       locals = agree_none (get F st packet g0) (length m.locals);
       fields = came.meets;
       still = λ f e. came_at (field_value packet.bytes packet.port) f;

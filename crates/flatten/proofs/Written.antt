@@ -1,8 +1,9 @@
 -- The fields that leave with another value than they came with are all that are written.
-use Rattle.std.proofs.Common.{◌≡◌, ◌≢◌, ℕ, suc, ◌-◌, ◌<◌, ◌≤◌, ◌^◌, ◌==◌, Bool, true, false, ◌&&◌, cond, List, [], ◌∷◌, ◌++◌, map, get_or, Option, Some, None, refl, sym, ap, ◌∙◌, subst, arith, slice_index, true≢false, eqb-true, eq-eqb, if◌then◌else◌}
+use Rattle.std.proofs.Common.{◌≡◌, ◌≢◌, ℕ, suc, ◌-◌, ◌≤◌, ◌==◌, Bool, true, false, ◌&&◌, cond, List, [], ◌∷◌, ◌++◌, map, get_or, Option, Some, None, refl, sym, ap, ◌∙◌, subst, arith, slice_index, true≢false, eqb-true, eq-eqb, if◌then◌else◌}
 use Rattle.packet_fields.specs.declared.field.Field.{Field}
 use Rattle.packet_fields.specs.Table.{row, all_fields, field_index}
 use Rattle.packet_fields.specs.Fields.{field_value, with_field}
+use Rattle.packet_fields.specs.Several.{AreBytes}
 use Rattle.element_lang.specs.Meaning.{with_fields}
 use Rattle.flat_ir.specs.declared.program.ValueId.{ValueId}
 use Rattle.flat_ir.specs.declared.program.FieldValue.{FieldValue}
@@ -10,9 +11,6 @@ use Rattle.flat_ir.specs.Run.{with_writes}
 use Rattle.flatten.specs.Flatten.{same_id, changed, all_changed}
 use Rattle.flatten.proofs.BothParts.{left, right}
 use Rattle.flatten.proofs.Views.{InRange, Meets, HasId}
-
-abbrev pub AreBytes : List ℕ → Type 0
-AreBytes bytes = (i : ℕ) → slice_index bytes i < 2 ^ 8
 
 -- fields of a packet stand alone: a field set to its own value leaves the packet, and a field that is set leaves the others
 pub record FieldsStandAlone (port : ℕ) : Type 0 where

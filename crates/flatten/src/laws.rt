@@ -11,6 +11,8 @@ ghost use Rattle.flat_ir.specs.Run.{flat_store, flat_verdict};
 ghost use Rattle.flat_ir.specs.WellFormed.{IsWellFormed};
 ghost use Rattle.flatten.specs.Flatten.{flat_of};
 
+use packet_fields::fields_stand_alone;
+
 /// The flat program of a middlebox leaves the store that the middlebox leaves, and does with the packet what it does: from
 /// every store that keeps what was declared, for every packet that may arrive. This does nothing: its contract is the law.
 pub fn flattening_keeps_the_meaning()
@@ -20,7 +22,9 @@ pub fn flattening_keeps_the_meaning()
     ensures verdict { (m : Tree) (st : Store) (packet : Packet)
         → IsTrue (is_good m) → IsKept m.objects st → IsArrival packet
         → flat_verdict (flat_of m) st packet ≡ source_verdict m st packet }
-{}
+{
+    fields_stand_alone();
+}
 
 /// The flat program of a middlebox is well formed: what an instruction names is there, comes before it and fits it, and
 /// stands in its block or above that. This does nothing: its contract is the law.
