@@ -1,18 +1,17 @@
 -- Two looks at one object are one too many.
-use Rattle.std.proofs.Common.{◌≡◌, ◌⊎◌, ℕ, zero, suc, ◌+◌, ◌<◌, ◌≤◌, Bool, true, false, ◌&&◌, ◌==◌, List, [], ◌∷◌, ◌++◌, inl, inr, refl, sym, ap, ◌∙◌, subst, arith, length, replicate}
-use Rattle.std.specs.Prelude.{slice_index_or, slice_set, All, if◌then◌else◌}
-use Rattle.std.proofs.lemmas.Bool.{cases_lt, cases_eq, eq-eqb}
+use Rattle.std.proofs.Common.{◌≡◌, ℕ, zero, suc, ◌<◌, ◌≤◌, Bool, true, false, ◌&&◌, List, [], ◌∷◌, ◌++◌, inl, inr, sym, ◌∙◌, subst, arith, length, replicate}
+use Rattle.std.specs.Prelude.{All}
+use Rattle.std.proofs.lemmas.Bool.{cases_eq}
 use Rattle.std.proofs.lemmas.List.Elements.{All-nil, All-cons, All-head, All-tail}
 use Rattle.flat_ir.specs.Program.{Program, Work, step_at}
-use Rattle.flat_ir.specs.Program.Work.{const, field, apply, shift, select, byte, look, put, del}
 use Rattle.flat_ir.specs.Sets.{IsMarked, IsPreClosed}
 use Rattle.split_model.specs.declared.split.Part.{Part}
-use Rattle.split_model.specs.Split.{is_pre, is_post}
+use Rattle.split_model.specs.Split.{is_pre}
 use Rattle.split_model.specs.Shown.{looks_at}
 use Rattle.split_model.specs.Counts.{count_below, accesses}
-use Rattle.split_model.specs.Greatest.{pre_marks, IsGreatestSplit}
+use Rattle.split_model.specs.Greatest.{pre_marks}
 use Rattle.resource_limits.specs.declared.limits.Limits.{Limits}
-use Rattle.resource_limits.specs.Counts.{first_numbers, each_object}
+use Rattle.resource_limits.specs.Counts.{first_numbers}
 use Rattle.partition.specs.declared.front.Front.{Front}
 use Rattle.partition.specs.Front.{IsFront}
 use Rattle.partition.specs.Looks.{HasLook, LooksTwice, LooksAgain, Notes}
@@ -62,8 +61,8 @@ twice_not_kept f limits front is twice all other kept =
     let in_pre : (i : ℕ) → IsMarked front.pre i → is_pre other i ≡ true = λ i m. sym (pre_at other i) ∙ subst (λ (marks : List Bool). IsMarked marks i) sets m in
     let at : (i : ℕ) → IsMarked front.pre i → looks_at o (step_at f i).work ≡ true → test i ≡ true = λ i m l. both (is_pre other i) (looks_at o (step_at f i).work) (in_pre i m) l in
     let two : 2 ≤ count_below (length f.code) test =
-        counted_two test (length f.code) twice.first.place twice.second twice.first.early twice.inside
-        (at twice.first.place twice.first.member twice.first.looks) (at twice.second twice.member twice.looks) in
+    counted_two test (length f.code) twice.first.place twice.second twice.first.early twice.inside
+    (at twice.first.place twice.first.member twice.first.looks) (at twice.second twice.member twice.looks) in
     let low : accesses f other o ≤ 1 = number_kept (λ n. n ≤ 1) (accesses f other) (length f.objects) o twice.declared kept.keeps.accesses in
     omega (arith, two, low)
 

@@ -29,7 +29,8 @@ shrinking (suc n) = (suc n, true) ∷ ((suc n, false) ∷ shrinking n)
 abbrev pub IsFirstKept : Program → Limits → List (ℕ × Bool) → List Part → Type 0
 IsFirstKept f limits [] split = ⊥
 IsFirstKept f limits (c ∷ cs) split =
-    IsKept f limits c.0 c.1 split ⊎ (((other : List Part) → IsKept f limits c.0 c.1 other → ⊥) × IsFirstKept f limits cs split)
+    IsKept f limits c.0 c.1 split
+    ⊎ (((other : List Part) → IsKept f limits c.0 c.1 other → ⊥) × IsFirstKept f limits cs split)
 
 -- what is chosen: the greatest split of all instructions, or by shrinking the first that keeps the limits
 abbrev pub IsChosen : Program → Limits → Bool → List Part → Type 0

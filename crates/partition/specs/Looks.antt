@@ -21,11 +21,12 @@ pub record LooksTwice (f : Program) (pre : List Bool) : Type 0 where
   pub looks : looks_at object (step_at f second).work ≡ true
   pub first : HasLook f pre second object
 
--- what is known of one more instruction: whether it looks up an object that was seen; if not, its object is seen from now on
+-- what is known of one more instruction: its object is seen from now on, and no other that wasn't
 pub record Notes (work : Work) (old new : List Bool) : Type 0 where
   pub count : length new ≡ length old
   pub seen : (o : ℕ) → IsMarked new o → IsMarked old o ⊎ (looks_at o work ≡ true)
 
+-- it looks up an object that was seen
 pub record LooksAgain (work : Work) (seen : List Bool) : Type 0 where
   pub object : ℕ
   pub there : IsMarked seen object

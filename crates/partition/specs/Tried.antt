@@ -32,11 +32,14 @@ IsFound f limits k all None = (other : List Part) → IsKept f limits k all othe
 -- the first that keeps the limits, with postprocessing or else without it
 abbrev pub IsFoundOfTwo : Program → Limits → ℕ → Option (List Part) → Type 0
 IsFoundOfTwo f limits k (Some split) =
-    IsKept f limits k true split ⊎ (((other : List Part) → IsKept f limits k true other → ⊥) × IsKept f limits k false split)
+    IsKept f limits k true split
+    ⊎ (((other : List Part) → IsKept f limits k true other → ⊥) × IsKept f limits k false split)
 IsFoundOfTwo f limits k None =
     ((other : List Part) → IsKept f limits k true other → ⊥) × ((other : List Part) → IsKept f limits k false other → ⊥)
 
--- a split that is the first of those on k instructions or fewer, or none: then what is first of those on fewer is first of these too
+-- a split that is the first of those on k instructions or fewer, or none: then what is first of those on fewer is
+-- first of these too
 abbrev pub IsStep : Program → Limits → ℕ → Option (List Part) → Type 0
 IsStep f limits k (Some split) = IsFirstKept f limits (shrinking k) split
-IsStep f limits k None = (split : List Part) → IsFirstKept f limits (shrinking (k - 1)) split → IsFirstKept f limits (shrinking k) split
+IsStep f limits k None =
+    (split : List Part) → IsFirstKept f limits (shrinking (k - 1)) split → IsFirstKept f limits (shrinking k) split

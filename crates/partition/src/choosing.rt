@@ -204,7 +204,8 @@ pub fn partition(alloc: Global, f: &Flat, limits: &Limits, shrink: bool) -> Resu
     ensures low { IfOk result HasLowStages }
     ensures not_refused { (split : List Part) → IsChosen (program_of f.now) limits.now shrink split
         → IfErr result (λ error. error ≡ without_memory) }
-    ensures not_chosen { (over : Over) → IsRefused (program_of f.now) limits.now shrink over → IfOk result (λ split. ⊥) }
+    ensures not_chosen { (over : Over) → IsRefused (program_of f.now) limits.now shrink over
+        → IfOk result (λ split. ⊥) }
 {
     greatest_split_is_one();
     if shrink {

@@ -1,5 +1,5 @@
 //! What preprocessing computes and hands up, of the first instructions of a program.
-ghost use Rattle.std.specs.Prelude.{◌≡◌, ℕ, ◌<◌, ◌-◌, length, IfOk, slice_set, slice_index, slice_index_or, false, true, nat_lt};
+ghost use Rattle.std.specs.Prelude.{◌≡◌, ◌<◌, ◌-◌, length, IfOk, slice_set, slice_index_or, false, nat_lt};
 ghost use Rattle.std.specs.List.{list_any};
 ghost use Rattle.flat_ir.specs.Program.{program_of};
 ghost use Rattle.split_model.specs.Bounds.{IsBounded};

@@ -13,8 +13,8 @@ ghost use Rattle.resource_limits.specs.Kept.{KeepsLimits};
 
 use dependence::depths_are_least;
 
-/// There is at most one greatest split of a kind, and it is legal. Preprocessing of no legal split has more than that of
-/// the greatest split on all instructions, and no stages that it may have are lower anywhere. This does nothing: its
+/// There is at most one greatest split of a kind, and it is legal. Preprocessing of no legal split has more than that
+/// of the greatest split on all instructions, and no stages that it may have are lower anywhere. This does nothing: its
 /// contract is the law.
 pub fn greatest_split_is_one()
     ensures one { (f : Program) (k : ℕ) (all : Bool) (split other : List Part) → IsWellFormed f
@@ -30,8 +30,8 @@ pub fn greatest_split_is_one()
     depths_are_least();
 }
 
-/// What is left to the server keeps all limits: its header has 9 bits at most, and nothing is looked up on the switch. So
-/// shrinking always ends with a split. This does nothing: its contract is the law.
+/// What is left to the server keeps all limits: its header has 9 bits at most, and nothing is looked up on the switch.
+/// So shrinking always ends with a split. This does nothing: its contract is the law.
 pub fn the_last_keeps()
     ensures { (f : Program) (limits : Limits) (split : List Part) → IsWellFormed f → AreInRange limits
         → IsGreatestSplit f 0 false split → KeepsLimits f split limits }
