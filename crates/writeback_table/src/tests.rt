@@ -2,7 +2,7 @@
 use crate::{Applied, Command, Pair, To, Update, Updates};
 use gal_bits::{Values, Widths};
 use gal_io::{Bytes, NoMemory};
-use state_store::{Kind, ObjectDecl, Rows};
+use state_store::{Kind, ObjectDecl, Row, Rows};
 use std::alloc::Global;
 use std::process::Abort;
 use std::test::Fail;
@@ -67,6 +67,12 @@ fn clear(key: &[u64]) -> Command {
     Command::Clear(OBJECT, values(key))
 }
 
+// Whether a row is this one, and a lookup finds it.
+fn finds(pair: &Pair, bit: bool, row: &Row, key: &[u64], numbers: &[u64]) -> bool {
+    let found = pair.look(bit, &row.keys);
+    row.keys == values(key) && found.found && found.values == values(numbers)
+}
+
 // Lookups see these rows and no others where the bit is this.
 fn sees(
     rt: &impl Abort,
@@ -76,55 +82,76 @@ fn sees(
     wanted: Wanted,
 ) -> Result<(), NoMemory> {
     let rows = pair.rows(alloc, bit)?;
-    assert_eq!(rt; rows.len(), wanted.len(), "rows");
+    assert_eq!(rt; rows.len(), wanted.len());
     for (row, (key, numbers)) in rows.as_slice().iter().zip(wanted) {
-        assert_eq!(rt; row.keys, values(key), "a key");
-        assert_eq!(rt; row.values, values(numbers), "values");
-        let found = pair.look(bit, &values(key));
-        assert!(rt; found.found, "at {key:?}");
-        assert_eq!(rt; found.values, values(numbers), "at {key:?}");
+        assert!(rt; finds(pair, bit, row, key, numbers));
+        assert!(rt; row.values == values(numbers));
     }
     Ok(())
 }
 
 fn lacks(rt: &impl Abort, pair: &Pair, bit: bool, key: &[u64]) {
     let found = pair.look(bit, &values(key));
-    assert!(rt; !found.found, "at {key:?}");
-    assert_eq!(rt; found.values, values(&[0]), "at {key:?}");
+    assert!(rt; !found.found);
+    assert!(rt; found.values == values(&[0]));
+}
+
+fn done(rt: &impl Abort, pair: &mut Pair, command: Command) {
+    assert_eq!(rt; pair.apply(&command), Applied::Done);
+}
+
+fn no_room(rt: &impl Abort, pair: &mut Pair, command: Command) {
+    assert_eq!(rt; pair.apply(&command), Applied::NoRoom);
 }
 
 // A map of one row, which is 1 -> 9.
 fn full_map(rt: &impl Abort, alloc: Global, writeback: u32) -> Result<Pair, NoMemory> {
     let mut pair = Pair::new(alloc, &declared(alloc, Kind::Map, 1, 1)?, writeback)?;
-    assert_eq!(rt; pair.apply(&Command::Main(put(&[1], 9))), Applied::Done);
+    done(rt, &mut pair, Command::Main(put(&[1], 9)));
     Ok(pair)
+}
+
+const ONE: Wanted = &[(&[1], &[9])];
+
+const TWO: Wanted = &[(&[2], &[9])];
+
+// The command of row `i` of the table below.
+fn command(i: usize) -> Command {
+    match i {
+        0 => Command::Stage(gone(&[1])),
+        1 => Command::Stage(put(&[2], 9)),
+        2 => Command::On,
+        3 => Command::Main(gone(&[1])),
+        4 => Command::Main(put(&[2], 9)),
+        5 => Command::Off,
+        6 => clear(&[1]),
+        _ => clear(&[2]),
+    }
 }
 
 #[test]
 fn a_batch_is_seen_at_once(rt: HostRuntime) -> Result<(), Fail> {
     let alloc = rt.alloc();
     let mut pair = full_map(&rt, alloc, 2)?;
-    let (one, two): (Wanted, Wanted) = (&[(&[1], &[9])], &[(&[2], &[9])]);
-    let nothing: Wanted = &[];
-    // each command, the bit after it, the main table, and what is seen
-    let steps = [
-        (Command::Stage(gone(&[1])), false, one, one),
-        (Command::Stage(put(&[2], 9)), false, one, one),
-        (Command::On, true, one, two),
-        (Command::Main(gone(&[1])), true, nothing, two),
-        (Command::Main(put(&[2], 9)), true, two, two),
-        (Command::Off, false, two, two),
-        (clear(&[1]), false, two, two),
-        (clear(&[2]), false, two, two),
+    // after each command the bit, the main table, and what is seen
+    let after: [(bool, Wanted, Wanted); 8] = [
+        (false, ONE, ONE),
+        (false, ONE, ONE),
+        (true, ONE, TWO),
+        (true, &[], TWO),
+        (true, TWO, TWO),
+        (false, TWO, TWO),
+        (false, TWO, TWO),
+        (false, TWO, TWO),
     ];
-    sees(&rt, alloc, &pair, false, one)?;
-    for (command, bit, main, seen) in &steps {
-        assert_eq!(rt; pair.apply(command), Applied::Done, "{command:?}");
+    sees(&rt, alloc, &pair, false, ONE)?;
+    for (i, (bit, main, seen)) in after.iter().enumerate() {
+        done(&rt, &mut pair, command(i));
         sees(&rt, alloc, &pair, false, main)?;
         sees(&rt, alloc, &pair, *bit, seen)?;
     }
     // nothing is staged any more
-    sees(&rt, alloc, &pair, true, two)?;
+    sees(&rt, alloc, &pair, true, TWO)?;
     lacks(&rt, &pair, true, &[1]);
     Ok(())
 }
@@ -133,14 +160,14 @@ fn a_batch_is_seen_at_once(rt: HostRuntime) -> Result<(), Fail> {
 fn a_full_table_has_no_room(rt: HostRuntime) -> Result<(), Fail> {
     let alloc = rt.alloc();
     let mut pair = full_map(&rt, alloc, 1)?;
-    assert_eq!(rt; pair.apply(&Command::Main(put(&[2], 9))), Applied::NoRoom);
+    no_room(&rt, &mut pair, Command::Main(put(&[2], 9)));
     sees(&rt, alloc, &pair, false, &[(&[1], &[9])])?;
-    assert_eq!(rt; pair.apply(&Command::Stage(gone(&[1]))), Applied::Done);
-    assert_eq!(rt; pair.apply(&Command::Stage(put(&[2], 9))), Applied::NoRoom);
+    done(&rt, &mut pair, Command::Stage(gone(&[1])));
+    no_room(&rt, &mut pair, Command::Stage(put(&[2], 9)));
     sees(&rt, alloc, &pair, true, &[])?;
     lacks(&rt, &pair, true, &[1]);
     // a key that is staged may be staged again
-    assert_eq!(rt; pair.apply(&Command::Stage(put(&[1], 7))), Applied::Done);
+    done(&rt, &mut pair, Command::Stage(put(&[1], 7)));
     sees(&rt, alloc, &pair, true, &[(&[1], &[7])])?;
     sees(&rt, alloc, &pair, false, &[(&[1], &[9])])?;
     Ok(())
@@ -150,14 +177,14 @@ fn a_full_table_has_no_room(rt: HostRuntime) -> Result<(), Fail> {
 fn vectors_and_numbers_have_tables(rt: HostRuntime) -> Result<(), Fail> {
     let alloc = rt.alloc();
     let mut vector = Pair::new(alloc, &declared(alloc, Kind::Vector, 1, 2)?, 1)?;
-    assert_eq!(rt; vector.apply(&Command::Main(put(&[2], 5))), Applied::NoRoom);
-    assert_eq!(rt; vector.apply(&Command::Stage(put(&[1], 5))), Applied::Done);
+    no_room(&rt, &mut vector, Command::Main(put(&[2], 5)));
+    done(&rt, &mut vector, Command::Stage(put(&[1], 5)));
     sees(&rt, alloc, &vector, true, &[(&[0], &[0]), (&[1], &[5])])?;
     sees(&rt, alloc, &vector, false, &[(&[0], &[0]), (&[1], &[0])])?;
     // a number has the empty key, and a write-back table may have room for no row
     let mut number = Pair::new(alloc, &declared(alloc, Kind::Int, 0, 1)?, 0)?;
-    assert_eq!(rt; number.apply(&Command::Stage(put(&[], 5))), Applied::NoRoom);
-    assert_eq!(rt; number.apply(&Command::Main(put(&[], 6))), Applied::Done);
+    no_room(&rt, &mut number, Command::Stage(put(&[], 5)));
+    done(&rt, &mut number, Command::Main(put(&[], 6)));
     sees(&rt, alloc, &number, true, &[(&[], &[6])])?;
     Ok(())
 }
@@ -174,7 +201,7 @@ fn copies_are_equal(rt: HostRuntime) -> Result<(), Fail> {
     let mut pair = Pair::new(alloc, &declared(alloc, Kind::Map, 1, 1)?, 2)?;
     for update in copy.as_slice() {
         assert_eq!(rt; update.object, OBJECT);
-        assert_eq!(rt; pair.apply(&Command::Main(*update)), Applied::Done);
+        done(&rt, &mut pair, Command::Main(*update));
     }
     sees(&rt, alloc, &pair, false, &[(&[2], &[9])])?;
     Ok(())
