@@ -1,3 +1,5 @@
 pub mod Lawful
 pub mod Unique
 pub mod Server
+pub mod Last
+pub mod Shrunk

@@ -1,1 +1,4 @@
 pub mod Joined
+pub mod Choice
+pub mod Causes
+pub mod Tried

@@ -1,5 +1,5 @@
 //! What holds of every split, as the definitions give it.
-ghost use Rattle.std.specs.Prelude.{ℕ, List, Bool, ◌≡◌, ◌≤◌, true, length, slice_index};
+ghost use Rattle.std.specs.Prelude.{ℕ, List, Bool, ◌≡◌, ◌≤◌, false, length, slice_index};
 ghost use Rattle.flat_ir.specs.Program.{Program};
 ghost use Rattle.flat_ir.specs.WellFormed.{IsWellFormed};
 ghost use Rattle.flat_ir.specs.Sets.{IsWithin};
@@ -7,6 +7,9 @@ ghost use Rattle.flat_ir.specs.Stages.{IsStaged};
 ghost use Rattle.split_model.specs.declared.split.Part.{Part};
 ghost use Rattle.split_model.specs.Legal.{IsLegal};
 ghost use Rattle.split_model.specs.Greatest.{IsGreatestSplit, pre_marks, pre_stages};
+ghost use Rattle.resource_limits.specs.declared.limits.Limits.{Limits};
+ghost use Rattle.resource_limits.specs.Limits.{AreInRange};
+ghost use Rattle.resource_limits.specs.Kept.{KeepsLimits};
 
 use dependence::depths_are_least;
 
@@ -26,3 +29,10 @@ pub fn greatest_split_is_one()
 {
     depths_are_least();
 }
+
+/// What is left to the server keeps all limits: its header has 9 bits at most, and nothing is looked up on the switch. So
+/// shrinking always ends with a split. This does nothing: its contract is the law.
+pub fn the_last_keeps()
+    ensures { (f : Program) (limits : Limits) (split : List Part) → IsWellFormed f → AreInRange limits
+        → IsGreatestSplit f 0 false split → KeepsLimits f split limits }
+{}
