@@ -3,12 +3,14 @@
 
 mod counting;
 mod exceeding;
+mod laws;
 mod limits;
 mod reader;
 mod tally;
 
 pub use counting::{Counts, count};
 pub use exceeding::{LimitName, Over, first_exceeded};
+pub use laws::kept_limits_are_not_exceeded;
 pub use limits::{Key, Limits, LimitsError};
 pub use reader::read_limits;
 pub use tally::Tally;
