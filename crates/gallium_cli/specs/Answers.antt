@@ -73,11 +73,14 @@ pub record IsReport (text : List ℕ) (m : Tree) (packets : List Packet) (events
   pub reported : text ≡ report_of m.objects (job_run m packets events)
   pub serial : IsSerialRun m packets events (job_run m packets events)
 
--- the text that tells a split: the number of instructions, what the split takes, the listing, and the split itself
+-- how many instructions a program has, and in these words what its split takes
+abbrev pub heading_text : ℕ → List ℕ → List ℕ
+heading_text n words = codes "# instructions " ++ (decimal n ++ (codes "\n# " ++ (words ++ line_end)))
+
+-- the text that tells a split: this heading, the listing of the program, and the split itself
 abbrev pub compiled_text : Program → List Part → ℕ → List ℕ
 compiled_text f split writeback =
-    codes "# instructions " ++ (decimal (length f.code) ++ (line_end
-    ++ (codes "# " ++ (counts_text (counts_of f split writeback) ++ (line_end ++ (listing f ++ split_text split))))))
+    heading_text (length f.code) (counts_text (counts_of f split writeback)) ++ (listing f ++ split_text split)
 
 -- A text that tells a split of this program, and that very split is the one that is chosen for these limits.
 pub record IsCompilation (text : List ℕ) (f : Program) (allowed : Limits) (shrink : Bool) : Type 0 where

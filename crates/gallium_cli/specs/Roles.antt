@@ -51,8 +51,12 @@ IsGood role text = (length text ≤ size_of role) × IsSpelled role text
 abbrev pub IsBad : Role → List ℕ → Type 0
 IsBad role text = (length text ≤ size_of role) × ¬ (IsSpelled role text)
 
+-- the files that tell what is split, and within which limits
+abbrev pub plan_files : List ℕ → List ℕ → List (List ℕ × Role)
+plan_files s l = (s, program) ∷ (l, limits) ∷ []
+
 -- the files of a request by name, in the order in which they are dealt with
 abbrev pub files_of : Request → List (List ℕ × Role)
 files_of (Run s t) = (s, source) ∷ (t, trace) ∷ []
-files_of (Compile s l shrink) = (s, program) ∷ (l, limits) ∷ []
+files_of (Compile s l shrink) = plan_files s l
 files_of (Replay s t c) = (s, source) ∷ (t, trace) ∷ (c, schedule) ∷ []

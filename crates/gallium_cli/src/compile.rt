@@ -1,5 +1,5 @@
 //! The split of a middlebox, within limits.
-ghost use Rattle.std.specs.Prelude.{◌≡◌, ◌≤◌, Bool, Some, IfOk, IfErr, OnOk, length};
+ghost use Rattle.std.specs.Prelude.{◌≡◌, ◌≤◌, Some, IfOk, IfErr, OnOk, length};
 ghost use Rattle.std.specs.Option.{option_map};
 ghost use Rattle.element_lang.specs.View.{tree};
 ghost use Rattle.flat_ir.specs.Program.{program_of};
@@ -11,8 +11,8 @@ ghost use Rattle.partition.specs.Choice.{IsChosen};
 ghost use Rattle.split_model.specs.Bounds.{IsBounded};
 ghost use Rattle.split_model.specs.Legal.{IsLegal};
 ghost use Rattle.gallium_cli.specs.Words.{Compile};
-ghost use Rattle.gallium_cli.specs.Roles.{files_of};
-ghost use Rattle.gallium_cli.specs.Answers.{IsPlan, compiled_text};
+ghost use Rattle.gallium_cli.specs.Roles.{plan_files};
+ghost use Rattle.gallium_cli.specs.Answers.{IsPlan, heading_text, compiled_text};
 ghost use Rattle.gallium_cli.specs.Loads.{raised_by};
 ghost use Rattle.gallium_cli.specs.Causes.{HasCause, IsDone, IsFirstRefused, IsUnchosen, excess_of};
 
@@ -39,8 +39,8 @@ fn load_plan<'a, F: Files>(
     ensures ok { IfOk result (λ x. IsPlan (F.seen files.old).told source.now limits.now (tree x.0.middlebox) x.1) }
     ensures program { IfOk result (λ x. program_of x.0.flat ≡ flat_of (tree x.0.middlebox)) }
     ensures in_range { IfOk result (λ x. AreInRange x.1) }
-    ensures err { IfErr result (λ refusal. (shrink : Bool)
-        → IsFirstRefused refusal (files_of (Compile source.now limits.now shrink)) (F.seen files.old) (F.seen files.new)) }
+    ensures err { IfErr result (λ refusal. IsFirstRefused refusal (plan_files source.now limits.now)
+        (F.seen files.old) (F.seen files.new)) }
     ensures read { OnOk result ((F.seen files.new).reads ≡ raised_by 2 (F.seen files.old).reads) }
     ensures few_reads { (F.seen files.new).reads ≤ raised_by 2 (F.seen files.old).reads }
 {
@@ -108,6 +108,17 @@ fn choose(
     }
 }
 
+// How many instructions a program has, and in these words what its split takes.
+fn heading(alloc: Global, number: usize, words: &[u8]) -> Result<Text, NoMemory>
+    ensures { IfOk result (λ text. text ≡ heading_text number words.now) }
+{
+    let first = format!(in alloc; "# instructions {number}\n# ")?;
+    let mut text = Text::from_slice(alloc, first.as_bytes())?;
+    text.extend(words)?;
+    text.push(b'\n')?;
+    Ok(text)
+}
+
 // The text that tells a split.
 fn compiled(alloc: Global, f: &Flat, split: &Split, writeback: u32) -> Result<Text, NoMemory>
     requires bounded { IsBounded (program_of f.now) }
@@ -116,13 +127,12 @@ fn compiled(alloc: Global, f: &Flat, split: &Split, writeback: u32) -> Result<Te
     ensures { IfOk result (λ text. text ≡ compiled_text (program_of f.now) split.now writeback) }
 {
     let counts = count(alloc, f, split, writeback)?;
-    let mut text = Text::from_slice(alloc, b"# instructions ")?;
-    text.push_number(f.code.len() as u64)?;
-    text.extend(b"\n# ")?;
-    text.extend(print_counts(alloc, &counts)?.as_slice())?;
-    text.push(b'\n')?;
-    text.extend(print_flat(alloc, f)?.as_slice())?;
-    text.extend(print_split(alloc, split)?.as_slice())?;
+    let words = print_counts(alloc, &counts)?;
+    let listing = print_flat(alloc, f)?;
+    let parts = print_split(alloc, split)?;
+    let mut text = heading(alloc, f.code.len(), words.as_slice())?;
+    text.extend(listing.as_slice())?;
+    text.extend(parts.as_slice())?;
     Ok(text)
 }
 

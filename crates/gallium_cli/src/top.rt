@@ -22,6 +22,8 @@ use element_interp::run_all;
 use element_lang::Middlebox;
 use gal_io::{Files, NoMemory, Sink, Text};
 use packet_fields::{Packet, Packets};
+use partition::greatest_split_is_one;
+use resource_limits::kept_limits_are_not_exceeded;
 use run_text::{Parts, print_answer, print_run};
 use schedule_replay::{Job, replay};
 use std::alloc::Global;
@@ -200,6 +202,8 @@ pub fn gallium<F: Files, O: Sink, E: Sink>(
       err_after = E.seen err.new;
     } in Promises result call }
 {
+    greatest_split_is_one();
+    kept_limits_are_not_exceeded();
     match perform(alloc, words, files, out) {
         Ok(()) => Status::Done,
         Err(refusal) => tell(alloc, refusal, err),
