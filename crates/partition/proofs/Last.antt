@@ -1,9 +1,9 @@
 -- What is left to the server keeps every limit.
-use Rattle.std.proofs.Common.{◌≡◌, ℕ, zero, suc, ◌+◌, ◌*◌, ◌/◌, ◌<◌, ◌≤◌, max, Bool, true, false, ◌&&◌, ◌||◌, ◌==◌, not, List, [], ◌∷◌, ◌++◌, Option, Some, None, inl, inr, ◌⊎◌, refl, sym, ap, ◌∙◌, subst, arith, length, replicate, map, is_some}
+use Rattle.std.proofs.Common.{◌≡◌, ℕ, zero, suc, ◌+◌, ◌/◌, ◌≤◌, Bool, true, false, ◌&&◌, ◌||◌, ◌==◌, not, List, [], ◌∷◌, ◌++◌, Option, Some, None, inl, inr, ◌⊎◌, refl, sym, ap, ◌∙◌, arith, length, replicate, map, is_some}
 use Rattle.std.specs.Prelude.{slice_index_or, All, if◌then◌else◌}
-use Rattle.std.specs.List.{filter, list_any}
+use Rattle.std.specs.List.{filter}
 use Rattle.std.proofs.lemmas.List.Elements.{All-nil, All-cons, All-append, filter-append}
-use Rattle.std.proofs.lemmas.Bool.{cases_Bool, cases_lt, cases_eq, eqb-true}
+use Rattle.std.proofs.lemmas.Bool.{cases_Bool, cases_eq, eqb-true}
 use Rattle.state_store.specs.declared.object.ObjectDecl.{ObjectDecl}
 use Rattle.state_store.specs.Kinds.{is_table}
 use Rattle.flat_ir.specs.declared.program.ValueId.{ValueId}
@@ -14,17 +14,17 @@ use Rattle.split_model.specs.declared.split.Part.{Part}
 use Rattle.split_model.specs.declared.split.Slow.{Slow}
 use Rattle.split_model.specs.declared.split.Slow.TheVariants.{Carried, Server, Post}
 use Rattle.split_model.specs.declared.layout.Crossing.{Crossing}
-use Rattle.split_model.specs.Split.{part_at, is_pre, is_carried, is_post, is_carried_up, stage_after, any_below}
-use Rattle.split_model.specs.Shown.{looks_at, writes_to, is_shown, is_replicated}
+use Rattle.split_model.specs.Split.{part_at, is_pre, is_carried, is_post, is_carried_up, stage_after}
+use Rattle.split_model.specs.Shown.{looks_at, is_shown, is_replicated}
 use Rattle.split_model.specs.Crossing.{is_value, is_among, is_read_by, is_at_hand, crosses_up, crosses_down}
 use Rattle.split_model.specs.Layouts.{first_results, values_below, values_of, crossing, up_values, down_values, up_layout, down_layout}
-use Rattle.split_model.specs.Counts.{count_below, accesses, writes, stages, sum_of, is_post_shown, object_bits, bits_from, layout_bytes, transfer_bytes}
-use Rattle.split_model.specs.Greatest.{pre_marks, carried_marks, post_marks, IsGreatestSplit}
+use Rattle.split_model.specs.Counts.{count_below, accesses, writes, sum_of, is_post_shown, object_bits, bits_from, layout_bytes, transfer_bytes}
+use Rattle.split_model.specs.Greatest.{pre_marks, IsGreatestSplit}
 use Rattle.resource_limits.specs.declared.limits.Limits.{Limits}
 use Rattle.resource_limits.specs.Limits.{AreInRange}
-use Rattle.resource_limits.specs.Counts.{first_numbers, each_object, counts_of}
-use Rattle.resource_limits.specs.Kept.{Keeps, KeepsLimits}
-use Rattle.partition.proofs.Lawful.{no_more, and_no, or_no, pre_at, carried_at, post_at}
+use Rattle.resource_limits.specs.Counts.{first_numbers}
+use Rattle.resource_limits.specs.Kept.{KeepsLimits}
+use Rattle.partition.proofs.Lawful.{no_more, and_no, pre_at, carried_at, post_at}
 use Rattle.partition.proofs.Server.{left, IsBlank, no_pre, no_carried, no_post, no_stages, none_below, unseen}
 
 -- ## The greatest split on no instruction is that one
@@ -126,13 +126,13 @@ either_bits f p q r (v ∷ vs) h =
     let rest = either_bits f p q r vs h in
     elim (cases_Bool (p v)) [
       | inr n ↦ rw n (elim (cases_Bool (q v)) [
-          | inl x ↦ rw x (elim (cases_Bool (r v)) [ | inl y ↦ rw y (omega (arith, rest)) | inr y ↦ rw y (omega (arith, rest)) ])
-          | inr x ↦ rw x (elim (cases_Bool (r v)) [ | inl y ↦ rw y (omega (arith, rest)) | inr y ↦ rw y (omega (arith, rest)) ])
-        ])
+        | inl x ↦ rw x (elim (cases_Bool (r v)) [ inl y ↦ rw y (omega (arith, rest)) | inr y ↦ rw y (omega (arith, rest)) ])
+        | inr x ↦ rw x (elim (cases_Bool (r v)) [ inl y ↦ rw y (omega (arith, rest)) | inr y ↦ rw y (omega (arith, rest)) ])
+      ])
       | inl t ↦ rw t (elim (h v t) [
-          | inl x ↦ rw x (elim (cases_Bool (r v)) [ | inl y ↦ rw y (omega (arith, rest)) | inr y ↦ rw y (omega (arith, rest)) ])
-          | inr y ↦ rw y (elim (cases_Bool (q v)) [ | inl x ↦ rw x (omega (arith, rest)) | inr x ↦ rw x (omega (arith, rest)) ])
-        ])
+        | inl x ↦ rw x (elim (cases_Bool (r v)) [ inl y ↦ rw y (omega (arith, rest)) | inr y ↦ rw y (omega (arith, rest)) ])
+        | inr y ↦ rw y (elim (cases_Bool (q v)) [ inl x ↦ rw x (omega (arith, rest)) | inr x ↦ rw x (omega (arith, rest)) ])
+      ])
     ]
 
 -- the bits of one value among a list

@@ -223,13 +223,13 @@ module _ (f : Program) (split : List Part) (is : IsClosed f split) (i : ℕ) (lt
 
   reads_no_post : is_server split i ≡ true → (j : ℕ) → Reads (operands (step_at f i).work) j → is_post split j ≡ false
   reads_no_post sv j r = no_more (is_post split j) (λ p.
-    let of = served (part_at split i).slow sv in
-    let back : is_post split i ≡ true = sym (post_at split i) ∙ is.post.readers i j (step_at f i) (post_at split j ∙ p) at r (carried_at split i ∙ of.0) in
-    (let not : is_post split i ≡ false = of.1 in cc))
+      let of = served (part_at split i).slow sv in
+      let back : is_post split i ≡ true = sym (post_at split i) ∙ is.post.readers i j (step_at f i) (post_at split j ∙ p) at r (carried_at split i ∙ of.0) in
+      (let not : is_post split i ≡ false = of.1 in cc))
 
   guards_none : is_write (step_at f i).work ≡ true → (j : ℕ) → list_any (is_condition_of f j) (line f.blocks (step_at f i).block) ≡ true → is_post split j ≡ false
   guards_none w j chain = no_more (is_post split j) (λ p.
-    is.post.guards j (post_at split j ∙ p) (record { number = i; write = step_at f i; there = at; writes = w; chain = chain }))
+      is.post.guards j (post_at split j ∙ p) (record { number = i; write = step_at f i; there = at; writes = w; chain = chain }))
 
   keeps_6 : rule_6 f split i ≡ false
   keeps_6 = or_no (is_server split i && list_any (λ (v : ValueId). is_post split v.instruction) (operands (step_at f i).work))
@@ -247,18 +247,18 @@ module _ (f : Program) (split : List Part) (is : IsClosed f split) (i : ℕ) (lt
 
   write_no_pre : is_write (step_at f i).work ≡ true → is_pre split i ≡ false
   write_no_pre w = no_more (is_pre split i) (λ p.
-    no_write (step_at f i) w (kind_here f (pre_marks split) (λ one. IsTrue (fits_switch one)) i is.pre.kinds (pre_at split i ∙ p)))
+      no_write (step_at f i) w (kind_here f (pre_marks split) (λ one. IsTrue (fits_switch one)) i is.pre.kinds (pre_at split i ∙ p)))
 
   write_no_post : is_write (step_at f i).work ≡ true → is_post split i ≡ false
   write_no_post w = no_more (is_post split i) (λ p.
-    let k = kind_here f (post_marks split) (λ one. IsTrue (fits_switch one) × (is_mutable_look f one.work ≡ false) × (is_field one.work ≡ false)) i is.post.kinds (post_at split i ∙ p) in
-    no_write (step_at f i) w k.0)
+      let k = kind_here f (post_marks split) (λ one. IsTrue (fits_switch one) × (is_mutable_look f one.work ≡ false) × (is_field one.work ≡ false)) i is.post.kinds (post_at split i ∙ p) in
+      no_write (step_at f i) w k.0)
 
   write_no_carried : is_write (step_at f i).work ≡ true → is_carried split i ≡ false
   write_no_carried w = no_more (is_carried split i) (λ c.
-    let p : is_pre split i ≡ true = sym (pre_at split i) ∙ is.carried.within i (carried_at split i ∙ c) in
-    let q = write_no_pre w in
-    (cc))
+      let p : is_pre split i ≡ true = sym (pre_at split i) ∙ is.carried.within i (carried_at split i ∙ c) in
+      let q = write_no_pre w in
+      (cc))
 
   keeps_8 : rule_8 f split i ≡ false
   keeps_8 = and_no (is_write (step_at f i).work) (is_pre split i || not (is_server split i))

@@ -24,7 +24,7 @@ both_ways true b f g = sym (f refl)
 both_ways false true f g = g refl
 both_ways false false f g = refl
 
-same_sets : (f : Program) (P : List Bool → Type 0) (marks others : List Bool) → IsGreatest f P marks → IsGreatest f P others → marks ≡ others
+pub same_sets : (f : Program) (P : List Bool → Type 0) (marks others : List Bool) → IsGreatest f P marks → IsGreatest f P others → marks ≡ others
 same_sets f P marks others a b =
     same_lists marks others (a.count ∙ sym b.count)
     (λ k d l. get_or_default marks k d false l
@@ -75,6 +75,15 @@ same_parts (x ∷ xs) (y ∷ ys) a b c d e =
     let head : x ≡ y = same_part x y pre slow in
     cc
 
+pub same_depths : ((f : Program) (members : List Bool) (depths : List ℕ) → IsWellFormed f → IsDepths f members depths → IsStaged f members depths)
+    → ((f : Program) (members : List Bool) (depths stages : List ℕ) → IsWellFormed f → IsDepths f members depths → IsStaged f members stages → (i : ℕ) → slice_index depths i ≤ slice_index stages i)
+    → (f : Program) → IsWellFormed f → (members : List Bool) (ds es : List ℕ) → IsDepths f members ds → IsDepths f members es → ds ≡ es
+same_depths staged least f formed members ds es p q =
+    same_lists ds es (p.count ∙ sym q.count)
+    (λ n d l. get_or_default ds n d 0 l
+    ∙ (let x = least f members ds es formed p (staged f members es formed q) n in let y = least f members es ds formed q (staged f members ds formed p) n in omega arith)
+    ∙ get_or_default es n 0 d (let m = p.count in let o = q.count in omega arith))
+
 pub same_splits : ((f : Program) (members : List Bool) (depths : List ℕ) → IsWellFormed f → IsDepths f members depths → IsStaged f members depths)
     → ((f : Program) (members : List Bool) (depths stages : List ℕ) → IsWellFormed f → IsDepths f members depths → IsStaged f members stages → (i : ℕ) → slice_index depths i ≤ slice_index stages i)
     → (f : Program) (k : ℕ) (all : Bool) (split other : List Part) → IsWellFormed f → IsGreatestSplit f k all split → IsGreatestSplit f k all other → split ≡ other
@@ -85,15 +94,8 @@ same_splits staged least f k all split other formed a b =
     let post = same_post f all (carried_marks split) (post_marks split) (post_marks other) a.post
     (subst (λ (m : List Bool). IsPostSet f all m (post_marks other)) (sym carried) b.post) in
     same_parts split other pre carried post
-    (same_depths (pre_marks split) (pre_stages split) (pre_stages other) a.pre_depths (subst (λ (m : List Bool). IsDepths f m (pre_stages other)) (sym pre) b.pre_depths))
-    (same_depths (post_marks split) (post_stages split) (post_stages other) a.post_depths (subst (λ (m : List Bool). IsDepths f m (post_stages other)) (sym post) b.post_depths))
-  where
-    same_depths : (members : List Bool) (ds es : List ℕ) → IsDepths f members ds → IsDepths f members es → ds ≡ es
-    same_depths members ds es p q =
-        same_lists ds es (p.count ∙ sym q.count)
-        (λ n d l. get_or_default ds n d 0 l
-        ∙ (let x = least f members ds es formed p (staged f members es formed q) n in let y = least f members es ds formed q (staged f members ds formed p) n in omega arith)
-        ∙ get_or_default es n 0 d (let m = p.count in let o = q.count in omega arith))
+    (same_depths staged least f formed (pre_marks split) (pre_stages split) (pre_stages other) a.pre_depths (subst (λ (m : List Bool). IsDepths f m (pre_stages other)) (sym pre) b.pre_depths))
+    (same_depths staged least f formed (post_marks split) (post_stages split) (post_stages other) a.post_depths (subst (λ (m : List Bool). IsDepths f m (post_stages other)) (sym post) b.post_depths))
 
 -- ## A legal split has no more in preprocessing than the greatest one on all instructions
 
@@ -121,7 +123,7 @@ marked_inside (x ∷ xs) (suc i) m = let h = marked_inside xs i m in omega (arit
 pub legal_closed : (f : Program) (other : List Part) → IsLegal f other → IsPreClosed f (length f.code) (pre_marks other)
 legal_closed f other legal =
     let inside : (i : ℕ) → IsMarked (pre_marks other) i → i < length f.code = λ i m.
-        (let n = marked_inside (pre_marks other) i m in let c = legal.count in let e = length-map other (λ (part : Part). is_some part.pre) in omega (arith, n, c, e)) in
+    (let n = marked_inside (pre_marks other) i m in let c = legal.count in let e = length-map other (λ (part : Part). is_some part.pre) in omega (arith, n, c, e)) in
     record {
       below = inside;
       kinds = λ i m.

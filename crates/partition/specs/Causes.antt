@@ -1,5 +1,5 @@
 -- Why there is no split.
-use Rattle.std.specs.Prelude.{◌≡◌, Bool, true, false, ⊤}
+use Rattle.std.specs.Prelude.{Bool}
 use Rattle.flat_ir.specs.Program.{Program}
 use Rattle.resource_limits.specs.declared.limits.Limits.{Limits}
 use Rattle.partition.specs.declared.choosing.PartError.{PartError}

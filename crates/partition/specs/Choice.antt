@@ -25,11 +25,11 @@ abbrev pub shrinking : ℕ → List (ℕ × Bool)
 shrinking zero = (0, true) ∷ ((0, false) ∷ [])
 shrinking (suc n) = (suc n, true) ∷ ((suc n, false) ∷ shrinking n)
 
--- the first of these greatest splits that keeps the limits: each one before it exceeds them
+-- the first of these kinds whose greatest split keeps the limits: that of no kind before it does
 abbrev pub IsFirstKept : Program → Limits → List (ℕ × Bool) → List Part → Type 0
 IsFirstKept f limits [] split = ⊥
 IsFirstKept f limits (c ∷ cs) split =
-    IsKept f limits c.0 c.1 split ⊎ (((over : Over) × IsExceeded f limits c.0 c.1 over) × IsFirstKept f limits cs split)
+    IsKept f limits c.0 c.1 split ⊎ (((other : List Part) → IsKept f limits c.0 c.1 other → ⊥) × IsFirstKept f limits cs split)
 
 -- what is chosen: the greatest split of all instructions, or by shrinking the first that keeps the limits
 abbrev pub IsChosen : Program → Limits → Bool → List Part → Type 0

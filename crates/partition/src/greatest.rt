@@ -12,7 +12,8 @@ ghost use Rattle.split_model.specs.Greatest.{IsGreatestSplit, IsPostSet};
 ghost use Rattle.split_model.specs.Bounds.{IsBounded};
 ghost use Rattle.partition.specs.Joined.{IsJoined};
 
-use dependence::{Depths, Marks, carried_closure, depths, post_closure, pre_closure};
+use crate::front::Front;
+use dependence::{Depths, Marks, post_closure};
 use flat_ir::Flat;
 use gal_io::NoMemory;
 use split_model::{Part, Slow, Split};
@@ -52,7 +53,7 @@ fn make_part(pre: bool, pre_depth: u32, carried: bool, post: bool, post_depth: u
 }
 
 // The parts that these sets and depths say.
-fn join(
+pub(crate) fn join(
     alloc: Global,
     pre: &Marks,
     carried: &Marks,
@@ -84,7 +85,12 @@ fn join(
 }
 
 // The set of postprocessing: the greatest one, or none. A block's number has 32 bits, and no memory holds more blocks.
-fn post_set(alloc: Global, f: &Flat, all: bool, carried: &Marks) -> Result<Marks, NoMemory>
+pub(crate) fn post_set(
+    alloc: Global,
+    f: &Flat,
+    all: bool,
+    carried: &Marks,
+) -> Result<Marks, NoMemory>
     requires { IsWellFormed (program_of f.now) }
     ensures { IfOk result (λ post. IsPostSet (program_of f.now) all carried.now post) }
 {
@@ -104,12 +110,7 @@ pub fn greatest_split(alloc: Global, f: &Flat, k: usize, all: bool) -> Result<Sp
     requires { IsBounded (program_of f.now) }
     ensures { IfOk result (λ s. IsGreatestSplit (program_of f.now) k all s) }
 {
-    let pre = pre_closure(alloc, f, k)?;
-    let carried = carried_closure(alloc, f, &pre)?;
-    let post = post_set(alloc, f, all, &carried)?;
-    let pre_depths = depths(alloc, f, &pre)?;
-    let post_depths = depths(alloc, f, &post)?;
-    join(alloc, &pre, &carried, &post, &pre_depths, &post_depths)
+    Front::new(alloc, f, k)?.split(alloc, f, all)
 }
 
 /// The split that leaves every instruction to the server. No object is looked up on the switch.

@@ -7,6 +7,7 @@ mod laws;
 mod limits;
 mod reader;
 mod tally;
+mod uses;
 
 pub use counting::{Counts, count};
 pub use exceeding::{LimitName, Over, first_exceeded};

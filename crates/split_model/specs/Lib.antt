@@ -8,3 +8,4 @@ pub mod Bounds
 pub mod Passes
 pub mod Laws
 pub mod Greatest
+pub mod Marked

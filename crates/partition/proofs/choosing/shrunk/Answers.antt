@@ -1,37 +1,40 @@
-use Rattle.std.proofs.Common.{◌≡◌, List, length, true, false, sym, subst, arith}
+use Rattle.std.proofs.Common.{◌≡◌, ◌<◌, ℕ, List, true, false, None, sym, subst, arith}
 use Rattle.std.specs.Prelude.{Option}
 use Rattle.std.proofs.lemmas.Result.{IfOk-weaker}
 use Rattle.flat_ir.specs.Program.{program_of}
 use Rattle.split_model.specs.declared.split.Part.{Part}
 use Rattle.split_model.specs.Greatest.{IsGreatestSplit}
-use Rattle.partition.specs.declared.choosing.Tried.{Tried}
-use Rattle.partition.specs.Choice.{IsFirstKept, shrinking}
-use Rattle.partition.specs.Tried.{IsTriedTwice, IsTried}
-use Rattle.partition.proofs.Shrunk.{tried_some, tried_none, tried_last}
+use Rattle.partition.specs.Choice.{IsChosen, IsFirstKept, shrinking}
+use Rattle.partition.specs.Tried.{IsFound}
+use Rattle.partition.proofs.Steps.{narrowed, stepped}
+use Rattle.partition.proofs.Shrunk.{found_last}
 use Rattle.partition.proofs.Last.{last_keeps}
 use Rattle.partition.proofs.choosing.shrunk.Goals as goal
 
-pub returns-in-Some : goal.returns-in-Some
-returns-in-Some c =
+pub loop-front-preserved : goal.loop-front-preserved
+loop-front-preserved c =
     let f = program_of c.args.f.now in
-    c.loop-k.invariant c.in-Some.split (tried_some f c.args.limits.now c.loop-k.k c.in-Some.split c.loop-k-test.true
-    (subst (λ (o : Option (List Part)). IsTriedTwice f c.args.limits.now c.loop-k.k o) c.in-Some.is c.in_ok-split.ensures))
+    let l = c.args.limits.now in
+    let old = c.loop-front.front in
+    let new = c.narrow.new.self in
+    let some : 0 < old.count = c.loop-front-test.true in
+    record {
+      front = narrowed f old new c.requires.bounded.formed c.loop-front.invariant.front some c.narrow.ensures.count c.narrow.ensures.pre c.narrow.ensures.carried c.narrow.ensures.depths;
+      few = omega (arith, c.loop-front.invariant.few, c.narrow.ensures.count);
+      first = λ split first. c.loop-front.invariant.first split
+          (stepped f l old.count new.count c.in_ok-split.field-0 c.in_default.is c.in_ok-split.ensures c.narrow.ensures.count split first);
+    }
 
-pub loop-k-preserved : goal.loop-k-preserved
-loop-k-preserved c =
+pub returns : goal.returns
+returns c =
     let f = program_of c.args.f.now in
-    λ split rest. c.loop-k.invariant split (tried_none f c.args.limits.now c.loop-k.k split c.loop-k-test.true
-    (subst (λ (o : Option (List Part)). IsTriedTwice f c.args.limits.now c.loop-k.k o) c.in_default.is c.in_ok-split.ensures) rest)
-
-pub returns-in-Exceeding : goal.returns-in-Exceeding
-returns-in-Exceeding c =
-    let f = program_of c.args.f.now in
-    let z : c.loop-k.k ≡ 0 = omega arith in
-    let exceeded = subst (λ (t : Tried). IsTried f c.args.limits.now 0 true t) c.in-Exceeding.is c.in_ok-split-2.ensures in
-    IfOk-weaker c.all_on_server.result (λ (split : List Part). IsGreatestSplit f 0 false split)
-    (λ (split : List Part). IsFirstKept f c.args.limits.now (shrinking (length c.args.f.now.code)) split)
-    (λ split greatest. c.loop-k.invariant split
-    (subst (λ k. IsFirstKept f c.args.limits.now (shrinking k) split) (sym z)
-    (tried_last f c.args.limits.now c.in-Exceeding.field-0 split exceeded
-    (record { greatest = greatest; keeps = last_keeps f c.args.limits.now split c.requires.bounded.formed c.requires.in_range greatest }))))
+    let l = c.args.limits.now in
+    let z : c.loop-front.front.count ≡ 0 = omega (arith, c.loop-front-test.false) in
+    let none : IsFound f l 0 true None =
+    subst (λ (n : ℕ). IsFound f l n true None) z (subst (λ (o : Option (List Part)). IsFound f l c.loop-front.front.count true o) c.in-None.is c.in_ok-split-2.ensures) in
+    IfOk-weaker c.all_on_server.result (λ (split : List Part). IsGreatestSplit f 0 false split) (λ (split : List Part). IsChosen f l true split)
+    (λ split greatest. c.loop-front.invariant.first split
+    (subst (λ k. IsFirstKept f l (shrinking k) split) (sym z)
+    (found_last f l split none
+    (record { greatest = greatest; keeps = last_keeps f l split c.requires.bounded.formed c.requires.in_range greatest }))))
     c.all_on_server.ensures.greatest
