@@ -1,7 +1,6 @@
 -- What told files and limits say of the split.
-use Rattle.std.proofs.Common.{◌≡◌, ◌≤◌, ◌↔◌, ◌⊎◌, ℕ, Bool, true, false, List, [], ◌∷◌, length, Option, Some, None, IfSome, IsSomeAnd}
+use Rattle.std.proofs.Common.{◌≡◌, ◌≤◌, ◌↔◌, ℕ, Bool, true, false, List, length, Option, Some, None, IfSome, IsSomeAnd}
 use Rattle.std.proofs.Common.{sym, ap, subst, ◌∙◌, inl, inr}
-use Rattle.gal_io.specs.declared.sink.SinkEnd.TheVariants as ends
 use Rattle.element_lang.specs.Tree.{Tree}
 use Rattle.element_lang.specs.Accepted.{IsSource}
 use Rattle.flat_ir.specs.Program.{Program}
@@ -23,13 +22,13 @@ use Rattle.gallium_cli.specs.declared.refusal.Refusal.{Refusal}
 use Rattle.gallium_cli.specs.declared.refusal.Refusal.TheVariants.{Exceeded}
 use Rattle.gallium_cli.specs.Call.{Call}
 use Rattle.gallium_cli.specs.Lines.{status_of}
-use Rattle.gallium_cli.specs.Words.{Request, Run, Compile, Replay}
-use Rattle.gallium_cli.specs.Roles.{program, limits, size_of, plan_files, IsGood, IsShort, AreLimits}
-use Rattle.gallium_cli.specs.Answers.{IsOnlySource, IsPlan, IsCompilation}
-use Rattle.gallium_cli.specs.Causes.{IsOverLimit, IsUnchosen, IsTold, EndsFor, excess_of}
-use Rattle.gallium_cli.specs.Promises.{IsFault, IsUnlessFault, AllGood, IsToldPlan, IsExactChoice}
+use Rattle.gallium_cli.specs.Words.{Request, Compile}
+use Rattle.gallium_cli.specs.Roles.{program, limits, size_of, plan_files, IsGood, AreLimits}
+use Rattle.gallium_cli.specs.Answers.{IsOnlySource, IsPlan}
+use Rattle.gallium_cli.specs.Causes.{IsOverLimit, EndsFor, excess_of}
+use Rattle.gallium_cli.specs.Promises.{AllGood, IsToldPlan, IsExactChoice}
 use Rattle.gallium_cli.proofs.Exact.{unwritten, write_is_fault, of_told, good_files}
-use Rattle.gallium_cli.proofs.CauseTold.{IsLine, line_of_fault, line_of_cause}
+use Rattle.gallium_cli.proofs.CauseTold.{line_of_fault, line_of_cause}
 
 -- ## One split and one refusal
 
@@ -117,10 +116,10 @@ good_plan : (told : List ℕ → Option (List ℕ)) (s l : List ℕ) (m : Tree) 
     → IsToldPlan told s l m allowed → AllGood told (plan_files s l)
 good_plan told s l m allowed plan = (
   good_some (λ text. (length text ≤ size_of program) × IsSource text m) (IsGood program)
-  (λ text h. (h.0, (m, h.1, plan.short))) (told s) plan.source,
+      (λ text h. (h.0, (m, h.1, plan.short))) (told s) plan.source,
   (
     good_some (λ text. (length text ≤ size_of limits) × AreLimits text allowed) (IsGood limits)
-    (λ text h. (h.0, (allowed, h.1))) (told l) plan.limits,
+        (λ text h. (h.0, (allowed, h.1))) (told l) plan.limits,
     tt,
   ),
 )

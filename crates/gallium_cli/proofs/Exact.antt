@@ -1,5 +1,5 @@
 -- Which status told files lead to.
-use Rattle.std.proofs.Common.{◌≡◌, ◌⊎◌, ◌<◌, ℕ, Bool, true, false, List, [], ◌∷◌, length, Option, Some, None, IfSome, IsSomeAnd, subst, sym}
+use Rattle.std.proofs.Common.{◌≡◌, ◌⊎◌, ◌<◌, ℕ, false, List, [], ◌∷◌, length, Option, Some, None, IfSome, IsSomeAnd, subst, sym}
 use Rattle.std.proofs.Common.{inl, inr, arith}
 use Rattle.gal_io.specs.Files.{FilesState}
 use Rattle.gal_io.specs.Sink.{SinkState}
@@ -11,7 +11,6 @@ use Rattle.run_text.specs.declared.event.Event.{Event}
 use Rattle.element_text.specs.declared.error.TextError.{TextError}
 use Rattle.resource_limits.specs.declared.limits.Limits.{Limits as Allowed}
 use Rattle.resource_limits.specs.declared.limits.LimitsError.{LimitsError}
-use Rattle.resource_limits.specs.Limits as texts
 use Rattle.gallium_cli.specs.declared.status.Status.{Status}
 use Rattle.gallium_cli.specs.declared.status.Status.TheVariants as statuses
 use Rattle.gallium_cli.specs.declared.refusal.Refusal.{Refusal}
