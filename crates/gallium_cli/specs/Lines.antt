@@ -1,13 +1,18 @@
 -- The status and the line of each refusal.
-use Rattle.std.specs.Prelude.{ℕ, List, [], ◌∷◌, ◌++◌, codes, decimal}
+use Rattle.std.specs.Prelude.{ℕ, List, [], ◌∷◌, ◌++◌, Option, Some, None, codes, decimal}
 use Rattle.element_lang.specs.declared.sizes.What.{What}
 use Rattle.element_lang.specs.declared.sizes.What.TheVariants.{Depth, Objects, Entries, Writes}
 use Rattle.element_text.specs.declared.error.TextError.{TextError}
 use Rattle.element_text.specs.declared.error.TextError.TheVariants as errors
+use Rattle.resource_limits.specs.Limits.{name_of}
+use Rattle.resource_limits.specs.Kept.{limit_name}
+use Rattle.resource_limits.specs.declared.limits.LimitsError.{LimitsError}
+use Rattle.resource_limits.specs.declared.limits.LimitsError.TheVariants as faults
 use Rattle.gallium_cli.specs.declared.status.Status.{Status}
 use Rattle.gallium_cli.specs.declared.status.Status.TheVariants as statuses
+use Rattle.gallium_cli.specs.declared.refusal.Excess.{Excess}
 use Rattle.gallium_cli.specs.declared.refusal.Refusal.{Refusal}
-use Rattle.gallium_cli.specs.declared.refusal.Refusal.TheVariants.{Usage, Source, Trace, Schedule}
+use Rattle.gallium_cli.specs.declared.refusal.Refusal.TheVariants.{Usage, Source, LongProgram, Limits, Exceeded, Trace, Schedule}
 use Rattle.gallium_cli.specs.declared.refusal.Refusal.TheVariants.{TooLong, ReadFault, WriteFault, NoMemory}
 
 abbrev pub line_end : List ℕ
@@ -32,9 +37,31 @@ source_line (errors.TooLarge what have allowed) =
     ++ (what_text what ++ (codes " have " ++ (decimal have ++ (codes ", allowed " ++ (decimal allowed ++ line_end)))))
 source_line errors.NoMemory = codes "no memory" ++ line_end
 
+-- the line of limits that are refused
+abbrev pub limits_line : LimitsError → List ℕ
+limits_line faults.Toml = codes "limits: not toml" ++ line_end
+limits_line (faults.Missing key) = codes "limits: missing " ++ (name_of key ++ line_end)
+limits_line faults.Unknown = codes "limits: unknown key" ++ line_end
+limits_line (faults.Range key) = codes "limits: range " ++ (name_of key ++ line_end)
+limits_line faults.NoMemory = codes "no memory" ++ line_end
+
+-- the name of an object behind a space, where a limit is for each object
+abbrev pub owner_text : Option (List ℕ) → List ℕ
+owner_text None = []
+owner_text (Some name) = codes " " ++ name
+
+-- the line of a limit that is exceeded
+abbrev pub excess_line : Excess → List ℕ
+excess_line e =
+    codes "limit "
+    ++ (limit_name e.limit ++ (owner_text e.object ++ (codes ": have " ++ (decimal e.have ++ (codes ", allowed " ++ (decimal e.allowed ++ line_end))))))
+
 abbrev pub status_of : Refusal → Status
 status_of Usage = statuses.Usage
 status_of (Source fault) = statuses.Source
+status_of LongProgram = statuses.Source
+status_of (Limits fault) = statuses.Limits
+status_of (Exceeded excess) = statuses.Exceeded
 status_of Trace = statuses.Trace
 status_of Schedule = statuses.Schedule
 status_of (TooLong name) = statuses.TooLong
@@ -45,6 +72,9 @@ status_of NoMemory = statuses.NoMemory
 abbrev pub line_of : Refusal → List ℕ
 line_of Usage = codes "usage: gallium run, compile, check, replay or gen" ++ line_end
 line_of (Source fault) = source_line fault
+line_of LongProgram = codes "source: more than 4096 instructions" ++ line_end
+line_of (Limits fault) = limits_line fault
+line_of (Exceeded excess) = excess_line excess
 line_of Trace = codes "trace: refused" ++ line_end
 line_of Schedule = codes "schedule: refused" ++ line_end
 line_of (TooLong name) = codes "too long: " ++ (name.now ++ line_end)

@@ -2,13 +2,17 @@
 use Rattle.std.specs.Prelude.{◌≡◌, ◌≤◌, ◌<◌, ◌≢◌, ◌+◌, ◌-◌, ◌^◌, ℕ, min, List, length, Some, IfSome}
 use Rattle.gal_io.specs.Count.{Rose}
 use Rattle.gal_io.specs.Files.{FilesState}
+use Rattle.resource_limits.specs.Limits as texts
+use Rattle.resource_limits.specs.declared.limits.LimitsError.{LimitsError}
+use Rattle.resource_limits.specs.declared.limits.LimitsError.TheVariants as faults
 use Rattle.element_text.specs.Refused.{IsRefused}
 use Rattle.element_text.specs.declared.error.TextError.{TextError}
 use Rattle.element_text.specs.declared.error.TextError.TheVariants as errors
 use Rattle.gallium_cli.specs.declared.refusal.Refusal.{Refusal}
-use Rattle.gallium_cli.specs.declared.refusal.Refusal.TheVariants.{Source, Trace, Schedule}
+use Rattle.gallium_cli.specs.declared.refusal.Refusal.TheVariants.{Source, LongProgram, Limits, Trace, Schedule}
 use Rattle.gallium_cli.specs.declared.refusal.Refusal.TheVariants.{TooLong, ReadFault, NoMemory}
-use Rattle.gallium_cli.specs.Roles.{Role, source, trace, schedule, size_of, IsSpelled, IsBad}
+use Rattle.gallium_cli.specs.Roles.{Role, source, program, limits, trace, schedule, size_of}
+use Rattle.gallium_cli.specs.Roles.{IsSpelled, IsGood, IsBad}
 
 -- the text is refused for this cause, and for no other
 pub record IsOnlyCause (fault : TextError) (text : List ℕ) : Type 0 where
@@ -19,9 +23,20 @@ pub record IsOnlyCause (fault : TextError) (text : List ℕ) : Type 0 where
 abbrev pub IsBadSource : TextError → List ℕ → Type 0
 IsBadSource fault text = IsBad source text × IsOnlyCause fault text
 
--- Why a text isn't read. A refused source has a cause that isn't want of memory.
+-- it is a good source, of a program that is too long
+abbrev pub IsLongProgram : List ℕ → Type 0
+IsLongProgram text = IsGood source text × ¬ (IsSpelled program text)
+
+-- it tells no limits, for this fault
+abbrev pub AreBadLimits : LimitsError → List ℕ → Type 0
+AreBadLimits fault text = (length text ≤ size_of limits) × (texts.refusal_of text ≡ Some fault)
+
+-- Why a text isn't read. Refused sources and limits have a cause that isn't want of memory.
 abbrev pub IsUnread : Refusal → Role → List ℕ → Type 0
 IsUnread (Source fault) source text = (fault ≢ errors.NoMemory) × ¬ (IsSpelled source text) × IsOnlyCause fault text
+IsUnread (Source fault) program text = (fault ≢ errors.NoMemory) × ¬ (IsSpelled source text) × IsOnlyCause fault text
+IsUnread LongProgram program text = IsSpelled source text × ¬ (IsSpelled program text)
+IsUnread (Limits fault) limits text = (fault ≢ faults.NoMemory) × (texts.refusal_of text ≡ Some fault)
 IsUnread Trace trace text = ¬ (IsSpelled trace text)
 IsUnread Schedule schedule text = ¬ (IsSpelled schedule text)
 IsUnread NoMemory role text = Unit {0}
@@ -30,6 +45,9 @@ IsUnread _ role text = ⊥
 -- Why a file is refused. What is said of its text is said where that is told.
 abbrev pub IsFileRefused : Refusal → Role → List ℕ → FilesState → FilesState → Type 0
 IsFileRefused (Source fault) source name f f' = (fault ≢ errors.NoMemory) × IfSome (f.told name) (IsBadSource fault)
+IsFileRefused (Source fault) program name f f' = (fault ≢ errors.NoMemory) × IfSome (f.told name) (IsBadSource fault)
+IsFileRefused LongProgram program name f f' = IfSome (f.told name) IsLongProgram
+IsFileRefused (Limits fault) limits name f f' = (fault ≢ faults.NoMemory) × IfSome (f.told name) (AreBadLimits fault)
 IsFileRefused Trace trace name f f' = IfSome (f.told name) (IsBad trace)
 IsFileRefused Schedule schedule name f f' = IfSome (f.told name) (IsBad schedule)
 IsFileRefused (TooLong blamed) role name f f' =

@@ -1,5 +1,5 @@
 -- The words of a command.
-use Rattle.std.specs.Prelude.{ℕ, List, [], ◌∷◌, Option, Some, None, if◌then◌else◌, codes}
+use Rattle.std.specs.Prelude.{ℕ, Bool, true, false, ◌&&◌, List, [], ◌∷◌, Option, Some, None, if◌then◌else◌, codes}
 use Rattle.std.specs.Str.{bytes_eq}
 use Rattle.gallium_cli.specs.declared.words.Form.{Form}
 use Rattle.gallium_cli.specs.declared.words.Form.TheVariants as forms
@@ -7,15 +7,20 @@ use Rattle.gallium_cli.specs.declared.words.Form.TheVariants as forms
 -- what a command asks for, with the names of its files
 pub data Request : Type 0 where
   Run : (source trace : List ℕ) → Request
+  Compile : (source limits : List ℕ) (shrink : Bool) → Request
   Replay : (source trace schedule : List ℕ) → Request
 
 -- what these words ask for: the place of a word alone tells what it is
 abbrev pub request_of : List (List ℕ) → Option Request
-request_of (word ∷ source ∷ trace ∷ []) = if bytes_eq word (codes "run") then Some (Run source trace) else None
-request_of (word ∷ source ∷ trace ∷ schedule ∷ []) =
-    if bytes_eq word (codes "replay") then Some (Replay source trace schedule) else None
+request_of (word ∷ source ∷ second ∷ []) =
+    if bytes_eq word (codes "run") then Some (Run source second)
+    else (if bytes_eq word (codes "compile") then Some (Compile source second false) else None)
+request_of (word ∷ source ∷ second ∷ third ∷ []) =
+    if bytes_eq word (codes "replay") then Some (Replay source second third)
+    else (if bytes_eq word (codes "compile") && bytes_eq third (codes "shrink") then Some (Compile source second true) else None)
 request_of _ = None
 
 abbrev pub asked_by : Form → Request
 asked_by (forms.Run source trace) = Run source.now trace.now
+asked_by (forms.Compile source limits shrink) = Compile source.now limits.now shrink
 asked_by (forms.Replay source trace schedule) = Replay source.now trace.now schedule.now

@@ -1,17 +1,25 @@
 //! What the files of a command are read as.
-ghost use Rattle.std.specs.Prelude.{◌≡◌, ◌≤◌, ◌<◌, ◌^◌, IsTrue, All, Ok, length};
+ghost use Rattle.std.specs.Prelude.{◌≡◌, ◌≤◌, ◌<◌, ◌^◌, IsTrue, All, Ok, IfOk, IfErr, length};
 ghost use Rattle.element_lang.specs.View.{tree};
 ghost use Rattle.element_lang.specs.Rules.{is_good};
 ghost use Rattle.element_lang.specs.Accepted.{IsSource};
+ghost use Rattle.flat_ir.specs.Program.{program_of};
+ghost use Rattle.flatten.specs.Flatten.{flat_of};
+ghost use Rattle.resource_limits.specs.Limits.{AreInRange};
+ghost use Rattle.split_model.specs.Bounds.{IsBounded};
 ghost use Rattle.run_text.specs.Trace.{trace_of, schedule_of};
-ghost use Rattle.gallium_cli.specs.Roles.{source, trace, schedule};
-ghost use Rattle.gallium_cli.specs.Loads.{refusal_of};
+ghost use Rattle.gallium_cli.specs.Roles.{Role, source, program, limits, trace, schedule, AreLimits};
+ghost use Rattle.gallium_cli.specs.Answers.{IsOnlySource};
+ghost use Rattle.gallium_cli.specs.Loads.{refusal_of, IsUnread};
 
 use crate::load::Format;
 use crate::refusal::Refusal;
 use element_lang::Middlebox;
 use element_text::TextError;
+use flat_ir::Flat;
+use flatten::{FlatError, flatten};
 use packet_fields::Packets;
+use resource_limits::{Limits, LimitsError, read_limits};
 use run_text::{Events, LinesError, read_schedule, read_trace};
 use std::alloc::Global;
 
@@ -24,11 +32,24 @@ const MAX_TEXT: usize = 67_108_864;
 /// The source of a middlebox.
 pub struct SourceFormat;
 
+/// The source of a middlebox that is split, so that its flat program has to be short enough.
+pub struct ProgramFormat;
+
+/// The limits of a split.
+pub struct LimitsFormat;
+
 /// The packets of a trace.
 pub struct TraceFormat;
 
 /// The events of a schedule.
 pub struct ScheduleFormat;
+
+/// A middlebox with its flat program.
+#[derive(Drop)]
+pub struct Flattened {
+    pub middlebox: Middlebox,
+    pub flat: Flat,
+}
 
 // The refusal of a source that isn't read.
 fn source_refusal(fault: TextError) -> Refusal<'static>
@@ -57,6 +78,68 @@ impl Format for SourceFormat {
         match element_text::read(alloc, text) {
             Ok(m) => Ok(m),
             Err(fault) => Err(source_refusal(fault)),
+        }
+    }
+}
+
+// The flat program of a middlebox that a text spells.
+fn with_flat(
+    alloc: Global,
+    text: &[u8],
+    middlebox: Middlebox,
+) -> Result<Flattened, Refusal<'static>>
+    requires spells { IsOnlySource text.now (tree middlebox) }
+    ensures same { IfOk result (λ p. tree p.middlebox ≡ tree middlebox) }
+    ensures program { IfOk result (λ p. program_of p.flat ≡ flat_of (tree p.middlebox)) }
+    ensures bounded { IfOk result (λ p. IsBounded (flat_of (tree p.middlebox))) }
+    ensures err { IfErr result (λ refusal. IsUnread refusal program text.now) }
+{
+    match flatten(alloc, &middlebox) {
+        Ok(flat) => Ok(Flattened { middlebox, flat }),
+        Err(FlatError::TooLarge) => Err(Refusal::LongProgram),
+        Err(FlatError::NoMemory) => Err(Refusal::NoMemory),
+    }
+}
+
+impl Format for ProgramFormat {
+    type Value = Flattened;
+
+    ghost role = { λ _. program };
+
+    ghost spells = { λ _ text p. IsOnlySource text (tree p.middlebox) };
+
+    ghost sound = { λ p. (program_of p.flat ≡ flat_of (tree p.middlebox)) × IsBounded (flat_of (tree p.middlebox)) };
+
+    fn size(&self) -> usize {
+        MAX_SOURCE
+    }
+
+    fn read(&self, alloc: Global, text: &[u8]) -> Result<Flattened, Refusal<'static>> {
+        match element_text::read(alloc, text) {
+            Ok(m) => with_flat(alloc, text, m),
+            Err(fault) => Err(source_refusal(fault)),
+        }
+    }
+}
+
+impl Format for LimitsFormat {
+    type Value = Limits;
+
+    ghost role = { λ _. limits };
+
+    ghost spells = { λ _ text allowed. AreLimits text allowed };
+
+    ghost sound = { λ allowed. AreInRange allowed };
+
+    fn size(&self) -> usize {
+        MAX_TEXT
+    }
+
+    fn read(&self, alloc: Global, text: &[u8]) -> Result<Limits, Refusal<'static>> {
+        match read_limits(alloc, text) {
+            Ok(allowed) => Ok(allowed),
+            Err(LimitsError::NoMemory) => Err(Refusal::NoMemory),
+            Err(fault) => Err(Refusal::Limits(fault)),
         }
     }
 }

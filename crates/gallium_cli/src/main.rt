@@ -1,12 +1,17 @@
-//! The program: reads a middlebox and a trace, and writes what a run of it, or a replay by a schedule, comes to.
+//! The program: reads a middlebox and a trace, and writes what a run of it, or a replay by a schedule, comes to; or reads a
+//! middlebox and limits, and writes how it is split between a switch and a server.
 #![tactic(auto)]
 
 ghost use Rattle.std.specs.Prelude.{◌≡◌};
 ghost use Rattle.std.specs.Process.{exit_status};
 ghost use Rattle.gallium_cli.specs.Status.{code_of};
 
+mod compile;
+#[cfg(test)]
+mod compile_tests;
 mod formats;
 mod load;
+mod output;
 #[cfg(test)]
 mod print_tests;
 mod refusal;

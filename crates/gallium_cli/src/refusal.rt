@@ -1,22 +1,40 @@
-//! Why nothing is reported, and the line that says so.
+//! Why nothing is answered, and the line that says so.
 ghost use Rattle.std.specs.Prelude.{◌≡◌, ◌++◌, IfOk, codes, string_bytes};
 ghost use Rattle.gallium_cli.specs.declared.refusal.Refusal.{Refusal};
-ghost use Rattle.gallium_cli.specs.Lines.{status_of, line_of, line_end, what_text, source_line};
+ghost use Rattle.gallium_cli.specs.declared.refusal.Excess.{Excess};
+ghost use Rattle.gallium_cli.specs.Lines.{status_of, line_of, line_end, what_text, source_line, limits_line, excess_line, owner_text};
 ghost use Rattle.gallium_cli.specs.Causes.{IsTold};
 
 use crate::status::Status;
 use element_lang::What;
 use element_text::TextError;
 use gal_io::{NoMemory, Sink, SinkEnd, Text};
+use resource_limits::{LimitName, LimitsError};
 use std::alloc::Global;
 
-/// Why nothing is reported. A name is that of the file that is to blame.
-#[derive(Clone, Copy, Debug)]
+/// A limit that a split exceeds.
+#[derive(Debug, Drop)]
+pub struct Excess {
+    pub limit: LimitName,
+    /// The name of the object, where the limit is for each object.
+    pub object: Option<Text>,
+    pub have: u64,
+    pub allowed: u64,
+}
+
+/// Why nothing is answered. A name is that of the file that is to blame.
+#[derive(Debug, Drop)]
 pub enum Refusal<'a> {
     /// The words have no known form.
     Usage,
     /// The source is refused, for this cause, which isn't want of memory.
     Source(TextError),
+    /// The flat program of the source has more than 4,096 instructions.
+    LongProgram,
+    /// The limits are refused, for this cause, which isn't want of memory.
+    Limits(LimitsError),
+    /// The split exceeds a limit.
+    Exceeded(Excess),
     /// The trace is refused.
     Trace,
     /// The schedule is refused.
@@ -25,7 +43,7 @@ pub enum Refusal<'a> {
     TooLong(&'a str),
     /// This file can't be read.
     ReadFault(&'a str),
-    /// The report can't be written.
+    /// The answer can't be written.
     WriteFault,
     /// No memory was found.
     NoMemory,
@@ -43,12 +61,14 @@ impl From<NoMemory> for Refusal<'_> {
 }
 
 // The status of a refusal whose line was written.
-fn status(refusal: Refusal<'_>) -> Status
-    ensures { result ≡ status_of refusal.entry }
+fn status(refusal: &Refusal<'_>) -> Status
+    ensures { result ≡ status_of refusal.now }
 {
     match refusal {
         Refusal::Usage => Status::Usage,
-        Refusal::Source(_) => Status::Source,
+        Refusal::Source(_) | Refusal::LongProgram => Status::Source,
+        Refusal::Limits(_) => Status::Limits,
+        Refusal::Exceeded(_) => Status::Exceeded,
         Refusal::Trace => Status::Trace,
         Refusal::Schedule => Status::Schedule,
         Refusal::TooLong(_) => Status::TooLong,
@@ -116,16 +136,59 @@ fn source_line(alloc: Global, fault: TextError) -> Result<Text, NoMemory>
     }
 }
 
+// The line of limits that are refused.
+fn limits_line(alloc: Global, fault: LimitsError) -> Result<Text, NoMemory>
+    ensures { IfOk result (λ text. text ≡ limits_line fault) }
+{
+    match fault {
+        LimitsError::Toml => Text::from_slice(alloc, b"limits: not toml\n"),
+        LimitsError::Missing(key) => naming(alloc, b"limits: missing ", key.name()),
+        LimitsError::Unknown => Text::from_slice(alloc, b"limits: unknown key\n"),
+        LimitsError::Range(key) => naming(alloc, b"limits: range ", key.name()),
+        LimitsError::NoMemory => Text::from_slice(alloc, b"no memory\n"),
+    }
+}
+
+// A space and the name of an object, if there is one.
+fn owner_text(alloc: Global, object: &Option<Text>) -> Result<Text, NoMemory>
+    ensures { IfOk result (λ text. text ≡ owner_text object.now) }
+{
+    let mut text = Text::new(alloc);
+    if let Some(name) = object {
+        text.push(b' ')?;
+        text.extend(name.as_slice())?;
+    }
+    Ok(text)
+}
+
+// The line of a limit that is exceeded.
+fn excess_line(alloc: Global, excess: &Excess) -> Result<Text, NoMemory>
+    ensures { IfOk result (λ text. text ≡ excess_line excess.now) }
+{
+    let mut text = Text::from_slice(alloc, b"limit ")?;
+    text.extend(excess.limit.name().as_bytes())?;
+    text.extend(owner_text(alloc, &excess.object)?.as_slice())?;
+    text.extend(b": have ")?;
+    text.push_number(excess.have)?;
+    text.extend(b", allowed ")?;
+    text.push_number(excess.allowed)?;
+    text.extend(b"\n")?;
+    Ok(text)
+}
+
 // The line of a refusal.
-fn line(alloc: Global, refusal: Refusal<'_>) -> Result<Text, NoMemory>
-    ensures { IfOk result (λ text. text ≡ line_of refusal.entry) }
+fn line(alloc: Global, refusal: &Refusal<'_>) -> Result<Text, NoMemory>
+    ensures { IfOk result (λ text. text ≡ line_of refusal.now) }
 {
     match refusal {
         Refusal::Usage => Text::from_slice(
             alloc,
             b"usage: gallium run, compile, check, replay or gen\n",
         ),
-        Refusal::Source(fault) => source_line(alloc, fault),
+        Refusal::Source(fault) => source_line(alloc, *fault),
+        Refusal::LongProgram => Text::from_slice(alloc, b"source: more than 4096 instructions\n"),
+        Refusal::Limits(fault) => limits_line(alloc, *fault),
+        Refusal::Exceeded(excess) => excess_line(alloc, excess),
         Refusal::Trace => Text::from_slice(alloc, b"trace: refused\n"),
         Refusal::Schedule => Text::from_slice(alloc, b"schedule: refused\n"),
         Refusal::TooLong(name) => naming(alloc, b"too long: ", name),
@@ -139,11 +202,11 @@ fn line(alloc: Global, refusal: Refusal<'_>) -> Result<Text, NoMemory>
 pub fn tell<E: Sink>(alloc: Global, refusal: Refusal<'_>, err: &mut E) -> Status
     ensures { IsTold refusal.entry result (E.seen err.old) (E.seen err.new) }
 {
-    let Ok(text) = line(alloc, refusal) else {
+    let Ok(text) = line(alloc, &refusal) else {
         return Status::NoMemory;
     };
     match err.write(text.as_slice()) {
-        SinkEnd::Done => status(refusal),
+        SinkEnd::Done => status(&refusal),
         SinkEnd::Failed => Status::WriteFault,
         SinkEnd::NoMemory => Status::NoMemory,
     }

@@ -3,12 +3,16 @@
 /// How a call of the program ends.
 #[derive(Clone, Copy, Debug, PartialEq, Eq)]
 pub enum Status {
-    /// The report was written.
+    /// The answer was written.
     Done,
     /// The words have no known form.
     Usage,
     /// The source is refused.
     Source,
+    /// The limits are refused.
+    Limits,
+    /// The split exceeds a limit.
+    Exceeded,
     /// The trace is refused.
     Trace,
     /// The schedule is refused.
@@ -17,7 +21,7 @@ pub enum Status {
     TooLong,
     /// A file can't be read.
     ReadFault,
-    /// The report or a line can't be written.
+    /// The answer or a line can't be written.
     WriteFault,
     /// No memory was found.
     NoMemory,
@@ -35,6 +39,8 @@ impl Status {
             Status::Done => 0,
             Status::Usage => 2,
             Status::Source => 3,
+            Status::Limits => 4,
+            Status::Exceeded => 5,
             Status::Trace => 7,
             Status::Schedule => 8,
             Status::TooLong => 9,

@@ -7,35 +7,26 @@ ghost use Rattle.gallium_cli.specs.Words.{request_of, Run, Replay};
 ghost use Rattle.gallium_cli.specs.Roles.{files_of};
 ghost use Rattle.gallium_cli.specs.Answers.{IsInput, IsJob, IsReport, serial_answer};
 ghost use Rattle.gallium_cli.specs.Loads.{GoesOn, raised_by};
-ghost use Rattle.gallium_cli.specs.Puts.{IsPut, IsNotPut};
 ghost use Rattle.gallium_cli.specs.Causes.{HasCause, IsDone, IsFirstRefused};
 ghost use Rattle.gallium_cli.specs.Call.{Call};
 ghost use Rattle.gallium_cli.specs.Promises.{Promises};
 
+use crate::compile::perform_compile;
 use crate::formats::{ScheduleFormat, SourceFormat, TraceFormat};
 use crate::load::load;
+use crate::output::put;
 use crate::refusal::{Refusal, tell};
 use crate::status::Status;
 use crate::words::{Form, form_of};
 use element_interp::run_all;
 use element_lang::Middlebox;
-use gal_io::{Files, NoMemory, Sink, SinkEnd, Text};
+use gal_io::{Files, NoMemory, Sink, Text};
 use packet_fields::{Packet, Packets};
+use partition::greatest_split_is_one;
+use resource_limits::kept_limits_are_not_exceeded;
 use run_text::{Parts, print_answer, print_run};
 use schedule_replay::{Job, replay};
 use std::alloc::Global;
-
-// Writes a text to out.
-fn put<O: Sink>(out: &mut O, text: &[u8]) -> Result<(), Refusal<'static>>
-    ensures ok { OnOk result (IsPut text.now (O.seen out.old) (O.seen out.new)) }
-    ensures err { IfErr result (λ refusal. IsNotPut refusal text.now (O.seen out.old) (O.seen out.new)) }
-{
-    match out.write(text) {
-        SinkEnd::Done => Ok(()),
-        SinkEnd::Failed => Err(Refusal::WriteFault),
-        SinkEnd::NoMemory => Err(Refusal::NoMemory),
-    }
-}
 
 // The middlebox and the packets that two files spell.
 fn load_input<'a, F: Files>(
@@ -174,6 +165,13 @@ fn perform<'a, F: Files, O: Sink>(
     match form_of(words) {
         Some(Form::Run { source, trace }) => perform_run(alloc, source, trace, files, out),
         Some(
+            Form::Compile {
+                source,
+                limits,
+                shrink,
+            },
+        ) => perform_compile(alloc, source, limits, shrink, files, out),
+        Some(
             Form::Replay {
                 source,
                 trace,
@@ -204,6 +202,8 @@ pub fn gallium<F: Files, O: Sink, E: Sink>(
       err_after = E.seen err.new;
     } in Promises result call }
 {
+    greatest_split_is_one();
+    kept_limits_are_not_exceeded();
     match perform(alloc, words, files, out) {
         Ok(()) => Status::Done,
         Err(refusal) => tell(alloc, refusal, err),

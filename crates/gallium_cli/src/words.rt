@@ -10,6 +10,13 @@ pub enum Form<'a> {
         source: &'a str,
         trace: &'a str,
     },
+    /// Prints the flat program of a middlebox and its split within these limits. The greatest split has to keep them, or else
+    /// may shrink until it does.
+    Compile {
+        source: &'a str,
+        limits: &'a str,
+        shrink: bool,
+    },
     /// Replays a middlebox on a trace by a schedule, with every packet sent to the server.
     Replay {
         source: &'a str,
@@ -24,22 +31,38 @@ pub fn form_of<'a>(words: &'a [String]) -> Option<Form<'a>>
         (λ form. request_of (map string_bytes words.now) ≡ Some (asked_by form)) }
 {
     match words {
-        [word, source, trace] => {
+        [word, source, second] => {
             if word.as_str() == "run" {
                 return Some(Form::Run {
                     source: source.as_str(),
-                    trace: trace.as_str(),
+                    trace: second.as_str(),
+                });
+            }
+            if word.as_str() == "compile" {
+                return Some(Form::Compile {
+                    source: source.as_str(),
+                    limits: second.as_str(),
+                    shrink: false,
                 });
             }
             None
         }
-        [word, source, trace, schedule] => {
+        [word, source, second, third] => {
             if word.as_str() == "replay" {
                 return Some(Form::Replay {
                     source: source.as_str(),
-                    trace: trace.as_str(),
-                    schedule: schedule.as_str(),
+                    trace: second.as_str(),
+                    schedule: third.as_str(),
                 });
+            }
+            if word.as_str() == "compile" {
+                if third.as_str() == "shrink" {
+                    return Some(Form::Compile {
+                        source: source.as_str(),
+                        limits: second.as_str(),
+                        shrink: true,
+                    });
+                }
             }
             None
         }

@@ -3,6 +3,7 @@
 
 mod counting;
 mod exceeding;
+mod laws;
 mod limits;
 mod reader;
 mod tally;
@@ -10,6 +11,7 @@ mod uses;
 
 pub use counting::{Counts, count};
 pub use exceeding::{LimitName, Over, first_exceeded};
+pub use laws::kept_limits_are_not_exceeded;
 pub use limits::{Key, Limits, LimitsError};
 pub use reader::read_limits;
 pub use tally::Tally;

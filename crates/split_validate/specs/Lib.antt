@@ -1,1 +1,2 @@
 pub mod SplitText
+pub mod CountsText

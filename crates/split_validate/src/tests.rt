@@ -1,6 +1,7 @@
-//! The text of a split.
+//! The texts of a split and of what it takes.
 
-use crate::print_split;
+use crate::{print_counts, print_split};
+use resource_limits::{Counts, Tally};
 use split_model::{Part, Slow, Split};
 use std::test::Fail;
 
@@ -27,5 +28,25 @@ fn a_split(rt: HostRuntime) -> Result<(), Fail> {
         return Err(Fail::from("no memory"));
     };
     assert_eq!(rt; text.as_slice(), TEXT.as_bytes());
+    Ok(())
+}
+
+#[test]
+fn what_it_takes(rt: HostRuntime) -> Result<(), Fail> {
+    let alloc = rt.alloc();
+    let counts = Counts {
+        accesses: Tally::of([0, 1, 0].to_vec(alloc)?),
+        stages: 12,
+        table_bits: 999_999_999_999,
+        writes: Tally::of([2, 16, 0].to_vec(alloc)?),
+        transfer_bytes: 3,
+    };
+    let Ok(text) = print_counts(alloc, &counts) else {
+        return Err(Fail::from("no memory"));
+    };
+    assert_eq!(rt;
+        text.as_slice(),
+        b"accesses 1 stages 12 table_bits 999999999999 writeback 16 transfer_bytes 3".as_slice()
+    );
     Ok(())
 }

@@ -3,7 +3,11 @@ use Rattle.gallium_cli.proofs.Promised.{promised}
 use Rattle.gallium_cli.proofs.top.gallium.Goals as goal
 
 pub returns-in-Ok : goal.returns-in-Ok
-returns-in-Ok g c = promised _ _ (inl (refl, c.in-Ok.ensures.ok, refl))
+returns-in-Ok g c =
+    promised _ _ c.greatest_split_is_one.ensures.one c.kept_limits_are_not_exceeded.ensures
+    (inl (refl, c.in-Ok.ensures.ok, refl))
 
 pub returns-in-Err : goal.returns-in-Err
-returns-in-Err g c = promised _ _ (inr (c.in-Err.refusal, c.in-Err.ensures.err, c.tell.ensures))
+returns-in-Err g c =
+    promised _ _ c.greatest_split_is_one.ensures.one c.kept_limits_are_not_exceeded.ensures
+    (inr (c.in-Err.refusal, c.in-Err.ensures.err, c.tell.ensures))
