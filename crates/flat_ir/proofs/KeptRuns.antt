@@ -18,21 +18,17 @@ use Rattle.flat_ir.specs.Arrivals.{IsArrival}
 use Rattle.flat_ir.specs.Program.{Program, Work, step_at, value_widths, result_widths, width_of_value}
 use Rattle.flat_ir.specs.Program.Work.{const, field, apply, shift, select, byte, look, put, del}
 use Rattle.flat_ir.specs.Blocks.{Reading, is_live}
-use Rattle.flat_ir.specs.Run.{Change, bit, is_stored, made, change_of, put_change, with_changes, results, with_results, after}
+use Rattle.flat_ir.specs.Run.{Change, Machine, do_step, bit, is_stored, made, change_of, put_change, with_changes, results, with_results, after}
 use Rattle.flat_ir.specs.Fits.{fits_keys, fits_values, can_put, can_del, widths_of, fits}
 use Rattle.flat_ir.specs.WellFormed.{IsWellFormed, IsWritten}
 use Rattle.flat_ir.specs.Writable.{IsFitting}
-use Rattle.flat_ir.specs.Laws.{KeepsWidths}
+use Rattle.flat_ir.specs.Laws.{AllFit, KeepsWidths}
 use Rattle.flat_ir.proofs.Parts.{left, right, not_true}
 use Rattle.flat_ir.proofs.Fitting.{same_list}
 use Rattle.flat_ir.proofs.Readings.{each_weaker}
 use Rattle.flat_ir.proofs.Runs.{set_own, set_other}
 use Rattle.flat_ir.proofs.Widths.{at_widths, one_width, zeros_have_widths, operator_fits, field_fits}
 use Rattle.flat_ir.proofs.KeptRows.{put_is_kept, del_is_kept}
-
--- each value has no more bits than its width
-abbrev pub AllFit : Program → Reading → Type 0
-AllFit f reads = (v : ValueId) → reads v < 2 ^ width_of_value f v
 
 mapped : (f : Program) (reads : Reading) → AllFit f reads → (vs : List ValueId) → have_widths (widths_of f vs) (map reads vs) ≡ true
 mapped f reads fit [] = refl
@@ -125,16 +121,17 @@ set_fits f n rs reads fit h v =
     (λ ne. subst (λ k. k < 2 ^ width_of_value f v) (sym (set_other n rs reads v ne)) (fit v))
     (cases_eq v.instruction n)
 
-pub keeps_widths : (f : Program) (st : Store) (packet : Packet) (n : ℕ) → IsWellFormed f → IsArrival packet → IsKept f.objects st → n ≤ length f.code → KeepsWidths f st packet n
+pub turn_fits : (f : Program) (packet : Packet) (live : Bool) (n : ℕ) (m : Machine) → IsWellFormed f → IsArrival packet → n < length f.code → KeepsWidths f m → KeepsWidths f (do_step live packet n (step_at f n).work m)
+turn_fits f packet live n m well arrives lt so = record {
+  kept = step_kept f m.reads live m.store (step_at f n).work so.kept so.fits (well.fit n lt);
+  fits = set_fits f n (results m.reads live m.store packet (step_at f n).work) m.reads so.fits (results_fit f m.reads live m.store packet (step_at f n).work arrives so.kept so.fits (well.fit n lt));
+}
+
+pub keeps_widths : (f : Program) (st : Store) (packet : Packet) (n : ℕ) → IsWellFormed f → IsArrival packet → IsKept f.objects st → n ≤ length f.code → KeepsWidths f (after f st packet n)
 keeps_widths f st packet zero well arrives kept le = record { kept = kept; fits = λ v. pow_pos (width_of_value f v) }
 keeps_widths f st packet (suc n) well arrives kept le =
     let m = after f st packet n in
-    let so = keeps_widths f st packet n well arrives kept (omega (arith, le)) in
-    let live = is_live f.blocks m.reads (step_at f n).block in
-    record {
-      kept = step_kept f m.reads live m.store (step_at f n).work so.kept so.fits (well.fit n le);
-      fits = set_fits f n (results m.reads live m.store packet (step_at f n).work) m.reads so.fits (results_fit f m.reads live m.store packet (step_at f n).work arrives so.kept so.fits (well.fit n le));
-    }
+    turn_fits f packet (is_live f.blocks m.reads (step_at f n).block) n m well arrives le (keeps_widths f st packet n well arrives kept (omega (arith, le)))
 
 -- what the output writes fits its fields
 pub writes_fit : (f : Program) (reads : Reading) → AllFit f reads → (ws : List FieldValue) → Each (IsWritten f) ws → Each (IsFitting reads) ws

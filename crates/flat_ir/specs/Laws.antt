@@ -8,7 +8,7 @@ use Rattle.flat_ir.specs.Program.{Program, Work, step_at, width_of_value}
 use Rattle.flat_ir.specs.Program.Work.{const, field, apply, shift, select, byte, look, put, del}
 use Rattle.std.specs.List.{AllByRecursion as Each}
 use Rattle.flat_ir.specs.Blocks.{Reading, is_live, is_on}
-use Rattle.flat_ir.specs.Run.{after, flat_run, flat_store, flat_changes, with_changes, results}
+use Rattle.flat_ir.specs.Run.{Machine, after, flat_run, flat_store, flat_changes, with_changes, results}
 use Rattle.flat_ir.specs.WellFormed.{is_constant}
 
 -- Each value of a run is its instruction's result of the run's own values, in the store at its turn; and the block is live at
@@ -26,10 +26,14 @@ KeepsTables f st packet = (o n : ℕ) → is_constant f.objects o ≡ true → n
 abbrev pub IsItsChanges : Program → Store → Packet → Type 0
 IsItsChanges f st packet = flat_store f st packet ≡ with_changes st (flat_changes f st packet)
 
--- after each number of instructions the store keeps what was declared, and each value has no more bits than its width
-pub record KeepsWidths (f : Program) (st : Store) (packet : Packet) (n : ℕ) : Type 0 where
-  pub kept : IsKept f.objects (after f st packet n).store
-  pub fits : (v : ValueId) → (after f st packet n).reads v < 2 ^ width_of_value f v
+-- each number has no more bits than its value's width
+abbrev pub AllFit : Program → Reading → Type 0
+AllFit f reads = (v : ValueId) → reads v < 2 ^ width_of_value f v
+
+-- a machine whose store keeps what was declared, and whose numbers fit
+pub record KeepsWidths (f : Program) (m : Machine) : Type 0 where
+  pub kept : IsKept f.objects m.store
+  pub fits : AllFit f m.reads
 
 -- two readings give the same number
 abbrev pub Same : Reading → Reading → ValueId → Type 0

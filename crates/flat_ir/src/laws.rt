@@ -10,7 +10,7 @@ ghost use Rattle.flat_ir.specs.declared.program.Block.{Block};
 ghost use Rattle.flat_ir.specs.Arrivals.{IsArrival};
 ghost use Rattle.flat_ir.specs.Program.{Program, Work, operands, step_at};
 ghost use Rattle.flat_ir.specs.Blocks.{Reading, block_at, holds, is_live, is_on, line, same, HasLowParents};
-ghost use Rattle.flat_ir.specs.Run.{after, change_of, results};
+ghost use Rattle.flat_ir.specs.Run.{Machine, after, change_of, do_step, results};
 ghost use Rattle.flat_ir.specs.WellFormed.{EachCondition, IsInArm, IsSeenFrom, IsWellFormed, WritesNoTable};
 ghost use Rattle.flat_ir.specs.Laws.{IsItsChanges, IsItsValues, KeepsTables, KeepsWidths, Same, SameFor};
 
@@ -42,7 +42,15 @@ pub fn a_run_is_its_changes()
 
 /// From a store that keeps what was declared a run leaves one that does, and each value has no more bits than its width.
 pub fn a_run_keeps_widths()
-    ensures { (f : Program) (st : Store) (packet : Packet) (n : ℕ) → IsWellFormed f → IsArrival packet → IsKept f.objects st → n ≤ length f.code → KeepsWidths f st packet n }
+    ensures { (f : Program) (st : Store) (packet : Packet) (n : ℕ) → IsWellFormed f → IsArrival packet → IsKept f.objects st → n ≤ length f.code → KeepsWidths f (after f st packet n) }
+{}
+
+/// An instruction keeps what was declared of the store, and numbers that fit: from any numbers that fit their values'
+/// widths, and in a block that is live or not.
+pub fn a_turn_keeps_widths()
+    ensures { (f : Program) (packet : Packet) (live : Bool) (i : ℕ) (m : Machine)
+        → IsWellFormed f → IsArrival packet → i < length f.code → KeepsWidths f m
+        → KeepsWidths f (do_step live packet i (step_at f i).work m) }
 {}
 
 /// Readings that agree on what an instruction reads give it the same results and changes, and readings that agree on the

@@ -16,7 +16,7 @@ mod work;
 pub use eval::eval_flat;
 pub use laws::{
     a_run_goes_on, a_run_is_its_changes, a_run_is_its_values, a_run_keeps_the_tables,
-    a_run_keeps_widths, lines_of_blocks, readings_that_agree,
+    a_run_keeps_widths, a_turn_keeps_widths, lines_of_blocks, readings_that_agree,
 };
 pub use listing::print_flat;
 pub use program::{Block, Blocks, Code, FieldValue, Flat, Instr, InstrKind, Out, ValueId};

@@ -1,6 +1,5 @@
 -- Laws of rows of bits, and of the bytes that hold them.
-use Rattle.std.proofs.Common.{◌≡◌, ℕ, zero, suc, ◌+◌, ◌-◌, ◌*◌, ◌/◌, ◌%◌, ◌^◌, ◌<◌, ◌≤◌, ◌⊎◌, ◌&&◌, List, get_or, length, nat_le, nat_lt, refl, sym, ap, ◌∙◌, inl, inr, arith, pow-suc, add-suc, add-zero, add-one, lit<, mod-eq_of_lt, zero-add}
-use Rattle.std.proofs.Math.Nat.{pow-le-pow_right}
+use Rattle.std.proofs.Common.{◌≡◌, ℕ, zero, suc, ◌+◌, ◌-◌, ◌*◌, ◌/◌, ◌%◌, ◌^◌, ◌<◌, ◌≤◌, ◌⊎◌, ◌&&◌, List, get_or, length, nat_le, nat_lt, refl, sym, ap, ◌∙◌, inl, inr, arith, pow-suc, add-suc, add-zero, add-one, mod-eq_of_lt}
 use Rattle.std.proofs.lemmas.Bool.{lt-ltb, le-leb, le-ltb, lt-leb, cases_lt, and_from, and_left, and_right, cond-true, cond-false, cond_both}
 use Rattle.std.proofs.lemmas.List.FromFn.{get_or-map-range_with_len, length-map-range_with_len, fill_by_all}
 use Rattle.std.proofs.lemmas.Nat.{shr_high, mod_low, shr-shr, mod-pow-add}

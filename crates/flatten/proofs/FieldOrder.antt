@@ -1,8 +1,8 @@
 -- Fields by their places.
-use Rattle.std.proofs.Common.{◌≡◌, ℕ, ◌+◌, ◌<◌, ◌^◌, List, length, map, take, get_or, slice_index, refl, sym, subst, ap, ◌∙◌, ◌≤◌, ◌≢◌, arith, lit<, set, below_more, get_or-set_other, get_or-set_same}
+use Rattle.std.proofs.Common.{◌≡◌, ◌<◌, length, get_or, refl, lit<}
 use Rattle.packet_fields.specs.declared.field.Field.{Field}
 use Rattle.packet_fields.specs.declared.field.Field.TheVariants.{MetaPort, MetaLen, HasIp, HasTcp, HasUdp, EthDst, EthSrc, EthType, IpVersion, IpIhl, IpTos, IpLen, IpId, IpFlags, IpFrag, IpTtl, IpProto, IpSum, IpSrc, IpDst, TcpSport, TcpDport, TcpSeq, TcpAck, TcpOff, TcpRes, TcpFlags, TcpWin, TcpSum, TcpUrg, UdpSport, UdpDport, UdpLen, UdpSum}
-use Rattle.packet_fields.specs.Table.{row, all_fields, field_index}
+use Rattle.packet_fields.specs.Table.{all_fields, field_index}
 
 -- the field at the place of a field is that field
 pub at_index : (f : Field) → get_or all_fields (field_index f) MetaPort ≡ f

@@ -1,5 +1,5 @@
 -- Values fit their widths.
-use Rattle.std.proofs.Common.{◌≡◌, ◌≤◌, ◌<◌, ◌+◌, ◌-◌, ◌%◌, ◌/◌, ◌^◌, ℕ, zero, suc, Bool, true, false, cond, ◌==◌, List, [], ◌∷◌, length, map, replicate, nat_lt, get_or, Option, Some, None, is_some, unwrap_or, slice_index, slice_set, refl, sym, ap, ◌∙◌, subst, arith, lit<, pow-suc, true≢false}
+use Rattle.std.proofs.Common.{◌≡◌, ◌≤◌, ◌<◌, ◌+◌, ◌-◌, ◌%◌, ◌/◌, ◌^◌, ℕ, zero, suc, Bool, true, false, cond, ◌==◌, List, [], ◌∷◌, length, map, replicate, nat_lt, Option, Some, None, is_some, unwrap_or, slice_index, slice_set, refl, sym, ap, ◌∙◌, subst, arith, lit<, pow-suc, true≢false}
 use Rattle.std.proofs.Math.Nat.{mod-lt}
 use Rattle.std.proofs.lemmas.Bool.{and_from, eqb-true, lt-ltb, ltb-true}
 use Rattle.std.proofs.lemmas.List.{get_or-map}

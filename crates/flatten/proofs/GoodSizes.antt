@@ -26,20 +26,20 @@ right : (a b : Bool) → (a && b) ≡ true → b ≡ true
 right a b h = (and_parts a b h).1
 
 -- each local in scope has bits
-abbrev Wide : List ℕ → List ℕ → Type 0
+abbrev pub Wide : List ℕ → List ℕ → Type 0
 Wide ws [] = Unit {0}
 Wide ws (x ∷ xs) = (1 ≤ slice_index ws x) × Wide ws xs
 
-wide_in : (ws scope : List ℕ) (x : ℕ) → list_any (λ y. y == x) scope ≡ true → Wide ws scope → 1 ≤ slice_index ws x
+pub wide_in : (ws scope : List ℕ) (x : ℕ) → list_any (λ y. y == x) scope ≡ true → Wide ws scope → 1 ≤ slice_index ws x
 wide_in ws [] x h w = absurd (false≢true h)
 wide_in ws (y ∷ ys) x h w =
     ⊎_elim (λ e. subst (λ z. 1 ≤ slice_index ws z) (eqb-true y x e) w.0) (λ e. wide_in ws ys x e w.1) (or_cases (y == x) (list_any (λ y. y == x) ys) h)
 
-wide_both : (ws xs ys : List ℕ) → Wide ws xs → Wide ws ys → Wide ws (xs ++ ys)
+pub wide_both : (ws xs ys : List ℕ) → Wide ws xs → Wide ws ys → Wide ws (xs ++ ys)
 wide_both ws [] ys p q = q
 wide_both ws (x ∷ xs) ys p q = (p.0, wide_both ws xs ys p.1 q)
 
-field_wide : (f : Field) → 1 ≤ (row f).width
+pub field_wide : (f : Field) → 1 ≤ (row f).width
 field_wide MetaPort = omega arith
 field_wide MetaLen = omega arith
 field_wide HasIp = omega arith
@@ -109,7 +109,7 @@ op_wide Select width ls w h = second_wide ls 1 width (width ∷ []) w h
 op_wide Adjust width ls w h = let e = eqb-true width 16 (left (width == 16) _ h) in omega arith
 
 mutual
-  expr_wide : (ws scope : List ℕ) (e : ExprTree) → Wide ws scope → is_good_expr ws scope e ≡ true → 1 ≤ width_of ws e
+  pub expr_wide : (ws scope : List ℕ) (e : ExprTree) → Wide ws scope → is_good_expr ws scope e ≡ true → 1 ≤ width_of ws e
   expr_wide ws scope (lit value width) w h = leb-true 1 width (left _ _ (left (is_width width) _ h))
   expr_wide ws scope (local x) w h = wide_in ws scope x h w
   expr_wide ws scope (field f) w h = field_wide f
@@ -213,7 +213,7 @@ one_wide : (ws : List ℕ) (x : ℕ) → (slice_index ws x == 1) ≡ true → 1 
 one_wide ws x h = let e = eqb-true (slice_index ws x) 1 h in omega arith
 
 -- what a statement declares has bits
-binds_wide : (m : Tree) (scope : List ℕ) (next : ℕ) (s : StmtTree) → are_good_objects [] m.objects ≡ true → Wide (local_widths m) scope → is_good_stmt m scope next s ≡ true → Wide (local_widths m) (binds s)
+pub binds_wide : (m : Tree) (scope : List ℕ) (next : ℕ) (s : StmtTree) → are_good_objects [] m.objects ≡ true → Wide (local_widths m) scope → is_good_stmt m scope next s ≡ true → Wide (local_widths m) (binds s)
 binds_wide m scope next (let_local x value) good w h =
     let two = left _ _ (left _ _ h) in
     (subst (λ n. 1 ≤ n) (sym (eqb-true (slice_index (local_widths m) x) (width_of (local_widths m) value) (right _ _ two))) (expr_wide (local_widths m) scope value w (left _ _ two)), tt)

@@ -1,5 +1,6 @@
 -- What is given only grows.
-use Rattle.std.proofs.Common.{◌≡◌, ℕ, zero, suc, ◌≤◌, Bool, true, false, List, [], ◌∷◌, length, Option, Some, None, ap, ◌∙◌, subst, arith, length-append, cond}
+use Rattle.std.proofs.Common.{◌≡◌, ℕ, zero, suc, ◌≤◌, ◌<◌, Bool, true, false, List, [], ◌∷◌, length, get_or, Option, Some, None, refl, ap, ◌∙◌, subst, arith, length-append, cond}
+use Rattle.std.proofs.Math.ListN.{get_or-append}
 use Rattle.element_lang.specs.Tree.{ExprTree, Exprs, StmtTree, BodyTree}
 use Rattle.element_lang.specs.Tree.ExprTree.{lit, local, field, byte, shift, apply}
 use Rattle.element_lang.specs.Tree.Exprs.{no_expr, expr}
@@ -8,6 +9,8 @@ use Rattle.element_lang.specs.Tree.BodyTree.{done, stmt}
 use Rattle.element_lang.specs.Widths.{width_of}
 use Rattle.element_lang.specs.Rules.{is_empty}
 use Rattle.flat_ir.specs.declared.program.ValueId.{ValueId}
+use Rattle.flat_ir.specs.declared.program.Block.{Block}
+use Rattle.flat_ir.specs.Blocks.{block_at}
 use Rattle.flat_ir.specs.Program as flat
 use Rattle.flat_ir.specs.Program.{Step, Work}
 use Rattle.flatten.specs.declared.error.FlatError.{FlatError}
@@ -23,15 +26,29 @@ use Rattle.flatten.specs.Pending.{closed}
 abbrev pub size : Given → ℕ
 size g = length g.code
 
--- no instruction is taken back
+abbrev pub blank_step : Step
+blank_step = record { block = 0; looped = false; work = flat.const 1 0 }
+
+abbrev pub blank_block : Block
+blank_block = record { parent = 0; cond = record { instruction = 0; result = 0 }; polarity = true }
+
+-- no instruction and no block is taken back
 pub record Grows (g h : Given) : Type 0 where
   pub longer : size g ≤ size h
+  pub steps : (i : ℕ) → i < size g → get_or h.code i blank_step ≡ get_or g.code i blank_step
+  pub more : length g.blocks ≤ length h.blocks
+  pub blocks : (k : ℕ) → k < length g.blocks → block_at h.blocks k ≡ block_at g.blocks k
 
 pub grows : (g : Given) → Grows g g
-grows g = record { longer = omega arith }
+grows g = record { longer = omega arith; steps = λ i lt. refl; more = omega arith; blocks = λ k lt. refl }
 
 pub then_grows : (f g h : Given) → Grows f g → Grows g h → Grows f h
-then_grows f g h p q = record { longer = omega (arith, p.longer, q.longer) }
+then_grows f g h p q = record {
+  longer = omega (arith, p.longer, q.longer);
+  steps = λ i lt. q.steps i (omega (arith, p.longer, lt)) ∙ p.steps i lt;
+  more = omega (arith, p.more, q.more);
+  blocks = λ k lt. q.blocks k (omega (arith, p.more, lt)) ∙ p.blocks k lt;
+}
 
 -- what is too large stays so
 pub over_later : (g h : Given) (e : FlatError) → Grows g h → IsOver g e → IsOver h e
@@ -39,10 +56,14 @@ over_later g h TooLarge p over = omega (arith, p.longer, over)
 over_later g h NoMemory p over = tt
 
 pub emit_grows : (p : Place) (work : Work) (g : Given) → Grows g (emit p work g)
-emit_grows p work g = record { longer = omega (arith, length-append g.code (record { block = p.block; looped = p.looped; work = work } ∷ [])) }
+emit_grows p work g =
+    let last : List Step = record { block = p.block; looped = p.looped; work = work } ∷ [] in
+    record { longer = omega (arith, length-append g.code last); steps = λ i lt. get_or-append g.code last blank_step i lt; more = omega arith; blocks = λ k lt. refl }
 
 pub open_grows : (p : Place) (cond : ValueId) (polarity : Bool) (g : Given) → Grows g (opened p cond polarity g)
-open_grows p cond polarity g = record { longer = omega arith }
+open_grows p cond polarity g =
+    let last : List Block = record { parent = p.block; cond = cond; polarity = polarity } ∷ [] in
+    record { longer = omega arith; steps = λ i lt. refl; more = omega (arith, length-append g.blocks last); blocks = λ k lt. get_or-append g.blocks last blank_block k lt }
 
 mutual
   pub expr_grows : (ws : List ℕ) (p : Place) (w : View) (e : ExprTree) (g : Given) → Grows g (flat_expr ws p w e g).given
@@ -126,7 +147,7 @@ closed_grows ws (p ∷ ps) r =
 abbrev pub Growing : Flattener → Type 0
 Growing go = (p : Place) (g : Given) (w : View) → Grows g (go p g w).given
 
-go_on_grows : (ws : List ℕ) (ended : Ending) (go : Flattener) → Growing go → (p : Place) (g : Given) (w : View) → Grows g (go_on ws ended p go g w).given
+pub go_on_grows : (ws : List ℕ) (ended : Ending) (go : Flattener) → Growing go → (p : Place) (g : Given) (w : View) → Grows g (go_on ws ended p go g w).given
 go_on_grows ws No go ok p g w = ok p g w
 go_on_grows ws Yes go ok p g w = grows g
 go_on_grows ws (Maybe v) go ok p g w =
@@ -150,7 +171,7 @@ turns_grow ws zero i x go ok p g w = grows g
 turns_grow ws (suc n) i x go ok p g w =
     in_order_grows ws (flat_turn i x go) (flat_turns ws n (suc i) x go) (turn_grows i x go ok) (turns_grow ws n (suc i) x go ok) p g w
 
-second_grows : (empty : Bool) (p : Place) (v : ValueId) (go : Flattener) → Growing go → (g : Given) (w : View) → Grows g (second_side empty p v go g w).given
+pub second_grows : (empty : Bool) (p : Place) (v : ValueId) (go : Flattener) → Growing go → (g : Given) (w : View) → Grows g (second_side empty p v go g w).given
 second_grows true p v go ok g w = grows g
 second_grows false p v go ok g w =
     let o = opened p v false g in
@@ -164,7 +185,7 @@ choice_grows ws p g c a b pc pa pb =
     (then_grows c.given o j.given (open_grows p c.id true c.given)
     (then_grows o a.given j.given pa (then_grows a.given b.given j.given pb (join_grows ws p c.id a.view b))))
 
-give_more : (p : Place) (work : Work) (g h : Given) → Grows g h → Grows g (emit p work h)
+pub give_more : (p : Place) (work : Work) (g h : Given) → Grows g h → Grows g (emit p work h)
 give_more p work g h q = then_grows g h (emit p work h) q (emit_grows p work h)
 
 mutual

@@ -1,8 +1,6 @@
 -- A run of a middlebox that keeps the rules leaves a store that keeps what was declared.
 use Rattle.std.proofs.Common.{◌≡◌, ◌≤◌, ◌<◌, ◌+◌, ◌^◌, ◌==◌, ℕ, zero, suc, Bool, true, false, cond, not, ◌&&◌, List, [], ◌∷◌, ◌++◌, length, nat_le, map, replicate, Option, Some, None, is_some, unwrap_or, slice_get, slice_index, slice_set, refl, sym, subst, arith, lit<, true≢false}
-use Rattle.std.specs.List.{All}
 use Rattle.std.proofs.lemmas.Bool.{cond_both, eqb-true, leb-true, ltb-true}
-use Rattle.std.proofs.lemmas.List.Elements.{All-head, All-tail}
 use Rattle.packet_fields.specs.Table.{field_index}
 use Rattle.packet_fields.specs.declared.packet.Packet.{Packet}
 use Rattle.state_store.specs.declared.object.ObjectDecl.{ObjectDecl}
@@ -16,14 +14,13 @@ use Rattle.element_lang.specs.Tree.StmtTree.{let_local, assign, set_field, look,
 use Rattle.element_lang.specs.Tree.BodyTree.{done, stmt}
 use Rattle.element_lang.specs.Widths.{local_widths, width_of}
 use Rattle.state_store.specs.Kinds.{is_table}
-use Rattle.element_lang.specs.Rules.{widths_of, same_widths, is_good_expr, are_good_exprs, is_good_stmt, is_good_body, is_good, fits_keys, fits_values, can_put, can_del, is_count, declared_in, declared_by, binds}
-use Rattle.element_lang.specs.Meaning.{State, Outcome, Running, Ended, then_do, bit, bind_from, value_of, values_of, looked, stored, bound, deleted, turns, do_stmt, do_body, start_state, store_after, source_store, serial_store}
+use Rattle.element_lang.specs.Rules.{widths_of, same_widths, is_good_expr, are_good_exprs, is_good_stmt, is_good_body, fits_keys, fits_values, can_put, can_del, is_count, declared_in, declared_by, binds}
+use Rattle.element_lang.specs.Meaning.{State, Outcome, Running, Ended, then_do, bit, bind_from, value_of, values_of, looked, stored, bound, deleted, turns, do_stmt, do_body, start_state, store_after}
 use Rattle.flat_ir.specs.Arrivals.{IsArrival}
 use Rattle.flatten.specs.Flatten.{field_widths}
 use Rattle.flatten.proofs.KeptObjects.{put_is_kept, del_is_kept}
 use Rattle.flatten.proofs.BothParts.{left, right}
 use Rattle.flatten.proofs.Fitting.{AtWidths, at_widths, one_width, same_list, at_place, zero_at, operator_fits, fields_fit, field_assigned, field_width_at}
-use Rattle.packet_fields.specs.declared.packet.TheConstants.{MAX_PACKET_BYTES}
 
 -- the variables of a run fit what was declared of them
 pub record Fits (m : Tree) (s : State) : Type 0 where

@@ -14,6 +14,9 @@ pub mod Meanings
 pub mod Writes
 pub mod Written
 pub mod Whole
+pub mod Forming
+pub mod Formed
+pub mod FormedWhole
 pub mod BitRows
 pub mod FieldList
 pub mod Places

@@ -30,12 +30,12 @@ use Rattle.flat_ir.specs.declared.program.Block.{Block}
 use Rattle.flat_ir.specs.Program as flat
 use Rattle.flat_ir.specs.Program.{Program, Step, Work, step_at}
 use Rattle.flat_ir.specs.Program.Work.{const, field, apply, shift, select, byte, look, put, del}
-use Rattle.flat_ir.specs.Blocks.{Reading, is_on, same, block_at, line, line_up, holds, is_live, HasLowParents}
+use Rattle.flat_ir.specs.Blocks.{Reading, is_on, same, block_at, line_up, holds, is_live, HasLowParents}
 use Rattle.flat_ir.specs.Run.{Machine, Change, after, do_step, results, with_results, made, change_of, put_change, del_change, with_changes, start}
 use Rattle.flatten.specs.declared.place.Place.{Place}
 use Rattle.flatten.specs.declared.place.Ending.{Ending}
 use Rattle.flatten.specs.declared.place.Ending.TheVariants.{No, Yes, Maybe}
-use Rattle.flatten.specs.Flatten.{Given, View, At, Valued, Listed, Scoped, Merged, EndedAt, Flattener, result_of, nought, one, nought_port, emit, give, opened, below, operation, same_id, merge_id, merge_option, merge_ids, field_widths, merge, merge_ended, ended_id, ends, select_ended, with_ended, join, follow, go_on, in_order, flat_expr, flat_exprs, bound, bound_to, assigned, finished, leave, looping, second_side, flat_turn, flat_turns, flat_stmt, flat_body}
+use Rattle.flatten.specs.Flatten.{Given, View, At, Valued, Listed, Scoped, Merged, EndedAt, Flattener, result_of, nought, one, nought_port, emit, give, opened, below, operation, same_id, merge_id, merge_option, merge_ids, field_widths, merge_ended, ended_id, ends, select_ended, join, go_on, in_order, flat_expr, flat_exprs, bound, bound_to, assigned, finished, leave, looping, second_side, flat_turn, flat_turns, flat_stmt, flat_body}
 use Rattle.flatten.specs.Occurs.{same_field, is_in_expr, is_in_exprs, is_in_stmt, is_in_body}
 use Rattle.flatten.proofs.BothParts.{left, right}
 use Rattle.flatten.proofs.Views.{Below, InRange, Meets, Agree, HasId, IsThere, range_more, range_at, range_set, meets_more, agree_more, agree_at, agree_set, there_set, there_new, Knows, known_at, knows_later, range_scope, agree_scope, there_scope}
@@ -97,11 +97,11 @@ set_own i rs reads v e = cond-true (v.instruction == i) (slice_index rs v.result
 zero_one : (n : ℕ) → n ≡ 0 → n ≡ 1 → ⊥
 zero_one n e e' = omega (arith, e, e')
 
-or_left : (a b : Bool) → a ≡ true → (a || b) ≡ true
+pub or_left : (a b : Bool) → a ≡ true → (a || b) ≡ true
 or_left true b e = refl
 or_left false b e = absurd (true≢false (sym e))
 
-or_right : (a b : Bool) → b ≡ true → (a || b) ≡ true
+pub or_right : (a b : Bool) → b ≡ true → (a || b) ≡ true
 or_right true b e = refl
 or_right false b e = e
 
@@ -148,14 +148,14 @@ made_none : (live : Bool) → made live None ≡ []
 made_none true = refl
 made_none false = refl
 
-same_ids : (a b : ValueId) → same_id a b ≡ true → a ≡ b
+pub same_ids : (a b : ValueId) → same_id a b ≡ true → a ≡ b
 same_ids a b e =
     let parts = and_parts (a.instruction == b.instruction) (a.result == b.result) e in
     let first : a.instruction ≡ b.instruction = eqb-true a.instruction b.instruction parts.0 in
     let second : a.result ≡ b.result = eqb-true a.result b.result parts.1 in
     ap (λ i. result_of i a.result) first ∙ ap (λ j. result_of b.instruction j) second
 
-same_itself : (a : ValueId) → same_id a a ≡ true
+pub same_itself : (a : ValueId) → same_id a a ≡ true
 same_itself a = ap (λ t. t && a.result == a.result) (eq-eqb a.instruction a.instruction refl) ∙ eq-eqb a.result a.result refl
 
 -- ## Locals that have the results of an instruction

@@ -1,18 +1,16 @@
 -- What the fields of a packet say after one of them is set.
-use Rattle.std.proofs.Common.{◌≡◌, ◌≢◌, ℕ, ◌+◌, ◌*◌, ◌^◌, ◌<◌, ◌≤◌, ◌⊎◌, Bool, true, false, List, length, refl, sym, ap, ◌∙◌, inl, inr, arith, lit<, Option, Some, None, is_some, unwrap_or, cond}
+use Rattle.std.proofs.Common.{◌≡◌, ◌≢◌, ℕ, ◌+◌, ◌*◌, ◌≤◌, ◌⊎◌, true, false, List, length, refl, sym, ap, ◌∙◌, inl, inr, arith, Option, Some, None, unwrap_or}
 use Rattle.std.proofs.lemmas.Bool.{true≢false}
-use Rattle.std.proofs.lemmas.Nat.{pow_pos}
 use Rattle.std.specs.Option.{option_map}
 use Rattle.packet_fields.specs.declared.field.Field.{Field}
-use Rattle.packet_fields.specs.declared.field.Field.TheVariants.{MetaPort, MetaLen, HasIp, HasTcp, HasUdp, EthType, IpVersion, IpIhl, IpFrag, IpProto}
+use Rattle.packet_fields.specs.declared.field.Field.TheVariants.{EthType, IpVersion, IpIhl, IpFrag, IpProto}
 use Rattle.packet_fields.specs.declared.shape.Shape.{Shape}
 use Rattle.packet_fields.specs.Bits.{number_at, with_number_at}
 use Rattle.packet_fields.specs.Fields.{place, meta_value, field_value, with_field}
-use Rattle.packet_fields.specs.Shape.{outline_of, in_header, shape_from, shape_of, start_of}
+use Rattle.packet_fields.specs.Shape.{outline_of, in_header, shape_from, shape_of}
 use Rattle.packet_fields.specs.Table.{row}
-use Rattle.flatten.proofs.BitRows.{length-with_number_at, number_at-with_same, number_at-with_apart}
-use Rattle.flatten.proofs.Places.{Stands, stands_in, Spot, spot, is_at, fields_apart, header_ends, place_within, none_overlap}
-use Rattle.packet_fields.specs.Sizes.{largest_packet}
+use Rattle.flatten.proofs.BitRows.{length-with_number_at, number_at-with_apart}
+use Rattle.flatten.proofs.Places.{Stands, stands_in, Spot, spot, is_at, fields_apart, none_overlap}
 
 -- ---- a field set at its place
 pub value_there : (bytes : List ℕ) (port : ℕ) (f : Field) (first : ℕ) → place (shape_of bytes) f ≡ Some first → field_value bytes port f ≡ number_at bytes first (row f).width

@@ -1,12 +1,11 @@
 -- A flat program means what its middlebox means.
-use Rattle.std.proofs.Common.{◌≡◌, ℕ, zero, suc, ◌-◌, ◌<◌, ◌≤◌, ◌^◌, ◌%◌, ◌==◌, Bool, true, false, ◌&&◌, List, [], ◌∷◌, map, length, replicate, get_or, Option, Some, None, refl, sym, ap, ◌∙◌, subst, arith, slice_index, lit<, true≢false, if◌then◌else◌, ⊎_elim}
+use Rattle.std.proofs.Common.{◌≡◌, ℕ, zero, suc, ◌-◌, ◌<◌, ◌^◌, ◌%◌, ◌==◌, Bool, true, false, List, [], ◌∷◌, map, length, replicate, get_or, Option, None, refl, sym, ap, ◌∙◌, subst, arith, slice_index, lit<, true≢false, if◌then◌else◌, ⊎_elim}
 use Rattle.std.proofs.Math.Nat.{mod-eq_of_lt}
 use Rattle.std.proofs.lemmas.Bool.{cases_Bool}
 use Rattle.std.proofs.lemmas.List.{get_or-map, length-map}
 use Rattle.packet_fields.specs.declared.field.Field.{Field}
 use Rattle.packet_fields.specs.declared.field.Field.TheVariants.{MetaPort}
 use Rattle.packet_fields.specs.declared.packet.Packet.{Packet}
-use Rattle.packet_fields.specs.declared.verdict.Verdict.{Verdict}
 use Rattle.packet_fields.specs.declared.verdict.Verdict.TheVariants.{Drop, Send}
 use Rattle.packet_fields.specs.Table.{row, all_fields, field_index}
 use Rattle.packet_fields.specs.Fields.{field_value}
@@ -15,22 +14,21 @@ use Rattle.state_store.specs.Store.{Store}
 use Rattle.element_lang.specs.Tree.{BodyTree, Tree}
 use Rattle.element_lang.specs.Widths.{local_widths}
 use Rattle.element_lang.specs.Rules.{is_good}
-use Rattle.element_lang.specs.Meaning.{State, Outcome, Running, Ended, with_fields, do_body, start_state, store_after, verdict_after, source_run, source_store, source_verdict}
+use Rattle.element_lang.specs.Meaning.{Outcome, Running, Ended, do_body, start_state, store_after, verdict_after, source_run, source_store, source_verdict}
 use Rattle.flat_ir.specs.declared.program.ValueId.{ValueId}
-use Rattle.flat_ir.specs.declared.program.Block.{Block}
 use Rattle.flat_ir.specs.Arrivals.{IsArrival}
 use Rattle.flat_ir.specs.Program as flat
 use Rattle.flat_ir.specs.Program.{Program}
 use Rattle.flat_ir.specs.Blocks.{Reading, block_at, HasLowParents}
 use Rattle.flat_ir.specs.Run.{with_writes, verdict, flat_store, flat_verdict}
-use Rattle.flatten.specs.Flatten.{Given, View, At, Scoped, Merged, nought, one, emit, root, constants, give_field, give_fields, arrived, start_view, end_of, flat_of, field_widths, all_changed}
+use Rattle.flatten.specs.Flatten.{Given, Scoped, Merged, nought, one, emit, root, constants, give_field, give_fields, arrived, start_view, end_of, flat_of, field_widths, all_changed}
 use Rattle.flatten.specs.Occurs.{is_in_body}
 use Rattle.flatten.proofs.BothParts.{right}
 use Rattle.flatten.proofs.FieldOrder.{at_index, index-lt, length-all_fields}
 use Rattle.flatten.proofs.Views.{Below, InRange, Meets, Agree, HasId, IsThere, below_more, meets_more, agree_more, range_none, agree_none}
-use Rattle.flatten.proofs.KeptRuns.{Fits, start_fits}
-use Rattle.flatten.proofs.Meanings.{run, get, Grows, grows_refl, grows_trans, grows_emit, emit_length, emit_reads, emit_still, InBlocks, here_root, Based, based_later, Within, Keeps, Shown, Going, Leaves, Stands, Sound, Carried, body_sound}
-use Rattle.flatten.proofs.Written.{AreBytes, FieldsStandAlone, IsPlace, HasPlaces, all_counted, written_all}
+use Rattle.flatten.proofs.KeptRuns.{start_fits}
+use Rattle.flatten.proofs.Meanings.{run, get, Grows, grows_refl, grows_trans, grows_emit, emit_length, emit_reads, emit_still, here_root, Based, based_later, Within, Shown, Going, Leaves, Stands, Sound, body_sound}
+use Rattle.flatten.proofs.Written.{FieldsStandAlone, IsPlace, HasPlaces, all_counted, written_all}
 
 -- ## The fields as they arrive
 

@@ -8,6 +8,7 @@ ghost use Rattle.element_lang.specs.Rules.{is_good};
 ghost use Rattle.element_lang.specs.Meaning.{source_store, source_verdict};
 ghost use Rattle.flat_ir.specs.Arrivals.{IsArrival};
 ghost use Rattle.flat_ir.specs.Run.{flat_store, flat_verdict};
+ghost use Rattle.flat_ir.specs.WellFormed.{IsWellFormed};
 ghost use Rattle.flatten.specs.Flatten.{flat_of};
 
 /// The flat program of a middlebox leaves the store that the middlebox leaves, and does with the packet what it does: from
@@ -19,4 +20,10 @@ pub fn flattening_keeps_the_meaning()
     ensures verdict { (m : Tree) (st : Store) (packet : Packet)
         → IsTrue (is_good m) → IsKept m.objects st → IsArrival packet
         → flat_verdict (flat_of m) st packet ≡ source_verdict m st packet }
+{}
+
+/// The flat program of a middlebox is well formed: what an instruction names is there, comes before it and fits it, and
+/// stands in its block or above that. This does nothing: its contract is the law.
+pub fn flattened_is_well_formed()
+    ensures { (m : Tree) → IsTrue (is_good m) → IsWellFormed (flat_of m) }
 {}

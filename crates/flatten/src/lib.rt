@@ -18,6 +18,6 @@ mod tests;
 mod value;
 
 pub use error::FlatError;
-pub use laws::flattening_keeps_the_meaning;
+pub use laws::{flattened_is_well_formed, flattening_keeps_the_meaning};
 pub use program::flatten;
 pub use sizes::MAX_INSTRUCTIONS;

@@ -6,6 +6,7 @@ ghost use Rattle.element_lang.specs.View.{body_tree, tree};
 ghost use Rattle.element_lang.specs.Rules.{is_good};
 ghost use Rattle.flat_ir.specs.Program.{program_of, step_of};
 ghost use Rattle.flat_ir.specs.Program.Work.{const};
+ghost use Rattle.flat_ir.specs.WellFormed.{IsWellFormed};
 ghost use Rattle.flatten.specs.Flatten as pure;
 ghost use Rattle.flatten.specs.Occurs.{is_in_body};
 ghost use Rattle.flatten.specs.Pending.{scoped};
@@ -15,7 +16,7 @@ ghost use Rattle.flatten.specs.declared.error.FlatError.TheVariants.{TooLarge};
 
 use crate::error::FlatError;
 use crate::frame::Frame;
-use crate::laws::flattening_keeps_the_meaning;
+use crate::laws::{flattened_is_well_formed, flattening_keeps_the_meaning};
 use crate::occurs::Seen;
 use crate::output::Output;
 use crate::place::{Ending, Place};
@@ -171,7 +172,10 @@ pub fn flatten(alloc: Global, m: &Middlebox) -> Result<Flat, FlatError>
     ensures large { IfErr result (λ error.
         error ≡ TooLarge → 4096 < length (pure.flat_of (tree m.now)).code) }
     ensures meaning { IfOk result (λ f. MeansTheSame (program_of f) (tree m.now)) }
+    ensures formed { IfOk result (λ f. IsWellFormed (program_of f)) }
+    ensures objects { IfOk result (λ f. (program_of f).objects ≡ (tree m.now).objects) }
 {
     flattening_keeps_the_meaning();
+    flattened_is_well_formed();
     built(alloc, m)
 }

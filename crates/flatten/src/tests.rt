@@ -1,10 +1,13 @@
 //! What no clause can say: that calls succeed with ample memory, on listings from outside.
-ghost use Rattle.std.specs.Prelude.{◌≡◌, ◌≤◌, ◌∷◌, [], IfOk, IsTrue};
+ghost use Rattle.std.specs.Prelude.{◌≡◌, ◌≤◌, ◌<◌, ◌+◌, ◌∷◌, [], IfOk, IsTrue, nat_lt, if◌then◌else◌};
 ghost use Rattle.state_store.specs.declared.object.Kind.TheVariants.{Map};
-ghost use Rattle.element_lang.specs.View.{tree};
+ghost use Rattle.element_lang.specs.Tree.ExprTree.{lit};
+ghost use Rattle.element_lang.specs.Tree.StmtTree.{let_local, repeat};
+ghost use Rattle.element_lang.specs.Tree.BodyTree.{done, stmt};
+ghost use Rattle.element_lang.specs.View.{stmt_tree, tree};
 ghost use Rattle.element_lang.specs.Rules.{is_good};
 
-use crate::flatten;
+use crate::{FlatError, flatten};
 use element_lang::{Expr, Local, Locals, Middlebox, Stmt};
 use flat_ir::{is_well_formed, print_flat};
 use gal_bits::{Op, Width, Widths};
@@ -182,4 +185,83 @@ fn lists_a_put_in_a_block(rt: HostRuntime) -> Result<(), Fail> {
     let text = print_flat(alloc, &f)?;
     assert_eq!(rt; text.as_slice(), GUARDED.as_bytes());
     Ok(())
+}
+
+// `let a = 1:8;`
+fn one(local: u32) -> Stmt
+    ensures { stmt_tree result ≡ let_local local (lit 1 8) }
+{
+    Stmt::Let {
+        local,
+        value: Expr::Lit(1, bits(8)),
+    }
+}
+
+// `repeat i COUNT { let a = 1:8; }`: two instructions a turn.
+fn turns(alloc: Global, index: u32, count: u8) -> Result<Stmt, Fail>
+    requires few { index < 100 }
+    ensures { IfOk result (λ made. stmt_tree made ≡ repeat index count (stmt (let_local (index + 1) (lit 1 8)) done)) }
+{
+    Ok(Stmt::Repeat {
+        index,
+        count,
+        body: vec![in alloc; one(index + 1)]?,
+    })
+}
+
+fn count_of(number: u32) -> u8
+    ensures { result ≡ if nat_lt number 31 then 64 else 62 }
+{
+    if number < 31 { 64 } else { 62 }
+}
+
+// 31 times `repeat i 64 { let a = 1:8; }`, once `repeat i 62 { let a = 1:8; }`, and `let z = 1:8;`. With the constants
+// that come first these are 3 + 31 * 128 + 124 + 1 instructions. `let y = 1:8;` makes one more.
+fn filled(alloc: Global, more: bool) -> Result<Middlebox, Fail>
+    ensures { IfOk result (λ m. IsTrue (is_good (tree m))) }
+{
+    let byte = bits(8);
+    let mut locals = Locals::new(alloc);
+    let mut body = Vec::new(alloc);
+    for number in 0..32 {
+        locals.push(local(alloc, b"i", bits(32))?)?;
+        locals.push(local(alloc, b"a", byte)?)?;
+        body.push(turns(alloc, 2 * number, count_of(number))?)?;
+    }
+    locals.push(local(alloc, b"z", byte)?)?;
+    body.push(one(64))?;
+    if more {
+        locals.push(local(alloc, b"y", byte)?)?;
+        body.push(one(65))?;
+        return Ok(Middlebox {
+            objects: Objects::new(alloc),
+            locals,
+            body,
+        });
+    }
+    Ok(Middlebox {
+        objects: Objects::new(alloc),
+        locals,
+        body,
+    })
+}
+
+#[test]
+fn takes_4096_instructions(rt: HostRuntime) -> Result<(), Fail> {
+    let alloc = rt.alloc();
+    let f = flatten(alloc, &filled(alloc, false)?)?;
+    assert_eq!(rt; f.code.len(), 4_096);
+    Ok(())
+}
+
+#[test]
+fn refuses_4097_instructions(rt: HostRuntime) -> Result<(), Fail> {
+    let alloc = rt.alloc();
+    match flatten(alloc, &filled(alloc, true)?) {
+        Ok(_) => Err(Fail::from("accepted")),
+        Err(error) => {
+            assert_eq!(rt; error, FlatError::TooLarge);
+            Ok(())
+        }
+    }
 }

@@ -1,13 +1,19 @@
 //! What a split takes of the switch.
-ghost use Rattle.std.specs.Prelude.{◌≡◌, ◌≤◌, length, IfOk};
+ghost use Rattle.std.specs.Prelude.{◌≡◌, ℕ, ◌+◌, ◌<◌, ◌≤◌, ◌^◌, length, slice_index, All, IfOk};
+ghost use Rattle.state_store.specs.Kinds.{is_table};
 ghost use Rattle.flat_ir.specs.Program.{program_of};
-ghost use Rattle.split_model.specs.Bounds.{IsBounded};
-ghost use Rattle.resource_limits.specs.Counts.{counts_of};
+ghost use Rattle.split_model.specs.Bounds.{IsBounded, IsSmall};
+ghost use Rattle.split_model.specs.Counts.{layout_bytes, stage_or_zero, stages, sum_of, transfer_bytes};
+ghost use Rattle.resource_limits.specs.Counts.{counts_of, first_numbers};
+ghost use Rattle.resource_limits.specs.Uses.{told_at, told_of, TakeBits, TakesBits};
 
 use crate::tally::Tally;
+use crate::uses::{Use, tally};
 use flat_ir::Flat;
+use gal_bits::Widths;
 use gal_io::NoMemory;
-use split_model::Split;
+use split_model::{Layout, Split, down_layout, up_layout};
+use state_store::{Kind, ObjectDecl};
 use std::alloc::Global;
 
 /// What a split takes of the switch.
@@ -40,12 +46,163 @@ impl Counts {
     }
 }
 
+// A stage, or 0 where there is none.
+fn or_zero(stage: Option<u32>) -> u32
+    ensures { result ≡ stage_or_zero stage }
+{
+    stage.unwrap_or(0)
+}
+
+// The highest stage of either pass.
+fn stages(f: &Flat, s: &Split) -> u32
+    ensures { result ≡ stages (program_of f.now) s.now }
+{
+    let mut highest = 0;
+    for i in 0..f.code.len() {
+        let before = or_zero(s.stage_before(i));
+        let after = or_zero(s.stage_after(i));
+        highest = highest.max(before.max(after));
+    }
+    highest
+}
+
+// For each object, how often the two passes look it up.
+fn sums(alloc: Global, before: &[u32], after: &[u32]) -> Result<Tally, NoMemory>
+    requires few { length before.now < 2 ^ 32 }
+    requires same { length before.now ≡ length after.now }
+    requires low { (o : ℕ) → slice_index before.now o + slice_index after.now o < 2 ^ 32 }
+    ensures { IfOk result (λ made. made ≡ first_numbers (length before.now) (λ o. slice_index before.now o + slice_index after.now o)) }
+{
+    let mut sums = Vec::with_capacity(alloc, before.len())?;
+    for o in 0..before.len() {
+        sums.push(before[o] + after[o])?;
+    }
+    Ok(Tally::of(sums))
+}
+
+// Whether an object of this kind never changes.
+fn is_table(kind: Kind) -> bool
+    ensures { result ≡ is_table kind }
+{
+    match kind {
+        Kind::Table => true,
+        Kind::Map | Kind::Vector | Kind::Int => false,
+    }
+}
+
+// The changes of an object of this kind, where preprocessing looks it up and it isn't a constant table.
+fn told_of(kind: Kind, looks: u32, changes: u32) -> u32
+    ensures { result ≡ told_of kind looks changes }
+{
+    if is_table(kind) || looks == 0 {
+        0
+    } else {
+        changes
+    }
+}
+
+// For each object, its changes where the switch has to be told of them.
+fn told(
+    alloc: Global,
+    objects: &[ObjectDecl],
+    before: &[u32],
+    changes: &[u32],
+) -> Result<Tally, NoMemory>
+    requires few { length objects.now < 2 ^ 32 }
+    requires same { length before.now ≡ length objects.now }
+    requires same_changes { length changes.now ≡ length objects.now }
+    ensures { IfOk result (λ made. made ≡ first_numbers (length objects.now) (λ o. told_at objects.now before.now changes.now o)) }
+{
+    let mut told = Vec::with_capacity(alloc, objects.len())?;
+    for o in 0..objects.len() {
+        told.push(told_of(objects[o].kind, before[o], changes[o]))?;
+    }
+    Ok(Tally::of(told))
+}
+
+// The bits of one row of these widths.
+fn bits_of(widths: &Widths) -> u64
+    requires { sum_of widths.now ≤ 128 }
+    ensures { result ≡ sum_of widths.now }
+{
+    let mut bits = 0;
+    for width in widths.as_slice() {
+        bits += *width;
+    }
+    bits
+}
+
+// The bits of an object's tables on the switch, by whether preprocessing and postprocessing look it up.
+fn object_bits(d: &ObjectDecl, before: bool, after: bool, writeback: u32) -> u64
+    requires small { IsSmall d.now }
+    requires writeback { writeback ≤ 65536 }
+    ensures low { result ≤ 2 ^ 30 }
+    ensures exact { TakesBits d.now before after writeback result }
+{
+    let bits = bits_of(&d.keys) + bits_of(&d.values);
+    let rows = u64::from(d.size) * bits;
+    if is_table(d.kind) {
+        if before || after { rows } else { 0 }
+    } else if before {
+        rows + u64::from(writeback) * (bits + 1)
+    } else {
+        0
+    }
+}
+
+// The bits of all tables on the switch.
+fn table_bits(objects: &[ObjectDecl], before: &[u32], after: &[u32], writeback: u32) -> u64
+    requires few { length objects.now ≤ 64 }
+    requires small { All IsSmall objects.now }
+    requires writeback { writeback ≤ 65536 }
+    requires same { length before.now ≡ length objects.now }
+    requires same_after { length after.now ≡ length objects.now }
+    ensures { TakeBits objects.now before.now after.now writeback result }
+{
+    let mut bits = 0;
+    for o in 0..objects.len() {
+        bits += object_bits(&objects[o], before[o] > 0, after[o] > 0, writeback);
+    }
+    bits
+}
+
+// The bytes of the longer header, up or down.
+fn transfer_bytes(alloc: Global, f: &Flat, s: &Split) -> Result<u32, NoMemory>
+    requires bounded { IsBounded (program_of f.now) }
+    ensures { IfOk result (λ bytes. bytes ≡ transfer_bytes (program_of f.now) s.now) }
+{
+    let up = layout_bytes(&up_layout(alloc, f, s)?);
+    let down = layout_bytes(&down_layout(alloc, f, s)?);
+    Ok(up.max(down))
+}
+
+// The bytes that hold a layout's values.
+fn layout_bytes(layout: &Layout) -> u32
+    requires few { length layout.now < 2 ^ 26 }
+    ensures { result ≡ layout_bytes layout.now }
+{
+    let mut bits = 7u32;
+    for crossing in layout.as_slice() {
+        bits += crossing.width.bits();
+    }
+    bits / 8
+}
+
 /// What a split takes of the switch, where each write-back table has room for so many rows.
 pub fn count(alloc: Global, f: &Flat, s: &Split, writeback: u32) -> Result<Counts, NoMemory>
     requires bounded { IsBounded (program_of f.now) }
-    requires parts { length s.now ≡ length f.now.code }
     requires writeback { writeback ≤ 65536 }
     ensures { IfOk result (λ counts. counts ≡ counts_of (program_of f.now) s.now writeback) }
 {
-    Err(NoMemory)
+    let objects = f.objects.as_slice();
+    let before = tally(alloc, f, s, Use::Before)?;
+    let after = tally(alloc, f, s, Use::After)?;
+    let changes = tally(alloc, f, s, Use::Change)?;
+    Ok(Counts {
+        accesses: sums(alloc, &before, &after)?,
+        stages: stages(f, s),
+        table_bits: table_bits(objects, &before, &after, writeback),
+        writes: told(alloc, objects, &before, &changes)?,
+        transfer_bytes: transfer_bytes(alloc, f, s)?,
+    })
 }

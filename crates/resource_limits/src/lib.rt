@@ -6,6 +6,7 @@ mod exceeding;
 mod limits;
 mod reader;
 mod tally;
+mod uses;
 
 pub use counting::{Counts, count};
 pub use exceeding::{LimitName, Over, first_exceeded};

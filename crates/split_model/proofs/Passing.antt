@@ -1,6 +1,7 @@
 -- Tests that some number below a bound passes.
-use Rattle.std.proofs.Common.{◌≡◌, ℕ, zero, suc, ◌<◌, Bool, true, false, ◌&&◌, ◌||◌, ◌⊎◌, inl, inr, refl, ap, sym, ◌∙◌, arith}
+use Rattle.std.proofs.Common.{◌≡◌, ℕ, zero, suc, ◌+◌, ◌<◌, Bool, true, false, ◌&&◌, ◌||◌, ◌⊎◌, inl, inr, refl, ap, sym, ◌∙◌, arith, add-one}
 use Rattle.std.specs.Prelude.{nat_lt}
+use Rattle.std.proofs.lemmas.Bool.{or_left, or_right, or_cases}
 use Rattle.std.proofs.lemmas.Bool.Decides.{nat_tests}
 use Rattle.split_model.specs.Split.{any_below}
 
@@ -10,23 +11,7 @@ lt_true i k h = grind (arith, nat_tests)
 pub true_lt : (i k : ℕ) → i < k → nat_lt i k ≡ true
 true_lt i k h = grind (arith, nat_tests)
 
-pub or_left : (a b : Bool) → a ≡ true → (a || b) ≡ true
-or_left true b h = refl
-or_left false b h = cc
-
-pub or_right : (a b : Bool) → b ≡ true → (a || b) ≡ true
-or_right true b h = refl
-or_right false b h = h
-
-pub or_none : (a b : Bool) → a ≡ false → b ≡ false → (a || b) ≡ false
-or_none true b p q = cc
-or_none false b p q = q
-
-pub or_cases : (a b : Bool) → (a || b) ≡ true → (a ≡ true) ⊎ (b ≡ true)
-or_cases true b h = inl refl
-or_cases false b h = inr h
-
-pub under_suc : (i n : ℕ) → i < suc n → (i < n) ⊎ (i ≡ n)
+under_suc : (i n : ℕ) → i < suc n → (i < n) ⊎ (i ≡ n)
 under_suc i zero h = inr (omega arith)
 under_suc zero (suc n) h = inl (omega arith)
 under_suc (suc i) (suc n) h = elim (under_suc i n (omega arith)) [ inl p ↦ inl (omega arith) | inr q ↦ inr (ap suc q) ]
@@ -38,6 +23,21 @@ any_passes (suc n) test i h t = elim (under_suc i n h) [
   | inr e ↦ or_right (any_below n test) (test n) (ap test (sym e) ∙ t)
 ]
 
-pub both : (a b : Bool) → a ≡ true → b ≡ true → (a && b) ≡ true
-both true b p q = q
-both false b p q = cc
+-- a number below the bound that passes
+pub passes_any : (n : ℕ) (test : ℕ → Bool) → any_below n test ≡ true → (i : ℕ) × (i < n) × (test i ≡ true)
+passes_any zero test h = cc
+passes_any (suc n) test h = elim (or_cases (any_below n test) (test n) h) [
+  | inl p ↦ let found = passes_any n test p in (found.0, omega (arith, found.1), found.2)
+  | inr q ↦ (n, omega arith, q)
+]
+
+pub any_more : (n : ℕ) (test : ℕ → Bool) → (any_below n test || test n) ≡ any_below (n + 1) test
+any_more n test = ap (λ m. any_below m test) (sym (add-one n))
+
+pub or_assoc : (a b c : Bool) → ((a || b) || c) ≡ (a || (b || c))
+or_assoc true b c = refl
+or_assoc false b c = refl
+
+pub with_true : (a b : Bool) → a ≡ true → b ≡ (a && b)
+with_true true b h = refl
+with_true false b h = cc

@@ -7,3 +7,5 @@ pub mod Counts
 pub mod Bounds
 pub mod Passes
 pub mod Laws
+pub mod Greatest
+pub mod Marked

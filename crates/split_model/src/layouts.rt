@@ -1,30 +1,219 @@
 //! Which values are handed up and down.
-ghost use Rattle.std.specs.Prelude.{◌≡◌, ◌<◌, ◌^◌, length, IfOk};
-ghost use Rattle.flat_ir.specs.Program.{program_of};
+ghost use Rattle.std.specs.Prelude.{◌≡◌, ◌+◌, ◌*◌, ◌<◌, ◌≤◌, ◌^◌, ◌++◌, ◌∷◌, [], length, IfOk, OnOk, IsTrue};
+ghost use Rattle.flat_ir.specs.Program.{program_of, work_of, is_named, step_at, result_count};
+ghost use Rattle.flat_ir.specs.WellFormed.{IsWellFormed};
 ghost use Rattle.split_model.specs.Bounds.{IsBounded};
+ghost use Rattle.split_model.specs.Crossing.{is_written, is_at_hand, crosses_up, crosses_down};
+ghost use Rattle.split_model.specs.Layouts.{first_results, values_below, values_of, number_of};
 ghost use Rattle.split_model.specs.Layouts.{up_layout, down_layout};
+ghost use Rattle.split_model.specs.Marked.{crosses, crossings_of, AreFound};
 
-use crate::layout::Layout;
+use crate::guards::guards;
+use crate::kinds::{is_input, result_count, result_width};
+use crate::layout::{Crossing, Layout};
+use crate::readers::{Reader, read_by, written_values};
 use crate::split::Split;
-use flat_ir::Flat;
+use crate::values::{ValueSet, is_value};
+use flat_ir::{Flat, InstrKind, ValueId};
 use gal_io::NoMemory;
+use packet_fields::{Field, field_index};
 use std::alloc::Global;
 
-/// The values that preprocessing hands up to the server. It takes one step an operand, a block and a value.
-pub fn up_layout(_alloc: Global, _f: &Flat, _s: &Split) -> Result<Layout, NoMemory>
-    requires bounded { IsBounded (program_of _f.now) }
-    ensures exact { IfOk result (λ layout. layout ≡ up_layout (program_of _f.now) _s.now) }
+/// Which way a value crosses.
+#[derive(Clone, Copy)]
+enum Way {
+    Up,
+    Down,
+}
+
+/// What decides whether a value crosses.
+#[derive(Drop)]
+struct Crossings {
+    /// Postprocessing reads it.
+    post: ValueSet,
+    /// The server reads it.
+    server: ValueSet,
+    /// It decides whether a write takes effect.
+    guards: ValueSet,
+    /// The server sets a field to it.
+    written: ValueSet,
+}
+
+// Whether the server sets a field.
+fn is_written(f: &Flat, s: &Split, field: Field) -> bool
+    ensures { result ≡ is_written (program_of f.now) s.now field }
+{
+    f.out.fields.iter().any(|written| {
+        !s.is_post(written.value.instruction as usize)
+            && field_index(written.field) == field_index(field)
+    })
+}
+
+// Whether postprocessing has the results of an instruction from the code or the packet.
+fn is_at_hand(f: &Flat, s: &Split, kind: &InstrKind) -> bool
+    ensures { result ≡ is_at_hand (program_of f.now) s.now (work_of kind.now) }
+{
+    match kind {
+        InstrKind::Const(..) => true,
+        InstrKind::Field(field) => !is_written(f, s, *field),
+        _ => false,
+    }
+}
+
+impl Crossings {
+    // Looks for them in a program.
+    fn find(alloc: Global, f: &Flat, s: &Split) -> Result<Crossings, NoMemory>
+        requires formed { IsWellFormed (program_of f.now) }
+        requires few { length f.now.code < 2 ^ 32 }
+        ensures { IfOk result (λ found. AreFound (program_of f.now) s.now found) }
+    {
+        Ok(Crossings {
+            post: read_by(alloc, f, s, Reader::Post)?,
+            server: read_by(alloc, f, s, Reader::Server)?,
+            guards: guards(alloc, f)?,
+            written: written_values(alloc, f, s)?,
+        })
+    }
+
+    // Whether a value is handed down.
+    fn go_down(&self, f: &Flat, s: &Split, value: ValueId) -> bool
+        requires found { AreFound (program_of f.now) s.now self.now }
+        requires named { IsTrue (is_named (program_of f.now) value) }
+        requires low { value.result < 9 }
+        ensures { result ≡ crosses_down (program_of f.now) s.now value }
+    {
+        let instruction = value.instruction as usize;
+        let kind = &f.code.as_slice()[instruction].kind;
+        !s.is_post(instruction)
+            && (is_value(value, f.out.send)
+                || is_value(value, f.out.port)
+                || (!is_at_hand(f, s, kind) && self.post.has(value)))
+    }
+
+    // Whether a value is handed up.
+    fn go_up(&self, f: &Flat, s: &Split, value: ValueId) -> bool
+        requires found { AreFound (program_of f.now) s.now self.now }
+        requires named { IsTrue (is_named (program_of f.now) value) }
+        requires low { value.result < 9 }
+        ensures { result ≡ crosses_up (program_of f.now) s.now value }
+    {
+        let instruction = value.instruction as usize;
+        s.is_carried(instruction)
+            && !is_input(&f.code.as_slice()[instruction].kind)
+            && (self.server.has(value)
+                || self.guards.has(value)
+                || self.go_down(f, s, value)
+                || self.written.has(value))
+    }
+
+    // Whether a value crosses this way.
+    fn cross(&self, f: &Flat, s: &Split, way: Way, value: ValueId) -> bool
+        requires found { AreFound (program_of f.now) s.now self.now }
+        requires named { IsTrue (is_named (program_of f.now) value) }
+        requires low { value.result < 9 }
+        ensures { result ≡ crosses way (program_of f.now) s.now value }
+    {
+        match way {
+            Way::Up => self.go_up(f, s, value),
+            Way::Down => self.go_down(f, s, value),
+        }
+    }
+
+    // Puts a value of this number last, where it crosses.
+    fn put(
+        &self,
+        f: &Flat,
+        s: &Split,
+        way: Way,
+        value: ValueId,
+        number: u32,
+        layout: &mut Layout,
+    ) -> Result<(), NoMemory>
+        requires bounded { IsBounded (program_of f.now) }
+        requires found { AreFound (program_of f.now) s.now self.now }
+        requires named { IsTrue (is_named (program_of f.now) value) }
+        requires low { value.result < 9 }
+        requires numbered { number ≡ number_of (program_of f.now) value }
+        ensures { OnOk result (
+            layout.new ≡ layout.old ++ crossings_of way (program_of f.now) s.now (value ∷ [])) }
+    {
+        if self.cross(f, s, way, value) {
+            let kind = &f.code.as_slice()[value.instruction as usize].kind;
+            let width = result_width(f.objects.as_slice(), kind, value.result);
+            layout.push(Crossing {
+                value,
+                number,
+                width,
+            })?;
+        }
+        Ok(())
+    }
+
+    // Puts the results of instruction `i` that cross last. `first` is the number of its first result. The answer is how many
+    // results it has.
+    fn put_results(
+        &self,
+        f: &Flat,
+        s: &Split,
+        way: Way,
+        i: u32,
+        first: u32,
+        layout: &mut Layout,
+    ) -> Result<u32, NoMemory>
+        requires bounded { IsBounded (program_of f.now) }
+        requires found { AreFound (program_of f.now) s.now self.now }
+        requires inside { i < length f.now.code }
+        requires numbered { first ≡ length (values_below (program_of f.now) i) }
+        requires low { first ≤ 9 * i }
+        ensures few { IfOk result (λ count. count ≤ 9) }
+        ensures count { IfOk result (λ count.
+            count ≡ result_count f.now.objects (step_at (program_of f.now) i).work) }
+        ensures all { IfOk result (λ count.
+            layout.new ≡ layout.old ++ crossings_of way (program_of f.now) s.now (first_results i count)) }
+    {
+        let count = result_count(f.objects.as_slice(), &f.code.as_slice()[i as usize].kind);
+        for place in 0..count {
+            let value = ValueId {
+                instruction: i,
+                result: place,
+            };
+            self.put(f, s, way, value, first + place, layout)?;
+        }
+        Ok(count)
+    }
+}
+
+// The values that cross this way.
+fn layout_of(alloc: Global, f: &Flat, s: &Split, way: Way) -> Result<Layout, NoMemory>
+    requires bounded { IsBounded (program_of f.now) }
+    ensures exact { IfOk result (λ layout.
+        layout ≡ crossings_of way (program_of f.now) s.now (values_of (program_of f.now))) }
     ensures few { IfOk result (λ layout. length layout < 2 ^ 32) }
 {
-    Err(NoMemory)
+    let found = Crossings::find(alloc, f, s)?;
+    let mut layout = Layout::new(alloc);
+    let mut number = 0;
+    for i in 0..f.code.len() {
+        number += found.put_results(f, s, way, i as u32, number, &mut layout)?;
+    }
+    Ok(layout)
+}
+
+/// The values that preprocessing hands up to the server. It takes one step an operand, a block and a value.
+pub fn up_layout(alloc: Global, f: &Flat, s: &Split) -> Result<Layout, NoMemory>
+    requires bounded { IsBounded (program_of f.now) }
+    ensures exact { IfOk result (λ layout. layout ≡ up_layout (program_of f.now) s.now) }
+    ensures few { IfOk result (λ layout. length layout < 2 ^ 32) }
+{
+    layout_of(alloc, f, s, Way::Up)
 }
 
 /// The values that the server hands down to postprocessing, those that it was handed up among them. It takes one step an
 /// operand, a block and a value.
-pub fn down_layout(_alloc: Global, _f: &Flat, _s: &Split) -> Result<Layout, NoMemory>
-    requires bounded { IsBounded (program_of _f.now) }
-    ensures exact { IfOk result (λ layout. layout ≡ down_layout (program_of _f.now) _s.now) }
+pub fn down_layout(alloc: Global, f: &Flat, s: &Split) -> Result<Layout, NoMemory>
+    requires bounded { IsBounded (program_of f.now) }
+    ensures exact { IfOk result (λ layout. layout ≡ down_layout (program_of f.now) s.now) }
     ensures few { IfOk result (λ layout. length layout < 2 ^ 32) }
 {
-    Err(NoMemory)
+    layout_of(alloc, f, s, Way::Down)
 }

@@ -1,11 +1,27 @@
-//! A flat program in three parts: what is done on the switch before the server, by the server, and on the switch after it.
+//! A flat program in three parts: what is done on the switch before the server, by the server, and on the switch after
+//! it.
 #![tactic(auto)]
 
+mod bounds;
+mod guards;
+mod kinds;
+mod laws;
 mod layout;
 mod layouts;
+mod readers;
 mod shown;
 mod split;
+#[cfg(test)]
+mod tests;
+mod values;
 
+pub use bounds::is_bounded;
+pub use laws::{
+    a_pass_is_done_by_stages, a_server_keeps_widths, a_server_reads_what_crosses,
+    a_split_is_the_whole, carried_values_stand, kept_stores_have_tables, passes_keep_widths,
+    postprocessing_reads_what_crosses, preprocessing_is_exact, replicated_objects_show,
+    some_legal_split_has_every_part, what_is_handed_up_fits, what_preprocessing_reads_is_all,
+};
 pub use layout::{Crossing, Layout};
 pub use layouts::{down_layout, up_layout};
 pub use shown::replicated;

@@ -1,7 +1,7 @@
 //! Which part of the work falls to whom.
 ghost use Rattle.std.specs.Prelude.{◌≡◌, length, IfOk};
-ghost use Rattle.split_model.specs.Split.{part_at, pre_stage, post_stage, stage_after, is_pre, is_carried, is_carried_up};
-ghost use Rattle.split_model.specs.Split.{is_server, is_served, is_post};
+ghost use Rattle.split_model.specs.Split.{part_at, pre_stage, post_stage, stage_after};
+ghost use Rattle.split_model.specs.Split.{is_pre, is_carried, is_carried_up, is_server, is_served, is_post};
 
 use gal_io::NoMemory;
 use std::alloc::Global;

@@ -4,7 +4,8 @@ use Rattle.flat_ir.specs.declared.program.Instr.{Instr}
 use Rattle.flat_ir.specs.Program.{Step, program_of, step_of, step_at}
 use Rattle.split_model.specs.Split.{is_pre}
 use Rattle.split_model.specs.Shown.{looks_at}
-use Rattle.split_model.proofs.Passing.{any_passes, both}
+use Rattle.std.proofs.lemmas.Bool.{and_from}
+use Rattle.split_model.proofs.Passing.{any_passes}
 use Rattle.split_model.proofs.Steps.{step_is}
 use Rattle.split_model.proofs.shown.is_shown.Goals as goal
 
@@ -18,4 +19,4 @@ returns-then-looks_at c =
     ∙ ap (λ (one : Instr). looks_at c.args.object (step_of one).work) c.index-as_slice-i.is ∙ sym c.looks_at.ensures ∙ c.if-looks_at.true in
     let pre = sym c.is_pre.ensures ∙ c.if-is_pre.true in
     sym (any_passes (length (program_of f).code) (λ i. is_pre c.args.s.now i && looks_at c.args.object (step_at (program_of f) i).work) c.loop-i.i
-    (omega (arith, length-map f.code step_of)) (both _ _ pre looks))
+    (omega (arith, length-map f.code step_of)) (and_from _ _ pre looks))

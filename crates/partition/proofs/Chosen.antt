@@ -1,0 +1,100 @@
+-- What holds of each split that is chosen, and when none is.
+use Rattle.std.proofs.Common.{◌≡◌, ℕ, zero, suc, ◌<◌, ◌≤◌, Bool, true, false, List, [], ◌∷◌, Some, None, inl, inr, refl, ap, subst, arith, length}
+use Rattle.std.proofs.lemmas.Bool.{cases_lt}
+use Rattle.flat_ir.specs.Program.{Program}
+use Rattle.flat_ir.specs.WellFormed.{IsWellFormed}
+use Rattle.split_model.specs.declared.split.Part.{Part}
+use Rattle.split_model.specs.Split.{part_at, pre_stage, post_stage, stage_after}
+use Rattle.split_model.specs.Counts.{stage_or_zero, highest_below}
+use Rattle.split_model.specs.Legal.{IsLegal}
+use Rattle.split_model.specs.Greatest.{IsGreatestSplit}
+use Rattle.resource_limits.specs.declared.limits.Limits.{Limits}
+use Rattle.resource_limits.specs.declared.exceeding.Over.{Over}
+use Rattle.resource_limits.specs.Limits.{AreInRange}
+use Rattle.resource_limits.specs.Counts.{counts_of}
+use Rattle.resource_limits.specs.Kept.{KeepsLimits, first_over}
+use Rattle.partition.specs.Choice.{IsKept, IsExceeded, IsFirstKept, IsChosen, HasLowStages, shrinking}
+use Rattle.partition.specs.Tried.{IsTriedKept, IsTriedExceeded}
+use Rattle.partition.proofs.Lawful.{as_many}
+use Rattle.partition.proofs.Server.{left}
+
+-- a chosen split is a greatest one that keeps the limits
+pub record IsSomeKept (f : Program) (limits : Limits) (split : List Part) : Type 0 where
+  pub number : ℕ
+  pub all : Bool
+  pub kept : IsKept f limits number all split
+
+first_is_kept : (f : Program) (limits : Limits) (cs : List (ℕ × Bool)) (split : List Part) → IsFirstKept f limits cs split → IsSomeKept f limits split
+first_is_kept f limits [] split h = absurd h
+first_is_kept f limits (c ∷ cs) split (inl k) = record { number = c.0; all = c.1; kept = k }
+first_is_kept f limits (c ∷ cs) split (inr r) = first_is_kept f limits cs split r.1
+
+pub chosen_is_kept : (f : Program) (limits : Limits) (shrink : Bool) (split : List Part) → IsChosen f limits shrink split → IsSomeKept f limits split
+chosen_is_kept f limits false split k = record { number = length f.code; all = true; kept = k }
+chosen_is_kept f limits true split k = first_is_kept f limits (shrinking (length f.code)) split k
+
+-- ## Stages
+
+pub pre_low : (split : List Part) (n i : ℕ) → i < n → stage_or_zero (pre_stage split i) ≤ highest_below split n
+pre_low split zero i lt = absurd (omega (arith, lt))
+pre_low split (suc n) i lt = elim (cases_lt i n) [
+  | inl less ↦ (let h = pre_low split n i less in omega (arith, h))
+  | inr le ↦ (let e : i ≡ n = omega (arith, lt, le) in let h = ap (λ j. stage_or_zero (pre_stage split j)) e in omega (arith, h))
+]
+
+pub post_low : (split : List Part) (n i : ℕ) → i < n → stage_or_zero (post_stage split i) ≤ highest_below split n
+post_low split zero i lt = absurd (omega (arith, lt))
+post_low split (suc n) i lt = elim (cases_lt i n) [
+  | inl less ↦ (let h = post_low split n i less in omega (arith, h))
+  | inr le ↦ (let e : i ≡ n = omega (arith, lt, le) in let h = ap (λ j. stage_or_zero (post_stage split j)) e in omega (arith, h))
+]
+
+past : (split : List Part) (i : ℕ) → length split ≤ i → part_at split i ≡ left
+past [] i le = refl
+past (x ∷ xs) zero le = absurd (omega (arith, le))
+past (x ∷ xs) (suc i) le = past xs i (omega (arith, le))
+
+pub low_stages : (f : Program) (limits : Limits) (split : List Part) → length split ≡ length f.code → AreInRange limits → KeepsLimits f split limits → HasLowStages split
+low_stages f limits split count ranges keeps = record {
+  pre = λ i stage is. elim (cases_lt i (length f.code)) [
+    | inl lt ↦ (let h = pre_low split (length f.code) i lt in let s = ap stage_or_zero is in let k = keeps.stages in let r = ranges.1 in omega (arith, h, s, k, r))
+    | inr le ↦ (let e : pre_stage split i ≡ None = ap (λ (p : Part). p.pre) (past split i (omega (arith, le, count))) in cc)
+  ];
+  post = λ i stage is. elim (cases_lt i (length f.code)) [
+    | inl lt ↦ (let h = post_low split (length f.code) i lt in let s = ap stage_or_zero is in let k = keeps.stages in let r = ranges.1 in omega (arith, h, s, k, r))
+    | inr le ↦ (let e : post_stage split i ≡ None = ap (λ (p : Part). stage_after p.slow) (past split i (omega (arith, le, count))) in cc)
+  ];
+}
+
+-- what every chosen split has
+pub record IsSound (f : Program) (limits : Limits) (split : List Part) : Type 0 where
+  pub legal : IsLegal f split
+  pub keeps : KeepsLimits f split limits
+  pub low : HasLowStages split
+
+pub sound : ((f : Program) (k : ℕ) (all : Bool) (split : List Part) → IsWellFormed f → IsGreatestSplit f k all split → IsLegal f split)
+    → (f : Program) (limits : Limits) (shrink : Bool) (split : List Part) → IsWellFormed f → AreInRange limits → IsChosen f limits shrink split → IsSound f limits split
+sound legal f limits shrink split formed ranges chosen =
+    let some = chosen_is_kept f limits shrink split chosen in
+    record {
+      legal = legal f some.number some.all split formed some.kept.greatest;
+      keeps = some.kept.keeps;
+      low = low_stages f limits split (as_many f some.number some.all split some.kept.greatest) ranges some.kept.keeps;
+    }
+
+-- ## Exactly where
+
+module _ (one : (f : Program) (k : ℕ) (all : Bool) (split other : List Part) → IsWellFormed f → IsGreatestSplit f k all split → IsGreatestSplit f k all other → split ≡ other)
+    (f : Program) (limits : Limits) (k : ℕ) (all : Bool) (formed : IsWellFormed f) where
+  pub kept_not_exceeded : (split : List Part) (over : Over) → IsTriedKept f limits k all split → IsExceeded f limits k all over → ⊥
+  kept_not_exceeded split over kept exceeded =
+      let e : exceeded.split ≡ split = one f k all exceeded.split split formed exceeded.greatest kept.kept.greatest in
+      let s : first_over (counts_of f split limits.writeback) limits ≡ Some over =
+      subst (λ (s : List Part). first_over (counts_of f s limits.writeback) limits ≡ Some over) e exceeded.exceeds in
+      let n = kept.none in
+      cc
+
+  pub exceeded_not_kept : (split : List Part) (over : Over) → IsTriedExceeded f limits k all over → IsKept f limits k all split → ⊥
+  exceeded_not_kept split over tried kept =
+      let e : split ≡ tried.exceeded.split = one f k all split tried.exceeded.split formed kept.greatest tried.exceeded.greatest in
+      tried.broken (subst (λ (s : List Part). KeepsLimits f s limits) e kept.keeps)

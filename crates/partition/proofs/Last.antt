@@ -1,0 +1,282 @@
+-- What is left to the server keeps every limit.
+use Rattle.std.proofs.Common.{◌≡◌, ℕ, zero, suc, ◌+◌, ◌/◌, ◌≤◌, Bool, true, false, ◌&&◌, ◌||◌, ◌==◌, not, List, [], ◌∷◌, ◌++◌, Option, Some, None, inl, inr, ◌⊎◌, refl, sym, ap, ◌∙◌, arith, length, replicate, map, is_some}
+use Rattle.std.specs.Prelude.{slice_index_or, All, if◌then◌else◌}
+use Rattle.std.specs.List.{filter}
+use Rattle.std.proofs.lemmas.List.Elements.{All-nil, All-cons, All-append, filter-append}
+use Rattle.std.proofs.lemmas.Bool.{cases_Bool, cases_eq, eqb-true}
+use Rattle.state_store.specs.declared.object.ObjectDecl.{ObjectDecl}
+use Rattle.state_store.specs.Kinds.{is_table}
+use Rattle.flat_ir.specs.declared.program.ValueId.{ValueId}
+use Rattle.flat_ir.specs.Program.{Program, step_at, operands, is_named, width_of_value, result_count}
+use Rattle.flat_ir.specs.WellFormed.{IsWellFormed, is_constant}
+use Rattle.flat_ir.specs.Sets.{IsMarked}
+use Rattle.split_model.specs.declared.split.Part.{Part}
+use Rattle.split_model.specs.declared.split.Slow.{Slow}
+use Rattle.split_model.specs.declared.split.Slow.TheVariants.{Carried, Server, Post}
+use Rattle.split_model.specs.declared.layout.Crossing.{Crossing}
+use Rattle.split_model.specs.Split.{part_at, is_pre, is_carried, is_post, is_carried_up, stage_after}
+use Rattle.split_model.specs.Shown.{looks_at, is_shown, is_replicated}
+use Rattle.split_model.specs.Crossing.{is_value, is_among, is_read_by, is_at_hand, crosses_up, crosses_down}
+use Rattle.split_model.specs.Layouts.{first_results, values_below, values_of, crossing, up_values, down_values, up_layout, down_layout}
+use Rattle.split_model.specs.Counts.{count_below, accesses, writes, sum_of, is_post_shown, object_bits, bits_from, layout_bytes, transfer_bytes}
+use Rattle.split_model.specs.Greatest.{pre_marks, IsGreatestSplit}
+use Rattle.resource_limits.specs.declared.limits.Limits.{Limits}
+use Rattle.resource_limits.specs.Limits.{AreInRange}
+use Rattle.resource_limits.specs.Counts.{first_numbers}
+use Rattle.resource_limits.specs.Kept.{KeepsLimits}
+use Rattle.partition.proofs.Lawful.{no_more, and_no, pre_at, carried_at, post_at}
+use Rattle.partition.proofs.Server.{left, IsBlank, no_pre, no_carried, no_post, no_stages, none_below, unseen}
+
+-- ## The greatest split on no instruction is that one
+
+unset : (n i : ℕ) → slice_index_or (replicate n false) i false ≡ false
+unset zero i = refl
+unset (suc n) zero = refl
+unset (suc n) (suc i) = unset n i
+
+blank_slow : (s : Slow) → is_carried_up s ≡ false → is_some (stage_after s) ≡ false → s ≡ Server
+blank_slow Carried c p = cc
+blank_slow Server c p = refl
+blank_slow (Post t) c p = cc
+
+blank_stage : (o : Option ℕ) → is_some o ≡ false → o ≡ None
+blank_stage None h = refl
+blank_stage (Some t) h = cc
+
+blank_part : (p : Part) → is_some p.pre ≡ false → is_carried_up p.slow ≡ false → is_some (stage_after p.slow) ≡ false → p ≡ left
+blank_part p a b c =
+    let made : Option ℕ → Slow → Part = λ o s. record { pre = o; slow = s } in
+    ap (λ (o : Option ℕ). made o p.slow) (blank_stage p.pre a) ∙ ap (λ (s : Slow). made None s) (blank_slow p.slow b c)
+
+pub is_blank : (f : Program) (split : List Part) → IsGreatestSplit f 0 false split → IsBlank split
+is_blank f split is i =
+    let no_mark : (j : ℕ) → IsMarked (pre_marks split) j → ⊥ = λ j m. (let l = is.pre.closed.below j m in omega (arith, l)) in
+    blank_part (part_at split i)
+    (no_more (is_pre split i) (λ p. no_mark i (pre_at split i ∙ p)))
+    (no_more (is_carried split i) (λ c. no_mark i (is.carried.closed.within i (carried_at split i ∙ c))))
+    (sym (post_at split i) ∙ ap (λ (m : List Bool). slice_index_or m i false) is.post ∙ unset (length f.code) i)
+
+-- ## It looks nothing up
+
+none_counted : (test : ℕ → Bool) (n : ℕ) → ((i : ℕ) → test i ≡ false) → count_below n test ≡ 0
+none_counted test zero h = refl
+none_counted test (suc n) h = rw (none_counted test n h, h n) refl
+
+numbers_low : (number : ℕ → ℕ) (most n : ℕ) → ((o : ℕ) → number o ≤ most) → All (λ m. m ≤ most) (first_numbers n number)
+numbers_low number most zero h = All-nil (λ m. m ≤ most)
+numbers_low number most (suc n) h =
+    All-append (λ m. m ≤ most) (first_numbers n number) (number n ∷ []) (numbers_low number most n h) (All-cons (λ m. m ≤ most) (number n) [] (h n) (All-nil (λ m. m ≤ most)))
+
+module _ (split : List Part) (of : IsBlank split) (f : Program) where
+  pre_looks : (o i : ℕ) → (is_pre split i && looks_at o (step_at f i).work) ≡ false
+  pre_looks o i = rw (no_pre split of i) refl
+
+  post_looks : (o i : ℕ) → (is_post split i && looks_at o (step_at f i).work) ≡ false
+  post_looks o i = rw (no_post split of i) refl
+
+  no_accesses : (o : ℕ) → accesses f split o ≡ 0
+  no_accesses o =
+      let a = none_counted (λ i. is_pre split i && looks_at o (step_at f i).work) (length f.code) (pre_looks o) in
+      let b = none_counted (λ i. is_post split i && looks_at o (step_at f i).work) (length f.code) (post_looks o) in
+      omega (arith, a, b)
+
+  post_unseen : (o : ℕ) → is_post_shown f split o ≡ false
+  post_unseen o = none_below split of (λ i. is_post split i && looks_at o (step_at f i).work) (length f.code) (post_looks o)
+
+  no_writes : (o : ℕ) → writes f split o ≡ 0
+  no_writes o =
+      let r : is_replicated f split o ≡ false = and_no (not (is_constant f.objects o)) (is_shown f split o) (λ h. unseen split of f o) in
+      rw r refl
+
+  none_of : (b : Bool) (n : ℕ) → n ≡ 0 → (if b then n else n) ≡ 0
+  none_of true n e = e
+  none_of false n e = e
+
+  no_object_bits : (writeback o : ℕ) (d : ObjectDecl) → object_bits f split writeback o d ≡ 0
+  no_object_bits writeback o d =
+      let a = unseen split of f o in
+      let b = post_unseen o in
+      rw (a, b) (none_of (is_table d.kind) 0 refl)
+
+  no_bits : (writeback o : ℕ) (ds : List ObjectDecl) → bits_from f split writeback o ds ≡ 0
+  no_bits writeback o [] = refl
+  no_bits writeback o (d ∷ ds) =
+      let a = no_object_bits writeback o d in
+      let b = no_bits writeback (suc o) ds in
+      omega (arith, a, b)
+
+-- ## It hands down whether the packet is sent, and its port
+
+abbrev pub bits_of : Program → List ValueId → ℕ
+bits_of f vs = sum_of (map (λ (c : Crossing). c.width) (map (crossing f) vs))
+
+bits_append : (f : Program) (vs ws : List ValueId) → bits_of f (vs ++ ws) ≡ bits_of f vs + bits_of f ws
+bits_append f [] ws = omega arith
+bits_append f (v ∷ vs) ws = let h = bits_append f vs ws in omega (arith, h)
+
+filtered_append : (f : Program) (test : ValueId → Bool) (vs ws : List ValueId)
+    → bits_of f (filter test (vs ++ ws)) ≡ bits_of f (filter test vs) + bits_of f (filter test ws)
+filtered_append f test vs ws = ap (bits_of f) (filter-append test vs ws) ∙ bits_append f (filter test vs) (filter test ws)
+
+-- what passes a test passes one of two others
+either_bits : (f : Program) (p q r : ValueId → Bool) (vs : List ValueId) → ((v : ValueId) → p v ≡ true → (q v ≡ true) ⊎ (r v ≡ true))
+    → bits_of f (filter p vs) ≤ bits_of f (filter q vs) + bits_of f (filter r vs)
+either_bits f p q r [] h = omega arith
+either_bits f p q r (v ∷ vs) h =
+    let rest = either_bits f p q r vs h in
+    elim (cases_Bool (p v)) [
+      | inr n ↦ rw n (elim (cases_Bool (q v)) [
+        | inl x ↦ rw x (elim (cases_Bool (r v)) [ inl y ↦ rw y (omega (arith, rest)) | inr y ↦ rw y (omega (arith, rest)) ])
+        | inr x ↦ rw x (elim (cases_Bool (r v)) [ inl y ↦ rw y (omega (arith, rest)) | inr y ↦ rw y (omega (arith, rest)) ])
+      ])
+      | inl t ↦ rw t (elim (h v t) [
+        | inl x ↦ rw x (elim (cases_Bool (r v)) [ inl y ↦ rw y (omega (arith, rest)) | inr y ↦ rw y (omega (arith, rest)) ])
+        | inr y ↦ rw y (elim (cases_Bool (q v)) [ inl x ↦ rw x (omega (arith, rest)) | inr x ↦ rw x (omega (arith, rest)) ])
+      ])
+    ]
+
+-- the bits of one value among a list
+abbrev one_bits : Program → ValueId → List ValueId → ℕ
+one_bits f a vs = bits_of f (filter (λ (v : ValueId). is_value v a) vs)
+
+one_here : (f : Program) (a v : ValueId) → one_bits f a (v ∷ []) ≤ width_of_value f a
+one_here f a v = elim (cases_Bool (is_value v a)) [
+  | inr n ↦ rw n (omega arith)
+  | inl t ↦ (let e : v ≡ a = same_value v a t in rw t (let w = ap (λ (x : ValueId). width_of_value f x) e in omega (arith, w)))
+]
+  where
+    both_true : (x y : Bool) → (x && y) ≡ true → (x ≡ true) × (y ≡ true)
+    both_true true y h = (refl, h)
+    both_true false y h = cc
+
+    same_value : (v w : ValueId) → is_value v w ≡ true → v ≡ w
+    same_value v w t =
+        let b = both_true (v.instruction == w.instruction) (v.result == w.result) t in
+        let made : ℕ → ℕ → ValueId = λ i r. record { instruction = i; result = r } in
+        ap (λ i. made i v.result) (eqb-true v.instruction w.instruction b.0) ∙ ap (λ r. made w.instruction r) (eqb-true v.result w.result b.1)
+
+one_not : (f : Program) (a v : ValueId) → is_value v a ≡ false → one_bits f a (v ∷ []) ≡ 0
+one_not f a v n = rw n refl
+
+other_instruction : (a : ValueId) (i r : ℕ) → (i ≡ a.instruction → ⊥) → is_value (record { instruction = i; result = r }) a ≡ false
+other_instruction a i r h = and_no (i == a.instruction) (r == a.result) (λ t. absurd (h (eqb-true i a.instruction t)))
+
+other_result : (a : ValueId) (i r : ℕ) → (r ≡ a.result → ⊥) → is_value (record { instruction = i; result = r }) a ≡ false
+other_result a i r h = and_no (i == a.instruction) (r == a.result) (λ t. no_more (r == a.result) (λ u. h (eqb-true r a.result u)))
+
+results_elsewhere : (f : Program) (a : ValueId) (i n : ℕ) → (i ≡ a.instruction → ⊥) → one_bits f a (first_results i n) ≡ 0
+results_elsewhere f a i zero h = refl
+results_elsewhere f a i (suc n) h =
+    let v : ValueId = record { instruction = i; result = n } in
+    let e = filtered_append f (λ (v : ValueId). is_value v a) (first_results i n) (v ∷ []) in
+    let x = results_elsewhere f a i n h in
+    let y = one_not f a v (other_instruction a i n h) in
+    omega (arith, e, x, y)
+
+results_before : (f : Program) (a : ValueId) (i n : ℕ) → n ≤ a.result → one_bits f a (first_results i n) ≡ 0
+results_before f a i zero h = refl
+results_before f a i (suc n) h =
+    let v : ValueId = record { instruction = i; result = n } in
+    let e = filtered_append f (λ (v : ValueId). is_value v a) (first_results i n) (v ∷ []) in
+    let x = results_before f a i n (omega (arith, h)) in
+    let y = one_not f a v (other_result a i n (λ q. omega (arith, q, h))) in
+    omega (arith, e, x, y)
+
+results_once : (f : Program) (a : ValueId) (i n : ℕ) → one_bits f a (first_results i n) ≤ width_of_value f a
+results_once f a i zero = omega arith
+results_once f a i (suc n) =
+    let v : ValueId = record { instruction = i; result = n } in
+    let e = filtered_append f (λ (v : ValueId). is_value v a) (first_results i n) (v ∷ []) in
+    elim (cases_eq n a.result) [
+      | inl q ↦ (let x = results_before f a i n (omega (arith, q)) in let y = one_here f a v in omega (arith, e, x, y))
+      | inr q ↦ (let x = results_once f a i n in let y = one_not f a v (other_result a i n q) in omega (arith, e, x, y))
+    ]
+
+values_before : (f : Program) (a : ValueId) (n : ℕ) → n ≤ a.instruction → one_bits f a (values_below f n) ≡ 0
+values_before f a zero h = refl
+values_before f a (suc n) h =
+    let rs = first_results n (result_count f.objects (step_at f n).work) in
+    let e = filtered_append f (λ (v : ValueId). is_value v a) (values_below f n) rs in
+    let x = values_before f a n (omega (arith, h)) in
+    let y = results_elsewhere f a n (result_count f.objects (step_at f n).work) (λ q. omega (arith, q, h)) in
+    omega (arith, e, x, y)
+
+-- each value stands once
+values_once : (f : Program) (a : ValueId) (n : ℕ) → one_bits f a (values_below f n) ≤ width_of_value f a
+values_once f a zero = omega arith
+values_once f a (suc n) =
+    let rs = first_results n (result_count f.objects (step_at f n).work) in
+    let e = filtered_append f (λ (v : ValueId). is_value v a) (values_below f n) rs in
+    elim (cases_eq n a.instruction) [
+      | inl q ↦ (let x = values_before f a n (omega (arith, q)) in let y = results_once f a n (result_count f.objects (step_at f n).work) in omega (arith, e, x, y))
+      | inr q ↦ (let x = values_once f a n in let y = results_elsewhere f a n (result_count f.objects (step_at f n).work) q in omega (arith, e, x, y))
+    ]
+
+none_left : (test : ValueId → Bool) (vs : List ValueId) → ((v : ValueId) → test v ≡ false) → filter test vs ≡ []
+none_left test [] h = refl
+none_left test (v ∷ vs) h = rw (h v) (none_left test vs h)
+
+and_left : (a b : Bool) → (a && b) ≡ true → b ≡ true
+and_left true b h = h
+and_left false b h = cc
+
+either : (a b : Bool) → (a || (b || false)) ≡ true → (a ≡ true) ⊎ (b ≡ true)
+either true b h = inl refl
+either false true h = inr refl
+either false false h = cc
+
+or_first : (a b : Bool) → b ≡ false → (a || b) ≡ true → a ≡ true
+or_first true b n h = refl
+or_first false b n h = cc
+
+module _ (split : List Part) (of : IsBlank split) (f : Program) (formed : IsWellFormed f) where
+  nothing_up : up_values f split ≡ []
+  nothing_up = none_left (crosses_up f split) (values_of f) (λ v. rw (no_carried split of v.instruction) (up_no (is_named f v) _))
+    where
+      up_no : (a b : Bool) → ((a && false) && b) ≡ false
+      up_no true b = refl
+      up_no false b = refl
+
+  unread : (v : ValueId) → is_read_by f (is_post split) v ≡ false
+  unread v = none_below split of (λ i. is_post split i && is_among v (operands (step_at f i).work)) (length f.code)
+      (λ i. rw (no_post split of i) refl)
+
+  two_down : (v : ValueId) → crosses_down f split v ≡ true → (is_value v f.send ≡ true) ⊎ (is_value v f.port ≡ true)
+  two_down v h =
+      let named = is_named f v && not (is_post split v.instruction) in
+      let read = not (is_at_hand f split (step_at f v.instruction).work) && is_read_by f (is_post split) v in
+      let some = and_left named (is_among v (f.send ∷ f.port ∷ []) || read) h in
+      let none : read ≡ false = and_no (not (is_at_hand f split (step_at f v.instruction).work)) (is_read_by f (is_post split) v) (λ x. unread v) in
+      either (is_value v f.send) (is_value v f.port) (or_first (is_among v (f.send ∷ f.port ∷ [])) read none some)
+
+  nine_down : bits_of f (down_values f split) ≤ 9
+  nine_down =
+      let a = either_bits f (crosses_down f split) (λ (v : ValueId). is_value v f.send) (λ (v : ValueId). is_value v f.port) (values_of f) two_down in
+      let b = values_once f f.send (length f.code) in
+      let c = values_once f f.port (length f.code) in
+      omega (arith, a, b, c, formed.send.wide, formed.port.wide)
+
+  two_bytes : transfer_bytes f split ≤ 2
+  two_bytes =
+      let u : layout_bytes (up_layout f split) ≡ 0 = ap (λ (vs : List ValueId). layout_bytes (map (crossing f) vs)) nothing_up in
+      let d : layout_bytes (down_layout f split) ≤ 2 = low_bytes (bits_of f (down_values f split)) nine_down in
+      omega (arith, u, d)
+    where
+      low_bytes : (n : ℕ) → n ≤ 9 → (n + 7) / 8 ≤ 2
+      low_bytes n h = omega (arith, h)
+
+  pub blank_keeps : (limits : Limits) → AreInRange limits → KeepsLimits f split limits
+  blank_keeps limits ranges =
+      let e = no_stages split of (length f.code) in
+      let b = no_bits split of f limits.writeback 0 f.objects in
+      let t = two_bytes in
+      record {
+        accesses = numbers_low (accesses f split) 1 (length f.objects) (λ o. let a = no_accesses split of f o in omega (arith, a));
+        stages = omega (arith, e);
+        table_bits = omega (arith, b);
+        writeback = numbers_low (writes f split) limits.writeback (length f.objects) (λ o. let a = no_writes split of f o in omega (arith, a));
+        transfer_bytes = (let r = ranges.3 in omega (arith, t, r));
+      }
+
+pub last_keeps : (f : Program) (limits : Limits) (split : List Part) → IsWellFormed f → AreInRange limits → IsGreatestSplit f 0 false split → KeepsLimits f split limits
+last_keeps f limits split formed ranges greatest = blank_keeps split (is_blank f split greatest) f formed limits ranges

@@ -1,0 +1,40 @@
+use Rattle.std.proofs.Common.{◌≡◌, ◌<◌, ℕ, List, true, false, None, sym, subst, arith}
+use Rattle.std.specs.Prelude.{Option}
+use Rattle.std.proofs.lemmas.Result.{IfOk-weaker}
+use Rattle.flat_ir.specs.Program.{program_of}
+use Rattle.split_model.specs.declared.split.Part.{Part}
+use Rattle.split_model.specs.Greatest.{IsGreatestSplit}
+use Rattle.partition.specs.Choice.{IsChosen, IsFirstKept, shrinking}
+use Rattle.partition.specs.Tried.{IsFound}
+use Rattle.partition.proofs.Steps.{narrowed, stepped}
+use Rattle.partition.proofs.Shrunk.{found_last}
+use Rattle.partition.proofs.Last.{last_keeps}
+use Rattle.partition.proofs.choosing.shrunk.Goals as goal
+
+pub loop-front-preserved : goal.loop-front-preserved
+loop-front-preserved c =
+    let f = program_of c.args.f.now in
+    let l = c.args.limits.now in
+    let old = c.loop-front.front in
+    let new = c.narrow.new.self in
+    let some : 0 < old.count = c.loop-front-test.true in
+    record {
+      front = narrowed f old new c.requires.bounded.formed c.loop-front.invariant.front some c.narrow.ensures.count c.narrow.ensures.pre c.narrow.ensures.carried c.narrow.ensures.depths;
+      few = omega (arith, c.loop-front.invariant.few, c.narrow.ensures.count);
+      first = λ split first. c.loop-front.invariant.first split
+          (stepped f l old.count new.count c.in_ok-split.field-0 c.in_default.is c.in_ok-split.ensures c.narrow.ensures.count split first);
+    }
+
+pub returns : goal.returns
+returns c =
+    let f = program_of c.args.f.now in
+    let l = c.args.limits.now in
+    let z : c.loop-front.front.count ≡ 0 = omega (arith, c.loop-front-test.false) in
+    let none : IsFound f l 0 true None =
+    subst (λ (n : ℕ). IsFound f l n true None) z (subst (λ (o : Option (List Part)). IsFound f l c.loop-front.front.count true o) c.in-None.is c.in_ok-split-2.ensures) in
+    IfOk-weaker c.all_on_server.result (λ (split : List Part). IsGreatestSplit f 0 false split) (λ (split : List Part). IsChosen f l true split)
+    (λ split greatest. c.loop-front.invariant.first split
+    (subst (λ k. IsFirstKept f l (shrinking k) split) (sym z)
+    (found_last f l split none
+    (record { greatest = greatest; keeps = last_keeps f l split c.requires.bounded.formed c.requires.in_range greatest }))))
+    c.all_on_server.ensures.greatest

@@ -1,0 +1,92 @@
+//! What preprocessing computes and hands up, of the first instructions of a program.
+ghost use Rattle.std.specs.Prelude.{◌≡◌, ℕ, ◌<◌, ◌-◌, length, IfOk, slice_set, slice_index, slice_index_or, false, true, nat_lt};
+ghost use Rattle.std.specs.List.{list_any};
+ghost use Rattle.flat_ir.specs.Program.{program_of};
+ghost use Rattle.split_model.specs.Bounds.{IsBounded};
+ghost use Rattle.split_model.specs.Greatest.{IsGreatestSplit};
+ghost use Rattle.partition.specs.Front.{IsFront};
+
+use crate::greatest::{join, post_set};
+use dependence::{Depths, Marks, carried_closure, depths, pre_closure};
+use flat_ir::Flat;
+use gal_io::NoMemory;
+use split_model::Split;
+use std::alloc::Global;
+
+/// The greatest sets of preprocessing among the first `count` instructions.
+#[derive(Drop)]
+pub(crate) struct Front {
+    pub(crate) count: usize,
+    pub(crate) pre: Marks,
+    pub(crate) carried: Marks,
+    pub(crate) depths: Depths,
+}
+
+impl Front {
+    /// Those among the first `count` instructions. It takes one step per operand.
+    pub(crate) fn new(alloc: Global, f: &Flat, count: usize) -> Result<Front, NoMemory>
+        requires { IsBounded (program_of f.now) }
+        ensures front { IfOk result (λ front. IsFront (program_of f.now) front) }
+        ensures count { IfOk result (λ front. front.count ≡ count) }
+    {
+        let pre = pre_closure(alloc, f, count)?;
+        let carried = carried_closure(alloc, f, &pre)?;
+        let depths = depths(alloc, f, &pre)?;
+        Ok(Front {
+            count,
+            pre,
+            carried,
+            depths,
+        })
+    }
+
+    /// Whether the last of the first instructions is one of preprocessing.
+    pub(crate) fn has_last(&self) -> bool
+        requires { 0 < self.now.count }
+        ensures { result ≡ slice_index_or self.now.pre (self.now.count - 1) false }
+    {
+        self.pre.at(self.count - 1)
+    }
+
+    /// Whether preprocessing needs a stage above this one.
+    pub(crate) fn is_deeper_than(&self, stage: u32) -> bool
+        ensures { result ≡ list_any (λ depth. nat_lt stage depth) self.now.depths }
+    {
+        self.depths.as_slice().iter().any(|depth| stage < *depth)
+    }
+
+    /// Leaves out the last of the first instructions: what is left of the sets are the sets among the others.
+    pub(crate) fn narrow(&mut self)
+        requires some { 0 < self.old.count }
+        requires pre { self.old.count - 1 < length self.old.pre }
+        requires carried { self.old.count - 1 < length self.old.carried }
+        requires depths { self.old.count - 1 < length self.old.depths }
+        ensures count { self.new.count ≡ self.old.count - 1 }
+        ensures pre { self.new.pre ≡ slice_set self.old.pre (self.old.count - 1) false }
+        ensures carried { self.new.carried ≡ slice_set self.old.carried (self.old.count - 1) false }
+        ensures depths { self.new.depths ≡ slice_set self.old.depths (self.old.count - 1) 0 }
+    {
+        self.count -= 1;
+        self.pre.set(self.count, false);
+        self.carried.set(self.count, false);
+        self.depths.set(self.count, 0);
+    }
+
+    /// The greatest split with these sets, with all of postprocessing or none of it.
+    pub(crate) fn split(&self, alloc: Global, f: &Flat, all: bool) -> Result<Split, NoMemory>
+        requires bounded { IsBounded (program_of f.now) }
+        requires front { IsFront (program_of f.now) self.now }
+        ensures { IfOk result (λ s. IsGreatestSplit (program_of f.now) self.now.count all s) }
+    {
+        let post = post_set(alloc, f, all, &self.carried)?;
+        let post_depths = depths(alloc, f, &post)?;
+        join(
+            alloc,
+            &self.pre,
+            &self.carried,
+            &post,
+            &self.depths,
+            &post_depths,
+        )
+    }
+}

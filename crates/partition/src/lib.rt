@@ -1,0 +1,14 @@
+//! Which split a program gets: the greatest one, or by shrinking the first of a list that keeps the limits.
+#![tactic(auto)]
+
+mod choosing;
+mod front;
+mod greatest;
+mod laws;
+mod looks;
+#[cfg(test)]
+mod tests;
+
+pub use choosing::{PartError, partition};
+pub use greatest::{all_on_server, greatest_split};
+pub use laws::{greatest_split_is_one, the_last_keeps};

@@ -1,0 +1,6 @@
+use Rattle.std.proofs.Common.{◌≡◌, ◌+◌, drop}
+use Rattle.split_model.specs.Counts.{sum_of}
+use Rattle.split_model.proofs.bounds.sum_is_low.Given as goal
+
+abbrev pub invariant-loop-width : goal.invariant-loop-width
+invariant-loop-width l = sum_of l.widths + l.left ≡ sum_of (drop l.width-index l.widths) + 128

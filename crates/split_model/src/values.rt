@@ -1,0 +1,96 @@
+//! Sets of values.
+ghost use Rattle.std.specs.Prelude.{◌≡◌, ◌<◌, ◌^◌, false, IfOk};
+ghost use Rattle.flat_ir.specs.Program.{work_of, operands};
+ghost use Rattle.split_model.specs.Crossing.{is_value, is_among};
+ghost use Rattle.split_model.specs.Marked.{is_marked, AreMarked, Adds};
+
+use flat_ir::{InstrKind, ValueId};
+use gal_io::NoMemory;
+use std::alloc::Global;
+use std::marker::Model;
+
+/// Whether two values are the same one.
+pub(crate) fn is_value(one: ValueId, other: ValueId) -> bool
+    ensures { result ≡ is_value one other }
+{
+    one.instruction == other.instruction && one.result == other.result
+}
+
+/// A set of values, by a mark for each of the first 9 results of each instruction. No instruction has more.
+#[derive(Debug, Drop)]
+pub(crate) struct ValueSet {
+    marks: Vec<bool>,
+}
+
+impl Model for ValueSet {
+    ghost use Rattle.std.specs.Prelude.{List, Bool};
+
+    ghost Value = { List Bool };
+
+    ghost view = { λ set. set.marks.items };
+}
+
+impl ValueSet {
+    /// The empty set, with room for the values of so many instructions.
+    pub fn new(alloc: Global, instructions: usize) -> Result<ValueSet, NoMemory>
+        requires few { instructions < 2 ^ 32 }
+        ensures { IfOk result (λ set. AreMarked instructions (λ v. false) set) }
+    {
+        let marks = vec![in alloc; false; 9 * instructions]?;
+        Ok(ValueSet { marks })
+    }
+
+    /// Whether a value is in the set.
+    pub fn has(&self, value: ValueId) -> bool
+        ensures { result ≡ is_marked self.now value }
+    {
+        let place = 9 * value.instruction as usize + value.result as usize;
+        if place < self.marks.len() {
+            self.marks[place]
+        } else {
+            false
+        }
+    }
+
+    /// Puts a value into the set, where there is room for it.
+    pub fn insert(&mut self, value: ValueId)
+        ensures { Adds (λ v. is_value v value) self.old self.new }
+    {
+        let place = 9 * value.instruction as usize + value.result as usize;
+        if value.result < 9 && place < self.marks.len() {
+            self.marks[place] = true;
+        }
+    }
+
+    /// Puts several values into the set.
+    pub fn insert_all(&mut self, values: &[ValueId])
+        ensures { Adds (λ v. is_among v values.now) self.old self.new }
+    {
+        for value in values {
+            self.insert(*value);
+        }
+    }
+
+    /// Puts the operands of an instruction into the set.
+    pub fn insert_operands(&mut self, kind: &InstrKind)
+        ensures { Adds (λ v. is_among v (operands (work_of kind.now))) self.old self.new }
+    {
+        match kind {
+            InstrKind::Const(..) | InstrKind::Field(_) => {}
+            InstrKind::Apply { args, .. } => self.insert_all(args),
+            InstrKind::Shift { arg, .. } => self.insert_all(&[*arg]),
+            InstrKind::Select {
+                cond,
+                first,
+                second,
+                ..
+            } => self.insert_all(&[*cond, *first, *second]),
+            InstrKind::Byte(index) => self.insert_all(&[*index]),
+            InstrKind::Look { keys, .. } | InstrKind::Del { keys, .. } => self.insert_all(keys),
+            InstrKind::Put { keys, values, .. } => {
+                self.insert_all(keys);
+                self.insert_all(values);
+            }
+        }
+    }
+}

@@ -1,0 +1,172 @@
+-- Laws of the values of a layout.
+use Rattle.std.proofs.Common.{◌≡◌, ◌≢◌, ℕ, zero, suc, ◌+◌, ◌^◌, ◌<◌, ◌≤◌, List, [], ◌∷◌, ◌++◌, get_or, set, length, take, drop, refl, sym, ap, ◌∙◌, subst, arith, length-append, length-take, get_or-take, append_assoc, get_or-set_same, get_or-set_other, length-set, mod-eq_of_lt}
+use Rattle.std.proofs.Math.Nat.{min-eq_left}
+use Rattle.std.proofs.Math.Seq.{take-add}
+use Rattle.std.proofs.lemmas.List.{append-nil, get_or_read, take_more, take_at, drop_at, take-append-drop}
+use Rattle.std.proofs.lemmas.List.Elements.{All-nil, All-cons, All-head, All-tail, All-append, All-more}
+use Rattle.std.specs.List.{All, AllPairs}
+use Rattle.split_model.specs.declared.layout.Crossing.{Crossing}
+use Rattle.transfer_header.specs.Bits.{bits_of, number_of, bits_in}
+use Rattle.transfer_header.specs.Values.{total, value_bits, AreNarrow, Agree}
+use Rattle.transfer_header.specs.Registers.{value_in, ChangesOnly}
+use Rattle.transfer_header.proofs.BitLists.{AreBits, are_bits_of, length-bits_of, number_of-bits_of}
+
+-- ---- how many bits they have
+pub total-append : (layout others : List Crossing) → total (layout ++ others) ≡ total layout + total others
+total-append [] others = omega arith
+total-append (c ∷ cs) others = omega (arith, total-append cs others)
+
+pub total_push : (layout : List Crossing) (c : Crossing) → total (layout ++ c ∷ []) ≡ total layout + c.width
+total_push layout c = omega (arith, total-append layout (c ∷ []))
+
+pub total-more : (layout : List Crossing) (i : ℕ) (c : Crossing) → i < length layout → c ≡ get_or layout i c → total (take (i + 1) layout) ≡ total (take i layout) + c.width
+total-more layout i c within is =
+    ap total (take_more layout i c within) ∙ total_push (take i layout) (get_or layout i c) ∙ ap (λ (q : Crossing). total (take i layout) + q.width) (sym is)
+
+pub total-take : (layout : List Crossing) (i : ℕ) → total (take i layout) ≤ total layout
+total-take layout i = omega (arith, total-append (take i layout) (drop i layout), ap total (take-append-drop i layout))
+
+-- ---- bits of the values
+pub value_bits-nil : (values : Crossing → ℕ) → value_bits [] values ≡ []
+unfolding value_bits
+value_bits-nil values = refl
+
+pub value_bits-cons : (c : Crossing) (cs : List Crossing) (values : Crossing → ℕ) → value_bits (c ∷ cs) values ≡ bits_of c.width (values c) ++ value_bits cs values
+unfolding value_bits
+value_bits-cons c cs values = refl
+
+pub length-value_bits : (layout : List Crossing) (values : Crossing → ℕ) → length (value_bits layout values) ≡ total layout
+length-value_bits [] values = ap (λ (x : List ℕ). length x) (value_bits-nil values)
+length-value_bits (c ∷ cs) values =
+    ap (λ (x : List ℕ). length x) (value_bits-cons c cs values) ∙ length-append (bits_of c.width (values c)) (value_bits cs values)
+    ∙ omega (arith, length-bits_of c.width (values c), length-value_bits cs values)
+
+pub are_value_bits : (layout : List Crossing) (values : Crossing → ℕ) → AreBits (value_bits layout values)
+are_value_bits [] values = subst AreBits (sym (value_bits-nil values)) (All-nil (λ bit. bit < 2))
+are_value_bits (c ∷ cs) values = subst AreBits (sym (value_bits-cons c cs values)) (All-append (λ bit. bit < 2) (bits_of c.width (values c)) (value_bits cs values) (are_bits_of c.width (values c)) (are_value_bits cs values))
+
+pub value_bits-push : (layout : List Crossing) (c : Crossing) (values : Crossing → ℕ) → value_bits (layout ++ c ∷ []) values ≡ value_bits layout values ++ bits_of c.width (values c)
+value_bits-push [] c values =
+    value_bits-cons c [] values ∙ ap (λ x. bits_of c.width (values c) ++ x) (value_bits-nil values) ∙ append-nil (bits_of c.width (values c))
+    ∙ sym (ap (λ x. x ++ bits_of c.width (values c)) (value_bits-nil values))
+value_bits-push (q ∷ ds) c values =
+    value_bits-cons q (ds ++ c ∷ []) values ∙ ap (λ x. bits_of q.width (values q) ++ x) (value_bits-push ds c values)
+    ∙ sym (append_assoc (bits_of q.width (values q)) (value_bits ds values) (bits_of c.width (values c)))
+    ∙ sym (ap (λ x. x ++ bits_of c.width (values c)) (value_bits-cons q ds values))
+
+pub value_bits-more : (layout : List Crossing) (i : ℕ) (c : Crossing) (values : Crossing → ℕ) → i < length layout → c ≡ get_or layout i c
+    → value_bits (take (i + 1) layout) values ≡ value_bits (take i layout) values ++ bits_of c.width (values c)
+value_bits-more layout i c values within is =
+    ap (λ x. value_bits x values) (take_more layout i c within) ∙ value_bits-push (take i layout) (get_or layout i c) values
+    ∙ ap (λ (q : Crossing). value_bits (take i layout) values ++ bits_of q.width (values q)) (sym is)
+
+-- one value more is packed
+pub more_packed : (layout : List Crossing) (registers before after : List ℕ) (i width number : ℕ) (c : Crossing) → i < length layout → c ≡ get_or layout i c → width ≡ c.width → number ≡ value_in registers c
+    → before ≡ value_bits (take i layout) (value_in registers) → after ≡ before ++ bits_of width number → after ≡ value_bits (take (i + 1) layout) (value_in registers)
+more_packed layout registers before after i width number c within is wide read so_far put =
+    put ∙ ap (λ x. x ++ bits_of width number) so_far ∙ ap (λ k. value_bits (take i layout) (value_in registers) ++ bits_of k number) wide
+    ∙ ap (λ n. value_bits (take i layout) (value_in registers) ++ bits_of c.width n) read
+    ∙ sym (value_bits-more layout i c (value_in registers) within is)
+
+pub value_bits-same : (layout : List Crossing) (values others : Crossing → ℕ) → Agree layout values others → value_bits layout values ≡ value_bits layout others
+value_bits-same [] values others agree = value_bits-nil values ∙ sym (value_bits-nil others)
+value_bits-same (c ∷ cs) values others agree =
+    value_bits-cons c cs values
+    ∙ ap (λ x. bits_of c.width x ++ value_bits cs values) (All-head (λ (q : Crossing). values q ≡ others q) c cs agree)
+    ∙ ap (λ x. bits_of c.width (others c) ++ x) (value_bits-same cs values others (All-tail (λ (q : Crossing). values q ≡ others q) c cs agree))
+    ∙ sym (value_bits-cons c cs others)
+
+-- two readings that fit and give the same bits agree
+pub agree_by_bits : (layout : List Crossing) (values others : Crossing → ℕ) → AreNarrow layout values → AreNarrow layout others → value_bits layout values ≡ value_bits layout others → Agree layout values others
+agree_by_bits [] values others fits fits' same = All-nil (λ (c : Crossing). values c ≡ others c)
+agree_by_bits (c ∷ cs) values others fits fits' same =
+    let w : ℕ = c.width in
+    let one : List ℕ = bits_of w (values c) in
+    let two : List ℕ = bits_of w (others c) in
+    let both : one ++ value_bits cs values ≡ two ++ value_bits cs others = sym (value_bits-cons c cs values) ∙ same ∙ value_bits-cons c cs others in
+    let first : one ≡ two = sym (take_at one (value_bits cs values) w (length-bits_of w (values c))) ∙ ap (take w) both ∙ take_at two (value_bits cs others) w (length-bits_of w (others c)) in
+    let rest : value_bits cs values ≡ value_bits cs others = sym (drop_at one (value_bits cs values) w (length-bits_of w (values c))) ∙ ap (drop w) both ∙ drop_at two (value_bits cs others) w (length-bits_of w (others c)) in
+    let number : values c ≡ others c =
+    sym (mod-eq_of_lt (All-head (λ (q : Crossing). values q < 2 ^ q.width) c cs fits)) ∙ sym (number_of-bits_of w (values c)) ∙ ap number_of first
+    ∙ number_of-bits_of w (others c) ∙ mod-eq_of_lt (All-head (λ (q : Crossing). others q < 2 ^ q.width) c cs fits') in
+    All-cons (λ (q : Crossing). values q ≡ others q) c cs number
+    (agree_by_bits cs values others (All-tail (λ (q : Crossing). values q < 2 ^ q.width) c cs fits) (All-tail (λ (q : Crossing). others q < 2 ^ q.width) c cs fits') rest)
+
+-- ---- numbers that rise
+abbrev pub IsRising : List Crossing → Type 0
+IsRising layout = AllPairs (λ (a b : Crossing). a.number < b.number) layout
+
+index_below : (layout : List Crossing) → IsRising layout → (i : ℕ) (d : Crossing) → i < length layout → i ≤ (get_or layout i d).number
+index_below layout rising zero d within = omega arith
+index_below layout rising (suc i) d within = omega (arith, index_below layout rising i d (omega arith), rising i (suc i) d (omega arith) within)
+
+-- there are at most as many of them as numbers
+pub length_rising : (layout : List Crossing) (count : ℕ) → IsRising layout → All (λ (c : Crossing). c.number < count) layout → length layout ≤ count
+length_rising [] count rising among = omega arith
+length_rising (c ∷ cs) count rising among =
+    omega (arith, index_below (c ∷ cs) rising (length cs) c (omega arith), among (length cs) c (omega arith))
+
+-- ---- a register that is written
+-- the register of a place is none of those in front of it
+front_agrees : (layout : List Crossing) (registers : List ℕ) (i : ℕ) (c : Crossing) (number : ℕ) → IsRising layout → i < length layout → c ≡ get_or layout i c
+    → Agree (take i layout) (value_in (set registers c.number number)) (value_in registers)
+front_agrees layout registers i c number rising within is k d below =
+    let len : length (take i layout) ≡ i = length-take i layout ∙ min-eq_left (omega arith) in
+    let early : k < i = omega arith in
+    let here : get_or (take i layout) k d ≡ get_or layout k d = get_or-take i layout k d early in
+    let order : (get_or layout k d).number < (get_or layout i d).number = rising k i d early within in
+    let own : get_or layout i d ≡ c = sym (get_or_read layout i c within is d) in
+    let other : (get_or (take i layout) k d).number ≢ c.number = omega (arith, ap (λ (q : Crossing). q.number) here, ap (λ (q : Crossing). q.number) own, order) in
+    get_or-set_other registers c.number (get_or (take i layout) k d).number number 0 other
+
+pub bits_written : (layout : List Crossing) (registers header : List ℕ) (i at : ℕ) (c : Crossing) (number : ℕ) → IsRising layout → i < length layout → c ≡ get_or layout i c → c.number < length registers
+    → value_bits (take i layout) (value_in registers) ≡ take at (bits_in header) → bits_of c.width number ≡ take c.width (drop at (bits_in header))
+    → value_bits (take (i + 1) layout) (value_in (set registers c.number number)) ≡ take (at + c.width) (bits_in header)
+bits_written layout registers header i at c number rising within is among so_far read =
+    let now : Crossing → ℕ = value_in (set registers c.number number) in
+    value_bits-more layout i c now within is
+    ∙ ap (λ x. x ++ bits_of c.width (now c)) (value_bits-same (take i layout) now (value_in registers) (front_agrees layout registers i c number rising within is) ∙ so_far)
+    ∙ ap (λ x. take at (bits_in header) ++ bits_of c.width x) (get_or-set_same registers c.number number 0 among)
+    ∙ ap (λ x. take at (bits_in header) ++ x) read
+    ∙ sym (take-add at c.width (bits_in header))
+
+pub narrow_written : (layout : List Crossing) (registers : List ℕ) (i : ℕ) (c : Crossing) (number : ℕ) → IsRising layout → i < length layout → c ≡ get_or layout i c → c.number < length registers
+    → AreNarrow (take i layout) (value_in registers) → number < 2 ^ c.width → AreNarrow (take (i + 1) layout) (value_in (set registers c.number number))
+narrow_written layout registers i c number rising within is among so_far fits =
+    let now : Crossing → ℕ = value_in (set registers c.number number) in
+    let own : now c ≡ number = get_or-set_same registers c.number number 0 among in
+    All-more (λ (q : Crossing). now q < 2 ^ q.width) layout i c within
+    (λ k d below. subst (λ x. x < 2 ^ (get_or (take i layout) k d).width) (sym (front_agrees layout registers i c number rising within is k d below)) (so_far k d below))
+    (subst (λ (q : Crossing). now q < 2 ^ q.width) is (subst (λ x. x < 2 ^ c.width) (sym own) fits))
+
+-- a value ends within the bits of its layout
+pub value_within : (items layout : List Crossing) (i at width : ℕ) (c : Crossing) → items ≡ layout → i < length items → c ≡ get_or items i c → width ≡ c.width → at ≡ total (take i items) → at + width ≤ total layout
+value_within items layout i at width c all within is same so_far = omega (arith, total-more items i c within is, total-take items (i + 1), ap total all)
+
+pub among_at : (items layout : List Crossing) (i registers : ℕ) (c : Crossing) → items ≡ layout → i < length items → c ≡ get_or items i c → All (λ (q : Crossing). q.number < registers) layout → c.number < registers
+among_at items layout i registers c all within is among =
+    subst (λ (q : Crossing). q.number < registers) (sym is) (subst (λ (x : List Crossing). All (λ (q : Crossing). q.number < registers) x) (sym all) among i c within)
+
+-- no other register is written
+pub nothing_changed : (layout : List Crossing) (registers : List ℕ) → ChangesOnly layout registers registers
+nothing_changed layout registers = record { count = refl; others = λ n apart. refl }
+
+length_first : (layout : List Crossing) (i : ℕ) → i ≤ length layout → length (take i layout) ≡ i
+length_first layout i within = length-take i layout ∙ min-eq_left within
+
+pub one_changed : (layout : List Crossing) (before now : List ℕ) (i : ℕ) (c : Crossing) (number : ℕ) → i < length layout → c ≡ get_or layout i c
+    → ChangesOnly (take i layout) before now → ChangesOnly (take (i + 1) layout) before (set now c.number number)
+one_changed layout before now i c number within is so_far = record {
+  count = length-set now c.number number ∙ so_far.count;
+  others = λ n apart.
+      let last : get_or (take (i + 1) layout) i c ≡ c = get_or-take (i + 1) layout i c (omega arith) ∙ sym is in
+      let own : (get_or (take (i + 1) layout) i c).number ≢ n = apart i c (omega (arith, length_first layout (i + 1) (omega arith))) in
+      get_or-set_other now c.number n number 0 (λ e. own (ap (λ (q : Crossing). q.number) last ∙ sym e))
+      ∙ so_far.others n (λ k d below. front n apart k d below);
+}
+  where
+    front : (n : ℕ) → All (λ (q : Crossing). q.number ≢ n) (take (i + 1) layout) → All (λ (q : Crossing). q.number ≢ n) (take i layout)
+    front n apart k d below =
+        let early : k < i = omega (arith, length_first layout i (omega arith)) in
+        subst (λ (q : Crossing). q.number ≢ n) (get_or-take (i + 1) layout k d (omega arith) ∙ sym (get_or-take i layout k d early))
+        (apart k d (omega (arith, length_first layout (i + 1) (omega arith))))

@@ -1,0 +1,67 @@
+//! What holds of frames and registers, as the definitions give it. These functions do nothing: their contracts are the
+//! laws.
+ghost use Rattle.std.specs.Prelude.{◌≡◌, ◌↔◌, ℕ, ◌^◌, ◌<◌, List, true, Some, slice_get, length, IsTrue};
+ghost use Rattle.flat_ir.specs.declared.program.ValueId.{ValueId};
+ghost use Rattle.flat_ir.specs.Blocks.{Reading};
+ghost use Rattle.flat_ir.specs.Program.{Program, is_named};
+ghost use Rattle.split_model.specs.declared.split.Part.{Part};
+ghost use Rattle.split_model.specs.declared.layout.Crossing.{Crossing};
+ghost use Rattle.split_model.specs.Crossing.{crosses_up, crosses_down};
+ghost use Rattle.split_model.specs.Layouts.{values_of, number_of, up_layout, down_layout};
+ghost use Rattle.split_model.specs.Passes.{IsHanded};
+ghost use Rattle.transfer_header.specs.Values.{value_by, Agree, AreNarrow};
+ghost use Rattle.transfer_header.specs.Registers.{reads_of, value_in, FitsLayout, Holds, KeepsWidths};
+ghost use Rattle.transfer_header.specs.Frames.{frame_of, AreSame, IsFrameOf};
+
+/// Bytes are the frame of one number, one port, one packet, and one number for each value.
+pub fn frames_tell_their_parts()
+    ensures { (kind : ℕ) (layout : List Crossing) (number number' port port' : ℕ) (values values' : Crossing → ℕ)
+        (packet packet' frame : List ℕ)
+        → IsFrameOf kind layout number port values packet frame
+        → IsFrameOf kind layout number' port' values' packet' frame
+        → AreSame layout number number' port port' values values' packet packet' }
+{}
+
+/// A frame says nothing of its values but their numbers.
+pub fn frames_of_equal_values()
+    ensures { (kind : ℕ) (layout : List Crossing) (number port : ℕ) (values others : Crossing → ℕ) (packet : List ℕ)
+        → Agree layout values others
+        → frame_of kind layout number port values packet ≡ frame_of kind layout number port others packet }
+{}
+
+/// Among all values of a program each stands at its number, so that no two have the same.
+pub fn values_have_their_numbers()
+    ensures { (f : Program) (v : ValueId) → IsTrue (is_named f v) → slice_get (values_of f) (number_of f v) ≡ Some v }
+{}
+
+/// Registers for all values of a program have one for each value that crosses, whatever the split.
+pub fn layouts_fit()
+    ensures up { (f : Program) (split : List Part) (registers : List ℕ)
+        → length registers ≡ length (values_of f) → FitsLayout (up_layout f split) registers }
+    ensures down { (f : Program) (split : List Part) (registers : List ℕ)
+        → length registers ≡ length (values_of f) → FitsLayout (down_layout f split) registers }
+{}
+
+/// Registers hold a reading's numbers of what crosses exactly where they hand it on.
+pub fn what_crosses_is_held()
+    ensures up { (f : Program) (split : List Part) (registers : List ℕ) (reads : Reading)
+        → (Holds (up_layout f split) registers reads)
+        ↔ (IsHanded (crosses_up f split) reads (reads_of f registers)) }
+    ensures down { (f : Program) (split : List Part) (registers : List ℕ) (reads : Reading)
+        → (Holds (down_layout f split) registers reads)
+        ↔ (IsHanded (crosses_down f split) reads (reads_of f registers)) }
+{}
+
+/// The values of a layout have no more bits than their widths exactly where this is so of all that crosses.
+pub fn what_crosses_is_narrow()
+    ensures up { (f : Program) (split : List Part) (reads : Reading)
+        → (AreNarrow (up_layout f split) (value_by reads)) ↔ (KeepsWidths f (crosses_up f split) reads) }
+    ensures down { (f : Program) (split : List Part) (reads : Reading)
+        → (AreNarrow (down_layout f split) (value_by reads)) ↔ (KeepsWidths f (crosses_down f split) reads) }
+    ensures registers_up { (f : Program) (split : List Part) (registers : List ℕ)
+        → (AreNarrow (up_layout f split) (value_in registers))
+        ↔ (KeepsWidths f (crosses_up f split) (reads_of f registers)) }
+    ensures registers_down { (f : Program) (split : List Part) (registers : List ℕ)
+        → (AreNarrow (down_layout f split) (value_in registers))
+        ↔ (KeepsWidths f (crosses_down f split) (reads_of f registers)) }
+{}

@@ -1,0 +1,5 @@
+use Rattle.std.proofs.Common.{◌≡◌, ◌≤◌, replicate}
+use Rattle.writeback_table.proofs.pair.zeros.Given as goal
+
+abbrev pub invariant-loop : goal.invariant-loop
+invariant-loop l = record { so_far : l.values ≡ replicate l.counter 0; within : l.counter ≤ l.count }

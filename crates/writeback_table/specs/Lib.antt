@@ -1,0 +1,6 @@
+pub mod Batches
+pub mod Codes
+pub mod Commands
+pub mod Pair
+pub mod Seen
+pub mod Staging
