@@ -9,7 +9,8 @@ use Rattle.resource_limits.specs.declared.limits.Key.TheVariants as key
 use Rattle.resource_limits.specs.declared.limits.Limits.{Limits}
 use Rattle.resource_limits.specs.declared.counting.Counts.{Counts}
 use Rattle.resource_limits.specs.declared.exceeding.LimitName.{LimitName}
-use Rattle.resource_limits.specs.declared.exceeding.LimitName.TheVariants.{Accesses, Stages, TableBits, Writeback, TransferBytes}
+use Rattle.resource_limits.specs.declared.exceeding.LimitName.TheVariants.{Accesses, Stages, TableBits}
+use Rattle.resource_limits.specs.declared.exceeding.LimitName.TheVariants.{Writeback, TransferBytes}
 use Rattle.resource_limits.specs.declared.exceeding.Over.{Over}
 
 -- a limit has the name of its key; the one that is in no file is named for itself

@@ -71,7 +71,8 @@ fn sums(alloc: Global, before: &[u32], after: &[u32]) -> Result<Tally, NoMemory>
     requires few { length before.now < 2 ^ 32 }
     requires same { length before.now ≡ length after.now }
     requires low { (o : ℕ) → slice_index before.now o + slice_index after.now o < 2 ^ 32 }
-    ensures { IfOk result (λ made. made ≡ first_numbers (length before.now) (λ o. slice_index before.now o + slice_index after.now o)) }
+    ensures { IfOk result (λ made. made
+        ≡ first_numbers (length before.now) (λ o. slice_index before.now o + slice_index after.now o)) }
 {
     let mut sums = Vec::with_capacity(alloc, before.len())?;
     for o in 0..before.len() {
@@ -111,7 +112,8 @@ fn told(
     requires few { length objects.now < 2 ^ 32 }
     requires same { length before.now ≡ length objects.now }
     requires same_changes { length changes.now ≡ length objects.now }
-    ensures { IfOk result (λ made. made ≡ first_numbers (length objects.now) (λ o. told_at objects.now before.now changes.now o)) }
+    ensures { IfOk result (λ made. made
+        ≡ first_numbers (length objects.now) (λ o. told_at objects.now before.now changes.now o)) }
 {
     let mut told = Vec::with_capacity(alloc, objects.len())?;
     for o in 0..objects.len() {

@@ -73,7 +73,8 @@ fn add_one(tally: &mut Vec<u32>, object: usize)
 /// For each object, how many instructions use it in this way. It takes one step an instruction.
 pub fn tally(alloc: Global, f: &Flat, s: &Split, how: Use) -> Result<Vec<u32>, NoMemory>
     requires { length f.now.code ≤ 4096 }
-    ensures exact { IfOk result (λ tally. tally.items ≡ each_object (program_of f.now) (uses how (program_of f.now) s.now)) }
+    ensures exact { IfOk result
+        (λ tally. tally.items ≡ each_object (program_of f.now) (uses how (program_of f.now) s.now)) }
     ensures count { IfOk result (λ tally. length tally.items ≡ length f.now.objects) }
     ensures low { IfOk result (λ tally. (o : ℕ) → slice_index tally.items o ≤ 4096) }
 {

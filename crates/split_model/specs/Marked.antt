@@ -15,8 +15,8 @@ use Rattle.split_model.specs.declared.layouts.Way.{Way}
 use Rattle.split_model.specs.declared.layouts.Way.TheVariants.{Up, Down}
 use Rattle.split_model.specs.declared.layouts.Crossings.{Crossings}
 use Rattle.split_model.specs.Split.{is_server, is_post, any_below}
-use Rattle.split_model.specs.Crossing.{is_value, is_among, is_condition, is_server_write, is_read_by, guards_write, is_written_value}
-use Rattle.split_model.specs.Crossing.{crosses_up, crosses_down}
+use Rattle.split_model.specs.Crossing.{is_value, is_among, is_condition, is_server_write}
+use Rattle.split_model.specs.Crossing.{is_read_by, guards_write, is_written_value, crosses_up, crosses_down}
 use Rattle.split_model.specs.Layouts.{crossing}
 
 abbrev pub is_marked : List Bool → ValueId → Bool
@@ -29,7 +29,8 @@ pub record AreMarked (n : ℕ) (test : ValueId → Bool) (marks : List Bool) : T
 
 -- the marks after are those before, and on the values of this test besides
 abbrev pub Adds : (ValueId → Bool) → List Bool → List Bool → Type 0
-Adds more before after = (n : ℕ) (test : ValueId → Bool) → AreMarked n test before → AreMarked n (λ v. test v || more v) after
+Adds more before after =
+    (n : ℕ) (test : ValueId → Bool) → AreMarked n test before → AreMarked n (λ v. test v || more v) after
 
 -- who reads
 abbrev pub is_of : Reader → List Part → ℕ → Bool
@@ -84,6 +85,9 @@ pub record AreGuardsFrom (f : Program) (b : ℕ) (covering guards : List Bool) :
   pub up : (k : ℕ) → b ≤ k → k < length f.blocks → slice_index_or covering (suc k) false ≡ true
       → slice_index_or covering (block_at f.blocks k).parent false ≡ true
   pub marks : (k : ℕ) (v : ValueId) → b ≤ k → k < length f.blocks → slice_index_or covering (suc k) false ≡ true
-      → v.instruction < length f.code → v.result < 9 → is_value v (block_at f.blocks k).cond ≡ true → is_marked guards v ≡ true
-  pub covers : (d : ℕ) (v : ValueId) → slice_index_or covering d false ≡ true → decides f v d ≡ true → guards_write f v ≡ true
-  pub sound : (v : ValueId) → v.instruction < length f.code → v.result < 9 → is_marked guards v ≡ true → guards_write f v ≡ true
+      → v.instruction < length f.code → v.result < 9 → is_value v (block_at f.blocks k).cond ≡ true
+      → is_marked guards v ≡ true
+  pub covers : (d : ℕ) (v : ValueId) → slice_index_or covering d false ≡ true → decides f v d ≡ true
+      → guards_write f v ≡ true
+  pub sound : (v : ValueId) → v.instruction < length f.code → v.result < 9 → is_marked guards v ≡ true
+      → guards_write f v ≡ true

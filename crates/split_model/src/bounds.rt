@@ -50,8 +50,8 @@ fn are_small(objects: &[ObjectDecl]) -> bool
     true
 }
 
-/// Whether a flat program is well formed, and its instructions, its objects, and the widths in these are as few and as small
-/// as in a program from a source.
+/// Whether a flat program is well formed, and its instructions, its objects, and the widths in these are as few and as
+/// small as in a program from a source.
 pub fn is_bounded(f: &Flat) -> bool
     ensures { IsTrue result ↔ IsBounded (program_of f.now) }
 {

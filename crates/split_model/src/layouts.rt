@@ -149,8 +149,8 @@ impl Crossings {
         Ok(())
     }
 
-    // Puts the results of instruction `i` that cross last. `first` is the number of its first result. The answer is how many
-    // results it has.
+    // Puts the results of instruction `i` that cross last. `first` is the number of its first result. The answer is how
+    // many results it has.
     fn put_results(
         &self,
         f: &Flat,
@@ -208,8 +208,8 @@ pub fn up_layout(alloc: Global, f: &Flat, s: &Split) -> Result<Layout, NoMemory>
     layout_of(alloc, f, s, Way::Up)
 }
 
-/// The values that the server hands down to postprocessing, those that it was handed up among them. It takes one step an
-/// operand, a block and a value.
+/// The values that the server hands down to postprocessing, those that it was handed up among them. It takes one step
+/// an operand, a block and a value.
 pub fn down_layout(alloc: Global, f: &Flat, s: &Split) -> Result<Layout, NoMemory>
     requires bounded { IsBounded (program_of f.now) }
     ensures exact { IfOk result (λ layout. layout ≡ down_layout (program_of f.now) s.now) }

@@ -8,7 +8,7 @@ use Rattle.std.proofs.lemmas.Nat.{shr_split, shr-shr, shr_high, mul-le, mod-pow-
 use Rattle.std.proofs.lemmas.Nat.Bits.{bit_at-lt, bit_at-zero, bit_at_cat_low, bit_at_cat_high}
 use Rattle.std.specs.Int.{bit_at}
 use Rattle.std.specs.List.{All}
-use Rattle.transfer_header.specs.Bits.{bits_of, number_of, bits_in, bytes_for, filled, cut, packed}
+use Rattle.transfer_header.specs.Bits.{bits_of, number_from, bits_in, bytes_for, filled, cut, packed}
 
 abbrev pub AreBits : List ℕ → Type 0
 AreBits bits = All (λ bit. bit < 2) bits
@@ -77,46 +77,46 @@ bits_of_0 zero = bits_of-zero 0
 bits_of_0 (suc width) = bits_of-suc width 0 ∙ ap (λ x. x ∷ bits_of width 0) (bit_at-zero width) ∙ ap (λ x. 0 ∷ x) (bits_of_0 width)
 
 -- ---- the number of some bits
-number_of-nil : number_of [] ≡ 0
-unfolding number_of
-number_of-nil = refl
+number_from-nil : number_from [] ≡ 0
+unfolding number_from
+number_from-nil = refl
 
-number_of-cons : (bit : ℕ) (bits : List ℕ) → number_of (bit ∷ bits) ≡ bit * 2 ^ length bits + number_of bits
-unfolding number_of
-number_of-cons bit bits = refl
+number_from-cons : (bit : ℕ) (bits : List ℕ) → number_from (bit ∷ bits) ≡ bit * 2 ^ length bits + number_from bits
+unfolding number_from
+number_from-cons bit bits = refl
 
-pub number_of-bits_of : (width number : ℕ) → number_of (bits_of width number) ≡ number % 2 ^ width
-number_of-bits_of zero number = ap number_of (bits_of-zero number) ∙ number_of-nil ∙ omega arith
-number_of-bits_of (suc width) number =
+pub number_from-bits_of : (width number : ℕ) → number_from (bits_of width number) ≡ number % 2 ^ width
+number_from-bits_of zero number = ap number_from (bits_of-zero number) ∙ number_from-nil ∙ omega arith
+number_from-bits_of (suc width) number =
     let parts : number % 2 ^ (1 + width) ≡ bit_at number width * 2 ^ width + number % 2 ^ width = mod-pow-add number 1 width in
     let count : 1 + width ≡ suc width = omega arith in
-    ap number_of (bits_of-suc width number) ∙ number_of-cons (bit_at number width) (bits_of width number)
-    ∙ ap (λ x. bit_at number width * 2 ^ x + number_of (bits_of width number)) (length-bits_of width number)
-    ∙ ap (λ x. bit_at number width * 2 ^ width + x) (number_of-bits_of width number)
+    ap number_from (bits_of-suc width number) ∙ number_from-cons (bit_at number width) (bits_of width number)
+    ∙ ap (λ x. bit_at number width * 2 ^ x + number_from (bits_of width number)) (length-bits_of width number)
+    ∙ ap (λ x. bit_at number width * 2 ^ width + x) (number_from-bits_of width number)
     ∙ sym parts ∙ ap (λ x. number % 2 ^ x) count
 
-pub number_of-lt : (bits : List ℕ) → AreBits bits → number_of bits < 2 ^ length bits
-number_of-lt [] are = omega (arith, number_of-nil)
-number_of-lt (bit ∷ bits) are =
+pub number_from-lt : (bits : List ℕ) → AreBits bits → number_from bits < 2 ^ length bits
+number_from-lt [] are = omega (arith, number_from-nil)
+number_from-lt (bit ∷ bits) are =
     let first : bit < 2 = All-head (λ bit. bit < 2) bit bits are in
     let most : bit * 2 ^ length bits ≤ 1 * 2 ^ length bits = mul-le bit (2 ^ length bits) 1 (2 ^ length bits) (omega arith) (omega arith) in
-    let rest : number_of bits < 2 ^ length bits = number_of-lt bits (All-tail (λ bit. bit < 2) bit bits are) in
-    omega (arith, number_of-cons bit bits, most, rest, pow-suc 2 (length bits))
+    let rest : number_from bits < 2 ^ length bits = number_from-lt bits (All-tail (λ bit. bit < 2) bit bits are) in
+    omega (arith, number_from-cons bit bits, most, rest, pow-suc 2 (length bits))
 
 one_bit : (bit k : ℕ) → bit < 2 → bit_at bit (k - k) ≡ bit
 one_bit bit k fits = let none : k - k ≡ 0 = omega arith in let first : bit_at bit 0 ≡ bit = omega arith in ap (bit_at bit) none ∙ first
 
-pub bits_of-number_of : (bits : List ℕ) → AreBits bits → bits_of (length bits) (number_of bits) ≡ bits
-bits_of-number_of [] are = bits_of-zero (number_of [])
-bits_of-number_of (bit ∷ bits) are =
+pub bits_of-number_from : (bits : List ℕ) → AreBits bits → bits_of (length bits) (number_from bits) ≡ bits
+bits_of-number_from [] are = bits_of-zero (number_from [])
+bits_of-number_from (bit ∷ bits) are =
     let first : bit < 2 = All-head (λ bit. bit < 2) bit bits are in
     let others : AreBits bits = All-tail (λ bit. bit < 2) bit bits are in
-    let rest : number_of bits < 2 ^ length bits = number_of-lt bits others in
+    let rest : number_from bits < 2 ^ length bits = number_from-lt bits others in
     let l : ℕ = length bits in
-    let whole : ℕ = bit * 2 ^ l + number_of bits in
-    let top : bit_at whole l ≡ bit = bit_at_cat_high bit l (number_of bits) l rest (omega arith) ∙ one_bit bit l first in
-    let low : bits_of l whole ≡ bits = bits_of-same l whole (number_of bits) (λ i below. bit_at_cat_low bit l (number_of bits) i below) ∙ bits_of-number_of bits others in
-    ap (bits_of (suc l)) (number_of-cons bit bits) ∙ bits_of-suc l whole ∙ ap (λ x. x ∷ bits_of l whole) top ∙ ap (λ x. bit ∷ x) low
+    let whole : ℕ = bit * 2 ^ l + number_from bits in
+    let top : bit_at whole l ≡ bit = bit_at_cat_high bit l (number_from bits) l rest (omega arith) ∙ one_bit bit l first in
+    let low : bits_of l whole ≡ bits = bits_of-same l whole (number_from bits) (λ i below. bit_at_cat_low bit l (number_from bits) i below) ∙ bits_of-number_from bits others in
+    ap (bits_of (suc l)) (number_from-cons bit bits) ∙ bits_of-suc l whole ∙ ap (λ x. x ∷ bits_of l whole) top ∙ ap (λ x. bit ∷ x) low
 
 -- ---- the bits of bytes
 pub bits_in-nil : bits_in [] ≡ []
@@ -169,9 +169,9 @@ are_bits_in (byte ∷ bytes) = subst AreBits (sym (bits_in-cons byte bytes)) (Al
 -- bytes with the same bits are the same
 same_byte : (byte other : ℕ) → byte < 256 → other < 256 → bits_of 8 byte ≡ bits_of 8 other → byte ≡ other
 same_byte byte other fits fits' same =
-    let one : number_of (bits_of 8 byte) ≡ byte % 2 ^ 8 = number_of-bits_of 8 byte in
-    let two : number_of (bits_of 8 other) ≡ other % 2 ^ 8 = number_of-bits_of 8 other in
-    omega (arith, one, two, ap number_of same)
+    let one : number_from (bits_of 8 byte) ≡ byte % 2 ^ 8 = number_from-bits_of 8 byte in
+    let two : number_from (bits_of 8 other) ≡ other % 2 ^ 8 = number_from-bits_of 8 other in
+    omega (arith, one, two, ap number_from same)
 
 pub same_bytes : (bytes others : List ℕ) → AreBytes bytes → AreBytes others → bits_in bytes ≡ bits_in others → bytes ≡ others
 same_bytes [] [] are are' same = refl
@@ -189,7 +189,7 @@ cut-zero : (bits : List ℕ) → cut 0 bits ≡ []
 unfolding cut
 cut-zero bits = refl
 
-cut-suc : (bytes : ℕ) (bits : List ℕ) → cut (suc bytes) bits ≡ number_of (take 8 bits) ∷ cut bytes (drop 8 bits)
+cut-suc : (bytes : ℕ) (bits : List ℕ) → cut (suc bytes) bits ≡ number_from (take 8 bits) ∷ cut bytes (drop 8 bits)
 unfolding cut
 cut-suc bytes bits = refl
 
@@ -210,18 +210,18 @@ bits_in-cut (suc bytes) bits are len =
     let front : AreBits (take 8 bits) = All-take (λ bit. bit < 2) 8 bits are in
     let back : AreBits (drop 8 bits) = All-drop (λ bit. bit < 2) 8 bits are in
     let eight : length (take 8 bits) ≡ 8 = first_eight bytes bits len in
-    let first : bits_of 8 (number_of (take 8 bits)) ≡ take 8 bits = ap (λ k. bits_of k (number_of (take 8 bits))) (sym eight) ∙ bits_of-number_of (take 8 bits) front in
+    let first : bits_of 8 (number_from (take 8 bits)) ≡ take 8 bits = ap (λ k. bits_of k (number_from (take 8 bits))) (sym eight) ∙ bits_of-number_from (take 8 bits) front in
     let rest : bits_in (cut bytes (drop 8 bits)) ≡ drop 8 bits = bits_in-cut bytes (drop 8 bits) back (length-drop 8 bits ∙ omega arith) in
-    ap bits_in (cut-suc bytes bits) ∙ bits_in-cons (number_of (take 8 bits)) (cut bytes (drop 8 bits))
+    ap bits_in (cut-suc bytes bits) ∙ bits_in-cons (number_from (take 8 bits)) (cut bytes (drop 8 bits))
     ∙ ap (λ x. x ++ bits_in (cut bytes (drop 8 bits))) first ∙ ap (λ x. take 8 bits ++ x) rest ∙ take-append-drop 8 bits
 
 pub are_bytes-cut : (bytes : ℕ) (bits : List ℕ) → AreBits bits → length bits ≡ 8 * bytes → AreBytes (cut bytes bits)
 are_bytes-cut zero bits are len = subst AreBytes (sym (cut-zero bits)) (All-nil (λ byte. byte < 256))
 are_bytes-cut (suc bytes) bits are len =
     let eight : length (take 8 bits) ≡ 8 = first_eight bytes bits len in
-    let fits : number_of (take 8 bits) < 2 ^ 8 = subst (λ k. number_of (take 8 bits) < 2 ^ k) eight (number_of-lt (take 8 bits) (All-take (λ bit. bit < 2) 8 bits are)) in
+    let fits : number_from (take 8 bits) < 2 ^ 8 = subst (λ k. number_from (take 8 bits) < 2 ^ k) eight (number_from-lt (take 8 bits) (All-take (λ bit. bit < 2) 8 bits are)) in
     subst AreBytes (sym (cut-suc bytes bits))
-    (All-cons (λ byte. byte < 256) (number_of (take 8 bits)) (cut bytes (drop 8 bits)) (omega (arith, fits)) (are_bytes-cut bytes (drop 8 bits) (All-drop (λ bit. bit < 2) 8 bits are) (length-drop 8 bits ∙ omega arith)))
+    (All-cons (λ byte. byte < 256) (number_from (take 8 bits)) (cut bytes (drop 8 bits)) (omega (arith, fits)) (are_bytes-cut bytes (drop 8 bits) (All-drop (λ bit. bit < 2) 8 bits are) (length-drop 8 bits ∙ omega arith)))
 
 pub are_bits-filled : (bits : List ℕ) → AreBits bits → AreBits (filled bits)
 are_bits-filled bits are = All-append (λ bit. bit < 2) bits _ are (All-replicate (λ bit. bit < 2) (8 * bytes_for (length bits) - length bits) 0 (lit< tt))

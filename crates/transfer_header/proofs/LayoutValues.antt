@@ -6,10 +6,10 @@ use Rattle.std.proofs.lemmas.List.{append-nil, get_or_read, take_more, take_at, 
 use Rattle.std.proofs.lemmas.List.Elements.{All-nil, All-cons, All-head, All-tail, All-append, All-more}
 use Rattle.std.specs.List.{All, AllPairs}
 use Rattle.split_model.specs.declared.layout.Crossing.{Crossing}
-use Rattle.transfer_header.specs.Bits.{bits_of, number_of, bits_in}
+use Rattle.transfer_header.specs.Bits.{bits_of, number_from, bits_in}
 use Rattle.transfer_header.specs.Values.{total, value_bits, AreNarrow, Agree}
 use Rattle.transfer_header.specs.Registers.{value_in, ChangesOnly}
-use Rattle.transfer_header.proofs.BitLists.{AreBits, are_bits_of, length-bits_of, number_of-bits_of}
+use Rattle.transfer_header.proofs.BitLists.{AreBits, are_bits_of, length-bits_of, number_from-bits_of}
 
 -- ---- how many bits they have
 pub total-append : (layout others : List Crossing) → total (layout ++ others) ≡ total layout + total others
@@ -87,8 +87,8 @@ agree_by_bits (c ∷ cs) values others fits fits' same =
     let first : one ≡ two = sym (take_at one (value_bits cs values) w (length-bits_of w (values c))) ∙ ap (take w) both ∙ take_at two (value_bits cs others) w (length-bits_of w (others c)) in
     let rest : value_bits cs values ≡ value_bits cs others = sym (drop_at one (value_bits cs values) w (length-bits_of w (values c))) ∙ ap (drop w) both ∙ drop_at two (value_bits cs others) w (length-bits_of w (others c)) in
     let number : values c ≡ others c =
-    sym (mod-eq_of_lt (All-head (λ (q : Crossing). values q < 2 ^ q.width) c cs fits)) ∙ sym (number_of-bits_of w (values c)) ∙ ap number_of first
-    ∙ number_of-bits_of w (others c) ∙ mod-eq_of_lt (All-head (λ (q : Crossing). others q < 2 ^ q.width) c cs fits') in
+    sym (mod-eq_of_lt (All-head (λ (q : Crossing). values q < 2 ^ q.width) c cs fits)) ∙ sym (number_from-bits_of w (values c)) ∙ ap number_from first
+    ∙ number_from-bits_of w (others c) ∙ mod-eq_of_lt (All-head (λ (q : Crossing). others q < 2 ^ q.width) c cs fits') in
     All-cons (λ (q : Crossing). values q ≡ others q) c cs number
     (agree_by_bits cs values others (All-tail (λ (q : Crossing). values q < 2 ^ q.width) c cs fits) (All-tail (λ (q : Crossing). others q < 2 ^ q.width) c cs fits') rest)
 

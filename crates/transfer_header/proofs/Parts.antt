@@ -7,8 +7,8 @@ use Rattle.std.proofs.lemmas.List.{append-nil, ext_get_or, take_all, drop-drop}
 use Rattle.std.proofs.lemmas.List.Elements.{All-append, All-push}
 use Rattle.std.proofs.lemmas.Nat.{pow-add, pow_pos, mod_below, one_shl, shl_whole, mul-add-lt}
 use Rattle.std.specs.Int.{bit_at}
-use Rattle.transfer_header.specs.Bits.{bits_of, number_of, bits_in, packed}
-use Rattle.transfer_header.proofs.BitLists.{AreBits, AreBytes, bits_of-zero, length-bits_of, are_bits_of, get_or-bits_of, bit_at-shr, bits_of-low, bits_of-add, bits_of-cat, bits_of_0, number_of-bits_of, length-bits_in, bits_in-nil, bits_in-push, get_or-bits_in, are_bits_in, is_packed}
+use Rattle.transfer_header.specs.Bits.{bits_of, number_from, bits_in, packed}
+use Rattle.transfer_header.proofs.BitLists.{AreBits, AreBytes, bits_of-zero, length-bits_of, are_bits_of, get_or-bits_of, bit_at-shr, bits_of-low, bits_of-add, bits_of-cat, bits_of_0, number_from-bits_of, length-bits_in, bits_in-nil, bits_in-push, get_or-bits_in, are_bits_in, is_packed}
 
 -- ---- numbers side by side
 -- a number with so many bits of another behind it, as it is computed in 64 bits
@@ -149,6 +149,6 @@ pub filling : (fill number : ℕ) (rest : List ℕ) → number < 2 ^ fill → bi
 filling fill number rest fits is len =
     let whole : bits_of fill number ≡ rest = is ∙ take_all fill rest (omega arith) in (
       λ test. sym whole ∙ ap (bits_of fill) (eqb-true number 0 test) ∙ bits_of_0 fill,
-      λ zeros. let same : number ≡ 0 = sym (mod-eq_of_lt fits) ∙ sym (number_of-bits_of fill number) ∙ ap number_of (whole ∙ zeros ∙ sym (bits_of_0 fill)) ∙ number_of-bits_of fill 0 ∙ mod-eq_of_lt (pow_pos fill) in
+      λ zeros. let same : number ≡ 0 = sym (mod-eq_of_lt fits) ∙ sym (number_from-bits_of fill number) ∙ ap number_from (whole ∙ zeros ∙ sym (bits_of_0 fill)) ∙ number_from-bits_of fill 0 ∙ mod-eq_of_lt (pow_pos fill) in
           ap (λ x. x == 0) same,
     )
