@@ -1,0 +1,16 @@
+pub mod Words
+pub mod Lists
+pub mod Order
+pub mod Sorting
+pub mod Serial
+pub mod Steps
+pub mod Counts
+pub mod Places
+pub mod Fates
+pub mod Respects
+pub mod History
+pub mod Runs
+pub mod Serialised
+pub mod Seen
+pub mod Admissions
+pub mod Draining
