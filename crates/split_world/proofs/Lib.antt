@@ -14,3 +14,6 @@ pub mod Serialised
 pub mod Seen
 pub mod Admissions
 pub mod Draining
+pub mod Ties
+pub mod Tying
+pub mod Answering

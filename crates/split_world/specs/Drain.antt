@@ -1,11 +1,10 @@
 -- The events that end a run, one after the other.
-use Rattle.std.specs.Prelude.{◌≡◌, ℕ, zero, suc, ◌+◌, ◌*◌, true, List, Option, Some, None, nat_lt, length, if◌then◌else◌}
+use Rattle.std.specs.Prelude.{ℕ, zero, suc, ◌+◌, ◌*◌, List, length, nat_lt, if◌then◌else◌, Option, Some, None}
 use Rattle.packet_fields.specs.declared.packet.Packet.{Packet}
 use Rattle.run_text.specs.declared.event.Event.{Event}
 use Rattle.run_text.specs.declared.event.Event.TheVariants.{Admit, Serve, Send, Apply, Ack, Hold, Down}
 use Rattle.split_world.specs.Program.{SplitProgram}
 use Rattle.split_world.specs.World.{World, step}
-use Rattle.split_world.specs.Run.{is_drained}
 
 -- the first of `k`, `w`, `c`, `d 0`, `h 0`, `u 0` and `a` that applies
 abbrev pub next_event : ℕ → World → Option Event

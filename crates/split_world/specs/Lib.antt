@@ -5,3 +5,6 @@ pub mod Run
 pub mod Serialises
 pub mod Tables
 pub mod Drain
+pub mod Replay
+pub mod Answered
+pub mod Tied

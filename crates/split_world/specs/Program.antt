@@ -57,7 +57,8 @@ pub record IsSplitRun (s : SplitProgram) (store : Store) (packet : Packet) : Typ
   -- a packet that is fast leaves the store
   pub stays : s.is_fast store packet ≡ true → s.after store packet ≡ store
   -- it is fast, and has its verdict then, over each store with the same replicated objects
-  pub fast : (other : Store) → IsKept s.objects other → IsAlike s other store → s.is_fast other packet ≡ s.is_fast store packet
+  pub fast : (other : Store) → IsKept s.objects other → IsAlike s other store
+      → s.is_fast other packet ≡ s.is_fast store packet
   pub verdict : (other : Store) → IsKept s.objects other → IsAlike s other store → s.is_fast store packet ≡ true
       → s.verdict other packet ≡ s.verdict store packet
   -- the changes turn each replicated object into the one that the run leaves; each finds room there in turn, and there

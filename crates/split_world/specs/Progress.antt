@@ -16,7 +16,8 @@ pub data Progress : Type 0 where
   -- the switch finished it when it was admitted, over this version
   Fast : (admitted version : ℕ) (verdict : Verdict) → Progress
 
--- A packet that was on its way up is decided at an event. Where there is no packet, what is said doesn't matter: nothing is written there.
+-- A packet that was on its way up is decided at an event. Where there is no packet, what is said doesn't matter:
+-- nothing is written there.
 abbrev pub decided : ℕ → ℕ → Verdict → Option Progress → Progress
 decided event version verdict (Some (Up a)) = Held a event version verdict
 decided event version verdict (Some p) = p

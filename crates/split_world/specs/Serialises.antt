@@ -1,5 +1,6 @@
 -- What a run promises: that it is a serial run of the whole program.
-use Rattle.std.specs.Prelude.{◌≡◌, ◌<◌, ◌≤◌, ◌⊎◌, ℕ, suc, Bool, true, false, List, [], ◌∷◌, map, length, Option, Some, None, is_some, slice_get, ◌==◌, if◌then◌else◌}
+use Rattle.std.specs.Prelude.{◌≡◌, ◌<◌, ◌≤◌, ◌⊎◌, ℕ, suc, ◌==◌, Bool, true, false, if◌then◌else◌, Option, Some, None}
+use Rattle.std.specs.Prelude.{is_some, List, [], ◌∷◌, map, length, slice_get}
 use Rattle.packet_fields.specs.declared.packet.Packet.{Packet}
 use Rattle.packet_fields.specs.declared.verdict.Verdict.{Verdict}
 use Rattle.state_store.specs.Store.{start_store}
@@ -73,12 +74,13 @@ pub record Serialises (s : SplitProgram) (packets : List Packet) (run : Run) : T
   pub once : (p : ℕ) → times p run.order ≡ (if is_some (decided_at (slice_get run.fates p)) then 1 else 0)
   -- by version, and in one version by deciding event
   pub ascends : (i j p q : ℕ) (x y : ℕ × ℕ) → slice_get run.order i ≡ Some p → slice_get run.order j ≡ Some q
-      → decided_at (slice_get run.fates p) ≡ Some x → decided_at (slice_get run.fates q) ≡ Some y → i < j → IsEarlier x y
+      → decided_at (slice_get run.fates p) ≡ Some x → decided_at (slice_get run.fates q) ≡ Some y
+      → i < j → IsEarlier x y
   -- the serial run leaves the rows that are reported
   pub rows : run.objects ≡ parts_of s.objects (serial_store s (start_store s.objects) (in_order packets run))
   -- and gives each released packet its verdict, at its place in the order
-  pub verdicts : (i p r : ℕ) (y : Verdict) → slice_get run.order i ≡ Some p → released_at (slice_get run.fates p) ≡ Some (r, y)
-      → slice_get (run_verdicts s packets run) i ≡ Some y
+  pub verdicts : (i p r : ℕ) (y : Verdict) → slice_get run.order i ≡ Some p
+      → released_at (slice_get run.fates p) ≡ Some (r, y) → slice_get (run_verdicts s packets run) i ≡ Some y
   -- a packet that was released before another was admitted stands before it
   pub respects : (i j p q r a : ℕ) (y : Verdict) → slice_get run.order i ≡ Some p → slice_get run.order j ≡ Some q
       → released_at (slice_get run.fates p) ≡ Some (r, y) → admitted_at (slice_get run.fates q) ≡ Some a → r < a → i < j
@@ -86,7 +88,8 @@ pub record Serialises (s : SplitProgram) (packets : List Packet) (run : Run) : T
 -- Every admitted packet was released, with its verdict in that serial run.
 pub record AllReleased (s : SplitProgram) (packets : List Packet) (run : Run) : Type 0 where
   pub each : (p : ℕ) → p < length run.fates
-      → (i r : ℕ) × (y : Verdict) × (slice_get run.order i ≡ Some p) × (released_at (slice_get run.fates p) ≡ Some (r, y)) × (slice_get (run_verdicts s packets run) i ≡ Some y)
+      → (i r : ℕ) × (y : Verdict) × (slice_get run.order i ≡ Some p)
+      × (released_at (slice_get run.fates p) ≡ Some (r, y)) × (slice_get (run_verdicts s packets run) i ≡ Some y)
 
 -- The trace is done: every packet of it was admitted, and released with its verdict in that serial run.
 pub record IsDrained (s : SplitProgram) (packets : List Packet) (run : Run) : Type 0 where

@@ -1,6 +1,7 @@
--- The world of a replay of a split program: its steps and its runs. Whole packets run over whole stores, and there is one
--- store for each version.
-use Rattle.std.specs.Prelude.{ℕ, ◌+◌, List, [], ◌∷◌, ◌++◌, Option, Some, None, nat_le, nat_lt, take, slice_get, slice_set, get_or, remove, length, if◌then◌else◌}
+-- The world of a replay of a split program: its steps and its runs. Whole packets run over whole stores, and there is
+-- one store for each version.
+use Rattle.std.specs.Prelude.{ℕ, ◌+◌, nat_le, nat_lt, if◌then◌else◌, Option, Some, None, List, [], ◌∷◌, ◌++◌, length}
+use Rattle.std.specs.Prelude.{take, slice_get, slice_set, get_or, remove}
 use Rattle.packet_fields.specs.declared.packet.Packet.{Packet}
 use Rattle.state_store.specs.Store.{Store, start_store}
 use Rattle.writeback_table.specs.declared.command.Update.{Update}
@@ -18,7 +19,8 @@ pub record World : Type 0 where
   pub store : Store
   pub version : ℕ
   pub stores : List Store
-  -- the numbers of the packets that the server holds, each with the version that it waits for, and of those that come down
+  -- the numbers of the packets that the server holds, each with the version that it waits for, and of those that come
+  -- down
   pub held : List (ℕ × ℕ)
   pub down : List ℕ
   -- all commands so far, and how many of them were sent, applied and acknowledged
@@ -77,7 +79,8 @@ idled w = record w { idle = w.idle + 1 }
 -- the switch finishes a packet over the version that lookups see
 abbrev pub finished : SplitProgram → World → Packet → World
 finished s w packet =
-    record w { progress = w.progress ++ Fast w.events (visible w.commands w.done) (s.verdict (seen_store w) packet) ∷ [] }
+    let version = visible w.commands w.done in
+    record w { progress = w.progress ++ Fast w.events version (s.verdict (seen_store w) packet) ∷ [] }
 
 abbrev pub sent_up : World → World
 sent_up w = record w { up = w.up ++ length w.progress ∷ []; progress = w.progress ++ Up w.events ∷ [] }
@@ -87,22 +90,27 @@ abbrev pub admitted : SplitProgram → World → Option Packet → World
 admitted s w None = idled w
 admitted s w (Some packet) = if s.is_fast (seen_store w) packet then finished s w packet else sent_up w
 
--- changes that the switch has to hear of begin a version with the store that they leave, and their commands go behind all
--- others
+-- changes that the switch has to hear of begin a version with the store that they leave, and their commands go behind
+-- all others
 abbrev pub with_changes : Store → List Update → World → World
 with_changes store [] w = w
 with_changes store (update ∷ updates) w =
-    record w { version = w.version + 1; stores = w.stores ++ store ∷ []; commands = w.commands ++ commands_of (update ∷ updates) }
+    record w {
+      version = w.version + 1;
+      stores = w.stores ++ store ∷ [];
+      commands = w.commands ++ commands_of (update ∷ updates);
+    }
 
 -- the server runs packet number p, which stands at place j of `up`; it is decided, and its output waits for the version
 -- that the server has now
 abbrev pub ran : SplitProgram → World → ℕ → ℕ → Packet → World
 ran s w j p packet =
+    let now = decided w.events w.version (s.verdict w.store packet) (slice_get w.progress p) in
     record w {
       up = remove w.up j;
       store = s.after w.store packet;
       held = w.held ++ (p, w.version) ∷ [];
-      progress = slice_set w.progress p (decided w.events w.version (s.verdict w.store packet) (slice_get w.progress p));
+      progress = slice_set w.progress p now;
     }
 
 abbrev pub served : SplitProgram → List Packet → World → ℕ → Option ℕ → World
