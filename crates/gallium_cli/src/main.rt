@@ -9,6 +9,8 @@ ghost use Rattle.gallium_cli.specs.Status.{code_of};
 mod compile;
 #[cfg(test)]
 mod compile_tests;
+#[cfg(test)]
+mod flat_tests;
 mod formats;
 mod load;
 mod output;

@@ -12,7 +12,7 @@ use std::alloc::Global;
 use std::test::Fail;
 
 // An address translator: port 0 is the inside, port 1 the outside, 192.0.2.1 the public address.
-const TRANSLATOR: &str = "map out (32, 16) -> (16) capacity 60000;\n\
+pub(crate) const TRANSLATOR: &str = "map out (32, 16) -> (16) capacity 60000;\n\
     map back (16) -> (32, 16) capacity 60000;\n\
     int next : 16 = 1024;\n\
     process {\n  \

@@ -9,7 +9,7 @@ use Rattle.gal_io.specs.Lines.{lines, is_skipped}
 use Rattle.gal_io.specs.Number.{number_up_to}
 use Rattle.packet_fields.specs.declared.packet.Packet.{Packet}
 use Rattle.run_text.specs.declared.event.Event.{Event}
-use Rattle.run_text.specs.declared.event.Event.TheVariants.{Admit, Serve, Hold, Down}
+use Rattle.run_text.specs.declared.event.Event.TheVariants.{Admit, Serve, Send, Apply, Ack, Hold, Down}
 use Rattle.run_text.specs.declared.refusal.LineKind.{LineKind}
 use Rattle.run_text.specs.declared.refusal.LineKind.TheVariants.{Form, Number, Hex, Long}
 use Rattle.run_text.specs.declared.refusal.LinesError.{LinesError}
@@ -81,15 +81,27 @@ abbrev pub item_line : (ℕ → Event) → List ℕ → Result Event LineKind
 item_line event line =
     if list_any is_space line then numbered event (number_up_to largest (after_first is_space line)) else Err Form
 
--- A line of a schedule is `a`, or one of `u`, `h` and `d`, a space and a number below 2 ^ 32.
-abbrev pub event_line : List ℕ → Result Event LineKind
-event_line line =
+-- the events that name no item
+abbrev pub word_event : List ℕ → Option Event
+word_event line =
+    if bytes_eq line (codes "a") then Some Admit
+    else (if bytes_eq line (codes "c") then Some Send
+    else (if bytes_eq line (codes "w") then Some Apply
+    else (if bytes_eq line (codes "k") then Some Ack
+    else None)))
+
+abbrev pub event_by : Option Event → List ℕ → Result Event LineKind
+event_by (Some event) line = Ok event
+event_by None line =
     let letter = before_first is_space line in
-    if bytes_eq line (codes "a") then Ok Admit
-    else (if bytes_eq letter (codes "u") then item_line Serve line
+    if bytes_eq letter (codes "u") then item_line Serve line
     else (if bytes_eq letter (codes "h") then item_line Hold line
     else (if bytes_eq letter (codes "d") then item_line Down line
-    else Err Form)))
+    else Err Form))
+
+-- A line of a schedule is one of `a`, `c`, `w` and `k`, or one of `u`, `h` and `d`, a space and a number below 2 ^ 32.
+abbrev pub event_line : List ℕ → Result Event LineKind
+event_line line = event_by (word_event line) line
 
 -- the events that the text of a schedule spells
 abbrev pub schedule_of : List ℕ → Result (List Event) LinesError

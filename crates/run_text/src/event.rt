@@ -12,6 +12,12 @@ pub enum Event {
     Admit,
     /// The server runs this item of the packets that were sent up.
     Serve(u32),
+    /// The server sends the switch its next command.
+    Send,
+    /// The switch applies the next command that was sent.
+    Apply,
+    /// The switch acknowledges the next command that it applied.
+    Ack,
     /// The server lets go of this item of the outputs that it holds.
     Hold(u32),
     /// The switch releases this item of the packets that come down.

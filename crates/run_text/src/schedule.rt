@@ -2,7 +2,7 @@
 ghost use Rattle.std.specs.Prelude.{◌≡◌, ◌≤◌, ◌⊎◌, length, IfOk, IfErr, MatchResult, Some, None, Ok, Err};
 ghost use Rattle.gal_io.specs.Number.{number_up_to};
 ghost use Rattle.run_text.specs.Sizes.{most_events};
-ghost use Rattle.run_text.specs.Trace.{event_line, largest, schedule_of};
+ghost use Rattle.run_text.specs.Trace.{event_line, largest, schedule_of, word_event};
 
 use crate::event::{Event, Events};
 use crate::line_value::{LineValue, read_values, split_at_space};
@@ -20,11 +20,28 @@ fn read_item(item: &[u8]) -> Result<u32, LineKind>
     }
 }
 
+// The event that a line without an item names.
+fn read_word(line: &[u8]) -> Option<Event>
+    ensures { result ≡ word_event line.now }
+{
+    if line == b"a".as_slice() {
+        Some(Event::Admit)
+    } else if line == b"c".as_slice() {
+        Some(Event::Send)
+    } else if line == b"w".as_slice() {
+        Some(Event::Apply)
+    } else if line == b"k".as_slice() {
+        Some(Event::Ack)
+    } else {
+        None
+    }
+}
+
 fn read_event(line: &[u8]) -> Result<Event, LineKind>
     ensures { result ≡ event_line line.now }
 {
-    if line == b"a".as_slice() {
-        return Ok(Event::Admit);
+    if let Some(event) = read_word(line) {
+        return Ok(event);
     }
     let Some((letter, item)) = split_at_space(line) else {
         return Err(LineKind::Form);
@@ -48,8 +65,8 @@ impl LineValue for Event {
     }
 }
 
-/// The events of a schedule. A line is `a` for the next packet of the trace, or `u`, `h` or `d`, a space and the
-/// number of an item in decimal.
+/// The events of a schedule. A line is `a` for the next packet of the trace, `c`, `w` or `k` for the next command to be
+/// sent, applied or acknowledged, or `u`, `h` or `d`, a space and the number of an item in decimal.
 pub fn read_schedule(alloc: Global, text: &[u8]) -> Result<Events, LinesError>
     ensures ok { IfOk result (λ events. schedule_of text.now ≡ Ok events) }
     ensures err { IfErr result (λ e. (e ≡ LinesError.NoMemory) ⊎ (schedule_of text.now ≡ Err e)) }

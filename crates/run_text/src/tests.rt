@@ -106,6 +106,10 @@ fn lines_of_a_schedule(rt: HostRuntime) {
         (b"A", refused(1, LineKind::Form)),
         (b" a", refused(1, LineKind::Form)),
         (b"a ", refused(1, LineKind::Form)),
+        (b"c\nw\nk", Ok(3)),
+        (b"c 0", refused(1, LineKind::Form)),
+        (b"k\nw ", refused(2, LineKind::Form)),
+        (b"drain", refused(1, LineKind::Form)),
     ] {
         let have = read_schedule(alloc, text).map(|events| events.len());
         assert_eq!(rt; have, want, "{text:?}");
@@ -115,13 +119,16 @@ fn lines_of_a_schedule(rt: HostRuntime) {
 #[test]
 fn events_of_a_schedule(rt: HostRuntime) -> Result<(), Fail> {
     let alloc = rt.alloc();
-    let Ok(read) = read_schedule(alloc, b"a\nu 0\nh 1\nd 2\n") else {
+    let Ok(read) = read_schedule(alloc, b"a\nu 0\nc\nw\nk\nh 1\nd 2\n") else {
         return Err(Fail::from("refused"));
     };
     let mut events = Events::new(alloc);
     for event in [
         Event::Admit,
         Event::Serve(0),
+        Event::Send,
+        Event::Apply,
+        Event::Ack,
         Event::Hold(1),
         Event::Down(2),
     ] {

@@ -6,7 +6,7 @@ use Rattle.packet_fields.specs.declared.verdict.Verdict.{Verdict}
 use Rattle.state_store.specs.Store.{Store}
 use Rattle.element_lang.specs.Tree.{Tree}
 use Rattle.run_text.specs.declared.event.Event.{Event}
-use Rattle.run_text.specs.declared.event.Event.TheVariants.{Admit, Serve, Hold, Down}
+use Rattle.run_text.specs.declared.event.Event.TheVariants.{Admit, Serve, Send, Apply, Ack, Hold, Down}
 use Rattle.schedule_replay.specs.Progress.{decided}
 use Rattle.schedule_replay.specs.World.{World, tick, idled, admitted, store_by, verdict_by, served, let_go, came_down, step}
 
@@ -40,6 +40,9 @@ by_step m packets w P (Serve j) c = go (slice_get w.up j) refl
     go : (o : Option ℕ) → slice_get w.up j ≡ o → P (served m packets (tick w) j o)
     go None e = c.idle
     go (Some p) e = c.serve j p e
+by_step m packets w P Send c = c.idle
+by_step m packets w P Apply c = c.idle
+by_step m packets w P Ack c = c.idle
 by_step m packets w P (Hold j) c = go (slice_get w.held j) refl
   where
     go : (o : Option ℕ) → slice_get w.held j ≡ o → P (let_go (tick w) j o)

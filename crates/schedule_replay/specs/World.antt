@@ -7,7 +7,7 @@ use Rattle.element_lang.specs.Tree.{Tree}
 use Rattle.state_store.specs.Store.{Store}
 use Rattle.element_lang.specs.Meaning.{source_store, source_verdict}
 use Rattle.run_text.specs.declared.event.Event.{Event}
-use Rattle.run_text.specs.declared.event.Event.TheVariants.{Admit, Serve, Hold, Down}
+use Rattle.run_text.specs.declared.event.Event.TheVariants.{Admit, Serve, Send, Apply, Ack, Hold, Down}
 use Rattle.schedule_replay.specs.declared.progress.Progress.{Progress}
 use Rattle.schedule_replay.specs.declared.progress.Progress.TheVariants.{Up}
 use Rattle.schedule_replay.specs.Progress.{decided, released}
@@ -73,9 +73,13 @@ came_down w j None = idled w
 came_down w j (Some p) =
     record w { down = remove w.down j; progress = slice_set w.progress p (released w.events (slice_get w.progress p)) }
 
+-- With everything on the server there are no commands, so none can be sent, applied or acknowledged.
 abbrev pub happens : Tree → List Packet → World → Event → World
 happens m packets w Admit = admitted w (slice_get packets (length w.progress))
 happens m packets w (Serve j) = served m packets w j (slice_get w.up j)
+happens m packets w Send = idled w
+happens m packets w Apply = idled w
+happens m packets w Ack = idled w
 happens m packets w (Hold j) = let_go w j (slice_get w.held j)
 happens m packets w (Down j) = came_down w j (slice_get w.down j)
 

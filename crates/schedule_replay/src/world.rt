@@ -197,6 +197,7 @@ impl World {
         match event {
             Event::Admit => self.admit(packets)?,
             Event::Serve(j) => self.serve(alloc, m, packets, j)?,
+            Event::Send | Event::Apply | Event::Ack => self.idle(),
             Event::Hold(j) => self.hold(j)?,
             Event::Down(j) => self.down(j),
         }

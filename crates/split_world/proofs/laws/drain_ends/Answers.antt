@@ -1,0 +1,8 @@
+use Rattle.split_world.proofs.Draining.{drain_ends, drain_stops}
+use Rattle.split_world.proofs.laws.drain_ends.Goals as goal
+
+pub returns-clause-bound : goal.returns-clause-bound
+returns-clause-bound c = drain_ends
+
+pub returns-clause-stops : goal.returns-clause-stops
+returns-clause-stops c = drain_stops

@@ -1,0 +1,32 @@
+-- The events that end a run, one after the other.
+use Rattle.std.specs.Prelude.{ℕ, zero, suc, ◌+◌, ◌*◌, List, length, nat_lt, if◌then◌else◌, Option, Some, None}
+use Rattle.packet_fields.specs.declared.packet.Packet.{Packet}
+use Rattle.run_text.specs.declared.event.Event.{Event}
+use Rattle.run_text.specs.declared.event.Event.TheVariants.{Admit, Serve, Send, Apply, Ack, Hold, Down}
+use Rattle.split_world.specs.Program.{SplitProgram}
+use Rattle.split_world.specs.World.{World, step}
+
+-- the first of `k`, `w`, `c`, `d 0`, `h 0`, `u 0` and `a` that applies
+abbrev pub next_event : ℕ → World → Option Event
+next_event total w =
+    if nat_lt w.acked w.done then Some Ack
+    else (if nat_lt w.done w.sent then Some Apply
+    else (if nat_lt w.sent (length w.commands) then Some Send
+    else (if nat_lt 0 (length w.down) then Some (Down 0)
+    else (if nat_lt 0 (length w.held) then Some (Hold 0)
+    else (if nat_lt 0 (length w.up) then Some (Serve 0)
+    else (if nat_lt (length w.progress) total then Some Admit else None))))))
+
+-- the world after an event, if there is one
+abbrev pub maybe_step : SplitProgram → List Packet → World → Option Event → World
+maybe_step s packets w None = w
+maybe_step s packets w (Some event) = step s packets w event
+
+-- the world after at most n of these events
+abbrev pub after_drain : SplitProgram → List Packet → ℕ → World → World
+after_drain s packets zero w = w
+after_drain s packets (suc n) w = after_drain s packets n (maybe_step s packets w (next_event (length packets) w))
+
+-- how many events are enough for so many packets and so many instructions that change replicated objects
+abbrev pub drain_bound : ℕ → ℕ → ℕ
+drain_bound packets writes = packets * (4 + 3 * (3 * writes + 2))

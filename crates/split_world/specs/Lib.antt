@@ -1,0 +1,10 @@
+pub mod Program
+pub mod Progress
+pub mod World
+pub mod Run
+pub mod Serialises
+pub mod Tables
+pub mod Drain
+pub mod Replay
+pub mod Answered
+pub mod Tied

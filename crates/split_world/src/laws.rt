@@ -1,0 +1,98 @@
+//! What holds of every run of a split program, whatever the packets and the schedule, as the definitions give it. These
+//! functions do nothing: their contracts are the laws.
+ghost use Rattle.std.specs.Prelude.{◌≡◌, ◌↔◌, ◌++◌, ◌∷◌, [], List, length, slice_get, Some, None, true, IsTrue};
+ghost use Rattle.packet_fields.specs.declared.packet.Packet.{Packet};
+ghost use Rattle.state_store.specs.Store.{start_store};
+ghost use Rattle.run_text.specs.declared.event.Event.{Event};
+ghost use Rattle.run_text.specs.declared.event.Event.TheVariants.{Admit};
+ghost use Rattle.split_world.specs.Program.{SplitProgram, IsSplitProgram};
+ghost use Rattle.split_world.specs.World.{seen_store, world_of};
+ghost use Rattle.split_world.specs.Run.{is_drained, is_quiet, job_run};
+ghost use Rattle.split_world.specs.Serialises.{Serialises, AllReleased, IsDrained, is_fast_fate};
+ghost use Rattle.split_world.specs.Tables.{HasNewestTables, IsSeen};
+ghost use Rattle.split_world.specs.Drain.{after_drain, drain_bound, next_event};
+ghost use Rattle.split_world.specs.Replay.{Replay, first_replay};
+ghost use Rattle.split_world.specs.Answered.{Call, AnswersOne, IsAnswered};
+ghost use Rattle.split_world.specs.Tied.{AreTold, HasFrames, IsTied};
+
+use writeback_table::{batches_are_seen_in_order, one_batch_more};
+
+/// Whatever the schedule, the run is a serial run of the whole program: runs of the decided packets, one after the
+/// other in the order that is reported, do just what the report tells. Where nothing is left on its way, every admitted
+/// packet was released; and a run that says `drained` has done so with the whole trace.
+pub fn every_run_serialises()
+    ensures serialises { (s : SplitProgram) (packets : List Packet) (events : List Event)
+        → IsSplitProgram s packets → Serialises s packets (job_run s packets events) }
+    ensures quiet { (s : SplitProgram) (packets : List Packet) (events : List Event)
+        → IsSplitProgram s packets → IsTrue (is_quiet (world_of s packets events))
+        → AllReleased s packets (job_run s packets events) }
+    ensures drained { (s : SplitProgram) (packets : List Packet) (events : List Event)
+        → IsSplitProgram s packets → (job_run s packets events).drained ≡ true
+        → IsDrained s packets (job_run s packets events) }
+{}
+
+/// At every point of a run, lookups of replicated objects see the store with which the visible version began, and the
+/// next command finds room.
+pub fn lookups_see_one_version()
+    ensures { (s : SplitProgram) (packets : List Packet) (events : List Event)
+        → IsSplitProgram s packets → IsSeen s (world_of s packets events) }
+{
+    batches_are_seen_in_order();
+    one_batch_more();
+}
+
+/// Where nothing is left on its way, the switch has the replicated objects of the server, and nothing is staged.
+pub fn a_quiet_switch_has_the_newest_tables()
+    ensures { (s : SplitProgram) (packets : List Packet) (events : List Event)
+        → IsSplitProgram s packets → IsTrue (is_quiet (world_of s packets events))
+        → HasNewestTables s (world_of s packets events) }
+{
+    batches_are_seen_in_order();
+    one_batch_more();
+}
+
+/// A packet is reported as fast just where it is fast over the store of the version that lookups saw when it was
+/// admitted, whatever happens behind that.
+pub fn a_packet_is_fast_by_what_is_seen()
+    ensures { (s : SplitProgram) (packets : List Packet) (events more : List Event) (packet : Packet)
+        → slice_get packets (length (world_of s packets events).progress) ≡ Some packet
+        → (let number = length (world_of s packets events).progress in
+        is_fast_fate (slice_get (job_run s packets (events ++ Admit ∷ more)).fates number)
+        ≡ s.is_fast (seen_store (world_of s packets events)) packet) }
+{}
+
+/// After any schedule, drain ends in a drained world within its bound. It goes on until then, and not beyond.
+pub fn drain_ends()
+    ensures bound { (s : SplitProgram) (packets : List Packet) (events : List Event)
+        → IsSplitProgram s packets
+        → (let bound = drain_bound (length packets) s.writes in
+        is_drained (length packets) (after_drain s packets bound (world_of s packets events)) ≡ true) }
+    ensures stops { (s : SplitProgram) (packets : List Packet) (events : List Event)
+        → IsSplitProgram s packets
+        → (next_event (length packets) (world_of s packets events) ≡ None)
+        ↔ (is_drained (length packets) (world_of s packets events) ≡ true) }
+{}
+
+/// Whatever a switch answers, the calls determine the replay: those of one event more are put behind the others.
+pub fn a_replay_is_answered_by_its_calls()
+    ensures first { (s : SplitProgram) (packets : List Packet)
+        → IsAnswered s packets [] [] (first_replay (start_store s.objects)) }
+    ensures step { (s : SplitProgram) (packets : List Packet) (events : List Event) (event : Event)
+        (r next : Replay) (calls one : List Call)
+        → IsAnswered s packets events calls r → AnswersOne s packets event r one next
+        → IsAnswered s packets (events ++ event ∷ []) (calls ++ one) next }
+{}
+
+/// Over a switch that tells its tables the replay is the world of the same events, from the start and after each step.
+pub fn a_told_step_keeps_the_tie()
+    ensures first { (s : SplitProgram) (packets : List Packet)
+        → IsTied s packets (first_replay (start_store s.objects)) (world_of s packets []) }
+    ensures step { (s : SplitProgram) (packets : List Packet) (events : List Event) (event : Event)
+        (r next : Replay) (calls : List Call)
+        → IsSplitProgram s packets → HasFrames s packets → IsTied s packets r (world_of s packets events)
+        → AnswersOne s packets event r calls next → AreTold s r calls
+        → IsTied s packets next (world_of s packets (events ++ event ∷ [])) }
+{
+    batches_are_seen_in_order();
+    one_batch_more();
+}
