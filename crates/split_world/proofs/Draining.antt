@@ -299,8 +299,7 @@ pub drain_stops : (s : SplitProgram) (packets : List Packet) (events : List Even
     → (next_event (length packets) (world_of s packets events) ≡ None) ↔ (is_drained (length packets) (world_of s packets events) ≡ true)
 drain_stops s packets events law =
     let w = world_of s packets events in
-    let k = kept_of s packets events law in
-    (
+    let k = kept_of s packets events law in (
       (λ none. done_is_drained packets w (subst (λ o. Lowers s packets w o) none (next_lowers s packets w law k))),
       (λ drained. drained_has_none packets w k.fine drained),
     )

@@ -334,8 +334,7 @@ complete_from s packets w k quiet =
           let out = released_since p (slice_get w.progress p) x.0 x.1 (omega arith) (omega arith) in
           let e = out.0 in
           let is : e.number ≡ p = entry_number p (slice_get w.progress p) e out.2 in
-          let place = place_of e o.entries (o.order.complete e (subst (λ z. entry_of z (slice_get w.progress z) ≡ Some e) (sym is) out.2)) in
-          (
+          let place = place_of e o.entries (o.order.complete e (subst (λ z. entry_of z (slice_get w.progress z) ≡ Some e) (sym is) out.2)) in (
             place.0,
             out.1,
             e.verdict,
