@@ -56,8 +56,7 @@ class RunDrawing {
       ["packets", `${grouped(report.admitted)} of ${grouped(report.total)} admitted`],
       ["never visited the server", grouped(fast)],
       ["decided by the server", grouped(report.decided - fast)],
-      ["released", grouped(report.released)],
-      ["still on its way", grouped(report.admitted - report.released)],
+      ["released", `${grouped(report.released)}, ${grouped(report.admitted - report.released)} on their way`],
       ["waited for the server", wait(longest((packet) => packet.decided - packet.admitted), "admitted", "decided")],
       ["then for release", wait(longest((packet) => packet.released - packet.decided), "decided", "released")],
       ["events", `${grouped(report.events)}, ${grouped(report.idle)} idle`],
@@ -252,14 +251,20 @@ class RunDrawing {
     };
   }
 
-  placed(tag, classes, from, until) {
-    const element = make(tag, classes);
+  // The stretch between two events, with a mark at its ends.
+  stretch(classes, from, until) {
+    const element = make("i", `wait ${classes}`);
     element.style.setProperty("--at", from);
-    if (until !== undefined) {
-      element.style.setProperty("--until", until);
-    } else {
-      element.tabIndex = -1;
-    }
+    element.style.setProperty("--until", until);
+    return element;
+  }
+
+  point(name, event) {
+    const element = make("b", `mark ${name}`);
+    element.style.setProperty("--at", event);
+    element.tabIndex = -1;
+    element.setAttribute("role", "img");
+    element.setAttribute("aria-label", `${name} at event ${event}`);
     return element;
   }
 
@@ -267,35 +272,33 @@ class RunDrawing {
     const { number, way, admitted, decided, released, port, version } = packet;
     const track = make("span", "track");
     const verdict = make("span", "verdict");
-    const end = way === "fast" ? "mark fast" : port === null ? "mark dropped" : "mark sent";
+    const letGo = this.letGo.get(number);
+    const open = released ? "" : " open";
+    const end = released || this.last;
     if (way === "up") {
-      track.append(this.placed("i", "wait up open", admitted, this.last), this.placed("b", "mark admitted", admitted));
+      track.append(this.stretch("up open", admitted, end), this.point("admitted", admitted));
       verdict.textContent = "… waits for the server";
     } else if (way === "slow") {
-      const letGo = this.letGo.get(number);
-      const until = released || this.last;
-      track.append(this.placed("i", "wait up", admitted, decided));
+      track.append(this.stretch("up", admitted, decided));
       if (letGo) {
-        track.append(this.placed("i", "wait held", decided, letGo), this.placed("i", `wait down${released ? "" : " open"}`, letGo, until));
+        track.append(this.stretch("held", decided, letGo), this.stretch(`down${open}`, letGo, end));
       } else {
-        track.append(this.placed("i", `wait held${released ? "" : " open"}`, decided, until));
+        track.append(this.stretch(`held${open}`, decided, end));
       }
-      track.append(this.placed("b", "mark admitted", admitted), this.placed("b", "mark decided", decided));
+      track.append(this.point("admitted", admitted), this.point("decided", decided));
+      verdict.textContent = letGo ? "… on its way down" : "… its output waits";
     }
     if (released) {
-      const mark = this.placed("b", end, released);
-      if (way === "fast" && port === null) {
-        mark.classList.add("drops");
-      }
+      const name = port === null ? "dropped" : "sent";
+      const mark = this.point(way === "fast" ? "fast" : name, released);
+      mark.classList.toggle("drops", way === "fast" && port === null);
       track.append(mark);
       verdict.textContent = port === null ? "✕ dropped" : `▶ port ${port}, ${counted(packet.bytes, "byte")}`;
-    } else if (way === "slow") {
-      verdict.textContent = this.letGo.get(number) ? "… on its way down" : "… output waits";
     }
     const label = makeWith("span", "label", [make("b", "", number), way === "fast" ? " fast" : "", version ? ` v${version}` : ""]);
-    const row = makeWith("div", `row ${way}${released ? "" : " open"}`, [label, track, verdict]);
+    const row = makeWith("div", `row ${way}${open}`, [label, track, verdict]);
     this.rows[number] = row;
-    return tellOf(row, () => this.tellPacket(packet));
+    return tellOf(row, (target) => this.tellPacket(packet, undefined, Number(target.style.getPropertyValue("--at"))));
   }
 
   inChunks(elements, classes) {
@@ -336,7 +339,7 @@ class RunDrawing {
       version = packet.version;
       seat.tabIndex = -1;
       this.seats[number] = seat;
-      return tellOf(seat, () => this.tellPacket(packet, place));
+      return tellOf(seat, () => this.tellPacket(packet, place, 0));
     });
     return makeWith("div", "order", [
       make("h4", "", "Serial order"), picture, makeWith("div", "seats", this.inChunks(seats, "chunk")),
@@ -347,7 +350,7 @@ class RunDrawing {
     return [this.rows[number], this.seats[number], this.paths[number]].map((element) => ({ element, name: "same" }));
   }
 
-  tellPacket(packet, place) {
+  tellPacket(packet, place, event) {
     const { number, way, admitted, decided, released, port, version, line } = packet;
     const parts = [`Packet ${number} was admitted at event ${admitted}`];
     if (way === "fast") {
@@ -370,6 +373,7 @@ class RunDrawing {
     if (arrived) {
       parts.push(` It arrived by port ${arrived.port} with ${counted(arrived.bytes, "byte")}.`);
     }
+    const performed = this.schedule && this.schedule.events[event - 1];
     const seat = this.places.get(number);
     if (seat !== undefined) {
       parts.push(` In the serial order ${counted(seat, "packet stands", "packets stand")} before it.`);
@@ -377,7 +381,8 @@ class RunDrawing {
     return {
       note: parts.join(""),
       lines: [{ kind: "report", line }, { kind: "report", line: place === undefined ? null : this.report.orderLine },
-        ...(arrived ? [{ kind: "trace", line: arrived.line }] : [])],
+        ...(arrived ? [{ kind: "trace", line: arrived.line }] : []),
+        ...(performed ? [{ kind: "schedule", line: performed.line }] : [])],
       related: this.relatedTo(number),
     };
   }

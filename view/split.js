@@ -16,6 +16,12 @@ function wordOf({ kind, constant, field, object, width, shift }) {
   return field || (object ? `${kind} ${object}` : short[kind] || kind);
 }
 
+// Some numbers behind a word, or nothing where there are none.
+function listed(word, numbers) {
+  const shown = numbers.slice(0, 12).join(", ");
+  return numbers.length === 0 ? "" : `${word} ${shown}${numbers.length > 12 ? ` and ${numbers.length - 12} more` : ""}.`;
+}
+
 const shapeOf = ({ kind }) =>
   (OPERATORS.has(kind) || kind === "byte" ? (kind === "select" ? "select" : "operator") : kind === "del" ? "put" : kind);
 
@@ -133,12 +139,14 @@ class SplitDrawing {
         before === null ? "" : " again"} after the server, in stage ${after}`);
     }
     parts.push(block === 0 ? "." : `. It counts where block ${block} is live.`);
-    const mine = (numbers, name) => numbers.flatMap((giver) => this.marks[giver].map((element) => ({ element, name })));
+    const givers = [...new Set(operands.map((value) => value.instruction))];
+    parts.push(listed(" It reads", givers), listed(" It is read by", this.users[number]));
+    const mine = (numbers, name) => numbers.flatMap((other) => this.marks[other].map((element) => ({ element, name })));
     return {
       note: parts.join(""),
       lines: [{ kind: "answer", line }, { kind: "answer", line: partLine }, { kind: "answer", line: this.answer.blocks[block].line }],
       related: [
-        ...mine([number], "same"), ...mine(operands.map((value) => value.instruction), "needed"),
+        ...mine([number], "same"), ...mine(givers, "needed"),
         ...mine(this.users[number], "user"),
       ],
     };

@@ -40,6 +40,16 @@ function linesOf(text) {
   return lines.map((line) => (line.endsWith("\r") ? line.slice(0, -1) : line));
 }
 
+const compiled = new Map();
+
+// The regular expression for whole lines of the pattern, made once.
+function wholeLine(pattern) {
+  if (!compiled.has(pattern)) {
+    compiled.set(pattern, new RegExp(`^${pattern}$`));
+  }
+  return compiled.get(pattern);
+}
+
 // Walks over the lines of a text. Lines that `skipped` says yes to are passed over.
 class LineReader {
   constructor(text, skipped) {
@@ -70,7 +80,7 @@ class LineReader {
 
   // The parts of the next line where it fits the pattern; the walk then goes on behind it.
   match(pattern) {
-    const parts = this.ended ? null : new RegExp(`^${pattern}$`).exec(this.lines[this.place]);
+    const parts = this.ended ? null : wholeLine(pattern).exec(this.lines[this.place]);
     if (parts) {
       this.place += 1;
       this.pass();
@@ -122,7 +132,7 @@ function readKind(words, number) {
   } else if (isAccess) {
     instruction.object = rest[0];
     operandWords = rest.slice(1);
-    if (!new RegExp(`^${NAME}$`).test(rest[0] || "")) {
+    if (!wholeLine(NAME).test(rest[0] || "")) {
       return null;
     }
   } else if (kind === "byte") {
@@ -437,6 +447,7 @@ const TEXT_KINDS = new Map([
   ["report", { title: "report", read: readReport }],
   ["schedule", { title: "schedule", read: readSchedule }],
   ["trace", { title: "trace", read: readTrace }],
+  ["nothing", { title: "tells nothing", read: (text) => ({ lines: linesOf(text) }) }],
 ]);
 
 // Which kind of text it is, by its first line that isn't skipped.
@@ -447,7 +458,10 @@ function kindOf(text) {
     return "answer";
   }
   const place = lines.findIndex((line) => !/^\s*(#.*)?$/.test(line));
-  const line = place < 0 ? "" : lines[place];
+  if (place < 0) {
+    return "nothing";
+  }
+  const line = lines[place];
   if (line.startsWith("report")) {
     return "report";
   }
@@ -463,6 +477,6 @@ function kindOf(text) {
   if (/\bprocess\b/.test(text)) {
     return "source";
   }
-  throw new Refusal(place < 0 ? 1 : place + 1,
+  throw new Refusal(place + 1,
     "the beginning of an answer of compile, of a report, or of a text that goes with one is wanted");
 }

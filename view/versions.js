@@ -3,8 +3,8 @@
 // What report and schedule together make certain of a run: when versions became visible, when outputs were let go, and
 // whether the schedule is the one of the report at all.
 
-// The last number of the rising list that is at most the bound, or null.
-function lastUpTo(numbers, bound) {
+// The place of the first number of the rising list that is above the bound.
+function placeAbove(numbers, bound) {
   let [low, high] = [0, numbers.length];
   while (low < high) {
     const middle = (low + high) >> 1;
@@ -14,8 +14,11 @@ function lastUpTo(numbers, bound) {
       high = middle;
     }
   }
-  return low > 0 ? numbers[low - 1] : null;
+  return low;
 }
+
+const lastUpTo = (numbers, bound) => numbers[placeAbove(numbers, bound) - 1];
+const firstAbove = (numbers, bound) => numbers[placeAbove(numbers, bound)];
 
 const eventsOf = (schedule, letter) =>
   schedule.events.flatMap((event, place) => (event.letter === letter ? [place + 1] : []));
@@ -53,6 +56,8 @@ function versionsOf(report, schedule) {
   }
   if (applied) {
     for (let version = 1; version <= greatest; version += 1) {
+      const next = firstAbove(applied, notYet[version]);
+      notYet[version] = next === undefined ? notYet[version] : next - 1;
       if (shown[version] !== null) {
         shown[version] = lastUpTo(applied, shown[version]) || shown[version];
       }

@@ -4,6 +4,7 @@
 
 const texts = new Map();
 const drawing = document.getElementById("drawing");
+let pasted = 0;
 
 function refuse(name, refusal) {
   const lines = linesOf(texts.get(name) ? texts.get(name).text : "");
@@ -126,7 +127,8 @@ function start() {
   }
   files.addEventListener("change", () => takeFiles(files.files));
   document.getElementById("draw").addEventListener("click", () => {
-    take([["what was pasted", paste.value]]);
+    pasted += 1;
+    take([[`pasted text ${pasted}`, paste.value]]);
     paste.value = "";
   });
   document.addEventListener("dragover", (moved) => moved.preventDefault());
