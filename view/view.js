@@ -117,13 +117,21 @@ function writeCounts(milliseconds) {
   document.body.append(counts);
 }
 
+// How large an example is, by the first lines of its answer.
+function sizeOf(example) {
+  const lines = linesOf(Object.values(example.texts)[0]);
+  const number = (line, word) => Number(new RegExp(`${word} ([0-9]+)`).exec(line)[1]);
+  return lines[0] === "report 1" ? `${counted(number(lines[1], "packets"), "packet")}, ${counted(number(lines[2], "events"), "event")}`
+    : `${counted(number(lines[0], "instructions"), "instruction")}, ${counted(number(lines[1], "stages"), "stage")}`;
+}
+
 function start() {
   const paste = document.getElementById("paste");
   const files = document.getElementById("files");
-  for (const { name, kind, title } of EXAMPLES) {
-    const link = make("a", "", title);
-    link.href = `#${name}`;
-    document.getElementById(kind).append(makeWith("li", "", [link]));
+  for (const example of EXAMPLES) {
+    const link = make("a", "", example.title);
+    link.href = `#${example.name}`;
+    document.getElementById(example.kind).append(makeWith("li", "", [link, make("small", "", sizeOf(example))]));
   }
   files.addEventListener("change", () => takeFiles(files.files));
   document.getElementById("draw").addEventListener("click", () => {
