@@ -183,7 +183,8 @@ const SYMBOLS = new Map([
 function expressionOf(answer, value, depth) {
   const { kind, constant, field, object, operands, shift, width } = atValue(answer, value);
   const part = (operand) => expressionOf(answer, operand, depth - 1);
-  const bracketed = (operand) => (SYMBOLS.has(atValue(answer, operand).kind) && depth > 1 ? `(${part(operand)})` : part(operand));
+  const isInfix = (operand) => SYMBOLS.has(atValue(answer, operand).kind);
+  const bracketed = (operand) => (isInfix(operand) && depth > 1 ? `(${part(operand)})` : part(operand));
   if (kind === "const") {
     return constant;
   }

@@ -19,11 +19,12 @@ function wordOf({ kind, constant, field, object, width, shift }) {
 // Some numbers behind a word, or nothing where there are none.
 function listed(word, numbers) {
   const shown = numbers.slice(0, 12).join(", ");
-  return numbers.length === 0 ? "" : `${word} ${shown}${numbers.length > 12 ? ` and ${numbers.length - 12} more` : ""}.`;
+  const more = numbers.length > 12 ? ` and ${numbers.length - 12} more` : "";
+  return numbers.length === 0 ? "" : `${word} ${shown}${more}.`;
 }
 
-const shapeOf = ({ kind }) =>
-  (OPERATORS.has(kind) || kind === "byte" ? (kind === "select" ? "select" : "operator") : kind === "del" ? "put" : kind);
+const SHAPES = new Set(["const", "field", "select", "look", "put"]);
+const shapeOf = ({ kind }) => (kind === "del" ? "put" : SHAPES.has(kind) ? kind : "operator");
 
 class SplitDrawing {
   constructor(answer, source, limits) {
@@ -71,7 +72,8 @@ class SplitDrawing {
       }
       const told = limit === undefined ? "" : ` of ${grouped(limit)}${isOver ? ", too many" : ""}`;
       const gauge = makeWith("li", "mark gauge", [
-        make("span", "name", name.replace("_", " ")), makeWith("span", "number", [make("b", "", grouped(have)), told]), bar,
+        make("span", "name", name.replace("_", " ")),
+        makeWith("span", "number", [make("b", "", grouped(have)), told]), bar,
       ]);
       gauge.tabIndex = -1;
       return tellOf(gauge, () => ({
@@ -92,13 +94,16 @@ class SplitDrawing {
 
   drawLegend() {
     const samples = [
-      ["const", "= 7", "a constant"], ["field", "ip.src", "a field of the packet"], ["operator", "+", "an operator"], ["operator", "→ 16", "a cast"],
-      ["select", "?:", "a select"], ["look", "look m", "a look into a table"], ["put", "put m", "a change of a table"],
+      ["const", "= 7", "a constant"], ["field", "ip.src", "a field of the packet"], ["operator", "+", "an operator"],
+      ["operator", "→ 16", "a cast"], ["select", "?:", "a select"], ["look", "look m", "a look into a table"],
+      ["put", "put m", "a change of a table"],
     ];
     const shapes = samples.map(([shape, word, text]) =>
       makeWith("li", "", [make("span", `chip ${shape}`, word), make("span", "", text)]));
-    const tags = [["↻", "done before the server, and again at it or after it"], ["↑", "handed up to the server"], ["b4", "its block"]]
-      .map(([tag, text]) => makeWith("li", "", [make("span", "tag", tag), make("span", "", text)]));
+    const tags = [
+      ["↻", "done before the server, and again at it or after it"], ["↑", "handed up to the server"],
+      ["b4", "its block"],
+    ].map(([tag, text]) => makeWith("li", "", [make("span", "tag", tag), make("span", "", text)]));
     return makeWith("ul", "legend", [...shapes, ...tags]);
   }
 
@@ -129,14 +134,15 @@ class SplitDrawing {
     const parts = [`Instruction ${number}, ${wordOf(instruction)}: `];
     if (before !== null) {
       parts.push(`the switch does it in stage ${before}, before the server`);
+      parts.push(slow === "carried" ? "" : "; for a packet that visits the server, ");
     }
+    const again = before === null ? "" : " again";
     if (slow === "carried") {
       parts.push(this.upward.has(number) ? ", and hands it up" : ", and that counts for every packet");
     } else if (slow === "server") {
-      parts.push(before === null ? "the server does it" : "; for a packet that visits the server, the server does it again, over its own rows");
+      parts.push(`the server does it${again}${again ? ", over its own rows" : ""}`);
     } else {
-      parts.push(`${before === null ? "" : "; for a packet that visits the server, "}the switch does it${
-        before === null ? "" : " again"} after the server, in stage ${after}`);
+      parts.push(`the switch does it${again} after the server, in stage ${after}`);
     }
     parts.push(block === 0 ? "." : `. It counts where block ${block} is live.`);
     const givers = [...new Set(operands.map((value) => value.instruction))];
@@ -144,7 +150,7 @@ class SplitDrawing {
     const mine = (numbers, name) => numbers.flatMap((other) => this.marks[other].map((element) => ({ element, name })));
     return {
       note: parts.join(""),
-      lines: [{ kind: "answer", line }, { kind: "answer", line: partLine }, { kind: "answer", line: this.answer.blocks[block].line }],
+      lines: [line, partLine, this.answer.blocks[block].line].map((place) => ({ kind: "answer", line: place })),
       related: [
         ...mine([number], "same"), ...mine(givers, "needed"),
         ...mine(this.users[number], "user"),
@@ -200,7 +206,8 @@ class SplitDrawing {
     const mine = this.answer.instructions.filter(({ slow }) => slow === "server");
     mine.forEach((instruction) => boxOf(instruction.block).append(this.drawChip(instruction, "server")));
     const again = mine.filter(({ before }) => before !== null).length;
-    const told = mine.length ? `${counted(mine.length, "instruction")}, ${again} of them done on the switch too` : "nothing is done here";
+    const told = mine.length ? `${counted(mine.length, "instruction")}, ${again} of them done on the switch too`
+      : "nothing is done here";
     return makeWith("div", "lane server", [
       makeWith("header", "", [make("h3", "", "Server"), make("span", "told-count", told)]), root,
     ]);
@@ -218,7 +225,8 @@ class SplitDrawing {
     const giver = block.condition ? this.marks[block.condition.instruction] : [];
     const outside = mine.filter(({ before }) => before === null).length;
     const live = block.number === 0 ? "Block 0 is always live"
-      : `Block ${block.number} is live where block ${block.parent} is and ${valueName(block.condition)} is ${block.polarity}: ${conditionOf(this.answer, block)}`;
+      : `Block ${block.number} is live where block ${block.parent} is and ${valueName(block.condition)} is ${
+        block.polarity}: ${conditionOf(this.answer, block)}`;
     return {
       note: `${live}.${outside ? " A packet for which it is live goes up to the server." : ""}`,
       lines: [{ kind: "answer", line: block.line }],
@@ -245,8 +253,9 @@ class SplitDrawing {
         const told = makeWith("span", "condition", [make("b", "", `b${block}`), ` ${chain.join(" · ")}`]);
         return tellOf(told, () => this.tellBlock(this.answer.blocks[block]));
       });
-      exit.append("▼ A packet goes up to the server where ", ...conditions.flatMap((told, place) => (place ? [" or ", told] : [told])),
-        ". ◆ Every other packet is fast, and leaves here.");
+      const joined = conditions.flatMap((told, place) => (place ? [" or ", told] : [told]));
+      const rest = ". ◆ Every other packet is fast, and leaves here.";
+      exit.append("▼ A packet goes up to the server where ", ...joined, rest);
     }
     return exit;
   }
@@ -279,23 +288,29 @@ class SplitDrawing {
     const by = giver.slow === "carried" ? "preprocessing" : "the server";
     return {
       ...this.tellInstruction(giver),
-      note: `Value ${valueName(value)}, given by ${by}, goes ${way} with the packet: ${expressionOf(this.answer, value, 3)}.`,
+      note: `Value ${valueName(value)}, given by ${by}, goes ${way} with the packet: ${
+        expressionOf(this.answer, value, 3)}.`,
     };
   }
 
   // The output, and who gives each part of it.
   drawOutput() {
-    const parts = [["send", this.answer.send, this.answer.outputLine], ["port", this.answer.port, this.answer.outputLine],
-      ...this.answer.writes.map(({ field, value, line }) => [field, value, line])];
+    const { send, port, outputLine, writes } = this.answer;
+    const parts = [["send", send, outputLine], ["port", port, outputLine],
+      ...writes.map(({ field, value, line }) => [field, value, line])];
     const cells = parts.map(([name, value, line]) => {
-      const { slow, after } = atValue(this.answer, value);
-      const by = slow === "post" ? `here, stage ${after}` : slow === "server" ? "by the server" : "before the server";
-      const cell = makeWith("span", "mark output", [make("b", "", name), make("span", "word", valueName(value)), make("span", "width", by)]);
+      const giver = atValue(this.answer, value);
+      const places = { post: `here, stage ${giver.after}`, server: "by the server", carried: "before the server" };
+      const by = places[giver.slow];
+      const cell = makeWith("span", "mark output", [
+        make("b", "", name), make("span", "word", valueName(value)), make("span", "width", by),
+      ]);
       cell.tabIndex = -1;
       return tellOf(cell, () => ({
-        ...this.tellInstruction(atValue(this.answer, value)),
-        note: `A packet that visits the server leaves with ${name} = ${valueName(value)}, made ${by}: ${expressionOf(this.answer, value, 2)}.`,
-        lines: [{ kind: "answer", line }, { kind: "answer", line: atValue(this.answer, value).line }],
+        ...this.tellInstruction(giver),
+        note: `A packet that visits the server leaves with ${name} = ${valueName(value)}, made ${by}: ${
+          expressionOf(this.answer, value, 2)}.`,
+        lines: [{ kind: "answer", line }, { kind: "answer", line: giver.line }],
       }));
     });
     return makeWith("div", "outputs", [make("span", "", "It leaves with "), makeWith("span", "values", cells)]);
@@ -303,14 +318,14 @@ class SplitDrawing {
 
   drawTables() {
     const items = this.tables.map((table) => {
-      const places = [
-        ...table.looks.filter(({ before }) => before !== null).map(({ number, before }) => `switch before, stage ${before} (${number})`),
-        ...table.looks.filter(({ slow }) => slow === "server").map(({ number }) => `server (${number})`),
-        ...table.looks.filter(({ after }) => after !== null).map(({ number, after }) => `switch after, stage ${after} (${number})`),
-      ];
+      const places = table.looks.flatMap(({ number, before, slow, after }) => [
+        before === null ? "" : `switch before, stage ${before} (${number})`,
+        slow === "server" ? `server (${number})` : "",
+        after === null ? "" : `switch after, stage ${after} (${number})`,
+      ]).filter(Boolean);
       const changes = table.writes.map(({ kind, number }) => `${kind} (${number})`);
-      const declared = table.declared;
-      const shape = declared ? `${declared.kind} (${declared.keys.join(", ")}) → (${declared.values.join(", ")}), ${counted(declared.rows, "row")}` : "";
+      const { kind, keys, values, rows } = table.declared || {};
+      const shape = kind ? `${kind} (${keys.join(", ")}) → (${values.join(", ")}), ${counted(rows, "row")}` : "";
       const item = makeWith("li", "mark table", [
         makeWith("span", "name", [make("b", "", `▤ ${table.name}`), make("span", "role", table.role)]),
         make("span", "shape", shape),
@@ -320,7 +335,8 @@ class SplitDrawing {
       item.tabIndex = -1;
       return tellOf(item, () => this.tellTable(table));
     });
-    return makeWith("div", "tables", [make("h3", "", "Tables"), items.length ? makeWith("ul", "list", items) : make("p", "", "No table is used.")]);
+    const none = make("p", "", "No table is used.");
+    return makeWith("div", "tables", [make("h3", "", "Tables"), items.length ? makeWith("ul", "list", items) : none]);
   }
 
   tellTable(table) {
@@ -347,9 +363,10 @@ class SplitDrawing {
       depths[block.number] = block.parent === null ? 0 : depths[block.parent] + 1;
       const tally = tallies[block.number];
       const condition = block.parent === null ? "always live" : `where ${conditionOf(this.answer, block)}`;
+      const told = ["before", "server", "after"].map((lane) => `${lane} ${tally[lane]}`);
       const item = makeWith("li", "mark block-line", [
         make("b", "", `b${block.number}`), make("span", "word", condition),
-        make("span", "tallies", `before ${tally.before} · server ${tally.server} · after ${tally.after}${tally.outside ? " · goes up" : ""}`),
+        make("span", "tallies", `${told.join(" · ")}${tally.outside ? " · goes up" : ""}`),
       ]);
       item.tabIndex = -1;
       item.style.setProperty("--depth", Math.min(depths[block.number], 12));

@@ -75,7 +75,7 @@ class LineReader {
   }
 
   refuse(wanted) {
-    throw new Refusal(this.number, this.ended ? `the text ends here, where ${wanted} is wanted` : `${wanted} is wanted`);
+    throw new Refusal(this.number, `${this.ended ? "the text ends here, where " : ""}${wanted} is wanted`);
   }
 
   // The parts of the next line where it fits the pattern; the walk then goes on behind it.
@@ -190,7 +190,8 @@ function readAnswer(text) {
   const total = Number(reader.take(`# instructions ${NUMBER}`, "the number of instructions")[1]);
   const countsLine = reader.number;
   const names = ["accesses", "stages", "table_bits", "writeback", "transfer_bytes"];
-  const found = reader.take(`# ${names.map((name) => `${name} ${NUMBER}`).join(" ")}`, "the line of what the split takes");
+  const pattern = `# ${names.map((name) => `${name} ${NUMBER}`).join(" ")}`;
+  const found = reader.take(pattern, "the line of what the split takes");
   const counts = new Map(names.map((name, place) => [name, Number(found[place + 1])]));
 
   const blocks = [{ number: 0, parent: null, line: null }];
@@ -360,7 +361,8 @@ function readLimits(text) {
   const limits = new Map();
   while (!reader.ended) {
     const line = reader.number;
-    const parts = reader.take(`\\s*(${LIMIT_NAMES.join("|")})\\s*=\\s*([0-9][0-9_]*)\\s*(?:#.*)?`, "one of the four limits");
+    const pattern = `\\s*(${LIMIT_NAMES.join("|")})\\s*=\\s*([0-9][0-9_]*)\\s*(?:#.*)?`;
+    const parts = reader.take(pattern, "one of the four limits");
     if (limits.has(parts[1])) {
       throw new Refusal(line, `${parts[1]} stands here again`);
     }

@@ -23,8 +23,8 @@ const firstAbove = (numbers, bound) => numbers[placeAbove(numbers, bound)];
 const eventsOf = (schedule, letter) =>
   schedule.events.flatMap((event, place) => (event.letter === letter ? [place + 1] : []));
 
-// For each version from 1 on: the event at which the server made it, the last event at which the switch can't have shown
-// it yet, and the first one at which it must have, or null where the report doesn't tell that it ever did.
+// For each version from 1 on: the event at which the server made it, the last event at which the switch can't have
+// shown it yet, and the first one at which it must have, or null where the report doesn't tell that it ever did.
 function versionsOf(report, schedule) {
   const greatest = Math.min(report.version, report.packets.length);
   const made = new Array(greatest + 1).fill(null);
@@ -67,7 +67,7 @@ function versionsOf(report, schedule) {
 }
 
 // The event at which each output was let go, where it is certain, by the packet's number.
-function letGoOf(report, schedule) {
+function letGoOf(report, schedule, { notYet }) {
   const letGo = new Map();
   if (!schedule) {
     return letGo;
@@ -75,11 +75,12 @@ function letGoOf(report, schedule) {
   if (report.version === 0) {
     return replayWithoutVersions(report, schedule).letGo;
   }
-  const events = eventsOf(schedule, "h");
+  const events = schedule.drain ? [] : eventsOf(schedule, "h");
   for (const packet of report.packets.filter(({ way, released }) => way === "slow" && released)) {
-    const last = lastUpTo(events, packet.released);
-    if (last > packet.decided && !(lastUpTo(events, last - 1) > packet.decided) && !schedule.drain) {
-      letGo.set(packet.number, last);
+    const earliest = Math.max(packet.decided, notYet[packet.version] || 0);
+    const place = placeAbove(events, packet.released) - 1;
+    if (events[place] > earliest && !(events[place - 1] > earliest)) {
+      letGo.set(packet.number, events[place]);
     }
   }
   return letGo;
@@ -132,7 +133,7 @@ function strangenessOf(report, schedule) {
       return event && event.letter !== (packet.way === "fast" ? "a" : letters[name]);
     });
     if (strange) {
-      return `packet ${packet.number} was ${strange} at event ${packet[strange]}, which is another event in the schedule`;
+      return `packet ${packet.number} was ${strange} at event ${packet[strange]}, which is another one in the schedule`;
     }
   }
   return null;

@@ -44,7 +44,7 @@ function redraw() {
     drawing.append(new RunDrawing(read.get("report"), read.get("schedule"), read.get("trace")).draw());
   }
   if (texts.size > 0 && drawing.children.length === 0) {
-    document.getElementById("refusal").textContent = "That is drawn once an answer of compile or a report is given too.";
+    document.getElementById("refusal").textContent = "Give an answer of compile or a report too, and it is drawn.";
   }
 }
 
@@ -85,8 +85,12 @@ function takeFiles(files) {
 function takeExample() {
   const name = decodeURIComponent(location.hash.slice(1));
   const example = EXAMPLES.find((one) => one.name === name);
-  document.querySelectorAll(".examples a").forEach((link) =>
-    (link.hash === location.hash && example ? link.setAttribute("aria-current", "true") : link.removeAttribute("aria-current")));
+  document.querySelectorAll(".examples a").forEach((link) => {
+    link.removeAttribute("aria-current");
+    if (example && link.hash === location.hash) {
+      link.setAttribute("aria-current", "true");
+    }
+  });
   if (example) {
     texts.clear();
     take(Object.entries(example.texts));
@@ -97,13 +101,14 @@ function takeExample() {
 function writeCounts(milliseconds) {
   const shapes = {
     before: ".lane.before .chip", server: ".lane.server .chip", after: ".lane.after .chip",
-    twice: ".lane.server .chip.twice", boxes: ".lane.server .box", blocks: ".block-line", tables: ".mark.table", gauges: ".gauge .used", over: ".used.over",
+    twice: ".lane.server .chip.twice", blocks: ".block-line", tables: ".mark.table", gauges: ".gauge .used",
+    over: ".used.over",
     up: ".crossing.up .value", down: ".crossing.down .value", unknown: ".value.unknown", outputs: ".mark.output",
     rows: ".rows .row", fast: ".rows .mark.fast", admitted: ".rows .mark.admitted", decided: ".rows .mark.decided",
     sent: ".rows .mark.sent", dropped: ".rows .mark.dropped, .rows .mark.drops", open: ".rows .row.open",
     seats: ".mark.seat", slopes: ".slopes path", state: ".state-row", differs: ".differs", warnings: ".warning",
   };
-  const lines = Object.entries(shapes).map(([name, selector]) => `${name} ${drawing.querySelectorAll(selector).length}`);
+  const lines = Object.entries(shapes).map(([name, shape]) => `${name} ${drawing.querySelectorAll(shape).length}`);
   const told = [...drawing.querySelectorAll(".crossing .told-count")].map((element) => element.textContent);
   const stages = [...drawing.querySelectorAll(".lane.switch")].map((lane) => {
     const titles = [...lane.querySelectorAll(".stage h4")].map((title) => Number(title.textContent.split(" ")[1]));
@@ -120,9 +125,9 @@ function writeCounts(milliseconds) {
 // How large an example is, by the first lines of its answer.
 function sizeOf(example) {
   const lines = linesOf(Object.values(example.texts)[0]);
-  const number = (line, word) => Number(new RegExp(`${word} ([0-9]+)`).exec(line)[1]);
-  return lines[0] === "report 1" ? `${counted(number(lines[1], "packets"), "packet")}, ${counted(number(lines[2], "events"), "event")}`
-    : `${counted(number(lines[0], "instructions"), "instruction")}, ${counted(number(lines[1], "stages"), "stage")}`;
+  const told = (line, word) => counted(Number(new RegExp(`${word}s ([0-9]+)`).exec(line)[1]), word);
+  return lines[0] === "report 1" ? `${told(lines[1], "packet")}, ${told(lines[2], "event")}`
+    : `${told(lines[0], "instruction")}, ${told(lines[1], "stage")}`;
 }
 
 function start() {
