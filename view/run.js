@@ -19,6 +19,7 @@ class RunDrawing {
     this.rows = [];
     this.seats = [];
     this.paths = [];
+    this.pictures = [];
   }
 
   draw() {
@@ -72,7 +73,8 @@ class RunDrawing {
     const samples = [
       ["mark admitted", "admitted"], ["wait up", "waits for the server"], ["mark decided", "decided by the server"],
       ["wait held", "its output waits"], ["wait down", "let go, on its way down"], ["mark sent", "sent"],
-      ["mark dropped", "dropped"], ["mark fast", "fast: the switch alone"], ["wait open", "still on its way"],
+      ["mark dropped", "dropped"], ["mark fast", "fast: sent by the switch alone"],
+      ["mark fast drops", "fast, dropped"], ["wait open", "still on its way"],
     ].filter(([shape]) => shape !== "wait down" || this.letGo.size > 0);
     return makeWith("ul", "legend", samples.map(([shape, text]) =>
       makeWith("li", "", [makeWith("span", "sample", [make("i", shape)]), make("span", "", text)])));
@@ -80,15 +82,17 @@ class RunDrawing {
 
   // The window of events that is shown, and the controls that change it.
   drawWindow() {
-    const number = (title) => {
+    const number = (title, least, most) => {
       const input = make("input");
       input.type = "number";
-      input.min = 1;
-      input.max = this.report.events;
+      input.min = least;
+      input.max = most;
       return { input, label: makeWith("label", "", [`${title} `, input]) };
     };
-    const from = number("events from");
-    const to = number("to");
+    const from = number("events from", 1, this.report.events);
+    const to = number("to", 1, this.report.events);
+    const packet = number("go to packet", 0, Math.max(0, this.report.packets.length - 1));
+    packet.input.addEventListener("change", () => this.goTo(Number(packet.input.value)));
     this.inputs = [from.input, to.input];
     this.inputs.forEach((input) => input.addEventListener("change", () =>
       this.show(Number(from.input.value) - 0.5, Number(to.input.value) + 0.5)));
@@ -104,8 +108,23 @@ class RunDrawing {
       button("wider", (low, high, step) => [low - 2 * step, high + 2 * step]),
       button("earlier", (low, high, step) => [low, high].map((at) => at - Math.min(step, low - 0.5))),
       button("later", (low, high, step) => [low, high].map((at) => at + Math.min(step, this.last - high))),
-      button("all", () => [0.5, this.last]),
+      button("all", () => [0.5, this.last]), packet.label,
     ]);
+  }
+
+  // Goes to the row of the packet, with a window in which its way is seen.
+  goTo(number) {
+    const packet = this.report.packets[number];
+    if (packet) {
+      const end = packet.released || packet.admitted;
+      if (packet.admitted < this.from || end > this.to) {
+        const half = Math.max(this.to - this.from, 2 * (end - packet.admitted)) / 2;
+        this.show((packet.admitted + end) / 2 - half, (packet.admitted + end) / 2 + half);
+      }
+      const mark = this.rows[number].querySelector(".mark");
+      mark.focus();
+      mark.scrollIntoView({ block: "center" });
+    }
   }
 
   // Shows the events between two places. What is drawn stands where it stands by two numbers of the style sheet.
@@ -117,8 +136,10 @@ class RunDrawing {
     this.timeline.style.setProperty("--span", span);
     this.inputs[0].value = this.from + 0.5;
     this.inputs[1].value = this.to - 0.5;
-    this.strips.querySelectorAll("svg").forEach((picture) =>
-      picture.setAttribute("viewBox", `${this.from} 0 ${span} ${picture.dataset.height}`));
+    for (const { picture, heightsOf } of this.pictures) {
+      const [top, height] = heightsOf(this.from, this.to);
+      picture.setAttribute("viewBox", `${this.from} ${top} ${span} ${height}`);
+    }
     const step = [1, 2, 5].flatMap((digit) => [0, 1, 2, 3, 4, 5, 6, 7].map((power) => digit * 10 ** power))
       .filter((size) => span / size <= 16).reduce((one, other) => Math.min(one, other));
     const ticks = [];

@@ -70,7 +70,7 @@ function drawScheduleStrip(run) {
   const used = LETTERS.filter(([letter]) => events.some((event) => event.letter === letter));
   const gap = run.report.events / DRAWN_EVENTS;
   const picture = makeVector("svg", { preserveAspectRatio: "none", class: "events" });
-  picture.dataset.height = used.length;
+  run.pictures.push({ picture, heightsOf: () => [0, used.length] });
   used.forEach(([letter], place) => {
     const ticks = { done: [], idle: [] };
     let last = -gap;
@@ -108,7 +108,6 @@ function drawVersionStrip(run) {
   const version = made.length - 1;
   const end = run.report.events + 0.5;
   const picture = makeVector("svg", { preserveAspectRatio: "none", class: "versions" });
-  picture.dataset.height = version + 0.2;
   const soonest = notYet.map((event, at) => (at <= run.report.visible ? event : null));
   const [madeSteps, shownSteps, soonestSteps] = [made, shown, soonest].map((events) => stepsOf(events, version, end));
   picture.append(
@@ -119,18 +118,31 @@ function drawVersionStrip(run) {
     ["made-key", "- -", "server's version"], ["shown-key", "—", "shown for certain"],
     ["perhaps-key", "▨", "shown perhaps"],
   ].map(([name, sign, text]) => makeWith("span", "", [make("b", name, sign), ` ${text}`]));
-  const band = drawBand(makeWith("span", "label", keys), [picture], `0 to ${grouped(version)}`, 5);
+  const band = drawBand(makeWith("span", "label", keys), [picture], "", 5);
+  const heightsOf = (from, to) => {
+    const [low, high] = [versionsAfter(run, from).least, Math.max(1, versionsAfter(run, to).server)];
+    band.querySelector(".verdict").textContent = `versions ${grouped(low)} to ${grouped(high)}`;
+    return [version - high, high - low + 0.2];
+  };
+  run.pictures.push({ picture, heightsOf });
   letEventsBeTold(band, run, (event) => tellVersion(run, event));
   return band;
 }
 
-function tellVersion(run, event) {
+// After an event: the server's version, and the least and the greatest that the switch may show.
+function versionsAfter(run, event) {
   const { made, notYet, shown } = run.versions;
   const greatest = (events, fits) =>
     events.reduce((most, at, version) => (version > 0 && at !== null && fits(at, version) ? version : most), 0);
-  const server = greatest(made, (at) => at <= event);
-  const least = greatest(shown, (at) => at <= event);
-  const most = greatest(notYet, (at, version) => at < event && version <= run.report.visible);
+  return {
+    server: greatest(made, (at) => at <= event),
+    least: greatest(shown, (at) => at <= event),
+    most: greatest(notYet, (at, version) => at < event && version <= run.report.visible),
+  };
+}
+
+function tellVersion(run, event) {
+  const { server, least, most } = versionsAfter(run, event);
   const told = least >= most ? `version ${least}` : `a version from ${least} to ${most}`;
   return {
     note: `After event ${event} the server is at version ${server}, and the switch shows ${told}.`,

@@ -107,6 +107,7 @@ function writeCounts(milliseconds) {
     rows: ".rows .row", fast: ".rows .mark.fast", admitted: ".rows .mark.admitted", decided: ".rows .mark.decided",
     sent: ".rows .mark.sent", dropped: ".rows .mark.dropped, .rows .mark.drops", open: ".rows .row.open",
     seats: ".mark.seat", slopes: ".slopes path", state: ".state-row", differs: ".differs", warnings: ".warning",
+    versions: ".versions path.shown",
   };
   const lines = Object.entries(shapes).map(([name, shape]) => `${name} ${drawing.querySelectorAll(shape).length}`);
   const told = [...drawing.querySelectorAll(".crossing .told-count")].map((element) => element.textContent);
@@ -114,6 +115,8 @@ function writeCounts(milliseconds) {
     const titles = [...lane.querySelectorAll(".stage h4")].map((title) => Number(title.textContent.split(" ")[1]));
     return Math.max(0, ...titles);
   });
+  const ticks = [...drawing.querySelectorAll(".events path")].map((path) => path.getAttribute("d").split("M").length - 1);
+  lines.push(`ticks ${ticks.reduce((sum, some) => sum + some, 0)}`);
   lines.push(`stages ${stages.join(" ")}`, `crossing ${told.join(" | ")}`);
   lines.push(`order ${[...drawing.querySelectorAll(".seat b")].map((seat) => seat.textContent).join(" ")}`);
   lines.push(`refusal ${document.getElementById("refusal").textContent}`, `milliseconds ${Math.round(milliseconds)}`);
