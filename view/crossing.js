@@ -121,10 +121,11 @@ function widthsOf(answer, source) {
     const operands = instruction.operands.map(valueName);
     const isAccess = kind === "look" || isWrite(instruction);
     widths.set(`${number}.0`, isAccess || COMPARISONS.has(kind) ? 1 : width);
-    if (isAccess && keyCounts.has(object)) {
+    if (isAccess) {
       const keys = keyCounts.get(object);
-      operands.forEach((operand, place) =>
-        widths.join(operand, place < keys ? `${object} key ${place}` : `${object} value ${place - keys}`));
+      const partOf = (place) => (place < keys ? `key ${place}` : `value ${place - keys}`);
+      const fitting = keys === undefined ? [] : operands;
+      fitting.forEach((operand, place) => widths.join(operand, `${object} ${partOf(place)}`));
     } else if (COMPARISONS.has(kind)) {
       widths.join(operands[0], operands[1]);
     } else if (kind === "byte") {
