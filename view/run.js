@@ -69,13 +69,14 @@ class RunDrawing {
     return [makeWith("dl", "facts", pairs), ...(this.strangeness ? [make("p", "warning", strange)] : [])];
   }
 
+  // What the marks that are drawn mean.
   drawLegend() {
     const samples = [
       ["mark admitted", "admitted"], ["wait up", "waits for the server"], ["mark decided", "decided by the server"],
       ["wait held", "its output waits"], ["wait down", "let go, on its way down"], ["mark sent", "sent"],
       ["mark dropped", "dropped"], ["mark fast", "fast: sent by the switch alone"],
       ["mark fast drops", "fast, dropped"], ["wait open", "still on its way"],
-    ].filter(([shape]) => shape !== "wait down" || this.letGo.size > 0);
+    ].filter(([shape]) => this.timeline.querySelector(`.track > .${shape.replaceAll(" ", ".")}`));
     return makeWith("ul", "legend", samples.map(([shape, text]) =>
       makeWith("li", "", [makeWith("span", "sample", [make("i", shape)]), make("span", "", text)])));
   }
