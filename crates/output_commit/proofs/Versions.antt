@@ -1,10 +1,11 @@
 -- How the count of versions goes on by one command.
-use Rattle.std.proofs.Common.{◌≡◌, ◌≤◌, ◌<◌, ℕ, zero, suc, ◌+◌, List, [], ◌∷◌, ◌++◌, length, take, Some, refl, ap, ◌∙◌, arith, get_or, sym, ◌^◌}
+use Rattle.std.proofs.Common.{◌≡◌, ◌≤◌, ◌<◌, ℕ, zero, suc, ◌+◌, ◌*◌, List, [], ◌∷◌, ◌++◌, map, length, take, Some, refl, ap, ◌∙◌, arith, get_or, sym, ◌^◌}
 use Rattle.std.specs.Prelude.{slice_get}
+use Rattle.writeback_table.specs.declared.command.Update.{Update}
 use Rattle.writeback_table.specs.declared.command.Command.{Command}
 use Rattle.writeback_table.specs.declared.command.Command.TheVariants.{Stage, On, Main, Off, Clear}
-use Rattle.writeback_table.specs.Commands.{counts_on, ons}
-use Rattle.output_commit.specs.Commit.{Commit, IsInOrder, IsCounted}
+use Rattle.writeback_table.specs.Commands.{counts_on, ons, clear_of, commands_of}
+use Rattle.output_commit.specs.Commit.{Commit, IsInOrder, IsCounted, batch_of, batch_len}
 
 small : (c : Command) → counts_on c ≤ 1
 small (Stage u) = omega arith
@@ -58,3 +59,25 @@ one_acknowledged c seen known d n i lt e m =
 -- the version of fewer than 2 ^ 32 commands is a number of 32 bits
 pub version_fits : (cs : List Command) (n version : ℕ) → version ≡ ons (take n cs) → n ≤ length cs → length cs < 2 ^ 32 → version < 2 ^ 32
 version_fits cs n version e le few = let b = ons_below cs n in omega (arith, e)
+
+-- how many commands a batch has
+length_map : (f : Update → Command) (us : List Update) → length (map f us) ≡ length us
+length_map f [] = refl
+length_map f (u ∷ us) = let r = length_map f us in omega arith
+
+length_both : (cs ds : List Command) → length (cs ++ ds) ≡ length cs + length ds
+length_both [] ds = omega arith
+length_both (c ∷ cs) ds = let r = length_both cs ds in omega arith
+
+commands_length : (us : List Update) → length (commands_of us) ≡ 3 * length us + 2
+commands_length us =
+    let all = length_both (map (λ u. Stage u) us) (On ∷ (map (λ u. Main u) us ++ (Off ∷ map clear_of us))) in
+    let behind = length_both (map (λ u. Main u) us) (Off ∷ map clear_of us) in
+    let a = length_map (λ u. Stage u) us in
+    let b = length_map (λ u. Main u) us in
+    let c = length_map clear_of us in
+    omega (arith, all, behind, a, b, c)
+
+pub batch_length : (us : List Update) → length (batch_of us) ≡ batch_len (length us)
+batch_length [] = refl
+batch_length (u ∷ us) = let e = commands_length (u ∷ us) in e

@@ -1,5 +1,5 @@
 -- Held outputs, all commands, and how far these have come.
-use Rattle.std.specs.Prelude.{◌≡◌, ◌≤◌, ◌<◌, ◌^◌, ℕ, ◌+◌, ◌==◌, Bool, ◌&&◌, List, [], ◌∷◌, ◌++◌, Option, Some, None, nat_lt, length, take, slice_get, remove, if◌then◌else◌}
+use Rattle.std.specs.Prelude.{◌≡◌, ◌≤◌, ◌<◌, ◌^◌, ℕ, zero, suc, ◌+◌, ◌*◌, ◌==◌, Bool, ◌&&◌, List, [], ◌∷◌, ◌++◌, Option, Some, None, nat_lt, length, take, slice_get, remove, if◌then◌else◌}
 use Rattle.writeback_table.specs.declared.command.Update.{Update}
 use Rattle.writeback_table.specs.declared.command.Command.{Command}
 use Rattle.writeback_table.specs.Commands.{commands_of, ons}
@@ -23,6 +23,11 @@ first = record { commands = []; sent = 0; done = 0; acked = 0; held = [] }
 abbrev pub batch_of : List Update → List Command
 batch_of [] = []
 batch_of (update ∷ updates) = commands_of (update ∷ updates)
+
+-- how many commands there are for so many changes
+abbrev pub batch_len : ℕ → ℕ
+batch_len zero = 0
+batch_len (suc n) = 3 * suc n + 2
 
 -- the version that lookups on the switch see, and the one that they are known to see
 abbrev pub visible : Commit → ℕ

@@ -1,5 +1,5 @@
 //! Held outputs, and the list of commands.
-ghost use Rattle.std.specs.Prelude.{◌≡◌, ◌≤◌, ◌<◌, ◌+◌, ◌-◌, ◌^◌, ◌++◌, ◌∷◌, [], length, take, nat_lt, slice_get, OnOk, OnErr, IfNone, if◌then◌else◌};
+ghost use Rattle.std.specs.Prelude.{◌≡◌, ◌≤◌, ◌<◌, ◌+◌, ◌-◌, ◌^◌, ◌++◌, ◌∷◌, [], length, min, take, nat_lt, slice_get, OnOk, OnErr, IfNone, if◌then◌else◌};
 ghost use Rattle.writeback_table.specs.Commands as commands;
 ghost use Rattle.output_commit.specs.Commit as spec;
 
@@ -57,6 +57,17 @@ fn counts_on(command: &Command) -> u32
     }
 }
 
+// How many commands there are for so many changes, or the greatest number that there is.
+fn batch_len(changes: usize) -> usize
+    ensures { result ≡ min (spec.batch_len changes) (2 ^ 64 - 1) }
+{
+    if changes == 0 {
+        0
+    } else {
+        changes.saturating_mul(3).saturating_add(2)
+    }
+}
+
 impl Commit {
     /// No outputs and no commands. This takes no memory; `hold` takes it from `alloc`.
     pub fn new(alloc: Global) -> Commit
@@ -72,6 +83,15 @@ impl Commit {
             acknowledged: 0,
             held: VecDeque::new(alloc),
         }
+    }
+
+    /// Whether the number of commands, with those for these changes, stays below 2^32.
+    #[tactic(auto, using(crate::proofs::Versions::batch_length))]
+    pub fn has_room_for(&self, updates: &Updates) -> bool
+        ensures { result ≡ nat_lt (length self.now.commands + length (spec.batch_of updates.now)) (2 ^ 32) }
+    {
+        let batch = batch_len(updates.len());
+        self.commands.len().saturating_add(batch) < 1 << 32
     }
 
     /// Lets an output wait behind the others until the version `need` is acknowledged. Its changes, if there are any, become

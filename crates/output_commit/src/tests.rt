@@ -28,7 +28,11 @@ fn hold(
     count: u32,
 ) -> Result<(), NoMemory> {
     let frame = Bytes::from_slice(alloc, b"frame")?;
-    commit.hold(number, need, frame, &changes(alloc, count)?)
+    let updates = changes(alloc, count)?;
+    if !commit.has_room_for(&updates) {
+        return Err(NoMemory);
+    }
+    commit.hold(number, need, frame, &updates)
 }
 
 fn goes(rt: &impl Abort, answer: Release, wanted: u32) {
@@ -106,7 +110,9 @@ fn outputs_go_in_any_order(rt: HostRuntime) -> Result<(), Fail> {
     lacks(&rt, commit.release(1), 1);
     waits(&rt, commit.release(0), (1, 0));
     // the commands come in order
-    while commit.send_command() {}
+    for _ in 0..8 {
+        assert!(rt; commit.send_command());
+    }
     assert!(rt; matches!(commit.next_command(), Some(Command::Stage(_))));
     assert!(rt; matches!(commit.next_command(), Some(Command::Stage(_))));
     assert!(rt; matches!(commit.next_command(), Some(Command::On)));

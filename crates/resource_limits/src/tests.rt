@@ -226,51 +226,54 @@ fn counts_of_a_chain(rt: HostRuntime) -> Result<(), Fail> {
 }
 
 // A look at the table or the map by this part, while the server stores the row.
-fn lookup_takes(
-    alloc: Global,
-    object: u32,
-    look: Part,
-    accesses: &[u32],
-    writes: &[u32],
-    table_bits: u64,
-) -> Result<bool, Fail> {
+fn lookup_takes(alloc: Global, object: u32, look: Part, wanted: &Wanted) -> Result<bool, Fail> {
     let f = lookup(alloc, object)?;
     let input = part(Some(0), Slow::Carried);
-    let wanted = Wanted {
-        accesses,
-        stages: 0,
-        table_bits,
-        writes,
-        transfer_bytes: 2,
-    };
-    takes(
-        alloc,
-        &f,
-        &[input, input, look, part(None, Slow::Server)],
-        &wanted,
-    )
+    let server = part(None, Slow::Server);
+    takes(alloc, &f, &[input, input, look, server], wanted)
 }
 
 #[test]
 fn counts_of_a_map(rt: HostRuntime) -> Result<(), Fail> {
     let alloc = rt.alloc();
-    // 4 rows of 16 bits, and 16 of 17
-    let carried = part(Some(0), Slow::Carried);
-    assert!(rt; lookup_takes(alloc, 1, carried, &[0, 1], &[0, 1], 336)?);
+    // 4 rows of 16 bits, and 16 of 17; the port and 1 bit of whether it is sent go down
+    let shown = Wanted {
+        accesses: &[0, 1],
+        stages: 0,
+        table_bits: 336,
+        writes: &[0, 1],
+        transfer_bytes: 2,
+    };
+    assert!(rt; lookup_takes(alloc, 1, part(Some(0), Slow::Carried), &shown)?);
     // the switch doesn't look it up
-    let server = part(None, Slow::Server);
-    assert!(rt; lookup_takes(alloc, 1, server, &[0, 0], &[0, 0], 0)?);
+    let served = Wanted {
+        accesses: &[0, 0],
+        stages: 0,
+        table_bits: 0,
+        writes: &[0, 0],
+        transfer_bytes: 2,
+    };
+    assert!(rt; lookup_takes(alloc, 1, part(None, Slow::Server), &served)?);
     Ok(())
 }
 
 #[test]
 fn counts_of_a_table(rt: HostRuntime) -> Result<(), Fail> {
     let alloc = rt.alloc();
-    // it has no write-back rows, and either pass may look it up
-    let post = part(None, Slow::Post(0));
-    assert!(rt; lookup_takes(alloc, 0, post, &[1, 0], &[0, 0], 64)?);
-    let both = part(Some(0), Slow::Post(0));
-    assert!(rt; lookup_takes(alloc, 0, both, &[2, 0], &[0, 0], 64)?);
+    // it has no write-back rows, and either pass may look it up; only the 1 bit goes down
+    let once = Wanted {
+        accesses: &[1, 0],
+        stages: 0,
+        table_bits: 64,
+        writes: &[0, 0],
+        transfer_bytes: 1,
+    };
+    assert!(rt; lookup_takes(alloc, 0, part(None, Slow::Post(0)), &once)?);
+    let twice = Wanted {
+        accesses: &[2, 0],
+        ..once
+    };
+    assert!(rt; lookup_takes(alloc, 0, part(Some(0), Slow::Post(0)), &twice)?);
     Ok(())
 }
 
