@@ -23,10 +23,10 @@ function redraw() {
   document.getElementById("lines").replaceChildren();
   showTexts();
   document.body.classList.toggle("empty", texts.size === 0);
-  for (const [name, given] of texts) {
+  for (const [name, { text }] of texts) {
     try {
-      given.kind = kindOf(given.text);
-      read.set(given.kind, TEXT_KINDS.get(given.kind).read(given.text));
+      const kind = kindOf(text);
+      read.set(kind, TEXT_KINDS.get(kind).read(text));
     } catch (refusal) {
       if (!(refusal instanceof Refusal)) {
         throw refusal;
@@ -36,7 +36,6 @@ function redraw() {
       return;
     }
   }
-  showTexts();
   if (read.has("answer")) {
     drawing.append(new SplitDrawing(read.get("answer"), read.get("source"), read.get("limits")).draw());
   }
@@ -61,15 +60,18 @@ function showTexts() {
   }));
 }
 
+function kindIfAny(text) {
+  try {
+    return kindOf(text);
+  } catch (refusal) {
+    return null;
+  }
+}
+
 // Takes texts with their names. One of a kind that is there already takes its place.
 function take(given) {
   for (const [name, text] of given) {
-    let kind = null;
-    try {
-      kind = kindOf(text);
-    } catch (refusal) {
-      kind = null;
-    }
+    const kind = kindIfAny(text);
     [...texts].filter(([other, before]) => other === name || (kind && before.kind === kind))
       .forEach(([other]) => texts.delete(other));
     texts.set(name, { text, kind });
@@ -115,8 +117,8 @@ function writeCounts(milliseconds) {
     const titles = [...lane.querySelectorAll(".stage h4")].map((title) => Number(title.textContent.split(" ")[1]));
     return Math.max(0, ...titles);
   });
-  const ticks = [...drawing.querySelectorAll(".events path")].map((path) => path.getAttribute("d").split("M").length - 1);
-  lines.push(`ticks ${ticks.reduce((sum, some) => sum + some, 0)}`);
+  const paths = [...drawing.querySelectorAll(".events path")].map((path) => path.getAttribute("d"));
+  lines.push(`ticks ${paths.join("").split("M").length - 1}`);
   lines.push(`stages ${stages.join(" ")}`, `crossing ${told.join(" | ")}`);
   lines.push(`order ${[...drawing.querySelectorAll(".seat b")].map((seat) => seat.textContent).join(" ")}`);
   lines.push(`refusal ${document.getElementById("refusal").textContent}`, `milliseconds ${Math.round(milliseconds)}`);
