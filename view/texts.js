@@ -1,0 +1,484 @@
+"use strict";
+
+// Readers of the texts that the program reads and writes. Each answers what its text tells, with the line of each part,
+// or throws a Refusal that names the first line that isn't in the form.
+
+class Refusal extends Error {
+  constructor(line, reason) {
+    super(reason);
+    this.line = line;
+  }
+}
+
+// The fields of a packet with their bits, in field order.
+const FIELD_WIDTHS = new Map([
+  ["meta.port", 8], ["meta.len", 16], ["has.ip", 1], ["has.tcp", 1], ["has.udp", 1],
+  ["eth.dst", 48], ["eth.src", 48], ["eth.type", 16],
+  ["ip.version", 4], ["ip.ihl", 4], ["ip.tos", 8], ["ip.len", 16], ["ip.id", 16], ["ip.flags", 3], ["ip.frag", 13],
+  ["ip.ttl", 8], ["ip.proto", 8], ["ip.sum", 16], ["ip.src", 32], ["ip.dst", 32],
+  ["tcp.sport", 16], ["tcp.dport", 16], ["tcp.seq", 32], ["tcp.ack", 32], ["tcp.off", 4], ["tcp.res", 4],
+  ["tcp.flags", 8], ["tcp.win", 16], ["tcp.sum", 16], ["tcp.urg", 16],
+  ["udp.sport", 16], ["udp.dport", 16], ["udp.len", 16], ["udp.sum", 16],
+]);
+
+// The operators with the number of their operands that are values.
+const OPERATORS = new Map([
+  ["add", 2], ["sub", 2], ["mul", 2], ["div", 2], ["rem", 2], ["and", 2], ["or", 2], ["xor", 2], ["not", 1],
+  ["shl", 1], ["shr", 1], ["eq", 2], ["ne", 2], ["lt", 2], ["le", 2], ["cast", 1], ["select", 3], ["adjust", 3],
+]);
+
+const LIMIT_NAMES = ["table_bits", "stages", "writeback", "transfer_bytes"];
+const NUMBER = "(0|[1-9][0-9]*)";
+const VALUE = /^(0|[1-9][0-9]*)\.(0|[1-9][0-9]*)$/;
+const NAME = "([A-Za-z][A-Za-z0-9_]*)";
+
+function linesOf(text) {
+  const lines = text.split("\n");
+  if (lines[lines.length - 1] === "") {
+    lines.pop();
+  }
+  return lines.map((line) => (line.endsWith("\r") ? line.slice(0, -1) : line));
+}
+
+const compiled = new Map();
+
+// The regular expression for whole lines of the pattern, made once.
+function wholeLine(pattern) {
+  if (!compiled.has(pattern)) {
+    compiled.set(pattern, new RegExp(`^${pattern}$`));
+  }
+  return compiled.get(pattern);
+}
+
+// Walks over the lines of a text. Lines that `skipped` says yes to are passed over.
+class LineReader {
+  constructor(text, skipped) {
+    this.lines = linesOf(text);
+    this.skipped = skipped;
+    this.place = 0;
+    this.pass();
+  }
+
+  pass() {
+    while (this.place < this.lines.length && this.skipped(this.lines[this.place])) {
+      this.place += 1;
+    }
+  }
+
+  // The number of the next line, from 1.
+  get number() {
+    return this.place + 1;
+  }
+
+  get ended() {
+    return this.place >= this.lines.length;
+  }
+
+  refuse(wanted) {
+    throw new Refusal(this.number, `${this.ended ? "the text ends here, where " : ""}${wanted} is wanted`);
+  }
+
+  // The parts of the next line where it fits the pattern; the walk then goes on behind it.
+  match(pattern) {
+    const parts = this.ended ? null : wholeLine(pattern).exec(this.lines[this.place]);
+    if (parts) {
+      this.place += 1;
+      this.pass();
+    }
+    return parts;
+  }
+
+  take(pattern, wanted) {
+    return this.match(pattern) || this.refuse(wanted);
+  }
+
+  end() {
+    if (!this.ended) {
+      this.refuse("the end of the text");
+    }
+  }
+}
+
+const isBlank = (line) => line === "";
+const isSkipped = (line) => line === "" || line.startsWith("#");
+
+function readValue(word, below) {
+  const parts = VALUE.exec(word || "");
+  if (!parts || Number(parts[1]) >= below) {
+    return null;
+  }
+  return { instruction: Number(parts[1]), result: Number(parts[2]) };
+}
+
+const valueName = (value) => `${value.instruction}.${value.result}`;
+
+// What stands behind the block in the line of an instruction, or null where it isn't in the form.
+function readKind(words, number) {
+  const kind = words[0];
+  const instruction = { kind, operands: [], width: null, loop: false };
+  const rest = words.slice(1);
+  const isAccess = kind === "look" || kind === "put" || kind === "del";
+  if (rest.length > 1 && rest[rest.length - 1] === "loop") {
+    instruction.loop = true;
+    rest.pop();
+  }
+  let operandWords = rest;
+  if (kind === "const") {
+    instruction.constant = rest[1];
+  } else if (kind === "field") {
+    instruction.field = rest[0];
+    instruction.width = FIELD_WIDTHS.get(rest[0]) || null;
+    return rest.length === 1 && instruction.width ? instruction : null;
+  } else if (isAccess) {
+    instruction.object = rest[0];
+    operandWords = rest.slice(1);
+    if (!wholeLine(NAME).test(rest[0] || "")) {
+      return null;
+    }
+  } else if (kind === "byte") {
+    instruction.width = 8;
+  } else if (!OPERATORS.has(kind)) {
+    return null;
+  }
+  if (kind === "const" || OPERATORS.has(kind)) {
+    instruction.width = /^[1-9][0-9]?$/.test(rest[0] || "") ? Number(rest[0]) : 65;
+    operandWords = rest.slice(1);
+    if (instruction.width > 64) {
+      return null;
+    }
+  }
+  if (kind === "const") {
+    return rest.length === 2 && /^(0|[1-9][0-9]{0,19})$/.test(rest[1]) ? instruction : null;
+  }
+  if (kind === "shl" || kind === "shr") {
+    instruction.shift = operandWords.pop();
+    if (!/^[0-9]{1,2}$/.test(instruction.shift || "")) {
+      return null;
+    }
+  }
+  instruction.operands = operandWords.map((word) => readValue(word, number));
+  const wanted = kind === "byte" ? 1 : OPERATORS.get(kind);
+  const fits = isAccess || instruction.operands.length === wanted;
+  return fits && !instruction.operands.includes(null) ? instruction : null;
+}
+
+function readInstruction(reader, number, blocks) {
+  const line = reader.number;
+  const parts = reader.take(`# ${NUMBER} b${NUMBER} (.+)`, `instruction ${number}`);
+  const instruction = readKind(parts[3].split(" "), number);
+  if (Number(parts[1]) !== number || Number(parts[2]) >= blocks.length || !instruction) {
+    throw new Refusal(line, `instruction ${number} is wanted, of a kind that there is, over values of lower numbers`);
+  }
+  return Object.assign(instruction, { number, block: Number(parts[2]), line });
+}
+
+function readPart(reader, instruction) {
+  const line = reader.number;
+  const wanted = `where instruction ${instruction.number} is done`;
+  const parts = reader.take(`${NUMBER} (-|${NUMBER}) (carried|server|post ${NUMBER})`, wanted);
+  const before = parts[2] === "-" ? null : Number(parts[2]);
+  const after = parts[5] === undefined ? null : Number(parts[5]);
+  if (Number(parts[1]) !== instruction.number || before > 4096 || after > 4096) {
+    throw new Refusal(line, `${wanted} is wanted`);
+  }
+  Object.assign(instruction, { before, after, slow: parts[4].split(" ")[0], partLine: line });
+}
+
+// The answer of compile: counts, blocks, instructions with their places, and the output.
+function readAnswer(text) {
+  const reader = new LineReader(text, isBlank);
+  const total = Number(reader.take(`# instructions ${NUMBER}`, "the number of instructions")[1]);
+  const countsLine = reader.number;
+  const names = ["accesses", "stages", "table_bits", "writeback", "transfer_bytes"];
+  const pattern = `# ${names.map((name) => `${name} ${NUMBER}`).join(" ")}`;
+  const found = reader.take(pattern, "the line of what the split takes");
+  const counts = new Map(names.map((name, place) => [name, Number(found[place + 1])]));
+
+  const blocks = [{ number: 0, parent: null, line: null }];
+  const blockStart = "# block ";
+  while (!reader.ended && reader.lines[reader.place].startsWith(blockStart)) {
+    const line = reader.number;
+    const parts = reader.take(`# block ${NUMBER} in ${NUMBER} when (\\S+) is ([01])`, "a block");
+    const condition = readValue(parts[3], total);
+    if (Number(parts[1]) !== blocks.length || Number(parts[2]) >= blocks.length || !condition) {
+      throw new Refusal(line, `block ${blocks.length} is wanted, in a block of a lower number`);
+    }
+    blocks.push({ number: blocks.length, parent: Number(parts[2]), condition, polarity: Number(parts[4]), line });
+  }
+
+  const instructions = [];
+  while (instructions.length < total) {
+    instructions.push(readInstruction(reader, instructions.length, blocks));
+  }
+  const outputLine = reader.number;
+  const output = reader.take("# send (\\S+) port (\\S+)", "the output");
+  const send = readValue(output[1], total);
+  const port = readValue(output[2], total);
+  if (!send || !port) {
+    throw new Refusal(outputLine, "the output is wanted, with values that there are");
+  }
+  const writes = [];
+  while (!reader.ended && reader.lines[reader.place].startsWith("# write ")) {
+    const line = reader.number;
+    const parts = reader.take("# write (\\S+) (\\S+)", "a field that is written");
+    const value = readValue(parts[2], total);
+    if (!FIELD_WIDTHS.has(parts[1]) || !value) {
+      throw new Refusal(line, "a field and its value are wanted");
+    }
+    writes.push({ field: parts[1], value, line });
+  }
+  reader.take(`split 1 ${total}`, `\`split 1 ${total}\``);
+  instructions.forEach((instruction) => readPart(reader, instruction));
+  reader.take("end", "`end`");
+  reader.end();
+  return { counts, countsLine, blocks, instructions, send, port, outputLine, writes, lines: reader.lines };
+}
+
+const EVENT = "([1-9][0-9]{0,9})";
+const VERDICT = "(drop|send (0|[1-9][0-9]{0,2}) (-|(?:[0-9a-f]{2})+))";
+const PACKET_FORMS = new RegExp(
+  `^packet ${NUMBER} (?:(up) admitted ${EVENT}|(slow|fast) admitted ${EVENT} decided ${EVENT} version ${NUMBER} ` +
+  `(?:(held)|released ${EVENT} ${VERDICT}))$`);
+
+function readPacket(reader, number) {
+  const line = reader.number;
+  const wanted = `packet ${number}`;
+  const parts = PACKET_FORMS.exec(reader.take(`(packet .*)`, wanted)[1]);
+  if (!parts || Number(parts[1]) !== number || (parts[4] === "fast" && parts[8])) {
+    throw new Refusal(line, `${wanted} is wanted, in one of its forms`);
+  }
+  const packet = { number, line, way: parts[2] || parts[4], admitted: Number(parts[3] || parts[5]) };
+  if (packet.way === "up") {
+    return packet;
+  }
+  packet.decided = Number(parts[6]);
+  packet.version = Number(parts[7]);
+  if (parts[8]) {
+    return packet;
+  }
+  packet.released = Number(parts[9]);
+  packet.port = parts[11] === undefined ? null : Number(parts[11]);
+  packet.bytes = parts[12] === "-" ? 0 : (parts[12] || "").length / 2;
+  const inTurn = packet.admitted <= packet.decided && packet.decided <= packet.released;
+  if (!inTurn || packet.port > 255) {
+    throw new Refusal(line, `${wanted} is wanted, with events that follow one another`);
+  }
+  return packet;
+}
+
+function readOrder(reader, packets) {
+  const line = reader.number;
+  const words = reader.take("order (.+)", "the order")[1].split(" ");
+  const order = words.length === 1 && words[0] === "-" ? [] : words.map(Number);
+  const decided = packets.filter((packet) => packet.decided);
+  const known = order.every((number) => packets[number] && packets[number].decided);
+  if (!known || new Set(order).size !== order.length || order.length !== decided.length) {
+    throw new Refusal(line, "the order has to name each decided packet once, and no other");
+  }
+  return { order, orderLine: line };
+}
+
+// The parts of one kind, `object` or `switch`, each with its rows.
+function readParts(reader, word) {
+  const parts = [];
+  for (let head = reader.match(`${word} ${NAME} ${NUMBER}`); head; head = reader.match(`${word} ${NAME} ${NUMBER}`)) {
+    const part = { name: head[1], rows: [] };
+    while (part.rows.length < Number(head[2])) {
+      const line = reader.number;
+      const row = reader.take(`((?:${NUMBER} )*)->((?: ${NUMBER})+)`, `row ${part.rows.length + 1} of ${head[2]}`);
+      part.rows.push({ key: row[1].trim(), values: row[3].trim(), line });
+    }
+    parts.push(part);
+  }
+  return parts;
+}
+
+// The report of a replay.
+function readReport(text) {
+  const reader = new LineReader(text, isSkipped);
+  reader.take("report 1", "`report 1`");
+  const packetsLine = reader.number;
+  const told = reader.take(
+    `packets ${NUMBER} admitted ${NUMBER} decided ${NUMBER} released ${NUMBER}`, "the numbers of packets");
+  const [total, admitted, decided, released] = told.slice(1).map(Number);
+  const events = reader.take(`events ${NUMBER} idle ${NUMBER}`, "the numbers of events");
+  const versionLine = reader.number;
+  const versions = reader.take(`version ${NUMBER} visible ${NUMBER}`, "the versions");
+  const drained = reader.take("drained (yes|no)", "whether the run is drained")[1] === "yes";
+  const packets = [];
+  while (packets.length < admitted) {
+    packets.push(readPacket(reader, packets.length));
+  }
+  const order = readOrder(reader, packets);
+  const objects = readParts(reader, "object");
+  const tables = readParts(reader, "switch");
+  reader.take("end", "`end`");
+  reader.end();
+  return {
+    total, admitted, decided, released, drained, packets, objects, tables, packetsLine, versionLine, ...order,
+    events: Number(events[1]), idle: Number(events[2]), version: Number(versions[1]), visible: Number(versions[2]),
+    lines: reader.lines,
+  };
+}
+
+// The schedule: the letter, item and line of each event, and whether it ends with `drain`.
+function readSchedule(text) {
+  const reader = new LineReader(text, isSkipped);
+  const events = [];
+  let drain = false;
+  while (!reader.ended) {
+    const line = reader.number;
+    const parts = reader.take(`(?:([acwk])|([uhd]) ${NUMBER}|(drain))`, "an event");
+    if (drain) {
+      throw new Refusal(line, "nothing may stand behind `drain`");
+    }
+    drain = parts[4] !== undefined;
+    if (!drain) {
+      events.push({ letter: parts[1] || parts[2], item: Number(parts[3] || 0), line });
+    }
+  }
+  return { events, drain, lines: reader.lines };
+}
+
+// The trace: the port, the number of bytes and the line of each packet.
+function readTrace(text) {
+  const reader = new LineReader(text, isSkipped);
+  const packets = [];
+  while (!reader.ended) {
+    const line = reader.number;
+    const parts = reader.take(`${NUMBER} (-|(?:[0-9a-fA-F]{2})+)`, "a port and the bytes of a packet");
+    if (Number(parts[1]) > 255) {
+      throw new Refusal(line, "a port up to 255 is wanted");
+    }
+    packets.push({ port: Number(parts[1]), bytes: parts[2] === "-" ? 0 : parts[2].length / 2, line });
+  }
+  return { packets, lines: reader.lines };
+}
+
+// The limits, where each stands on a line of its own.
+function readLimits(text) {
+  const reader = new LineReader(text, (line) => /^\s*(#.*)?$/.test(line));
+  const limits = new Map();
+  while (!reader.ended) {
+    const line = reader.number;
+    const pattern = `\\s*(${LIMIT_NAMES.join("|")})\\s*=\\s*([0-9][0-9_]*)\\s*(?:#.*)?`;
+    const parts = reader.take(pattern, "one of the four limits");
+    if (limits.has(parts[1])) {
+      throw new Refusal(line, `${parts[1]} stands here again`);
+    }
+    limits.set(parts[1], Number(parts[2].replaceAll("_", "")));
+  }
+  if (limits.size < LIMIT_NAMES.length) {
+    reader.refuse(LIMIT_NAMES.find((name) => !limits.has(name)));
+  }
+  return { limits, lines: reader.lines };
+}
+
+// The declarations of a source: kind, widths and size of each object. What follows `process` isn't read.
+function readSource(text) {
+  const tokens = [];
+  const pattern = /\/\/[^\n]*|->|[A-Za-z0-9_.]+|\S/g;
+  for (let found = pattern.exec(text); found; found = pattern.exec(text)) {
+    if (!found[0].startsWith("//")) {
+      tokens.push({ word: found[0], at: found.index });
+    }
+  }
+  let place = 0;
+  const lineOf = (offset) => text.slice(0, offset).split("\n").length;
+  const take = (wanted) => {
+    const token = tokens[place];
+    if (!token || !wanted.test(token.word)) {
+      throw new Refusal(lineOf(token ? token.at : text.length), "a declaration or `process` is wanted");
+    }
+    place += 1;
+    return token.word;
+  };
+  const takeNumber = () => Number(take(/^[0-9]/));
+  const takeWidths = () => {
+    const widths = [];
+    take(/^\($/);
+    do {
+      widths.push(takeNumber());
+    } while (take(/^[,)]$/) === ",");
+    return widths;
+  };
+  const objects = new Map();
+  for (let kind = take(/^(table|map|vector|int|process)$/); kind !== "process";
+    kind = take(/^(table|map|vector|int|process)$/)) {
+    const name = take(/^[A-Za-z]/);
+    const object = { kind, keys: [], values: [], rows: 1 };
+    if (kind === "int") {
+      take(/^:$/);
+      object.values = [takeNumber()];
+      take(/^=$/);
+      takeNumber();
+      take(/^;$/);
+    } else if (kind === "vector") {
+      take(/^length$/);
+      object.rows = takeNumber();
+      take(/^->$/);
+      object.keys = [32];
+      object.values = takeWidths();
+      take(/^;$/);
+    } else {
+      object.keys = takeWidths();
+      take(/^->$/);
+      object.values = takeWidths();
+      if (kind === "map") {
+        take(/^capacity$/);
+        object.rows = takeNumber();
+        take(/^;$/);
+      } else {
+        take(/^\{$/);
+        object.rows = 0;
+        for (let word = take(/./); word !== "}"; word = take(/./)) {
+          object.rows += word === ";" ? 1 : 0;
+        }
+      }
+    }
+    objects.set(name, object);
+  }
+  return { objects, lines: linesOf(text) };
+}
+
+// The kinds of texts, with their readers and what they are called on the page.
+const TEXT_KINDS = new Map([
+  ["answer", { title: "answer of compile", read: readAnswer }],
+  ["limits", { title: "limits", read: readLimits }],
+  ["source", { title: "source", read: readSource }],
+  ["report", { title: "report", read: readReport }],
+  ["schedule", { title: "schedule", read: readSchedule }],
+  ["trace", { title: "trace", read: readTrace }],
+  ["nothing", { title: "tells nothing", read: (text) => ({ lines: linesOf(text) }) }],
+]);
+
+// Which kind of text it is, by its first line that isn't skipped.
+function kindOf(text) {
+  const lines = linesOf(text);
+  const first = lines.find((line) => line.trim() !== "") || "";
+  if (first.startsWith("# instructions ")) {
+    return "answer";
+  }
+  const place = lines.findIndex((line) => !/^\s*(#.*)?$/.test(line));
+  if (place < 0) {
+    return "nothing";
+  }
+  const line = lines[place];
+  if (line.startsWith("report")) {
+    return "report";
+  }
+  if (/^(a|c|w|k|drain|[uhd] .*)$/.test(line)) {
+    return "schedule";
+  }
+  if (/^[0-9]+ /.test(line)) {
+    return "trace";
+  }
+  if (/^\s*[a-z_]+\s*=/.test(line)) {
+    return "limits";
+  }
+  if (/\bprocess\b/.test(text)) {
+    return "source";
+  }
+  throw new Refusal(place + 1,
+    "the beginning of an answer of compile, of a report, or of a text that goes with one is wanted");
+}
