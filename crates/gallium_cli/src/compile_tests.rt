@@ -21,7 +21,8 @@ const GUARDED: &str =
 fn expect(
     rt: &impl Abort,
     alloc: Global,
-    files: [&str; 2],
+    source: &str,
+    limits: &str,
     shrink: bool,
     status: Status,
     written: &str,
@@ -35,8 +36,8 @@ fn expect(
         words.push(String::from_str(alloc, "shrink")?)?;
     }
     let mut held = MemFiles::new(alloc);
-    if held.add("source", files[0].as_bytes()).is_err()
-        || held.add("limits", files[1].as_bytes()).is_err()
+    if held.add("source", source.as_bytes()).is_err()
+        || held.add("limits", limits.as_bytes()).is_err()
     {
         return Err(AllocError);
     }
@@ -81,7 +82,8 @@ fn a_strict_split(rt: HostRuntime) -> Result<(), Fail> {
     expect(
         &rt,
         rt.alloc(),
-        [GUARDED, LIMITS],
+        GUARDED,
+        LIMITS,
         false,
         Status::Done,
         written,
@@ -130,7 +132,8 @@ fn shrunk_splits(rt: HostRuntime) -> Result<(), Fail> {
         expect(
             &rt,
             alloc,
-            [SUMS, limits.as_str()],
+            SUMS,
+            limits.as_str(),
             true,
             Status::Done,
             written.as_str(),
@@ -160,7 +163,8 @@ fn exceeded_limits(rt: HostRuntime) -> Result<(), Fail> {
         expect(
             &rt,
             rt.alloc(),
-            [source, limits],
+            source,
+            limits,
             false,
             Status::Exceeded,
             "",
@@ -193,7 +197,8 @@ fn refused_limits(rt: HostRuntime) -> Result<(), Fail> {
             expect(
                 &rt,
                 rt.alloc(),
-                [SUMS, limits],
+                SUMS,
+                limits,
                 shrink,
                 Status::Limits,
                 "",
@@ -203,7 +208,8 @@ fn refused_limits(rt: HostRuntime) -> Result<(), Fail> {
         expect(
             &rt,
             rt.alloc(),
-            ["process { drop }", limits],
+            "process { drop }",
+            limits,
             true,
             Status::Source,
             "",
@@ -226,7 +232,8 @@ fn programs_of_the_greatest_size(rt: HostRuntime) -> Result<(), Fail> {
     expect(
         &rt,
         alloc,
-        [longer.as_str(), "="],
+        longer.as_str(),
+        "=",
         true,
         Status::Source,
         "",
@@ -236,7 +243,8 @@ fn programs_of_the_greatest_size(rt: HostRuntime) -> Result<(), Fail> {
     expect(
         &rt,
         alloc,
-        [source.as_str(), "="],
+        source.as_str(),
+        "=",
         true,
         Status::Limits,
         "",
