@@ -17,3 +17,5 @@ pub mod Draining
 pub mod Ties
 pub mod Tying
 pub mod Answering
+pub mod Determined
+pub mod Keeping

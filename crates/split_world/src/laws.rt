@@ -2,6 +2,7 @@
 //! functions do nothing: their contracts are the laws.
 ghost use Rattle.std.specs.Prelude.{◌≡◌, ◌↔◌, ◌++◌, ◌∷◌, [], List, length, slice_get, Some, None, true, IsTrue};
 ghost use Rattle.packet_fields.specs.declared.packet.Packet.{Packet};
+ghost use Rattle.state_store.specs.Kept.{IsKept};
 ghost use Rattle.state_store.specs.Store.{start_store};
 ghost use Rattle.run_text.specs.declared.event.Event.{Event};
 ghost use Rattle.run_text.specs.declared.event.Event.TheVariants.{Admit};
@@ -41,6 +42,14 @@ pub fn lookups_see_one_version()
     one_batch_more();
 }
 
+/// The store of the server, and the one with which the visible version began, keep what was declared.
+pub fn stores_keep_what_was_declared()
+    ensures server { (s : SplitProgram) (packets : List Packet) (events : List Event)
+        → IsSplitProgram s packets → IsKept s.objects (world_of s packets events).store }
+    ensures seen { (s : SplitProgram) (packets : List Packet) (events : List Event)
+        → IsSplitProgram s packets → IsKept s.objects (seen_store (world_of s packets events)) }
+{}
+
 /// Where nothing is left on its way, the switch has the replicated objects of the server, and nothing is staged.
 pub fn a_quiet_switch_has_the_newest_tables()
     ensures { (s : SplitProgram) (packets : List Packet) (events : List Event)
@@ -73,7 +82,7 @@ pub fn drain_ends()
         ↔ (is_drained (length packets) (world_of s packets events) ≡ true) }
 {}
 
-/// Whatever a switch answers, the calls determine the replay: those of one event more are put behind the others.
+/// Whatever a switch answers, the calls determine the replay, and those of one event more stand behind the others.
 pub fn a_replay_is_answered_by_its_calls()
     ensures first { (s : SplitProgram) (packets : List Packet)
         → IsAnswered s packets [] [] (first_replay (start_store s.objects)) }
@@ -81,6 +90,8 @@ pub fn a_replay_is_answered_by_its_calls()
         (r next : Replay) (calls one : List Call)
         → IsAnswered s packets events calls r → AnswersOne s packets event r one next
         → IsAnswered s packets (events ++ event ∷ []) (calls ++ one) next }
+    ensures one { (s : SplitProgram) (packets : List Packet) (events : List Event) (calls : List Call)
+        (r other : Replay) → IsAnswered s packets events calls r → IsAnswered s packets events calls other → r ≡ other }
 {}
 
 /// Over a switch that tells its tables the replay is the world of the same events, from the start and after each step.
