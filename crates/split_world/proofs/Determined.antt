@@ -5,7 +5,7 @@ use Rattle.packet_fields.specs.declared.packet.Packet.{Packet}
 use Rattle.packet_fields.specs.declared.verdict.Verdict.{Verdict}
 use Rattle.state_store.specs.Store.{start_store}
 use Rattle.writeback_table.specs.declared.command.Command.{Command}
-use Rattle.output_commit.specs.Commit.{next as next_command, after_next}
+use Rattle.output_commit.specs.Commit.{next as next_command}
 use Rattle.run_text.specs.declared.event.Event.{Event}
 use Rattle.run_text.specs.declared.event.Event.TheVariants.{Admit, Serve, Send, Apply, Ack, Hold, Down}
 use Rattle.split_world.specs.Program.{SplitProgram}

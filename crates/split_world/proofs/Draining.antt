@@ -9,20 +9,20 @@ use Rattle.packet_fields.specs.declared.packet.Packet.{Packet}
 use Rattle.state_store.specs.Store.{Store, start_store}
 use Rattle.writeback_table.specs.declared.command.Command.{Command}
 use Rattle.writeback_table.specs.declared.command.Update.{Update}
-use Rattle.writeback_table.specs.Commands.{commands_of, ons}
+use Rattle.writeback_table.specs.Commands.{commands_of}
 use Rattle.run_text.specs.declared.event.Event.{Event}
 use Rattle.run_text.specs.declared.event.Event.TheVariants.{Admit, Serve, Send, Apply, Ack, Hold, Down}
 use Rattle.split_world.specs.Program.{SplitProgram, IsSplitProgram}
 use Rattle.split_world.specs.Progress.{Progress, Up, Held, Slow, Fast, decided, released}
 use Rattle.split_world.specs.World.{World, visible, seen_store, packet_at, tick, finished, sent_up, admitted, with_changes, ran, served, idled, let_go, maybe_go, came_down, sent_one, applied_one, acked_one, step, steps, first_world, world_of}
 use Rattle.split_world.specs.Run.{is_drained, is_quiet}
-use Rattle.split_world.specs.Drain.{next_event, maybe_step, after_drain, drain_bound}
+use Rattle.split_world.specs.Drain.{next_event, after_drain, drain_bound}
 use Rattle.split_world.proofs.Words.{version_at}
 use Rattle.split_world.proofs.Lists.{get_within, get_member}
 use Rattle.split_world.proofs.Counts.{visible_sum, visible_all, length_batch}
 use Rattle.split_world.proofs.Fates.{Fine, FateOk}
-use Rattle.split_world.proofs.Runs.{Kept, Few, run_of_up, kept_step, kept_steps, kept_first}
-use Rattle.split_world.proofs.Serialised.{IsQuiet, quiet_parts, kept_of}
+use Rattle.split_world.proofs.Runs.{Kept, run_of_up, kept_step, kept_first}
+use Rattle.split_world.proofs.Serialised.{quiet_parts, kept_of}
 use Rattle.split_world.proofs.Steps.{run_at, by_step, by_test}
 
 -- what the commands, the lists and the packets to come still cost
@@ -299,8 +299,7 @@ pub drain_stops : (s : SplitProgram) (packets : List Packet) (events : List Even
     → (next_event (length packets) (world_of s packets events) ≡ None) ↔ (is_drained (length packets) (world_of s packets events) ≡ true)
 drain_stops s packets events law =
     let w = world_of s packets events in
-    let k = kept_of s packets events law in
-    (
+    let k = kept_of s packets events law in (
       (λ none. done_is_drained packets w (subst (λ o. Lowers s packets w o) none (next_lowers s packets w law k))),
       (λ drained. drained_has_none packets w k.fine drained),
     )

@@ -28,7 +28,7 @@ use Rattle.split_world.proofs.Serial.{packets_of}
 use Rattle.split_world.proofs.Places.{up_mark, held_mark}
 use Rattle.split_world.proofs.Fates.{FateOk}
 use Rattle.split_world.proofs.Respects.{Pair}
-use Rattle.split_world.proofs.Runs.{Kept, InOrder, kept_steps, kept_first}
+use Rattle.split_world.proofs.Runs.{Kept, kept_steps, kept_first}
 
 -- ---- the order that is reported is that of the entries
 
@@ -334,8 +334,7 @@ complete_from s packets w k quiet =
           let out = released_since p (slice_get w.progress p) x.0 x.1 (omega arith) (omega arith) in
           let e = out.0 in
           let is : e.number ≡ p = entry_number p (slice_get w.progress p) e out.2 in
-          let place = place_of e o.entries (o.order.complete e (subst (λ z. entry_of z (slice_get w.progress z) ≡ Some e) (sym is) out.2)) in
-          (
+          let place = place_of e o.entries (o.order.complete e (subst (λ z. entry_of z (slice_get w.progress z) ≡ Some e) (sym is) out.2)) in (
             place.0,
             out.1,
             e.verdict,

@@ -25,8 +25,8 @@ use Rattle.split_world.specs.World.{World, visible, seen_store, packet_at, with_
 use Rattle.split_world.specs.Tables.{IsSeen, first_pair}
 use Rattle.split_world.specs.Replay as replay
 use Rattle.split_world.specs.Replay.{Replay, UpAnswer, Finished, SentUp, served_as, version_with}
-use Rattle.split_world.specs.Answered.{Call, CalledUp, CalledCommand, CalledDown, Alone, AnswersUp, AnswersCommand, AnswersDown, AnswersOne}
-use Rattle.split_world.specs.Tied.{IsFramed, HasFrames, Shows, IsRight, IsTold, AreTold, verdict_of, GivesVerdict, frame_at, IsTied}
+use Rattle.split_world.specs.Answered.{Call, Alone, AnswersUp, AnswersCommand, AnswersDown, AnswersOne}
+use Rattle.split_world.specs.Tied.{IsFramed, HasFrames, Shows, IsRight, AreTold, verdict_of, GivesVerdict, frame_at, IsTied}
 use Rattle.split_world.proofs.Lists.{get_set_same, get_set_other, get_push_other, get_push_cases, get_past, get_within, map_get, map_push, map_remove}
 use Rattle.split_world.proofs.Counts.{visible_sum}
 use Rattle.split_world.proofs.Places.{at_up, at_down}
@@ -239,8 +239,7 @@ module _ (s : SplitProgram) (packets : List Packet) where
       → IsTied s packets (record (replay.tick r) { commit = record r.commit { held = remove r.commit.held j }; down = r.down ++ (output.number, output.frame) ∷ [] }) (world.let_go (world.tick w) j output.number)
   gone j output r w t here =
       made (record (replay.tick r) { commit = record r.commit { held = remove r.commit.held j }; down = r.down ++ (output.number, output.frame) ∷ [] }) (world.let_go (world.tick w) j output.number)
-      (t.store, t.version, t.commands, t.sent, t.done, t.acked, ap (λ n. n + 1) t.events, t.idle) t.up
-      (
+      (t.store, t.version, t.commands, t.sent, t.done, t.acked, ap (λ n. n + 1) t.events, t.idle) t.up (
         map_remove pair_of r.commit.held j ∙ ap (λ l. remove l j) t.held,
         (λ i other h. let at = get_remove r.commit.held j i other h in t.held_verdicts at.0 other at.1),
         map_push number_in r.down (output.number, output.frame) ∙ ap (λ l. l ++ output.number ∷ []) t.down,
@@ -288,8 +287,7 @@ module _ (s : SplitProgram) (packets : List Packet) where
       let more = comes_more r.commit.held w.held r.down w.down w.progress (set w.progress n after) (λ m y h. says_set w.progress n before after m y x.4 (λ e. e) h) (comes_of r w t) in
       let is : IsTied s packets (replay.came_down (replay.tick r) j n verdict) (record (world.tick w) { down = remove w.down j; progress = set w.progress n after }) =
       made (replay.came_down (replay.tick r) j n verdict) (record (world.tick w) { down = remove w.down j; progress = set w.progress n after })
-      (t.store, t.version, t.commands, t.sent, t.done, t.acked, ap (λ n. n + 1) t.events, t.idle) t.up
-      (
+      (t.store, t.version, t.commands, t.sent, t.done, t.acked, ap (λ n. n + 1) t.events, t.idle) t.up (
         more.0,
         more.1,
         map_remove number_in r.down j ∙ ap (λ l. remove l j) t.down,
@@ -327,8 +325,7 @@ module _ (s : SplitProgram) (packets : List Packet) where
       let is : IsTied s packets (served_as (replay.tick r) j n (s.after w.store (packet_at packets n)) v us down) now =
       made (served_as (replay.tick r) j n (s.after w.store (packet_at packets n)) v us down) now
       (refl, refl, commands, t.sent, t.done, t.acked, ap (λ n. n + 1) t.events, t.idle)
-      (ap (λ l. remove l j) t.up ∙ sym (map_remove (frame_at s packets) w.up j))
-      (
+      (ap (λ l. remove l j) t.up ∙ sym (map_remove (frame_at s packets) w.up j)) (
         map_push pair_of r.commit.held output ∙ ap (λ l. l ++ (n, v) ∷ []) t.held,
         (λ i other h. elim (get_push_cases r.commit.held output other i h) [
           | inl old ↦ more.1 i other old.1
