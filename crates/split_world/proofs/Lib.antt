@@ -19,3 +19,5 @@ pub mod Tying
 pub mod Answering
 pub mod Determined
 pub mod Keeping
+pub mod Reporting
+pub mod Applied

@@ -1,22 +1,34 @@
 //! What holds of every run of a split program, whatever the packets and the schedule, as the definitions give it. These
 //! functions do nothing: their contracts are the laws.
-ghost use Rattle.std.specs.Prelude.{◌≡◌, ◌↔◌, ◌++◌, ◌∷◌, [], List, length, slice_get, Some, None, true, IsTrue};
+ghost use Rattle.std.specs.Prelude.{◌≡◌, ◌↔◌, ◌+◌, ◌++◌, ◌∷◌, [], List, length, slice_get, Some, None, true, false, IsTrue};
 ghost use Rattle.packet_fields.specs.declared.packet.Packet.{Packet};
 ghost use Rattle.state_store.specs.Kept.{IsKept};
 ghost use Rattle.state_store.specs.Store.{start_store};
 ghost use Rattle.run_text.specs.declared.event.Event.{Event};
 ghost use Rattle.run_text.specs.declared.event.Event.TheVariants.{Admit};
 ghost use Rattle.split_world.specs.Program.{SplitProgram, IsSplitProgram};
-ghost use Rattle.split_world.specs.World.{seen_store, world_of};
+ghost use Rattle.split_world.specs.World.{World, idled, seen_store, step, tick, world_of};
+ghost use Rattle.split_world.specs.Applying.{applies};
 ghost use Rattle.split_world.specs.Run.{is_drained, is_quiet, job_run};
 ghost use Rattle.split_world.specs.Serialises.{Serialises, AllReleased, IsDrained, is_fast_fate};
 ghost use Rattle.split_world.specs.Tables.{HasNewestTables, IsSeen};
 ghost use Rattle.split_world.specs.Drain.{after_drain, drain_bound, next_event};
 ghost use Rattle.split_world.specs.Replay.{Replay, first_replay};
+ghost use Rattle.split_world.specs.Reported as reported;
 ghost use Rattle.split_world.specs.Answered.{Call, AnswersOne, IsAnswered};
 ghost use Rattle.split_world.specs.Tied.{AreTold, HasFrames, IsTied};
 
 use writeback_table::{batches_are_seen_in_order, one_batch_more};
+
+/// An event that can't apply leaves all but its count and that of idle events; one that applies isn't idle.
+pub fn an_event_applies_or_is_idle()
+    ensures idle { (s : SplitProgram) (packets : List Packet) (w : World) (event : Event)
+        → applies packets w event ≡ false → step s packets w event ≡ idled (tick w) }
+    ensures applied { (s : SplitProgram) (packets : List Packet) (w : World) (event : Event)
+        → applies packets w event ≡ true → (step s packets w event).idle ≡ w.idle }
+    ensures counted { (s : SplitProgram) (packets : List Packet) (w : World) (event : Event)
+        → (step s packets w event).events ≡ w.events + 1 }
+{}
 
 /// Whatever the schedule, the run is a serial run of the whole program: runs of the decided packets, one after the
 /// other in the order that is reported, do just what the report tells. Where nothing is left on its way, every admitted
@@ -107,3 +119,13 @@ pub fn a_told_step_keeps_the_tie()
     batches_are_seen_in_order();
     one_batch_more();
 }
+
+/// A replay that is tied to the world of some events reports the run of these events.
+pub fn a_tied_replay_reports_the_run()
+    ensures run { (s : SplitProgram) (packets : List Packet) (events : List Event) (r : Replay)
+        → IsTied s packets r (world_of s packets events)
+        → reported.run_of s (length packets) r ≡ job_run s packets events }
+    ensures quiet { (s : SplitProgram) (packets : List Packet) (events : List Event) (r : Replay)
+        → IsTied s packets r (world_of s packets events)
+        → reported.is_quiet r ≡ is_quiet (world_of s packets events) }
+{}
