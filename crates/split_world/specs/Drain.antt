@@ -4,7 +4,7 @@ use Rattle.packet_fields.specs.declared.packet.Packet.{Packet}
 use Rattle.run_text.specs.declared.event.Event.{Event}
 use Rattle.run_text.specs.declared.event.Event.TheVariants.{Admit, Serve, Send, Apply, Ack, Hold, Down}
 use Rattle.split_world.specs.Program.{SplitProgram}
-use Rattle.split_world.specs.World.{World, step}
+use Rattle.split_world.specs.World.{World, step, world_of}
 
 -- the first of `k`, `w`, `c`, `d 0`, `h 0`, `u 0` and `a` that applies
 abbrev pub next_event : ℕ → World → Option Event
@@ -30,3 +30,8 @@ after_drain s packets (suc n) w = after_drain s packets n (maybe_step s packets 
 -- how many events are enough for so many packets and so many instructions that change replicated objects
 abbrev pub drain_bound : ℕ → ℕ → ℕ
 drain_bound packets writes = packets * (4 + 3 * (3 * writes + 2))
+
+-- the world after a schedule that ends with drain
+abbrev pub drained_world : SplitProgram → List Packet → List Event → World
+drained_world s packets events =
+    after_drain s packets (drain_bound (length packets) s.writes) (world_of s packets events)

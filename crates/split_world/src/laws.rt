@@ -1,6 +1,7 @@
 //! What holds of every run of a split program, whatever the packets and the schedule, as the definitions give it. These
 //! functions do nothing: their contracts are the laws.
-ghost use Rattle.std.specs.Prelude.{◌≡◌, ◌↔◌, ◌+◌, ◌++◌, ◌∷◌, [], List, length, slice_get, Some, None, true, false, IsTrue};
+ghost use Rattle.std.specs.Prelude.{◌≡◌, ◌↔◌, ◌+◌, ◌≤◌, ◌++◌, ◌∷◌, [], true, false, IsTrue, Some, None};
+ghost use Rattle.std.specs.Prelude.{List, length, slice_get};
 ghost use Rattle.packet_fields.specs.declared.packet.Packet.{Packet};
 ghost use Rattle.state_store.specs.Kept.{IsKept};
 ghost use Rattle.state_store.specs.Store.{start_store};
@@ -12,7 +13,7 @@ ghost use Rattle.split_world.specs.Applying.{applies};
 ghost use Rattle.split_world.specs.Run.{is_drained, is_quiet, job_run};
 ghost use Rattle.split_world.specs.Serialises.{Serialises, AllReleased, IsDrained, is_fast_fate};
 ghost use Rattle.split_world.specs.Tables.{HasNewestTables, IsSeen};
-ghost use Rattle.split_world.specs.Drain.{after_drain, drain_bound, next_event};
+ghost use Rattle.split_world.specs.Drain.{drain_bound, drained_world, next_event};
 ghost use Rattle.split_world.specs.Replay.{Replay, first_replay};
 ghost use Rattle.split_world.specs.Reported as reported;
 ghost use Rattle.split_world.specs.Answered.{Call, AnswersOne, IsAnswered};
@@ -82,12 +83,14 @@ pub fn a_packet_is_fast_by_what_is_seen()
         ≡ s.is_fast (seen_store (world_of s packets events)) packet) }
 {}
 
-/// After any schedule, drain ends in a drained world within its bound. It goes on until then, and not beyond.
+/// After any schedule, drain ends in a drained world, by no more events than its bound; so what holds of every run holds
+/// of the run that it leads to. It goes on until the world is drained, and not beyond.
 pub fn drain_ends()
+    ensures drained { (s : SplitProgram) (packets : List Packet) (events : List Event)
+        → IsSplitProgram s packets → is_drained (length packets) (drained_world s packets events) ≡ true }
     ensures bound { (s : SplitProgram) (packets : List Packet) (events : List Event)
-        → IsSplitProgram s packets
-        → (let bound = drain_bound (length packets) s.writes in
-        is_drained (length packets) (after_drain s packets bound (world_of s packets events)) ≡ true) }
+        → (more : List Event) × (length more ≤ drain_bound (length packets) s.writes)
+        × (drained_world s packets events ≡ world_of s packets (events ++ more)) }
     ensures stops { (s : SplitProgram) (packets : List Packet) (events : List Event)
         → IsSplitProgram s packets
         → (next_event (length packets) (world_of s packets events) ≡ None)
