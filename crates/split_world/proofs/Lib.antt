@@ -21,3 +21,4 @@ pub mod Determined
 pub mod Keeping
 pub mod Reporting
 pub mod Applied
+pub mod Turning

@@ -6,16 +6,23 @@ use Rattle.run_text.specs.declared.event.Event.TheVariants.{Admit, Serve, Send, 
 use Rattle.split_world.specs.Program.{SplitProgram}
 use Rattle.split_world.specs.World.{World, step, world_of}
 
--- the first of `k`, `w`, `c`, `d 0`, `h 0`, `u 0` and `a` that applies
+-- the first of `k`, `w`, `c`, `d 0`, `h 0`, `u 0` and `a` that applies, with so many commands, so many of them sent,
+-- applied and acknowledged, so many items in each list, and so many packets of which so many are admitted
+abbrev pub first_that_applies : ℕ → ℕ → ℕ → ℕ → ℕ → ℕ → ℕ → ℕ → ℕ → Option Event
+first_that_applies acked done sent commands down held up admitted total =
+    if nat_lt acked done then Some Ack
+    else (if nat_lt done sent then Some Apply
+    else (if nat_lt sent commands then Some Send
+    else (if nat_lt 0 down then Some (Down 0)
+    else (if nat_lt 0 held then Some (Hold 0)
+    else (if nat_lt 0 up then Some (Serve 0)
+    else (if nat_lt admitted total then Some Admit else None))))))
+
+-- the event that drain picks, over a trace of so many packets
 abbrev pub next_event : ℕ → World → Option Event
 next_event total w =
-    if nat_lt w.acked w.done then Some Ack
-    else (if nat_lt w.done w.sent then Some Apply
-    else (if nat_lt w.sent (length w.commands) then Some Send
-    else (if nat_lt 0 (length w.down) then Some (Down 0)
-    else (if nat_lt 0 (length w.held) then Some (Hold 0)
-    else (if nat_lt 0 (length w.up) then Some (Serve 0)
-    else (if nat_lt (length w.progress) total then Some Admit else None))))))
+    first_that_applies w.acked w.done w.sent (length w.commands) (length w.down) (length w.held) (length w.up)
+    (length w.progress) total
 
 -- the world after an event, if there is one
 abbrev pub maybe_step : SplitProgram → List Packet → World → Option Event → World

@@ -10,3 +10,4 @@ pub mod Replay
 pub mod Answered
 pub mod Tied
 pub mod Reported
+pub mod Turns

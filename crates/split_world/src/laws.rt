@@ -5,6 +5,7 @@ ghost use Rattle.std.specs.Prelude.{List, length, slice_get};
 ghost use Rattle.packet_fields.specs.declared.packet.Packet.{Packet};
 ghost use Rattle.state_store.specs.Kept.{IsKept};
 ghost use Rattle.state_store.specs.Store.{start_store};
+ghost use Rattle.output_commit.specs.Commit.{IsInOrder};
 ghost use Rattle.run_text.specs.declared.event.Event.{Event};
 ghost use Rattle.run_text.specs.declared.event.Event.TheVariants.{Admit};
 ghost use Rattle.split_world.specs.Program.{SplitProgram, IsSplitProgram};
@@ -14,9 +15,11 @@ ghost use Rattle.split_world.specs.Run.{is_drained, is_quiet, job_run};
 ghost use Rattle.split_world.specs.Serialises.{Serialises, AllReleased, IsDrained, is_fast_fate};
 ghost use Rattle.split_world.specs.Tables.{HasNewestTables, IsSeen};
 ghost use Rattle.split_world.specs.Drain.{drain_bound, drained_world, next_event};
+ghost use Rattle.split_world.specs.Replay as replay;
 ghost use Rattle.split_world.specs.Replay.{Replay, first_replay};
+ghost use Rattle.split_world.specs.Turns as turns;
 ghost use Rattle.split_world.specs.Reported as reported;
-ghost use Rattle.split_world.specs.Answered.{Call, AnswersOne, IsAnswered};
+ghost use Rattle.split_world.specs.Answered.{Alone, Call, AnswersOne, IsAnswered};
 ghost use Rattle.split_world.specs.Tied.{AreTold, HasFrames, IsTied};
 
 use writeback_table::{batches_are_seen_in_order, one_batch_more};
@@ -83,8 +86,8 @@ pub fn a_packet_is_fast_by_what_is_seen()
         ≡ s.is_fast (seen_store (world_of s packets events)) packet) }
 {}
 
-/// After any schedule, drain ends in a drained world, by no more events than its bound; so what holds of every run holds
-/// of the run that it leads to. It goes on until the world is drained, and not beyond.
+/// After any schedule, drain ends in a drained world, by no more events than its bound; so what holds of every run
+/// holds of the run that it leads to. It goes on until the world is drained, and not beyond.
 pub fn drain_ends()
     ensures drained { (s : SplitProgram) (packets : List Packet) (events : List Event)
         → IsSplitProgram s packets → is_drained (length packets) (drained_world s packets events) ≡ true }
@@ -109,6 +112,17 @@ pub fn a_replay_is_answered_by_its_calls()
         (r other : Replay) → IsAnswered s packets events calls r → IsAnswered s packets events calls other → r ≡ other }
 {}
 
+/// Whatever a switch answers, an event that can't apply makes no call, and leaves all but its count and that of idle
+/// events; one that applies isn't idle.
+pub fn a_replay_applies_an_event_or_is_idle()
+    ensures idle { (s : SplitProgram) (packets : List Packet) (event : Event) (r next : Replay) (calls : List Call)
+        → turns.applies packets r event ≡ false → AnswersOne s packets event r calls next
+        → Alone calls (replay.idled (replay.tick r)) next }
+    ensures applied { (s : SplitProgram) (packets : List Packet) (event : Event) (r next : Replay) (calls : List Call)
+        → IsInOrder r.commit → turns.applies packets r event ≡ true → AnswersOne s packets event r calls next
+        → next.idle ≡ r.idle }
+{}
+
 /// Over a switch that tells its tables the replay is the world of the same events, from the start and after each step.
 pub fn a_told_step_keeps_the_tie()
     ensures first { (s : SplitProgram) (packets : List Packet)
@@ -131,4 +145,14 @@ pub fn a_tied_replay_reports_the_run()
     ensures quiet { (s : SplitProgram) (packets : List Packet) (events : List Event) (r : Replay)
         → IsTied s packets r (world_of s packets events)
         → reported.is_quiet r ≡ is_quiet (world_of s packets events) }
+{}
+
+/// In a replay that is tied to a world the same events apply, and drain picks the same.
+pub fn a_tied_replay_takes_the_same_turns()
+    ensures applies { (s : SplitProgram) (packets : List Packet) (events : List Event) (event : Event) (r : Replay)
+        → IsTied s packets r (world_of s packets events)
+        → turns.applies packets r event ≡ applies packets (world_of s packets events) event }
+    ensures picks { (s : SplitProgram) (packets : List Packet) (events : List Event) (r : Replay)
+        → IsTied s packets r (world_of s packets events)
+        → turns.next_event (length packets) r ≡ next_event (length packets) (world_of s packets events) }
 {}
