@@ -1,5 +1,5 @@
 -- A replay that is tied to a world reports the world's run.
-use Rattle.std.proofs.Common.{◌≡◌, ℕ, Bool, ◌&&◌, eqb, List, sym, ap, ◌∙◌, map, take, length}
+use Rattle.std.proofs.Common.{◌≡◌, ℕ, Bool, ◌&&◌, eqb, List, sym, ap, ◌∙◌, take, length}
 use Rattle.std.specs.Prelude.{count_by}
 use Rattle.std.proofs.lemmas.List.{length-map}
 use Rattle.packet_fields.specs.declared.packet.Packet.{Packet}

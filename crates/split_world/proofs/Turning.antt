@@ -1,11 +1,10 @@
 -- Where events of a replay apply.
-use Rattle.std.proofs.Common.{◌≡◌, ℕ, ◌<◌, Bool, true, false, cond, ltb, leb, List, [], ◌∷◌, ◌++◌, Option, Some, None, inl, inr, refl, sym, ap, subst, ◌∙◌, arith, take, length}
+use Rattle.std.proofs.Common.{◌≡◌, ℕ, true, false, cond, List, [], ◌∷◌, ◌++◌, Option, Some, None, inl, inr, refl, sym, ap, subst, ◌∙◌, arith, take, length}
 use Rattle.std.specs.Prelude.{slice_get, remove, nat_le, nat_lt}
-use Rattle.std.proofs.lemmas.Bool.{cases_lt, ltb-true, ltb-false, leb-true, lt-leb, le-leb}
+use Rattle.std.proofs.lemmas.Bool.{cases_lt, ltb-true, ltb-false, leb-true, le-leb}
 use Rattle.std.proofs.lemmas.List.{length-map}
 use Rattle.std.proofs.lemmas.Option.{slice_get_past}
 use Rattle.packet_fields.specs.declared.packet.Packet.{Packet}
-use Rattle.writeback_table.specs.declared.command.Command.{Command}
 use Rattle.writeback_table.specs.Commands.{ons}
 use Rattle.output_commit.specs.Commit.{IsInOrder, acknowledged, after_send, after_acknowledge, next as next_command}
 use Rattle.output_commit.specs.declared.output.Output.{Output}
@@ -18,7 +17,7 @@ use Rattle.split_world.specs.Applying as world
 use Rattle.split_world.specs.Drain as drain
 use Rattle.split_world.specs.Drain.{first_that_applies}
 use Rattle.split_world.specs.Turns.{may_go, applies, next_event}
-use Rattle.split_world.specs.Replay.{Replay, UpAnswer, Finished, SentUp, tick, idled, admitted, came_down, served, sent, acknowledged_one, let_go}
+use Rattle.split_world.specs.Replay.{Replay, UpAnswer, Finished, SentUp, tick, idled, admitted, served, sent, acknowledged_one, let_go}
 use Rattle.split_world.specs.Answered.{Call, Alone, AnswersUp, AnswersCommand, AnswersDown, AnswersOne}
 use Rattle.split_world.specs.Tied.{IsTied, frame_at}
 use Rattle.split_world.proofs.Lists.{get_within, map_get}
