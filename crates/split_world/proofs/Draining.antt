@@ -9,20 +9,21 @@ use Rattle.packet_fields.specs.declared.packet.Packet.{Packet}
 use Rattle.state_store.specs.Store.{Store, start_store}
 use Rattle.writeback_table.specs.declared.command.Command.{Command}
 use Rattle.writeback_table.specs.declared.command.Update.{Update}
-use Rattle.writeback_table.specs.Commands.{commands_of, ons}
+use Rattle.writeback_table.specs.Commands.{commands_of}
 use Rattle.run_text.specs.declared.event.Event.{Event}
 use Rattle.run_text.specs.declared.event.Event.TheVariants.{Admit, Serve, Send, Apply, Ack, Hold, Down}
 use Rattle.split_world.specs.Program.{SplitProgram, IsSplitProgram}
 use Rattle.split_world.specs.Progress.{Progress, Up, Held, Slow, Fast, decided, released}
 use Rattle.split_world.specs.World.{World, visible, seen_store, packet_at, tick, finished, sent_up, admitted, with_changes, ran, served, idled, let_go, maybe_go, came_down, sent_one, applied_one, acked_one, step, steps, first_world, world_of}
 use Rattle.split_world.specs.Run.{is_drained, is_quiet}
-use Rattle.split_world.specs.Drain.{next_event, maybe_step, after_drain, drain_bound}
+use Rattle.split_world.specs.Drain.{next_event, maybe_step, after_drain, drain_bound, drained_world}
 use Rattle.split_world.proofs.Words.{version_at}
 use Rattle.split_world.proofs.Lists.{get_within, get_member}
 use Rattle.split_world.proofs.Counts.{visible_sum, visible_all, length_batch}
 use Rattle.split_world.proofs.Fates.{Fine, FateOk}
-use Rattle.split_world.proofs.Runs.{Kept, Few, run_of_up, kept_step, kept_steps, kept_first}
-use Rattle.split_world.proofs.Serialised.{IsQuiet, quiet_parts, kept_of}
+use Rattle.split_world.proofs.Runs.{Kept, run_of_up, kept_step, kept_first}
+use Rattle.split_world.proofs.Serialised.{quiet_parts, kept_of}
+use Rattle.split_world.proofs.Admissions.{steps_append}
 use Rattle.split_world.proofs.Steps.{run_at, by_step, by_test}
 
 -- what the commands, the lists and the packets to come still cost
@@ -303,3 +304,23 @@ drain_stops s packets events law =
       (λ none. done_is_drained packets w (subst (λ o. Lowers s packets w o) none (next_lowers s packets w law k))),
       (λ drained. drained_has_none packets w k.fine drained),
     )
+
+-- drain is a schedule of its own
+pub drain_steps : (s : SplitProgram) (packets : List Packet) (n : ℕ) (w : World) → (more : List Event) × (length more ≤ n) × (after_drain s packets n w ≡ steps s packets w more)
+drain_steps s packets zero w = ([], omega arith, refl)
+drain_steps s packets (suc n) w = elim (none_or_some (next_event (length packets) w)) [
+  | inl none ↦
+      let r = drain_steps s packets n w in
+      let le = r.1 in
+      subst (λ o. (more : List Event) × (length more ≤ suc n) × (after_drain s packets n (maybe_step s packets w o) ≡ steps s packets w more)) (sym none) (r.0, omega arith, r.2)
+  | inr some ↦
+      let r = drain_steps s packets n (step s packets w some.0) in
+      let le = r.1 in
+      subst (λ o. (more : List Event) × (length more ≤ suc n) × (after_drain s packets n (maybe_step s packets w o) ≡ steps s packets w more)) (sym some.1) (some.0 ∷ r.0, omega arith, r.2)
+]
+
+pub drain_events : (s : SplitProgram) (packets : List Packet) (events : List Event)
+    → (more : List Event) × (length more ≤ drain_bound (length packets) s.writes) × (drained_world s packets events ≡ world_of s packets (events ++ more))
+drain_events s packets events =
+    let r = drain_steps s packets (drain_bound (length packets) s.writes) (world_of s packets events) in
+    (r.0, r.1, r.2 ∙ sym (steps_append s packets (first_world (start_store s.objects)) events r.0))

@@ -17,3 +17,8 @@ pub mod Draining
 pub mod Ties
 pub mod Tying
 pub mod Answering
+pub mod Determined
+pub mod Keeping
+pub mod Reporting
+pub mod Applied
+pub mod Turning

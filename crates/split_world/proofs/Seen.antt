@@ -1,8 +1,8 @@
 -- What lookups see at each point of a run, and what the switch has at its end.
-use Rattle.std.proofs.Common.{◌≡◌, ℕ, ◌≤◌, true, false, Bool, List, [], ◌∷◌, ◌++◌, Some, refl, sym, ◌∙◌, ap, subst, arith, take, length, map}
+use Rattle.std.proofs.Common.{◌≡◌, ℕ, ◌≤◌, true, false, Bool, List, [], ◌∷◌, ◌++◌, refl, sym, ◌∙◌, ap, subst, arith, take, length, map}
 use Rattle.std.specs.Prelude.{slice_get}
 use Rattle.std.specs.FinMap as fin
-use Rattle.std.proofs.lemmas.List.{take_all, append-nil}
+use Rattle.std.proofs.lemmas.List.{take_all}
 use Rattle.packet_fields.specs.declared.packet.Packet.{Packet}
 use Rattle.state_store.specs.Store.{object_at, start_store}
 use Rattle.writeback_table.specs.declared.command.Update.{Update}
@@ -10,11 +10,11 @@ use Rattle.writeback_table.specs.declared.command.Command.{Command}
 use Rattle.writeback_table.specs.declared.command.Command.TheVariants.{Stage, On, Main, Off}
 use Rattle.writeback_table.specs.Pair.{Pair}
 use Rattle.writeback_table.specs.Commands.{clear_of, commands_of, ons, bit_after, bit_through, pair_through, room_for}
-use Rattle.writeback_table.specs.Batches.{all_commands, object_after, seen_after, IsReady, IsSeenInOrder}
+use Rattle.writeback_table.specs.Batches.{all_commands, seen_after, IsReady, IsSeenInOrder}
 use Rattle.run_text.specs.declared.event.Event.{Event}
 use Rattle.split_world.specs.Program.{SplitProgram, IsSplitProgram}
-use Rattle.split_world.specs.Tables.{IsSeen, HasNewestTables, first_pair, pair_now}
-use Rattle.split_world.specs.World.{World, store_at, seen_store, visible, packet_at, step, steps, first_world, world_of}
+use Rattle.split_world.specs.Tables.{IsSeen, HasNewestTables, first_pair}
+use Rattle.split_world.specs.World.{World, store_at, step, steps, first_world, world_of}
 use Rattle.split_world.specs.Run.{is_quiet}
 use Rattle.split_world.proofs.Counts.{visible_sum}
 use Rattle.split_world.proofs.History.{History, Grows, history_same, history_seen, history_unseen, history_first}

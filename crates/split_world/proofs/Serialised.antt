@@ -28,7 +28,7 @@ use Rattle.split_world.proofs.Serial.{packets_of}
 use Rattle.split_world.proofs.Places.{up_mark, held_mark}
 use Rattle.split_world.proofs.Fates.{FateOk}
 use Rattle.split_world.proofs.Respects.{Pair}
-use Rattle.split_world.proofs.Runs.{Kept, InOrder, kept_steps, kept_first}
+use Rattle.split_world.proofs.Runs.{Kept, kept_steps, kept_first}
 
 -- ---- the order that is reported is that of the entries
 
@@ -334,12 +334,13 @@ complete_from s packets w k quiet =
           let out = released_since p (slice_get w.progress p) x.0 x.1 (omega arith) (omega arith) in
           let e = out.0 in
           let is : e.number ≡ p = entry_number p (slice_get w.progress p) e out.2 in
-          let place = place_of e o.entries (o.order.complete e (subst (λ z. entry_of z (slice_get w.progress z) ≡ Some e) (sym is) out.2)) in (
+          let place = place_of e o.entries (o.order.complete e (subst (λ z. entry_of z (slice_get w.progress z) ≡ Some e) (sym is) out.2)) in
+          let here : slice_get (map number o.entries) (place.0) ≡ Some p = subst (λ n. slice_get (map number o.entries) (place.0) ≡ Some n) is (map_get number o.entries (place.0) e place.1) in (
             place.0,
             out.1,
             e.verdict,
-            ap (λ l. slice_get l (place.0)) (numbers_are s packets w k) ∙ map_get number o.entries (place.0) e place.1 ∙ ap Some is,
-            ap released_at (fates_at s packets w k p) ∙ out.3,
+            subst (λ l. slice_get l (place.0) ≡ Some p) (sym (numbers_are s packets w k)) here,
+            subst (λ x. released_at x ≡ Some (out.1, e.verdict)) (sym (fates_at s packets w k p)) out.3,
             verdict_there s packets w k (place.0) e place.1,
           );
     }

@@ -25,8 +25,8 @@ use Rattle.split_world.specs.World.{World, visible, seen_store, packet_at, with_
 use Rattle.split_world.specs.Tables.{IsSeen, first_pair}
 use Rattle.split_world.specs.Replay as replay
 use Rattle.split_world.specs.Replay.{Replay, UpAnswer, Finished, SentUp, served_as, version_with}
-use Rattle.split_world.specs.Answered.{Call, CalledUp, CalledCommand, CalledDown, Alone, AnswersUp, AnswersCommand, AnswersDown, AnswersOne}
-use Rattle.split_world.specs.Tied.{IsFramed, HasFrames, Shows, IsRight, IsTold, AreTold, verdict_of, GivesVerdict, frame_at, IsTied}
+use Rattle.split_world.specs.Answered.{Call, Alone, AnswersUp, AnswersCommand, AnswersDown, AnswersOne}
+use Rattle.split_world.specs.Tied.{IsFramed, HasFrames, Shows, IsRight, AreTold, verdict_of, GivesVerdict, frame_at, IsTied}
 use Rattle.split_world.proofs.Lists.{get_set_same, get_set_other, get_push_other, get_push_cases, get_past, get_within, map_get, map_push, map_remove}
 use Rattle.split_world.proofs.Counts.{visible_sum}
 use Rattle.split_world.proofs.Places.{at_up, at_down}

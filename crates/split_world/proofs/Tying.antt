@@ -1,11 +1,11 @@
 -- A replay over a switch that tells is the world of the same events.
-use Rattle.std.proofs.Common.{◌≡◌, ℕ, List, [], ◌∷◌, ◌++◌, Some, refl, sym, subst}
+use Rattle.std.proofs.Common.{List, [], ◌∷◌, ◌++◌, refl, sym, subst}
 use Rattle.std.proofs.lemmas.Option.{none-some}
 use Rattle.packet_fields.specs.declared.packet.Packet.{Packet}
 use Rattle.state_store.specs.Store.{start_store}
 use Rattle.run_text.specs.declared.event.Event.{Event}
 use Rattle.split_world.specs.Program.{SplitProgram, IsSplitProgram}
-use Rattle.split_world.specs.World.{step, first_world, world_of}
+use Rattle.split_world.specs.World.{first_world, world_of}
 use Rattle.split_world.specs.Replay.{Replay, first_replay}
 use Rattle.split_world.specs.Answered.{Call, AnswersOne}
 use Rattle.split_world.specs.Tied.{HasFrames, AreTold, IsTied}

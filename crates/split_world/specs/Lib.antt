@@ -1,6 +1,7 @@
 pub mod Program
 pub mod Progress
 pub mod World
+pub mod Applying
 pub mod Run
 pub mod Serialises
 pub mod Tables
@@ -8,3 +9,5 @@ pub mod Drain
 pub mod Replay
 pub mod Answered
 pub mod Tied
+pub mod Reported
+pub mod Turns

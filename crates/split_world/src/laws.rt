@@ -1,21 +1,38 @@
 //! What holds of every run of a split program, whatever the packets and the schedule, as the definitions give it. These
 //! functions do nothing: their contracts are the laws.
-ghost use Rattle.std.specs.Prelude.{◌≡◌, ◌↔◌, ◌++◌, ◌∷◌, [], List, length, slice_get, Some, None, true, IsTrue};
+ghost use Rattle.std.specs.Prelude.{◌≡◌, ◌↔◌, ◌+◌, ◌≤◌, ◌++◌, ◌∷◌, [], true, false, IsTrue, Some, None};
+ghost use Rattle.std.specs.Prelude.{List, length, slice_get};
 ghost use Rattle.packet_fields.specs.declared.packet.Packet.{Packet};
+ghost use Rattle.state_store.specs.Kept.{IsKept};
 ghost use Rattle.state_store.specs.Store.{start_store};
+ghost use Rattle.output_commit.specs.Commit.{IsInOrder};
 ghost use Rattle.run_text.specs.declared.event.Event.{Event};
 ghost use Rattle.run_text.specs.declared.event.Event.TheVariants.{Admit};
 ghost use Rattle.split_world.specs.Program.{SplitProgram, IsSplitProgram};
-ghost use Rattle.split_world.specs.World.{seen_store, world_of};
+ghost use Rattle.split_world.specs.World.{World, idled, seen_store, step, tick, world_of};
+ghost use Rattle.split_world.specs.Applying.{applies};
 ghost use Rattle.split_world.specs.Run.{is_drained, is_quiet, job_run};
 ghost use Rattle.split_world.specs.Serialises.{Serialises, AllReleased, IsDrained, is_fast_fate};
 ghost use Rattle.split_world.specs.Tables.{HasNewestTables, IsSeen};
-ghost use Rattle.split_world.specs.Drain.{after_drain, drain_bound, next_event};
+ghost use Rattle.split_world.specs.Drain.{drain_bound, drained_world, next_event};
+ghost use Rattle.split_world.specs.Replay as replay;
 ghost use Rattle.split_world.specs.Replay.{Replay, first_replay};
-ghost use Rattle.split_world.specs.Answered.{Call, AnswersOne, IsAnswered};
+ghost use Rattle.split_world.specs.Turns as turns;
+ghost use Rattle.split_world.specs.Reported as reported;
+ghost use Rattle.split_world.specs.Answered.{Alone, Call, AnswersOne, IsAnswered};
 ghost use Rattle.split_world.specs.Tied.{AreTold, HasFrames, IsTied};
 
 use writeback_table::{batches_are_seen_in_order, one_batch_more};
+
+/// An event that can't apply leaves all but its count and that of idle events; one that applies isn't idle.
+pub fn an_event_applies_or_is_idle()
+    ensures idle { (s : SplitProgram) (packets : List Packet) (w : World) (event : Event)
+        → applies packets w event ≡ false → step s packets w event ≡ idled (tick w) }
+    ensures applied { (s : SplitProgram) (packets : List Packet) (w : World) (event : Event)
+        → applies packets w event ≡ true → (step s packets w event).idle ≡ w.idle }
+    ensures counted { (s : SplitProgram) (packets : List Packet) (w : World) (event : Event)
+        → (step s packets w event).events ≡ w.events + 1 }
+{}
 
 /// Whatever the schedule, the run is a serial run of the whole program: runs of the decided packets, one after the
 /// other in the order that is reported, do just what the report tells. Where nothing is left on its way, every admitted
@@ -41,6 +58,14 @@ pub fn lookups_see_one_version()
     one_batch_more();
 }
 
+/// The store of the server, and the one with which the visible version began, keep what was declared.
+pub fn stores_keep_what_was_declared()
+    ensures server { (s : SplitProgram) (packets : List Packet) (events : List Event)
+        → IsSplitProgram s packets → IsKept s.objects (world_of s packets events).store }
+    ensures seen { (s : SplitProgram) (packets : List Packet) (events : List Event)
+        → IsSplitProgram s packets → IsKept s.objects (seen_store (world_of s packets events)) }
+{}
+
 /// Where nothing is left on its way, the switch has the replicated objects of the server, and nothing is staged.
 pub fn a_quiet_switch_has_the_newest_tables()
     ensures { (s : SplitProgram) (packets : List Packet) (events : List Event)
@@ -61,19 +86,21 @@ pub fn a_packet_is_fast_by_what_is_seen()
         ≡ s.is_fast (seen_store (world_of s packets events)) packet) }
 {}
 
-/// After any schedule, drain ends in a drained world within its bound. It goes on until then, and not beyond.
+/// After any schedule, drain ends in a drained world, by no more events than its bound; so what holds of every run
+/// holds of the run that it leads to. It goes on until the world is drained, and not beyond.
 pub fn drain_ends()
+    ensures drained { (s : SplitProgram) (packets : List Packet) (events : List Event)
+        → IsSplitProgram s packets → is_drained (length packets) (drained_world s packets events) ≡ true }
     ensures bound { (s : SplitProgram) (packets : List Packet) (events : List Event)
-        → IsSplitProgram s packets
-        → (let bound = drain_bound (length packets) s.writes in
-        is_drained (length packets) (after_drain s packets bound (world_of s packets events)) ≡ true) }
+        → (more : List Event) × (length more ≤ drain_bound (length packets) s.writes)
+        × (drained_world s packets events ≡ world_of s packets (events ++ more)) }
     ensures stops { (s : SplitProgram) (packets : List Packet) (events : List Event)
         → IsSplitProgram s packets
         → (next_event (length packets) (world_of s packets events) ≡ None)
         ↔ (is_drained (length packets) (world_of s packets events) ≡ true) }
 {}
 
-/// Whatever a switch answers, the calls determine the replay: those of one event more are put behind the others.
+/// Whatever a switch answers, the calls determine the replay, and those of one event more stand behind the others.
 pub fn a_replay_is_answered_by_its_calls()
     ensures first { (s : SplitProgram) (packets : List Packet)
         → IsAnswered s packets [] [] (first_replay (start_store s.objects)) }
@@ -81,6 +108,19 @@ pub fn a_replay_is_answered_by_its_calls()
         (r next : Replay) (calls one : List Call)
         → IsAnswered s packets events calls r → AnswersOne s packets event r one next
         → IsAnswered s packets (events ++ event ∷ []) (calls ++ one) next }
+    ensures one { (s : SplitProgram) (packets : List Packet) (events : List Event) (calls : List Call)
+        (r other : Replay) → IsAnswered s packets events calls r → IsAnswered s packets events calls other → r ≡ other }
+{}
+
+/// Whatever a switch answers, an event that can't apply makes no call, and leaves all but its count and that of idle
+/// events; one that applies isn't idle.
+pub fn a_replay_applies_an_event_or_is_idle()
+    ensures idle { (s : SplitProgram) (packets : List Packet) (event : Event) (r next : Replay) (calls : List Call)
+        → turns.applies packets r event ≡ false → AnswersOne s packets event r calls next
+        → Alone calls (replay.idled (replay.tick r)) next }
+    ensures applied { (s : SplitProgram) (packets : List Packet) (event : Event) (r next : Replay) (calls : List Call)
+        → IsInOrder r.commit → turns.applies packets r event ≡ true → AnswersOne s packets event r calls next
+        → next.idle ≡ r.idle }
 {}
 
 /// Over a switch that tells its tables the replay is the world of the same events, from the start and after each step.
@@ -96,3 +136,23 @@ pub fn a_told_step_keeps_the_tie()
     batches_are_seen_in_order();
     one_batch_more();
 }
+
+/// A replay that is tied to the world of some events reports the run of these events.
+pub fn a_tied_replay_reports_the_run()
+    ensures run { (s : SplitProgram) (packets : List Packet) (events : List Event) (r : Replay)
+        → IsTied s packets r (world_of s packets events)
+        → reported.run_of s (length packets) r ≡ job_run s packets events }
+    ensures quiet { (s : SplitProgram) (packets : List Packet) (events : List Event) (r : Replay)
+        → IsTied s packets r (world_of s packets events)
+        → reported.is_quiet r ≡ is_quiet (world_of s packets events) }
+{}
+
+/// In a replay that is tied to a world the same events apply, and drain picks the same.
+pub fn a_tied_replay_takes_the_same_turns()
+    ensures applies { (s : SplitProgram) (packets : List Packet) (events : List Event) (event : Event) (r : Replay)
+        → IsTied s packets r (world_of s packets events)
+        → turns.applies packets r event ≡ applies packets (world_of s packets events) event }
+    ensures picks { (s : SplitProgram) (packets : List Packet) (events : List Event) (r : Replay)
+        → IsTied s packets r (world_of s packets events)
+        → turns.next_event (length packets) r ≡ next_event (length packets) (world_of s packets events) }
+{}
