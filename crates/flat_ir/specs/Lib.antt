@@ -4,6 +4,7 @@ pub mod Fits
 pub mod Kinds
 pub mod Laws
 pub mod Listing
+pub mod Operands
 pub mod Program
 pub mod Registers
 pub mod Run

@@ -11,6 +11,7 @@ use Rattle.state_store.specs.declared.store.Put.TheVariants.{Stored, Full, OutOf
 use Rattle.state_store.specs.Store.{Store, object_at, with_object, looked_up, put_answer, put_row, del_row}
 use Rattle.state_store.specs.Store as store
 use Rattle.flat_ir.specs.declared.program.FieldValue.{FieldValue}
+use Rattle.flat_ir.specs.declared.program.ValueId.{ValueId}
 use Rattle.flat_ir.specs.Program.{Program, Work, step_at}
 use Rattle.flat_ir.specs.Program.Work.{const, field, apply, shift, select, byte, look, put, del}
 use Rattle.flat_ir.specs.Blocks.{Reading, nothing, is_live}
@@ -118,9 +119,13 @@ abbrev pub with_writes : List FieldValue → Reading → List ℕ → List ℕ
 with_writes [] reads bytes = bytes
 with_writes (w ∷ ws) reads bytes = with_writes ws reads (with_field bytes w.field (reads w.value))
 
+-- what becomes of a packet: whether it is sent, by which port, and with which fields set
+abbrev pub sent : ValueId → ValueId → List FieldValue → Reading → Packet → Verdict
+sent send port fields reads packet =
+    if reads send == 0 then Drop else Send (reads port % 2 ^ 8) (with_writes fields reads packet.bytes)
+
 abbrev pub verdict : Program → Packet → Reading → Verdict
-verdict f packet reads =
-    if reads f.send == 0 then Drop else Send (reads f.port % 2 ^ 8) (with_writes f.fields reads packet.bytes)
+verdict f packet reads = sent f.send f.port f.fields reads packet
 
 abbrev pub flat_store : Program → Store → Packet → Store
 flat_store f st packet = (flat_run f st packet).store

@@ -1,29 +1,28 @@
 //! Blocks and those above them.
 ghost use Rattle.std.specs.Prelude.{◌≡◌, ◌≤◌, length};
 ghost use Rattle.flat_ir.specs.Blocks.{is_live, is_above, is_on, same, HasLowParents};
-ghost use Rattle.flat_ir.specs.Registers.{reads_of};
 
 use crate::program::Block;
-use crate::registers::{Results, read};
+use crate::reading::Numbers;
 
 // Whether the condition of a block has its polarity.
 #[tactic(auto, using(crate::proofs::Lines::beq_same))]
-fn holds(block: Block, rows: &[Results]) -> bool
-    ensures { result ≡ same block.polarity (is_on (reads_of rows.now block.cond)) }
+fn holds<R: Numbers>(block: Block, numbers: &R) -> bool
+    ensures { result ≡ same block.polarity (is_on (R.reads numbers.now block.cond)) }
 {
-    (read(rows, block.cond) == 1) == block.polarity
+    (numbers.number(block.cond) == 1) == block.polarity
 }
 
-/// Whether a block is live.
-pub(crate) fn is_live(blocks: &[Block], rows: &[Results], block: u32) -> bool
+/// Whether a block is live: its condition and those of all blocks above it have their polarity.
+pub fn is_live<R: Numbers>(blocks: &[Block], numbers: &R, block: u32) -> bool
     requires low { HasLowParents blocks.now }
     requires there { block ≤ length blocks.now }
-    ensures { result ≡ is_live blocks.now (reads_of rows.now) block }
+    ensures { result ≡ is_live blocks.now (R.reads numbers.now) block }
 {
     let mut number = block;
     while number > 0 {
         let at = blocks[number as usize - 1];
-        if !holds(at, rows) {
+        if !holds(at, numbers) {
             return false;
         }
         number = at.parent;

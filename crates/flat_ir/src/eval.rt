@@ -5,16 +5,17 @@ ghost use Rattle.packet_fields.specs.Shape.{shape_of};
 ghost use Rattle.packet_fields.specs.declared.packet.TheConstants.{MAX_PACKET_BYTES};
 ghost use Rattle.state_store.specs.Kept.{IsKept};
 ghost use Rattle.flat_ir.specs.Program.{program_of};
-ghost use Rattle.flat_ir.specs.Run.{after, flat_store, flat_verdict, verdict, with_writes};
+ghost use Rattle.flat_ir.specs.Run.{after, flat_store, flat_verdict, sent, with_writes};
 ghost use Rattle.flat_ir.specs.WellFormed.{IsWellFormed};
 ghost use Rattle.flat_ir.specs.Registers.{reads_of, packet_of};
 ghost use Rattle.flat_ir.specs.Turns.{StandAs, turn};
 ghost use Rattle.flat_ir.specs.Writable.{IsFitting};
 
 use crate::blocks::is_live;
-use crate::program::{FieldValue, Flat};
-use crate::registers::{Results, read};
-use crate::work::{Arrival, work};
+use crate::program::{FieldValue, Flat, Out};
+use crate::reading::Numbers;
+use crate::registers::{Results, SoFar};
+use crate::work::{Arrival, compute};
 use gal_io::{Bytes, NoMemory};
 use packet_fields::{Shape, Verdict, set};
 use state_store::Store;
@@ -31,8 +32,9 @@ fn take_turn(f: &Flat, arrival: &Arrival<'_>, i: usize, rows: &mut [Results], st
     ensures count { length rows.new ≡ length rows.old }
 {
     let instr = &f.code.as_slice()[i];
-    let live = is_live(f.blocks.as_slice(), rows, instr.block);
-    rows[i] = work(f, store, arrival, rows, &instr.kind, live);
+    let so_far = SoFar { rows };
+    let live = is_live(f.blocks.as_slice(), &so_far, instr.block);
+    rows[i] = compute(f, store, arrival, &so_far, &instr.kind, live);
 }
 
 // All turns, in order.
@@ -50,14 +52,14 @@ fn take_turns(f: &Flat, arrival: &Arrival<'_>, rows: &mut [Results], store: &mut
 }
 
 // Sets fields of a packet of this shape.
-fn write_fields(fields: &[FieldValue], rows: &[Results], shape: &Shape, bytes: &mut [u8])
-    requires fit { Each (IsFitting (reads_of rows.now)) fields.now }
+fn write_fields<R: Numbers>(fields: &[FieldValue], numbers: &R, shape: &Shape, bytes: &mut [u8])
+    requires fit { Each (IsFitting (R.reads numbers.now)) fields.now }
     requires size { length bytes.old ≤ MAX_PACKET_BYTES }
     requires shape { shape.now ≡ shape_of bytes.old }
-    ensures { bytes.new ≡ with_writes fields.now (reads_of rows.now) bytes.old }
+    ensures { bytes.new ≡ with_writes fields.now (R.reads numbers.now) bytes.old }
 {
     for written in fields {
-        set(bytes, shape, written.field, read(rows, written.value));
+        set(bytes, shape, written.field, numbers.number(written.value));
     }
 }
 
@@ -68,20 +70,21 @@ fn low_byte(value: u64) -> u8
     (value % 256) as u8
 }
 
-// What becomes of the packet, by the registers at the end.
-fn verdict(f: &Flat, arrival: &Arrival<'_>, rows: &[Results], copy: Vec<u8>) -> Verdict
+/// What becomes of a packet by these numbers: an output sends it or doesn't, by a port, with fields set in a copy of its
+/// bytes.
+pub fn leave<R: Numbers>(out: &Out, arrival: &Arrival<'_>, numbers: &R, copy: Vec<u8>) -> Verdict
     requires copy { copy.items ≡ arrival.now.bytes.now }
-    requires fit { Each (IsFitting (reads_of rows.now)) f.now.out.fields.items }
+    requires fit { Each (IsFitting (R.reads numbers.now)) out.now.fields.items }
     requires size { length arrival.now.bytes.now ≤ MAX_PACKET_BYTES }
     requires shape { arrival.now.shape ≡ shape_of arrival.now.bytes.now }
-    ensures { result ≡ verdict (program_of f.now) (packet_of arrival.now) (reads_of rows.now) }
+    ensures { result ≡ sent out.now.send out.now.port out.now.fields.items (R.reads numbers.now) (packet_of arrival.now) }
 {
-    if read(rows, f.out.send) == 0 {
+    if numbers.number(out.send) == 0 {
         return Verdict::Drop;
     }
     let mut bytes = copy;
-    write_fields(&f.out.fields, rows, &arrival.shape, &mut bytes);
-    Verdict::Send(low_byte(read(rows, f.out.port)), Bytes::from(bytes))
+    write_fields(&out.fields, numbers, &arrival.shape, &mut bytes);
+    Verdict::Send(low_byte(numbers.number(out.port)), Bytes::from(bytes))
 }
 
 /// What becomes of a packet of at most 9,216 bytes that arrives by this port, and what it leaves of the store. The memory is
@@ -109,5 +112,5 @@ pub fn eval_flat(
         shape: Shape::of(packet),
     };
     take_turns(f, &arrival, &mut rows, store);
-    Ok(verdict(f, &arrival, &rows, copy))
+    Ok(leave(&f.out, &arrival, &SoFar { rows: &rows }, copy))
 }

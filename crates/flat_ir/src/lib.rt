@@ -7,17 +7,22 @@ mod fits;
 mod laws;
 mod listing;
 mod program;
+mod reading;
 mod registers;
 #[cfg(test)]
 mod tests;
 mod well_formed;
 mod work;
 
-pub use eval::eval_flat;
+pub use blocks::is_live;
+pub use eval::{eval_flat, leave};
 pub use laws::{
     a_run_goes_on, a_run_is_its_changes, a_run_is_its_values, a_run_keeps_the_tables,
     a_run_keeps_widths, a_turn_keeps_widths, lines_of_blocks, readings_that_agree,
 };
 pub use listing::print_flat;
 pub use program::{Block, Blocks, Code, FieldValue, Flat, Instr, InstrKind, Out, ValueId};
+pub use reading::{Lookup, Numbers};
+pub use registers::Results;
 pub use well_formed::is_well_formed;
+pub use work::{Arrival, compute, given, what_fits_can_run};

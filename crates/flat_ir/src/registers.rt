@@ -1,13 +1,14 @@
 //! What the instructions of a run have given so far.
-ghost use Rattle.std.specs.Prelude.{◌≡◌, ◌≤◌, [], ◌∷◌, length, map, slice_index};
+ghost use Rattle.std.specs.Prelude.{◌≡◌, [], ◌∷◌, slice_index};
 ghost use Rattle.flat_ir.specs.Registers.{results_of, reads_of};
 
 use crate::program::ValueId;
-use gal_bits::{Values, Widths};
+use crate::reading::Numbers;
+use gal_bits::Values;
 
 /// The results of an instruction, of which there is at least one.
 #[derive(Clone, Copy, Debug)]
-pub(crate) struct Results {
+pub struct Results {
     pub first: u64,
     pub others: Values,
 }
@@ -23,8 +24,8 @@ impl Results {
         }
     }
 
-    // The result at a place, 0 past the end.
-    fn at(&self, place: u32) -> u64
+    /// The result at a place, 0 past the end.
+    pub fn at(&self, place: u32) -> u64
         ensures { result ≡ slice_index (results_of self.now) place }
     {
         let place = place as usize;
@@ -38,8 +39,8 @@ impl Results {
     }
 }
 
-/// The number of a value, 0 where it isn't computed.
-pub(crate) fn read(rows: &[Results], value: ValueId) -> u64
+// The number of a value, 0 where it isn't computed.
+fn read(rows: &[Results], value: ValueId) -> u64
     ensures { result ≡ reads_of rows.now value }
 {
     let number = value.instruction as usize;
@@ -50,26 +51,16 @@ pub(crate) fn read(rows: &[Results], value: ValueId) -> u64
     }
 }
 
-/// The numbers of at most 3 values.
-pub(crate) fn read_few(rows: &[Results], values: &[ValueId]) -> Values
-    requires { length values.now ≤ 3 }
-    ensures { result ≡ map (reads_of rows.now) values.now }
-{
-    let mut numbers = Values::new();
-    for value in values {
-        numbers.push(read(rows, *value));
-    }
-    numbers
+/// The numbers that a run has so far, from the results of its instructions.
+#[derive(Clone, Copy, Debug)]
+pub(crate) struct SoFar<'a> {
+    pub rows: &'a [Results],
 }
 
-/// The numbers of a key or of a row's values, of which there are as many as widths.
-pub(crate) fn read_row(rows: &[Results], values: &[ValueId], widths: &Widths) -> Values
-    requires { length values.now ≡ length widths.now }
-    ensures { result ≡ map (reads_of rows.now) values.now }
-{
-    let mut numbers = Values::new();
-    for i in 0..widths.len() {
-        numbers.push(read(rows, values[i]));
+impl Numbers for SoFar<'_> {
+    ghost reads = { λ so_far. reads_of so_far.rows.now };
+
+    fn number(&self, value: ValueId) -> u64 {
+        read(self.rows, value)
     }
-    numbers
 }

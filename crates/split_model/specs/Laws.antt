@@ -16,7 +16,7 @@ use Rattle.split_model.specs.Split.{is_carried, is_post, is_pre, any_step}
 use Rattle.split_model.specs.Counts.{is_post_shown}
 use Rattle.split_model.specs.Crossing.{crosses_up, crosses_down, is_written_value}
 use Rattle.split_model.specs.Passes.{pre_verdict, pre_values, is_fast, meets_rest, Shows, IsHanded, server_run}
-use Rattle.split_model.specs.Passes.{replicated_changes, post_values, post_verdict}
+use Rattle.split_model.specs.Passes.{replicated_changes, post_values, post_verdict, sent_down, down_verdict}
 use Rattle.split_model.specs.Shown.{is_shown, is_replicated}
 
 -- Preprocessing finishes a packet exactly where it is fast over the store that the tables show, with the whole run's
@@ -77,6 +77,15 @@ pub record IsSentAlike (f : Program) (split : List Part) (tables : Store) (packe
     (server down other_server other_down : Reading) : Type 0 where
   pub values : (v : ValueId) → post_values f split other_down tables packet v ≡ post_values f split down tables packet v
   pub verdict : post_verdict f split other_server other_down tables packet
+      ≡ post_verdict f split server down tables packet
+
+-- Postprocessing reads the packet that the server sends down as it would read the packet that arrived, and with its own
+-- fields it makes of it the packet with all fields set.
+pub record IsSentDown (f : Program) (split : List Part) (tables : Store) (packet : Packet) (server down : Reading)
+    : Type 0 where
+  pub values : (v : ValueId) → post_values f split down tables (sent_down f split server packet) v
+      ≡ post_values f split down tables packet v
+  pub verdict : down_verdict f split down tables (sent_down f split server packet)
       ≡ post_verdict f split server down tables packet
 
 -- where values cross, the numbers have no more bits than the values' widths

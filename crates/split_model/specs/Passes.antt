@@ -7,6 +7,7 @@ use Rattle.packet_fields.specs.declared.verdict.Verdict.TheVariants.{Drop, Send}
 use Rattle.state_store.specs.Store.{Store, object_at}
 use Rattle.std.specs.List.{filter}
 use Rattle.flat_ir.specs.declared.program.ValueId.{ValueId}
+use Rattle.flat_ir.specs.declared.program.FieldValue.{FieldValue}
 use Rattle.flat_ir.specs.Program.{Program, step_at}
 use Rattle.flat_ir.specs.Blocks.{Reading, nothing, is_live}
 use Rattle.flat_ir.specs.Run.{Machine, Change, do_step, results, verdict, flat_run, with_writes}
@@ -14,7 +15,7 @@ use Rattle.split_model.specs.declared.split.Part.{Part}
 use Rattle.split_model.specs.Split.{pre_stage, post_stage, is_pre, is_server, is_post, any_step}
 use Rattle.flat_ir.specs.Kinds.{is_input}
 use Rattle.split_model.specs.Shown.{is_shown, is_replicated}
-use Rattle.split_model.specs.Crossing.{is_at_hand, crosses_down}
+use Rattle.split_model.specs.Crossing.{is_at_hand, is_server_write, crosses_down}
 
 -- ## A pass in stages
 
@@ -26,15 +27,17 @@ is_stage (Some own) t = own == t
 abbrev pub done_below : Program → (ℕ → Option ℕ) → Reading → Store → Packet → ℕ → Reading
 done_below f stage given tables packet zero v = given v
 done_below f stage given tables packet (suc t) v =
+    let reads = done_below f stage given tables packet t in
     if is_stage (stage v.instruction) t
-    then slice_index (results (done_below f stage given tables packet t) false tables packet (step_at f v.instruction).work) v.result
-    else done_below f stage given tables packet t v
+    then slice_index (results reads false tables packet (step_at f v.instruction).work) v.result
+    else reads v
 
 -- a value that the pass computes at a stage, or was given
 abbrev pub value_from : Option ℕ → Program → (ℕ → Option ℕ) → Reading → Store → Packet → Reading
 value_from None f stage given tables packet v = given v
 value_from (Some own) f stage given tables packet v =
-    slice_index (results (done_below f stage given tables packet own) false tables packet (step_at f v.instruction).work) v.result
+    let reads = done_below f stage given tables packet own in
+    slice_index (results reads false tables packet (step_at f v.instruction).work) v.result
 
 abbrev pub pass : Program → (ℕ → Option ℕ) → Reading → Store → Packet → Reading
 pass f stage given tables packet v = value_from (stage v.instruction) f stage given tables packet v
@@ -51,7 +54,8 @@ meets_rest f split reads = any_step f (λ i. not (is_pre split i) && is_live f.b
 -- the verdict of a packet that preprocessing finishes; none where it is sent up
 abbrev pub pre_verdict : Program → List Part → Store → Packet → Option Verdict
 pre_verdict f split tables packet =
-    if meets_rest f split (pre_values f split tables packet) then None else Some (verdict f packet (pre_values f split tables packet))
+    if meets_rest f split (pre_values f split tables packet) then None
+    else Some (verdict f packet (pre_values f split tables packet))
 
 -- in the run of the whole program no instruction outside `pre` is live
 abbrev pub is_fast : Program → List Part → Store → Packet → Bool
@@ -63,7 +67,7 @@ Shows f split tables st = (o : ℕ) → is_shown f split o ≡ true → object_a
 
 -- ## The server
 
--- The server's machine after the first n instructions. It begins with the numbers that it was handed, whatever they are.
+-- The server's machine after the first n instructions. It begins with the numbers that it was handed, of any values.
 abbrev pub served : Program → List Part → Reading → Store → Packet → ℕ → Machine
 served f split up st packet zero = record { reads = up; store = st; changes = [] }
 served f split up st packet (suc n) =
@@ -105,3 +109,26 @@ post_verdict f split server down tables packet =
     let post = post_values f split down tables packet in
     if post f.send == 0 then Drop
     else Send (post f.port % 2 ^ 8) (with_writes f.fields (leaving split server post) packet.bytes)
+
+-- ## The packet that comes down
+
+-- the fields that the server sets, and those that it leaves to postprocessing
+abbrev pub server_fields : Program → List Part → List FieldValue
+server_fields f split = filter (is_server_write split) f.fields
+
+abbrev pub post_fields : Program → List Part → List FieldValue
+post_fields f split = filter (λ (w : FieldValue). is_post split w.value.instruction) f.fields
+
+-- the packet as the server sends it down
+abbrev pub sent_down : Program → List Part → Reading → Packet → Packet
+sent_down f split server packet = record {
+  port = packet.port;
+  bytes = with_writes (server_fields f split) server packet.bytes;
+}
+
+-- the verdict of postprocessing from the packet that came down, where it sets its own fields alone
+abbrev pub down_verdict : Program → List Part → Reading → Store → Packet → Verdict
+down_verdict f split down tables packet =
+    let post = post_values f split down tables packet in
+    if post f.send == 0 then Drop
+    else Send (post f.port % 2 ^ 8) (with_writes (post_fields f split) post packet.bytes)

@@ -43,7 +43,7 @@ fn value_count(objects: &[ObjectDecl], object: u32) -> u32
 }
 
 /// How many results an instruction has, 9 at most.
-pub(crate) fn result_count(objects: &[ObjectDecl], kind: &InstrKind) -> u32
+pub fn result_count(objects: &[ObjectDecl], kind: &InstrKind) -> u32
     ensures value { result ≡ result_count objects.now (work_of kind.now) }
     ensures few { result ≤ 9 }
 {

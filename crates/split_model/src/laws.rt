@@ -16,13 +16,14 @@ ghost use Rattle.split_model.specs.Split.{post_stage, pre_stage};
 ghost use Rattle.split_model.specs.Legal.{IsLegal};
 ghost use Rattle.split_model.specs.Passes.{IsHanded, Shows, pre_values, post_values, served};
 ghost use Rattle.split_model.specs.Passes.{done_below, given_down, pass};
-ghost use Rattle.split_model.specs.Laws.{CarriedStand, IsExact, IsLoaded, IsShownAlone, IsWhole};
-ghost use Rattle.split_model.specs.Laws.{FitAcross, HasEveryPart, HasReplicated, IsSentAlike, IsServedAlike, IsServedWithin};
+ghost use Rattle.split_model.specs.Laws.{CarriedStand, FitAcross, HasEveryPart, HasReplicated, IsExact, IsLoaded};
+ghost use Rattle.split_model.specs.Laws.{IsSentAlike, IsSentDown, IsServedAlike, IsServedWithin, IsShownAlone, IsWhole};
 
 use flat_ir::{
     a_run_goes_on, a_run_is_its_changes, a_run_is_its_values, a_run_keeps_the_tables,
     a_run_keeps_widths, a_turn_keeps_widths, lines_of_blocks, readings_that_agree,
 };
+use packet_fields::fields_are_apart;
 use state_store::rows_change_alone;
 
 /// A store that keeps what was declared has the declared constant tables.
@@ -130,6 +131,16 @@ pub fn postprocessing_reads_what_crosses()
         → IsSentAlike f split tables packet server down other_server other_down }
 {
     readings_that_agree();
+}
+
+/// Postprocessing of the packet that comes down, in which the server's fields are set, is that of the packet as it
+/// arrived.
+pub fn what_comes_down_serves()
+    ensures { (f : Program) (split : List Part) (tables : Store) (packet : Packet) (server down : Reading)
+        → IsWellFormed f → IsLegal f split → IsSentDown f split tables packet server down }
+{
+    readings_that_agree();
+    fields_are_apart();
 }
 
 /// The way up, through the server and down is the whole run from the server's store. What is handed up comes from a

@@ -49,8 +49,8 @@ fn is_written(f: &Flat, s: &Split, field: Field) -> bool
     })
 }
 
-// Whether postprocessing has the results of an instruction from the code or the packet.
-fn is_at_hand(f: &Flat, s: &Split, kind: &InstrKind) -> bool
+/// Whether postprocessing has the results of an instruction from the code or the packet.
+pub fn is_at_hand(f: &Flat, s: &Split, kind: &InstrKind) -> bool
     ensures { result ≡ is_at_hand (program_of f.now) s.now (work_of kind.now) }
 {
     match kind {

@@ -1,0 +1,6 @@
+pub mod Kept
+pub mod Plans
+pub mod Registers
+pub mod Serving
+pub mod Turns
+pub mod Views

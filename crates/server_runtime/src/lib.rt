@@ -1,0 +1,17 @@
+//! The server: it gives what a split program leaves to it, over its own store.
+#![tactic(auto)]
+
+mod laws;
+mod plan;
+mod registers;
+mod room;
+mod run;
+mod served;
+mod server;
+#[cfg(test)]
+mod tests;
+mod turn;
+
+pub use laws::a_served_packet_is_the_whole_run;
+pub use served::{ServeError, Served};
+pub use server::Server;

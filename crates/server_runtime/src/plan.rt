@@ -1,0 +1,208 @@
+//! A split program, and what the server works out of it beforehand.
+ghost use Rattle.std.specs.Prelude.{◌≡◌, ◌<◌, ◌≤◌, Some, None, length, IfOk, if◌then◌else◌};
+ghost use Rattle.flat_ir.specs.Kinds.{is_input, is_write};
+ghost use Rattle.flat_ir.specs.Program.{is_named, program_of, result_count, work_of};
+ghost use Rattle.split_model.specs.Bounds.{IsBounded};
+ghost use Rattle.split_model.specs.Layouts.{number_of, values_below};
+ghost use Rattle.split_model.specs.Legal.{IsLegal};
+ghost use Rattle.split_model.specs.Passes.{server_fields};
+ghost use Rattle.split_model.specs.Shown.{is_replicated};
+ghost use Rattle.server_runtime.specs.Plans.{write_count, AreReplicated, IsPrepared};
+ghost use Rattle.server_runtime.specs.Registers.{AreAll, AreFirsts};
+
+use flat_ir::{FieldValue, Flat, InstrKind, ValueId};
+use gal_io::NoMemory;
+use split_model::{Layout, Split, down_layout, replicated, up_layout};
+use std::alloc::Global;
+use std::marker::Model;
+use transfer_header::Regs;
+
+/// A split program, and what is looked up in it at each packet.
+#[derive(Debug, Drop)]
+pub(crate) struct SplitProgram {
+    pub flat: Flat,
+    pub split: Split,
+    /// The values that are handed up, and those that are handed down.
+    pub up: Layout,
+    pub down: Layout,
+    /// The number of each instruction's first value, and behind them how many values there are.
+    pub firsts: Vec<u32>,
+    /// The fields that the server sets.
+    pub fields: Vec<FieldValue>,
+    /// Whether the object is replicated, for each object.
+    pub followed: Vec<bool>,
+    /// How many instructions write.
+    pub writes: usize,
+}
+
+/// A legally split program. Contracts see the program and the split.
+#[derive(Debug, Drop)]
+pub(crate) struct Plan {
+    pub whole: SplitProgram,
+}
+
+impl Model for Plan {
+    ghost use Rattle.flat_ir.specs.Program.{program_of};
+    ghost use Rattle.server_runtime.specs.Plans as plans;
+    ghost use Rattle.server_runtime.specs.Plans.{IsPrepared};
+
+    ghost Value = { plans.Plan };
+
+    ghost view = { λ plan. record { program = program_of plan.whole.flat; split = plan.whole.split } };
+
+    ghost invariant = { λ plan. IsPrepared plan.whole };
+}
+
+impl Plan {
+    /// The plan of a split program.
+    pub(crate) fn of(alloc: Global, f: &Flat, s: &Split) -> Result<Plan, NoMemory>
+        requires bounded { IsBounded (program_of f.now) }
+        requires legal { IsLegal (program_of f.now) s.now }
+        ensures program { IfOk result (λ plan. plan.program ≡ program_of f.now) }
+        ensures split { IfOk result (λ plan. plan.split ≡ s.now) }
+    {
+        let whole = SplitProgram {
+            flat: f.copy(alloc)?,
+            split: s.copy(alloc)?,
+            up: up_layout(alloc, f, s)?,
+            down: down_layout(alloc, f, s)?,
+            firsts: firsts_of(alloc, f)?,
+            fields: server_fields(alloc, f, s)?,
+            followed: followed_objects(alloc, f, s)?,
+            writes: count_writes(f),
+        };
+        Ok(Plan { whole })
+    }
+
+    /// A register for each value of the program.
+    pub(crate) fn registers(&self, alloc: Global) -> Result<Regs, NoMemory>
+        ensures { IfOk result (λ values. AreAll self.now.program values) }
+    {
+        Regs::new(alloc, self.whole.firsts[self.whole.flat.code.len()])
+    }
+}
+
+/// Whether an instruction is a const or a field of the packet.
+pub(crate) fn is_input(kind: &InstrKind) -> bool
+    ensures { result ≡ is_input (work_of kind.now) }
+{
+    match kind {
+        InstrKind::Const(..) | InstrKind::Field(_) => true,
+        _ => false,
+    }
+}
+
+// Whether it is a put or a del.
+fn is_write(kind: &InstrKind) -> bool
+    ensures { result ≡ is_write (work_of kind.now) }
+{
+    match kind {
+        InstrKind::Put { .. } | InstrKind::Del { .. } => true,
+        _ => false,
+    }
+}
+
+// How many results an instruction has, 9 at most.
+fn result_count(f: &Flat, kind: &InstrKind) -> u32
+    ensures value { result ≡ result_count f.now.objects (work_of kind.now) }
+    ensures few { result ≤ 9 }
+{
+    match kind {
+        InstrKind::Look { object, .. } => match f.objects.as_slice().get(*object as usize) {
+            Some(declared) => 1 + declared.values.len() as u32,
+            None => 1,
+        },
+        _ => 1,
+    }
+}
+
+// The number of each instruction's first value, and behind them how many values there are.
+fn firsts_of(alloc: Global, f: &Flat) -> Result<Vec<u32>, NoMemory>
+    requires { length f.now.code ≤ 4096 }
+    ensures { IfOk result (λ firsts. AreFirsts (program_of f.now) firsts.items) }
+{
+    let mut firsts = Vec::with_capacity(alloc, f.code.len() + 1)?;
+    let mut next = 0;
+    for instr in f.code.as_slice() {
+        firsts.push(next)?;
+        next += result_count(f, &instr.kind);
+    }
+    firsts.push(next)?;
+    Ok(firsts)
+}
+
+// The fields that the server sets.
+fn server_fields(alloc: Global, f: &Flat, s: &Split) -> Result<Vec<FieldValue>, NoMemory>
+    ensures { IfOk result (λ fields. fields.items ≡ server_fields (program_of f.now) s.now) }
+{
+    let mut fields = Vec::new(alloc);
+    for written in &f.out.fields {
+        if !s.is_post(written.value.instruction as usize) {
+            fields.push(*written)?;
+        }
+    }
+    Ok(fields)
+}
+
+// Whether each object is replicated.
+fn followed_objects(alloc: Global, f: &Flat, s: &Split) -> Result<Vec<bool>, NoMemory>
+    requires { length f.now.objects ≤ 64 }
+    ensures { IfOk result (λ marks. AreReplicated (program_of f.now) s.now marks.items) }
+{
+    let mut marks = Vec::new(alloc);
+    for object in 0..f.objects.len() {
+        marks.push(replicated(f, s, object as u32))?;
+    }
+    Ok(marks)
+}
+
+// How many instructions write.
+fn count_writes(f: &Flat) -> usize
+    ensures { result ≡ write_count (program_of f.now) }
+{
+    let mut writes = 0;
+    for instr in f.code.as_slice() {
+        if is_write(&instr.kind) {
+            writes += 1;
+        }
+    }
+    writes
+}
+
+impl SplitProgram {
+    /// The number of an instruction's first value.
+    pub(crate) fn first(&self, instruction: usize) -> u32
+        requires prepared { IsPrepared self.now }
+        requires within { instruction < length self.now.flat.code }
+        ensures { result ≡ length (values_below (program_of self.now.flat) instruction) }
+    {
+        self.firsts[instruction]
+    }
+
+    /// The number of a value, if the program has it.
+    pub(crate) fn number(&self, value: ValueId) -> Option<u32>
+        requires { AreFirsts (program_of self.now.flat) self.now.firsts.items }
+        ensures { let f = program_of self.now.flat in
+            result ≡ (if is_named f value then Some (number_of f value) else None) }
+    {
+        let instruction = value.instruction as usize;
+        if instruction >= self.flat.code.len() {
+            return None;
+        }
+        let first = self.firsts[instruction];
+        if value.result < self.firsts[instruction + 1] - first {
+            Some(first + value.result)
+        } else {
+            None
+        }
+    }
+
+    /// Whether an object is replicated.
+    pub(crate) fn follows(&self, object: u32) -> bool
+        requires prepared { IsPrepared self.now }
+        requires declared { object < length self.now.flat.objects }
+        ensures { result ≡ is_replicated (program_of self.now.flat) self.now.split object }
+    {
+        self.followed[object as usize]
+    }
+}

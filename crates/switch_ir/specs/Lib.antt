@@ -1,0 +1,7 @@
+pub mod Code
+pub mod Meaning
+pub mod Emitted
+pub mod Emitting
+pub mod Journal
+pub mod Tables
+pub mod Port

@@ -1,0 +1,251 @@
+//! The code of a switch.
+ghost use Rattle.std.specs.Prelude.{◌≡◌, ◌==◌, ◌++◌, ◌∷◌, [], map, length, IfOk, OnOk, OnErr};
+ghost use Rattle.flat_ir.specs.Program.{work_of};
+ghost use Rattle.switch_ir.specs.Code.{step_of, pass_of, code_of};
+
+use flat_ir::{Blocks, InstrKind, Out};
+use gal_io::NoMemory;
+use split_model::Layout;
+use state_store::ObjectDecl;
+use std::alloc::Global;
+use std::marker::Model;
+
+/// An instruction of a pass.
+#[derive(Debug, Drop)]
+pub struct PassStep {
+    /// Its place in the code of the flat program, from 0.
+    pub instruction: u32,
+    /// The stage in which it is computed. Those of a stage read what was there before the stage.
+    pub stage: u32,
+    /// The number of its first value: how many values of the flat program stand before it.
+    pub first: u32,
+    pub kind: InstrKind,
+}
+
+impl PassStep {
+    /// Another one that does the same.
+    pub fn copy(&self, alloc: Global) -> Result<Self, NoMemory>
+        ensures { IfOk result (λ made. step_of made ≡ step_of self.now) }
+    {
+        Ok(PassStep {
+            instruction: self.instruction,
+            stage: self.stage,
+            first: self.first,
+            kind: self.kind.copy(alloc)?,
+        })
+    }
+}
+
+/// Instructions of a pass, in order of instruction.
+#[derive(Debug, Drop)]
+pub struct Steps {
+    items: Vec<PassStep>,
+}
+
+impl Model for Steps {
+    ghost use Rattle.std.specs.Prelude.{List};
+    ghost use Rattle.switch_ir.specs.declared.code.PassStep.{PassStep};
+
+    ghost Value = { List PassStep };
+
+    ghost view = { λ steps. steps.items.items };
+}
+
+impl Steps {
+    /// No instructions. This takes no memory; `push` takes it from `alloc`.
+    pub fn new(alloc: Global) -> Steps
+        ensures { result ≡ [] }
+    {
+        Steps {
+            items: Vec::new(alloc),
+        }
+    }
+
+    pub fn as_slice(&self) -> &[PassStep]
+        ensures { result.now ≡ self.now }
+    {
+        self.items.as_slice()
+    }
+
+    pub fn len(&self) -> usize
+        ensures { result ≡ length self.now }
+    {
+        self.items.len()
+    }
+
+    pub fn is_empty(&self) -> bool
+        ensures { result ≡ (length self.now == 0) }
+    {
+        self.items.is_empty()
+    }
+
+    /// Puts an instruction last.
+    pub fn push(&mut self, step: PassStep) -> Result<(), NoMemory>
+        ensures ok { OnOk result (self.new ≡ self.old ++ step ∷ []) }
+        ensures err { OnErr result (self.new ≡ self.old) }
+    {
+        self.items.push(step)?;
+        Ok(())
+    }
+
+    /// Instructions that do the same, in memory of their own.
+    pub fn copy(&self, alloc: Global) -> Result<Steps, NoMemory>
+        ensures { IfOk result (λ made. map step_of made ≡ map step_of self.now) }
+    {
+        let mut steps = Steps::new(alloc);
+        for step in &self.items {
+            steps.push(step.copy(alloc)?)?;
+        }
+        Ok(steps)
+    }
+}
+
+/// A pass over a packet, before the server or after it.
+#[derive(Debug, Drop)]
+pub struct Pass {
+    pub steps: Steps,
+    /// The consts and fields that postprocessing has from the code and the packet. Preprocessing has none.
+    pub given: Steps,
+    /// The blocks of the program.
+    pub blocks: Blocks,
+    /// The blocks that hold an instruction outside preprocessing, 0 being the root. Postprocessing has none.
+    pub rest: Vec<u32>,
+    /// What becomes of the packet. Its fields are those that the pass sets.
+    pub out: Out,
+    /// The highest stage, 0 where no instruction has one.
+    pub highest: u32,
+}
+
+impl Pass {
+    /// Another one that does the same.
+    pub fn copy(&self, alloc: Global) -> Result<Self, NoMemory>
+        ensures { IfOk result (λ made. pass_of made ≡ pass_of self.now) }
+    {
+        Ok(Pass {
+            steps: self.steps.copy(alloc)?,
+            given: self.given.copy(alloc)?,
+            blocks: self.blocks.copy(alloc)?,
+            rest: self.rest.to_vec(alloc)?,
+            out: self.out.copy(alloc)?,
+            highest: self.highest,
+        })
+    }
+}
+
+/// An object that a pass looks up.
+#[derive(Debug, Drop)]
+pub struct Table {
+    /// The object's place among the declared ones, from 0.
+    pub number: u32,
+    pub object: ObjectDecl,
+}
+
+impl Table {
+    /// The same again, in memory of its own.
+    pub fn copy(&self, alloc: Global) -> Result<Self, NoMemory>
+        ensures { IfOk result (λ made. made ≡ self.now) }
+    {
+        Ok(Table {
+            number: self.number,
+            object: self.object.copy(alloc)?,
+        })
+    }
+}
+
+/// The objects that the passes look up, in order of declaration.
+#[derive(Debug, Drop)]
+pub struct Tables {
+    items: Vec<Table>,
+}
+
+impl Model for Tables {
+    ghost use Rattle.std.specs.Prelude.{List};
+    ghost use Rattle.switch_ir.specs.declared.code.Table.{Table};
+
+    ghost Value = { List Table };
+
+    ghost view = { λ tables. tables.items.items };
+}
+
+impl Tables {
+    /// No objects. This takes no memory; `push` takes it from `alloc`.
+    pub fn new(alloc: Global) -> Tables
+        ensures { result ≡ [] }
+    {
+        Tables {
+            items: Vec::new(alloc),
+        }
+    }
+
+    pub fn as_slice(&self) -> &[Table]
+        ensures { result.now ≡ self.now }
+    {
+        self.items.as_slice()
+    }
+
+    pub fn len(&self) -> usize
+        ensures { result ≡ length self.now }
+    {
+        self.items.len()
+    }
+
+    pub fn is_empty(&self) -> bool
+        ensures { result ≡ (length self.now == 0) }
+    {
+        self.items.is_empty()
+    }
+
+    /// Puts an object last.
+    pub fn push(&mut self, table: Table) -> Result<(), NoMemory>
+        ensures ok { OnOk result (self.new ≡ self.old ++ table ∷ []) }
+        ensures err { OnErr result (self.new ≡ self.old) }
+    {
+        self.items.push(table)?;
+        Ok(())
+    }
+
+    /// The same objects again, in memory of their own.
+    pub fn copy(&self, alloc: Global) -> Result<Tables, NoMemory>
+        ensures { IfOk result (λ made. made ≡ self.now) }
+    {
+        let mut tables = Tables::new(alloc);
+        for table in &self.items {
+            tables.push(table.copy(alloc)?)?;
+        }
+        Ok(tables)
+    }
+}
+
+/// The code of a switch: the pass over a packet that arrives, the pass over one that comes down from the server, and
+/// what is handed between them.
+#[derive(Debug, Drop)]
+pub struct SwitchCode {
+    pub pre: Pass,
+    pub post: Pass,
+    /// The values that go up to the server with a packet.
+    pub up: Layout,
+    /// The values that come down from the server with a packet.
+    pub down: Layout,
+    pub tables: Tables,
+    /// How many rows each write-back table has room for.
+    pub writeback: u32,
+    /// How many values the flat program has.
+    pub values: u32,
+}
+
+impl SwitchCode {
+    /// Code that does the same, in memory of its own.
+    pub fn copy(&self, alloc: Global) -> Result<Self, NoMemory>
+        ensures { IfOk result (λ made. code_of made ≡ code_of self.now) }
+    {
+        Ok(SwitchCode {
+            pre: self.pre.copy(alloc)?,
+            post: self.post.copy(alloc)?,
+            up: self.up.copy(alloc)?,
+            down: self.down.copy(alloc)?,
+            tables: self.tables.copy(alloc)?,
+            writeback: self.writeback,
+            values: self.values,
+        })
+    }
+}

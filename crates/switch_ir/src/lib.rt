@@ -1,0 +1,19 @@
+//! The code of a switch, what it computes, and the switch as the rest of the program calls it.
+#![tactic(auto)]
+
+mod code;
+mod emitter;
+mod journal;
+mod laws;
+mod looked_up;
+mod port;
+mod rest;
+mod steps;
+#[cfg(test)]
+mod tests;
+
+pub use code::{Pass, PassStep, Steps, SwitchCode, Table, Tables};
+pub use emitter::emit;
+pub use journal::{Entry, Journal};
+pub use laws::what_is_emitted_computes_the_split;
+pub use port::{CommandEnd, DownEnd, PortEnd, RowsEnd, SwitchPort, UpEnd};

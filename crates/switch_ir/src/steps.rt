@@ -1,0 +1,124 @@
+//! The instructions of a pass.
+ghost use Rattle.std.specs.Prelude.{◌≡◌, ◌≤◌, ◌<◌, ◌+◌, ◌*◌, ◌++◌, Option, map, length, IfOk, OnOk};
+ghost use Rattle.flat_ir.specs.Program.{program_of};
+ghost use Rattle.split_model.specs.Layouts.{values_below, values_of};
+ghost use Rattle.switch_ir.specs.Code.{step_of};
+ghost use Rattle.switch_ir.specs.Emitted.{placed, steps_of, highest_of, given_stage};
+ghost use Rattle.switch_ir.specs.Emitting.{stage_in};
+
+use crate::code::{PassStep, Steps};
+use flat_ir::Flat;
+use gal_io::NoMemory;
+use split_model::{Split, is_at_hand, result_count};
+use std::alloc::Global;
+
+/// Which instructions: those that the pass over an arriving packet computes, those that the pass over a packet that
+/// comes down computes, or those whose values that pass has from the code and the packet.
+#[derive(Clone, Copy)]
+pub(crate) enum Role {
+    Pre,
+    Post,
+    Given,
+}
+
+impl Role {
+    /// The stage of an instruction in this role, where it has the role.
+    pub fn stage(self, f: &Flat, s: &Split, instruction: usize) -> Option<u32>
+        requires { instruction < length f.now.code }
+        ensures { result ≡ stage_in self (program_of f.now) s.now instruction }
+    {
+        match self {
+            Role::Pre => s.stage_before(instruction),
+            Role::Post => s.stage_after(instruction),
+            Role::Given => given_stage(f, s, instruction),
+        }
+    }
+}
+
+// Stage 0, where postprocessing has an instruction's value from the code or the packet.
+fn given_stage(f: &Flat, s: &Split, i: usize) -> Option<u32>
+    requires { i < length f.now.code }
+    ensures { result ≡ given_stage (program_of f.now) s.now i }
+{
+    if is_at_hand(f, s, &f.code.as_slice()[i].kind) {
+        Some(0)
+    } else {
+        None
+    }
+}
+
+// The number of the first value behind those of instruction `i`.
+fn number_behind(f: &Flat, i: usize, number: u32) -> u32
+    requires within { i < length f.now.code }
+    requires few { length f.now.code ≤ 4096 }
+    requires numbered { number ≡ length (values_below (program_of f.now) i) }
+    requires low { number ≤ 9 * i }
+    ensures numbered { result ≡ length (values_below (program_of f.now) (i + 1)) }
+    ensures low { result ≤ 9 * (i + 1) }
+{
+    number + result_count(f.objects.as_slice(), &f.code.as_slice()[i].kind)
+}
+
+// Puts instruction `i` last, where it has a stage.
+fn put_step(
+    alloc: Global,
+    f: &Flat,
+    i: usize,
+    number: u32,
+    stage: Option<u32>,
+    steps: &mut Steps,
+) -> Result<(), NoMemory>
+    requires within { i < length f.now.code }
+    requires few { length f.now.code ≤ 4096 }
+    requires numbered { number ≡ length (values_below (program_of f.now) i) }
+    ensures { OnOk result (map step_of steps.new ≡ map step_of steps.old ++ placed (program_of f.now) i stage) }
+{
+    if let Some(stage) = stage {
+        let kind = f.code.as_slice()[i].kind.copy(alloc)?;
+        steps.push(PassStep {
+            instruction: i as u32,
+            stage,
+            first: number,
+            kind,
+        })?;
+    }
+    Ok(())
+}
+
+/// The instructions of a role.
+pub(crate) fn steps(alloc: Global, f: &Flat, s: &Split, role: Role) -> Result<Steps, NoMemory>
+    requires few { length f.now.code ≤ 4096 }
+    ensures { IfOk result (λ made.
+        map step_of made ≡ steps_of (program_of f.now) (stage_in role (program_of f.now) s.now)) }
+{
+    let mut made = Steps::new(alloc);
+    let mut number = 0;
+    for i in 0..f.code.len() {
+        put_step(alloc, f, i, number, role.stage(f, s, i), &mut made)?;
+        number = number_behind(f, i, number);
+    }
+    Ok(made)
+}
+
+/// How many values a program has.
+pub(crate) fn values(f: &Flat) -> u32
+    requires few { length f.now.code ≤ 4096 }
+    ensures { result ≡ length (values_of (program_of f.now)) }
+{
+    let mut number = 0;
+    for i in 0..f.code.len() {
+        number = number_behind(f, i, number);
+    }
+    number
+}
+
+/// The highest stage of a role, 0 where no instruction has it.
+pub(crate) fn highest(f: &Flat, s: &Split, role: Role) -> u32
+    ensures { result ≡ highest_of (stage_in role (program_of f.now) s.now) (length (program_of f.now).code) }
+{
+    let mut highest = 0;
+    for i in 0..f.code.len() {
+        highest = role.stage(f, s, i).unwrap_or(0).max(highest);
+    }
+    highest
+}

@@ -1,0 +1,11 @@
+//! A switch in memory. It computes a pass stage by stage, where each stage reads all that it needs before it writes.
+#![tactic(auto)]
+
+mod calls;
+mod down;
+mod machine;
+mod run;
+mod tables;
+
+pub use calls::CallKind;
+pub use machine::ModelSwitch;

@@ -1,0 +1,142 @@
+//! The tables of a switch.
+ghost use Rattle.std.specs.Prelude.{◌≡◌, ◌+◌, ◌≤◌, ◌<◌, Option, IfOk, length};
+ghost use Rattle.switch_ir.specs.Code.{code_of};
+ghost use Rattle.switch_ir.specs.Tables.{seen_tables, told_after, pair_at, start_pair, declared_at, IsStart};
+ghost use Rattle.writeback_table.specs.Pair.{visible_rows};
+
+use flat_ir::Lookup;
+use gal_bits::{Values, Widths};
+use gal_io::{Bytes, NoMemory};
+use state_store::{Found, Kind, ObjectDecl, Rows};
+use std::alloc::Global;
+use std::marker::Model;
+use switch_ir::{SwitchCode, Table};
+use writeback_table::{Command, Pair};
+
+/// The main table and the write-back table of each object, by its number, and the bit that says whether lookups see the
+/// write-back tables. An object that no pass looks up has tables without rows, and with room for none.
+#[derive(Debug, Drop)]
+pub(crate) struct SwitchTables {
+    pairs: Vec<Pair>,
+    bit: bool,
+}
+
+impl Model for SwitchTables {
+    ghost use Rattle.switch_ir.specs.Tables.{Told};
+
+    ghost Value = { Told };
+
+    ghost view = { λ tables. record { pairs = tables.pairs.items; bit = tables.bit } };
+}
+
+impl Lookup for SwitchTables {
+    ghost seen = { seen_tables };
+
+    fn find(&self, object: u32, key: &Values) -> Found {
+        let number = object as usize;
+        if number < self.pairs.len() {
+            self.pairs[number].look(self.bit, key)
+        } else {
+            Found {
+                found: false,
+                values: Values::new(),
+            }
+        }
+    }
+}
+
+impl SwitchTables {
+    /// No tables at all.
+    pub fn none(alloc: Global) -> SwitchTables {
+        SwitchTables {
+            pairs: Vec::new(alloc),
+            bit: false,
+        }
+    }
+
+    /// The tables that code starts with.
+    pub fn start(alloc: Global, code: &SwitchCode) -> Result<SwitchTables, NoMemory>
+        ensures { IfOk result (λ tables. IsStart (code_of code.now) tables) }
+    {
+        let tables = code.tables.as_slice();
+        let mut pairs = Vec::new(alloc);
+        for number in 0..object_count(tables) {
+            pairs.push(start_pair(alloc, tables, number, code.writeback)?)?;
+        }
+        Ok(SwitchTables { pairs, bit: false })
+    }
+
+    /// Applies a command. This takes no memory.
+    pub fn apply(&mut self, command: &Command)
+        ensures { self.new ≡ told_after command.now self.old }
+    {
+        match command {
+            Command::Stage(update) | Command::Main(update) => {
+                self.apply_to(update.object, command);
+            }
+            Command::Clear(object, _) => self.apply_to(*object, command),
+            Command::On => self.bit = true,
+            Command::Off => self.bit = false,
+        }
+    }
+
+    // Applies a command to the tables of an object.
+    fn apply_to(&mut self, object: u32, command: &Command) {
+        let number = object as usize;
+        if number < self.pairs.len() {
+            let pair = &mut self.pairs[number];
+            let _ = pair.apply(command);
+        }
+    }
+
+    /// The rows of an object that lookups see.
+    pub fn rows(&self, alloc: Global, object: u32) -> Result<Rows, NoMemory>
+        ensures { IfOk result (λ rows. rows ≡ visible_rows self.now.bit (pair_at self.now.pairs object)) }
+    {
+        let number = object as usize;
+        if number < self.pairs.len() {
+            self.pairs[number].rows(alloc, self.bit)
+        } else {
+            Ok(Rows::new(alloc))
+        }
+    }
+}
+
+// A number above that of each object that is looked up.
+fn object_count(tables: &[Table]) -> u64 {
+    let mut count = 0;
+    for table in tables {
+        count = (u64::from(table.number) + 1).max(count);
+    }
+    count
+}
+
+// The tables of the object of this number before any command.
+fn start_pair(
+    alloc: Global,
+    tables: &[Table],
+    number: u64,
+    writeback: u32,
+) -> Result<Pair, NoMemory>
+    ensures { IfOk result (λ pair. pair ≡ start_pair writeback (declared_at tables.now number)) }
+{
+    for table in tables {
+        if u64::from(table.number) == number {
+            return Pair::new(alloc, &table.object, writeback);
+        }
+    }
+    Pair::new(alloc, &no_object(alloc), 0)
+}
+
+// An object without rows, and with room for none.
+fn no_object(alloc: Global) -> ObjectDecl {
+    ObjectDecl {
+        name: Bytes::new(alloc),
+        kind: Kind::Map,
+        keys: Widths::new(),
+        values: Widths::new(),
+        size: 0,
+        start: 0,
+        rows: Rows::new(alloc),
+    }
+}
