@@ -1,6 +1,6 @@
 -- The tests of well-formedness hold exactly where the definition does.
-use Rattle.std.proofs.Common.{◌≡◌, ◌↔◌, ◌⊎◌, ◌<◌, ◌≤◌, ℕ, zero, suc, Bool, true, false, ◌&&◌, ◌||◌, ◌==◌, List, [], ◌∷◌, ◌++◌, length, nat_lt, nat_le, refl, sym, ap, ◌∙◌, subst, arith, true≢false, ⊎_elim, inl, inr}
-use Rattle.std.proofs.lemmas.Bool.{eqb-true, eq-eqb, leb-true, le-leb, ltb-true, lt-ltb, cases_lt, or_cases}
+use Rattle.std.proofs.Common.{◌≡◌, ◌↔◌, ◌⊎◌, ◌<◌, ◌≤◌, ℕ, zero, suc, Bool, true, false, ◌&&◌, ◌||◌, ◌==◌, List, [], ◌∷◌, length, nat_lt, nat_le, refl, sym, ap, ◌∙◌, subst, arith, true≢false, ⊎_elim, inl, inr}
+use Rattle.std.proofs.lemmas.Bool.{eqb-true, eq-eqb, leb-true, le-leb, ltb-true, lt-ltb, or_cases}
 use Rattle.std.proofs.Math.Nat.{eq-or-lt_of_le}
 use Rattle.std.specs.List.{AllByRecursion as Each, list_all}
 use Rattle.packet_fields.specs.Table.{row, field_index}
@@ -14,7 +14,7 @@ use Rattle.flat_ir.specs.Fits.{fits}
 use Rattle.flat_ir.specs.WellFormed.{IsWellFormed, IsSeenFrom, IsInArm, SeesOperands, EachCondition, AreInOrder, IsOutput, IsWritten}
 use Rattle.flat_ir.specs.Tests.{all_below, low_parents, is_seen, is_good_block, same_value, is_arm, is_in_arm, may_read, may_take, reads_well, is_before, are_before, is_good_instr, is_output, is_written, rise_from, is_good_out, well_formed}
 use Rattle.flat_ir.proofs.Parts.{left, right, both}
-use Rattle.flat_ir.proofs.Readings.{each_both, each_append, each_first, each_second, each_weaker}
+use Rattle.flat_ir.proofs.Readings.{each_append, each_first, each_second, each_weaker}
 
 -- ## Numbers below one, and items of a list
 

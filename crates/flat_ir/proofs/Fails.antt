@@ -1,7 +1,6 @@
 -- Tests that fail.
-use Rattle.std.proofs.Common.{◌≡◌, ◌≢◌, ◌<◌, ◌≤◌, ◌%◌, ◌^◌, ◌+◌, ◌-◌, ℕ, zero, suc, Bool, true, false, ◌&&◌, List, [], ◌∷◌, drop, map, length, nat_eq, nat_lt, nat_le, get_or, refl, sym, ap, ◌∙◌, arith, ⊎_elim}
+use Rattle.std.proofs.Common.{◌≡◌, ◌≢◌, ◌<◌, ◌≤◌, ◌%◌, ◌^◌, ◌-◌, ℕ, zero, suc, Bool, true, false, ◌&&◌, List, [], ◌∷◌, drop, length, nat_eq, nat_lt, nat_le, get_or, sym, ap, ◌∙◌, arith, ⊎_elim}
 use Rattle.std.proofs.lemmas.Bool.{eq-eqb, ne_eqb, leb-true, ltb-true, lt-ltb, cases_lt}
-use Rattle.std.proofs.lemmas.List.{length-map}
 use Rattle.std.proofs.lemmas.Nat.{pow_pos}
 use Rattle.std.proofs.Math.Nat.{eq-or-lt_of_le, mod-lt, mod-eq_of_lt}
 use Rattle.std.proofs.Math.Bool.{and-false}
@@ -11,12 +10,12 @@ use Rattle.gal_bits.specs.declared.op.Op.TheVariants.{Cast}
 use Rattle.packet_fields.specs.Table.{field_index}
 use Rattle.flat_ir.specs.declared.program.Block.{Block}
 use Rattle.flat_ir.specs.declared.program.FieldValue.{FieldValue}
-use Rattle.flat_ir.specs.Blocks.{block_at, line, HasLowParents}
+use Rattle.flat_ir.specs.Blocks.{HasLowParents}
 use Rattle.flat_ir.specs.Fits.{same_widths}
 use Rattle.flat_ir.specs.Tests.{all_below, is_before, are_before, rise_from}
 use Rattle.flat_ir.proofs.Parts.{false_from}
 use Rattle.flat_ir.proofs.Fitting.{same_list}
-use Rattle.flat_ir.proofs.Lines.{line_at, line_suc, whatever}
+use Rattle.flat_ir.proofs.Lines.{line_suc, whatever}
 
 -- a test that fails at a number below one
 pub not_below : (n : ℕ) (test : ℕ → Bool) (k : ℕ) → k < n → test k ≡ false → all_below n test ≡ false

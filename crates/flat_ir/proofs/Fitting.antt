@@ -1,5 +1,5 @@
 -- What follows where an instruction's parts fit.
-use Rattle.std.proofs.Common.{◌≡◌, ◌≤◌, ℕ, zero, suc, Bool, true, false, not, ◌&&◌, ◌==◌, List, [], ◌∷◌, map, length, get_or, slice_get, slice_index, Option, Some, None, refl, sym, ap, ◌∙◌, arith, true≢false}
+use Rattle.std.proofs.Common.{◌≡◌, ◌≤◌, ℕ, zero, suc, true, false, IsTrue, not, ◌&&◌, ◌==◌, nat_le, List, [], ◌∷◌, length, get_or, slice_get, slice_index, refl, sym, ap, ◌∙◌, arith, true≢false}
 use Rattle.std.proofs.lemmas.Bool.{eqb-true}
 use Rattle.std.proofs.lemmas.List.{length-map}
 use Rattle.gal_bits.specs.declared.op.Op.{Op}
@@ -9,12 +9,12 @@ use Rattle.state_store.specs.declared.object.Kind.{Kind}
 use Rattle.state_store.specs.declared.object.Kind.TheVariants.{Table, Map, Vector, Int}
 use Rattle.state_store.specs.declared.object.ObjectDecl.{ObjectDecl}
 use Rattle.state_store.specs.Kinds.{is_table, is_map}
-use Rattle.flat_ir.specs.declared.program.ValueId.{ValueId}
-use Rattle.flat_ir.specs.Program.{Program, Work, step_at, width_of_value}
+use Rattle.flat_ir.specs.Program.{Program, Work, width_of_value}
 use Rattle.flat_ir.specs.Program.Work.{const, field, apply, shift, select, byte, look, put, del}
 use Rattle.gal_bits.specs.Fitting.{is_width}
-use Rattle.flat_ir.specs.Fits.{same_widths, fits_operator, is_shift, fits_keys, fits_values, can_put, can_del, widths_of, fits}
+use Rattle.flat_ir.specs.Fits.{same_widths, fits_operator, is_select, is_shift, fits_keys, fits_values, can_put, can_del, widths_of, fits}
 use Rattle.flat_ir.specs.WellFormed.{WritesNoTable, is_constant}
+use Rattle.flat_ir.specs.Operands.{CanRun, HasFewKeys}
 use Rattle.flat_ir.proofs.Parts.{left, right, not_true}
 
 pub same_list : (xs ys : List ℕ) → same_widths xs ys ≡ true → xs ≡ ys
@@ -92,3 +92,40 @@ pub values_count : (ds : List ObjectDecl) (o : ℕ) (d : ObjectDecl) (ws : List 
 values_count [] o d ws h is = absurd (true≢false (sym h))
 values_count (x ∷ ds) zero d ws h is = ap length (same_list ws x.values h) ∙ ap (λ (e : ObjectDecl). length e.values) (sym is)
 values_count (x ∷ ds) (suc o) d ws h is = values_count ds o d ws h is
+
+-- ## What can be computed from numbers and tables alone
+
+shift_count : (op : Op) → is_shift op ≡ true → (row_of op).arity ≡ 2
+shift_count Add h = refl
+shift_count Sub h = refl
+shift_count Mul h = refl
+shift_count Div h = refl
+shift_count Rem h = refl
+shift_count And h = refl
+shift_count Or h = refl
+shift_count Xor h = refl
+shift_count Not h = absurd (true≢false (sym h))
+shift_count Shl h = refl
+shift_count Shr h = refl
+shift_count Eq h = refl
+shift_count Ne h = refl
+shift_count Lt h = refl
+shift_count Le h = refl
+shift_count Cast h = absurd (true≢false (sym h))
+shift_count Select h = absurd (true≢false (sym h))
+shift_count Adjust h = absurd (true≢false (sym h))
+
+-- an instruction that fits, of few keys, can be computed from numbers and tables alone
+pub can_run : (f : Program) (work : Work) → IsTrue (fits f work) → HasFewKeys work → CanRun work
+can_run f (apply op width args) h few =
+    let count = operator_count op width (widths_of f args) (right (not (is_select op)) (fits_operator op width (widths_of f args)) h) in
+    let n = length-map args (width_of_value f) in
+    (sym n ∙ count.0, omega (arith, n, count.1))
+can_run f (shift op width arg by) h few = shift_count op (left (is_shift op) _ (left (is_shift op && nat_le by 63) _ h))
+can_run f (look object keys) h few = few
+can_run f (const width number) h few = tt
+can_run f (field name) h few = tt
+can_run f (select width cond first second) h few = tt
+can_run f (byte index) h few = tt
+can_run f (put object keys values) h few = tt
+can_run f (del object keys) h few = tt

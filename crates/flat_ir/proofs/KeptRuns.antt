@@ -1,5 +1,5 @@
 -- A run keeps to the declared widths.
-use Rattle.std.proofs.Common.{◌≡◌, ◌≤◌, ◌<◌, ◌^◌, ℕ, zero, suc, Bool, true, false, ◌&&◌, List, [], ◌∷◌, map, length, replicate, Option, Some, None, is_some, unwrap_or, slice_get, slice_index, refl, sym, ap, ◌∙◌, subst, arith, lit<, true≢false, ⊎_elim, if◌then◌else◌}
+use Rattle.std.proofs.Common.{◌≡◌, ◌≤◌, ◌<◌, ◌^◌, ℕ, zero, suc, Bool, true, false, ◌&&◌, List, [], ◌∷◌, map, length, replicate, Option, Some, None, is_some, unwrap_or, slice_get, slice_index, refl, sym, subst, arith, lit<, true≢false, ⊎_elim, if◌then◌else◌}
 use Rattle.std.proofs.lemmas.Bool.{cases_eq, ltb-true}
 use Rattle.std.proofs.lemmas.Nat.{pow_pos}
 use Rattle.std.specs.List.{AllByRecursion as Each}
@@ -18,7 +18,7 @@ use Rattle.flat_ir.specs.Arrivals.{IsArrival}
 use Rattle.flat_ir.specs.Program.{Program, Work, step_at, value_widths, result_widths, width_of_value}
 use Rattle.flat_ir.specs.Program.Work.{const, field, apply, shift, select, byte, look, put, del}
 use Rattle.flat_ir.specs.Blocks.{Reading, is_live}
-use Rattle.flat_ir.specs.Run.{Change, Machine, do_step, bit, is_stored, made, change_of, put_change, with_changes, results, with_results, after}
+use Rattle.flat_ir.specs.Run.{Change, Machine, do_step, bit, is_stored, made, change_of, with_changes, results, with_results, after}
 use Rattle.flat_ir.specs.Fits.{fits_keys, fits_values, can_put, can_del, widths_of, fits}
 use Rattle.flat_ir.specs.WellFormed.{IsWellFormed, IsWritten}
 use Rattle.flat_ir.specs.Writable.{IsFitting}

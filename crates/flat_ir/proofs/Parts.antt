@@ -1,5 +1,5 @@
 -- Tests that hold, and their parts.
-use Rattle.std.proofs.Common.{◌≡◌, Bool, true, false, not, ◌&&◌, List, [], ◌∷◌, Option, None, Some, refl, sym, ap, true≢false}
+use Rattle.std.proofs.Common.{◌≡◌, Bool, true, false, not, ◌&&◌, None, Some, refl, sym, true≢false}
 
 pub left : (a b : Bool) → (a && b) ≡ true → a ≡ true
 left true b h = refl

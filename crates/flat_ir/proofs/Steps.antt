@@ -2,9 +2,7 @@
 use Rattle.std.proofs.Common.{◌≡◌, ℕ, zero, suc, ◌+◌, ◌<◌, Bool, false, List, [], ◌∷◌, ◌++◌, length, take, refl, sym, ap, ◌∙◌, subst, arith, get_or, slice_index, slice_set, ⊎_elim, if◌then◌else◌, ◌==◌, ◌%◌, ◌^◌}
 use Rattle.std.proofs.lemmas.Bool.{cases_eq}
 use Rattle.std.proofs.lemmas.List.{get_or-set_same, get_or-set_other, get_or-map, length-map}
-use Rattle.std.specs.List.{AllByRecursion as Each}
 use Rattle.packet_fields.specs.declared.packet.Packet.{Packet}
-use Rattle.packet_fields.specs.declared.verdict.Verdict.{Verdict}
 use Rattle.packet_fields.specs.declared.verdict.Verdict.TheVariants.{Drop, Send}
 use Rattle.packet_fields.specs.Fields.{with_field}
 use Rattle.state_store.specs.Store.{Store}
@@ -15,7 +13,7 @@ use Rattle.flat_ir.specs.declared.program.Flat.{Flat}
 use Rattle.flat_ir.specs.declared.registers.Results.{Results}
 use Rattle.flat_ir.specs.Program.{Program, Step, Work, step_at, step_of, program_of, operands}
 use Rattle.flat_ir.specs.Program.Work.{const}
-use Rattle.flat_ir.specs.Blocks.{Reading, block_at, line, is_live}
+use Rattle.flat_ir.specs.Blocks.{Reading, line, is_live}
 use Rattle.flat_ir.specs.Run.{Machine, after, do_step, results, with_results, made, change_of, with_changes, with_writes, verdict}
 use Rattle.flat_ir.specs.WellFormed.{EachCondition}
 use Rattle.flat_ir.specs.Registers.{results_of, reads_of}

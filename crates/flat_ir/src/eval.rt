@@ -51,8 +51,8 @@ fn take_turns(f: &Flat, arrival: &Arrival<'_>, rows: &mut [Results], store: &mut
     }
 }
 
-// Sets fields of a packet of this shape.
-fn write_fields<R: Numbers>(fields: &[FieldValue], numbers: &R, shape: &Shape, bytes: &mut [u8])
+/// Sets fields of a packet of this shape.
+pub fn write_fields<R: Numbers>(fields: &[FieldValue], numbers: &R, shape: &Shape, bytes: &mut [u8])
     requires fit { Each (IsFitting (R.reads numbers.now)) fields.now }
     requires size { length bytes.old ≤ MAX_PACKET_BYTES }
     requires shape { shape.now ≡ shape_of bytes.old }

@@ -15,7 +15,7 @@ mod well_formed;
 mod work;
 
 pub use blocks::is_live;
-pub use eval::{eval_flat, leave};
+pub use eval::{eval_flat, leave, write_fields};
 pub use laws::{
     a_run_goes_on, a_run_is_its_changes, a_run_is_its_values, a_run_keeps_the_tables,
     a_run_keeps_widths, a_turn_keeps_widths, lines_of_blocks, readings_that_agree,
@@ -25,4 +25,4 @@ pub use program::{Block, Blocks, Code, FieldValue, Flat, Instr, InstrKind, Out, 
 pub use reading::{Lookup, Numbers};
 pub use registers::Results;
 pub use well_formed::is_well_formed;
-pub use work::{Arrival, compute, given, what_fits_can_run};
+pub use work::{Arrival, compute, given, key_of, row_of, what_fits_can_run};

@@ -127,8 +127,8 @@ pub fn what_fits_can_run(f: &Flat, kind: &InstrKind)
     has_few_keys(f, kind);
 }
 
-// The key of an object.
-fn key_of<R: Numbers>(f: &Flat, numbers: &R, object: u32, keys: &[ValueId]) -> Values
+/// The key of an object.
+pub fn key_of<R: Numbers>(f: &Flat, numbers: &R, object: u32, keys: &[ValueId]) -> Values
     requires { IsTrue (fits_keys (slice_get f.now.objects object) (widths_of (program_of f.now) keys.now)) }
     ensures { result ≡ map (R.reads numbers.now) keys.now }
 {
@@ -136,8 +136,8 @@ fn key_of<R: Numbers>(f: &Flat, numbers: &R, object: u32, keys: &[ValueId]) -> V
     read_all(numbers, keys)
 }
 
-// The values of a row of an object.
-fn row_of<R: Numbers>(f: &Flat, numbers: &R, object: u32, values: &[ValueId]) -> Values
+/// The values of a row of an object.
+pub fn row_of<R: Numbers>(f: &Flat, numbers: &R, object: u32, values: &[ValueId]) -> Values
     requires { IsTrue (fits_values (slice_get f.now.objects object) (widths_of (program_of f.now) values.now)) }
     ensures { result ≡ map (R.reads numbers.now) values.now }
 {

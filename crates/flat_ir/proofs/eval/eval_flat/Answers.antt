@@ -1,4 +1,4 @@
-use Rattle.std.proofs.Common.{◌≤◌, ◌<◌, ◌^◌, length, drop, sym, ap, subst, ◌∙◌, arith}
+use Rattle.std.proofs.Common.{◌<◌, ◌^◌, length, drop, sym, ap, subst, ◌∙◌, arith}
 use Rattle.std.proofs.lemmas.List.{length-map}
 use Rattle.packet_fields.specs.declared.packet.Packet.{Packet}
 use Rattle.state_store.specs.Kept.{IsKept}
@@ -10,8 +10,8 @@ use Rattle.flat_ir.proofs.KeptRuns.{keeps_widths, writes_fit}
 use Rattle.flat_ir.proofs.Steps.{front, verdict_same}
 use Rattle.flat_ir.proofs.eval.eval_flat.Goals as goal
 
-pub verdict-requires-clause-fit : goal.verdict-requires-clause-fit
-verdict-requires-clause-fit c =
+pub leave-requires-clause-fit : goal.leave-requires-clause-fit
+leave-requires-clause-fit c =
     let f = program_of c.args.f.now in
     let packet : Packet = record { port = c.args.port; bytes = c.args.packet.now } in
     let arrives : IsArrival packet = record { port = c.ranges.port.fits; bytes = λ i. omega (arith, c.type_inv.packet i); size = c.requires.size } in
@@ -26,7 +26,7 @@ returns-clause-verdict c =
     let f = program_of c.args.f.now in
     let packet : Packet = record { port = c.args.port; bytes = c.args.packet.now } in
     let count = length-map c.args.f.now.code step_of in
-    c.verdict.ensures
+    c.leave.ensures
     ∙ verdict_same f packet (reads_of c.deref.result.now) (after f c.args.store.now packet (length c.args.f.now.code)).reads (λ v. ap (λ l. reads_of l v) (c.deref.ensures.value ∙ front c.in_ok-rows.rows.len c.take_turns.new.rows (drop (length c.take_turns.new.rows) c.in_ok-rows.rows.items) (omega (arith, c.take_turns.auto.rows, c.deref_mut.ensures.len))) ∙ c.take_turns.ensures.values v)
     ∙ ap (λ n. verdict f packet (after f c.args.store.now packet n).reads) (sym count)
 

@@ -12,8 +12,8 @@ is_live-live-requires-clause-there c =
     let e = ap (λ (s : Step). s.block) (step_is c.args.f.now c.args.i instr c.as_slice.result.now c.as_slice.ensures c.requires.within c.index-as_slice-i.is) in
     omega (arith, e, c.requires.well.blocks c.args.i (within_code c.args.f.now c.args.i c.requires.within), ap length c.as_slice-2.ensures)
 
-pub work-requires-clause-fits : goal.work-requires-clause-fits
-work-requires-clause-fits c =
+pub compute-requires-clause-fits : goal.compute-requires-clause-fits
+compute-requires-clause-fits c =
     let instr = c.index-as_slice-i.result in
     subst (λ (s : Step). IsTrue (fits (program_of c.args.f.now) s.work)) (sym (step_is c.args.f.now c.args.i instr c.as_slice.result.now c.as_slice.ensures c.requires.within c.index-as_slice-i.is)) (c.requires.well.fit c.args.i (within_code c.args.f.now c.args.i c.requires.within))
 
@@ -21,7 +21,7 @@ pub returns-clause-turn : goal.returns-clause-turn
 returns-clause-turn c =
     let instr = c.index-as_slice-i.result in
     let rows = c.args.rows.now in
-    turn_taken (program_of c.args.f.now) (packet_of c.args.arrival.now) c.args.i rows c.args.store.now c.work.new.store c.work.result (step_of instr) c.is_live-live.result
+    turn_taken (program_of c.args.f.now) (packet_of c.args.arrival.now) c.args.i rows c.args.store.now c.compute.new.store c.compute.result (step_of instr) c.is_live-live.result
     (step_is c.args.f.now c.args.i instr c.as_slice.result.now c.as_slice.ensures c.requires.within c.index-as_slice-i.is)
     (c.is_live-live.ensures ∙ ap (λ bs. is_live bs (reads_of rows) instr.block) c.as_slice-2.ensures)
-    c.work.ensures.results c.work.ensures.after c.requires.row
+    c.compute.ensures.results c.compute.ensures.after c.requires.row

@@ -1,4 +1,4 @@
-use Rattle.std.proofs.Common.{length, sym, arith, ◌∙◌}
+use Rattle.std.proofs.Common.{sym, ◌∙◌}
 use Rattle.std.proofs.lemmas.List.{length-map}
 use Rattle.flat_ir.specs.Program.{program_of, width_of_value}
 use Rattle.flat_ir.specs.Fits.{widths_of}
