@@ -1,21 +1,25 @@
 -- A server as contracts see it, and what it makes of the frames that come up.
-use Rattle.std.specs.Prelude.{◌≡◌, ℕ, ◌+◌, List, [], ◌∷◌, map, Option, Some, None}
+use Rattle.std.specs.Prelude.{◌≡◌, ◌≤◌, ℕ, ◌+◌, Bool, true, List, [], ◌∷◌, map, length, Option, Some, None, IsTrue}
+use Rattle.std.specs.Prelude.{slice_get}
+use Rattle.std.specs.List.{AllByRecursion as Each}
 use Rattle.packet_fields.specs.declared.packet.Packet.{Packet}
 use Rattle.packet_fields.specs.declared.verdict.Verdict.{Verdict}
+use Rattle.state_store.specs.declared.object.ObjectDecl.{ObjectDecl}
 use Rattle.state_store.specs.Store.{Store}
-use Rattle.flat_ir.specs.Program.{Program}
-use Rattle.flat_ir.specs.Blocks.{Reading}
-use Rattle.flat_ir.specs.Run.{Change, flat_changes, flat_store, flat_verdict}
+use Rattle.flat_ir.specs.Program.{Program, Work, step_at}
+use Rattle.flat_ir.specs.Program.Work.{const, field, apply, shift, select, byte, look, put, del}
+use Rattle.flat_ir.specs.Run.{Change, Machine, flat_changes, flat_store, flat_verdict}
 use Rattle.split_model.specs.declared.split.Part.{Part}
-use Rattle.split_model.specs.declared.layout.Crossing.{Crossing}
-use Rattle.split_model.specs.Crossing.{crosses_down}
-use Rattle.split_model.specs.Layouts.{crossing, down_layout}
-use Rattle.split_model.specs.Passes.{IsHanded, down_verdict, replicated_changes, sent_down, server_run}
-use Rattle.transfer_header.specs.Frames.{IsFrameOf}
-use Rattle.transfer_header.specs.Values.{value_by}
+use Rattle.split_model.specs.Counts.{count_steps}
+use Rattle.split_model.specs.Layouts.{down_layout, up_layout}
+use Rattle.split_model.specs.Passes.{down_verdict, pre_values, replicated_changes, sent_down, server_run}
+use Rattle.split_model.specs.Shown.{is_replicated}
+use Rattle.transfer_header.specs.Frames.{down_frame, up_frame, IsFrame}
+use Rattle.transfer_header.specs.Told.{number_in, packet_in, port_in, reads_in}
 use Rattle.writeback_table.specs.declared.command.To.{To}
 use Rattle.writeback_table.specs.declared.command.To.TheVariants.{Value, Gone}
 use Rattle.writeback_table.specs.declared.command.Update.{Update}
+use Rattle.writeback_table.specs.Widths.{fits_update}
 use Rattle.server_runtime.specs.declared.served.Served.{Served}
 
 -- a split program, the store, and how many versions of its replicated objects there were
@@ -44,44 +48,82 @@ abbrev pub version_after : ℕ → List Update → ℕ
 version_after version [] = version
 version_after version (update ∷ updates) = version + 1
 
+-- it writes to a replicated object
+abbrev pub is_followed : Program → List Part → Work → Bool
+is_followed f split (put object keys values) = is_replicated f split object
+is_followed f split (del object keys) = is_replicated f split object
+is_followed f split (const width number) = false
+is_followed f split (field name) = false
+is_followed f split (apply op width args) = false
+is_followed f split (shift op width arg by) = false
+is_followed f split (select width cond first second) = false
+is_followed f split (byte index) = false
+is_followed f split (look object keys) = false
+
+-- how many instructions write to replicated objects
+abbrev pub followed_writes : Program → List Part → ℕ
+followed_writes f split = count_steps f (λ i. is_followed f split (step_at f i).work)
+
+-- a change of a replicated object, in count and widths
+pub record IsUpdateIn (f : Program) (split : List Part) (u : Update) : Type 0 where
+  pub declared : ObjectDecl
+  pub is : slice_get f.objects u.object ≡ Some declared
+  pub replicated : is_replicated f split u.object ≡ true
+  pub widths : IsTrue (fits_update declared u)
+
 -- ## What a frame gives
 
--- the numbers of a frame's values, as those of the program's values
-abbrev pub handed : Program → (Crossing → ℕ) → Reading
-handed f values v = values (crossing f v)
+-- the server's run of a frame that came up, from a store, with the numbers that the frame hands up, whatever they are
+abbrev pub frame_run : Program → List Part → Store → List ℕ → Machine
+frame_run f split st frame =
+    let layout = up_layout f split in server_run f split (reads_in layout frame) st (packet_in layout frame)
 
--- What the server's run of a packet gives, which came up with these numbers: the store after it, the frame that goes
--- down, and what the switch is told.
-pub record IsAnswered
-    (f : Program) (split : List Part) (st : Store) (number : ℕ) (packet : Packet) (up : Reading)
-    (after : Store) (frame : List ℕ) (updates : List Update) : Type 0 where
-  pub store : after ≡ (server_run f split up st packet).store
-  pub down : let reads = (server_run f split up st packet).reads in
-      IsFrameOf 2 (down_layout f split) number packet.port (value_by reads) (sent_down f split reads packet).bytes frame
-  pub told : updates ≡ updates_of f split (server_run f split up st packet).changes
+-- the store that it leaves, what the switch is told of it, and the frame that goes down
+abbrev pub served_store : Program → List Part → Store → List ℕ → Store
+served_store f split st frame = (frame_run f split st frame).store
 
--- What a server makes of the packet of this number, which came up with these numbers.
-pub record IsServed
-    (before : Server) (number : ℕ) (packet : Packet) (up : Reading) (served : Served) (after : Server) : Type 0 where
+abbrev pub served_updates : Program → List Part → Store → List ℕ → List Update
+served_updates f split st frame = updates_of f split (frame_run f split st frame).changes
+
+abbrev pub served_frame : Program → List Part → Store → List ℕ → List ℕ
+served_frame f split st frame =
+    let reads = (frame_run f split st frame).reads in
+    down_frame (down_layout f split) (number_in frame) (port_in frame) reads
+    (sent_down f split reads (packet_in (up_layout f split) frame)).bytes
+
+-- What a server makes of a frame that came up.
+pub record IsServed (before : Server) (frame : List ℕ) (served : Served) (after : Server) : Type 0 where
   pub program : after.program ≡ before.program
   pub split : after.split ≡ before.split
-  pub answer : IsAnswered before.program before.split before.store number packet up
-      after.store served.down served.updates
-  pub same_number : served.number ≡ number
+  pub store : after.store ≡ served_store before.program before.split before.store frame
+  pub number : served.number ≡ number_in frame
+  pub down : served.down ≡ served_frame before.program before.split before.store frame
+  -- what goes down is a frame of the layout
+  pub is_frame : IsFrame 2 (down_layout before.program before.split) served.down
+  pub updates : served.updates ≡ served_updates before.program before.split before.store frame
+  pub fit : Each (IsUpdateIn before.program before.split) served.updates
+  pub few : length served.updates ≤ followed_writes before.program before.split
   pub version : after.version ≡ version_after before.version served.updates
   pub told : served.version ≡ after.version
 
 -- ## Beside the whole program
 
--- The store and what the switch is told are those of the whole program's run from the server's store, and what
--- postprocessing makes of the packet that goes down, over these tables, is that run's verdict.
-pub record IsWholeRun
-    (before : Server) (packet : Packet) (up : Reading) (tables : Store) (served : Served) (after : Server)
-    : Type 0 where
-  pub store : after.store ≡ flat_store before.program before.store packet
-  pub updates : served.updates
-      ≡ updates_of before.program before.split (flat_changes before.program before.store packet)
-  pub verdict : (down : Reading) → let server = (server_run before.program before.split up before.store packet).reads in
-      IsHanded (crosses_down before.program before.split) server down
-      → down_verdict before.program before.split down tables (sent_down before.program before.split server packet)
-      ≡ flat_verdict before.program before.store packet
+-- the verdict of postprocessing on a frame that comes down, over tables
+abbrev pub frame_verdict : Program → List Part → Store → List ℕ → Verdict
+frame_verdict f split tables frame =
+    let layout = down_layout f split in down_verdict f split (reads_in layout frame) tables (packet_in layout frame)
+
+-- the frame in which a packet goes up, with the numbers of preprocessing over tables
+abbrev pub packet_frame : Program → List Part → Store → ℕ → Packet → List ℕ
+packet_frame f split tables number packet =
+    up_frame (up_layout f split) number packet.port (pre_values f split tables packet) packet.bytes
+
+-- The frame of a packet has its number. From the server's store it leaves the store and the changes of the whole
+-- program's run, and what postprocessing makes of what goes down, over these tables, is that run's verdict.
+pub record IsWholeRun (f : Program) (split : List Part) (st tables : Store) (number : ℕ) (packet : Packet)
+    (frame : List ℕ) : Type 0 where
+  pub is_frame : IsFrame 1 (up_layout f split) frame
+  pub numbered : number_in frame ≡ number
+  pub store : served_store f split st frame ≡ flat_store f st packet
+  pub updates : served_updates f split st frame ≡ updates_of f split (flat_changes f st packet)
+  pub verdict : frame_verdict f split tables (served_frame f split st frame) ≡ flat_verdict f st packet

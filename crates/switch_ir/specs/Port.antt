@@ -15,8 +15,7 @@ use Rattle.transfer_header.specs.Frames.{up_frame, IsFrame, IsFrameOf}
 use Rattle.writeback_table.specs.declared.command.Command.{Command}
 use Rattle.writeback_table.specs.declared.command.Command.TheVariants.{Stage, On, Main, Off, Clear}
 use Rattle.writeback_table.specs.declared.command.Update.{Update}
-use Rattle.writeback_table.specs.declared.command.To.{To}
-use Rattle.writeback_table.specs.declared.command.To.TheVariants.{Value, Gone}
+use Rattle.writeback_table.specs.Widths.{fits_update}
 use Rattle.writeback_table.specs.Pair.{visible_rows}
 use Rattle.switch_ir.specs.Code.{Code}
 use Rattle.switch_ir.specs.Meaning.{up_values, goes_up, up_verdict, down_end}
@@ -190,17 +189,12 @@ pub record IsReplicatedIn (code : Code) (o : ℕ) (d : ObjectDecl) : Type 0 wher
   pub declared : declared_at code.tables o ≡ Some d
   pub changes : is_table d.kind ≡ false
 
-abbrev pub has_value_widths : ObjectDecl → To → Bool
-has_value_widths d (Value values) = have_widths d.values values
-has_value_widths d Gone = true
-
 -- a key of a replicated object, in count and widths, and a change of it
 abbrev pub IsKeyOf : Code → ℕ → List ℕ → Type 0
 IsKeyOf code o key = (d : ObjectDecl) × IsReplicatedIn code o d × IsTrue (have_widths d.keys key)
 
 abbrev pub IsUpdateOf : Code → Update → Type 0
-IsUpdateOf code u =
-    (d : ObjectDecl) × IsReplicatedIn code u.object d × IsTrue (have_widths d.keys u.key && has_value_widths d u.to)
+IsUpdateOf code u = (d : ObjectDecl) × IsReplicatedIn code u.object d × IsTrue (fits_update d u)
 
 -- a command names a replicated object of the code, or none
 abbrev pub IsCommandOf : Code → Command → Type 0

@@ -1,5 +1,5 @@
 -- The tables on a switch, and what lookups see of them.
-use Rattle.std.specs.Prelude.{◌≡◌, ℕ, zero, suc, ◌==◌, Bool, true, false, List, [], ◌∷◌, map, Option, Some, None}
+use Rattle.std.specs.Prelude.{◌≡◌, ◌<◌, length, ℕ, zero, suc, ◌==◌, Bool, true, false, List, [], ◌∷◌, map, Option, Some, None}
 use Rattle.std.specs.Prelude.{if◌then◌else◌, unwrap_or, slice_get, slice_set}
 use Rattle.std.specs.FinMap as finmap
 use Rattle.state_store.specs.Store.{Object, Store, start_object, no_object}
@@ -46,6 +46,8 @@ start_pair writeback (Some d) = record { main = start_object d; staged = finmap.
 
 -- the tables before any command, with bit 0
 pub record IsStart (code : Code) (told : Told) : Type 0 where
+  -- there are tables for each object that the code looks up
+  pub there : (o : ℕ) (d : ObjectDecl) → declared_at code.tables o ≡ Some d → o < length told.pairs
   pub pairs : (o : ℕ) → pair_at told.pairs o ≡ start_pair code.writeback (declared_at code.tables o)
   pub bit : told.bit ≡ false
 

@@ -2,3 +2,4 @@ pub mod Bits
 pub mod Values
 pub mod Registers
 pub mod Frames
+pub mod Told

@@ -4,3 +4,4 @@ pub mod Commands
 pub mod Pair
 pub mod Seen
 pub mod Staging
+pub mod Widths

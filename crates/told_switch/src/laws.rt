@@ -1,0 +1,123 @@
+//! What holds of the tables that a switch tells, and of its answers over them. These functions do nothing: their
+//! contracts are the laws.
+ghost use Rattle.std.specs.Prelude.{◌≡◌, ◌++◌, ◌∷◌, [], ℕ, List, true, false, length, Some};
+ghost use Rattle.std.specs.FinMap as map;
+ghost use Rattle.packet_fields.specs.declared.packet.Packet.{Packet};
+ghost use Rattle.packet_fields.specs.declared.verdict.Verdict.{Verdict};
+ghost use Rattle.state_store.specs.declared.object.ObjectDecl.{ObjectDecl};
+ghost use Rattle.state_store.specs.declared.object.Row.{Row};
+ghost use Rattle.state_store.specs.Kept.{IsKept};
+ghost use Rattle.state_store.specs.Store.{Store, rows_of, object_at};
+ghost use Rattle.flat_ir.specs.Arrivals.{IsArrival};
+ghost use Rattle.flat_ir.specs.Program.{Program};
+ghost use Rattle.split_model.specs.declared.split.Part.{Part};
+ghost use Rattle.split_model.specs.Layouts.{down_layout};
+ghost use Rattle.split_model.specs.Shown.{is_replicated};
+ghost use Rattle.writeback_table.specs.declared.command.Command.{Command};
+ghost use Rattle.writeback_table.specs.declared.command.Update.{Update};
+ghost use Rattle.writeback_table.specs.Batches.{seen_after};
+ghost use Rattle.writeback_table.specs.Commands.{pair_through, room_for, bit_through};
+ghost use Rattle.writeback_table.specs.Pair.{visible_rows};
+ghost use Rattle.server_runtime.specs.Serving.{IsUpdateIn};
+ghost use Rattle.transfer_header.specs.Frames.{IsFrame};
+ghost use Rattle.split_program.specs.Whole.{whole_of, IsSplit};
+ghost use Rattle.split_world.specs.Replay.{UpAnswer};
+ghost use Rattle.split_world.specs.Tables.{first_pair};
+ghost use Rattle.split_world.specs.Tied.{IsRight};
+ghost use Rattle.switch_ir.specs.declared.port.DownEnd.TheVariants as down;
+ghost use Rattle.switch_ir.specs.declared.port.RowsEnd.TheVariants as rows;
+ghost use Rattle.switch_ir.specs.declared.port.UpEnd.{UpEnd};
+ghost use Rattle.switch_ir.specs.Code.{Code};
+ghost use Rattle.switch_ir.specs.Emitted.{emitted};
+ghost use Rattle.switch_ir.specs.Port.{EndsDown, EndsSeen, EndsUp, IsCommandOf, IsReplicatedIn, IsUpdateOf};
+ghost use Rattle.switch_ir.specs.Tables.{IsStart, Told, has_room_in, pair_at, told_after};
+ghost use Rattle.told_switch.specs.Through.{HasTables, IsEndOf, IsThrough};
+
+use split_model::{a_split_is_the_whole, carried_values_stand, preprocessing_is_exact, replicated_objects_show};
+use switch_ir::what_is_emitted_computes_the_split;
+
+/// Before any command the tables are those that no command has gone through.
+pub fn told_tables_start()
+    ensures { (code : Code) (told : Told) → IsStart code told → IsThrough code [] told }
+{}
+
+/// A command of the code goes through the tables of its object.
+pub fn a_told_command_goes_through()
+    ensures { (code : Code) (commands : List Command) (command : Command) (told : Told)
+        → IsThrough code commands told → IsCommandOf code command
+        → IsThrough code (commands ++ command ∷ []) (told_after command told) }
+{}
+
+/// The code of a split program has tables for its replicated objects, and for no other object that can change.
+pub fn replicated_objects_are_declared()
+    ensures there { (f : Program) (split : List Part) (writeback o : ℕ) → IsSplit f split writeback
+        → is_replicated f split o ≡ true
+        → (d : ObjectDecl) × IsReplicatedIn (emitted f split writeback) o d }
+    ensures only { (f : Program) (split : List Part) (writeback o : ℕ) (d : ObjectDecl)
+        → IsReplicatedIn (emitted f split writeback) o d → is_replicated f split o ≡ true }
+    ensures updates { (f : Program) (split : List Part) (writeback : ℕ) (update : Update)
+        → IsUpdateIn f split update → IsUpdateOf (emitted f split writeback) update }
+{}
+
+/// A command has room in the tables where the world finds room for it.
+pub fn a_told_command_finds_room()
+    ensures { (f : Program) (split : List Part) (writeback : ℕ) (commands : List Command) (command : Command)
+        (told : Told) → IsSplit f split writeback → IsThrough (emitted f split writeback) commands told
+        → IsCommandOf (emitted f split writeback) command
+        → ((o : ℕ) → is_replicated f split o ≡ true
+        → room_for o (pair_through o (first_pair (whole_of f split writeback) o) commands) command ≡ true)
+        → has_room_in told.pairs command ≡ true }
+{}
+
+/// Where lookups of replicated objects see those of a store after some commands, a packet that is fast over the store is
+/// finished with its verdict, and any other goes up in its frame.
+pub fn a_told_pass_up_is_right()
+    ensures { (f : Program) (split : List Part) (writeback : ℕ) (st : Store) (commands : List Command) (told : Told)
+        (number : ℕ) (packet : Packet) (end : UpEnd) (answer : UpAnswer)
+        → IsSplit f split writeback → IsKept f.objects st → IsArrival packet
+        → IsThrough (emitted f split writeback) commands told
+        → ((o : ℕ) → is_replicated f split o ≡ true
+        → seen_after o (first_pair (whole_of f split writeback) o) commands (length commands)
+        ≡ (object_at st o).contents)
+        → EndsUp (emitted f split writeback) told number packet end → IsEndOf end answer
+        → IsRight (whole_of f split writeback) st number packet answer }
+{
+    what_is_emitted_computes_the_split();
+    preprocessing_is_exact();
+    replicated_objects_show();
+    carried_values_stand();
+}
+
+/// The verdict on a frame that comes down is that of postprocessing, whatever the tables that can change.
+pub fn a_told_pass_down_is_right()
+    ensures { (f : Program) (split : List Part) (writeback : ℕ) (commands : List Command) (told : Told)
+        (frame : List ℕ) (verdict : Verdict)
+        → IsSplit f split writeback → IsThrough (emitted f split writeback) commands told
+        → IsFrame 2 (down_layout f split) frame
+        → EndsDown (emitted f split writeback) told frame (down.Verdict verdict)
+        → verdict ≡ (whole_of f split writeback).post frame }
+{
+    what_is_emitted_computes_the_split();
+}
+
+/// Rows that lookups see are those of the store whose replicated objects they see.
+pub fn told_rows_are_the_visible_stores()
+    ensures { (f : Program) (split : List Part) (writeback : ℕ) (st : Store) (commands : List Command) (told : Told)
+        (o : ℕ) (list : List Row)
+        → IsSplit f split writeback → IsThrough (emitted f split writeback) commands told
+        → is_replicated f split o ≡ true
+        → seen_after o (first_pair (whole_of f split writeback) o) commands (length commands)
+        ≡ (object_at st o).contents
+        → EndsSeen told o (rows.Rows list) → list ≡ rows_of (object_at st o) }
+{}
+
+/// Where the world's tables are the store's, with nothing staged and the bit clear, so are those that are told.
+pub fn quiet_tables_are_the_stores()
+    ensures { (f : Program) (split : List Part) (writeback : ℕ) (st : Store) (commands : List Command) (told : Told)
+        → IsSplit f split writeback → IsThrough (emitted f split writeback) commands told
+        → bit_through false commands ≡ false
+        → ((o : ℕ) → is_replicated f split o ≡ true
+        → pair_through o (first_pair (whole_of f split writeback) o) commands
+        ≡ record { main = object_at st o; staged = map.empty; room = writeback })
+        → HasTables f split writeback st told }
+{}

@@ -1,0 +1,11 @@
+//! What a switch that tells its tables answers, beside what the world of a replay asks of it. There is nothing to run
+//! here: the definitions stand in `specs`, and the laws are the contracts of functions that do nothing.
+#![tactic(auto)]
+
+mod laws;
+
+pub use laws::{
+    a_told_command_finds_room, a_told_command_goes_through, a_told_pass_down_is_right,
+    a_told_pass_up_is_right, quiet_tables_are_the_stores, replicated_objects_are_declared,
+    told_rows_are_the_visible_stores, told_tables_start,
+};
