@@ -2,6 +2,7 @@ mod Below
 mod Carrying
 mod Constants
 mod Crossings
+mod Descents
 mod Exactness
 mod Example
 mod Fitness

@@ -1,5 +1,5 @@
 -- Postprocessing hangs on what crosses down alone, and on the server's numbers for fields.
-use Rattle.std.proofs.Common.{◌≡◌, ◌==◌, ◌%◌, ◌^◌, true, false, List, [], sym, ap, ◌∙◌, ⊎_elim, slice_index, if◌then◌else◌}
+use Rattle.std.proofs.Common.{◌≡◌, ◌==◌, ◌%◌, ◌^◌, true, false, List, [], refl, sym, ap, ◌∙◌, ⊎_elim, slice_index, if◌then◌else◌}
 use Rattle.std.proofs.lemmas.Bool.{cases_Bool, cond-true, cond-false}
 use Rattle.packet_fields.specs.declared.packet.Packet.{Packet}
 use Rattle.packet_fields.specs.declared.verdict.Verdict.TheVariants.{Drop, Send}
@@ -35,7 +35,7 @@ module _ (f : Program) (split : List Part) (tables : Store) (packet : Packet) (s
       (cases_Bool (crosses_down f split v))
 
   values_alike : (v : ValueId) → R v ≡ Q v
-  values_alike v = pass_alike agree f (post_stage split) (given_down f split other_down packet) (given_down f split down packet) tables packet given_alike v
+  values_alike v = pass_alike agree f (post_stage split) (given_down f split other_down packet) (given_down f split down packet) tables packet packet given_alike (λ u some r. refl) v
 
   leaves_alike : (w : FieldValue) → (is_post split w.value.instruction ≡ false → is_written_value f split w.value ≡ true) → leaving split other_server R w.value ≡ leaving split server Q w.value
   leaves_alike w set =

@@ -112,6 +112,9 @@ module _ (f : Program) (split : List Part) (legal : IsLegal f split) (i : ℕ) (
   pub post_kind : is_post split i ≡ true → can_switch work ≡ true
   post_kind post = can_of (not (step_at f i).looped) (can_switch work) (not_false (fits_switch (step_at f i)) (seventh post).0)
 
+  pub post_field : is_post split i ≡ true → is_field work ≡ false
+  post_field post = (or_parts (is_mutable_look f work) (is_field work) (seventh post).1).1
+
   pub post_look : is_post split i ≡ true → is_mutable_look f work ≡ false
   post_look post = (or_parts (is_mutable_look f work) (is_field work) (seventh post).1).0
 

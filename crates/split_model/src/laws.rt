@@ -23,7 +23,7 @@ use flat_ir::{
     a_run_goes_on, a_run_is_its_changes, a_run_is_its_values, a_run_keeps_the_tables,
     a_run_keeps_widths, a_turn_keeps_widths, lines_of_blocks, readings_that_agree,
 };
-use packet_fields::fields_are_apart;
+use packet_fields::{fields_in_any_order, fields_stand_alone};
 use state_store::rows_change_alone;
 
 /// A store that keeps what was declared has the declared constant tables.
@@ -140,7 +140,8 @@ pub fn what_comes_down_serves()
         → IsWellFormed f → IsLegal f split → IsSentDown f split tables packet server down }
 {
     readings_that_agree();
-    fields_are_apart();
+    fields_stand_alone();
+    fields_in_any_order();
 }
 
 /// The way up, through the server and down is the whole run from the server's store. What is handed up comes from a
