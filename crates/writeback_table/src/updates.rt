@@ -66,3 +66,11 @@ impl Updates {
         Ok(Updates { items })
     }
 }
+
+impl From<Vec<Update>> for Updates {
+    ghost from_gives = { λ items updates. updates ≡ items.items };
+
+    fn from(items: Vec<Update>) -> Updates {
+        Updates { items }
+    }
+}
