@@ -5,3 +5,4 @@ pub mod Emitting
 pub mod Journal
 pub mod Tables
 pub mod Port
+pub mod Sound
