@@ -101,9 +101,14 @@ part_lines word objects [] = []
 part_lines word objects (part ∷ parts) =
     part_line word objects part ++ (row_lines part.rows ++ part_lines word objects parts)
 
+-- the rows on the server, and those on the switch
+abbrev pub tables_text : List ObjectDecl → Run → List ℕ
+tables_text objects run =
+    part_lines (codes "object") objects run.objects ++ part_lines (codes "switch") objects run.switch
+
 -- the whole report of a run, whose objects are declared so
 abbrev pub report_of : List ObjectDecl → Run → List ℕ
 report_of objects run =
     (codes "report 1" ++ line_end) ++ (packets_line run ++ (events_line run ++ (version_line run
     ++ (drained_line run.drained ++ (fate_lines 0 run.fates ++ (order_line run.order
-    ++ (part_lines (codes "object") objects run.objects ++ (codes "end" ++ line_end))))))))
+    ++ (tables_text objects run ++ (codes "end" ++ line_end))))))))

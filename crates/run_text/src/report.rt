@@ -2,7 +2,7 @@
 ghost use Rattle.std.specs.Prelude.{◌≡◌, ◌++◌, IfOk, OnOk, string_bytes};
 ghost use Rattle.run_text.specs.Report.{body_text, decided_text, drained_line, events_line, fate_line};
 ghost use Rattle.run_text.specs.Report.{fate_lines, fate_text, order_line, packets_line, released_text, report_of};
-ghost use Rattle.run_text.specs.Report.{verdict_text, version_line};
+ghost use Rattle.run_text.specs.Report.{tables_text, verdict_text, version_line};
 ghost use Rattle.gal_io.specs.Number.{spaced};
 
 use crate::fate::Fate;
@@ -10,7 +10,7 @@ use crate::parts::put_parts;
 use crate::run::Run;
 use gal_io::{NoMemory, Text};
 use packet_fields::Verdict;
-use state_store::Objects;
+use state_store::{ObjectDecl, Objects};
 use std::alloc::Global;
 
 fn body_text(alloc: Global, bytes: &[u8]) -> Result<String, NoMemory>
@@ -163,8 +163,15 @@ fn drained_line(drained: bool) -> &'static [u8]
     }
 }
 
+fn put_tables(objects: &[ObjectDecl], run: &Run, text: &mut Text) -> Result<(), NoMemory>
+    ensures { OnOk result (text.new ≡ text.old ++ tables_text objects.now run.now) }
+{
+    put_parts("object", objects, run.objects.as_slice(), text)?;
+    put_parts("switch", objects, run.switch.as_slice(), text)
+}
+
 /// The report of a run of a middlebox with these objects: its counts, a line for each admitted packet, the serial
-/// order, and the rows of the objects.
+/// order, the rows of the objects on the server, and those of the replicated ones on the switch.
 pub fn print_run(alloc: Global, objects: &Objects, run: &Run) -> Result<Text, NoMemory>
     ensures { IfOk result (λ text. text ≡ report_of objects.now run.now) }
 {
@@ -175,12 +182,7 @@ pub fn print_run(alloc: Global, objects: &Objects, run: &Run) -> Result<Text, No
     text.extend(drained_line(run.drained))?;
     put_fates(alloc, run.fates.as_slice(), &mut text)?;
     put_order(run.order.as_slice(), &mut text)?;
-    put_parts(
-        "object",
-        objects.as_slice(),
-        run.objects.as_slice(),
-        &mut text,
-    )?;
+    put_tables(objects.as_slice(), run, &mut text)?;
     text.extend(b"end\n")?;
     Ok(text)
 }

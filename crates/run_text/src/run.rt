@@ -113,4 +113,6 @@ pub struct Run {
     pub order: Order,
     /// The rows of each map, vector and integer on the server.
     pub objects: Parts,
+    /// The rows of each replicated object, as lookups on the switch see them.
+    pub switch: Parts,
 }

@@ -157,6 +157,7 @@ fn report_of_nothing(rt: HostRuntime) -> Result<(), Fail> {
         fates: Fates::from(Vec::new(alloc)),
         order: Order::from(Vec::new(alloc)),
         objects: Parts::from(Vec::new(alloc)),
+        switch: Parts::from(Vec::new(alloc)),
     };
     let Ok(text) = print_run(alloc, &Objects::new(alloc), &run) else {
         return Err(Fail::from("no memory"));
@@ -220,6 +221,7 @@ fn report_of_all_fates(rt: HostRuntime) -> Result<(), Fail> {
         fates,
         order,
         objects: Parts::from(Vec::new(alloc)),
+        switch: Parts::from(Vec::new(alloc)),
     };
     let Ok(text) = print_run(alloc, &Objects::new(alloc), &run) else {
         return Err(Fail::from("no memory"));
@@ -306,6 +308,21 @@ fn parts(alloc: Global) -> Result<Parts, NoMemory> {
     Ok(Parts::from(parts))
 }
 
+// The switch has one of the two maps, and an older row in it.
+fn switch_parts(alloc: Global) -> Result<Parts, NoMemory> {
+    let mut flows = Rows::new(alloc);
+    flows.push(Row {
+        keys: two(1, 80),
+        values: one(6),
+    })?;
+    let mut parts = Vec::new(alloc);
+    parts.push(Part {
+        object: 0,
+        rows: flows,
+    })?;
+    Ok(Parts::from(parts))
+}
+
 fn report_with_rows(alloc: Global) -> Result<Text, NoMemory> {
     let run = Run {
         total: 0,
@@ -319,6 +336,7 @@ fn report_with_rows(alloc: Global) -> Result<Text, NoMemory> {
         fates: Fates::from(Vec::new(alloc)),
         order: Order::from(Vec::new(alloc)),
         objects: parts(alloc)?,
+        switch: switch_parts(alloc)?,
     };
     print_run(alloc, &objects(alloc)?, &run)
 }
@@ -340,6 +358,88 @@ fn report_of_rows(rt: HostRuntime) -> Result<(), Fail> {
         object count 1\n\
         -> 12\n\
         object hosts 0\n\
+        switch flows 1\n\
+        1 80 -> 6\n\
+        end\n";
+    assert_eq!(rt; text.as_slice(), want.as_bytes());
+    Ok(())
+}
+
+// The address translator's packet from 10.0.0.1 port 5000, as it goes out from 192.0.2.1 port 1024.
+const TRANSLATED: &[u8] = b"\x02\x00\x00\x00\x00\x01\x02\x00\x00\x00\x00\x02\x08\x00\
+    \x45\x00\x00\x28\x00\x01\x40\x00\x40\x06\x4e\x93\xc0\x00\x02\x01\xc6\x33\x64\x07\
+    \x04\x00\x00\x50\x00\x00\x00\x00\x00\x00\x00\x00\x50\x02\x20\x00\x9f\x56\x00\x00";
+
+fn part(alloc: Global, object: u32, keys: Values, values: Values) -> Result<Part, NoMemory> {
+    let mut rows = Rows::new(alloc);
+    rows.push(Row { keys, values })?;
+    Ok(Part { object, rows })
+}
+
+// One packet went out by the translator, whose table of flows is in both places.
+fn report_of_one_flow(alloc: Global) -> Result<Text, NoMemory> {
+    let mut objects = Objects::new(alloc);
+    objects.push(object(alloc, b"out", Kind::Map)?)?;
+    objects.push(object(alloc, b"back", Kind::Map)?)?;
+    objects.push(object(alloc, b"next", Kind::Int)?)?;
+    let (host, port) = (167_772_161, 5000);
+    let mut on_server = Vec::new(alloc);
+    on_server.push(part(alloc, 0, two(host, port), one(1024))?)?;
+    on_server.push(part(alloc, 1, one(1024), two(host, port))?)?;
+    on_server.push(part(alloc, 2, Values::new(), one(1025))?)?;
+    let mut on_switch = Vec::new(alloc);
+    on_switch.push(part(alloc, 0, two(host, port), one(1024))?)?;
+    on_switch.push(part(alloc, 1, one(1024), two(host, port))?)?;
+    let mut fates = Vec::new(alloc);
+    fates.push(Fate::Slow {
+        admitted: 1,
+        decided: 2,
+        version: 1,
+        released: 14,
+        verdict: Verdict::Send(1, Bytes::from_slice(alloc, TRANSLATED)?),
+    })?;
+    let fates = Fates::from(fates);
+    let run = Run {
+        total: 1,
+        decided: 1,
+        released: 1,
+        events: 14,
+        idle: 1,
+        version: 1,
+        visible: 1,
+        drained: false,
+        order: order(alloc, &fates)?,
+        fates,
+        objects: Parts::from(on_server),
+        switch: Parts::from(on_switch),
+    };
+    print_run(alloc, &objects, &run)
+}
+
+#[test]
+fn report_of_a_translator(rt: HostRuntime) -> Result<(), Fail> {
+    let Ok(text) = report_of_one_flow(rt.alloc()) else {
+        return Err(Fail::from("no memory"));
+    };
+    let want = "report 1\n\
+        packets 1 admitted 1 decided 1 released 1\n\
+        events 14 idle 1\n\
+        version 1 visible 1\n\
+        drained no\n\
+        packet 0 slow admitted 1 decided 2 version 1 released 14 send 1 \
+        0200000000010200000000020800450000280001400040064e93c0000201c63364070400005000000000000000005002\
+        20009f560000\n\
+        order 0\n\
+        object out 1\n\
+        167772161 5000 -> 1024\n\
+        object back 1\n\
+        1024 -> 167772161 5000\n\
+        object next 1\n\
+        -> 1025\n\
+        switch out 1\n\
+        167772161 5000 -> 1024\n\
+        switch back 1\n\
+        1024 -> 167772161 5000\n\
         end\n";
     assert_eq!(rt; text.as_slice(), want.as_bytes());
     Ok(())
