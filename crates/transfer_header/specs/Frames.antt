@@ -14,6 +14,10 @@ abbrev pub frame_of : ℕ → List Crossing → ℕ → ℕ → (Crossing → �
 frame_of kind layout number port values packet =
     kind ∷ to_be_bytes w32 number ++ port ∷ packed (value_bits layout values) ++ packet
 
+-- memory for so many bytes is enough for a frame of the layout with a packet of so many bytes
+abbrev pub HasRoom : List Crossing → ℕ → ℕ → Type 0
+HasRoom layout packet room = 6 + bytes_for (total layout) + packet ≤ room
+
 -- the frame that takes the numbers of a reading up, and the one that takes them down
 abbrev pub up_frame : List Crossing → ℕ → ℕ → Reading → List ℕ → List ℕ
 up_frame layout number port reads packet = frame_of 1 layout number port (value_by reads) packet

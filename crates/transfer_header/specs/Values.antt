@@ -1,5 +1,5 @@
 -- The values of a layout, and their bits.
-use Rattle.std.specs.Prelude.{◌≡◌, ℕ, ◌+◌, ◌^◌, ◌<◌, List, [], ◌∷◌, ◌++◌}
+use Rattle.std.specs.Prelude.{◌≡◌, ℕ, ◌+◌, ◌%◌, ◌^◌, ◌<◌, List, [], ◌∷◌, ◌++◌}
 use Rattle.std.specs.List.{All}
 use Rattle.flat_ir.specs.Blocks.{Reading}
 use Rattle.split_model.specs.declared.layout.Crossing.{Crossing}
@@ -26,3 +26,7 @@ Agree layout values others = All (λ c. values c ≡ others c) layout
 -- the number of a value in a reading
 abbrev pub value_by : Reading → Crossing → ℕ
 value_by reads c = reads c.value
+
+-- of each value as many of its lowest bits as its width
+abbrev pub low_bits : (Crossing → ℕ) → Crossing → ℕ
+low_bits values c = values c % 2 ^ c.width

@@ -1,13 +1,12 @@
 //! Numbers packed into bytes bit by bit.
 ghost use Rattle.std.specs.Prelude.{◌≡◌, ◌+◌, ◌-◌, ◌*◌, ◌%◌, ◌^◌, ◌<◌, ◌≤◌};
-ghost use Rattle.std.specs.Prelude.{◌++◌, [], length, take, drop, IfOk, OnOk};
+ghost use Rattle.std.specs.Prelude.{◌++◌, length, take, drop, vec_capacity};
 ghost use Rattle.transfer_header.specs.Bits.{bits_of, bits_in, packed};
 
-use gal_io::{Bytes, NoMemory};
-use std::alloc::Global;
 use std::marker::Model;
 
-// Bits that were put one behind the other. Contracts see the list of them. Those that don't fill a byte are held back.
+// Bits that are put one behind the other into memory that was taken before. Contracts see the list of them, and how many
+// bytes the memory holds. Bits that don't fill a byte are held back.
 #[derive(Drop)]
 pub(crate) struct BitWriter {
     bytes: Vec<u8>,
@@ -16,24 +15,29 @@ pub(crate) struct BitWriter {
 }
 
 impl Model for BitWriter {
-    ghost use Rattle.std.specs.Prelude.{List, ℕ, ◌^◌, ◌<◌, ◌++◌};
+    ghost use Rattle.std.specs.Prelude.{◌+◌, ◌*◌, ◌^◌, ◌<◌, ◌≤◌, ◌++◌, vec_len, vec_capacity};
     ghost use Rattle.std.specs.List.{All};
-    ghost use Rattle.transfer_header.specs.Bits.{bits_of, bits_in};
+    ghost use Rattle.transfer_header.specs.Bits.{bits_of, bits_in, Written};
 
-    ghost Value = { List ℕ };
+    ghost Value = { Written };
 
-    ghost view = { λ writer. bits_in writer.bytes.items ++ bits_of writer.count writer.held };
+    ghost view = { λ writer. record {
+      bits = bits_in writer.bytes.items ++ bits_of writer.count writer.held;
+      capacity = vec_capacity writer.bytes;
+    } };
 
     ghost invariant = { λ writer. (writer.count < 8) × (writer.held < 2 ^ writer.count)
-        × All (λ byte. byte < 256) writer.bytes.items };
+        × All (λ byte. byte < 256) writer.bytes.items
+        × (8 * vec_len writer.bytes + writer.count ≤ 8 * vec_capacity writer.bytes) };
 }
 
 impl BitWriter {
-    pub(crate) fn new(alloc: Global) -> BitWriter
-        ensures { result ≡ [] }
+    // Further bits go behind those of these bytes.
+    pub(crate) fn behind(bytes: Vec<u8>) -> BitWriter
+        ensures { result ≡ record { bits = bits_in bytes.items; capacity = vec_capacity bytes } }
     {
         BitWriter {
-            bytes: Vec::new(alloc),
+            bytes,
             held: 0,
             count: 0,
         }
@@ -41,15 +45,17 @@ impl BitWriter {
 
     // How many bits the last byte still takes.
     fn room(&self) -> u32
-        ensures { result ≡ 8 - length self.now % 8 }
+        ensures { result ≡ 8 - length self.now.bits % 8 }
     {
         8 - self.count
     }
 
     // Puts the lowest bits of a number, so many of them, into the last byte.
-    fn put_part(&mut self, number: u64, width: u32) -> Result<(), NoMemory>
-        requires { width ≤ 8 - length self.old % 8 }
-        ensures { OnOk result (self.new ≡ self.old ++ bits_of width number) }
+    fn put_part(&mut self, number: u64, width: u32)
+        requires inside { width ≤ 8 - length self.old.bits % 8 }
+        requires within { length self.old.bits + width ≤ 8 * self.old.capacity }
+        ensures bits { self.new.bits ≡ self.old.bits ++ bits_of width number }
+        ensures capacity { self.new.capacity ≡ self.old.capacity }
     {
         let held = (self.held << width) + number % (1 << width);
         let count = self.count + width;
@@ -57,30 +63,31 @@ impl BitWriter {
             self.held = held;
             self.count = count;
         } else {
-            self.bytes.push(held as u8)?;
+            self.bytes.push_reserved(held as u8);
             self.held = 0;
             self.count = 0;
         }
-        Ok(())
     }
 
     // Puts the lowest bits of a number, so many of them.
-    pub(crate) fn put(&mut self, number: u64, width: u32) -> Result<(), NoMemory>
-        requires { width ≤ 64 }
-        ensures { OnOk result (self.new ≡ self.old ++ bits_of width number) }
+    pub(crate) fn put(&mut self, number: u64, width: u32)
+        requires narrow { width ≤ 64 }
+        requires within { length self.old.bits + width ≤ 8 * self.old.capacity }
+        ensures bits { self.new.bits ≡ self.old.bits ++ bits_of width number }
+        ensures capacity { self.new.capacity ≡ self.old.capacity }
     {
         let mut left = width;
         while left > 0 {
             let part = left.min(self.room());
             left -= part;
-            self.put_part(number >> left, part)?;
+            self.put_part(number >> left, part);
         }
-        Ok(())
     }
 
     // The bytes that hold all bits.
-    pub(crate) fn finish(self) -> Result<Bytes, NoMemory>
-        ensures { IfOk result (λ bytes. bytes ≡ packed self) }
+    pub(crate) fn finish(self) -> Vec<u8>
+        ensures items { result.items ≡ packed self.bits }
+        ensures capacity { vec_capacity result ≡ self.capacity }
     {
         let BitWriter {
             mut bytes,
@@ -88,9 +95,9 @@ impl BitWriter {
             count,
         } = self;
         if count > 0 {
-            bytes.push((held << (8 - count)) as u8)?;
+            bytes.push_reserved((held << (8 - count)) as u8);
         }
-        Ok(Bytes::from(bytes))
+        bytes
     }
 }
 

@@ -1,5 +1,6 @@
 //! Frames as bytes.
-ghost use Rattle.std.specs.Prelude.{◌≡◌, ◌↔◌, ℕ, ◌+◌, ◌-◌, ◌*◌, ◌^◌, ◌<◌, ◌≤◌, List, length, take, drop, replicate};
+ghost use Rattle.std.specs.Prelude.{◌≡◌, ◌↔◌, ℕ, ◌+◌, ◌-◌, ◌*◌, ◌^◌, ◌<◌, ◌≤◌, ◌++◌};
+ghost use Rattle.std.specs.Prelude.{List, length, take, drop, replicate, vec_len, vec_capacity};
 ghost use Rattle.std.specs.Prelude.{IsOk, IsOkAnd, IsTrue, IfOk, OnErr};
 ghost use Rattle.packet_fields.specs.Sizes.{largest_packet};
 ghost use Rattle.flat_ir.specs.Blocks.{Reading};
@@ -7,17 +8,16 @@ ghost use Rattle.split_model.specs.declared.layout.Crossing.{Crossing};
 ghost use Rattle.transfer_header.specs.Bits.{bits_in, bytes_for, packed};
 ghost use Rattle.transfer_header.specs.Values.{total, value_bits, AreNarrow};
 ghost use Rattle.transfer_header.specs.Registers.{value_in, ChangesOnly, FitsLayout, Holds};
-ghost use Rattle.transfer_header.specs.Frames.{up_frame, down_frame, IsFrame, IsFrameOf, IsUnpacked, IsReadBack};
+ghost use Rattle.transfer_header.specs.Frames.{frame_of, up_frame, down_frame, HasRoom, IsFrame, IsFrameOf};
+ghost use Rattle.transfer_header.specs.Frames.{IsUnpacked, IsReadBack};
 
 use crate::bits::{BitWriter, read_bits};
 use crate::registers::Regs;
+use crate::room::{FIXED_BYTES, FrameRoom, total_bits};
 use gal_io::{Bytes, NoMemory};
 use packet_fields::MAX_PACKET_BYTES;
 use split_model::Layout;
 use std::alloc::Global;
-
-// The bytes in front of the values: a kind, a number of four bytes, and a port.
-const FIXED_BYTES: usize = 6;
 
 // The kinds.
 const UP: u8 = 1;
@@ -39,7 +39,7 @@ pub struct Malformed;
 
 /// The frame that goes up to the server with a packet: a byte 1, the packet's number in four bytes, the highest first,
 /// its port of arrival, the values of a layout, each from its highest bit on, with no gaps between them and zero bits
-/// up to a whole byte, and the packet.
+/// up to a whole byte, and the packet. Of each value it has as many of the lowest bits as its width.
 pub fn pack_up(
     alloc: Global,
     layout: &Layout,
@@ -49,13 +49,15 @@ pub fn pack_up(
     packet: &[u8],
 ) -> Result<Bytes, NoMemory>
     requires fits { FitsLayout layout.now values.now }
-    requires narrow { AreNarrow layout.now (value_in values.now) }
     requires short { length packet.now ≤ largest_packet }
-    ensures frame { IfOk result (λ made. IsFrameOf 1 layout.now number port (value_in values.now) packet.now made) }
+    ensures bytes { IfOk result (λ made. made ≡ frame_of 1 layout.now number port (value_in values.now) packet.now) }
+    ensures frame { AreNarrow layout.now (value_in values.now)
+        → IfOk result (λ made. IsFrameOf 1 layout.now number port (value_in values.now) packet.now made) }
     ensures reading { (reads : Reading) → Holds layout.now values.now reads
         → IfOk result (λ made. made ≡ up_frame layout.now number port reads packet.now) }
 {
-    pack(alloc, UP, layout, number, port, values, packet)
+    let room = FrameRoom::new(alloc, layout, packet.len())?;
+    Ok(pack(room, UP, layout, number, port, values, packet))
 }
 
 /// The frame that comes down from the server with a packet: as `pack_up`, with a byte 2 in front.
@@ -68,13 +70,36 @@ pub fn pack_down(
     packet: &[u8],
 ) -> Result<Bytes, NoMemory>
     requires fits { FitsLayout layout.now values.now }
-    requires narrow { AreNarrow layout.now (value_in values.now) }
     requires short { length packet.now ≤ largest_packet }
-    ensures frame { IfOk result (λ made. IsFrameOf 2 layout.now number port (value_in values.now) packet.now made) }
+    ensures bytes { IfOk result (λ made. made ≡ frame_of 2 layout.now number port (value_in values.now) packet.now) }
+    ensures frame { AreNarrow layout.now (value_in values.now)
+        → IfOk result (λ made. IsFrameOf 2 layout.now number port (value_in values.now) packet.now made) }
     ensures reading { (reads : Reading) → Holds layout.now values.now reads
         → IfOk result (λ made. made ≡ down_frame layout.now number port reads packet.now) }
 {
-    pack(alloc, DOWN, layout, number, port, values, packet)
+    let room = FrameRoom::new(alloc, layout, packet.len())?;
+    Ok(pack_down_in(room, layout, number, port, values, packet))
+}
+
+/// The frame that comes down with a packet, as `pack_down`, in memory that was taken before. This takes no memory.
+pub fn pack_down_in(
+    room: FrameRoom,
+    layout: &Layout,
+    number: u32,
+    port: u8,
+    values: &Regs,
+    packet: &[u8],
+) -> Bytes
+    requires fits { FitsLayout layout.now values.now }
+    requires enough { HasRoom layout.now (length packet.now) room }
+    requires short { length packet.now ≤ largest_packet }
+    ensures bytes { result ≡ frame_of 2 layout.now number port (value_in values.now) packet.now }
+    ensures frame { AreNarrow layout.now (value_in values.now)
+        → IsFrameOf 2 layout.now number port (value_in values.now) packet.now result }
+    ensures reading { (reads : Reading) → Holds layout.now values.now reads
+        → result ≡ down_frame layout.now number port reads packet.now }
+{
+    pack(room, DOWN, layout, number, port, values, packet)
 }
 
 /// What a frame says that goes up, with the numbers of its values put into registers. Where the bytes are no such frame
@@ -105,37 +130,46 @@ pub fn unpack_down(layout: &Layout, frame: &[u8], into: &mut Regs) -> Result<Hea
 }
 
 fn pack(
-    alloc: Global,
+    room: FrameRoom,
     kind: u8,
     layout: &Layout,
     number: u32,
     port: u8,
     values: &Regs,
     packet: &[u8],
-) -> Result<Bytes, NoMemory>
+) -> Bytes
     requires fits { FitsLayout layout.now values.now }
-    requires narrow { AreNarrow layout.now (value_in values.now) }
-    requires short { length packet.now ≤ largest_packet }
-    ensures { IfOk result (λ made. IsFrameOf kind layout.now number port (value_in values.now) packet.now made) }
+    requires enough { HasRoom layout.now (length packet.now) room }
+    ensures { result ≡ frame_of kind layout.now number port (value_in values.now) packet.now }
 {
-    let header = pack_values(alloc, layout, values)?;
-    let mut frame = Bytes::new(alloc);
-    frame.push(kind)?;
-    frame.extend(&number.to_be_bytes())?;
-    frame.push(port)?;
-    frame.extend(header.as_slice())?;
-    frame.extend(packet)?;
-    Ok(frame)
+    let [first, second, third, fourth] = number.to_be_bytes();
+    let mut frame = room.into_bytes();
+    append(&mut frame, &[kind, first, second, third, fourth, port]);
+    let mut frame = pack_values(frame, layout, values);
+    append(&mut frame, packet);
+    Bytes::from(frame)
 }
 
-// The bytes that hold the values of a layout.
-fn pack_values(alloc: Global, layout: &Layout, values: &Regs) -> Result<Bytes, NoMemory>
-    requires { FitsLayout layout.now values.now }
-    ensures { IfOk result (λ header. header ≡ packed (value_bits layout.now (value_in values.now))) }
+// Puts bytes behind others, in memory that was taken before.
+fn append(bytes: &mut Vec<u8>, more: &[u8])
+    requires { vec_len bytes.old + length more.now ≤ vec_capacity bytes.old }
+    ensures items { bytes.new.items ≡ bytes.old.items ++ more.now }
+    ensures capacity { vec_capacity bytes.old ≤ vec_capacity bytes.new }
 {
-    let mut writer = BitWriter::new(alloc);
+    let is_put = bytes.extend_from_slice(more).is_ok();
+    prove!(is_put);
+}
+
+// The bytes that hold the values of a layout, behind others.
+fn pack_values(bytes: Vec<u8>, layout: &Layout, values: &Regs) -> Vec<u8>
+    requires fits { FitsLayout layout.now values.now }
+    requires enough { vec_len bytes + bytes_for (total layout.now) ≤ vec_capacity bytes }
+    ensures items { result.items ≡ bytes.items ++ packed (value_bits layout.now (value_in values.now)) }
+    ensures capacity { vec_capacity result ≡ vec_capacity bytes }
+{
+    let mut writer = BitWriter::behind(bytes);
     for crossing in layout.as_slice() {
-        writer.put(values.at(crossing.number), crossing.width.bits())?;
+        writer.put(values.at(crossing.number), crossing.width.bits());
     }
     writer.finish()
 }
@@ -165,19 +199,6 @@ fn unpack(kind: u8, layout: &Layout, frame: &[u8], into: &mut Regs) -> Result<He
         port: frame[5],
         packet_at,
     })
-}
-
-// How many bits the values of a layout have together.
-fn total_bits(layout: &Layout) -> usize
-    requires { length layout.now < 2 ^ 32 }
-    ensures value { result ≡ total layout.now }
-    ensures near { result ≤ 2 ^ 38 }
-{
-    let mut bits = 0;
-    for crossing in layout.as_slice() {
-        bits += crossing.width.bits() as usize;
-    }
-    bits
 }
 
 // Whether all bits behind the first ones are 0.

@@ -1,6 +1,7 @@
 //! What holds of frames and registers, as the definitions give it. These functions do nothing: their contracts are the
 //! laws.
-ghost use Rattle.std.specs.Prelude.{◌≡◌, ◌↔◌, ℕ, ◌^◌, ◌<◌, List, true, Some, slice_get, length, IsTrue};
+ghost use Rattle.std.specs.Prelude.{◌≡◌, ◌↔◌, ℕ, ◌^◌, ◌<◌, ◌≤◌, List, true, Some, slice_get, length, drop, IsTrue};
+ghost use Rattle.packet_fields.specs.Sizes.{largest_packet};
 ghost use Rattle.flat_ir.specs.declared.program.ValueId.{ValueId};
 ghost use Rattle.flat_ir.specs.Blocks.{Reading};
 ghost use Rattle.flat_ir.specs.Program.{Program, is_named};
@@ -9,9 +10,11 @@ ghost use Rattle.split_model.specs.declared.layout.Crossing.{Crossing};
 ghost use Rattle.split_model.specs.Crossing.{crosses_up, crosses_down};
 ghost use Rattle.split_model.specs.Layouts.{values_of, number_of, up_layout, down_layout};
 ghost use Rattle.split_model.specs.Passes.{IsHanded};
-ghost use Rattle.transfer_header.specs.Values.{value_by, Agree, AreNarrow};
+ghost use Rattle.transfer_header.specs.declared.frame.Head.{Head};
+ghost use Rattle.transfer_header.specs.Values.{low_bits, value_by, Agree, AreNarrow};
 ghost use Rattle.transfer_header.specs.Registers.{reads_of, value_in, FitsLayout, Holds, KeepsWidths};
-ghost use Rattle.transfer_header.specs.Frames.{frame_of, AreSame, IsFrameOf};
+ghost use Rattle.transfer_header.specs.Frames.{frame_of, AreSame, IsFrame, IsFrameOf, IsUnpacked};
+ghost use Rattle.transfer_header.specs.Told.{reads_in, AreToldByPlace, IsToldByPlace};
 
 /// Bytes are the frame of one number, one port, one packet, and one number for each value.
 pub fn frames_tell_their_parts()
@@ -27,6 +30,41 @@ pub fn frames_of_equal_values()
     ensures { (kind : ℕ) (layout : List Crossing) (number port : ℕ) (values others : Crossing → ℕ) (packet : List ℕ)
         → Agree layout values others
         → frame_of kind layout number port values packet ≡ frame_of kind layout number port others packet }
+{}
+
+/// A frame says of each value its lowest bits alone, as many as its width. These are narrow, so that the bytes are their
+/// frame, where number, port and packet have room.
+pub fn frames_of_low_bits()
+    ensures bytes { (kind : ℕ) (layout : List Crossing) (number port : ℕ) (values : Crossing → ℕ) (packet : List ℕ)
+        → frame_of kind layout number port values packet
+        ≡ frame_of kind layout number port (low_bits values) packet }
+    ensures narrow { (layout : List Crossing) (values : Crossing → ℕ) → AreNarrow layout (low_bits values) }
+    ensures frame { (kind : ℕ) (layout : List Crossing) (number port : ℕ) (values : Crossing → ℕ) (packet : List ℕ)
+        → number < 2 ^ 32 → port < 256 → length packet ≤ largest_packet
+        → IsFrameOf kind layout number port (low_bits values) packet
+        (frame_of kind layout number port values packet) }
+{}
+
+/// What a frame is the frame of stands in it by place, and so does what was told of a frame.
+pub fn frames_are_told_by_place()
+    ensures parts { (kind : ℕ) (layout : List Crossing) (number port : ℕ) (values : Crossing → ℕ)
+        (packet frame : List ℕ) → IsFrameOf kind layout number port values packet frame
+        → IsToldByPlace layout number port packet frame }
+    ensures up { (f : Program) (split : List Part) (kind number port : ℕ) (values : Crossing → ℕ)
+        (packet frame : List ℕ) → IsFrameOf kind (up_layout f split) number port values packet frame
+        → AreToldByPlace f (crosses_up f split) (up_layout f split) values frame }
+    ensures down { (f : Program) (split : List Part) (kind number port : ℕ) (values : Crossing → ℕ)
+        (packet frame : List ℕ) → IsFrameOf kind (down_layout f split) number port values packet frame
+        → AreToldByPlace f (crosses_down f split) (down_layout f split) values frame }
+    ensures unpacked { (kind : ℕ) (layout : List Crossing) (frame before after : List ℕ) (head : Head)
+        → IsUnpacked kind layout frame before after head
+        → IsToldByPlace layout head.number head.port (drop head.packet_at frame) frame }
+    ensures narrow_up { (f : Program) (split : List Part) (kind : ℕ) (frame : List ℕ)
+        → IsFrame kind (up_layout f split) frame
+        → KeepsWidths f (crosses_up f split) (reads_in (up_layout f split) frame) }
+    ensures narrow_down { (f : Program) (split : List Part) (kind : ℕ) (frame : List ℕ)
+        → IsFrame kind (down_layout f split) frame
+        → KeepsWidths f (crosses_down f split) (reads_in (down_layout f split) frame) }
 {}
 
 /// Among all values of a program each stands at its number, so that no two have the same.

@@ -1,6 +1,6 @@
 use Rattle.std.proofs.Common.{◌≡◌, ◌≤◌, ◌*◌, take}
 use Rattle.transfer_header.specs.Values.{total}
-use Rattle.transfer_header.proofs.frame.total_bits.Given as goal
+use Rattle.transfer_header.proofs.room.total_bits.Given as goal
 
 abbrev pub invariant-loop-crossing : goal.invariant-loop-crossing
 invariant-loop-crossing l = record {

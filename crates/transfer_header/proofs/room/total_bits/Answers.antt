@@ -1,6 +1,6 @@
 use Rattle.std.proofs.Common.{arith}
 use Rattle.transfer_header.proofs.LayoutValues.{total-more}
-use Rattle.transfer_header.proofs.frame.total_bits.Goals as goal
+use Rattle.transfer_header.proofs.room.total_bits.Goals as goal
 
 pub loop-crossing-preserved : goal.loop-crossing-preserved
 loop-crossing-preserved c = record {
