@@ -6,3 +6,4 @@ pub mod Journal
 pub mod Tables
 pub mod Port
 pub mod Sound
+pub mod Once

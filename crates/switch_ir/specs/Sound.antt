@@ -1,6 +1,6 @@
 -- What a switch can rely on in its code.
-use Rattle.std.specs.Prelude.{◌≡◌, ◌≤◌, ℕ, Some, length, replicate, IsTrue}
-use Rattle.std.specs.List.{AllByRecursion as Each}
+use Rattle.std.specs.Prelude.{◌≡◌, ◌<◌, ◌≤◌, ℕ, Some, length, replicate, IsTrue}
+use Rattle.std.specs.List.{AllByRecursion as Each, AllPairs}
 use Rattle.packet_fields.specs.Table.{row}
 use Rattle.state_store.specs.declared.object.ObjectDecl.{ObjectDecl}
 use Rattle.state_store.specs.Kept.{IsKeptObject}
@@ -9,6 +9,7 @@ use Rattle.flat_ir.specs.declared.program.FieldValue.{FieldValue}
 use Rattle.flat_ir.specs.Blocks.{HasLowParents}
 use Rattle.flat_ir.specs.Operands.{CanRun}
 use Rattle.transfer_header.specs.Registers.{FitsLayout}
+use Rattle.switch_ir.specs.declared.code.Table.{Table}
 use Rattle.switch_ir.specs.Code.{Step, Code}
 use Rattle.switch_ir.specs.Tables.{declared_at}
 
@@ -38,6 +39,7 @@ pub record CanBeRun (code : Code) : Type 0 where
   -- there is a register for each value of a layout
   pub up : FitsLayout code.up (replicate code.values 0)
   pub down : FitsLayout code.down (replicate code.values 0)
-  -- what is looked up is small, and starts as it was declared
+  -- what is looked up stands in order of declaration, is small, and starts as it was declared
+  pub rising : AllPairs (λ (a b : Table). a.number < b.number) code.tables
   pub tables : (o : ℕ) (d : ObjectDecl) → declared_at code.tables o ≡ Some d → IsSound d
   pub writeback : code.writeback ≤ 65536

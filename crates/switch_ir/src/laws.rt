@@ -1,13 +1,15 @@
-//! What holds of the code of every legally split program, as the definitions give it. This function does nothing: its
-//! contract is the law.
+//! What holds of the code of every legally split program, as the definitions give it. These functions do nothing: their
+//! contracts are the laws.
 ghost use Rattle.std.specs.Prelude.{ℕ, List};
 ghost use Rattle.flat_ir.specs.Program.{Program};
 ghost use Rattle.split_model.specs.declared.split.Part.{Part};
 ghost use Rattle.split_model.specs.Legal.{IsLegal};
-ghost use Rattle.switch_ir.specs.Emitted.{emitted, Computes};
+ghost use Rattle.switch_ir.specs.Code.{Code};
+ghost use Rattle.switch_ir.specs.Emitted.{emitted, Computes, IsEmitted};
+ghost use Rattle.switch_ir.specs.Sound.{CanBeRun};
 
 use split_model::a_pass_is_done_by_stages;
-use transfer_header::values_have_their_numbers;
+use transfer_header::{layouts_fit, values_have_their_numbers};
 
 /// The code of a legally split program computes what its parts on the switch are to compute, over any tables.
 pub fn what_is_emitted_computes_the_split()
@@ -16,4 +18,11 @@ pub fn what_is_emitted_computes_the_split()
 {
     a_pass_is_done_by_stages();
     values_have_their_numbers();
+}
+
+/// What a switch can rely on holds of the code of every legally split program.
+pub fn what_is_emitted_can_be_run()
+    ensures { (code : Code) → IsEmitted code → CanBeRun code }
+{
+    layouts_fit();
 }

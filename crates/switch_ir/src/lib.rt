@@ -15,5 +15,5 @@ mod tests;
 pub use code::{Pass, PassStep, Steps, SwitchCode, Table, Tables};
 pub use emitter::emit;
 pub use journal::{Entry, Journal};
-pub use laws::what_is_emitted_computes_the_split;
+pub use laws::{what_is_emitted_can_be_run, what_is_emitted_computes_the_split};
 pub use port::{CommandEnd, DownEnd, PortEnd, RowsEnd, SwitchPort, UpEnd};
