@@ -1,6 +1,5 @@
 -- A flat program and a legal split of it, as the world sees them.
-use Rattle.std.specs.Prelude.{◌≡◌, ◌≤◌, ℕ, List}
-use Rattle.packet_fields.specs.declared.packet.Packet.{Packet}
+use Rattle.std.specs.Prelude.{◌≤◌, ℕ, List}
 use Rattle.state_store.specs.Kept.{IsKept}
 use Rattle.state_store.specs.Store.{start_store}
 use Rattle.flat_ir.specs.Program.{Program}

@@ -9,19 +9,23 @@ ghost use Rattle.split_world.specs.Program.{IsSplitProgram};
 ghost use Rattle.split_world.specs.Tied.{HasFrames};
 ghost use Rattle.split_program.specs.Whole.{whole_of, IsSplit};
 
-use flat_ir::{a_run_is_its_changes, a_run_keeps_the_tables, a_run_keeps_widths};
+use flat_ir::a_run_keeps_widths;
 use server_runtime::a_served_packet_is_the_whole_run;
-use split_model::{kept_stores_have_tables, preprocessing_is_exact, what_preprocessing_reads_is_all};
+use split_model::{
+    kept_stores_have_tables, preprocessing_is_exact, replicated_objects_show,
+    what_preprocessing_reads_is_all,
+};
+use state_store::rows_change_alone;
 
 /// A legally split program has the laws that the world asks for, over any packets that can arrive.
 pub fn split_programs_have_their_laws()
     ensures { (f : Program) (split : List Part) (writeback : ℕ) (packets : List Packet)
         → IsSplit f split writeback → Each IsArrival packets → IsSplitProgram (whole_of f split writeback) packets }
 {
-    a_run_is_its_changes();
-    a_run_keeps_the_tables();
+    rows_change_alone();
     a_run_keeps_widths();
     kept_stores_have_tables();
+    replicated_objects_show();
     preprocessing_is_exact();
     what_preprocessing_reads_is_all();
 }

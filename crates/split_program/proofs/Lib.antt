@@ -1,0 +1,5 @@
+mod Follows
+mod Turns
+mod Runs
+mod Places
+mod Wholes
