@@ -1,4 +1,0 @@
-pub mod Progress
-pub mod World
-pub mod Run
-pub mod Serialises
