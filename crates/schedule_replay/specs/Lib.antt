@@ -1,0 +1,4 @@
+pub mod Setup
+pub mod Entries
+pub mod Drains
+pub mod Replayed
