@@ -2,7 +2,7 @@
 #![tactic(auto)]
 
 mod job;
-mod replay;
+mod perform;
 
 pub use job::{Job, ReplayError, Replayed};
-pub use replay::replay;
+pub use perform::replay;
