@@ -21,7 +21,7 @@ use Rattle.flat_ir.specs.Blocks.{Reading, is_live}
 use Rattle.flat_ir.specs.Run.{Change, Machine, do_step, bit, is_stored, made, change_of, with_changes, results, with_results, after}
 use Rattle.flat_ir.specs.Fits.{fits_keys, fits_values, can_put, can_del, widths_of, fits}
 use Rattle.flat_ir.specs.WellFormed.{IsWellFormed, IsWritten}
-use Rattle.flat_ir.specs.Writable.{IsFitting}
+use Rattle.flat_ir.specs.Writable.{IsWritable}
 use Rattle.flat_ir.specs.Laws.{AllFit, KeepsWidths}
 use Rattle.flat_ir.proofs.Parts.{left, right, not_true}
 use Rattle.flat_ir.proofs.Fitting.{same_list}
@@ -133,7 +133,6 @@ keeps_widths f st packet (suc n) well arrives kept le =
     let m = after f st packet n in
     turn_fits f packet (is_live f.blocks m.reads (step_at f n).block) n m well arrives le (keeps_widths f st packet n well arrives kept (omega (arith, le)))
 
--- what the output writes fits its fields
-pub writes_fit : (f : Program) (reads : Reading) → AllFit f reads → (ws : List FieldValue) → Each (IsWritten f) ws → Each (IsFitting reads) ws
-writes_fit f reads fit ws written =
-    each_weaker (IsWritten f) (IsFitting reads) (λ w is. (is.writable, subst (λ n. reads w.value < 2 ^ n) is.output.wide (fit w.value))) ws written
+-- what the output writes can be written
+pub writable : (f : Program) (ws : List FieldValue) → Each (IsWritten f) ws → Each IsWritable ws
+writable f ws written = each_weaker (IsWritten f) IsWritable (λ w is. is.writable) ws written

@@ -1,7 +1,9 @@
 //! What a flat program does to a packet.
-ghost use Rattle.std.specs.Prelude.{◌≡◌, ◌≤◌, ◌<◌, ◌%◌, ◌^◌, length, IfOk, OnOk, OnErr};
+ghost use Rattle.std.specs.Prelude.{◌≡◌, ◌≤◌, ◌<◌, ◌%◌, ◌^◌, length, IfOk, OnOk, OnErr, IsTrue};
 ghost use Rattle.std.specs.List.{AllByRecursion as Each};
+ghost use Rattle.packet_fields.specs.Fields.{with_field};
 ghost use Rattle.packet_fields.specs.Shape.{shape_of};
+ghost use Rattle.packet_fields.specs.Table.{row};
 ghost use Rattle.packet_fields.specs.declared.packet.TheConstants.{MAX_PACKET_BYTES};
 ghost use Rattle.state_store.specs.Kept.{IsKept};
 ghost use Rattle.flat_ir.specs.Program.{program_of};
@@ -9,15 +11,16 @@ ghost use Rattle.flat_ir.specs.Run.{after, flat_store, flat_verdict, sent, with_
 ghost use Rattle.flat_ir.specs.WellFormed.{IsWellFormed};
 ghost use Rattle.flat_ir.specs.Registers.{reads_of, packet_of};
 ghost use Rattle.flat_ir.specs.Turns.{StandAs, turn};
-ghost use Rattle.flat_ir.specs.Writable.{IsFitting};
+ghost use Rattle.flat_ir.specs.Writable.{IsWritable};
 
 use crate::blocks::is_live;
 use crate::program::{FieldValue, Flat, Out};
 use crate::reading::Numbers;
 use crate::registers::{Results, SoFar};
 use crate::work::{Arrival, compute};
+use gal_bits::Width;
 use gal_io::{Bytes, NoMemory};
-use packet_fields::{Shape, Verdict, set};
+use packet_fields::{Field, Shape, Verdict, set, width};
 use state_store::Store;
 use std::alloc::Global;
 
@@ -51,15 +54,39 @@ fn take_turns(f: &Flat, arrival: &Arrival<'_>, rows: &mut [Results], store: &mut
     }
 }
 
-/// Sets fields of a packet of this shape.
+// The lowest bits of a number, so many of them.
+fn low_bits(number: u64, width: Width) -> u64
+    ensures { result ≡ number % 2 ^ width }
+{
+    let bits = width.bits();
+    if bits < 64 {
+        number % (1 << bits)
+    } else {
+        number
+    }
+}
+
+// Sets a field of a packet of this shape to the lowest bits of a number.
+#[tactic(auto, using(crate::proofs::LowBits::low_is_set))]
+fn set_low(packet: &mut [u8], shape: &Shape, field: Field, number: u64)
+    requires size { length packet.old ≤ MAX_PACKET_BYTES }
+    requires shape { shape.now ≡ shape_of packet.old }
+    requires writable { IsTrue (row field).writable }
+    ensures after { packet.new ≡ with_field packet.old field number }
+    ensures same_shape { shape_of packet.new ≡ shape.now }
+{
+    set(packet, shape, field, low_bits(number, width(field)));
+}
+
+/// Sets fields of a packet of this shape, each to the lowest bits of its number.
 pub fn write_fields<R: Numbers>(fields: &[FieldValue], numbers: &R, shape: &Shape, bytes: &mut [u8])
-    requires fit { Each (IsFitting (R.reads numbers.now)) fields.now }
+    requires writable { Each IsWritable fields.now }
     requires size { length bytes.old ≤ MAX_PACKET_BYTES }
     requires shape { shape.now ≡ shape_of bytes.old }
     ensures { bytes.new ≡ with_writes fields.now (R.reads numbers.now) bytes.old }
 {
     for written in fields {
-        set(bytes, shape, written.field, numbers.number(written.value));
+        set_low(bytes, shape, written.field, numbers.number(written.value));
     }
 }
 
@@ -74,7 +101,7 @@ fn low_byte(value: u64) -> u8
 /// bytes.
 pub fn leave<R: Numbers>(out: &Out, arrival: &Arrival<'_>, numbers: &R, copy: Vec<u8>) -> Verdict
     requires copy { copy.items ≡ arrival.now.bytes.now }
-    requires fit { Each (IsFitting (R.reads numbers.now)) out.now.fields.items }
+    requires writable { Each IsWritable out.now.fields.items }
     requires size { length arrival.now.bytes.now ≤ MAX_PACKET_BYTES }
     requires shape { arrival.now.shape ≡ shape_of arrival.now.bytes.now }
     ensures { result ≡ sent out.now.send out.now.port out.now.fields.items (R.reads numbers.now) (packet_of arrival.now) }

@@ -1,13 +1,12 @@
 -- What a switch can rely on in its code.
-use Rattle.std.specs.Prelude.{◌≡◌, ◌<◌, ◌≤◌, ℕ, Some, length, replicate, IsTrue}
+use Rattle.std.specs.Prelude.{◌≡◌, ◌<◌, ◌≤◌, ℕ, Some, length, replicate}
 use Rattle.std.specs.List.{AllByRecursion as Each, AllPairs}
-use Rattle.packet_fields.specs.Table.{row}
 use Rattle.state_store.specs.declared.object.ObjectDecl.{ObjectDecl}
 use Rattle.state_store.specs.Kept.{IsKeptObject}
 use Rattle.state_store.specs.Store.{start_object}
-use Rattle.flat_ir.specs.declared.program.FieldValue.{FieldValue}
 use Rattle.flat_ir.specs.Blocks.{HasLowParents}
 use Rattle.flat_ir.specs.Operands.{CanRun}
+pub use Rattle.flat_ir.specs.Writable.{IsWritable}
 use Rattle.transfer_header.specs.Registers.{FitsLayout}
 use Rattle.switch_ir.specs.declared.code.Table.{Table}
 use Rattle.switch_ir.specs.Code.{Step, Code}
@@ -16,9 +15,6 @@ use Rattle.switch_ir.specs.Tables.{declared_at}
 -- the instruction can be computed from numbers and tables
 abbrev pub CanStep : Step → Type 0
 CanStep s = CanRun s.work
-
-abbrev pub IsWritable : FieldValue → Type 0
-IsWritable w = IsTrue (row w.field).writable
 
 -- an object starts with rows of its widths, and isn't large
 pub record IsSound (d : ObjectDecl) : Type 0 where
