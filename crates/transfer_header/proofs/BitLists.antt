@@ -241,3 +241,13 @@ is_packed bytes bits fill are are' short same =
     let fills : fill ≡ 8 * bytes_for (length bits) - length bits = omega arith in
     same_bytes bytes (packed bits) are (are_bytes-cut (bytes_for (length bits)) (filled bits) (are_bits-filled bits are') (length-filled bits))
     (same ∙ ap (λ x. bits ++ replicate x 0) fills ∙ sym (bits_in-packed bits are'))
+
+-- behind whole bytes
+pub packed_behind : (bytes bits : List ℕ) → AreBytes bytes → AreBits bits → packed (bits_in bytes ++ bits) ≡ bytes ++ packed bits
+packed_behind bytes bits are are' =
+    let fill : ℕ = 8 * bytes_for (length bits) - length bits in
+    sym (is_packed (bytes ++ packed bits) (bits_in bytes ++ bits) fill
+    (All-append (λ byte. byte < 256) bytes (packed bits) are (are_bytes-cut (bytes_for (length bits)) (filled bits) (are_bits-filled bits are') (length-filled bits)))
+    (All-append (λ bit. bit < 2) (bits_in bytes) bits (are_bits_in bytes) are')
+    (omega arith)
+    (bits_in-append bytes (packed bits) ∙ ap (λ x. bits_in bytes ++ x) (bits_in-packed bits are') ∙ sym (append_assoc (bits_in bytes) bits (replicate fill 0))))

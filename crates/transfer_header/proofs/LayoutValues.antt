@@ -1,15 +1,15 @@
 -- Laws of the values of a layout.
-use Rattle.std.proofs.Common.{◌≡◌, ◌≢◌, ℕ, zero, suc, ◌+◌, ◌^◌, ◌<◌, ◌≤◌, List, [], ◌∷◌, ◌++◌, get_or, set, length, take, drop, refl, sym, ap, ◌∙◌, subst, arith, length-append, length-take, get_or-take, append_assoc, get_or-set_same, get_or-set_other, length-set, mod-eq_of_lt}
+use Rattle.std.proofs.Common.{◌≡◌, ◌≢◌, ℕ, zero, suc, ◌+◌, ◌*◌, ◌^◌, ◌<◌, ◌≤◌, List, [], ◌∷◌, ◌++◌, get_or, set, length, take, drop, refl, sym, ap, ◌∙◌, subst, arith, length-append, length-take, get_or-take, append_assoc, get_or-set_same, get_or-set_other, length-set, mod-eq_of_lt}
 use Rattle.std.proofs.Math.Nat.{min-eq_left}
 use Rattle.std.proofs.Math.Seq.{take-add}
 use Rattle.std.proofs.lemmas.List.{append-nil, get_or_read, take_more, take_at, drop_at, take-append-drop}
 use Rattle.std.proofs.lemmas.List.Elements.{All-nil, All-cons, All-head, All-tail, All-append, All-more}
 use Rattle.std.specs.List.{All, AllPairs}
 use Rattle.split_model.specs.declared.layout.Crossing.{Crossing}
-use Rattle.transfer_header.specs.Bits.{bits_of, number_from, bits_in}
+use Rattle.transfer_header.specs.Bits.{bits_of, number_from, bits_in, bytes_for}
 use Rattle.transfer_header.specs.Values.{total, value_bits, AreNarrow, Agree}
 use Rattle.transfer_header.specs.Registers.{value_in, ChangesOnly}
-use Rattle.transfer_header.proofs.BitLists.{AreBits, are_bits_of, length-bits_of, number_from-bits_of}
+use Rattle.transfer_header.proofs.BitLists.{AreBits, are_bits_of, length-bits_of, length-bits_in, number_from-bits_of}
 
 -- ---- how many bits they have
 pub total-append : (layout others : List Crossing) → total (layout ++ others) ≡ total layout + total others
@@ -60,13 +60,15 @@ value_bits-more layout i c values within is =
     ap (λ x. value_bits x values) (take_more layout i c within) ∙ value_bits-push (take i layout) (get_or layout i c) values
     ∙ ap (λ (q : Crossing). value_bits (take i layout) values ++ bits_of q.width (values q)) (sym is)
 
--- one value more is packed
-pub more_packed : (layout : List Crossing) (registers before after : List ℕ) (i width number : ℕ) (c : Crossing) → i < length layout → c ≡ get_or layout i c → width ≡ c.width → number ≡ value_in registers c
-    → before ≡ value_bits (take i layout) (value_in registers) → after ≡ before ++ bits_of width number → after ≡ value_bits (take (i + 1) layout) (value_in registers)
-more_packed layout registers before after i width number c within is wide read so_far put =
-    put ∙ ap (λ x. x ++ bits_of width number) so_far ∙ ap (λ k. value_bits (take i layout) (value_in registers) ++ bits_of k number) wide
-    ∙ ap (λ n. value_bits (take i layout) (value_in registers) ++ bits_of c.width n) read
-    ∙ sym (value_bits-more layout i c (value_in registers) within is)
+-- one value more is packed, behind other bits
+pub more_packed : (layout : List Crossing) (registers front before after : List ℕ) (i width number : ℕ) (c : Crossing) → i < length layout → c ≡ get_or layout i c → width ≡ c.width → number ≡ value_in registers c
+    → before ≡ front ++ value_bits (take i layout) (value_in registers) → after ≡ before ++ bits_of width number → after ≡ front ++ value_bits (take (i + 1) layout) (value_in registers)
+more_packed layout registers front before after i width number c within is wide read so_far put =
+    let values : Crossing → ℕ = value_in registers in
+    put ∙ ap (λ x. x ++ bits_of width number) so_far ∙ ap (λ k. (front ++ value_bits (take i layout) values) ++ bits_of k number) wide
+    ∙ ap (λ n. (front ++ value_bits (take i layout) values) ++ bits_of c.width n) read
+    ∙ append_assoc front (value_bits (take i layout) values) (bits_of c.width (value_in registers c))
+    ∙ sym (ap (λ x. front ++ x) (value_bits-more layout i c values within is))
 
 pub value_bits-same : (layout : List Crossing) (values others : Crossing → ℕ) → Agree layout values others → value_bits layout values ≡ value_bits layout others
 value_bits-same [] values others agree = value_bits-nil values ∙ sym (value_bits-nil others)
@@ -170,3 +172,10 @@ one_changed layout before now i c number within is so_far = record {
         let early : k < i = omega (arith, length_first layout i (omega arith)) in
         subst (λ (q : Crossing). q.number ≢ n) (get_or-take (i + 1) layout k d (omega arith) ∙ sym (get_or-take i layout k d early))
         (apart k d (omega (arith, length_first layout (i + 1) (omega arith))))
+
+-- memory for the bytes of a layout's values has room for the bits of each, behind whole bytes
+pub value_has_room : (items layout : List Crossing) (values : Crossing → ℕ) (bytes bits : List ℕ) (i width capacity : ℕ) (c : Crossing) → items ≡ layout → i < length items → c ≡ get_or items i c → width ≡ c.width
+    → bits ≡ bits_in bytes ++ value_bits (take i items) values → length bytes + bytes_for (total layout) ≤ capacity → length bits + width ≤ 8 * capacity
+value_has_room items layout values bytes bits i width capacity c all within is same so_far enough =
+    let inside : total (take i items) + width ≤ total layout = value_within items layout i (total (take i items)) width c all within is same refl in
+    omega (arith, ap (λ (x : List ℕ). length x) so_far, length-append (bits_in bytes) (value_bits (take i items) values), length-bits_in bytes, length-value_bits (take i items) values, inside)

@@ -1,4 +1,5 @@
 pub mod BitLists
+pub mod ByPlace
 mod Examples
 pub mod LayoutValues
 pub mod Numbers

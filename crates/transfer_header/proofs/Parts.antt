@@ -7,8 +7,8 @@ use Rattle.std.proofs.lemmas.List.{append-nil, ext_get_or, take_all, drop-drop}
 use Rattle.std.proofs.lemmas.List.Elements.{All-append, All-push}
 use Rattle.std.proofs.lemmas.Nat.{pow-add, pow_pos, mod_below, one_shl, shl_whole, mul-add-lt}
 use Rattle.std.specs.Int.{bit_at}
-use Rattle.transfer_header.specs.Bits.{bits_of, number_from, bits_in, packed}
-use Rattle.transfer_header.proofs.BitLists.{AreBits, AreBytes, bits_of-zero, length-bits_of, are_bits_of, get_or-bits_of, bit_at-shr, bits_of-low, bits_of-add, bits_of-cat, bits_of_0, number_from-bits_of, length-bits_in, bits_in-nil, bits_in-push, get_or-bits_in, are_bits_in, is_packed}
+use Rattle.transfer_header.specs.Bits.{Written, bits_of, number_from, bits_in, packed}
+use Rattle.transfer_header.proofs.BitLists.{AreBits, AreBytes, bits_of-zero, length-bits_of, are_bits_of, get_or-bits_of, bit_at-shr, bits_of-low, bits_of-add, bits_of-cat, bits_of_0, number_from-bits_of, length-bits_in, bits_in-push, get_or-bits_in, are_bits_in, is_packed}
 
 -- ---- numbers side by side
 -- a number with so many bits of another behind it, as it is computed in 64 bits
@@ -28,8 +28,9 @@ pub record Shows (bytes : List ℕ) (count held : ℕ) (view : List ℕ) : Type 
   pub small : held < 2 ^ count
   pub are : AreBytes bytes
 
-pub shown : (bytes : List ℕ) (count held : ℕ) (view : List ℕ) → bits_in bytes ++ bits_of count held ≡ view → (count < 8) × (held < 2 ^ count) × AreBytes bytes → Shows bytes count held view
-shown bytes count held view is inv = record { is = is; short = inv.0; small = inv.1; are = inv.2 }
+pub shown : (bytes : List ℕ) (count held len room : ℕ) (view : Written) → record { bits = bits_in bytes ++ bits_of count held; capacity = room } ≡ view
+    → (count < 8) × (held < 2 ^ count) × AreBytes bytes × (8 * len + count ≤ 8 * room) → Shows bytes count held view.bits
+shown bytes count held len room view is inv = record { is = ap (λ (w : Written). w.bits) is; short = inv.0; small = inv.1; are = inv.2 }
 
 pub length-shown : (bytes : List ℕ) (count held : ℕ) (view : List ℕ) → Shows bytes count held view → length view ≡ 8 * length bytes + count
 length-shown bytes count held view s =
@@ -41,8 +42,12 @@ room_shown bytes count held view s = omega (arith, length-shown bytes count held
 pub are_shown : (bytes : List ℕ) (count held : ℕ) (view : List ℕ) → Shows bytes count held view → AreBits view
 are_shown bytes count held view s = subst AreBits s.is (All-append (λ bit. bit < 2) (bits_in bytes) (bits_of count held) (are_bits_in bytes) (are_bits_of count held))
 
-pub none_shown : (bytes : List ℕ) → bytes ≡ [] → bits_in bytes ++ bits_of 0 0 ≡ []
-none_shown bytes none = ap (λ x. bits_in bytes ++ x) (bits_of-zero 0) ∙ append-nil (bits_in bytes) ∙ ap bits_in none ∙ bits_in-nil
+pub none_held : (bytes : List ℕ) → bits_in bytes ++ bits_of 0 0 ≡ bits_in bytes
+none_held bytes = ap (λ x. bits_in bytes ++ x) (bits_of-zero 0) ∙ append-nil (bits_in bytes)
+
+-- memory for the bits is memory for the bytes
+pub has_room : (bytes : List ℕ) (count held width capacity : ℕ) (view : List ℕ) → Shows bytes count held view → length view + width ≤ 8 * capacity → 8 * length bytes + (count + width) ≤ 8 * capacity
+has_room bytes count held width capacity view s within = omega (arith, length-shown bytes count held view s)
 
 -- the bits of the part, as they are computed
 pub part_held : (count held width number : ℕ) → held < 2 ^ count → count + width ≤ 8
@@ -81,6 +86,10 @@ more_put before now after part left width number within all put =
     let whole : part + (left - part) ≡ left = omega arith in
     ap (λ x. x ++ bits_of (left - part) number) put ∙ append_assoc now (bits_of part (number / 2 ^ (left - part))) (bits_of (left - part) number)
     ∙ ap (λ x. now ++ x) (sym (bits_of-add part (left - part) number) ∙ ap (λ k. bits_of k number) whole) ∙ all
+
+pub as_many : (before now : List ℕ) (left width number : ℕ) → now ++ bits_of left number ≡ before ++ bits_of width number → length now + left ≡ length before + width
+as_many before now left width number all =
+    omega (arith, ap (λ (x : List ℕ). length x) all, length-append now (bits_of left number), length-append before (bits_of width number), length-bits_of left number, length-bits_of width number)
 
 pub all_put : (before now : List ℕ) (left width number : ℕ) → left ≤ 0 → now ++ bits_of left number ≡ before ++ bits_of width number → now ≡ before ++ bits_of width number
 all_put before now left width number none all =

@@ -96,6 +96,9 @@ fn goes_down(rt: HostRuntime) -> Result<(), Fail> {
     values.set(9, 17);
     let frame = pack_down(alloc, &layout, 0, 3, &values, &PACKET)?;
     assert_eq!(rt; frame.as_slice(), DOWN.as_slice());
+    let room = FrameRoom::new(alloc, &layout, PACKET.len())?;
+    let again = pack_down_in(room, &layout, 0, 3, &values, &PACKET);
+    assert_eq!(rt; again.as_slice(), DOWN.as_slice());
     Ok(())
 }
 
@@ -161,7 +164,8 @@ fn packets_have_a_most(rt: HostRuntime) -> Result<(), Fail> {
     Ok(())
 }
 
-// 13 bits, 1 bit and 64 bits, from 0x1555, 1 and 0x8000_0000_0000_0001, and 2 bits of filling.
+// 13 bits, 1 bit and 64 bits, from 0xf555, 3 and 0x8000_0000_0000_0001, and 2 bits of filling. The higher bits of the first
+// two are left out.
 #[test]
 fn values_have_no_gaps(rt: HostRuntime) -> Result<(), Fail> {
     let alloc = rt.alloc();
@@ -170,8 +174,8 @@ fn values_have_no_gaps(rt: HostRuntime) -> Result<(), Fail> {
     layout.push(result_of(1, Width::new(1).unwrap()))?;
     layout.push(result_of(2, Width::new(64).unwrap()))?;
     let mut values = Regs::new(alloc, 3)?;
-    values.set(0, 0x1555);
-    values.set(1, 1);
+    values.set(0, 0xf555);
+    values.set(1, 3);
     values.set(2, 0x8000_0000_0000_0001);
     let frame = pack_up(alloc, &layout, 0x0102_0304, 255, &values, &[0xee])?;
     let expected = [

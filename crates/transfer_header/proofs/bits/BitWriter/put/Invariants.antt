@@ -6,7 +6,8 @@ use Rattle.transfer_header.proofs.bits.BitWriter.put.Given as goal
 abbrev pub invariant-loop-left : goal.invariant-loop-left
 invariant-loop-left l = record {
   narrow : l.left ≤ 64;
-  all : l.self ++ bits_of l.left l.number ≡ l.fn.self ++ bits_of l.width l.number;
+  all : l.self.bits ++ bits_of l.left l.number ≡ l.fn.self.bits ++ bits_of l.width l.number;
+  capacity : l.self.capacity ≡ l.fn.self.capacity;
 }
 
 abbrev pub decreases-loop-left : goal.decreases-loop-left
