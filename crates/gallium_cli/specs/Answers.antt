@@ -1,10 +1,10 @@
 -- What a text on out says.
-use Rattle.std.specs.Prelude.{◌≡◌, ◌≤◌, ℕ, List, ◌++◌, length, Option, IfSome, Ok, Bool, true, IsTrue, codes, decimal}
+use Rattle.std.specs.Prelude.{◌≡◌, ◌≤◌, ℕ, List, ◌++◌, length, Option, Some, IfSome, IsSome, Ok, Bool, true, false, IsTrue, codes, decimal}
 use Rattle.packet_fields.specs.declared.packet.Packet.{Packet}
 use Rattle.state_store.specs.Store.{start_store}
 use Rattle.element_lang.specs.Tree.{Tree}
 use Rattle.element_lang.specs.Accepted.{IsSource}
-use Rattle.element_lang.specs.Meaning.{serial_store, serial_verdicts}
+use Rattle.element_lang.specs.Meaning.{serial_store, serial_verdicts, source_store, source_verdict}
 use Rattle.flat_ir.specs.Program.{Program}
 use Rattle.flat_ir.specs.Listing.{listing}
 use Rattle.flatten.specs.Flatten.{flat_of}
@@ -17,16 +17,24 @@ use Rattle.resource_limits.specs.declared.limits.Limits.{Limits}
 use Rattle.resource_limits.specs.Counts.{counts_of}
 use Rattle.resource_limits.specs.Kept.{KeepsLimits}
 use Rattle.partition.specs.Choice.{IsChosen}
-use Rattle.run_text.specs.declared.event.Event.{Event}
+use Rattle.run_text.specs.declared.schedule.Plan.{Plan}
 use Rattle.run_text.specs.declared.run.Run.{Run as RunTold}
 use Rattle.run_text.specs.Trace.{trace_of, schedule_of}
 use Rattle.run_text.specs.Report.{report_of}
 use Rattle.run_text.specs.Parts.{parts_of}
 use Rattle.run_text.specs.Answer.{answer_of}
-use Rattle.schedule_replay.specs.World.{first_world, steps}
-use Rattle.schedule_replay.specs.Run.{is_quiet, job_run}
-use Rattle.schedule_replay.specs.Serialises.{Serialises, AllReleased, IsDrained}
-use Rattle.gallium_cli.specs.Words.{Request, Run, Compile, Replay}
+use Rattle.split_model.specs.Greatest.{IsGreatestSplit}
+use Rattle.split_world.specs.Meaning.{Meaning}
+use Rattle.split_world.specs.Run.{is_quiet}
+use Rattle.split_world.specs.Drain.{plan_run, plan_world}
+use Rattle.split_world.specs.Serialises.{Serialises, AllReleased, IsDrained}
+use Rattle.split_program.specs.Whole.{whole_of}
+use Rattle.switch_ir.specs.Port.{PortState}
+use Rattle.switch_ir.specs.Tables.{Told}
+use Rattle.told_switch.specs.Through.{HasTables}
+use Rattle.schedule_replay.specs.declared.job.Replayed.{Replayed}
+use Rattle.schedule_replay.specs.Replayed.{IsReplayed}
+use Rattle.gallium_cli.specs.Words.{Request, Run, Compile, Replay, ReplayWithin}
 use Rattle.gallium_cli.specs.Lines.{line_end}
 use Rattle.gallium_cli.specs.Roles.{source, program, limits, trace, schedule, size_of, AreLimits}
 
@@ -35,22 +43,28 @@ pub record IsInput (told : List ℕ → Option (List ℕ)) (s t : List ℕ) (m :
   pub source : IfSome (told s) (λ text. (length text ≤ size_of source) × IsSource text m)
   pub trace : IfSome (told t) (λ text. (length text ≤ size_of trace) × (trace_of text ≡ Ok packets))
 
--- and these events
-pub record IsJob (told : List ℕ → Option (List ℕ)) (s t c : List ℕ)
-    (m : Tree) (packets : List Packet) (events : List Event) : Type 0 where
-  pub input : IsInput told s t m packets
-  pub schedule : IfSome (told c) (λ text. (length text ≤ size_of schedule) × (schedule_of text ≡ Ok events))
-
 -- the text is a source of this middlebox, and of no other
 pub record IsOnlySource (text : List ℕ) (m : Tree) : Type 0 where
   pub source : IsSource text m
   pub only : (other : Tree) → IsSource text other → other ≡ m
 
--- the told contents spell this middlebox, whose flat program is within bounds, and these limits
-pub record IsPlan (told : List ℕ → Option (List ℕ)) (s l : List ℕ) (m : Tree) (allowed : Limits) : Type 0 where
+-- the told content spells this middlebox, whose flat program is within bounds
+pub record IsProgram (told : List ℕ → Option (List ℕ)) (s : List ℕ) (m : Tree) : Type 0 where
   pub source : IfSome (told s) (λ text. (length text ≤ size_of program) × IsOnlySource text m)
-  pub limits : IfSome (told l) (λ text. (length text ≤ size_of limits) × AreLimits text allowed)
   pub bounded : IsBounded (flat_of m)
+
+-- and these limits
+pub record IsPlan (told : List ℕ → Option (List ℕ)) (s l : List ℕ) (m : Tree) (allowed : Limits) : Type 0 where
+  pub program : IsProgram told s m
+  pub limits : IfSome (told l) (λ text. (length text ≤ size_of limits) × AreLimits text allowed)
+
+-- the told contents spell these packets, and this plan of events
+pub record IsTraffic (told : List ℕ → Option (List ℕ)) (t c : List ℕ) (packets : List Packet) (plan : Plan)
+    : Type 0 where
+  pub trace : IfSome (told t) (λ text. (length text ≤ size_of trace) × (trace_of text ≡ Ok packets))
+  pub schedule : IfSome (told c) (λ text. (length text ≤ size_of schedule) × (schedule_of text ≡ Ok plan))
+
+-- ## Runs alone
 
 -- what a middlebox does to packets that come one after the other, from the store that runs start with: the verdicts,
 -- and what is left
@@ -59,19 +73,7 @@ serial_answer m packets =
     let start = start_store m.objects in
     answer_of m.objects (serial_verdicts m start packets) (parts_of m.objects (serial_store m start packets))
 
--- The run of these packets by these events is a serial run of the source.
-pub record IsSerialRun (m : Tree) (packets : List Packet) (events : List Event) (run : RunTold) : Type 0 where
-  pub serialises : Serialises m packets run
-  -- where the events leave nothing on its way, every admitted packet was released with its verdict
-  pub quiet : IsTrue (is_quiet (steps m packets (first_world (start_store m.objects)) events))
-      → AllReleased m packets run
-  -- and where the run says `drained`, every packet of the trace was
-  pub drained : run.drained ≡ true → IsDrained m packets run
-
--- A text that reports the run of these packets by these events, and that very run is a serial run of the source.
-pub record IsReport (text : List ℕ) (m : Tree) (packets : List Packet) (events : List Event) : Type 0 where
-  pub reported : text ≡ report_of m.objects (job_run m packets events)
-  pub serial : IsSerialRun m packets events (job_run m packets events)
+-- ## Splits
 
 -- how many instructions a program has, and in these words what its split takes
 abbrev pub heading_text : ℕ → List ℕ → List ℕ
@@ -82,22 +84,72 @@ abbrev pub compiled_text : Program → List Part → ℕ → List ℕ
 compiled_text f split writeback =
     heading_text (length f.code) (counts_text (counts_of f split writeback)) ++ (listing f ++ split_text split)
 
--- A text that tells a split of this program, and that very split is the one that is chosen for these limits.
-pub record IsCompilation (text : List ℕ) (f : Program) (allowed : Limits) (shrink : Bool) : Type 0 where
-  pub split : List Part
-  pub printed : text ≡ compiled_text f split allowed.writeback
+-- the split is the one that is chosen for these limits; it is legal and keeps them
+pub record IsChoice (f : Program) (allowed : Limits) (shrink : Bool) (split : List Part) : Type 0 where
   pub chosen : IsChosen f allowed shrink split
   pub legal : IsLegal f split
   pub keeps : KeepsLimits f split allowed
 
+-- the split leaves everything to the server; it is legal
+pub record IsNoChoice (f : Program) (split : List Part) : Type 0 where
+  pub least : IsGreatestSplit f 0 false split
+  pub legal : IsLegal f split
+
+-- A text that tells a split of this program, and that very split is the one that is chosen for these limits.
+pub record IsCompilation (text : List ℕ) (f : Program) (allowed : Limits) (shrink : Bool) : Type 0 where
+  pub split : List Part
+  pub printed : text ≡ compiled_text f split allowed.writeback
+  pub choice : IsChoice f allowed shrink split
+
+-- ## Replays
+
+-- what the source does to whole packets
+abbrev pub source_of : Tree → Meaning
+source_of m = record { objects = m.objects; after = source_store m; verdict = source_verdict m }
+
+-- The run of a split middlebox over these packets by this plan, which a switch is left after that tells its tables, is a
+-- serial run of the source.
+pub record IsSerialRun (m : Tree) (split : List Part) (writeback : ℕ) (packets : List Packet) (plan : Plan)
+    (port : PortState) (run : RunTold) : Type 0 where
+  -- it is the run of the world
+  pub run_is : run ≡ plan_run (whole_of (flat_of m) split writeback) packets plan.events plan.drain
+  -- what it releases, and what it leaves, is what the source does to the decided packets in the reported order
+  pub serialises : Serialises (source_of m) packets run
+  -- where nothing is left on its way, every admitted packet was released with its verdict, and the switch has the
+  -- server's tables
+  pub quiet : IsTrue (is_quiet (plan_world (whole_of (flat_of m) split writeback) packets plan.events plan.drain))
+      → AllReleased (source_of m) packets run
+  pub tables : IsTrue (is_quiet (plan_world (whole_of (flat_of m) split writeback) packets plan.events plan.drain))
+      → (told : Told) × (port.told ≡ Some told)
+      × HasTables (flat_of m) split writeback
+      (plan_world (whole_of (flat_of m) split writeback) packets plan.events plan.drain).store told
+  -- and where it says `drained`, every packet of the trace was
+  pub drained : run.drained ≡ true → IsDrained (source_of m) packets run
+
+-- A text that reports the replay of a split middlebox over a switch. Whatever the switch answers, the report is what its
+-- calls make of the schedule; where it tells its tables, that very run is a serial run of the source.
+pub record IsReport (text : List ℕ) (m : Tree) (split : List Part) (writeback : ℕ) (packets : List Packet) (plan : Plan)
+    (port port_after : PortState) : Type 0 where
+  pub replayed : Replayed
+  pub printed : text ≡ report_of m.objects replayed.run
+  pub answered : IsReplayed (flat_of m) split writeback packets plan.events plan.drain port_after replayed
+  pub serial : IsSome port.told → IsSerialRun m split writeback packets plan port_after replayed.run
+
+-- ## Answers
+
 -- A text that answers a request: for some middlebox, packets and events that the files spell, what the source does to
--- the packets one after the other, or the report of the run of that job; or for some middlebox and limits that they
--- spell, the split that is chosen.
-abbrev pub IsAnswer : List ℕ → Request → (List ℕ → Option (List ℕ)) → Type 0
-IsAnswer text (Run s t) told =
+-- the packets one after the other; or for some middlebox and limits, the split that is chosen; or the report of the
+-- replay of a middlebox by that split, or with every packet sent to the server.
+abbrev pub IsAnswer : List ℕ → Request → (List ℕ → Option (List ℕ)) → PortState → PortState → Type 0
+IsAnswer text (Run s t) told port port_after =
     (m : Tree) × (packets : List Packet) × IsInput told s t m packets × (text ≡ serial_answer m packets)
-IsAnswer text (Compile s l shrink) told =
+IsAnswer text (Compile s l shrink) told port port_after =
     (m : Tree) × (allowed : Limits) × IsPlan told s l m allowed × IsCompilation text (flat_of m) allowed shrink
-IsAnswer text (Replay s t c) told =
-    (m : Tree) × (packets : List Packet) × (events : List Event)
-    × IsJob told s t c m packets events × IsReport text m packets events
+IsAnswer text (Replay s t c) told port port_after =
+    (m : Tree) × (packets : List Packet) × (plan : Plan) × (split : List Part)
+    × IsProgram told s m × IsTraffic told t c packets plan × IsNoChoice (flat_of m) split
+    × IsReport text m split 0 packets plan port port_after
+IsAnswer text (ReplayWithin s t c l shrink) told port port_after =
+    (m : Tree) × (allowed : Limits) × (packets : List Packet) × (plan : Plan) × (split : List Part)
+    × IsPlan told s l m allowed × IsTraffic told t c packets plan × IsChoice (flat_of m) allowed shrink split
+    × IsReport text m split allowed.writeback packets plan port port_after

@@ -1,5 +1,5 @@
 -- How a call ends: why each refusal comes, and what it leaves on out and err.
-use Rattle.std.specs.Prelude.{◌≡◌, ◌≤◌, ◌⊎◌, ℕ, Bool, false, List, [], ◌∷◌, length, take, Option, Some, None, IfSome}
+use Rattle.std.specs.Prelude.{◌≡◌, ◌≤◌, ◌⊎◌, ℕ, Bool, true, false, List, [], ◌∷◌, length, take, Option, Some, None, IfSome}
 use Rattle.std.specs.Option.{option_map}
 use Rattle.std.specs.Io.KnownBytes.{append_known}
 use Rattle.gal_io.specs.Count.{Rose}
@@ -12,34 +12,22 @@ use Rattle.flatten.specs.Flatten.{flat_of}
 use Rattle.resource_limits.specs.declared.limits.Limits.{Limits}
 use Rattle.resource_limits.specs.declared.exceeding.Over.{Over}
 use Rattle.flat_ir.specs.Program.{Program}
-use Rattle.partition.specs.Choice.{IsRefused}
+use Rattle.partition.specs.Choice.{IsChosen, IsRefused}
+use Rattle.split_model.specs.declared.split.Part.{Part}
+use Rattle.switch_ir.specs.Port.{PortState}
 use Rattle.gal_io.specs.declared.sink.SinkEnd.{SinkEnd}
 use Rattle.gal_io.specs.declared.sink.SinkEnd.TheVariants as ends
 use Rattle.gallium_cli.specs.declared.status.Status.{Status}
 use Rattle.gallium_cli.specs.declared.status.Status.TheVariants as statuses
 use Rattle.gallium_cli.specs.declared.refusal.Excess.{Excess}
 use Rattle.gallium_cli.specs.declared.refusal.Refusal.{Refusal}
-use Rattle.gallium_cli.specs.declared.refusal.Refusal.TheVariants.{Usage, Exceeded, WriteFault, NoMemory}
-use Rattle.gallium_cli.specs.Call.{Call}
-use Rattle.gallium_cli.specs.Words.{Request, Compile, request_of}
+use Rattle.gallium_cli.specs.declared.refusal.Refusal.TheVariants.{Usage, Exceeded, WriteFault, SwitchFault, NoMemory}
+use Rattle.gallium_cli.specs.Call.{Call, Work}
+use Rattle.gallium_cli.specs.Words.{Request, is_replay, request_of}
 use Rattle.gallium_cli.specs.Lines.{status_of, line_of}
-use Rattle.gallium_cli.specs.Roles.{Role, IsGood, files_of}
+use Rattle.gallium_cli.specs.Roles.{Gate, File, Choice, IsGood, gates_of, names_of}
 use Rattle.gallium_cli.specs.Answers.{IsPlan, IsAnswer}
 use Rattle.gallium_cli.specs.Loads.{IsFileRefused, raised_by}
-
--- the files before one are good, and that one is refused
-abbrev pub IsFirstRefused : Refusal → List (List ℕ × Role) → FilesState → FilesState → Type 0
-IsFirstRefused refusal [] f f' = ⊥
-IsFirstRefused refusal (file ∷ files) f f' =
-    IsFileRefused refusal file.1 file.0 f f'
-    ⊎ (IfSome (f.told file.0) (IsGood file.1) × IsFirstRefused refusal files f f')
-
--- the answer to a request was taken whole by out, and there was one read for each of its files
-abbrev pub IsDone : Option Request → FilesState → FilesState → SinkState → SinkState → Type 0
-IsDone None f f' o o' = ⊥
-IsDone (Some request) f f' o o' =
-    (text : List ℕ) × IsAnswer text request f.told × (o'.taken ≡ append_known o.taken text)
-    × (f'.reads ≡ raised_by (length (files_of request)) f.reads)
 
 -- what is told of a limit that is exceeded
 abbrev pub excess_of : List ObjectDecl → Over → Excess
@@ -57,30 +45,83 @@ IsUnchosen (Exceeded excess) f allowed shrink =
 IsUnchosen NoMemory f allowed shrink = Unit {0}
 IsUnchosen _ f allowed shrink = ⊥
 
--- a split is asked for that may not shrink, and exceeds this limit first
-abbrev pub IsOverLimit : Refusal → Request → (List ℕ → Option (List ℕ)) → Type 0
-IsOverLimit (Exceeded excess) (Compile s l false) told =
-    (m : Tree) × (allowed : Limits) × IsPlan told s l m allowed × IsUnchosen (Exceeded excess) (flat_of m) allowed false
-IsOverLimit _ request told = ⊥
+-- the split that is asked for isn't chosen
+abbrev pub IsOverLimit : Refusal → List ℕ → List ℕ → Bool → (List ℕ → Option (List ℕ)) → Type 0
+IsOverLimit refusal s l shrink told =
+    (m : Tree) × (allowed : Limits) × IsPlan told s l m allowed × IsUnchosen refusal (flat_of m) allowed shrink
+
+-- ## The first gate that isn't passed
+
+-- why a request goes no further: a file is refused, or no split is chosen
+abbrev pub IsRefusedAt : Refusal → Gate → FilesState → FilesState → Type 0
+IsRefusedAt refusal (File name role) f f' = IsFileRefused refusal role name f f'
+IsRefusedAt refusal (Choice s l shrink) f f' = IsOverLimit refusal s l shrink f.told
+
+-- a file is good, where it is told, and a split is chosen
+abbrev pub IsPassed : Gate → FilesState → Type 0
+IsPassed (File name role) f = IfSome (f.told name) (IsGood role)
+IsPassed (Choice s l shrink) f =
+    (m : Tree) × (allowed : Limits) × (split : List Part)
+    × IsPlan f.told s l m allowed × IsChosen (flat_of m) allowed shrink split
+
+-- the gates before one are passed, and that one isn't
+abbrev pub IsFirstRefused : Refusal → List Gate → FilesState → FilesState → Type 0
+IsFirstRefused refusal [] f f' = ⊥
+IsFirstRefused refusal (gate ∷ gates) f f' =
+    IsRefusedAt refusal gate f f' ⊎ (IsPassed gate f × IsFirstRefused refusal gates f f')
+
+-- ## How a request ends
+
+-- there was at most one read for each file of a request, or just one
+abbrev pub most_reads : Request → FilesState → ℕ
+most_reads request f = raised_by (length (names_of request)) f.reads
+
+-- only a replay calls the switch
+abbrev pub IsSwitchKept : Bool → PortState → PortState → Type 0
+IsSwitchKept true port port_after = Unit {0}
+IsSwitchKept false port port_after = port_after ≡ port
+
+-- the answer to a request was taken whole by out, and there was one read for each of its files
+abbrev pub IsDone : Option Request → Work → Type 0
+IsDone None work = ⊥
+IsDone (Some request) work =
+    (text : List ℕ) × IsAnswer text request work.files.told work.port work.port_after
+    × (work.out_after.taken ≡ append_known work.out.taken text)
+    × (work.files_after.reads ≡ most_reads request work.files)
+    × IsSwitchKept (is_replay request) work.port work.port_after
+
+-- the switch failed in a replay, and its count of faults rose
+abbrev pub IsSwitchFaulty : Refusal → Request → PortState → PortState → Type 0
+IsSwitchFaulty SwitchFault request port port_after =
+    (is_replay request ≡ true) × Rose port.faults port_after.faults
+IsSwitchFaulty _ request port port_after = ⊥
 
 -- Why an answer wasn't written: only some first bytes were taken, and the count of faults of out rose, or no memory was
 -- found and nothing was taken.
-abbrev pub IsNotWritten : Refusal → Request → FilesState → SinkState → SinkState → Type 0
-IsNotWritten WriteFault request f o o' =
-    Rose o.faults o'.faults
-    × (text : List ℕ) × IsAnswer text request f.told × (n : ℕ) × (o'.taken ≡ append_known o.taken (take n text))
-IsNotWritten NoMemory request f o o' = o'.taken ≡ o.taken
-IsNotWritten _ request f o o' = ⊥
+abbrev pub IsNotWritten : Refusal → Request → Work → Type 0
+IsNotWritten WriteFault request work =
+    Rose work.out.faults work.out_after.faults
+    × (text : List ℕ) × IsAnswer text request work.files.told work.port work.port_after
+    × (n : ℕ) × (work.out_after.taken ≡ append_known work.out.taken (take n text))
+IsNotWritten NoMemory request work = work.out_after.taken ≡ work.out.taken
+IsNotWritten _ request work = ⊥
 
--- Why a request is refused: by its words, and then no file was read; by a file; by a limit; or since its answer wasn't
--- written. Where words, a file or a limit are to blame, out is as it was, its count too. There was at most one read for each file.
-abbrev pub HasCause : Refusal → Option Request → FilesState → FilesState → SinkState → SinkState → Type 0
-HasCause refusal None f f' o o' = (refusal ≡ Usage) × (f' ≡ f) × (o' ≡ o)
-HasCause refusal (Some request) f f' o o' =
-    ((IsFirstRefused refusal (files_of request) f f' × (o' ≡ o))
-    ⊎ (IsOverLimit refusal request f.told × (o' ≡ o))
-    ⊎ IsNotWritten refusal request f o o')
-    × (f'.reads ≤ raised_by (length (files_of request)) f.reads)
+-- what is as it was: out, its count too, and the switch
+pub record IsIdle (work : Work) : Type 0 where
+  pub out : work.out_after ≡ work.out
+  pub port : work.port_after ≡ work.port
+
+-- Why a request is refused: by its words, and then no file was read; by a file or a limit; since the switch failed; or
+-- since its answer wasn't written. Where words, a file or a limit are to blame, out and the switch are as they were. There
+-- was at most one read for each file.
+abbrev pub HasCause : Refusal → Option Request → Work → Type 0
+HasCause refusal None work = (refusal ≡ Usage) × (work.files_after ≡ work.files) × IsIdle work
+HasCause refusal (Some request) work =
+    ((IsFirstRefused refusal (gates_of request) work.files work.files_after × IsIdle work)
+    ⊎ (IsSwitchFaulty refusal request work.port work.port_after × (work.out_after ≡ work.out))
+    ⊎ IsNotWritten refusal request work)
+    × (work.files_after.reads ≤ most_reads request work.files)
+    × IsSwitchKept (is_replay request) work.port work.port_after
 
 -- the status that is answered where the line of a refusal ends so
 abbrev pub after_line : Refusal → SinkEnd → Status
@@ -96,12 +137,8 @@ IsTold refusal status e e' = (end : SinkEnd) × (status ≡ after_line refusal e
 -- line goes to err.
 abbrev pub EndsFor : Option Request → Status → Call → Type 0
 EndsFor request status call =
-    ((status ≡ statuses.Done)
-    × IsDone request call.files call.files_after call.out call.out_after
-    × (call.err_after ≡ call.err))
-    ⊎ ((refusal : Refusal)
-    × HasCause refusal request call.files call.files_after call.out call.out_after
-    × IsTold refusal status call.err call.err_after)
+    ((status ≡ statuses.Done) × IsDone request call.work × (call.err_after ≡ call.err))
+    ⊎ ((refusal : Refusal) × HasCause refusal request call.work × IsTold refusal status call.err call.err_after)
 
 -- how a whole call ends
 abbrev pub Ends : Status → Call → Type 0

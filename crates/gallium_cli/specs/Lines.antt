@@ -8,12 +8,16 @@ use Rattle.resource_limits.specs.Limits.{name_of}
 use Rattle.resource_limits.specs.Kept.{limit_name}
 use Rattle.resource_limits.specs.declared.limits.LimitsError.{LimitsError}
 use Rattle.resource_limits.specs.declared.limits.LimitsError.TheVariants as faults
+use Rattle.run_text.specs.declared.refusal.LineKind.{LineKind}
+use Rattle.run_text.specs.declared.refusal.LineKind.TheVariants as kinds
+use Rattle.run_text.specs.declared.refusal.LinesError.{LinesError}
+use Rattle.run_text.specs.declared.refusal.LinesError.TheVariants as lines
 use Rattle.gallium_cli.specs.declared.status.Status.{Status}
 use Rattle.gallium_cli.specs.declared.status.Status.TheVariants as statuses
 use Rattle.gallium_cli.specs.declared.refusal.Excess.{Excess}
 use Rattle.gallium_cli.specs.declared.refusal.Refusal.{Refusal}
 use Rattle.gallium_cli.specs.declared.refusal.Refusal.TheVariants.{Usage, Source, LongProgram, Limits, Exceeded, Trace, Schedule}
-use Rattle.gallium_cli.specs.declared.refusal.Refusal.TheVariants.{TooLong, ReadFault, WriteFault, NoMemory}
+use Rattle.gallium_cli.specs.declared.refusal.Refusal.TheVariants.{TooLong, ReadFault, WriteFault, SwitchFault, NoMemory}
 
 abbrev pub line_end : List ℕ
 line_end = 10 ∷ []
@@ -56,17 +60,35 @@ excess_line e =
     codes "limit "
     ++ (limit_name e.limit ++ (owner_text e.object ++ (codes ": have " ++ (decimal e.have ++ (codes ", allowed " ++ (decimal e.allowed ++ line_end))))))
 
+-- what is wrong with a line
+abbrev pub kind_text : LineKind → List ℕ
+kind_text kinds.Form = codes "form"
+kind_text kinds.Number = codes "number"
+kind_text kinds.Hex = codes "hex"
+kind_text kinds.Long = codes "long"
+kind_text kinds.AfterDrain = codes "after-drain"
+
+-- the line of a text of lines that is refused: of which kind of file, and what there may be too many of
+abbrev pub lines_line : List ℕ → List ℕ → LinesError → List ℕ
+lines_line file values (lines.Line number kind) =
+    file ++ (codes ": line " ++ (decimal number ++ (codes " " ++ (kind_text kind ++ line_end))))
+lines_line file values (lines.TooMany have allowed) =
+    file
+    ++ (codes ": " ++ (values ++ (codes " have " ++ (decimal have ++ (codes ", allowed " ++ (decimal allowed ++ line_end))))))
+lines_line file values lines.NoMemory = codes "no memory" ++ line_end
+
 abbrev pub status_of : Refusal → Status
 status_of Usage = statuses.Usage
 status_of (Source fault) = statuses.Source
 status_of LongProgram = statuses.Source
 status_of (Limits fault) = statuses.Limits
 status_of (Exceeded excess) = statuses.Exceeded
-status_of Trace = statuses.Trace
-status_of Schedule = statuses.Schedule
+status_of (Trace fault) = statuses.Trace
+status_of (Schedule fault) = statuses.Schedule
 status_of (TooLong name) = statuses.TooLong
 status_of (ReadFault name) = statuses.ReadFault
 status_of WriteFault = statuses.WriteFault
+status_of SwitchFault = statuses.SwitchFault
 status_of NoMemory = statuses.NoMemory
 
 abbrev pub line_of : Refusal → List ℕ
@@ -75,9 +97,10 @@ line_of (Source fault) = source_line fault
 line_of LongProgram = codes "source: more than 4096 instructions" ++ line_end
 line_of (Limits fault) = limits_line fault
 line_of (Exceeded excess) = excess_line excess
-line_of Trace = codes "trace: refused" ++ line_end
-line_of Schedule = codes "schedule: refused" ++ line_end
+line_of (Trace fault) = lines_line (codes "trace") (codes "packets") fault
+line_of (Schedule fault) = lines_line (codes "schedule") (codes "events") fault
 line_of (TooLong name) = codes "too long: " ++ (name.now ++ line_end)
 line_of (ReadFault name) = codes "read fault: " ++ (name.now ++ line_end)
 line_of WriteFault = codes "write fault" ++ line_end
+line_of SwitchFault = codes "switch fault" ++ line_end
 line_of NoMemory = codes "no memory" ++ line_end

@@ -1,5 +1,5 @@
 -- How one file is loaded.
-use Rattle.std.specs.Prelude.{◌≡◌, ◌≤◌, ◌<◌, ◌≢◌, ◌+◌, ◌-◌, ◌^◌, ℕ, min, List, length, Some, IfSome}
+use Rattle.std.specs.Prelude.{◌≡◌, ◌≤◌, ◌<◌, ◌≢◌, ◌+◌, ◌-◌, ◌^◌, ℕ, min, List, length, Some, Err, IfSome}
 use Rattle.gal_io.specs.Count.{Rose}
 use Rattle.gal_io.specs.Files.{FilesState}
 use Rattle.resource_limits.specs.Limits as texts
@@ -8,6 +8,9 @@ use Rattle.resource_limits.specs.declared.limits.LimitsError.TheVariants as faul
 use Rattle.element_text.specs.Refused.{IsRefused}
 use Rattle.element_text.specs.declared.error.TextError.{TextError}
 use Rattle.element_text.specs.declared.error.TextError.TheVariants as errors
+use Rattle.run_text.specs.Trace.{trace_of, schedule_of}
+use Rattle.run_text.specs.declared.refusal.LinesError.{LinesError}
+use Rattle.run_text.specs.declared.refusal.LinesError.TheVariants as lines
 use Rattle.gallium_cli.specs.declared.refusal.Refusal.{Refusal}
 use Rattle.gallium_cli.specs.declared.refusal.Refusal.TheVariants.{Source, LongProgram, Limits, Trace, Schedule}
 use Rattle.gallium_cli.specs.declared.refusal.Refusal.TheVariants.{TooLong, ReadFault, NoMemory}
@@ -31,14 +34,21 @@ IsLongProgram text = IsGood source text × ¬ (IsSpelled program text)
 abbrev pub AreBadLimits : LimitsError → List ℕ → Type 0
 AreBadLimits fault text = (length text ≤ size_of limits) × (texts.refusal_of text ≡ Some fault)
 
--- Why a text isn't read. Refused sources and limits have a cause that isn't want of memory.
+-- it is a bad trace, or a bad schedule, for this fault
+abbrev pub IsBadTrace : LinesError → List ℕ → Type 0
+IsBadTrace fault text = (length text ≤ size_of trace) × (trace_of text ≡ Err fault)
+
+abbrev pub IsBadSchedule : LinesError → List ℕ → Type 0
+IsBadSchedule fault text = (length text ≤ size_of schedule) × (schedule_of text ≡ Err fault)
+
+-- Why a text isn't read. What is refused for what it holds has a cause that isn't want of memory.
 abbrev pub IsUnread : Refusal → Role → List ℕ → Type 0
 IsUnread (Source fault) source text = (fault ≢ errors.NoMemory) × ¬ (IsSpelled source text) × IsOnlyCause fault text
 IsUnread (Source fault) program text = (fault ≢ errors.NoMemory) × ¬ (IsSpelled source text) × IsOnlyCause fault text
 IsUnread LongProgram program text = IsSpelled source text × ¬ (IsSpelled program text)
 IsUnread (Limits fault) limits text = (fault ≢ faults.NoMemory) × (texts.refusal_of text ≡ Some fault)
-IsUnread Trace trace text = ¬ (IsSpelled trace text)
-IsUnread Schedule schedule text = ¬ (IsSpelled schedule text)
+IsUnread (Trace fault) trace text = (fault ≢ lines.NoMemory) × (trace_of text ≡ Err fault)
+IsUnread (Schedule fault) schedule text = (fault ≢ lines.NoMemory) × (schedule_of text ≡ Err fault)
 IsUnread NoMemory role text = Unit {0}
 IsUnread _ role text = ⊥
 
@@ -48,8 +58,9 @@ IsFileRefused (Source fault) source name f f' = (fault ≢ errors.NoMemory) × I
 IsFileRefused (Source fault) program name f f' = (fault ≢ errors.NoMemory) × IfSome (f.told name) (IsBadSource fault)
 IsFileRefused LongProgram program name f f' = IfSome (f.told name) IsLongProgram
 IsFileRefused (Limits fault) limits name f f' = (fault ≢ faults.NoMemory) × IfSome (f.told name) (AreBadLimits fault)
-IsFileRefused Trace trace name f f' = IfSome (f.told name) (IsBad trace)
-IsFileRefused Schedule schedule name f f' = IfSome (f.told name) (IsBad schedule)
+IsFileRefused (Trace fault) trace name f f' = (fault ≢ lines.NoMemory) × IfSome (f.told name) (IsBadTrace fault)
+IsFileRefused (Schedule fault) schedule name f f' =
+    (fault ≢ lines.NoMemory) × IfSome (f.told name) (IsBadSchedule fault)
 IsFileRefused (TooLong blamed) role name f f' =
     (blamed.now ≡ name) × IfSome (f.told name) (λ text. size_of role < length text)
     × (f'.overlong_name ≡ Some name) × Rose f.overlong f'.overlong

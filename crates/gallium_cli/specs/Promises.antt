@@ -1,5 +1,6 @@
 -- What the program promises of a whole call.
-use Rattle.std.specs.Prelude.{◌≡◌, ◌<◌, ◌≤◌, ◌⊎◌, ◌≢◌, ℕ, false, List, [], ◌∷◌, length, Option, Some, None, IsSomeAnd}
+use Rattle.std.specs.Prelude.{◌≡◌, ◌<◌, ◌≤◌, ◌⊎◌, ◌≢◌, ℕ, Bool, true, false, List, [], ◌∷◌, length, Option, Some, None}
+use Rattle.std.specs.Prelude.{IsSomeAnd, Err}
 use Rattle.std.specs.Io.KnownBytes.{append_known}
 use Rattle.gal_io.specs.Count.{Rose}
 use Rattle.element_lang.specs.Tree.{Tree}
@@ -12,17 +13,19 @@ use Rattle.partition.specs.Choice as choice
 use Rattle.element_text.specs.Refused.{IsRefused}
 use Rattle.element_text.specs.declared.error.TextError.TheVariants as errors
 use Rattle.gallium_cli.specs.declared.status.Status.{Status}
-use Rattle.gallium_cli.specs.declared.status.Status.TheVariants.{Done, Usage, Source, Limits as BadLimits, Exceeded, Trace, Schedule}
-use Rattle.gallium_cli.specs.declared.status.Status.TheVariants.{TooLong, ReadFault, WriteFault, NoMemory}
+use Rattle.gallium_cli.specs.declared.status.Status.TheVariants.{Done, Usage, Source, Limits as BadLimits, Exceeded, Trace}
+use Rattle.gallium_cli.specs.declared.status.Status.TheVariants.{Schedule, TooLong, ReadFault, WriteFault, SwitchFault}
+use Rattle.gallium_cli.specs.declared.status.Status.TheVariants.{NoMemory}
 use Rattle.gallium_cli.specs.declared.refusal.Refusal.{Refusal}
 use Rattle.gallium_cli.specs.declared.refusal.Refusal.TheVariants as refusals
 use Rattle.gallium_cli.specs.Call.{Call}
-use Rattle.gallium_cli.specs.Words.{Request, Compile, request_of}
+use Rattle.gallium_cli.specs.Words.{Request, Run, Compile, Replay, ReplayWithin, is_replay, request_of}
 use Rattle.gallium_cli.specs.Lines.{status_of, line_of}
-use Rattle.gallium_cli.specs.Roles.{Role, source, program, limits, trace, schedule, size_of, files_of}
+use Rattle.gallium_cli.specs.Roles.{Role, source, program, limits, trace, schedule, size_of}
+use Rattle.gallium_cli.specs.Roles.{Gate, File, Choice, gates_of, names_of}
 use Rattle.gallium_cli.specs.Roles.{IsGood, IsBad, IsShort, AreLimits}
-use Rattle.gallium_cli.specs.Loads.{raised_by, IsLongProgram, AreBadLimits}
-use Rattle.gallium_cli.specs.Causes.{IsDone, Ends, excess_of}
+use Rattle.gallium_cli.specs.Loads.{IsLongProgram, AreBadLimits, IsBadTrace, IsBadSchedule}
+use Rattle.gallium_cli.specs.Causes.{IsDone, Ends, excess_of, most_reads}
 
 -- an end that writing and memory may bring whatever the words are
 abbrev pub IsWriteFault : Status → Type 0
@@ -30,10 +33,11 @@ IsWriteFault WriteFault = Unit {0}
 IsWriteFault NoMemory = Unit {0}
 IsWriteFault _ = ⊥
 
--- an end that files, sinks and memory may bring whatever the texts are
+-- an end that files, sinks, the switch and memory may bring whatever the texts are
 abbrev pub IsFault : Status → Type 0
 IsFault ReadFault = Unit {0}
 IsFault WriteFault = Unit {0}
+IsFault SwitchFault = Unit {0}
 IsFault NoMemory = Unit {0}
 IsFault _ = ⊥
 
@@ -41,17 +45,32 @@ IsFault _ = ⊥
 abbrev pub IsUnlessFault : Status → Status → Type 0
 IsUnlessFault status result = (result ≡ status) ⊎ IsFault result
 
--- an end for which the words or a file are to blame
+-- an end for which the words, a file or a limit are to blame
 abbrev pub BlamesInput : Status → Type 0
 BlamesInput Done = ⊥
 BlamesInput WriteFault = ⊥
+BlamesInput SwitchFault = ⊥
 BlamesInput NoMemory = ⊥
 BlamesInput _ = Unit {0}
 
--- every content is told and good
-abbrev pub AllGood : (List ℕ → Option (List ℕ)) → List (List ℕ × Role) → Type 0
-AllGood told [] = Unit {0}
-AllGood told (file ∷ files) = IsSomeAnd (told file.0) (IsGood file.1) × AllGood told files
+-- ## Told contents
+
+-- the contents are told, and spell this middlebox with a short flat program, and these limits
+pub record IsToldPlan (told : List ℕ → Option (List ℕ)) (s l : List ℕ) (m : Tree) (allowed : Limits) : Type 0 where
+  pub source : IsSomeAnd (told s) (λ text. (length text ≤ size_of program) × IsSource text m)
+  pub short : IsShort m
+  pub limits : IsSomeAnd (told l) (λ text. (length text ≤ size_of limits) × AreLimits text allowed)
+
+-- a content is told and good, and a split is there to choose
+abbrev pub IsOpen : (List ℕ → Option (List ℕ)) → Gate → Type 0
+IsOpen told (File name role) = IsSomeAnd (told name) (IsGood role)
+IsOpen told (Choice s l shrink) =
+    (m : Tree) × (allowed : Limits) × (split : List Part)
+    × IsToldPlan told s l m allowed × choice.IsChosen (flat_of m) allowed shrink split
+
+abbrev pub AllOpen : (List ℕ → Option (List ℕ)) → List Gate → Type 0
+AllOpen told [] = Unit {0}
+AllOpen told (gate ∷ gates) = IsOpen told gate × AllOpen told gates
 
 -- the status of a file that spells nothing
 abbrev pub refused_status : Role → Status
@@ -66,34 +85,35 @@ abbrev pub IsRefusedAs : Role → Status → List ℕ → Type 0
 IsRefusedAs role status text =
     ((status ≡ TooLong) × (size_of role < length text)) ⊎ ((status ≡ refused_status role) × IsBad role text)
 
--- the first content that isn't good is told, as are those before it, and is refused with this status
-abbrev pub IsFirstBad : (List ℕ → Option (List ℕ)) → List (List ℕ × Role) → Status → Type 0
-IsFirstBad told [] status = ⊥
-IsFirstBad told (file ∷ files) status =
-    IsSomeAnd (told file.0) (IsRefusedAs file.1 status)
-    ⊎ (IsSomeAnd (told file.0) (IsGood file.1) × IsFirstBad told files status)
+-- a content is told and refused with this status, or the greatest split exceeds a limit and may not shrink
+abbrev pub IsShut : (List ℕ → Option (List ℕ)) → Gate → Status → Type 0
+IsShut told (File name role) status = IsSomeAnd (told name) (IsRefusedAs role status)
+IsShut told (Choice s l shrink) status =
+    (status ≡ Exceeded)
+    × ((m : Tree) × (allowed : Limits) × (over : Over)
+    × IsToldPlan told s l m allowed × choice.IsRefused (flat_of m) allowed shrink over)
+
+-- the gates before one are open, and that one is shut with this status
+abbrev pub IsFirstShut : (List ℕ → Option (List ℕ)) → List Gate → Status → Type 0
+IsFirstShut told [] status = ⊥
+IsFirstShut told (gate ∷ gates) status =
+    IsShut told gate status ⊎ (IsOpen told gate × IsFirstShut told gates status)
 
 -- words with no form end in this status, unless the line can't be written; those with a form never do
 abbrev pub IsUsage : Option Request → Status → Type 0
 IsUsage None result = (result ≡ Usage) ⊎ IsWriteFault result
 IsUsage (Some request) result = result ≢ Usage
 
--- how a request ends that meets no fault: it is done, or its split, which may not shrink, exceeds a limit
-abbrev pub IsGoodEnd : Request → Status → Type 0
-IsGoodEnd (Compile s l false) result = (result ≡ Done) ⊎ (result ≡ Exceeded)
-IsGoodEnd _ result = result ≡ Done
-
--- where every content of a request is told and good, it ends so unless there is a fault
+-- where every gate of a request is open, it is done unless there is a fault
 abbrev pub IsComplete : Option Request → Status → Call → Type 0
 IsComplete None result call = Unit {0}
-IsComplete (Some request) result call =
-    AllGood call.files.told (files_of request) → IsGoodEnd request result ⊎ IsFault result
+IsComplete (Some request) result call = AllOpen call.work.files.told (gates_of request) → IsUnlessFault Done result
 
--- where the first bad content of a request is told, its status is answered unless there is a fault
+-- where the first gate that isn't open is shut with a status, that is answered unless there is a fault
 abbrev pub IsExact : Option Request → Status → Call → Type 0
 IsExact None result call = Unit {0}
 IsExact (Some request) result call =
-    (status : Status) → IsFirstBad call.files.told (files_of request) status → IsUnlessFault status result
+    (status : Status) → IsFirstShut call.work.files.told (gates_of request) status → IsUnlessFault status result
 
 -- why a text of this role is refused for what it holds
 abbrev pub IsCause : Refusal → Role → List ℕ → Type 0
@@ -101,65 +121,62 @@ IsCause (refusals.Source fault) source text = (fault ≢ errors.NoMemory) × IsB
 IsCause (refusals.Source fault) program text = (fault ≢ errors.NoMemory) × IsBad source text × IsRefused text fault
 IsCause refusals.LongProgram program text = IsLongProgram text
 IsCause (refusals.Limits fault) limits text = AreBadLimits fault text
-IsCause refusals.Trace trace text = IsBad trace text
-IsCause refusals.Schedule schedule text = IsBad schedule text
+IsCause (refusals.Trace fault) trace text = IsBadTrace fault text
+IsCause (refusals.Schedule fault) schedule text = IsBadSchedule fault text
 IsCause _ role text = ⊥
 
--- the first content that isn't good is told, as are those before it, and is refused for this cause
-abbrev pub IsFirstCause : (List ℕ → Option (List ℕ)) → List (List ℕ × Role) → Refusal → Type 0
+-- a content is told and refused for this cause, or the greatest split exceeds this limit first and may not shrink
+abbrev pub IsShutFor : (List ℕ → Option (List ℕ)) → Gate → Refusal → Type 0
+IsShutFor told (File name role) cause = IsSomeAnd (told name) (IsCause cause role)
+IsShutFor told (Choice s l shrink) cause =
+    (m : Tree) × (allowed : Limits) × (over : Over)
+    × IsToldPlan told s l m allowed × choice.IsRefused (flat_of m) allowed shrink over
+    × (cause ≡ refusals.Exceeded (excess_of m.objects over))
+
+-- the gates before one are open, and that one is shut for this cause
+abbrev pub IsFirstCause : (List ℕ → Option (List ℕ)) → List Gate → Refusal → Type 0
 IsFirstCause told [] cause = ⊥
-IsFirstCause told (file ∷ files) cause =
-    IsSomeAnd (told file.0) (IsCause cause file.1)
-    ⊎ (IsSomeAnd (told file.0) (IsGood file.1) × IsFirstCause told files cause)
+IsFirstCause told (gate ∷ gates) cause =
+    IsShutFor told gate cause ⊎ (IsOpen told gate × IsFirstCause told gates cause)
 
 -- the status is that of this refusal and err received its line, unless there is a fault
 abbrev pub IsBlamedFor : Refusal → Status → Call → Type 0
 IsBlamedFor cause result call =
     ((result ≡ status_of cause) × (call.err_after.taken ≡ append_known call.err.taken (line_of cause))) ⊎ IsFault result
 
--- where the first bad content of a request is told, err receives the line of its cause, unless there is a fault
+-- where the first gate that isn't open is shut for a cause, err receives its line, unless there is a fault
 abbrev pub IsCauseTold : Option Request → Status → Call → Type 0
 IsCauseTold None result call = Unit {0}
 IsCauseTold (Some request) result call =
-    (cause : Refusal) → IsFirstCause call.files.told (files_of request) cause → IsBlamedFor cause result call
-
--- the contents are told, and spell this middlebox with a short flat program, and these limits
-pub record IsToldPlan (told : List ℕ → Option (List ℕ)) (s l : List ℕ) (m : Tree) (allowed : Limits) : Type 0 where
-  pub source : IsSomeAnd (told s) (λ text. (length text ≤ size_of program) × IsSource text m)
-  pub short : IsShort m
-  pub limits : IsSomeAnd (told l) (λ text. (length text ≤ size_of limits) × AreLimits text allowed)
-
--- Where there is a split to choose, it is done; and where the greatest split exceeds a limit and may not shrink, err
--- receives the line of the first such limit; unless there is a fault.
-abbrev pub IsExactChoice : Option Request → Status → Call → Type 0
-IsExactChoice (Some (Compile s l shrink)) result call =
-    (m : Tree) (allowed : Limits) → IsToldPlan call.files.told s l m allowed
-    → ((split : List Part) → choice.IsChosen (flat_of m) allowed shrink split → IsUnlessFault Done result)
-    × ((over : Over) → choice.IsRefused (flat_of m) allowed shrink over
-    → IsBlamedFor (refusals.Exceeded (excess_of m.objects over)) result call)
-IsExactChoice _ result call = Unit {0}
+    (cause : Refusal) → IsFirstCause call.work.files.told (gates_of request) cause → IsBlamedFor cause result call
 
 -- a limit is exceeded only where a split may not shrink
 abbrev pub MayExceed : Option Request → Type 0
 MayExceed (Some (Compile s l false)) = Unit {0}
+MayExceed (Some (ReplayWithin s t c l false)) = Unit {0}
 MayExceed _ = ⊥
 
 -- there is at most one read for each file of a request, and where it is done, just one; with no request there is none
 abbrev pub IsReadOnce : Option Request → Status → Call → Type 0
-IsReadOnce None result call = call.files_after ≡ call.files
+IsReadOnce None result call = call.work.files_after ≡ call.work.files
 IsReadOnce (Some request) result call =
-    let all = raised_by (length (files_of request)) call.files.reads in
-    (call.files_after.reads ≤ all) × (result ≡ Done → call.files_after.reads ≡ all)
+    let all = most_reads request call.work.files in
+    (call.work.files_after.reads ≤ all) × (result ≡ Done → call.work.files_after.reads ≡ all)
 
--- the blamed name is that of one of these files
-abbrev pub IsOneOf : List (List ℕ × Role) → Option (List ℕ) → Type 0
+-- the blamed name is one of these
+abbrev pub IsOneOf : List (List ℕ) → Option (List ℕ) → Type 0
 IsOneOf [] blamed = ⊥
-IsOneOf (file ∷ files) blamed = (blamed ≡ Some file.0) ⊎ IsOneOf files blamed
+IsOneOf (name ∷ names) blamed = (blamed ≡ Some name) ⊎ IsOneOf names blamed
 
 -- a count of files rose, and blames one that the request names
 abbrev pub IsBlamed : Option Request → ℕ → ℕ → Option (List ℕ) → Type 0
 IsBlamed None before now blamed = ⊥
-IsBlamed (Some request) before now blamed = Rose before now × IsOneOf (files_of request) blamed
+IsBlamed (Some request) before now blamed = Rose before now × IsOneOf (names_of request) blamed
+
+-- the request is a replay
+abbrev pub IsReplay : Option Request → Type 0
+IsReplay None = ⊥
+IsReplay (Some request) = is_replay request ≡ true
 
 -- What is promised of a call that ends in this status. The first part says the whole of it: why it ended so, and what
 -- it left on both sinks. The others are read off it.
@@ -167,11 +184,14 @@ pub record Promises (status : Status) (call : Call) : Type 0 where
   pub ends : Ends status call
   -- the answer was written: of one run, which is a serial run of the source, whatever the schedule; or one split, which
   -- is the chosen one, is legal and keeps the limits
-  pub done : status ≡ Done → IsDone (request_of call.words) call.files call.files_after call.out call.out_after
+  pub done : status ≡ Done → IsDone (request_of call.words) call.work
   -- err is as it was, its count too
   pub silent : status ≡ Done → call.err_after ≡ call.err
-  -- out is as it was, its count too
-  pub untouched : BlamesInput status → call.out_after ≡ call.out
+  -- out is as it was, its count too, and so is the switch
+  pub untouched : BlamesInput status → call.work.out_after ≡ call.work.out
+  pub uncalled : BlamesInput status → call.work.port_after ≡ call.work.port
+  -- what is no replay leaves the switch as it was
+  pub aside : ¬ (IsReplay (request_of call.words)) → call.work.port_after ≡ call.work.port
   -- each file is read once
   pub once : IsReadOnce (request_of call.words) status call
   -- which status comes, by the words and the told texts
@@ -179,12 +199,13 @@ pub record Promises (status : Status) (call : Call) : Type 0 where
   pub exact : IsExact (request_of call.words) status call
   pub cause : IsCauseTold (request_of call.words) status call
   pub complete : IsComplete (request_of call.words) status call
-  pub choice : IsExactChoice (request_of call.words) status call
   pub exceeded : status ≡ Exceeded → MayExceed (request_of call.words)
   -- which count rose, whether or not anything is told
   pub too_long : status ≡ TooLong
-      → IsBlamed (request_of call.words) call.files.overlong call.files_after.overlong call.files_after.overlong_name
+      → IsBlamed (request_of call.words) call.work.files.overlong call.work.files_after.overlong call.work.files_after.overlong_name
   pub read_fault : status ≡ ReadFault
-      → IsBlamed (request_of call.words) call.files.faults call.files_after.faults call.files_after.fault_name
+      → IsBlamed (request_of call.words) call.work.files.faults call.work.files_after.faults call.work.files_after.fault_name
   pub write_fault : status ≡ WriteFault
-      → Rose call.out.faults call.out_after.faults ⊎ Rose call.err.faults call.err_after.faults
+      → Rose call.work.out.faults call.work.out_after.faults ⊎ Rose call.err.faults call.err_after.faults
+  pub switch_fault : status ≡ SwitchFault
+      → IsReplay (request_of call.words) × Rose call.work.port.faults call.work.port_after.faults

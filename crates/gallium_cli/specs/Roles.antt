@@ -1,14 +1,14 @@
 -- What files are read as.
-use Rattle.std.specs.Prelude.{◌≡◌, ◌≤◌, ℕ, List, [], ◌∷◌, length, Ok, None}
+use Rattle.std.specs.Prelude.{◌≡◌, ◌≤◌, ℕ, Bool, List, [], ◌∷◌, ◌++◌, length, Ok, None}
 use Rattle.packet_fields.specs.declared.packet.Packet.{Packet}
 use Rattle.element_lang.specs.Tree.{Tree}
 use Rattle.element_lang.specs.Accepted.{IsSource}
 use Rattle.flatten.specs.Flatten.{flat_of}
 use Rattle.resource_limits.specs.Limits as texts
 use Rattle.resource_limits.specs.declared.limits.Limits.{Limits}
-use Rattle.run_text.specs.declared.event.Event.{Event}
+use Rattle.run_text.specs.declared.schedule.Plan.{Plan}
 use Rattle.run_text.specs.Trace.{trace_of, schedule_of}
-use Rattle.gallium_cli.specs.Words.{Request, Run, Compile, Replay}
+use Rattle.gallium_cli.specs.Words.{Request, Run, Compile, Replay, ReplayWithin}
 
 -- what a file is read as
 pub data Role : Type 0 where
@@ -41,7 +41,7 @@ IsSpelled source text = (m : Tree) × IsSource text m
 IsSpelled program text = (m : Tree) × IsSource text m × IsShort m
 IsSpelled limits text = (allowed : Limits) × AreLimits text allowed
 IsSpelled trace text = (packets : List Packet) × (trace_of text ≡ Ok packets)
-IsSpelled schedule text = (events : List Event) × (schedule_of text ≡ Ok events)
+IsSpelled schedule text = (plan : Plan) × (schedule_of text ≡ Ok plan)
 
 -- a text of this role is within its size and spells a value
 abbrev pub IsGood : Role → List ℕ → Type 0
@@ -51,12 +51,32 @@ IsGood role text = (length text ≤ size_of role) × IsSpelled role text
 abbrev pub IsBad : Role → List ℕ → Type 0
 IsBad role text = (length text ≤ size_of role) × ¬ (IsSpelled role text)
 
--- the files that tell what is split, and within which limits
-abbrev pub plan_files : List ℕ → List ℕ → List (List ℕ × Role)
-plan_files s l = (s, program) ∷ (l, limits) ∷ []
+-- ## What comes before an answer
 
--- the files of a request by name, in the order in which they are dealt with
-abbrev pub files_of : Request → List (List ℕ × Role)
-files_of (Run s t) = (s, source) ∷ (t, trace) ∷ []
-files_of (Compile s l shrink) = plan_files s l
-files_of (Replay s t c) = (s, source) ∷ (t, trace) ∷ (c, schedule) ∷ []
+-- a file is read, or a split is chosen for the source of one file within the limits of another
+pub data Gate : Type 0 where
+  File : (name : List ℕ) (role : Role) → Gate
+  Choice : (source limits : List ℕ) (shrink : Bool) → Gate
+
+abbrev pub plan_gates : List ℕ → List ℕ → Bool → List Gate
+plan_gates s l shrink = File s program ∷ (File l limits ∷ (Choice s l shrink ∷ []))
+
+abbrev pub event_gates : List ℕ → List ℕ → List Gate
+event_gates t c = File t trace ∷ (File c schedule ∷ [])
+
+-- what a request goes through, in the order in which it is dealt with
+abbrev pub gates_of : Request → List Gate
+gates_of (Run s t) = File s source ∷ (File t trace ∷ [])
+gates_of (Compile s l shrink) = plan_gates s l shrink
+gates_of (Replay s t c) = File s program ∷ event_gates t c
+gates_of (ReplayWithin s t c l shrink) = plan_gates s l shrink ++ event_gates t c
+
+-- the names of the files among them
+abbrev pub names_in : List Gate → List (List ℕ)
+names_in [] = []
+names_in (File name role ∷ gates) = name ∷ names_in gates
+names_in (Choice s l shrink ∷ gates) = names_in gates
+
+-- the names of the files of a request, in that order
+abbrev pub names_of : Request → List (List ℕ)
+names_of request = names_in (gates_of request)

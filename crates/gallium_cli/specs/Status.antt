@@ -2,7 +2,7 @@
 use Rattle.std.specs.Prelude.{ℕ}
 use Rattle.gallium_cli.specs.declared.status.Status.{Status}
 use Rattle.gallium_cli.specs.declared.status.Status.TheVariants.{Done, Usage, Source, Limits, Exceeded, Trace, Schedule}
-use Rattle.gallium_cli.specs.declared.status.Status.TheVariants.{TooLong, ReadFault, WriteFault, NoMemory}
+use Rattle.gallium_cli.specs.declared.status.Status.TheVariants.{TooLong, ReadFault, WriteFault, SwitchFault, NoMemory}
 
 abbrev pub code_of : Status → ℕ
 code_of Done = 0
@@ -15,4 +15,5 @@ code_of Schedule = 8
 code_of TooLong = 9
 code_of ReadFault = 10
 code_of WriteFault = 11
+code_of SwitchFault = 12
 code_of NoMemory = 13

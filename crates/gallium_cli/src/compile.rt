@@ -1,5 +1,5 @@
 //! The split of a middlebox, within limits.
-ghost use Rattle.std.specs.Prelude.{◌≡◌, ◌≤◌, Some, IfOk, IfErr, OnOk, length};
+ghost use Rattle.std.specs.Prelude.{◌≡◌, ◌≤◌, ◌∷◌, [], Some, IfOk, IfErr, OnOk, length};
 ghost use Rattle.std.specs.Option.{option_map};
 ghost use Rattle.element_lang.specs.View.{tree};
 ghost use Rattle.flat_ir.specs.Program.{program_of};
@@ -7,13 +7,16 @@ ghost use Rattle.flat_ir.specs.Listing.{name_of};
 ghost use Rattle.flatten.specs.Flatten.{flat_of};
 ghost use Rattle.resource_limits.specs.Limits.{AreInRange};
 ghost use Rattle.resource_limits.specs.Kept.{KeepsLimits};
-ghost use Rattle.partition.specs.Choice.{IsChosen};
+ghost use Rattle.resource_limits.specs.declared.limits.Limits.{Limits as Allowed};
+ghost use Rattle.partition.specs.Choice.{HasLowStages, IsChosen};
 ghost use Rattle.split_model.specs.Bounds.{IsBounded};
 ghost use Rattle.split_model.specs.Legal.{IsLegal};
 ghost use Rattle.gallium_cli.specs.Words.{Compile};
-ghost use Rattle.gallium_cli.specs.Roles.{plan_files};
-ghost use Rattle.gallium_cli.specs.Answers.{IsPlan, heading_text, compiled_text};
-ghost use Rattle.gallium_cli.specs.Loads.{raised_by};
+ghost use Rattle.gallium_cli.specs.Call.{work_of};
+ghost use Rattle.switch_ir.specs.Port.{PortState};
+ghost use Rattle.gallium_cli.specs.Roles.{program as program_role, limits as limits_role, File, plan_gates};
+ghost use Rattle.gallium_cli.specs.Answers.{IsChoice, IsPlan, heading_text, compiled_text};
+ghost use Rattle.gallium_cli.specs.Loads.{GoesOn, raised_by};
 ghost use Rattle.gallium_cli.specs.Causes.{HasCause, IsDone, IsFirstRefused, IsUnchosen, excess_of};
 
 use crate::formats::{Flattened, LimitsFormat, ProgramFormat};
@@ -39,8 +42,9 @@ fn load_plan<'a, F: Files>(
     ensures ok { IfOk result (λ x. IsPlan (F.seen files.old).told source.now limits.now (tree x.0.middlebox) x.1) }
     ensures program { IfOk result (λ x. program_of x.0.flat ≡ flat_of (tree x.0.middlebox)) }
     ensures in_range { IfOk result (λ x. AreInRange x.1) }
-    ensures err { IfErr result (λ refusal. IsFirstRefused refusal (plan_files source.now limits.now)
-        (F.seen files.old) (F.seen files.new)) }
+    ensures err { IfErr result (λ refusal. IsFirstRefused refusal
+        (File source.now program_role ∷ (File limits.now limits_role ∷ [])) (F.seen files.old) (F.seen files.new)) }
+    ensures stays { GoesOn (F.seen files.old) (F.seen files.new) }
     ensures read { OnOk result ((F.seen files.new).reads ≡ raised_by 2 (F.seen files.old).reads) }
     ensures few_reads { (F.seen files.new).reads ≤ raised_by 2 (F.seen files.old).reads }
 {
@@ -96,6 +100,7 @@ fn choose(
     ensures chosen { IfOk result (λ split. IsChosen (program_of f.now) allowed.now shrink split) }
     ensures legal { IfOk result (λ split. IsLegal (program_of f.now) split) }
     ensures keeps { IfOk result (λ split. KeepsLimits (program_of f.now) split allowed.now) }
+    ensures low { IfOk result HasLowStages }
     ensures err { IfErr result (λ refusal. IsUnchosen refusal (program_of f.now) allowed.now shrink) }
 {
     match partition(alloc, f, allowed, shrink) {
@@ -136,6 +141,42 @@ fn compiled(alloc: Global, f: &Flat, split: &Split, writeback: u32) -> Result<Te
     Ok(text)
 }
 
+/// A middlebox with its flat program, its split, and how many rows each write-back table has.
+#[derive(Drop)]
+pub struct SplitMiddlebox {
+    pub program: Flattened,
+    pub split: Split,
+    pub writeback: u32,
+}
+
+/// The split of what one file spells within the limits that another tells.
+pub fn load_split<'a, F: Files>(
+    alloc: Global,
+    source: &'a str,
+    limits: &'a str,
+    shrink: bool,
+    files: &mut F,
+) -> Result<SplitMiddlebox, Refusal<'a>>
+    ensures ok { IfOk result (λ x. (allowed : Allowed)
+        × IsPlan (F.seen files.old).told source.now limits.now (tree x.program.middlebox) allowed
+        × IsChoice (program_of x.program.flat) allowed shrink x.split
+        × HasLowStages x.split × AreInRange allowed × (x.writeback ≡ allowed.writeback)) }
+    ensures program { IfOk result (λ x. program_of x.program.flat ≡ flat_of (tree x.program.middlebox)) }
+    ensures err { IfErr result (λ refusal. IsFirstRefused refusal (plan_gates source.now limits.now shrink)
+        (F.seen files.old) (F.seen files.new)) }
+    ensures stays { GoesOn (F.seen files.old) (F.seen files.new) }
+    ensures read { OnOk result ((F.seen files.new).reads ≡ raised_by 2 (F.seen files.old).reads) }
+    ensures few_reads { (F.seen files.new).reads ≤ raised_by 2 (F.seen files.old).reads }
+{
+    let (program, allowed) = load_plan(alloc, source, limits, files)?;
+    let split = choose(alloc, &program.flat, &allowed, shrink)?;
+    Ok(SplitMiddlebox {
+        program,
+        split,
+        writeback: allowed.writeback,
+    })
+}
+
 /// Splits what one file spells within the limits that another tells, and writes the split.
 pub fn perform_compile<'a, F: Files, O: Sink>(
     alloc: Global,
@@ -145,14 +186,15 @@ pub fn perform_compile<'a, F: Files, O: Sink>(
     files: &mut F,
     out: &mut O,
 ) -> Result<(), Refusal<'a>>
-    ensures ok { OnOk result (IsDone (Some (Compile source.now limits.now shrink))
-        (F.seen files.old) (F.seen files.new) (O.seen out.old) (O.seen out.new)) }
-    ensures err { IfErr result (λ refusal. HasCause refusal (Some (Compile source.now limits.now shrink))
-        (F.seen files.old) (F.seen files.new) (O.seen out.old) (O.seen out.new)) }
+    ensures ok { (port : PortState) → OnOk result (IsDone (Some (Compile source.now limits.now shrink))
+        (work_of (F.seen files.old) (F.seen files.new) port port (O.seen out.old) (O.seen out.new))) }
+    ensures err { (port : PortState) → IfErr result (λ refusal.
+        HasCause refusal (Some (Compile source.now limits.now shrink))
+        (work_of (F.seen files.old) (F.seen files.new) port port (O.seen out.old) (O.seen out.new))) }
 {
-    let (program, allowed) = load_plan(alloc, source, limits, files)?;
-    let split = choose(alloc, &program.flat, &allowed, shrink)?;
-    let Ok(text) = compiled(alloc, &program.flat, &split, allowed.writeback) else {
+    let middlebox = load_split(alloc, source, limits, shrink, files)?;
+    let flat = &middlebox.program.flat;
+    let Ok(text) = compiled(alloc, flat, &middlebox.split, middlebox.writeback) else {
         return Err(Refusal::NoMemory);
     };
     put(out, text.as_slice())

@@ -20,7 +20,7 @@ use flat_ir::Flat;
 use flatten::{FlatError, flatten};
 use packet_fields::Packets;
 use resource_limits::{Limits, LimitsError, read_limits};
-use run_text::{Events, LinesError, read_schedule, read_trace};
+use run_text::{LinesError, Plan, read_schedule, read_trace};
 use std::alloc::Global;
 
 /// The most bytes of a source.
@@ -41,7 +41,7 @@ pub struct LimitsFormat;
 /// The packets of a trace.
 pub struct TraceFormat;
 
-/// The events of a schedule.
+/// The events of a schedule, and whether it ends with `drain`.
 pub struct ScheduleFormat;
 
 /// A middlebox with its flat program.
@@ -161,29 +161,29 @@ impl Format for TraceFormat {
         match read_trace(alloc, text) {
             Ok(packets) => Ok(packets),
             Err(LinesError::NoMemory) => Err(Refusal::NoMemory),
-            Err(_) => Err(Refusal::Trace),
+            Err(fault) => Err(Refusal::Trace(fault)),
         }
     }
 }
 
 impl Format for ScheduleFormat {
-    type Value = Events;
+    type Value = Plan;
 
     ghost role = { λ _. schedule };
 
-    ghost spells = { λ _ text events. schedule_of text ≡ Ok events };
+    ghost spells = { λ _ text plan. schedule_of text ≡ Ok plan };
 
-    ghost sound = { λ events. length events ≤ 1048576 };
+    ghost sound = { λ plan. length plan.events ≤ 1048576 };
 
     fn size(&self) -> usize {
         MAX_TEXT
     }
 
-    fn read(&self, alloc: Global, text: &[u8]) -> Result<Events, Refusal<'static>> {
+    fn read(&self, alloc: Global, text: &[u8]) -> Result<Plan, Refusal<'static>> {
         match read_schedule(alloc, text) {
-            Ok(events) => Ok(events),
+            Ok(plan) => Ok(plan),
             Err(LinesError::NoMemory) => Err(Refusal::NoMemory),
-            Err(_) => Err(Refusal::Schedule),
+            Err(fault) => Err(Refusal::Schedule(fault)),
         }
     }
 }

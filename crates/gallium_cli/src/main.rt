@@ -17,6 +17,7 @@ mod output;
 #[cfg(test)]
 mod print_tests;
 mod refusal;
+mod replay;
 #[cfg(test)]
 mod run_tests;
 mod status;
@@ -29,6 +30,7 @@ use crate::status::Status;
 use gal_io::{HostFiles, HostSink};
 use std::process::ExitCode;
 use std::{env, io};
+use switch_machine::ModelSwitch;
 
 /// The code where the words can't be had from the system for want of memory.
 const NO_MEMORY: u8 = 13;
@@ -56,7 +58,10 @@ fn main(rt: HostRuntime) -> ExitCode {
         return ExitCode::from(NO_MEMORY);
     };
     let mut files = HostFiles::new(&rt);
+    let mut port = ModelSwitch::new(alloc);
     let mut out = HostSink::new(rt.stdout());
     let mut err = HostSink::new(rt.stderr());
-    ending(top::gallium(alloc, &words, &mut files, &mut out, &mut err))
+    ending(top::gallium(
+        alloc, &words, &mut files, &mut port, &mut out, &mut err,
+    ))
 }

@@ -2,7 +2,8 @@
 ghost use Rattle.std.specs.Prelude.{◌≡◌, ◌++◌, IfOk, codes, string_bytes};
 ghost use Rattle.gallium_cli.specs.declared.refusal.Refusal.{Refusal};
 ghost use Rattle.gallium_cli.specs.declared.refusal.Excess.{Excess};
-ghost use Rattle.gallium_cli.specs.Lines.{status_of, line_of, line_end, what_text, source_line, limits_line, excess_line, owner_text};
+ghost use Rattle.gallium_cli.specs.Lines.{status_of, line_of, line_end, what_text, kind_text};
+ghost use Rattle.gallium_cli.specs.Lines.{source_line, limits_line, excess_line, lines_line, owner_text};
 ghost use Rattle.gallium_cli.specs.Causes.{IsTold};
 
 use crate::status::Status;
@@ -10,6 +11,7 @@ use element_lang::What;
 use element_text::TextError;
 use gal_io::{NoMemory, Sink, SinkEnd, Text};
 use resource_limits::{LimitName, LimitsError};
+use run_text::{LineKind, LinesError};
 use std::alloc::Global;
 
 /// A limit that a split exceeds.
@@ -35,16 +37,18 @@ pub enum Refusal<'a> {
     Limits(LimitsError),
     /// The split exceeds a limit.
     Exceeded(Excess),
-    /// The trace is refused.
-    Trace,
-    /// The schedule is refused.
-    Schedule,
+    /// The trace is refused, for this cause, which isn't want of memory.
+    Trace(LinesError),
+    /// The schedule is refused, for this cause, which isn't want of memory.
+    Schedule(LinesError),
     /// This file has more bytes than its size allows.
     TooLong(&'a str),
     /// This file can't be read.
     ReadFault(&'a str),
     /// The answer can't be written.
     WriteFault,
+    /// The switch failed.
+    SwitchFault,
     /// No memory was found.
     NoMemory,
 }
@@ -69,11 +73,12 @@ fn status(refusal: &Refusal<'_>) -> Status
         Refusal::Source(_) | Refusal::LongProgram => Status::Source,
         Refusal::Limits(_) => Status::Limits,
         Refusal::Exceeded(_) => Status::Exceeded,
-        Refusal::Trace => Status::Trace,
-        Refusal::Schedule => Status::Schedule,
+        Refusal::Trace(_) => Status::Trace,
+        Refusal::Schedule(_) => Status::Schedule,
         Refusal::TooLong(_) => Status::TooLong,
         Refusal::ReadFault(_) => Status::ReadFault,
         Refusal::WriteFault => Status::WriteFault,
+        Refusal::SwitchFault => Status::SwitchFault,
         Refusal::NoMemory => Status::NoMemory,
     }
 }
@@ -176,6 +181,44 @@ fn excess_line(alloc: Global, excess: &Excess) -> Result<Text, NoMemory>
     Ok(text)
 }
 
+// What is wrong with a line, in a word.
+fn kind_name(kind: LineKind) -> &'static str
+    ensures { result.now ≡ kind_text kind }
+{
+    match kind {
+        LineKind::Form => "form",
+        LineKind::Number => "number",
+        LineKind::Hex => "hex",
+        LineKind::Long => "long",
+        LineKind::AfterDrain => "after-drain",
+    }
+}
+
+// The line of a text of lines that is refused: of which kind of file, and what there may be too many of.
+fn lines_line(
+    alloc: Global,
+    file: &str,
+    values: &str,
+    fault: LinesError,
+) -> Result<Text, NoMemory>
+    ensures { IfOk result (λ text. text ≡ lines_line file.now values.now fault) }
+{
+    match fault {
+        LinesError::Line { number, kind } => {
+            let kind = kind_name(kind);
+            told(
+                alloc,
+                format!(in alloc; "{file}: line {number} {kind}\n")?,
+            )
+        }
+        LinesError::TooMany { have, allowed } => told(
+            alloc,
+            format!(in alloc; "{file}: {values} have {have}, allowed {allowed}\n")?,
+        ),
+        LinesError::NoMemory => Text::from_slice(alloc, b"no memory\n"),
+    }
+}
+
 // The line of a refusal.
 fn line(alloc: Global, refusal: &Refusal<'_>) -> Result<Text, NoMemory>
     ensures { IfOk result (λ text. text ≡ line_of refusal.now) }
@@ -189,11 +232,12 @@ fn line(alloc: Global, refusal: &Refusal<'_>) -> Result<Text, NoMemory>
         Refusal::LongProgram => Text::from_slice(alloc, b"source: more than 4096 instructions\n"),
         Refusal::Limits(fault) => limits_line(alloc, *fault),
         Refusal::Exceeded(excess) => excess_line(alloc, excess),
-        Refusal::Trace => Text::from_slice(alloc, b"trace: refused\n"),
-        Refusal::Schedule => Text::from_slice(alloc, b"schedule: refused\n"),
+        Refusal::Trace(fault) => lines_line(alloc, "trace", "packets", *fault),
+        Refusal::Schedule(fault) => lines_line(alloc, "schedule", "events", *fault),
         Refusal::TooLong(name) => naming(alloc, b"too long: ", name),
         Refusal::ReadFault(name) => naming(alloc, b"read fault: ", name),
         Refusal::WriteFault => Text::from_slice(alloc, b"write fault\n"),
+        Refusal::SwitchFault => Text::from_slice(alloc, b"switch fault\n"),
         Refusal::NoMemory => Text::from_slice(alloc, b"no memory\n"),
     }
 }

@@ -23,6 +23,8 @@ pub enum Status {
     ReadFault,
     /// The answer or a line can't be written.
     WriteFault,
+    /// The switch failed in a replay.
+    SwitchFault,
     /// No memory was found.
     NoMemory,
 }
@@ -46,6 +48,7 @@ impl Status {
             Status::TooLong => 9,
             Status::ReadFault => 10,
             Status::WriteFault => 11,
+            Status::SwitchFault => 12,
             Status::NoMemory => 13,
         }
     }

@@ -23,6 +23,14 @@ pub enum Form<'a> {
         trace: &'a str,
         schedule: &'a str,
     },
+    /// Replays a middlebox on a trace by a schedule, with the split that `Compile` would print.
+    ReplayWithin {
+        source: &'a str,
+        trace: &'a str,
+        schedule: &'a str,
+        limits: &'a str,
+        shrink: bool,
+    },
 }
 
 /// The form of the words after the program's name, if they have one.
@@ -60,6 +68,32 @@ pub fn form_of<'a>(words: &'a [String]) -> Option<Form<'a>>
                     return Some(Form::Compile {
                         source: source.as_str(),
                         limits: second.as_str(),
+                        shrink: true,
+                    });
+                }
+            }
+            None
+        }
+        [word, source, trace, schedule, limits] => {
+            if word.as_str() == "replay" {
+                return Some(Form::ReplayWithin {
+                    source: source.as_str(),
+                    trace: trace.as_str(),
+                    schedule: schedule.as_str(),
+                    limits: limits.as_str(),
+                    shrink: false,
+                });
+            }
+            None
+        }
+        [word, source, trace, schedule, limits, last] => {
+            if word.as_str() == "replay" {
+                if last.as_str() == "shrink" {
+                    return Some(Form::ReplayWithin {
+                        source: source.as_str(),
+                        trace: trace.as_str(),
+                        schedule: schedule.as_str(),
+                        limits: limits.as_str(),
                         shrink: true,
                     });
                 }
