@@ -28,12 +28,10 @@ use Rattle.split_world.specs.Meaning.{Meaning}
 use Rattle.split_world.specs.Run.{is_quiet}
 use Rattle.split_world.specs.Drain.{plan_run, plan_world}
 use Rattle.split_world.specs.Serialises.{Serialises, AllReleased, IsDrained}
-use Rattle.split_program.specs.Whole.{whole_of}
 use Rattle.switch_ir.specs.Port.{PortState}
-use Rattle.switch_ir.specs.Tables.{Told}
-use Rattle.told_switch.specs.Through.{HasTables}
 use Rattle.schedule_replay.specs.declared.job.Replayed.{Replayed}
-use Rattle.schedule_replay.specs.Replayed.{IsReplayed}
+use Rattle.schedule_replay.specs.Setup.{Setup, whole}
+use Rattle.schedule_replay.specs.Replayed.{HasNewestTables, IsReported}
 use Rattle.gallium_cli.specs.Words.{Request, Run, Compile, Replay, ReplayWithin}
 use Rattle.gallium_cli.specs.Lines.{line_end}
 use Rattle.gallium_cli.specs.Roles.{source, program, limits, trace, schedule, size_of, AreLimits}
@@ -107,33 +105,35 @@ pub record IsCompilation (text : List ℕ) (f : Program) (allowed : Limits) (shr
 abbrev pub source_of : Tree → Meaning
 source_of m = record { objects = m.objects; after = source_store m; verdict = source_verdict m }
 
--- The run of a split middlebox over these packets by this plan, which a switch is left after that tells its tables, is a
--- serial run of the source.
-pub record IsSerialRun (m : Tree) (split : List Part) (writeback : ℕ) (packets : List Packet) (plan : Plan)
-    (port : PortState) (run : RunTold) : Type 0 where
+-- a split middlebox, and the packets of a trace
+abbrev pub setup : Tree → List Part → ℕ → List Packet → Setup
+setup m split writeback packets =
+    record { program = flat_of m; split = split; writeback = writeback; packets = packets }
+
+-- where nothing is left on its way at the end of a plan
+abbrev pub EndsQuiet : Setup → Plan → Type 0
+EndsQuiet x plan = IsTrue (is_quiet (plan_world (whole x) x.packets plan.events plan.drain))
+
+-- What a switch that tells its tables makes of a plan: a serial run of the source.
+pub record IsSerialRun (m : Tree) (x : Setup) (plan : Plan) (run : RunTold) (port : PortState) : Type 0 where
   -- it is the run of the world
-  pub run_is : run ≡ plan_run (whole_of (flat_of m) split writeback) packets plan.events plan.drain
+  pub run_is : run ≡ plan_run (whole x) x.packets plan.events plan.drain
   -- what it releases, and what it leaves, is what the source does to the decided packets in the reported order
-  pub serialises : Serialises (source_of m) packets run
+  pub serialises : Serialises (source_of m) x.packets run
   -- where nothing is left on its way, every admitted packet was released with its verdict, and the switch has the
   -- server's tables
-  pub quiet : IsTrue (is_quiet (plan_world (whole_of (flat_of m) split writeback) packets plan.events plan.drain))
-      → AllReleased (source_of m) packets run
-  pub tables : IsTrue (is_quiet (plan_world (whole_of (flat_of m) split writeback) packets plan.events plan.drain))
-      → (told : Told) × (port.told ≡ Some told)
-      × HasTables (flat_of m) split writeback
-      (plan_world (whole_of (flat_of m) split writeback) packets plan.events plan.drain).store told
+  pub quiet : EndsQuiet x plan → AllReleased (source_of m) x.packets run
+  pub tables : EndsQuiet x plan → HasNewestTables x plan.events plan.drain port
   -- and where it says `drained`, every packet of the trace was
-  pub drained : run.drained ≡ true → IsDrained (source_of m) packets run
+  pub drained : run.drained ≡ true → IsDrained (source_of m) x.packets run
 
 -- A text that reports the replay of a split middlebox over a switch. Whatever the switch answers, the report is what its
 -- calls make of the schedule; where it tells its tables, that very run is a serial run of the source.
-pub record IsReport (text : List ℕ) (m : Tree) (split : List Part) (writeback : ℕ) (packets : List Packet) (plan : Plan)
-    (port port_after : PortState) : Type 0 where
+pub record IsReport (text : List ℕ) (m : Tree) (x : Setup) (plan : Plan) (port port_after : PortState) : Type 0 where
   pub replayed : Replayed
   pub printed : text ≡ report_of m.objects replayed.run
-  pub answered : IsReplayed (flat_of m) split writeback packets plan.events plan.drain port_after replayed
-  pub serial : IsSome port.told → IsSerialRun m split writeback packets plan port_after replayed.run
+  pub answered : IsReported x plan.events plan.drain replayed port_after
+  pub serial : IsSome port.told → IsSerialRun m x plan replayed.run port_after
 
 -- ## Answers
 
@@ -148,8 +148,8 @@ IsAnswer text (Compile s l shrink) told port port_after =
 IsAnswer text (Replay s t c) told port port_after =
     (m : Tree) × (packets : List Packet) × (plan : Plan) × (split : List Part)
     × IsProgram told s m × IsTraffic told t c packets plan × IsNoChoice (flat_of m) split
-    × IsReport text m split 0 packets plan port port_after
+    × IsReport text m (setup m split 0 packets) plan port port_after
 IsAnswer text (ReplayWithin s t c l shrink) told port port_after =
     (m : Tree) × (allowed : Limits) × (packets : List Packet) × (plan : Plan) × (split : List Part)
     × IsPlan told s l m allowed × IsTraffic told t c packets plan × IsChoice (flat_of m) allowed shrink split
-    × IsReport text m split allowed.writeback packets plan port port_after
+    × IsReport text m (setup m split allowed.writeback packets) plan port port_after

@@ -1,10 +1,13 @@
 //! Replays of a middlebox over a switch.
-ghost use Rattle.std.specs.Prelude.{◌≡◌, ◌≤◌, ◌+◌, ◌∷◌, [], Some, IfOk, IfErr, OnOk, length};
+ghost use Rattle.std.specs.Prelude.{◌≡◌, ◌⊎◌, ◌≤◌, ◌∷◌, [], Some, IfOk, IfErr, OnOk, IsTrue, length};
 ghost use Rattle.gal_io.specs.Count.{Rose};
 ghost use Rattle.element_lang.specs.View.{tree};
 ghost use Rattle.flat_ir.specs.Program.{program_of};
 ghost use Rattle.flatten.specs.Flatten.{flat_of};
-ghost use Rattle.gallium_cli.specs.Answers.{IsNoChoice, IsProgram, IsReport, IsTraffic};
+ghost use Rattle.split_program.specs.Whole.{IsSplit};
+ghost use Rattle.switch_ir.specs.Emitted.{HasFewStages};
+ghost use Rattle.element_lang.specs.Rules.{is_good};
+ghost use Rattle.gallium_cli.specs.Answers.{IsNoChoice, IsProgram, IsReport, IsTraffic, setup};
 ghost use Rattle.gallium_cli.specs.Call.{work_of};
 ghost use Rattle.gallium_cli.specs.Causes.{HasCause, IsDone, IsFirstRefused};
 ghost use Rattle.gallium_cli.specs.Loads.{GoesOn, raised_by};
@@ -12,7 +15,7 @@ ghost use Rattle.gallium_cli.specs.Roles.{program, File, event_gates};
 ghost use Rattle.gallium_cli.specs.Words.{Replay, ReplayWithin};
 
 use crate::compile::{SplitMiddlebox, load_split};
-use crate::formats::{ProgramFormat, ScheduleFormat, TraceFormat};
+use crate::formats::{Flattened, ProgramFormat, ScheduleFormat, TraceFormat};
 use crate::load::load;
 use crate::output::put;
 use crate::refusal::Refusal;
@@ -72,4 +75,100 @@ fn load_unsplit<'a, F: Files>(
         }),
         Err(_) => Err(Refusal::NoMemory),
     }
+}
+
+// The text that reports the replay of a split middlebox.
+fn report<S: SwitchPort>(
+    alloc: Global,
+    split_middlebox: SplitMiddlebox,
+    packets: Packets,
+    plan: Plan,
+    port: &mut S,
+) -> Result<Text, Refusal<'static>>
+    requires good { IsTrue (is_good (tree split_middlebox.program.middlebox)) }
+    requires program { program_of split_middlebox.program.flat ≡ flat_of (tree split_middlebox.program.middlebox) }
+    requires split { IsSplit (program_of split_middlebox.program.flat) split_middlebox.split split_middlebox.writeback }
+    requires stages { HasFewStages split_middlebox.split }
+    requires writeback { split_middlebox.writeback ≤ 65536 }
+    requires few_packets { length packets ≤ 16384 }
+    requires few_events { length plan.events ≤ 1048576 }
+    ensures ok { IfOk result (λ text. let m = tree split_middlebox.program.middlebox in
+        IsReport text m (setup m split_middlebox.split split_middlebox.writeback packets) plan
+        (S.seen port.old) (S.seen port.new)) }
+    ensures err { IfErr result (λ refusal. (refusal ≡ Refusal.NoMemory)
+        ⊎ ((refusal ≡ Refusal.SwitchFault) × Rose (S.seen port.old).faults (S.seen port.new).faults)) }
+{
+    let SplitMiddlebox {
+        program,
+        split,
+        writeback,
+    } = split_middlebox;
+    let Flattened { middlebox, flat } = program;
+    let Plan { events, drain } = plan;
+    let job = Job {
+        flat,
+        split,
+        writeback,
+        packets,
+        events,
+        drain,
+    };
+    match replay(alloc, &job, port) {
+        Ok(replayed) => match print_run(alloc, &middlebox.objects, &replayed.run) {
+            Ok(text) => Ok(text),
+            Err(_) => Err(Refusal::NoMemory),
+        },
+        Err(ReplayError::PortFault) => Err(Refusal::SwitchFault),
+        Err(ReplayError::NoMemory) => Err(Refusal::NoMemory),
+    }
+}
+
+/// Replays what three files spell with every packet sent to the server, and writes the report.
+pub fn perform_replay<'a, F: Files, S: SwitchPort, O: Sink>(
+    alloc: Global,
+    source: &'a str,
+    trace: &'a str,
+    schedule: &'a str,
+    files: &mut F,
+    port: &mut S,
+    out: &mut O,
+) -> Result<(), Refusal<'a>>
+    ensures ok { OnOk result (IsDone (Some (Replay source.now trace.now schedule.now))
+        (work_of (F.seen files.old) (F.seen files.new) (S.seen port.old) (S.seen port.new)
+        (O.seen out.old) (O.seen out.new))) }
+    ensures err { IfErr result (λ refusal. HasCause refusal (Some (Replay source.now trace.now schedule.now))
+        (work_of (F.seen files.old) (F.seen files.new) (S.seen port.old) (S.seen port.new)
+        (O.seen out.old) (O.seen out.new))) }
+{
+    let middlebox = load_unsplit(alloc, source, files)?;
+    let (packets, plan) = load_traffic(alloc, trace, schedule, files)?;
+    let text = report(alloc, middlebox, packets, plan, port)?;
+    put(out, text.as_slice())
+}
+
+/// Replays what three files spell with the split that the limits of a fourth allow, and writes the report.
+pub fn perform_replay_within<'a, F: Files, S: SwitchPort, O: Sink>(
+    alloc: Global,
+    source: &'a str,
+    trace: &'a str,
+    schedule: &'a str,
+    limits: &'a str,
+    shrink: bool,
+    files: &mut F,
+    port: &mut S,
+    out: &mut O,
+) -> Result<(), Refusal<'a>>
+    ensures ok { OnOk result (IsDone
+        (Some (ReplayWithin source.now trace.now schedule.now limits.now shrink))
+        (work_of (F.seen files.old) (F.seen files.new) (S.seen port.old) (S.seen port.new)
+        (O.seen out.old) (O.seen out.new))) }
+    ensures err { IfErr result (λ refusal. HasCause refusal
+        (Some (ReplayWithin source.now trace.now schedule.now limits.now shrink))
+        (work_of (F.seen files.old) (F.seen files.new) (S.seen port.old) (S.seen port.new)
+        (O.seen out.old) (O.seen out.new))) }
+{
+    let middlebox = load_split(alloc, source, limits, shrink, files)?;
+    let (packets, plan) = load_traffic(alloc, trace, schedule, files)?;
+    let text = report(alloc, middlebox, packets, plan, port)?;
+    put(out, text.as_slice())
 }

@@ -3,19 +3,21 @@ ghost use Rattle.std.specs.Prelude.{◌≡◌, ◌≤◌, ◌<◌, ◌^◌, Some
 ghost use Rattle.std.specs.Prelude.{map, length, string_bytes};
 ghost use Rattle.element_lang.specs.View.{tree};
 ghost use Rattle.element_lang.specs.Rules.{is_good};
-ghost use Rattle.gallium_cli.specs.Words.{request_of, Run, Replay};
-ghost use Rattle.gallium_cli.specs.Roles.{files_of};
-ghost use Rattle.gallium_cli.specs.Answers.{IsInput, IsJob, IsReport, serial_answer};
+ghost use Rattle.gallium_cli.specs.Words.{request_of, Run};
+ghost use Rattle.gallium_cli.specs.Roles.{gates_of};
+ghost use Rattle.gallium_cli.specs.Answers.{IsInput, serial_answer};
+ghost use Rattle.switch_ir.specs.Port.{PortState};
 ghost use Rattle.gallium_cli.specs.Loads.{GoesOn, raised_by};
 ghost use Rattle.gallium_cli.specs.Causes.{HasCause, IsDone, IsFirstRefused};
-ghost use Rattle.gallium_cli.specs.Call.{Call};
+ghost use Rattle.gallium_cli.specs.Call.{Call, work_of};
 ghost use Rattle.gallium_cli.specs.Promises.{Promises};
 
 use crate::compile::perform_compile;
-use crate::formats::{ScheduleFormat, SourceFormat, TraceFormat};
+use crate::formats::{SourceFormat, TraceFormat};
 use crate::load::load;
 use crate::output::put;
 use crate::refusal::{Refusal, tell};
+use crate::replay::{perform_replay, perform_replay_within};
 use crate::status::Status;
 use crate::words::{Form, form_of};
 use element_interp::run_all;
@@ -24,9 +26,9 @@ use gal_io::{Files, NoMemory, Sink, Text};
 use packet_fields::{Packet, Packets};
 use partition::greatest_split_is_one;
 use resource_limits::kept_limits_are_not_exceeded;
-use run_text::{Parts, print_answer, print_run};
-use schedule_replay::{Job, replay};
+use run_text::{Parts, print_answer};
 use std::alloc::Global;
+use switch_ir::SwitchPort;
 
 // The middlebox and the packets that two files spell.
 fn load_input<'a, F: Files>(
@@ -40,7 +42,7 @@ fn load_input<'a, F: Files>(
     ensures few_objects { IfOk result (λ x. length x.0.objects < 2 ^ 32) }
     ensures few_packets { IfOk result (λ x. length x.1 ≤ 16384) }
     ensures short_packets { IfOk result (λ x. All (λ p. length p.bytes ≤ 9216) x.1) }
-    ensures err { IfErr result (λ refusal. IsFirstRefused refusal (files_of (Run source.now trace.now))
+    ensures err { IfErr result (λ refusal. IsFirstRefused refusal (gates_of (Run source.now trace.now))
         (F.seen files.old) (F.seen files.new)) }
     ensures stays { GoesOn (F.seen files.old) (F.seen files.new) }
     ensures read { OnOk result ((F.seen files.new).reads ≡ raised_by 2 (F.seen files.old).reads) }
@@ -49,37 +51,6 @@ fn load_input<'a, F: Files>(
     let middlebox = load(alloc, files, &SourceFormat, source)?;
     match load(alloc, files, &TraceFormat, trace) {
         Ok(packets) => Ok((middlebox, packets)),
-        Err(refusal) => Err(refusal),
-    }
-}
-
-// The job that three files spell.
-fn load_job<'a, F: Files>(
-    alloc: Global,
-    source: &'a str,
-    trace: &'a str,
-    schedule: &'a str,
-    files: &mut F,
-) -> Result<Job, Refusal<'a>>
-    ensures ok { IfOk result (λ job. IsJob (F.seen files.old).told source.now trace.now schedule.now
-        (tree job.middlebox) job.packets job.events) }
-    ensures good { IfOk result (λ job. IsTrue (is_good (tree job.middlebox))) }
-    ensures few_objects { IfOk result (λ job. length job.middlebox.objects < 2 ^ 32) }
-    ensures few_packets { IfOk result (λ job. length job.packets ≤ 16384) }
-    ensures short_packets { IfOk result (λ job. All (λ p. length p.bytes ≤ 9216) job.packets) }
-    ensures few_events { IfOk result (λ job. length job.events ≤ 1048576) }
-    ensures err { IfErr result (λ refusal. IsFirstRefused refusal
-        (files_of (Replay source.now trace.now schedule.now)) (F.seen files.old) (F.seen files.new)) }
-    ensures read { OnOk result ((F.seen files.new).reads ≡ raised_by 3 (F.seen files.old).reads) }
-    ensures few_reads { (F.seen files.new).reads ≤ raised_by 3 (F.seen files.old).reads }
-{
-    let (middlebox, packets) = load_input(alloc, source, trace, files)?;
-    match load(alloc, files, &ScheduleFormat, schedule) {
-        Ok(events) => Ok(Job {
-            middlebox,
-            packets,
-            events,
-        }),
         Err(refusal) => Err(refusal),
     }
 }
@@ -104,10 +75,10 @@ fn perform_run<'a, F: Files, O: Sink>(
     files: &mut F,
     out: &mut O,
 ) -> Result<(), Refusal<'a>>
-    ensures ok { OnOk result (IsDone (Some (Run source.now trace.now))
-        (F.seen files.old) (F.seen files.new) (O.seen out.old) (O.seen out.new)) }
-    ensures err { IfErr result (λ refusal. HasCause refusal (Some (Run source.now trace.now))
-        (F.seen files.old) (F.seen files.new) (O.seen out.old) (O.seen out.new)) }
+    ensures ok { (port : PortState) → OnOk result (IsDone (Some (Run source.now trace.now))
+        (work_of (F.seen files.old) (F.seen files.new) port port (O.seen out.old) (O.seen out.new))) }
+    ensures err { (port : PortState) → IfErr result (λ refusal. HasCause refusal (Some (Run source.now trace.now))
+        (work_of (F.seen files.old) (F.seen files.new) port port (O.seen out.old) (O.seen out.new))) }
 {
     let (middlebox, packets) = load_input(alloc, source, trace, files)?;
     let Ok(told) = answer(alloc, &middlebox, packets.as_slice()) else {
@@ -116,51 +87,20 @@ fn perform_run<'a, F: Files, O: Sink>(
     put(out, told.as_slice())
 }
 
-// The report of the run of a job.
-fn report(alloc: Global, job: &Job) -> Result<Text, NoMemory>
-    requires good { IsTrue (is_good (tree job.now.middlebox)) }
-    requires few_objects { length job.now.middlebox.objects < 2 ^ 32 }
-    requires few_packets { length job.now.packets ≤ 16384 }
-    requires short_packets { All (λ p. length p.bytes ≤ 9216) job.now.packets }
-    requires few_events { length job.now.events ≤ 1048576 }
-    ensures { IfOk result (λ text. IsReport text (tree job.now.middlebox) job.now.packets job.now.events) }
-{
-    let run = replay(alloc, job)?;
-    print_run(alloc, &job.middlebox.objects, &run)
-}
-
-// Replays what three files spell, and writes the report.
-fn perform_replay<'a, F: Files, O: Sink>(
-    alloc: Global,
-    source: &'a str,
-    trace: &'a str,
-    schedule: &'a str,
-    files: &mut F,
-    out: &mut O,
-) -> Result<(), Refusal<'a>>
-    ensures ok { OnOk result (IsDone (Some (Replay source.now trace.now schedule.now))
-        (F.seen files.old) (F.seen files.new) (O.seen out.old) (O.seen out.new)) }
-    ensures err { IfErr result (λ refusal. HasCause refusal (Some (Replay source.now trace.now schedule.now))
-        (F.seen files.old) (F.seen files.new) (O.seen out.old) (O.seen out.new)) }
-{
-    let job = load_job(alloc, source, trace, schedule, files)?;
-    let Ok(text) = report(alloc, &job) else {
-        return Err(Refusal::NoMemory);
-    };
-    put(out, text.as_slice())
-}
-
 // Does what the words ask for.
-fn perform<'a, F: Files, O: Sink>(
+fn perform<'a, F: Files, S: SwitchPort, O: Sink>(
     alloc: Global,
     words: &'a [String],
     files: &mut F,
+    port: &mut S,
     out: &mut O,
 ) -> Result<(), Refusal<'a>>
     ensures ok { OnOk result (IsDone (request_of (map string_bytes words.now))
-        (F.seen files.old) (F.seen files.new) (O.seen out.old) (O.seen out.new)) }
+        (work_of (F.seen files.old) (F.seen files.new) (S.seen port.old) (S.seen port.new)
+        (O.seen out.old) (O.seen out.new))) }
     ensures err { IfErr result (λ refusal. HasCause refusal (request_of (map string_bytes words.now))
-        (F.seen files.old) (F.seen files.new) (O.seen out.old) (O.seen out.new)) }
+        (work_of (F.seen files.old) (F.seen files.new) (S.seen port.old) (S.seen port.new)
+        (O.seen out.old) (O.seen out.new))) }
 {
     match form_of(words) {
         Some(Form::Run { source, trace }) => perform_run(alloc, source, trace, files, out),
@@ -177,34 +117,44 @@ fn perform<'a, F: Files, O: Sink>(
                 trace,
                 schedule,
             },
-        ) => perform_replay(alloc, source, trace, schedule, files, out),
+        ) => perform_replay(alloc, source, trace, schedule, files, port, out),
+        Some(
+            Form::ReplayWithin {
+                source,
+                trace,
+                schedule,
+                limits,
+                shrink,
+            },
+        ) => perform_replay_within(
+            alloc, source, trace, schedule, limits, shrink, files, port, out,
+        ),
         None => Err(Refusal::Usage),
     }
 }
 
 /// Does what the words after the program's name ask for, and answers how that ended. On Done, `out` has received one
-/// whole text. With every other status `err` receives one line. The parts of `Promises` are what is promised of a whole
-/// call, from its cause to what it leaves on both sinks.
-pub fn gallium<F: Files, O: Sink, E: Sink>(
+/// whole text. With every other status `err` receives one line. Only a replay calls the switch. The parts of `Promises`
+/// are what is promised of a whole call, from its cause to what it leaves on both sinks and the switch.
+pub fn gallium<F: Files, S: SwitchPort, O: Sink, E: Sink>(
     alloc: Global,
     words: &[String],
     files: &mut F,
+    port: &mut S,
     out: &mut O,
     err: &mut E,
 ) -> Status
     ensures { let call : Call = record {
       words = map string_bytes words.now;
-      files = F.seen files.old;
-      out = O.seen out.old;
+      work = work_of (F.seen files.old) (F.seen files.new) (S.seen port.old) (S.seen port.new)
+          (O.seen out.old) (O.seen out.new);
       err = E.seen err.old;
-      files_after = F.seen files.new;
-      out_after = O.seen out.new;
       err_after = E.seen err.new;
     } in Promises result call }
 {
     greatest_split_is_one();
     kept_limits_are_not_exceeded();
-    match perform(alloc, words, files, out) {
+    match perform(alloc, words, files, port, out) {
         Ok(()) => Status::Done,
         Err(refusal) => tell(alloc, refusal, err),
     }
