@@ -6,6 +6,7 @@ use gal_io::{MemFiles, MemSink};
 use std::alloc::{AllocError, Global};
 use std::process::Abort;
 use std::test::Fail;
+use switch_machine::ModelSwitch;
 
 const LIMITS: &str = "table_bits = 100000000\nstages = 32\nwriteback = 16\ntransfer_bytes = 64\n";
 
@@ -43,7 +44,10 @@ fn expect(
     }
     let mut out = MemSink::new(alloc);
     let mut err = MemSink::new(alloc);
-    let found = gallium(alloc, &words, &mut held, &mut out, &mut err);
+    let mut port = ModelSwitch::new(alloc);
+    let found = gallium(
+        alloc, &words, &mut held, &mut port, &mut out, &mut err,
+    );
     assert_eq!(rt; found, status);
     assert_eq!(rt; out.bytes(), written.as_bytes());
     assert_eq!(rt; err.bytes(), line.as_bytes());

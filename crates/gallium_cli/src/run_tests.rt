@@ -6,6 +6,7 @@ use gal_io::{MemFiles, MemSink};
 use std::alloc::{AllocError, Global};
 use std::process::Abort;
 use std::test::Fail;
+use switch_machine::ModelSwitch;
 
 // The words of a run of the files `source` and `trace`.
 fn words(alloc: Global) -> Result<Vec<String>, AllocError> {
@@ -33,7 +34,10 @@ fn expect(
     }
     let mut out = MemSink::new(alloc);
     let mut err = MemSink::new(alloc);
-    let found = gallium(alloc, &words, &mut files, &mut out, &mut err);
+    let mut port = ModelSwitch::new(alloc);
+    let found = gallium(
+        alloc, &words, &mut files, &mut port, &mut out, &mut err,
+    );
     assert_eq!(rt; found, status);
     assert_eq!(rt; out.bytes(), written.as_bytes());
     assert_eq!(rt; err.bytes(), line.as_bytes());
@@ -124,7 +128,10 @@ fn a_missing_trace(rt: HostRuntime) -> Result<(), Fail> {
     assert!(rt; files.add("source", b"process { drop; }").is_ok());
     let mut out = MemSink::new(alloc);
     let mut err = MemSink::new(alloc);
-    let status = gallium(alloc, &words, &mut files, &mut out, &mut err);
+    let mut port = ModelSwitch::new(alloc);
+    let status = gallium(
+        alloc, &words, &mut files, &mut port, &mut out, &mut err,
+    );
     assert_eq!(rt; status, Status::ReadFault);
     assert_eq!(rt; out.bytes(), b"".as_slice());
     assert_eq!(rt; err.bytes(), b"read fault: trace\n".as_slice());
@@ -141,7 +148,10 @@ fn a_failing_sink(rt: HostRuntime) -> Result<(), Fail> {
     let mut out = MemSink::new(alloc);
     assert!(rt; out.fail_at(1, 3).is_ok());
     let mut err = MemSink::new(alloc);
-    let status = gallium(alloc, &words, &mut files, &mut out, &mut err);
+    let mut port = ModelSwitch::new(alloc);
+    let status = gallium(
+        alloc, &words, &mut files, &mut port, &mut out, &mut err,
+    );
     assert_eq!(rt; status, Status::WriteFault);
     assert_eq!(rt; out.bytes(), b"pac".as_slice());
     assert_eq!(rt; err.bytes(), b"write fault\n".as_slice());

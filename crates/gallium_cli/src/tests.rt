@@ -7,6 +7,7 @@ use gal_io::{HostFiles, MemFiles, MemSink, NoMemory};
 use std::alloc::{AllocError, Global};
 use std::process::{Abort, ExitCode};
 use std::test::Fail;
+use switch_machine::ModelSwitch;
 
 const EMPTY: &str = "report 1\n\
     packets 0 admitted 0 decided 0 released 0\n\
@@ -48,7 +49,10 @@ fn expect(
     let words = words(alloc)?;
     let mut out = MemSink::new(alloc);
     let mut err = MemSink::new(alloc);
-    let found = gallium(alloc, &words, &mut files, &mut out, &mut err);
+    let mut port = ModelSwitch::new(alloc);
+    let found = gallium(
+        alloc, &words, &mut files, &mut port, &mut out, &mut err,
+    );
     assert_eq!(rt; found, status);
     assert_eq!(rt; out.bytes(), written.as_bytes());
     assert_eq!(rt; err.bytes(), line.as_bytes());
@@ -120,12 +124,12 @@ fn refused_texts(rt: HostRuntime) -> Result<(), Fail> {
         (
             [good, "0 -\n256 -\n", "x"],
             Status::Trace,
-            "trace: refused\n",
+            "trace: line 2 number\n",
         ),
         (
             [good, "", "a\nu 05\n"],
             Status::Schedule,
-            "schedule: refused\n",
+            "schedule: line 2 number\n",
         ),
     ] {
         expect(&rt, rt.alloc(), texts, status, "", line)?;
@@ -140,7 +144,10 @@ fn words_of_no_form(rt: HostRuntime) {
     let mut files = MemFiles::new(alloc);
     let mut out = MemSink::new(alloc);
     let mut err = MemSink::new(alloc);
-    let status = gallium(alloc, &none, &mut files, &mut out, &mut err);
+    let mut port = ModelSwitch::new(alloc);
+    let status = gallium(
+        alloc, &none, &mut files, &mut port, &mut out, &mut err,
+    );
     assert_eq!(rt; status, Status::Usage);
     assert_eq!(rt; status.code(), 2);
 }
@@ -156,7 +163,10 @@ fn a_refused_run(rt: HostRuntime) -> Result<(), Fail> {
     let mut files = HostFiles::new(&rt);
     let mut out = MemSink::new(alloc);
     let mut err = MemSink::new(alloc);
-    let status = gallium(alloc, &words, &mut files, &mut out, &mut err);
+    let mut port = ModelSwitch::new(alloc);
+    let status = gallium(
+        alloc, &words, &mut files, &mut port, &mut out, &mut err,
+    );
     assert!(rt; ending(status) == ExitCode::from(10));
     assert_eq!(rt; out.bytes(), b"".as_slice());
     assert_eq!(rt; err.bytes(), b"read fault: no such source\n".as_slice());
@@ -172,7 +182,10 @@ fn one_byte_too_many(rt: HostRuntime) -> Result<(), Fail> {
     assert!(rt; files.add("source", &long).is_ok());
     let mut out = MemSink::new(alloc);
     let mut err = MemSink::new(alloc);
-    let status = gallium(alloc, &words, &mut files, &mut out, &mut err);
+    let mut port = ModelSwitch::new(alloc);
+    let status = gallium(
+        alloc, &words, &mut files, &mut port, &mut out, &mut err,
+    );
     assert_eq!(rt; status, Status::TooLong);
     assert_eq!(rt; err.bytes(), b"too long: source\n".as_slice());
     Ok(())
@@ -188,7 +201,10 @@ fn a_failing_sink(rt: HostRuntime) -> Result<(), Fail> {
     let mut out = MemSink::new(alloc);
     assert!(rt; out.fail_at(1, 3).is_ok());
     let mut err = MemSink::new(alloc);
-    let status = gallium(alloc, &words, &mut files, &mut out, &mut err);
+    let mut port = ModelSwitch::new(alloc);
+    let status = gallium(
+        alloc, &words, &mut files, &mut port, &mut out, &mut err,
+    );
     assert_eq!(rt; status, Status::WriteFault);
     assert_eq!(rt; out.bytes(), b"rep".as_slice());
     assert_eq!(rt; err.bytes(), b"write fault\n".as_slice());
