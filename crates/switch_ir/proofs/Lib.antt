@@ -1,1 +1,5 @@
 mod Soundness
+mod Passes
+mod Rests
+mod Handing
+mod Computing

@@ -117,7 +117,6 @@ pub record Computes (f : Program) (split : List Part) (code : Code) : Type 0 whe
   pub rest : (reads : Reading) → goes_up code reads ≡ meets_rest f split reads
   pub finished : (tables : Store) (packet : Packet) → up_verdict code tables packet ≡ pre_verdict f split tables packet
   pub down : (down : Reading) (tables : Store) (packet : Packet) (v : ValueId)
-      → (is_post split v.instruction || crosses_down f split v) ≡ true
       → down_values code (value_by down) tables packet v ≡ post_values f split down tables packet v
   pub verdict : (down : Reading) (tables : Store) (packet : Packet)
       → down_end code (value_by down) tables packet ≡ down_verdict f split down tables packet

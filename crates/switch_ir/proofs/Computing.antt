@@ -1,0 +1,65 @@
+-- The code of a legal split computes its passes.
+use Rattle.std.proofs.Common.{◌≡◌, ◌≤◌, ℕ, Bool, List, length, Option, Some, None, refl, ap, ◌∙◌, arith, slice_index_or, if◌then◌else◌}
+use Rattle.std.proofs.lemmas.List.{get_or_past}
+use Rattle.packet_fields.specs.declared.packet.Packet.{Packet}
+use Rattle.state_store.specs.Store.{Store}
+use Rattle.flat_ir.specs.declared.program.ValueId.{ValueId}
+use Rattle.flat_ir.specs.Program.{Program}
+use Rattle.flat_ir.specs.Blocks.{Reading, nothing, is_live}
+use Rattle.split_model.specs.declared.split.Part.{Part}
+use Rattle.split_model.specs.declared.split.Slow.TheVariants.{Server}
+use Rattle.split_model.specs.Legal.{IsLegal}
+use Rattle.split_model.specs.Passes.{meets_rest, pass, pre_values, given_down, post_values}
+use Rattle.split_model.specs.Split.{pre_stage, post_stage, stage_after}
+use Rattle.transfer_header.specs.Values.{value_by}
+use Rattle.switch_ir.specs.Code.{Code}
+use Rattle.switch_ir.specs.Emitted.{emitted, Computes}
+use Rattle.switch_ir.specs.Meaning.{up_values, goes_up, leaves, down_given, down_values}
+use Rattle.switch_ir.proofs.Passes.{DoneByStages, IsWithin, computes}
+use Rattle.switch_ir.proofs.Rests.{rest_passes}
+use Rattle.switch_ir.proofs.Handing.{HasNumbers, given_same}
+
+module _ (done : DoneByStages) (numbers : HasNumbers) (f : Program) (split : List Part) (writeback : ℕ) (legal : IsLegal f split) where
+  abbrev code : Code
+  code = emitted f split writeback
+
+  no_part : (i : ℕ) → length f.code ≤ i → slice_index_or split i (record { pre = None; slow = Server }) ≡ record { pre = None; slow = Server }
+  no_part i le = get_or_past split i (record { pre = None; slow = Server }) (omega (arith, legal.count, le))
+
+  pre_within : IsWithin f (pre_stage split)
+  pre_within i le = ap (λ (p : Part). p.pre) (no_part i le)
+
+  post_within : IsWithin f (post_stage split)
+  post_within i le = ap (λ (p : Part). stage_after p.slow) (no_part i le)
+
+  up_same : (tables : Store) (packet : Packet) (v : ValueId) → up_values code tables packet v ≡ pre_values f split tables packet v
+  up_same tables packet v = computes f (pre_stage split) pre_within nothing tables packet done v
+
+  up_is : (tables : Store) (packet : Packet) → up_values code tables packet ≡ pre_values f split tables packet
+  up_is tables packet = λ i. λ v. up_same tables packet v i
+
+  rest_same : (reads : Reading) → goes_up code reads ≡ meets_rest f split reads
+  rest_same reads = rest_passes (is_live f.blocks reads) f split
+
+  given_is : (down : Reading) (packet : Packet) → down_given code (value_by down) packet ≡ given_down f split down packet
+  given_is down packet = λ i. λ v. given_same f split packet v numbers writeback down i
+
+  down_same : (down : Reading) (tables : Store) (packet : Packet) (v : ValueId)
+      → down_values code (value_by down) tables packet v ≡ post_values f split down tables packet v
+  down_same down tables packet v =
+      computes f (post_stage split) post_within (down_given code (value_by down) packet) tables packet done v
+      ∙ ap (λ (r : Reading). pass f (post_stage split) r tables packet v) (given_is down packet)
+
+  down_is : (down : Reading) (tables : Store) (packet : Packet) → down_values code (value_by down) tables packet ≡ post_values f split down tables packet
+  down_is down tables packet = λ i. λ v. down_same down tables packet v i
+
+  pub all_computed : Computes f split code
+  all_computed = record {
+    up = up_same;
+    rest = rest_same;
+    finished = λ tables packet.
+        ap (λ b. if b then None else Some (leaves code.pre (up_values code tables packet) packet)) (rest_same (up_values code tables packet))
+        ∙ ap (λ (r : Reading). if meets_rest f split r then None else Some (leaves code.pre r packet)) (up_is tables packet);
+    down = down_same;
+    verdict = λ down tables packet. ap (λ (r : Reading). leaves code.post r packet) (down_is down tables packet);
+  }

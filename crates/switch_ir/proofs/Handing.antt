@@ -1,0 +1,130 @@
+-- What postprocessing begins with.
+use Rattle.std.proofs.Common.{◌≡◌, ℕ, zero, suc, ◌==◌, ◌<◌, ◌≤◌, Bool, true, false, not, ◌&&◌, ◌||◌, List, [], ◌∷◌, map, length, Some, None, refl, sym, ap, ◌∙◌, arith, ⊎_elim, slice_get, slice_index, if◌then◌else◌}
+use Rattle.std.proofs.lemmas.Bool.{cond-true, cond-false, cases_Bool, cases_lt, eq-eqb, eqb-true, and_parts, and_from, or_cases, or_left, or_right, false≢true}
+use Rattle.std.proofs.lemmas.List.{get_or_past}
+use Rattle.std.specs.List.{filter}
+use Rattle.packet_fields.specs.declared.packet.Packet.{Packet}
+use Rattle.flat_ir.specs.declared.program.ValueId.{ValueId}
+use Rattle.flat_ir.specs.Program.{Program, Step, Work, step_at, is_named}
+use Rattle.flat_ir.specs.Program.Work.{const}
+use Rattle.flat_ir.specs.Blocks.{Reading, nothing}
+use Rattle.flat_ir.specs.Run.{results}
+use Rattle.split_model.specs.declared.layout.Crossing.{Crossing}
+use Rattle.split_model.specs.declared.split.Part.{Part}
+use Rattle.split_model.specs.Crossing.{is_value, is_among, is_at_hand, is_read_by, crosses_down}
+use Rattle.split_model.specs.Layouts.{crossing, values_of, number_of, down_layout}
+use Rattle.split_model.specs.Passes.{is_stage, given_down}
+use Rattle.split_model.specs.Split.{is_post}
+use Rattle.transfer_header.specs.Values.{value_by}
+use Rattle.switch_ir.specs.Emitted.{given_stage, steps_of, emitted}
+use Rattle.switch_ir.specs.Meaning.{after_stage, crosses, handed, inputs, down_given}
+use Rattle.switch_ir.proofs.Passes.{one_stage, past_stage}
+
+-- each value stands among all of them at its number
+abbrev pub HasNumbers : Type 0
+HasNumbers = (f : Program) (v : ValueId) → is_named f v ≡ true → slice_get (values_of f) (number_of f v) ≡ Some v
+
+same_value : (a b : ValueId) → is_value a b ≡ true → a ≡ b
+same_value a b e =
+    let both = and_parts (a.instruction == b.instruction) (a.result == b.result) e in
+    λ i. record { instruction = eqb-true a.instruction b.instruction both.0 i; result = eqb-true a.result b.result both.1 i }
+
+value_same : (a b : ValueId) → a ≡ b → is_value a b ≡ true
+value_same a b e =
+    and_from (a.instruction == b.instruction) (a.result == b.result)
+    (eq-eqb a.instruction b.instruction (ap (λ (v : ValueId). v.instruction) e)) (eq-eqb a.result b.result (ap (λ (v : ValueId). v.result) e))
+
+both_or_neither : (a b : Bool) → (a ≡ true → b ≡ true) → (b ≡ true → a ≡ true) → a ≡ b
+both_or_neither true b there back = sym (there refl)
+both_or_neither false true there back = back refl
+both_or_neither false false there back = refl
+
+-- ## The values of a layout
+
+module _ (f : Program) (test : ValueId → Bool) (v : ValueId) where
+  abbrev layout : List ValueId → List Crossing
+  layout vs = map (crossing f) (filter test vs)
+
+  found : (vs : List ValueId) (k : ℕ) → test v ≡ true → slice_get vs k ≡ Some v → crosses (layout vs) v ≡ true
+  found [] k passes e = cc
+  found (x ∷ xs) zero passes e =
+      let same : x ≡ v = cc in
+      ap (λ b. crosses (map (crossing f) (if b then x ∷ filter test xs else filter test xs)) v) (ap test same ∙ passes)
+      ∙ or_left (is_value x v) (crosses (layout xs) v) (value_same x v same)
+  found (x ∷ xs) (suc k) passes e = by_test (test x) (found xs k passes e)
+    where
+      by_test : (b : Bool) → crosses (layout xs) v ≡ true → crosses (map (crossing f) (if b then x ∷ filter test xs else filter test xs)) v ≡ true
+      by_test true later = or_right (is_value x v) (crosses (layout xs) v) later
+      by_test false later = later
+
+  passed : (vs : List ValueId) → crosses (layout vs) v ≡ true → test v ≡ true
+  passed [] e = absurd (false≢true e)
+  passed (x ∷ xs) e = by_test (test x) refl (passed xs) e
+    where
+      by_test : (b : Bool) → test x ≡ b → (crosses (layout xs) v ≡ true → test v ≡ true)
+          → crosses (map (crossing f) (if b then x ∷ filter test xs else filter test xs)) v ≡ true → test v ≡ true
+      by_test true own later e =
+          ⊎_elim (λ same. ap test (sym (same_value x v same)) ∙ own) later (or_cases (is_value x v) (crosses (layout xs) v) e)
+      by_test false own later e = later e
+
+-- the layout has the values that cross
+layout_exact : HasNumbers → (f : Program) (split : List Part) (v : ValueId) → crosses (down_layout f split) v ≡ crosses_down f split v
+layout_exact numbers f split v =
+    both_or_neither (crosses (down_layout f split) v) (crosses_down f split v)
+    (passed f (crosses_down f split) v (values_of f))
+    (λ e. found f (crosses_down f split) v (values_of f) (number_of f v) e (numbers f v (named e)))
+  where
+    named : crosses_down f split v ≡ true → is_named f v ≡ true
+    named e =
+        let post = is_post split v.instruction in
+        let read = is_among v (f.send ∷ f.port ∷ []) || (not (is_at_hand f split (step_at f v.instruction).work) && is_read_by f (is_post split) v) in
+        (and_parts (is_named f v) (not post) ((and_parts (is_named f v && not post) read e).0)).0
+
+handed_is : (layout : List Crossing) (down : Reading) (v : ValueId) → crosses layout v ≡ true → handed layout (value_by down) v ≡ down v
+handed_is [] down v e = absurd (false≢true e)
+handed_is (c ∷ cs) down v e = by_test (is_value c.value v) refl (handed_is cs down v)
+  where
+    by_test : (b : Bool) → is_value c.value v ≡ b → (crosses cs v ≡ true → handed cs (value_by down) v ≡ down v)
+        → (if b then down c.value else handed cs (value_by down) v) ≡ down v
+    by_test true same more = ap down (same_value c.value v same)
+    by_test false other more = more (ap (λ b. b || crosses cs v) (sym other) ∙ e)
+
+-- ## What is at hand
+
+by_hand : (b : Bool) (x : ℕ) → (if is_stage (if b then Some 0 else None) 0 then x else 0) ≡ (if b then x else 0)
+by_hand true x = refl
+by_hand false x = refl
+
+zero_at : (n : ℕ) → slice_index (0 ∷ []) n ≡ 0
+zero_at zero = refl
+zero_at (suc n) = refl
+
+module _ (f : Program) (split : List Part) (packet : Packet) (v : ValueId) where
+  abbrev at_hand : Work → ℕ
+  at_hand work = if is_at_hand f split work then slice_index (results nothing false [] packet work) v.result else 0
+
+  inputs_are : after_stage (steps_of f (given_stage f split)) 0 nothing [] packet v ≡ at_hand (step_at f v.instruction).work
+  inputs_are =
+      ⊎_elim
+      (λ lt. one_stage f (given_stage f split) 0 nothing [] packet v lt
+      ∙ by_hand (is_at_hand f split (step_at f v.instruction).work) (slice_index (results nothing false [] packet (step_at f v.instruction).work) v.result))
+      (λ le. past_stage f (given_stage f split) 0 nothing [] packet v le
+      ∙ sym (ap (λ (s : Step). at_hand s.work) (get_or_past f.code v.instruction (record { block = 0; looped = false; work = const 1 0 }) le) ∙ zero_at v.result))
+      (cases_lt v.instruction (length f.code))
+
+  -- the code gives postprocessing what the split gives it
+  pub given_same : HasNumbers → (writeback : ℕ) (down : Reading)
+      → down_given (emitted f split writeback) (value_by down) packet v ≡ given_down f split down packet v
+  given_same numbers writeback down =
+      let inside = handed (down_layout f split) (value_by down) v in
+      let outside = after_stage (steps_of f (given_stage f split)) 0 nothing [] packet v in
+      let own = at_hand (step_at f v.instruction).work in
+      let exact = layout_exact numbers f split v in
+      ⊎_elim
+      (λ yes. cond-true (crosses (down_layout f split) v) inside outside (exact ∙ yes)
+      ∙ handed_is (down_layout f split) down v (exact ∙ yes)
+      ∙ sym (cond-true (crosses_down f split v) (down v) own yes))
+      (λ no. cond-false (crosses (down_layout f split) v) inside outside (exact ∙ no)
+      ∙ inputs_are
+      ∙ sym (cond-false (crosses_down f split v) (down v) own no))
+      (cases_Bool (crosses_down f split v))

@@ -1,0 +1,6 @@
+use Rattle.switch_ir.proofs.Computing.{all_computed}
+use Rattle.switch_ir.proofs.laws.what_is_emitted_computes_the_split.Goals as goal
+
+pub returns : goal.returns
+returns c f split writeback legal =
+    all_computed c.a_pass_is_done_by_stages.ensures c.values_have_their_numbers.ensures f split writeback legal
