@@ -1,16 +1,15 @@
 -- A split program, and what is known of it beforehand.
 use Rattle.std.specs.Prelude.{◌≡◌, ℕ, ◌<◌, ◌^◌, Bool, false, List, length, slice_index_or}
-use Rattle.flat_ir.specs.Program.{Program, program_of, step_at}
-use Rattle.flat_ir.specs.Kinds.{is_write}
+use Rattle.flat_ir.specs.Program.{Program, program_of}
 use Rattle.split_model.specs.declared.split.Part.{Part}
 use Rattle.split_model.specs.Bounds.{IsBounded}
-use Rattle.split_model.specs.Counts.{count_steps}
 use Rattle.split_model.specs.Layouts.{down_layout, up_layout}
 use Rattle.split_model.specs.Legal.{IsLegal}
 use Rattle.split_model.specs.Passes.{server_fields}
 use Rattle.split_model.specs.Shown.{is_replicated}
 use Rattle.server_runtime.specs.declared.plan.SplitProgram.{SplitProgram}
 use Rattle.server_runtime.specs.Registers.{AreFirsts}
+use Rattle.server_runtime.specs.Serving.{followed_writes}
 
 pub record Plan : Type 0 where
   pub program : Program
@@ -20,10 +19,6 @@ pub record Plan : Type 0 where
 pub record AreReplicated (f : Program) (split : List Part) (marks : List Bool) : Type 0 where
   pub count : length marks ≡ length f.objects
   pub exact : (o : ℕ) → o < length f.objects → slice_index_or marks o false ≡ is_replicated f split o
-
--- how many instructions write
-abbrev pub write_count : Program → ℕ
-write_count f = count_steps f (λ i. is_write (step_at f i).work)
 
 -- the split is legal, and what was worked out beforehand is so
 pub record IsPrepared (w : SplitProgram) : Type 0 where
@@ -35,4 +30,4 @@ pub record IsPrepared (w : SplitProgram) : Type 0 where
   pub firsts : AreFirsts (program_of w.flat) w.firsts.items
   pub fields : w.fields.items ≡ server_fields (program_of w.flat) w.split
   pub followed : AreReplicated (program_of w.flat) w.split w.followed.items
-  pub writes : w.writes ≡ write_count (program_of w.flat)
+  pub writes : w.writes ≡ followed_writes (program_of w.flat) w.split

@@ -1,8 +1,11 @@
 -- The server's turns.
-use Rattle.std.specs.Prelude.{◌≡◌, ℕ, Bool, true, false, ◌||◌, List, [], ◌∷◌, map, Option, Some, None}
+use Rattle.std.specs.Prelude.{◌≡◌, ◌≤◌, ℕ, drop, Bool, true, false, ◌||◌, List, [], ◌∷◌, map, length, Option, Some, None}
+use Rattle.std.specs.List.{AllByRecursion as Each}
 use Rattle.packet_fields.specs.declared.packet.Packet.{Packet}
 use Rattle.state_store.specs.Store.{Store}
 use Rattle.flat_ir.specs.declared.program.ValueId.{ValueId}
+use Rattle.flat_ir.specs.Arrivals.{IsArrival}
+use Rattle.flat_ir.specs.Laws.{AllFit}
 use Rattle.flat_ir.specs.Program.{Program, Work, step_at}
 use Rattle.flat_ir.specs.Program.Work.{const, field, apply, shift, select, byte, look, put, del}
 use Rattle.flat_ir.specs.Blocks.{Reading}
@@ -10,9 +13,16 @@ use Rattle.flat_ir.specs.Kinds.{is_input}
 use Rattle.flat_ir.specs.Run.{Change, Machine}
 use Rattle.flat_ir.specs.Turns.{turn}
 use Rattle.split_model.specs.declared.split.Part.{Part}
+use Rattle.split_model.specs.Layouts.{down_layout, up_layout}
+use Rattle.split_model.specs.Passes.{sent_down, server_run}
 use Rattle.split_model.specs.Split.{is_server}
+use Rattle.transfer_header.specs.declared.frame.Head.{Head}
+use Rattle.transfer_header.specs.Frames.{down_frame, IsFrame}
+use Rattle.transfer_header.specs.Told.{number_in, packet_in, reads_in}
 use Rattle.writeback_table.specs.declared.command.Update.{Update}
-use Rattle.server_runtime.specs.Serving.{updates_of}
+use Rattle.server_runtime.specs.declared.run.Ran.{Ran}
+use Rattle.server_runtime.specs.Registers.{register_reads}
+use Rattle.server_runtime.specs.Serving.{followed_writes, updates_of, IsUpdateIn}
 
 -- registers, a store and what the switch is told are those of a machine
 pub record IsRunning
@@ -45,3 +55,25 @@ wanted reads (look object keys) = None
 abbrev pub as_list : Option Update → List Update
 as_list None = []
 as_list (Some update) = update ∷ []
+
+-- What is read of a frame that came up: its number and packet, and its numbers in registers, which fit.
+pub record IsRead (f : Program) (split : List Part) (frame registers : List ℕ) (head : Head) : Type 0 where
+  pub number : head.number ≡ number_in frame
+  pub packet : record { port = head.port; bytes = drop head.packet_at frame } ≡ packet_in (up_layout f split) frame
+  pub within : head.packet_at ≤ length frame
+  pub reads : register_reads f registers ≡ reads_in (up_layout f split) frame
+  pub fit : AllFit f (register_reads f registers)
+  pub arrives : IsArrival (packet_in (up_layout f split) frame)
+
+-- What comes of a packet of number `n` that went up with these numbers: a store, a frame that goes down, and changes
+-- that the switch is told of.
+pub record IsOutcome (f : Program) (split : List Part) (st : Store) (n : ℕ) (packet : Packet) (up : Reading)
+    (after : Store) (ran : Ran) : Type 0 where
+  pub store : after ≡ (server_run f split up st packet).store
+  pub number : ran.number ≡ n
+  pub down : ran.down ≡ down_frame (down_layout f split) n packet.port (server_run f split up st packet).reads
+      (sent_down f split (server_run f split up st packet).reads packet).bytes
+  pub is_frame : IsFrame 2 (down_layout f split) ran.down
+  pub updates : ran.updates ≡ updates_of f split (server_run f split up st packet).changes
+  pub fit : Each (IsUpdateIn f split) ran.updates
+  pub few : length ran.updates ≤ followed_writes f split

@@ -12,6 +12,6 @@ mod server;
 mod tests;
 mod turn;
 
-pub use laws::a_served_packet_is_the_whole_run;
+pub use laws::{a_served_packet_is_the_whole_run, what_the_switch_is_told_fits};
 pub use served::{ServeError, Served};
 pub use server::Server;

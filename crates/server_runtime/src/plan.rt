@@ -1,18 +1,22 @@
 //! A split program, and what the server works out of it beforehand.
-ghost use Rattle.std.specs.Prelude.{◌≡◌, ◌<◌, ◌≤◌, Some, None, length, IfOk, if◌then◌else◌};
-ghost use Rattle.flat_ir.specs.Kinds.{is_input, is_write};
-ghost use Rattle.flat_ir.specs.Program.{is_named, program_of, result_count, work_of};
+ghost use Rattle.std.specs.Prelude.{◌≡◌, ◌<◌, ◌≤◌, List, Some, None, length, IfOk, IsTrue, if◌then◌else◌};
+ghost use Rattle.flat_ir.specs.Fits.{fits};
+ghost use Rattle.flat_ir.specs.Kinds.{is_input};
+ghost use Rattle.flat_ir.specs.Program.{is_named, program_of, work_of, Program};
+ghost use Rattle.flat_ir.specs.WellFormed.{IsWellFormed};
+ghost use Rattle.split_model.specs.declared.split.Part.{Part};
 ghost use Rattle.split_model.specs.Bounds.{IsBounded};
 ghost use Rattle.split_model.specs.Layouts.{number_of, values_below};
 ghost use Rattle.split_model.specs.Legal.{IsLegal};
 ghost use Rattle.split_model.specs.Passes.{server_fields};
 ghost use Rattle.split_model.specs.Shown.{is_replicated};
-ghost use Rattle.server_runtime.specs.Plans.{write_count, AreReplicated, IsPrepared};
+ghost use Rattle.server_runtime.specs.Plans.{AreReplicated, IsPrepared};
 ghost use Rattle.server_runtime.specs.Registers.{AreAll, AreFirsts};
+ghost use Rattle.server_runtime.specs.Serving.{followed_writes, is_followed};
 
 use flat_ir::{FieldValue, Flat, InstrKind, ValueId};
 use gal_io::NoMemory;
-use split_model::{Layout, Split, down_layout, replicated, up_layout};
+use split_model::{Layout, Split, down_layout, replicated, result_count, up_layout};
 use std::alloc::Global;
 use std::marker::Model;
 use transfer_header::Regs;
@@ -31,7 +35,7 @@ pub(crate) struct SplitProgram {
     pub fields: Vec<FieldValue>,
     /// Whether the object is replicated, for each object.
     pub followed: Vec<bool>,
-    /// How many instructions write.
+    /// How many instructions write to replicated objects.
     pub writes: usize,
 }
 
@@ -61,6 +65,8 @@ impl Plan {
         ensures program { IfOk result (λ plan. plan.program ≡ program_of f.now) }
         ensures split { IfOk result (λ plan. plan.split ≡ s.now) }
     {
+        let followed = followed_objects(alloc, f, s)?;
+        let writes = count_writes(f, &followed);
         let whole = SplitProgram {
             flat: f.copy(alloc)?,
             split: s.copy(alloc)?,
@@ -68,8 +74,8 @@ impl Plan {
             down: down_layout(alloc, f, s)?,
             firsts: firsts_of(alloc, f)?,
             fields: server_fields(alloc, f, s)?,
-            followed: followed_objects(alloc, f, s)?,
-            writes: count_writes(f),
+            followed,
+            writes,
         };
         Ok(Plan { whole })
     }
@@ -92,30 +98,6 @@ pub(crate) fn is_input(kind: &InstrKind) -> bool
     }
 }
 
-// Whether it is a put or a del.
-fn is_write(kind: &InstrKind) -> bool
-    ensures { result ≡ is_write (work_of kind.now) }
-{
-    match kind {
-        InstrKind::Put { .. } | InstrKind::Del { .. } => true,
-        _ => false,
-    }
-}
-
-// How many results an instruction has, 9 at most.
-fn result_count(f: &Flat, kind: &InstrKind) -> u32
-    ensures value { result ≡ result_count f.now.objects (work_of kind.now) }
-    ensures few { result ≤ 9 }
-{
-    match kind {
-        InstrKind::Look { object, .. } => match f.objects.as_slice().get(*object as usize) {
-            Some(declared) => 1 + declared.values.len() as u32,
-            None => 1,
-        },
-        _ => 1,
-    }
-}
-
 // The number of each instruction's first value, and behind them how many values there are.
 fn firsts_of(alloc: Global, f: &Flat) -> Result<Vec<u32>, NoMemory>
     requires { length f.now.code ≤ 4096 }
@@ -125,7 +107,7 @@ fn firsts_of(alloc: Global, f: &Flat) -> Result<Vec<u32>, NoMemory>
     let mut next = 0;
     for instr in f.code.as_slice() {
         firsts.push(next)?;
-        next += result_count(f, &instr.kind);
+        next += result_count(f.objects.as_slice(), &instr.kind);
     }
     firsts.push(next)?;
     Ok(firsts)
@@ -156,13 +138,28 @@ fn followed_objects(alloc: Global, f: &Flat, s: &Split) -> Result<Vec<bool>, NoM
     Ok(marks)
 }
 
-// How many instructions write.
-fn count_writes(f: &Flat) -> usize
-    ensures { result ≡ write_count (program_of f.now) }
+// Whether it writes to a replicated object. An object of no such number isn't one.
+fn is_followed(followed: &[bool], kind: &InstrKind) -> bool
+    ensures { (f : Program) (split : List Part) → AreReplicated f split followed.now → IsTrue (fits f (work_of kind.now))
+        → result ≡ is_followed f split (work_of kind.now) }
+{
+    match kind {
+        InstrKind::Put { object, .. } | InstrKind::Del { object, .. } => {
+            followed.get(*object as usize).copied().unwrap_or(false)
+        }
+        _ => false,
+    }
+}
+
+// How many instructions write to replicated objects.
+fn count_writes(f: &Flat, followed: &[bool]) -> usize
+    requires { IsWellFormed (program_of f.now) }
+    ensures { (split : List Part) → AreReplicated (program_of f.now) split followed.now
+        → result ≡ followed_writes (program_of f.now) split }
 {
     let mut writes = 0;
     for instr in f.code.as_slice() {
-        if is_write(&instr.kind) {
+        if is_followed(followed, &instr.kind) {
             writes += 1;
         }
     }

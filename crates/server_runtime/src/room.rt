@@ -17,7 +17,7 @@ pub(crate) struct Room {
     pub packet: Vec<u8>,
     /// Room for the frame that goes down.
     pub frame: FrameRoom,
-    /// Room for as many changes as there are writes in the program.
+    /// Room for as many changes as there are writes to replicated objects in the program.
     pub updates: Vec<Update>,
 }
 

@@ -1,21 +1,23 @@
 //! The server's run of a packet.
-ghost use Rattle.std.specs.Prelude.{◌≡◌, ◌↔◌, ◌⊎◌, ◌<◌, ◌≤◌, ◌++◌, ℕ, List, [], length, vec_capacity, vec_len};
-ghost use Rattle.std.specs.Prelude.{None, Err, IfOk, OnErr};
+ghost use Rattle.std.specs.Prelude.{◌≡◌, ◌↔◌, ◌+◌, ◌<◌, ◌≤◌, ◌++◌, ◌∷◌, [], length, vec_capacity, vec_len};
+ghost use Rattle.std.specs.Prelude.{Err, IfOk, IsOk, OnErr};
 ghost use Rattle.packet_fields.specs.Shape.{shape_of};
+ghost use Rattle.packet_fields.specs.Sizes.{largest_packet};
 ghost use Rattle.state_store.specs.Kept.{IsKept};
 ghost use Rattle.flat_ir.specs.Arrivals.{IsArrival};
 ghost use Rattle.flat_ir.specs.Laws.{AllFit};
 ghost use Rattle.flat_ir.specs.Program.{program_of};
 ghost use Rattle.flat_ir.specs.Registers.{packet_of};
-ghost use Rattle.split_model.specs.declared.layout.Crossing.{Crossing};
 ghost use Rattle.split_model.specs.Layouts.{up_layout};
 ghost use Rattle.split_model.specs.Passes.{server_run};
-ghost use Rattle.transfer_header.specs.Frames.{HasRoom, IsFrame, IsFrameOf};
-ghost use Rattle.server_runtime.specs.Plans.{write_count, IsPrepared};
+ghost use Rattle.transfer_header.specs.Frames.{HasRoom, IsFrame};
+ghost use Rattle.transfer_header.specs.Told.{number_in, packet_in, reads_in};
+ghost use Rattle.server_runtime.specs.Plans.{IsPrepared};
 ghost use Rattle.server_runtime.specs.Registers.{register_reads, AreAll};
-ghost use Rattle.server_runtime.specs.Serving.{handed, IsAnswered};
-ghost use Rattle.server_runtime.specs.Turns.{as_list, IsRunning};
+ghost use Rattle.server_runtime.specs.Serving.{followed_writes};
+ghost use Rattle.server_runtime.specs.Turns.{as_list, IsOutcome, IsRead, IsRunning};
 
+use crate::laws::what_the_switch_is_told_fits;
 use crate::plan::SplitProgram;
 use crate::registers::{Registers, clear};
 use crate::room::Room;
@@ -24,12 +26,12 @@ use crate::turn::take_turn;
 use flat_ir::{Arrival, write_fields};
 use gal_io::Bytes;
 use packet_fields::Shape;
-use split_model::{a_server_keeps_widths, a_server_reads_what_crosses};
+use split_model::a_server_keeps_widths;
 use state_store::Store;
 use std::alloc::Global;
 use transfer_header::{
-    Regs, frames_of_equal_values, layouts_fit, pack_down_in, unpack_up, values_have_their_numbers,
-    what_crosses_is_held, what_crosses_is_narrow,
+    Head, Malformed, Regs, frames_are_told_by_place, layouts_fit, pack_down_in, unpack_up,
+    values_have_their_numbers, what_crosses_is_held, what_crosses_is_narrow,
 };
 use writeback_table::{Update, Updates};
 
@@ -46,14 +48,25 @@ pub(crate) struct Ran {
     pub evaluated: u32,
 }
 
+// Puts a change last. There is room for it.
+fn push(updates: &mut Vec<Update>, update: Update)
+    requires { vec_len updates.old < vec_capacity updates.old }
+    ensures items { updates.new.items ≡ updates.old.items ++ update ∷ [] }
+    ensures room { vec_capacity updates.old ≤ vec_capacity updates.new }
+{
+    let is_put = updates.extend_from_slice(&[update]).is_ok();
+    prove!(is_put);
+}
+
 // Puts a change last, if there is one. There is room for it.
 fn note(updates: &mut Vec<Update>, update: Option<Update>)
-    requires { update ≡ None ⊎ (vec_len updates.old < vec_capacity updates.old) }
+    requires { vec_len updates.old + length (as_list update) ≤ vec_capacity updates.old }
     ensures items { updates.new.items ≡ updates.old.items ++ as_list update }
-    ensures room { vec_capacity updates.new ≡ vec_capacity updates.old }
+    ensures room { vec_capacity updates.old ≤ vec_capacity updates.new }
 {
-    if let Some(update) = update {
-        updates.push_reserved(update);
+    match update {
+        Some(update) => push(updates, update),
+        None => {}
     }
 }
 
@@ -68,21 +81,17 @@ fn take_turns(
 ) -> u32
     requires prepared { IsPrepared whole.now }
     requires all { AreAll (program_of whole.now.flat) values.old }
-    requires kept { IsKept whole.now.flat.objects store.old }
-    requires fit { AllFit (program_of whole.now.flat) (register_reads (program_of whole.now.flat) values.old) }
-    requires arrives { IsArrival (packet_of arrival.now) }
+    requires size { length arrival.now.bytes.now ≤ largest_packet }
     requires shape { arrival.now.shape ≡ shape_of arrival.now.bytes.now }
     requires empty { updates.old.items ≡ [] }
-    requires room { write_count (program_of whole.now.flat) ≤ vec_capacity updates.old }
+    requires room { followed_writes (program_of whole.now.flat) whole.now.split ≤ vec_capacity updates.old }
     ensures run { let f = program_of whole.now.flat in
         IsRunning f whole.now.split
         (server_run f whole.now.split (register_reads f values.old) store.old (packet_of arrival.now))
         (register_reads f values.new) store.new updates.new.items }
     ensures count { length values.new ≡ length values.old }
-    ensures kept { IsKept whole.now.flat.objects store.new }
-    ensures fit { AllFit (program_of whole.now.flat) (register_reads (program_of whole.now.flat) values.new) }
 {
-    a_server_keeps_widths();
+    what_the_switch_is_told_fits();
     let mut evaluated = 0;
     for i in 0..whole.flat.code.len() {
         let (update, more) = take_turn(whole, arrival, i, values, store);
@@ -111,15 +120,17 @@ fn run(
     requires frame { HasRoom whole.now.down (length arrival.now.bytes.now) room.frame }
     requires empty { room.updates.items ≡ [] }
     requires updates { whole.now.writes ≤ vec_capacity room.updates }
-    ensures answer { let f = program_of whole.now.flat in
-        IsAnswered f whole.now.split store.old number (packet_of arrival.now) (register_reads f values.old)
-        store.new result.down result.updates }
-    ensures number { result.number ≡ number }
+    ensures outcome { let f = program_of whole.now.flat in
+        IsOutcome f whole.now.split store.old number (packet_of arrival.now) (register_reads f values.old)
+        store.new result }
     ensures count { length values.new ≡ length values.old }
     ensures kept { IsKept whole.now.flat.objects store.new }
 {
+    a_server_keeps_widths();
     layouts_fit();
-    frames_of_equal_values();
+    what_crosses_is_held();
+    what_crosses_is_narrow();
+    what_the_switch_is_told_fits();
     let Room {
         mut packet,
         frame,
@@ -137,6 +148,23 @@ fn run(
     }
 }
 
+// Reads a frame that came up: its head, with the numbers that it hands up put into registers. All others are 0.
+fn read(whole: &SplitProgram, frame: &[u8], values: &mut Regs) -> Result<Head, Malformed>
+    requires prepared { IsPrepared whole.now }
+    requires all { AreAll (program_of whole.now.flat) values.old }
+    ensures ok { IfOk result (λ head. IsRead (program_of whole.now.flat) whole.now.split frame.now values.new head) }
+    ensures exact { (IsOk result) ↔ (IsFrame 1 (up_layout (program_of whole.now.flat) whole.now.split) frame.now) }
+    ensures count { length values.new ≡ length values.old }
+{
+    frames_are_told_by_place();
+    layouts_fit();
+    values_have_their_numbers();
+    what_crosses_is_held();
+    what_crosses_is_narrow();
+    clear(values);
+    unpack_up(&whole.up, frame, values)
+}
+
 /// What comes of a frame that came up. All memory is taken before the store changes.
 pub(crate) fn answer(
     alloc: Global,
@@ -148,26 +176,17 @@ pub(crate) fn answer(
     requires prepared { IsPrepared whole.now }
     requires all { AreAll (program_of whole.now.flat) values.old }
     requires kept { IsKept whole.now.flat.objects store.old }
-    ensures ok { (number port : ℕ) (handed_up : Crossing → ℕ) (packet : List ℕ)
-        → let f = program_of whole.now.flat in
-        IsFrameOf 1 (up_layout f whole.now.split) number port handed_up packet frame.now
-        → IfOk result (λ ran. (ran.number ≡ number)
-        × IsAnswered f whole.now.split store.old number (record { port = port; bytes = packet }) (handed f handed_up)
-        store.new ran.down ran.updates) }
+    ensures ok { IfOk result (λ ran. let f = program_of whole.now.flat in
+        let layout = up_layout f whole.now.split in
+        IsOutcome f whole.now.split store.old (number_in frame.now) (packet_in layout frame.now)
+        (reads_in layout frame.now) store.new ran) }
     ensures malformed { (result ≡ Err ServeError.Malformed)
         ↔ (¬ (IsFrame 1 (up_layout (program_of whole.now.flat) whole.now.split) frame.now)) }
     ensures err { OnErr result (store.new ≡ store.old) }
     ensures count { length values.new ≡ length values.old }
     ensures kept { IsKept whole.now.flat.objects store.new }
 {
-    a_server_reads_what_crosses();
-    frames_of_equal_values();
-    layouts_fit();
-    values_have_their_numbers();
-    what_crosses_is_held();
-    what_crosses_is_narrow();
-    clear(values);
-    let head = unpack_up(&whole.up, frame, values)?;
+    let head = read(whole, frame, values)?;
     let bytes = &frame[head.packet_at..];
     let room = Room::take(alloc, whole, bytes)?;
     let arrival = Arrival {

@@ -1,12 +1,11 @@
 //! The server.
-ghost use Rattle.std.specs.Prelude.{◌≡◌, ◌↔◌, ◌<◌, ◌-◌, ◌^◌, ℕ, List, Err, IfOk, OnErr};
+ghost use Rattle.std.specs.Prelude.{◌≡◌, ◌↔◌, ◌<◌, ◌-◌, ◌^◌, Err, IfOk, OnErr};
 ghost use Rattle.state_store.specs.Kept.{IsKept};
 ghost use Rattle.flat_ir.specs.Program.{program_of};
-ghost use Rattle.split_model.specs.declared.layout.Crossing.{Crossing};
 ghost use Rattle.split_model.specs.Bounds.{IsBounded};
 ghost use Rattle.split_model.specs.Layouts.{up_layout};
 ghost use Rattle.split_model.specs.Legal.{IsLegal};
-ghost use Rattle.transfer_header.specs.Frames.{IsFrame, IsFrameOf};
+ghost use Rattle.transfer_header.specs.Frames.{IsFrame};
 ghost use Rattle.server_runtime.specs.Kept.{kept_prop};
 ghost use Rattle.server_runtime.specs.Registers.{AreAll};
 
@@ -34,7 +33,7 @@ pub struct Server {
 }
 
 impl Server {
-    ghost use Rattle.server_runtime.specs.Serving.{handed, IsServed};
+    ghost use Rattle.server_runtime.specs.Serving.{IsServed};
     ghost use Rattle.server_runtime.specs.Views.{server_of};
 
     /// A server over a store, with version 0. It keeps copies of the program and of the split.
@@ -61,11 +60,8 @@ impl Server {
     /// taken before the store changes: after an error the server is as before.
     pub fn serve(&mut self, frame: &[u8]) -> Result<Served, ServeError>
         requires { self.old.version < 2 ^ 32 - 1 }
-        ensures ok { (number port : ℕ) (values : Crossing → ℕ) (packet : List ℕ)
-            → let before = server_of self.old in
-            IsFrameOf 1 (up_layout before.program before.split) number port values packet frame.now
-            → IfOk result (λ served. IsServed before number (record { port = port; bytes = packet })
-            (handed before.program values) served (server_of self.new)) }
+        ensures ok { IfOk result (λ served.
+            IsServed (server_of self.old) frame.now served (server_of self.new)) }
         ensures malformed { let before = server_of self.old in
             (result ≡ Err ServeError.Malformed)
             ↔ (¬ (IsFrame 1 (up_layout before.program before.split) frame.now)) }

@@ -1,13 +1,13 @@
 //! The server's turn at an instruction.
 ghost use Rattle.std.specs.Prelude.{◌≡◌, ◌<◌, ◌≤◌, ◌==◌, ◌||◌, ◌∷◌, [], true, false};
-ghost use Rattle.std.specs.Prelude.{length, None, IsTrue, if◌then◌else◌};
+ghost use Rattle.std.specs.Prelude.{length, IsTrue, if◌then◌else◌};
 ghost use Rattle.packet_fields.specs.Shape.{shape_of};
 ghost use Rattle.packet_fields.specs.declared.packet.TheConstants.{MAX_PACKET_BYTES};
 ghost use Rattle.state_store.specs.Kept.{IsKept};
 ghost use Rattle.flat_ir.specs.Blocks.{is_live};
 ghost use Rattle.flat_ir.specs.Fits.{fits};
-ghost use Rattle.flat_ir.specs.Kinds.{is_input, is_write};
-ghost use Rattle.flat_ir.specs.Program.{program_of, step_at, work_of};
+ghost use Rattle.flat_ir.specs.Kinds.{is_input};
+ghost use Rattle.flat_ir.specs.Program.{program_of, work_of};
 ghost use Rattle.flat_ir.specs.Registers.{packet_of, results_of};
 ghost use Rattle.flat_ir.specs.Run.{change_of, made, results, with_changes};
 ghost use Rattle.split_model.specs.Shown.{is_replicated};
@@ -29,7 +29,6 @@ use writeback_table::{To, Update};
 fn told(numbers: &Registers<'_>, kind: &InstrKind) -> Option<Update>
     requires prepared { IsPrepared numbers.now.whole.now }
     requires fits { IsTrue (fits (program_of numbers.now.whole.now.flat) (work_of kind.now)) }
-    ensures quiet { is_write (work_of kind.now) ≡ false → result ≡ None }
     ensures told { let f = program_of numbers.now.whole.now.flat in
         as_list result ≡ updates_of f numbers.now.whole.now.split
         (made true (wanted (register_reads f numbers.now.values.now) (work_of kind.now))) }
@@ -72,7 +71,6 @@ fn of_replicated(whole: &SplitProgram, object: u32, key: Values, to: To) -> Opti
 fn tell(numbers: &Registers<'_>, kind: &InstrKind, first: u64) -> Option<Update>
     requires prepared { IsPrepared numbers.now.whole.now }
     requires fits { IsTrue (fits (program_of numbers.now.whole.now.flat) (work_of kind.now)) }
-    ensures quiet { is_write (work_of kind.now) ≡ false → result ≡ None }
     ensures told { let f = program_of numbers.now.whole.now.flat in
         as_list result ≡ updates_of f numbers.now.whole.now.split
         (if first == 1
@@ -97,7 +95,6 @@ fn work_and_tell(
     requires there { instr.now.block ≤ length numbers.now.whole.now.flat.blocks }
     requires size { length arrival.now.bytes.now ≤ MAX_PACKET_BYTES }
     requires shape { arrival.now.shape ≡ shape_of arrival.now.bytes.now }
-    ensures quiet { is_write (work_of instr.now.kind) ≡ false → result.1 ≡ None }
     ensures results { let f = program_of numbers.now.whole.now.flat in
         let reads = register_reads f numbers.now.values.now in
         results_of result.0
@@ -146,7 +143,6 @@ pub(crate) fn take_turn(
         (server_turn f whole.now.split (packet_of arrival.now) instruction (register_reads f values.old) store.old)
         (register_reads f values.new) store.new (as_list result.0) }
     ensures count { length values.new ≡ length values.old }
-    ensures quiet { is_write (step_at (program_of whole.now.flat) instruction).work ≡ false → result.0 ≡ None }
     ensures few { result.1 ≤ 1 }
 {
     let instr = &whole.flat.code.as_slice()[instruction];
