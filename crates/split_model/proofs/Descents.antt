@@ -116,7 +116,7 @@ packet_apart r live st packet packet' (look object keys) can none = refl
 packet_apart r live st packet packet' (put object keys values) can none = absurd (false≢true can)
 packet_apart r live st packet packet' (del object keys) can none = absurd (false≢true can)
 
-post_inside : (f : Program) (split : List Part) → IsLegal f split → (i : ℕ) (o : Option ℕ) → post_stage split i ≡ o → is_some o ≡ true → i < length f.code
+pub post_inside : (f : Program) (split : List Part) → IsLegal f split → (i : ℕ) (o : Option ℕ) → post_stage split i ≡ o → is_some o ≡ true → i < length f.code
 post_inside f split legal i None e some = absurd (false≢true some)
 post_inside f split legal i (Some own) e some = post_within f split legal.count i own e
 
@@ -156,7 +156,7 @@ module _ (agree : Agreements) (settings : Settings) (f : Program) (split : List 
       packet_apart r false tables came packet (step_at f v.instruction).work (post_kind f split legal v.instruction within post) (post_field f split legal v.instruction within post)
 
   values_alike : (v : ValueId) → post_values f split down tables came v ≡ post_values f split down tables packet v
-  values_alike v = pass_alike agree f (post_stage split) (given_down f split down came) (given_down f split down packet) tables came packet given_alike seen_alike v
+  values_alike v = pass_alike agree f (post_stage split) (given_down f split down came) (given_down f split down packet) tables tables came packet given_alike seen_alike v
 
   pub comes_down : IsSentDown f split tables packet server down
   comes_down =

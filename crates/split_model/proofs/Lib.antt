@@ -19,5 +19,6 @@ mod Sights
 mod Stages
 mod Steps
 mod Sums
+mod Tabled
 mod Wholes
 mod Wide

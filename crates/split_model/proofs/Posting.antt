@@ -35,7 +35,7 @@ module _ (f : Program) (split : List Part) (tables : Store) (packet : Packet) (s
       (cases_Bool (crosses_down f split v))
 
   values_alike : (v : ValueId) → R v ≡ Q v
-  values_alike v = pass_alike agree f (post_stage split) (given_down f split other_down packet) (given_down f split down packet) tables packet packet given_alike (λ u some r. refl) v
+  values_alike v = pass_alike agree f (post_stage split) (given_down f split other_down packet) (given_down f split down packet) tables tables packet packet given_alike (λ u some r. refl) v
 
   leaves_alike : (w : FieldValue) → (is_post split w.value.instruction ≡ false → is_written_value f split w.value ≡ true) → leaving split other_server R w.value ≡ leaving split server Q w.value
   leaves_alike w set =

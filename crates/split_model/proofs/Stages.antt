@@ -77,22 +77,22 @@ has_stage : (o : Option ℕ) (t : ℕ) → is_stage o t ≡ true → is_some o �
 has_stage None t e = absurd (false≢true e)
 has_stage (Some own) t e = refl
 
--- a pass that is given the same numbers, and reads the same in another packet, has the same values
-module _ (agree : Agreements) (f : Program) (stage : ℕ → Option ℕ) (given given' : Reading) (tables : Store) (packet packet' : Packet) (alike : (v : ValueId) → given v ≡ given' v) (seen : (v : ValueId) → is_some (stage v.instruction) ≡ true → (r : Reading) → results r false tables packet (step_at f v.instruction).work ≡ results r false tables packet' (step_at f v.instruction).work) where
-  made_alike : (r r' : Reading) → ((v : ValueId) → r v ≡ r' v) → (v : ValueId) → is_some (stage v.instruction) ≡ true → slice_index (results r false tables packet (step_at f v.instruction).work) v.result ≡ slice_index (results r' false tables packet' (step_at f v.instruction).work) v.result
+-- a pass that is given the same numbers, and reads the same in other tables and another packet, has the same values
+module _ (agree : Agreements) (f : Program) (stage : ℕ → Option ℕ) (given given' : Reading) (tables tables' : Store) (packet packet' : Packet) (alike : (v : ValueId) → given v ≡ given' v) (seen : (v : ValueId) → is_some (stage v.instruction) ≡ true → (r : Reading) → results r false tables packet (step_at f v.instruction).work ≡ results r false tables' packet' (step_at f v.instruction).work) where
+  made_alike : (r r' : Reading) → ((v : ValueId) → r v ≡ r' v) → (v : ValueId) → is_some (stage v.instruction) ≡ true → slice_index (results r false tables packet (step_at f v.instruction).work) v.result ≡ slice_index (results r' false tables' packet' (step_at f v.instruction).work) v.result
   made_alike r r' h v some =
       let work = (step_at f v.instruction).work in
       ap (λ rs. slice_index rs v.result) (agree.results r r' false tables packet work (agree.operands r r' work (each_all (Same r r') h (operands work))) ∙ seen v some r')
 
-  done_alike : (t : ℕ) (v : ValueId) → done_below f stage given tables packet t v ≡ done_below f stage given' tables packet' t v
+  done_alike : (t : ℕ) (v : ValueId) → done_below f stage given tables packet t v ≡ done_below f stage given' tables' packet' t v
   done_alike zero v = alike v
   done_alike (suc t) v =
-      chosen (is_stage (stage v.instruction) t) (λ own. made_alike (done_below f stage given tables packet t) (done_below f stage given' tables packet' t) (done_alike t) v (has_stage (stage v.instruction) t own)) (done_alike t v)
+      chosen (is_stage (stage v.instruction) t) (λ own. made_alike (done_below f stage given tables packet t) (done_below f stage given' tables' packet' t) (done_alike t) v (has_stage (stage v.instruction) t own)) (done_alike t v)
 
-  value_alike : (o : Option ℕ) (v : ValueId) → stage v.instruction ≡ o → value_from o f stage given tables packet v ≡ value_from o f stage given' tables packet' v
+  value_alike : (o : Option ℕ) (v : ValueId) → stage v.instruction ≡ o → value_from o f stage given tables packet v ≡ value_from o f stage given' tables' packet' v
   value_alike None v e = alike v
   value_alike (Some own) v e =
-      made_alike (done_below f stage given tables packet own) (done_below f stage given' tables packet' own) (done_alike own) v (ap is_some e)
+      made_alike (done_below f stage given tables packet own) (done_below f stage given' tables' packet' own) (done_alike own) v (ap is_some e)
 
-  pub pass_alike : (v : ValueId) → pass f stage given tables packet v ≡ pass f stage given' tables packet' v
+  pub pass_alike : (v : ValueId) → pass f stage given tables packet v ≡ pass f stage given' tables' packet' v
   pass_alike v = value_alike (stage v.instruction) v refl

@@ -88,6 +88,12 @@ pub record IsSentDown (f : Program) (split : List Part) (tables : Store) (packet
   pub verdict : down_verdict f split down tables (sent_down f split server packet)
       ≡ post_verdict f split server down tables packet
 
+-- Over other tables that have the declared constant ones, postprocessing has the same values and the same verdict.
+pub record IsPostedAlike (f : Program) (split : List Part) (tables other : Store) (packet : Packet) (down : Reading)
+    : Type 0 where
+  pub values : (v : ValueId) → post_values f split down other packet v ≡ post_values f split down tables packet v
+  pub verdict : down_verdict f split down other packet ≡ down_verdict f split down tables packet
+
 -- where values cross, the numbers have no more bits than the values' widths
 abbrev pub FitAcross : Program → (ValueId → Bool) → Reading → Type 0
 FitAcross f crosses reads = (v : ValueId) → crosses v ≡ true → reads v < 2 ^ width_of_value f v

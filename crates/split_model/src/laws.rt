@@ -17,7 +17,8 @@ ghost use Rattle.split_model.specs.Legal.{IsLegal};
 ghost use Rattle.split_model.specs.Passes.{IsHanded, Shows, pre_values, post_values, served};
 ghost use Rattle.split_model.specs.Passes.{done_below, given_down, pass};
 ghost use Rattle.split_model.specs.Laws.{CarriedStand, FitAcross, HasEveryPart, HasReplicated, IsExact, IsLoaded};
-ghost use Rattle.split_model.specs.Laws.{IsSentAlike, IsSentDown, IsServedAlike, IsServedWithin, IsShownAlone, IsWhole};
+ghost use Rattle.split_model.specs.Laws.{IsPostedAlike, IsSentAlike, IsSentDown, IsServedAlike, IsServedWithin};
+ghost use Rattle.split_model.specs.Laws.{IsShownAlone, IsWhole};
 
 use flat_ir::{
     a_run_goes_on, a_run_is_its_changes, a_run_is_its_values, a_run_keeps_the_tables,
@@ -129,6 +130,15 @@ pub fn postprocessing_reads_what_crosses()
         (server down other_server other_down : Reading)
         → IsHanded (is_written_value f split) server other_server → IsHanded (crosses_down f split) down other_down
         → IsSentAlike f split tables packet server down other_server other_down }
+{
+    readings_that_agree();
+}
+
+/// Postprocessing reads constant tables alone: over any tables that have the declared ones it computes the same.
+pub fn postprocessing_reads_constant_tables()
+    ensures { (f : Program) (split : List Part) (tables other : Store) (packet : Packet) (down : Reading)
+        → IsLegal f split → IsLoaded f split tables → IsLoaded f split other
+        → IsPostedAlike f split tables other packet down }
 {
     readings_that_agree();
 }
