@@ -185,6 +185,34 @@ impl Commit {
         self.commands.len() as u32
     }
 
+    /// How many of them were sent.
+    pub fn sent(&self) -> u32
+        ensures { result ≡ self.now.sent }
+    {
+        self.sent
+    }
+
+    /// How many of them were applied.
+    pub fn applied(&self) -> u32
+        ensures { result ≡ self.now.done }
+    {
+        self.done
+    }
+
+    /// How many of them were acknowledged.
+    pub fn acked(&self) -> u32
+        ensures { result ≡ self.now.acked }
+    {
+        self.acked
+    }
+
+    /// How many outputs wait.
+    pub fn held(&self) -> usize
+        ensures { result ≡ length self.now.held }
+    {
+        self.held.len()
+    }
+
     /// How many commands aren't applied, sent or not.
     pub fn unapplied(&self) -> u32
         ensures { result ≡ length self.now.commands - self.now.done }
