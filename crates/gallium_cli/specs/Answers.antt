@@ -17,7 +17,7 @@ use Rattle.resource_limits.specs.declared.limits.Limits.{Limits}
 use Rattle.resource_limits.specs.Counts.{counts_of}
 use Rattle.resource_limits.specs.Kept.{KeepsLimits}
 use Rattle.partition.specs.Choice.{IsChosen}
-use Rattle.run_text.specs.declared.schedule.Plan.{Plan}
+use Rattle.run_text.specs.declared.plan.Plan.{Plan}
 use Rattle.run_text.specs.declared.run.Run.{Run as RunTold}
 use Rattle.run_text.specs.Trace.{trace_of, schedule_of}
 use Rattle.run_text.specs.Report.{report_of}

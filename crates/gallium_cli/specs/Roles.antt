@@ -6,7 +6,7 @@ use Rattle.element_lang.specs.Accepted.{IsSource}
 use Rattle.flatten.specs.Flatten.{flat_of}
 use Rattle.resource_limits.specs.Limits as texts
 use Rattle.resource_limits.specs.declared.limits.Limits.{Limits}
-use Rattle.run_text.specs.declared.schedule.Plan.{Plan}
+use Rattle.run_text.specs.declared.plan.Plan.{Plan}
 use Rattle.run_text.specs.Trace.{trace_of, schedule_of}
 use Rattle.gallium_cli.specs.Words.{Request, Run, Compile, Replay, ReplayWithin}
 
