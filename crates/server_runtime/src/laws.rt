@@ -17,12 +17,11 @@ ghost use Rattle.split_model.specs.Legal.{IsLegal};
 ghost use Rattle.split_model.specs.Passes.{served, server_run};
 ghost use Rattle.server_runtime.specs.Serving.{is_followed, packet_frame, updates_of, IsUpdateIn, IsWholeRun};
 
-use packet_fields::fields_stand_alone;
 use split_model::{
     a_server_keeps_widths, a_server_reads_what_crosses, a_split_is_the_whole,
     kept_stores_have_tables, what_comes_down_serves, what_is_handed_up_fits,
 };
-use transfer_header::{frames_are_told_by_place, what_crosses_is_held, what_crosses_is_narrow};
+use transfer_header::{frames_are_told_by_place, what_crosses_is_narrow};
 
 /// What the switch is told has the widths of the replicated objects that it changes, from numbers that fit. After so
 /// many instructions, it has no more changes than there are writes to replicated objects among them.
@@ -49,11 +48,9 @@ pub fn a_served_packet_is_the_whole_run()
 {
     a_server_keeps_widths();
     a_split_is_the_whole();
-    fields_stand_alone();
     frames_are_told_by_place();
     kept_stores_have_tables();
     what_comes_down_serves();
-    what_crosses_is_held();
     what_crosses_is_narrow();
     what_is_handed_up_fits();
 }
