@@ -53,7 +53,7 @@ pub record HasNewestTables (x : Setup) (events : List Event) (drain : Bool) (por
 -- What comes of a replay over a port that tells its tables: it reports the run of the world, which is a serial run of
 -- the whole program.
 pub record IsRunOf (x : Setup) (events : List Event) (drain : Bool) (run : Run) (port : PortState) : Type 0 where
-  pub run : run ≡ plan_run (whole x) x.packets events drain
+  pub is : run ≡ plan_run (whole x) x.packets events drain
   pub serialises : Serialises (whole x) x.packets run
   -- where nothing is left on its way, every admitted packet was released, and the switch has the server's tables
   pub released : IsTrue (is_quiet (plan_world (whole x) x.packets events drain)) → AllReleased (whole x) x.packets run
