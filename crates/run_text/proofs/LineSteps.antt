@@ -1,9 +1,12 @@
 -- What a reader of lines has read.
-use Rattle.std.proofs.Common.{◌≡◌, ℕ, suc, ◌+◌, ◌≤◌, true, false, not, ◌||◌, cond, ltb, eqb, List, [], ◌∷◌, ◌++◌, length, refl, arith}
-use Rattle.std.specs.Prelude.{Result, Ok, Err}
-use Rattle.std.specs.List.{list_any, position_or_len}
+use Rattle.std.proofs.Common.{◌≡◌, ℕ, suc, ◌+◌, ◌≤◌, Bool, inl, inr, true, false, not, ◌&&◌, ◌||◌, cond, ltb, eqb, List, [], ◌∷◌, ◌++◌, length, refl, sym, ◌∙◌, arith}
+use Rattle.std.specs.Prelude.{Result, Ok, Err, if◌then◌else◌}
+use Rattle.std.specs.List.{list_any, position_or_len, before_first, after_first}
 use Rattle.std.proofs.lemmas.Bool.Decides.{nat_tests}
-use Rattle.run_text.specs.Trace.{is_space}
+use Rattle.std.proofs.lemmas.Bool.{cases_Bool}
+use Rattle.gal_io.specs.Lines.{is_skipped}
+use Rattle.run_text.specs.Trace.{after_drain, followed_by, in_front, is_space, line_values, values_until, with_line}
+use Rattle.run_text.specs.declared.refusal.LineKind.{LineKind}
 use Rattle.run_text.specs.declared.refusal.LinesError.{LinesError}
 
 -- a line has a space exactly where the first one stands before its end
@@ -21,3 +24,89 @@ any_space (byte ∷ bytes) =
 abbrev pub Stands : {X : Type 0} → Result (List X) LinesError → Result (List X) LinesError → List X → ℕ → ℕ → Type 0
 Stands {X} (Ok xs) whole kept have most = (all : List X) × (whole ≡ Ok all) × (length all ≡ have + length xs) × (have ≤ most → all ≡ kept ++ xs)
 Stands (Err e) whole kept have most = whole ≡ Err e
+
+-- What lines from n on give, where the values have ended already, or not yet.
+abbrev pub ahead_values : {X : Type 0} → (List ℕ → Bool) → (List ℕ → Result X LineKind) → Bool → ℕ → List (List ℕ) → Result (List X) LinesError
+ahead_values ends value ended n [] = Ok []
+ahead_values ends value ended n (l ∷ ls) =
+    if not ended && ends l then ahead_values ends value true (n + 1) ls
+    else (if is_skipped l then ahead_values ends value ended (n + 1) ls
+    else with_line n (if ended then after_drain l else value l) (ahead_values ends value ended (n + 1) ls))
+
+-- and whether they have ended in the end
+abbrev pub ahead_ended : (List ℕ → Bool) → Bool → List (List ℕ) → Bool
+ahead_ended ends ended [] = ended
+ahead_ended ends ended (l ∷ ls) = if not ended && ends l then ahead_ended ends true ls else ahead_ended ends ended ls
+
+-- once ended, no line may stand
+none_behind : {X : Type 0} (ends : List ℕ → Bool) (value : List ℕ → Result X LineKind) (n : ℕ) (ls : List (List ℕ)) → ahead_values ends value true n ls ≡ line_values after_drain n ls
+none_behind ends value n [] = refl
+none_behind ends value n (l ∷ ls) =
+    let next : n + 1 ≡ suc n = omega arith in
+    rw next (rw (none_behind ends value (suc n) ls) refl)
+
+stays_ended : (ends : List ℕ → Bool) (ls : List (List ℕ)) → ahead_ended ends true ls ≡ true
+stays_ended ends [] = refl
+stays_ended ends (l ∷ ls) = stays_ended ends ls
+
+pub any_ends : (ends : List ℕ → Bool) (ls : List (List ℕ)) → ahead_ended ends false ls ≡ list_any ends ls
+any_ends ends [] = refl
+any_ends ends (l ∷ ls) =
+    let rest = any_ends ends ls in
+    elim (ends l) as (λ b. (if not false && b then ahead_ended ends true ls else ahead_ended ends false ls) ≡ (b || list_any ends ls)) [
+      | true ↦ stays_ended ends ls
+      | false ↦ rest
+    ]
+
+followed_first : {X : Type 0} (behind : Result (List X) LinesError) → followed_by (Ok []) behind ≡ behind
+followed_first (Ok xs) = refl
+followed_first (Err e) = refl
+
+followed_in_front : {X : Type 0} (x : X) (first behind : Result (List X) LinesError) → followed_by (in_front x first) behind ≡ in_front x (followed_by first behind)
+followed_in_front x (Ok xs) (Ok ys) = refl
+followed_in_front x (Ok xs) (Err e) = refl
+followed_in_front x (Err e) behind = refl
+
+followed_with_line : {X : Type 0} (n : ℕ) (given : Result X LineKind) (first behind : Result (List X) LinesError) → followed_by (with_line n given first) behind ≡ with_line n given (followed_by first behind)
+followed_with_line n (Ok x) first behind = followed_in_front x first behind
+followed_with_line n (Err kind) first behind = refl
+
+-- the lines before the one that ends the values, and then those behind it
+abbrev Parted : {X : Type 0} → (List ℕ → Bool) → (List ℕ → Result X LineKind) → ℕ → List (List ℕ) → Result (List X) LinesError
+Parted ends value n ls = followed_by (line_values value n (before_first ends ls)) (line_values after_drain (length (before_first ends ls) + suc n) (after_first ends ls))
+
+parted : {X : Type 0} (ends : List ℕ → Bool) (value : List ℕ → Result X LineKind) (n : ℕ) (ls : List (List ℕ)) → ahead_values ends value false n ls ≡ Parted ends value n ls
+parted ends value n [] = refl
+parted ends value n (l ∷ ls) =
+    let rest = parted ends value (suc n) ls in
+    let next : n + 1 ≡ suc n = omega arith in
+    let first : 0 + suc n ≡ suc n = omega arith in
+    let at : 1 + position_or_len ends ls ≡ suc (position_or_len ends ls) = omega arith in
+    let past : suc (position_or_len ends ls) + 1 ≡ suc (position_or_len ends ls + 1) = omega arith in
+    let place : suc (length (before_first ends ls)) + suc n ≡ length (before_first ends ls) + suc (suc n) = omega arith in
+    elim (cases_Bool (ends l)) [
+      | inl last ↦ rw last (rw next (rw first (rw (none_behind ends value (suc n) ls) (sym (followed_first (line_values after_drain (suc n) ls))))))
+      | inr before ↦ rw before (rw next (rw at (rw past (rw place (elim (cases_Bool (is_skipped l)) [
+        | inl skipped ↦ rw skipped rest
+        | inr told ↦ rw told (rw rest (sym (followed_with_line n (value l) _ _)))
+      ])))))
+    ]
+
+-- all lines, from the first
+pub all_lines : {X : Type 0} (ends : List ℕ → Bool) (value : List ℕ → Result X LineKind) (ls : List (List ℕ)) → ahead_values ends value false 1 ls ≡ values_until ends value ls
+all_lines ends value ls = parted ends value 1 ls
+
+-- before any line is read, none is kept
+pub first_stands : {X : Type 0} (given whole : Result (List X) LinesError) (kept : List X) (most : ℕ) → given ≡ whole → kept ≡ [] → Stands given whole kept 0 most
+first_stands (Ok xs) whole kept most same none = (xs, sym same, omega arith, λ few. rw none refl)
+first_stands (Err e) whole kept most same none = sym same
+
+not_ended : {X : Type 0} (value : List ℕ → Result X LineKind) (n : ℕ) (ls : List (List ℕ)) → ahead_values (λ _. false) value false n ls ≡ line_values value n ls
+not_ended value n [] = refl
+not_ended value n (l ∷ ls) =
+    let next : n + 1 ≡ suc n = omega arith in
+    rw next (rw (not_ended value (suc n) ls) refl)
+
+-- where no line ends the values, all lines have one
+pub none_ends : {X : Type 0} (value : List ℕ → Result X LineKind) (ls : List (List ℕ)) → values_until (λ _. false) value ls ≡ line_values value 1 ls
+none_ends value ls = sym (all_lines (λ _. false) value ls) ∙ not_ended value 1 ls

@@ -1,5 +1,5 @@
 -- No packet of a trace is long.
-use Rattle.std.proofs.Common.{ℕ, suc, ◌≤◌, true, false, inl, inr, List, [], ◌∷◌, length, arith}
+use Rattle.std.proofs.Common.{◌≡◌, ap, ℕ, suc, ◌≤◌, true, false, inl, inr, List, [], ◌∷◌, length, arith}
 use Rattle.std.specs.Prelude.{All, IfOk, Option, Some, None, Result, Ok, Err, codes, nat_le, if◌then◌else◌}
 use Rattle.std.specs.List.{after_first, before_first, list_any}
 use Rattle.std.specs.Str.{bytes_eq}
@@ -11,11 +11,12 @@ use Rattle.hex.specs.declared.error.FromHexError.{FromHexError}
 use Rattle.gal_io.specs.Lines.{is_skipped, lines}
 use Rattle.gal_io.specs.Number.{number_up_to}
 use Rattle.packet_fields.specs.declared.packet.Packet.{Packet}
-use Rattle.run_text.specs.Trace.{at_most, body_bytes, body_of, is_space, line_values, packet_by, packet_line, packet_with, trace_of, with_line}
+use Rattle.run_text.specs.Trace.{at_most, body_bytes, body_of, is_space, line_values, packet_by, packet_line, packet_with, trace_of, values_until, with_line}
 use Rattle.run_text.specs.declared.refusal.LineKind.{LineKind}
 use Rattle.run_text.specs.declared.refusal.LineKind.TheVariants.{Form}
 use Rattle.run_text.specs.declared.refusal.LinesError.{LinesError}
 use Rattle.run_text.specs.declared.refusal.LinesError.TheVariants.{TooMany}
+use Rattle.run_text.proofs.LineSteps.{none_ends}
 use Rattle.packet_fields.specs.Sizes.{largest_packet}
 use Rattle.run_text.specs.Sizes.{most_packets}
 
@@ -77,3 +78,7 @@ short_line line = elim (list_any is_space line) as (λ b. IfOk (if b then packet
 
 pub short_trace : (text : List ℕ) → IfOk (trace_of text) (All IsShortPacket)
 short_trace text = all_of_most IsShortPacket most_packets (line_values packet_line 1 (lines text)) (all_lines IsShortPacket packet_line short_line 1 (lines text))
+
+-- a trace has no last line, so its packets are those of all lines
+pub trace_values : (text : List ℕ) → at_most most_packets (values_until (λ _. false) packet_line (lines text)) ≡ trace_of text
+trace_values text = ap (at_most most_packets) (none_ends packet_line (lines text))

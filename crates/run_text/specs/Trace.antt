@@ -1,6 +1,6 @@
 -- The text of a trace, and of a schedule: which values a text spells, or why it is refused.
-use Rattle.std.specs.Prelude.{ℕ, suc, ◌-◌, ◌^◌, Bool, List, [], ◌∷◌, length, nat_le, ◌==◌, if◌then◌else◌, Option, Some}
-use Rattle.std.specs.Prelude.{None, Result, Ok, Err, codes}
+use Rattle.std.specs.Prelude.{ℕ, suc, ◌+◌, ◌-◌, ◌^◌, Bool, List, [], ◌∷◌, ◌++◌, length, nat_le, ◌==◌}
+use Rattle.std.specs.Prelude.{if◌then◌else◌, Option, Some, None, Result, Ok, Err, codes}
 use Rattle.std.specs.Str.{bytes_eq}
 use Rattle.std.specs.List.{before_first, after_first, list_any}
 use Rattle.hex.specs.Hex.{decode_of}
@@ -10,8 +10,9 @@ use Rattle.gal_io.specs.Number.{number_up_to}
 use Rattle.packet_fields.specs.declared.packet.Packet.{Packet}
 use Rattle.run_text.specs.declared.event.Event.{Event}
 use Rattle.run_text.specs.declared.event.Event.TheVariants.{Admit, Serve, Send, Apply, Ack, Hold, Down}
+use Rattle.run_text.specs.declared.plan.Plan.{Plan}
 use Rattle.run_text.specs.declared.refusal.LineKind.{LineKind}
-use Rattle.run_text.specs.declared.refusal.LineKind.TheVariants.{Form, Number, Hex, Long}
+use Rattle.run_text.specs.declared.refusal.LineKind.TheVariants.{Form, Number, Hex, Long, AfterDrain}
 use Rattle.run_text.specs.declared.refusal.LinesError.{LinesError}
 use Rattle.run_text.specs.declared.refusal.LinesError.TheVariants.{Line, TooMany}
 use Rattle.packet_fields.specs.Sizes.{largest_packet}
@@ -32,6 +33,24 @@ abbrev pub line_values : {X : Type 0} → (List ℕ → Result X LineKind) → �
 line_values value n [] = Ok []
 line_values value n (l ∷ ls) =
     if is_skipped l then line_values value (suc n) ls else with_line n (value l) (line_values value (suc n) ls)
+
+-- the values of lines, and then of those behind them
+abbrev pub followed_by : {X : Type 0} → Result (List X) LinesError → Result (List X) LinesError
+    → Result (List X) LinesError
+followed_by (Ok xs) (Ok ys) = Ok (xs ++ ys)
+followed_by (Ok xs) (Err e) = Err e
+followed_by (Err e) behind = Err e
+
+-- a line that stands where none may
+abbrev pub after_drain : {X : Type 0} → List ℕ → Result X LineKind
+after_drain line = Err AfterDrain
+
+-- the values of the lines before the first one that ends them; behind that one, none may stand
+abbrev pub values_until : {X : Type 0} → (List ℕ → Bool) → (List ℕ → Result X LineKind) → List (List ℕ)
+    → Result (List X) LinesError
+values_until ends value ls =
+    let before = before_first ends ls in
+    followed_by (line_values value 1 before) (line_values after_drain (length before + 2) (after_first ends ls))
 
 -- at most so many values; their number is tested where no line is refused
 abbrev pub at_most : {X : Type 0} → ℕ → Result (List X) LinesError → Result (List X) LinesError
@@ -103,6 +122,15 @@ event_by None line =
 abbrev pub event_line : List ℕ → Result Event LineKind
 event_line line = event_by (word_event line) line
 
--- the events that the text of a schedule spells
-abbrev pub schedule_of : List ℕ → Result (List Event) LinesError
-schedule_of text = at_most most_events (line_values event_line 1 (lines text))
+-- the line that ends a schedule
+abbrev pub is_drain : List ℕ → Bool
+is_drain line = bytes_eq line (codes "drain")
+
+abbrev pub plan_of : Bool → Result (List Event) LinesError → Result Plan LinesError
+plan_of drain (Ok events) = Ok (record { events = events; drain = drain })
+plan_of drain (Err e) = Err e
+
+-- the plan that the text of a schedule spells: its events, and whether `drain` stands behind them
+abbrev pub schedule_of : List ℕ → Result Plan LinesError
+schedule_of text =
+    plan_of (list_any is_drain (lines text)) (at_most most_events (values_until is_drain event_line (lines text)))

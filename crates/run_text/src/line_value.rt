@@ -1,8 +1,9 @@
 //! Values of which each stands on a line of a text.
 ghost use Rattle.std.specs.Prelude.{◌≡◌, ◌≤◌, ◌⊎◌, length, IfOk, IfErr, MatchOption, true, false, Ok, Err};
+ghost use Rattle.std.specs.Prelude.{not, ◌&&◌, if◌then◌else◌};
 ghost use Rattle.std.specs.List.{after_first, before_first, list_any, position_or_len};
 ghost use Rattle.gal_io.specs.Lines.{lines};
-ghost use Rattle.run_text.specs.Trace.{at_most, is_space, line_values};
+ghost use Rattle.run_text.specs.Trace.{after_drain, at_most, is_space, values_until};
 
 use crate::refusal::{LineKind, LinesError};
 use gal_io::{NoMemory, is_skipped, split_line};
@@ -10,14 +11,27 @@ use std::alloc::Global;
 
 /// A value that a line spells.
 pub(crate) trait LineValue: Sized + Drop {
-    ghost use Rattle.std.specs.Prelude.{List, ℕ, Result};
+    ghost use Rattle.std.specs.Prelude.{List, ℕ, Bool, Result};
     ghost use Rattle.run_text.specs.declared.refusal.LineKind.{LineKind};
 
     ghost line_gives: { List ℕ → Result Self LineKind };
 
+    ghost line_ends: { List ℕ → Bool };
+
     /// The value of a line, or what is wrong with it.
     fn from_line(alloc: Global, line: &[u8]) -> Result<Result<Self, LineKind>, NoMemory>
         ensures { IfOk result (λ given. given ≡ line_gives line.now) };
+
+    /// Whether a line spells no value and is the last that may stand.
+    fn is_end(line: &[u8]) -> bool
+        ensures { result ≡ line_ends line.now };
+}
+
+/// The values of the lines of a text, and whether one ended them.
+#[derive(Drop)]
+pub(crate) struct LineValues<V> {
+    pub(crate) items: Vec<V>,
+    pub(crate) ended: bool,
 }
 
 // Where the first space stands, or the line ends.
@@ -43,28 +57,56 @@ pub(crate) fn split_at_space(line: &[u8]) -> Option<(&[u8], &[u8])>
     Some((&line[..at], &line[at + 1..]))
 }
 
+// Whether a line ends values that no line ended before.
+fn ends_here<V: LineValue>(line: &[u8], ended: bool) -> bool
+    ensures { result ≡ (not ended && V.line_ends line.now) }
+{
+    !ended && V::is_end(line)
+}
+
+// The value of a line; once the values have ended, none may stand.
+fn read_line<V: LineValue>(
+    alloc: Global,
+    line: &[u8],
+    ended: bool,
+) -> Result<Result<V, LineKind>, NoMemory>
+    ensures { IfOk result (λ given. given ≡ (if ended then after_drain line.now else V.line_gives line.now)) }
+{
+    if ended {
+        return Ok(Err(LineKind::AfterDrain));
+    }
+    V::from_line(alloc, line)
+}
+
 /// The values of the lines of a text. Those past the first `most` are counted and not kept.
 pub(crate) fn read_values<V: LineValue>(
     alloc: Global,
     text: &[u8],
     most: usize,
-) -> Result<Vec<V>, LinesError>
-    ensures ok { IfOk result (λ values. at_most most (line_values V.line_gives 1 (lines text.now)) ≡ Ok values.items) }
-    ensures err { IfErr result (λ e.
-        (e ≡ LinesError.NoMemory) ⊎ (at_most most (line_values V.line_gives 1 (lines text.now)) ≡ Err e)) }
+) -> Result<LineValues<V>, LinesError>
+    ensures ok { IfOk result (λ values.
+        at_most most (values_until V.line_ends V.line_gives (lines text.now)) ≡ Ok values.items.items) }
+    ensures ended { IfOk result (λ values. values.ended ≡ list_any V.line_ends (lines text.now)) }
+    ensures err { IfErr result (λ e. (e ≡ LinesError.NoMemory)
+        ⊎ (at_most most (values_until V.line_ends V.line_gives (lines text.now)) ≡ Err e)) }
 {
-    let mut values = Vec::new(alloc);
+    let mut items = Vec::new(alloc);
     let mut have = 0;
     let mut number: usize = 0;
+    let mut ended = false;
     let mut ahead = text;
     while let Some((line, behind)) = split_line(ahead) {
         number += 1;
         ahead = behind;
+        if ends_here::<V>(line, ended) {
+            ended = true;
+            continue;
+        }
         if is_skipped(line) {
             continue;
         }
-        match V::from_line(alloc, line)? {
-            Ok(value) if have < most => values.push(value)?,
+        match read_line(alloc, line, ended)? {
+            Ok(value) if have < most => items.push(value)?,
             Ok(_) => {}
             Err(kind) => return Err(LinesError::Line { number, kind }),
         }
@@ -76,5 +118,5 @@ pub(crate) fn read_values<V: LineValue>(
             allowed: most,
         });
     }
-    Ok(values)
+    Ok(LineValues { items, ended })
 }

@@ -22,6 +22,8 @@ pub enum LineKind {
     Hex,
     /// Its packet has more than 9,216 bytes.
     Long,
+    /// A line `drain` stood before it.
+    AfterDrain,
 }
 
 /// Why a text of lines is refused.

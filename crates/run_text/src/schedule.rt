@@ -2,10 +2,11 @@
 ghost use Rattle.std.specs.Prelude.{◌≡◌, ◌≤◌, ◌⊎◌, length, IfOk, IfErr, MatchResult, Some, None, Ok, Err};
 ghost use Rattle.gal_io.specs.Number.{number_up_to};
 ghost use Rattle.run_text.specs.Sizes.{most_events};
-ghost use Rattle.run_text.specs.Trace.{event_line, largest, schedule_of, word_event};
+ghost use Rattle.run_text.specs.Trace.{event_line, is_drain, largest, schedule_of, word_event};
 
 use crate::event::{Event, Events};
 use crate::line_value::{LineValue, read_values, split_at_space};
+use crate::plan::Plan;
 use crate::refusal::{LineKind, LinesError, MAX_EVENTS};
 use gal_io::{NoMemory, number_up_to};
 use std::alloc::Global;
@@ -60,18 +61,27 @@ fn read_event(line: &[u8]) -> Result<Event, LineKind>
 impl LineValue for Event {
     ghost line_gives = { event_line };
 
+    ghost line_ends = { is_drain };
+
     fn from_line(_alloc: Global, line: &[u8]) -> Result<Result<Event, LineKind>, NoMemory> {
         Ok(read_event(line))
     }
+
+    fn is_end(line: &[u8]) -> bool {
+        line == b"drain".as_slice()
+    }
 }
 
-/// The events of a schedule. A line is `a` for the next packet of the trace, `c`, `w` or `k` for the next command to be
-/// sent, applied or acknowledged, or `u`, `h` or `d`, a space and the number of an item in decimal.
-pub fn read_schedule(alloc: Global, text: &[u8]) -> Result<Events, LinesError>
-    ensures ok { IfOk result (λ events. schedule_of text.now ≡ Ok events) }
+/// The plan of a schedule. A line is `a` for the next packet of the trace, `c`, `w` or `k` for the next command to be
+/// sent, applied or acknowledged, or `u`, `h` or `d`, a space and the number of an item in decimal; `drain` may end it.
+pub fn read_schedule(alloc: Global, text: &[u8]) -> Result<Plan, LinesError>
+    ensures ok { IfOk result (λ plan. schedule_of text.now ≡ Ok plan) }
     ensures err { IfErr result (λ e. (e ≡ LinesError.NoMemory) ⊎ (schedule_of text.now ≡ Err e)) }
-    ensures few { IfOk result (λ events. length events ≤ most_events) }
+    ensures few { IfOk result (λ plan. length plan.events ≤ most_events) }
 {
-    let events = read_values(alloc, text, MAX_EVENTS)?;
-    Ok(Events::from(events))
+    let lines = read_values(alloc, text, MAX_EVENTS)?;
+    Ok(Plan {
+        events: Events::from(lines.items),
+        drain: lines.ended,
+    })
 }

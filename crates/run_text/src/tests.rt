@@ -109,9 +109,20 @@ fn lines_of_a_schedule(rt: HostRuntime) {
         (b"c\nw\nk", Ok(3)),
         (b"c 0", refused(1, LineKind::Form)),
         (b"k\nw ", refused(2, LineKind::Form)),
-        (b"drain", refused(1, LineKind::Form)),
+        (b"drain", Ok(0)),
+        (b"a\nu 0\ndrain", Ok(2)),
+        (b"a\ndrain\r\n# c\n\n", Ok(1)),
+        (b"drain\na", refused(2, LineKind::AfterDrain)),
+        (b"drain\n#\n\nx\ny", refused(4, LineKind::AfterDrain)),
+        (b"drain\ndrain", refused(2, LineKind::AfterDrain)),
+        (b"x\ndrain\na", refused(1, LineKind::Form)),
+        (b"u\ndrain", refused(1, LineKind::Form)),
+        (b"drain ", refused(1, LineKind::Form)),
+        (b" drain", refused(1, LineKind::Form)),
+        (b"drain 1", refused(1, LineKind::Form)),
+        (b"#drain\na", Ok(1)),
     ] {
-        let have = read_schedule(alloc, text).map(|events| events.len());
+        let have = read_schedule(alloc, text).map(|plan| plan.events.len());
         assert_eq!(rt; have, want, "{text:?}");
     }
 }
@@ -119,7 +130,7 @@ fn lines_of_a_schedule(rt: HostRuntime) {
 #[test]
 fn events_of_a_schedule(rt: HostRuntime) -> Result<(), Fail> {
     let alloc = rt.alloc();
-    let Ok(read) = read_schedule(alloc, b"a\nu 0\nc\nw\nk\nh 1\nd 2\n") else {
+    let Ok(plan) = read_schedule(alloc, b"a\nu 0\nc\nw\nk\nh 1\nd 2\n") else {
         return Err(Fail::from("refused"));
     };
     let mut events = Events::new(alloc);
@@ -134,11 +145,49 @@ fn events_of_a_schedule(rt: HostRuntime) -> Result<(), Fail> {
     ] {
         assert!(rt; events.push(event).is_ok());
     }
-    assert_eq!(rt; read.as_slice(), events.as_slice());
+    assert_eq!(rt; plan.events.as_slice(), events.as_slice());
+    assert!(rt; !plan.drain);
     let Ok(copy) = events.copy(alloc) else {
         return Err(Fail::from("no copy"));
     };
-    assert_eq!(rt; copy.as_slice(), read.as_slice());
+    assert_eq!(rt; copy.as_slice(), plan.events.as_slice());
+    Ok(())
+}
+
+#[test]
+fn schedules_that_drain(rt: HostRuntime) {
+    let alloc = rt.alloc();
+    for (text, want) in [
+        (b"".as_slice(), Ok(false)),
+        (b"a\n# drain\n", Ok(false)),
+        (b"drain\n", Ok(true)),
+        (b"a\n\nu 0\ndrain\n\n# no more", Ok(true)),
+    ] {
+        let have = read_schedule(alloc, text).map(|plan| plan.drain);
+        assert_eq!(rt; have, want, "{text:?}");
+    }
+}
+
+#[test]
+fn sizes_of_a_schedule(rt: HostRuntime) -> Result<(), Fail> {
+    let alloc = rt.alloc();
+    let mut text = Vec::new(alloc);
+    for _ in 0..1_048_576 {
+        text.extend_from_slice(b"a\n")?;
+    }
+    let many = LinesError::TooMany {
+        have: 1_048_577,
+        allowed: 1_048_576,
+    };
+    for (more, want) in [
+        (b"#\n".as_slice(), Ok(1_048_576)),
+        (b"k\ndrain\n", Err(many)),
+        (b"a\n", refused(1_048_580, LineKind::AfterDrain)),
+    ] {
+        text.extend_from_slice(more)?;
+        let have = read_schedule(alloc, &text).map(|plan| plan.events.len());
+        assert_eq!(rt; have, want, "{more:?}");
+    }
     Ok(())
 }
 

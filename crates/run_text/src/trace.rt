@@ -1,5 +1,5 @@
 //! The text of a trace.
-ghost use Rattle.std.specs.Prelude.{◌≡◌, ◌≤◌, ◌⊎◌, length, IfOk, IfErr, Ok, Err};
+ghost use Rattle.std.specs.Prelude.{◌≡◌, ◌≤◌, ◌⊎◌, length, false, IfOk, IfErr, Ok, Err};
 ghost use Rattle.packet_fields.specs.Sizes.{AreShort};
 ghost use Rattle.run_text.specs.Sizes.{most_packets};
 ghost use Rattle.run_text.specs.Trace.{body_of, packet_line, trace_of};
@@ -32,6 +32,8 @@ fn read_body(alloc: Global, body: &[u8]) -> Result<Result<Bytes, LineKind>, NoMe
 impl LineValue for Packet {
     ghost line_gives = { packet_line };
 
+    ghost line_ends = { λ _. false };
+
     fn from_line(alloc: Global, line: &[u8]) -> Result<Result<Packet, LineKind>, NoMemory> {
         let Some((port, body)) = split_at_space(line) else {
             return Ok(Err(LineKind::Form));
@@ -47,6 +49,10 @@ impl LineValue for Packet {
             Err(kind) => Ok(Err(kind)),
         }
     }
+
+    fn is_end(_line: &[u8]) -> bool {
+        false
+    }
 }
 
 /// The packets of a trace. Each line has a port in decimal, a space and a body; the empty body is `-`.
@@ -56,6 +62,6 @@ pub fn read_trace(alloc: Global, text: &[u8]) -> Result<Packets, LinesError>
     ensures few { IfOk result (λ packets. length packets ≤ most_packets) }
     ensures short { IfOk result AreShort }
 {
-    let packets = read_values(alloc, text, MAX_PACKETS)?;
-    Ok(Packets::of(packets))
+    let lines = read_values(alloc, text, MAX_PACKETS)?;
+    Ok(Packets::of(lines.items))
 }
