@@ -3,3 +3,6 @@ mod Passes
 mod Rests
 mod Handing
 mod Computing
+mod Places
+mod Marks
+mod Codes

@@ -8,7 +8,7 @@ use Rattle.split_model.specs.declared.split.Part.{Part}
 use Rattle.split_model.specs.Split.{is_pre, any_below, any_step}
 use Rattle.switch_ir.specs.Emitted.{is_among, rest_below}
 
-or_nothing : (x : Bool) → (x || false) ≡ x
+pub or_nothing : (x : Bool) → (x || false) ≡ x
 or_nothing true = refl
 or_nothing false = refl
 
