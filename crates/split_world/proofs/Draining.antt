@@ -16,7 +16,7 @@ use Rattle.split_world.specs.Program.{SplitProgram, IsSplitProgram}
 use Rattle.split_world.specs.Progress.{Progress, Up, Held, Slow, Fast, decided, released}
 use Rattle.split_world.specs.World.{World, visible, seen_store, packet_at, tick, finished, sent_up, admitted, with_changes, ran, served, idled, let_go, maybe_go, came_down, sent_one, applied_one, acked_one, step, steps, first_world, world_of}
 use Rattle.split_world.specs.Run.{is_drained, is_quiet}
-use Rattle.split_world.specs.Drain.{next_event, maybe_step, after_drain, drain_bound, drained_world}
+use Rattle.split_world.specs.Drain.{next_event, maybe_step, after_drain, drain_bound, drained_world, plan_world}
 use Rattle.split_world.proofs.Words.{version_at}
 use Rattle.split_world.proofs.Lists.{get_within, get_member}
 use Rattle.split_world.proofs.Counts.{visible_sum, visible_all, length_batch}
@@ -324,3 +324,19 @@ pub drain_events : (s : SplitProgram) (packets : List Packet) (events : List Eve
 drain_events s packets events =
     let r = drain_steps s packets (drain_bound (length packets) s.writes) (world_of s packets events) in
     (r.0, r.1, r.2 ∙ sym (steps_append s packets (first_world (start_store s.objects)) events r.0))
+
+pub plan_events : (s : SplitProgram) (packets : List Packet) (events : List Event) (drain : Bool)
+    → (more : List Event) × (length more ≤ drain_bound (length packets) s.writes) × (plan_world s packets events drain ≡ world_of s packets (events ++ more))
+plan_events s packets events false = ([], omega arith, ap (world_of s packets) (sym (append-nil events)))
+plan_events s packets events true = drain_events s packets events
+
+pub drain_goes_on : (s : SplitProgram) (packets : List Packet) (events : List Event) (event : Event) (n : ℕ) → next_event (length packets) (world_of s packets events) ≡ Some event
+    → after_drain s packets (n + 1) (world_of s packets events) ≡ after_drain s packets n (world_of s packets (events ++ event ∷ []))
+drain_goes_on s packets events event n picked =
+    let count : n + 1 ≡ suc n = omega arith in
+    let w = world_of s packets events in
+    rw count (rw picked (ap (after_drain s packets n) (sym (steps_append s packets (first_world (start_store s.objects)) events (event ∷ [])))))
+
+pub drain_rests : (s : SplitProgram) (packets : List Packet) (n : ℕ) (w : World) → next_event (length packets) w ≡ None → after_drain s packets n w ≡ w
+drain_rests s packets zero w none = refl
+drain_rests s packets (suc n) w none = rw none (drain_rests s packets n w none)

@@ -11,6 +11,7 @@ use Rattle.run_text.specs.Fate.{is_decided, is_released}
 use Rattle.run_text.specs.Order.{order_of}
 use Rattle.run_text.specs.Parts.{parts_of}
 use Rattle.run_text.specs.declared.fate.Fate.{Fate}
+use Rattle.run_text.specs.declared.run.Part.{Part}
 use Rattle.run_text.specs.declared.run.Run.{Run}
 use Rattle.split_world.specs.Program.{SplitProgram}
 use Rattle.split_world.specs.Progress.{fate_of}
@@ -27,8 +28,8 @@ quiet_same s packets r w t =
     let down : length r.down ≡ length w.down = sym (length-map r.down (λ (item : ℕ × List ℕ). item.0)) ∙ ap (λ l. length l) t.down in
     λ i. eqb (up i) 0 && eqb (held i) 0 && eqb (down i) 0 && eqb (t.acked i) (length (t.commands i))
 
-abbrev told_run : SplitProgram → ℕ → Store → ℕ → List Command → ℕ → ℕ → ℕ → Bool → List Fate → Run
-told_run s total store version commands done events idle drained fates = record {
+abbrev told_run : SplitProgram → ℕ → List Part → Store → ℕ → List Command → ℕ → ℕ → ℕ → Bool → List Fate → Run
+told_run s total switch store version commands done events idle drained fates = record {
   total = total;
   decided = count_by is_decided fates;
   released = count_by is_released fates;
@@ -40,10 +41,11 @@ told_run s total store version commands done events idle drained fates = record 
   fates = fates;
   order = order_of fates;
   objects = parts_of s.objects store;
+  switch = switch;
 }
 
-pub run_same : (s : SplitProgram) (packets : List Packet) (r : Replay) (w : World) → IsTied s packets r w → reported.run_of s (length packets) r ≡ world.run_of s (length packets) w
+pub run_same : (s : SplitProgram) (packets : List Packet) (r : Replay) (w : World) → IsTied s packets r w → reported.run_of s (length packets) (world.seen_parts s w) r ≡ world.run_of s (length packets) w
 run_same s packets r w t =
     let all : length r.fates ≡ length w.progress = ap (λ l. length l) t.fates ∙ length-map w.progress fate_of in
     let quiet : reported.is_quiet r ≡ world.is_quiet w = quiet_same s packets r w t in
-    λ i. told_run s (length packets) (t.store i) (t.version i) (t.commands i) (t.done i) (t.events i) (t.idle i) (eqb (all i) (length packets) && quiet i) (t.fates i)
+    λ i. told_run s (length packets) (world.seen_parts s w) (t.store i) (t.version i) (t.commands i) (t.done i) (t.events i) (t.idle i) (eqb (all i) (length packets) && quiet i) (t.fates i)

@@ -1,10 +1,13 @@
 -- The events that end a run, one after the other.
-use Rattle.std.specs.Prelude.{ℕ, zero, suc, ◌+◌, ◌*◌, List, length, nat_lt, if◌then◌else◌, Option, Some, None}
+use Rattle.std.specs.Prelude.{ℕ, zero, suc, ◌+◌, ◌*◌, Bool, true, false, List, length, nat_lt}
+use Rattle.std.specs.Prelude.{if◌then◌else◌, Option, Some, None}
 use Rattle.packet_fields.specs.declared.packet.Packet.{Packet}
 use Rattle.run_text.specs.declared.event.Event.{Event}
 use Rattle.run_text.specs.declared.event.Event.TheVariants.{Admit, Serve, Send, Apply, Ack, Hold, Down}
+use Rattle.run_text.specs.declared.run.Run.{Run}
 use Rattle.split_world.specs.Program.{SplitProgram}
 use Rattle.split_world.specs.World.{World, step, world_of}
+use Rattle.split_world.specs.Run.{run_of}
 
 -- the first of `k`, `w`, `c`, `d 0`, `h 0`, `u 0` and `a` that applies, with so many commands, so many of them sent,
 -- applied and acknowledged, so many items in each list, and so many packets of which so many are admitted
@@ -42,3 +45,11 @@ drain_bound packets writes = packets * (4 + 3 * (3 * writes + 2))
 abbrev pub drained_world : SplitProgram → List Packet → List Event → World
 drained_world s packets events =
     after_drain s packets (drain_bound (length packets) s.writes) (world_of s packets events)
+
+-- the last world of a schedule, which may end with drain, and its run
+abbrev pub plan_world : SplitProgram → List Packet → List Event → Bool → World
+plan_world s packets events false = world_of s packets events
+plan_world s packets events true = drained_world s packets events
+
+abbrev pub plan_run : SplitProgram → List Packet → List Event → Bool → Run
+plan_run s packets events drain = run_of s (length packets) (plan_world s packets events drain)

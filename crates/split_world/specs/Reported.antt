@@ -1,9 +1,10 @@
 -- The run that a replay reports.
-use Rattle.std.specs.Prelude.{ℕ, Bool, ◌&&◌, ◌==◌, length, count_by}
+use Rattle.std.specs.Prelude.{ℕ, Bool, ◌&&◌, ◌==◌, List, length, count_by}
 use Rattle.output_commit.specs.Commit.{visible}
 use Rattle.run_text.specs.Fate.{is_decided, is_released}
 use Rattle.run_text.specs.Order.{order_of}
 use Rattle.run_text.specs.Parts.{parts_of}
+use Rattle.run_text.specs.declared.run.Part.{Part}
 use Rattle.run_text.specs.declared.run.Run.{Run}
 use Rattle.split_world.specs.Program.{SplitProgram}
 use Rattle.split_world.specs.Replay.{Replay}
@@ -17,9 +18,9 @@ is_quiet r =
 abbrev pub is_drained : ℕ → Replay → Bool
 is_drained total r = length r.fates == total && is_quiet r
 
--- the run of a replay over a trace of so many packets
-abbrev pub run_of : SplitProgram → ℕ → Replay → Run
-run_of s total r = record {
+-- the run of a replay over a trace of so many packets, where the switch shows these rows
+abbrev pub run_of : SplitProgram → ℕ → List Part → Replay → Run
+run_of s total switch r = record {
   total = total;
   decided = count_by is_decided r.fates;
   released = count_by is_released r.fates;
@@ -31,4 +32,5 @@ run_of s total r = record {
   fates = r.fates;
   order = order_of r.fates;
   objects = parts_of s.objects r.store;
+  switch = switch;
 }

@@ -1,7 +1,7 @@
 //! What holds of every run of a split program, whatever the packets and the schedule, as the definitions give it. These
 //! functions do nothing: their contracts are the laws.
 ghost use Rattle.std.specs.Prelude.{◌≡◌, ◌↔◌, ◌+◌, ◌≤◌, ◌++◌, ◌∷◌, [], true, false, IsTrue, Some, None};
-ghost use Rattle.std.specs.Prelude.{List, length, slice_get};
+ghost use Rattle.std.specs.Prelude.{ℕ, Bool, List, length, slice_get};
 ghost use Rattle.packet_fields.specs.declared.packet.Packet.{Packet};
 ghost use Rattle.state_store.specs.Kept.{IsKept};
 ghost use Rattle.state_store.specs.Store.{start_store};
@@ -11,10 +11,10 @@ ghost use Rattle.run_text.specs.declared.event.Event.TheVariants.{Admit};
 ghost use Rattle.split_world.specs.Program.{SplitProgram, IsSplitProgram};
 ghost use Rattle.split_world.specs.World.{World, idled, seen_store, step, tick, world_of};
 ghost use Rattle.split_world.specs.Applying.{applies};
-ghost use Rattle.split_world.specs.Run.{is_drained, is_quiet, job_run};
+ghost use Rattle.split_world.specs.Run.{is_drained, is_quiet, job_run, seen_parts};
 ghost use Rattle.split_world.specs.Serialises.{Serialises, AllReleased, IsDrained, is_fast_fate};
 ghost use Rattle.split_world.specs.Tables.{HasNewestTables, IsSeen};
-ghost use Rattle.split_world.specs.Drain.{drain_bound, drained_world, next_event};
+ghost use Rattle.split_world.specs.Drain.{after_drain, drain_bound, drained_world, next_event, plan_world};
 ghost use Rattle.split_world.specs.Replay as replay;
 ghost use Rattle.split_world.specs.Replay.{Replay, first_replay};
 ghost use Rattle.split_world.specs.Turns as turns;
@@ -87,13 +87,23 @@ pub fn a_packet_is_fast_by_what_is_seen()
 {}
 
 /// After any schedule, drain ends in a drained world, by no more events than its bound; so what holds of every run
-/// holds of the run that it leads to. It goes on until the world is drained, and not beyond.
+/// holds of the run that it leads to. It goes on until the world is drained, and not beyond, event by event.
 pub fn drain_ends()
     ensures drained { (s : SplitProgram) (packets : List Packet) (events : List Event)
         → IsSplitProgram s packets → is_drained (length packets) (drained_world s packets events) ≡ true }
     ensures bound { (s : SplitProgram) (packets : List Packet) (events : List Event)
         → (more : List Event) × (length more ≤ drain_bound (length packets) s.writes)
         × (drained_world s packets events ≡ world_of s packets (events ++ more)) }
+    ensures plan { (s : SplitProgram) (packets : List Packet) (events : List Event) (drain : Bool)
+        → (more : List Event) × (length more ≤ drain_bound (length packets) s.writes)
+        × (plan_world s packets events drain ≡ world_of s packets (events ++ more)) }
+    ensures goes_on { (s : SplitProgram) (packets : List Packet) (events : List Event) (event : Event) (n : ℕ)
+        → next_event (length packets) (world_of s packets events) ≡ Some event
+        → after_drain s packets (n + 1) (world_of s packets events)
+        ≡ after_drain s packets n (world_of s packets (events ++ event ∷ [])) }
+    ensures rests { (s : SplitProgram) (packets : List Packet) (events : List Event) (n : ℕ)
+        → next_event (length packets) (world_of s packets events) ≡ None
+        → after_drain s packets n (world_of s packets events) ≡ world_of s packets events }
     ensures stops { (s : SplitProgram) (packets : List Packet) (events : List Event)
         → IsSplitProgram s packets
         → (next_event (length packets) (world_of s packets events) ≡ None)
@@ -137,11 +147,13 @@ pub fn a_told_step_keeps_the_tie()
     one_batch_more();
 }
 
-/// A replay that is tied to the world of some events reports the run of these events.
+/// A replay that is tied to the world of some events reports the run of these events, where the switch shows the rows
+/// of the version that lookups see.
 pub fn a_tied_replay_reports_the_run()
     ensures run { (s : SplitProgram) (packets : List Packet) (events : List Event) (r : Replay)
         → IsTied s packets r (world_of s packets events)
-        → reported.run_of s (length packets) r ≡ job_run s packets events }
+        → reported.run_of s (length packets) (seen_parts s (world_of s packets events)) r
+        ≡ job_run s packets events }
     ensures quiet { (s : SplitProgram) (packets : List Packet) (events : List Event) (r : Replay)
         → IsTied s packets r (world_of s packets events)
         → reported.is_quiet r ≡ is_quiet (world_of s packets events) }
