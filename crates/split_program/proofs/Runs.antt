@@ -1,6 +1,5 @@
--- What a whole run does to an object that the switch keeps, and what the switch is told of it.
+-- What a whole run does to an object that the switch keeps, as the switch is told of it.
 use Rattle.std.proofs.Common.{◌≡◌, ◌≤◌, ◌<◌, ℕ, zero, suc, true, List, ◌++◌, length, sym, ap, ◌∙◌, subst, arith, map}
-use Rattle.std.proofs.Common.{length-append}
 use Rattle.std.proofs.lemmas.List.{map-append}
 use Rattle.std.proofs.lemmas.List.Elements.{filter-append}
 use Rattle.packet_fields.specs.declared.packet.Packet.{Packet}
@@ -13,9 +12,9 @@ use Rattle.split_model.specs.declared.split.Part.{Part}
 use Rattle.split_model.specs.Counts.{count_below}
 use Rattle.split_model.specs.Passes.{replicated_changes}
 use Rattle.split_model.specs.Shown.{is_replicated, writes_to}
-use Rattle.server_runtime.specs.Serving.{is_followed, update_of, updates_of}
+use Rattle.server_runtime.specs.Serving.{update_of, updates_of}
 use Rattle.split_program.proofs.Follows.{Follows, follows_both, none_follow}
-use Rattle.split_program.proofs.Turns.{turn_goes, turn_told}
+use Rattle.split_program.proofs.Turns.{turn_goes}
 
 told_append : (f : Program) (split : List Part) (cs ds : List Change)
     → updates_of f split (cs ++ ds) ≡ updates_of f split cs ++ updates_of f split ds
@@ -47,15 +46,3 @@ module _ (f : Program) (split : List Part) (st : Store) (packet : Packet) where
       (sym (told_append f split (m n).changes (new n)))
       (follows_both o (object_at st o) (object_at (m n).store o) (object_at (m (suc n)).store o)
       (updates_of f split (m n).changes) (updates_of f split (new n)) _ _ so_far turn)
-
-  pub run_told : (n : ℕ)
-      → length (updates_of f split (m n).changes) ≤ count_below n (λ i. is_followed f split (step_at f i).work)
-  run_told zero = omega arith
-  run_told (suc n) =
-      omega (
-        arith,
-        ap length (told_append f split (m n).changes (new n)),
-        length-append (updates_of f split (m n).changes) (updates_of f split (new n)),
-        run_told n,
-        turn_told f split (m n).reads (is_live f.blocks (m n).reads (step_at f n).block) (m n).store (step_at f n).work,
-      )

@@ -1,6 +1,6 @@
--- What the turn of one instruction does to an object that the switch keeps, and what the switch is told of it.
-use Rattle.std.proofs.Common.{◌≡◌, ◌≢◌, ◌≤◌, ◌<◌, ◌==◌, ℕ, Bool, true, false, List, [], ◌∷◌, length, map, Option, Some, None}
-use Rattle.std.proofs.Common.{refl, sym, ap, ◌∙◌, subst, arith, ⊎_elim, is_some, if◌then◌else◌}
+-- What the turn of one instruction does to an object that the switch keeps, as the switch is told of it.
+use Rattle.std.proofs.Common.{◌≡◌, ◌≢◌, ◌<◌, ◌==◌, ℕ, Bool, true, false, List, [], ◌∷◌, length, map, Option, Some, None}
+use Rattle.std.proofs.Common.{refl, sym, ap, ◌∙◌, subst, ⊎_elim, is_some, if◌then◌else◌}
 use Rattle.std.proofs.lemmas.Bool.{cases_Bool, cases_eq, cond-true, cond-false, eq-eqb, ne_eqb, false≢true}
 use Rattle.std.proofs.lemmas.List.{get_or-set_same}
 use Rattle.std.proofs.lemmas.Option.{unwrap_or-slice_get}
@@ -19,7 +19,7 @@ use Rattle.split_model.specs.Shown.{is_replicated, writes_to}
 use Rattle.writeback_table.specs.Batches.{changed_at, takes_at}
 use Rattle.writeback_table.specs.Pair as pair
 use Rattle.writeback_table.specs.Pair.{changed, takes, takes_to}
-use Rattle.server_runtime.specs.Serving.{is_followed, to_of, update_of, updates_of}
+use Rattle.server_runtime.specs.Serving.{to_of, update_of, updates_of}
 use Rattle.split_program.proofs.Follows.{Follows, none_follow, one_follows}
 
 same_test : (answer : Put) → run.is_stored answer ≡ pair.is_stored answer
@@ -47,11 +47,6 @@ told f split c shown = ap (λ b. map update_of (if b then c ∷ [] else [])) sho
 untold : (f : Program) (split : List Part) (c : Change) → is_replicated f split c.object ≡ false
     → updates_of f split (c ∷ []) ≡ []
 untold f split c hidden = ap (λ b. map update_of (if b then c ∷ [] else [])) hidden
-
-at_most_one : (c : Change) (shown : Bool)
-    → length (map update_of (if shown then c ∷ [] else [])) ≤ (if shown then 1 else 0)
-at_most_one c true = omega arith
-at_most_one c false = omega arith
 
 module _ (alone : (st : Store) (number : ℕ) (object : Object) → IsChangedAlone st number object) where
   other_change : (st : Store) (o k : ℕ) (key : List ℕ) (values : Option (List ℕ)) → o ≢ k
@@ -135,32 +130,3 @@ module _ (alone : (st : Store) (number : ℕ) (object : Object) → IsChangedAlo
     turn_goes reads live (select width cond first second) = none_goes live
     turn_goes reads live (byte index) = none_goes live
     turn_goes reads live (look object keys) = none_goes live
-
--- ## How much the switch is told
-
-made_told : (f : Program) (split : List Part) (live takes : Bool) (c : Change)
-    → length (updates_of f split (made live (if takes then Some c else None)))
-    ≤ (if is_replicated f split c.object then 1 else 0)
-made_told f split true true c = at_most_one c (is_replicated f split c.object)
-made_told f split true false c = omega arith
-made_told f split false takes c = omega arith
-
-none_told : (f : Program) (split : List Part) (live : Bool) → length (updates_of f split (made live None)) ≤ 0
-none_told f split true = omega arith
-none_told f split false = omega arith
-
-pub turn_told : (f : Program) (split : List Part) (reads : Reading) (live : Bool) (st : Store) (work : Work)
-    → length (updates_of f split (made live (change_of reads st work))) ≤ (if is_followed f split work then 1 else 0)
-turn_told f split reads live st (put object keys values) =
-    made_told f split live (run.is_stored (put_answer (object_at st object) (map reads keys)))
-    (record { object = object; key = map reads keys; values = Some (map reads values) })
-turn_told f split reads live st (del object keys) =
-    made_told f split live (is_some (store.look (object_at st object) (map reads keys)))
-    (record { object = object; key = map reads keys; values = None })
-turn_told f split reads live st (const width number) = none_told f split live
-turn_told f split reads live st (field name) = none_told f split live
-turn_told f split reads live st (apply op width args) = none_told f split live
-turn_told f split reads live st (shift op width arg by) = none_told f split live
-turn_told f split reads live st (select width cond first second) = none_told f split live
-turn_told f split reads live st (byte index) = none_told f split live
-turn_told f split reads live st (look object keys) = none_told f split live

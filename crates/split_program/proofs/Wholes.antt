@@ -1,5 +1,5 @@
 -- A legally split program runs packets as the world asks for.
-use Rattle.std.proofs.Common.{◌≡◌, ◌≤◌, ◌<◌, ◌^◌, ℕ, true, List, length, refl, arith}
+use Rattle.std.proofs.Common.{◌≡◌, ◌≤◌, ◌<◌, ◌^◌, ℕ, true, List, length, refl, subst, arith}
 use Rattle.std.proofs.lemmas.Bool.{cond-true}
 use Rattle.std.proofs.lemmas.Option.{slice_get_within}
 use Rattle.std.specs.List.{AllByRecursion as Each}
@@ -9,24 +9,26 @@ use Rattle.state_store.specs.Laws.{IsChangedAlone}
 use Rattle.state_store.specs.Store.{Object, Store, object_at, start_store}
 use Rattle.flat_ir.specs.Arrivals.{IsArrival}
 use Rattle.flat_ir.specs.Program.{Program, step_at}
+use Rattle.flat_ir.specs.Blocks.{Reading}
 use Rattle.flat_ir.specs.Run.{after, flat_changes, flat_store}
 use Rattle.flat_ir.specs.Laws.{KeepsWidths}
 use Rattle.flat_ir.specs.WellFormed.{HasTables, IsWellFormed}
 use Rattle.split_model.specs.declared.split.Part.{Part}
-use Rattle.split_model.specs.Counts.{count_steps, writes}
-use Rattle.split_model.specs.Laws.{HasReplicated, IsExact, IsLoaded, IsShownAlone}
+use Rattle.split_model.specs.Counts.{count_below, count_steps, writes}
+use Rattle.split_model.specs.Crossing.{crosses_up}
+use Rattle.split_model.specs.Laws.{HasReplicated, IsExact, IsLoaded, IsShownAlone, IsWhole}
 use Rattle.split_model.specs.Legal.{IsLegal}
-use Rattle.split_model.specs.Passes.{Shows}
+use Rattle.split_model.specs.Passes.{pre_values, served, IsHanded, Shows}
 use Rattle.split_model.specs.Shown.{is_replicated, writes_to}
-use Rattle.server_runtime.specs.Serving.{packet_frame, updates_of, IsWholeRun}
+use Rattle.server_runtime.specs.Serving.{followed_writes, is_followed, packet_frame, updates_of, IsWholeRun}
 use Rattle.split_world.specs.Program.{IsAlike, IsSplitProgram, IsSplitRun}
 use Rattle.split_world.specs.Tied.{HasFrames, IsFramed}
 use Rattle.split_program.specs.Whole.{whole_of, IsSplit}
 use Rattle.split_program.proofs.Follows.{Follows}
 use Rattle.split_program.proofs.Places.{each_at, kept_there}
-use Rattle.split_program.proofs.Runs.{run_follows, run_told}
+use Rattle.split_program.proofs.Runs.{run_follows}
 
--- What holds of flat runs and of preprocessing.
+-- What holds of flat runs, of preprocessing, and of the server.
 pub record Laws : Type 0 where
   pub alone : (st : Store) (number : ℕ) (object : Object) → IsChangedAlone st number object
   pub widths : (f : Program) (st : Store) (packet : Packet) (n : ℕ) → IsWellFormed f → IsArrival packet
@@ -38,6 +40,13 @@ pub record Laws : Type 0 where
       → IsWellFormed f → IsLegal f split → Shows f split tables st → IsExact f split st tables packet
   pub reads : (f : Program) (split : List Part) (st : Store) (packet : Packet)
       → IsWellFormed f → IsLegal f split → IsShownAlone f split st packet
+  pub whole : (f : Program) (split : List Part) (st tables_up tables : Store) (packet : Packet) (up down : Reading)
+      → IsWellFormed f → IsLegal f split → HasTables f st → IsLoaded f split tables_up → IsLoaded f split tables
+      → IsHanded (crosses_up f split) (pre_values f split tables_up packet) up
+      → IsWhole f split st tables packet up down
+  pub told : (f : Program) (split : List Part) (st : Store) (packet : Packet) (up : Reading) (n : ℕ)
+      → length (updates_of f split (served f split up st packet n).changes)
+      ≤ count_below n (λ i. is_followed f split (step_at f i).work)
 
 loaded : (f : Program) (split : List Part) (tables : Store) → HasTables f tables → IsLoaded f split tables
 loaded f split tables has = record { rows = λ o d is table looked. has.tables o d is table }
@@ -60,6 +69,17 @@ module _ (laws : Laws) (f : Program) (split : List Part) (writeback : ℕ) (is :
       (updates_of f split (flat_changes f store packet)) (count_steps f (λ i. writes_to o (step_at f i).work))
   follows o shown = run_follows f split store packet laws.alone o shown (within o shown) (length f.code) (omega arith)
 
+  -- the server makes the run's changes, and tells few of them
+  bounded : length (updates_of f split (flat_changes f store packet)) ≤ followed_writes f split
+  bounded =
+      let has = laws.tables f store kept in
+      let ready = loaded f split store has in
+      let up = pre_values f split store packet in
+      let whole = laws.whole f split store store store packet up up is.bounded.formed is.legal has ready ready
+      (λ v crosses. refl) in
+      subst (λ cs. length (updates_of f split cs) ≤ followed_writes f split) whole.changes
+      (laws.told f split store packet up (length f.code))
+
   is_split_run : IsSplitRun (whole_of f split writeback) store packet
   is_split_run = record {
     kept = kept_then (length f.code) (omega arith);
@@ -74,7 +94,7 @@ module _ (laws : Laws) (f : Program) (split : List Part) (writeback : ℕ) (is :
         let all : writes f split o ≡ count_steps f (λ i. writes_to o (step_at f i).work) =
         cond-true (is_replicated f split o) (count_steps f (λ i. writes_to o (step_at f i).work)) 0 shown in
         omega (arith, all, (follows o shown).few, is.few o);
-    bounded = run_told f split store packet (length f.code);
+    bounded = bounded;
   }
 
 pub is_split_program : Laws → (f : Program) (split : List Part) (writeback : ℕ) (packets : List Packet)

@@ -10,9 +10,9 @@ ghost use Rattle.split_world.specs.Tied.{HasFrames};
 ghost use Rattle.split_program.specs.Whole.{whole_of, IsSplit};
 
 use flat_ir::a_run_keeps_widths;
-use server_runtime::a_served_packet_is_the_whole_run;
+use server_runtime::{a_served_packet_is_the_whole_run, what_the_switch_is_told_fits};
 use split_model::{
-    kept_stores_have_tables, preprocessing_is_exact, replicated_objects_show,
+    a_split_is_the_whole, kept_stores_have_tables, preprocessing_is_exact, replicated_objects_show,
     what_preprocessing_reads_is_all,
 };
 use state_store::rows_change_alone;
@@ -28,6 +28,8 @@ pub fn split_programs_have_their_laws()
     replicated_objects_show();
     preprocessing_is_exact();
     what_preprocessing_reads_is_all();
+    a_split_is_the_whole();
+    what_the_switch_is_told_fits();
 }
 
 /// A packet that goes up in a frame, is served and comes down has the whole program's run.

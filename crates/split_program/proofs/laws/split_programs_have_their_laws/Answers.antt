@@ -11,4 +11,6 @@ returns c =
       shows = c.replicated_objects_show.ensures;
       exact = c.preprocessing_is_exact.ensures;
       reads = c.what_preprocessing_reads_is_all.ensures;
+      whole = c.a_split_is_the_whole.ensures;
+      told = c.what_the_switch_is_told_fits.ensures.few;
     })
