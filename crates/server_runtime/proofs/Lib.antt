@@ -1,3 +1,5 @@
 pub mod Lengths
+pub mod Numbers
+pub mod Steps
 pub mod Told
 pub mod Wholes

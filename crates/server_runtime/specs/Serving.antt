@@ -1,6 +1,6 @@
 -- A server as contracts see it, and what it makes of the frames that come up.
-use Rattle.std.specs.Prelude.{◌≡◌, ◌≤◌, ℕ, ◌+◌, Bool, true, false, List, [], ◌∷◌, map, length, Option, Some, None, IsTrue}
-use Rattle.std.specs.Prelude.{slice_get}
+use Rattle.std.specs.Prelude.{◌≡◌, ◌≤◌, ℕ, ◌+◌, Bool, true, false, List, [], ◌∷◌, map, length}
+use Rattle.std.specs.Prelude.{Option, Some, None, IsTrue, slice_get}
 use Rattle.std.specs.List.{AllByRecursion as Each}
 use Rattle.packet_fields.specs.declared.packet.Packet.{Packet}
 use Rattle.packet_fields.specs.declared.verdict.Verdict.{Verdict}

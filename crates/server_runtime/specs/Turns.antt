@@ -1,9 +1,9 @@
 -- The server's turns.
-use Rattle.std.specs.Prelude.{◌≡◌, ◌≤◌, ℕ, drop, Bool, true, false, ◌||◌, List, [], ◌∷◌, map, length, Option, Some, None}
+use Rattle.std.specs.Prelude.{◌≡◌, ◌≤◌, ℕ, Bool, true, false, ◌||◌, List, [], ◌∷◌, map, length, drop}
+use Rattle.std.specs.Prelude.{Option, Some, None}
 use Rattle.std.specs.List.{AllByRecursion as Each}
 use Rattle.packet_fields.specs.declared.packet.Packet.{Packet}
 use Rattle.state_store.specs.Store.{Store}
-use Rattle.flat_ir.specs.declared.program.ValueId.{ValueId}
 use Rattle.flat_ir.specs.Arrivals.{IsArrival}
 use Rattle.flat_ir.specs.Laws.{AllFit}
 use Rattle.flat_ir.specs.Program.{Program, Work, step_at}
@@ -25,9 +25,9 @@ use Rattle.server_runtime.specs.Registers.{register_reads}
 use Rattle.server_runtime.specs.Serving.{followed_writes, updates_of, IsUpdateIn}
 
 -- registers, a store and what the switch is told are those of a machine
-pub record IsRunning
-    (f : Program) (split : List Part) (m : Machine) (reads : Reading) (st : Store) (updates : List Update) : Type 0 where
-  pub values : (v : ValueId) → reads v ≡ m.reads v
+pub record IsRunning (f : Program) (split : List Part) (m : Machine) (reads : Reading) (st : Store)
+    (updates : List Update) : Type 0 where
+  pub values : reads ≡ m.reads
   pub store : st ≡ m.store
   pub told : updates ≡ updates_of f split m.changes
 

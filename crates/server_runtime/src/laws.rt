@@ -1,5 +1,5 @@
-//! What holds of every frame that is served, as the definitions give it. These functions do nothing: their contracts are
-//! the laws.
+//! What holds of every frame that is served, as the definitions give it. These functions do nothing: their contracts
+//! are the laws.
 ghost use Rattle.std.specs.Prelude.{◌<◌, ◌≤◌, ◌^◌, ℕ, List, length};
 ghost use Rattle.std.specs.List.{AllByRecursion as Each};
 ghost use Rattle.packet_fields.specs.declared.packet.Packet.{Packet};

@@ -140,7 +140,8 @@ fn followed_objects(alloc: Global, f: &Flat, s: &Split) -> Result<Vec<bool>, NoM
 
 // Whether it writes to a replicated object. An object of no such number isn't one.
 fn is_followed(followed: &[bool], kind: &InstrKind) -> bool
-    ensures { (f : Program) (split : List Part) → AreReplicated f split followed.now → IsTrue (fits f (work_of kind.now))
+    ensures { (f : Program) (split : List Part)
+        → AreReplicated f split followed.now → IsTrue (fits f (work_of kind.now))
         → result ≡ is_followed f split (work_of kind.now) }
 {
     match kind {

@@ -1,6 +1,5 @@
 //! Registers, as instructions read and set them.
 ghost use Rattle.std.specs.Prelude.{◌≡◌, ◌<◌, ◌≤◌, ℕ, suc, length, replicate, slice_index};
-ghost use Rattle.flat_ir.specs.declared.program.ValueId.{ValueId as Value};
 ghost use Rattle.flat_ir.specs.Program.{program_of, result_count, step_at};
 ghost use Rattle.flat_ir.specs.Registers.{results_of};
 ghost use Rattle.flat_ir.specs.Run.{with_results};
@@ -56,14 +55,14 @@ pub(crate) fn set_results(
     requires all { AreAll (program_of whole.now.flat) values.old }
     requires count { let f = program_of whole.now.flat in
         length (results_of results.now) ≡ result_count f.objects (step_at f instruction).work }
-    ensures values { (v : Value) → let f = program_of whole.now.flat in
-        register_reads f values.new v
-        ≡ with_results instruction (results_of results.now) (register_reads f values.old) v }
+    ensures values { let f = program_of whole.now.flat in
+        register_reads f values.new ≡ with_results instruction (results_of results.now) (register_reads f values.old) }
     ensures count { length values.new ≡ length values.old }
 {
     let first = whole.first(instruction);
-    values.set(first, results.first);
-    for place in 0..results.others.len() {
-        values.set(first + 1 + place as u32, results.others.at(place));
+    let count = 1 + results.others.len() as u32;
+    prove!(count <= values.len());
+    for place in 0..count {
+        values.set(first + place, results.at(place));
     }
 }
