@@ -25,3 +25,11 @@ first_answered s packets = (refl, refl)
 pub next_answered : (s : SplitProgram) (packets : List Packet) (events : List Event) (event : Event) (r next : Replay) (calls one : List Call)
     → IsAnswered s packets events calls r → AnswersOne s packets event r one next → IsAnswered s packets (events ++ event ∷ []) (calls ++ one) next
 next_answered s packets events event r next calls one a b = one_more s packets events event (first_replay (start_store s.objects)) r next calls one a b
+
+-- calls that answer events, and then more of them
+pub more_answered : (s : SplitProgram) (packets : List Packet) (events more : List Event) (first r next : Replay) (calls others : List Call)
+    → Answers s packets events first calls r → Answers s packets more r others next → Answers s packets (events ++ more) first (calls ++ others) next
+more_answered s packets [] more first r next calls others a b =
+    subst (λ cs. Answers s packets more first cs next) (sym (ap (λ l. l ++ others) a.0)) (subst (λ x. Answers s packets more x others next) a.1 b)
+more_answered s packets (event ∷ events) more first r next calls others a b =
+    (a.0, a.1 ++ others, a.2, ap (λ l. l ++ others) a.3 ∙ append_more a.0 a.1 others, a.4, more_answered s packets events more a.2 r next a.1 others a.5 b)

@@ -22,3 +22,4 @@ pub mod Keeping
 pub mod Reporting
 pub mod Applied
 pub mod Turning
+pub mod Drained

@@ -1,5 +1,5 @@
 -- The replay that the calls of a switch determine, whatever it answers.
-use Rattle.std.specs.Prelude.{◌≡◌, ℕ, List, [], ◌∷◌, ◌++◌, Option, Some, None, slice_get, length}
+use Rattle.std.specs.Prelude.{◌≡◌, ℕ, zero, suc, ⊤, List, [], ◌∷◌, ◌++◌, Option, Some, None, slice_get, length}
 use Rattle.packet_fields.specs.declared.packet.Packet.{Packet}
 use Rattle.packet_fields.specs.declared.verdict.Verdict.{Verdict}
 use Rattle.state_store.specs.Store.{start_store}
@@ -10,6 +10,7 @@ use Rattle.run_text.specs.declared.event.Event.TheVariants.{Admit, Serve, Send, 
 use Rattle.split_world.specs.Program.{SplitProgram}
 use Rattle.split_world.specs.Replay.{Replay, UpAnswer, first_replay, tick, idled, admitted, served, sent}
 use Rattle.split_world.specs.Replay.{acknowledged_one, let_go, came_down}
+use Rattle.split_world.specs.Turns.{next_event}
 
 -- a call of the switch, with what it was given and what it answered
 pub data Call : Type 0 where
@@ -62,3 +63,20 @@ Answers s packets (event ∷ events) r calls next =
 -- a replay of these events from the start, by these calls
 abbrev pub IsAnswered : SplitProgram → List Packet → List Event → List Call → Replay → Type 0
 IsAnswered s packets events calls r = Answers s packets events (first_replay (start_store s.objects)) calls r
+
+-- ## Drain
+
+-- The calls answer at most n events, each the one that drain picks, until it picks none; and those of each event are
+-- right over the replay that it happens to.
+abbrev pub DrainsBy : (Replay → List Call → Type 0) → SplitProgram → List Packet → ℕ → Replay → List Event → List Call
+    → Replay → Type 0
+DrainsBy AreRight s packets zero r events calls next = (events ≡ []) × Alone calls r next
+DrainsBy AreRight s packets (suc n) r [] calls next = (next_event (length packets) r ≡ None) × Alone calls r next
+DrainsBy AreRight s packets (suc n) r (event ∷ events) calls next =
+    (one : List Call) × (rest : List Call) × (between : Replay)
+    × (next_event (length packets) r ≡ Some event) × (calls ≡ one ++ rest) × AreRight r one
+    × AnswersOne s packets event r one between × DrainsBy AreRight s packets n between events rest next
+
+-- the same whatever the switch answers
+abbrev pub Drains : SplitProgram → List Packet → ℕ → Replay → List Event → List Call → Replay → Type 0
+Drains s packets n r events calls next = DrainsBy (λ _ _. ⊤) s packets n r events calls next

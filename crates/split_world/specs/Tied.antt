@@ -11,7 +11,8 @@ use Rattle.split_world.specs.Progress.{Progress, Up, Held, Slow, Fast, fate_of}
 use Rattle.split_world.specs.World.{World, packet_at}
 use Rattle.split_world.specs.Tables.{first_pair}
 use Rattle.split_world.specs.Replay.{Replay, UpAnswer, Finished, SentUp}
-use Rattle.split_world.specs.Answered.{Call, CalledUp, CalledCommand, CalledDown}
+use Rattle.run_text.specs.declared.event.Event.{Event}
+use Rattle.split_world.specs.Answered.{Call, CalledUp, CalledCommand, CalledDown, DrainsBy}
 
 -- ## Frames
 
@@ -51,6 +52,10 @@ IsTold s r (CalledDown frame verdict) = verdict ≡ s.post frame
 abbrev pub AreTold : SplitProgram → Replay → List Call → Type 0
 AreTold s r [] = ⊤
 AreTold s r (call ∷ calls) = IsTold s r call × AreTold s r calls
+
+-- a drain that a switch which tells its tables answers
+abbrev pub DrainsTold : SplitProgram → List Packet → ℕ → Replay → List Event → List Call → Replay → Type 0
+DrainsTold s packets n r events calls next = DrainsBy (AreTold s) s packets n r events calls next
 
 -- ## The tie
 

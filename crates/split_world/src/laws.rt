@@ -19,8 +19,8 @@ ghost use Rattle.split_world.specs.Replay as replay;
 ghost use Rattle.split_world.specs.Replay.{Replay, first_replay};
 ghost use Rattle.split_world.specs.Turns as turns;
 ghost use Rattle.split_world.specs.Reported as reported;
-ghost use Rattle.split_world.specs.Answered.{Alone, Call, AnswersOne, IsAnswered};
-ghost use Rattle.split_world.specs.Tied.{AreTold, HasFrames, IsTied};
+ghost use Rattle.split_world.specs.Answered.{Alone, Call, AnswersOne, Drains, IsAnswered};
+ghost use Rattle.split_world.specs.Tied.{AreTold, DrainsTold, HasFrames, IsTied};
 
 use writeback_table::{batches_are_seen_in_order, one_batch_more};
 
@@ -168,3 +168,30 @@ pub fn a_tied_replay_takes_the_same_turns()
         → IsTied s packets r (world_of s packets events)
         → turns.next_event (length packets) r ≡ next_event (length packets) (world_of s packets events) }
 {}
+
+/// Drain of a replay is a schedule of its own, whatever the switch answers; and over a switch that tells its tables it
+/// is the world's: from a replay that is tied to a world it leads to one that is tied to the drained world, where it
+/// picks no event more.
+pub fn a_replay_drains_as_its_world()
+    ensures answered { (s : SplitProgram) (packets : List Packet) (events more : List Event) (n : ℕ) (r next : Replay)
+        (calls others : List Call)
+        → IsAnswered s packets events calls r → Drains s packets n r more others next
+        → IsAnswered s packets (events ++ more) (calls ++ others) next }
+    ensures few { (s : SplitProgram) (packets : List Packet) (events : List Event) (n : ℕ) (r next : Replay)
+        (calls : List Call) → Drains s packets n r events calls next → length events ≤ n }
+    ensures told { (s : SplitProgram) (packets : List Packet) (events : List Event) (n : ℕ) (r next : Replay)
+        (calls : List Call) → DrainsTold s packets n r events calls next → Drains s packets n r events calls next }
+    ensures tied { (s : SplitProgram) (packets : List Packet) (events more : List Event) (r next : Replay)
+        (calls : List Call)
+        → IsSplitProgram s packets → HasFrames s packets → IsTied s packets r (world_of s packets events)
+        → DrainsTold s packets (drain_bound (length packets) s.writes) r more calls next
+        → IsTied s packets next (drained_world s packets events) }
+    ensures rests { (s : SplitProgram) (packets : List Packet) (events more : List Event) (r next : Replay)
+        (calls : List Call)
+        → IsSplitProgram s packets → HasFrames s packets → IsTied s packets r (world_of s packets events)
+        → DrainsTold s packets (drain_bound (length packets) s.writes) r more calls next
+        → turns.next_event (length packets) next ≡ None }
+{
+    batches_are_seen_in_order();
+    one_batch_more();
+}

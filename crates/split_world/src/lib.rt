@@ -6,8 +6,8 @@ mod laws;
 
 pub use laws::{
     a_packet_is_fast_by_what_is_seen, a_quiet_switch_has_the_newest_tables,
-    a_replay_applies_an_event_or_is_idle, a_replay_is_answered_by_its_calls,
-    a_tied_replay_reports_the_run, a_tied_replay_takes_the_same_turns, a_told_step_keeps_the_tie,
-    an_event_applies_or_is_idle, drain_ends, every_run_serialises, lookups_see_one_version,
-    stores_keep_what_was_declared,
+    a_replay_applies_an_event_or_is_idle, a_replay_drains_as_its_world,
+    a_replay_is_answered_by_its_calls, a_tied_replay_reports_the_run,
+    a_tied_replay_takes_the_same_turns, a_told_step_keeps_the_tie, an_event_applies_or_is_idle,
+    drain_ends, every_run_serialises, lookups_see_one_version, stores_keep_what_was_declared,
 };
