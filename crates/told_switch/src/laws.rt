@@ -33,8 +33,12 @@ ghost use Rattle.switch_ir.specs.Port.{EndsDown, EndsSeen, EndsUp, IsCommandOf, 
 ghost use Rattle.switch_ir.specs.Tables.{IsStart, Told, has_room_in, pair_at, told_after};
 ghost use Rattle.told_switch.specs.Through.{HasTables, IsEndOf, IsThrough};
 
-use split_model::{a_split_is_the_whole, carried_values_stand, preprocessing_is_exact, replicated_objects_show};
+use split_model::{
+    carried_values_stand, kept_stores_have_tables, postprocessing_reads_constant_tables,
+    preprocessing_is_exact, replicated_objects_show,
+};
 use switch_ir::what_is_emitted_computes_the_split;
+use transfer_header::{frames_are_told_by_place, frames_of_equal_values};
 
 /// Before any command the tables are those that no command has gone through.
 pub fn told_tables_start()
@@ -53,7 +57,7 @@ pub fn replicated_objects_are_declared()
     ensures there { (f : Program) (split : List Part) (writeback o : ℕ) → IsSplit f split writeback
         → is_replicated f split o ≡ true
         → (d : ObjectDecl) × IsReplicatedIn (emitted f split writeback) o d }
-    ensures only { (f : Program) (split : List Part) (writeback o : ℕ) (d : ObjectDecl)
+    ensures only { (f : Program) (split : List Part) (writeback o : ℕ) (d : ObjectDecl) → IsSplit f split writeback
         → IsReplicatedIn (emitted f split writeback) o d → is_replicated f split o ≡ true }
     ensures updates { (f : Program) (split : List Part) (writeback : ℕ) (update : Update)
         → IsUpdateIn f split update → IsUpdateOf (emitted f split writeback) update }
@@ -83,9 +87,11 @@ pub fn a_told_pass_up_is_right()
         → IsRight (whole_of f split writeback) st number packet answer }
 {
     what_is_emitted_computes_the_split();
+    kept_stores_have_tables();
     preprocessing_is_exact();
     replicated_objects_show();
     carried_values_stand();
+    frames_of_equal_values();
 }
 
 /// The verdict on a frame that comes down is that of postprocessing, whatever the tables that can change.
@@ -98,6 +104,10 @@ pub fn a_told_pass_down_is_right()
         → verdict ≡ (whole_of f split writeback).post frame }
 {
     what_is_emitted_computes_the_split();
+    kept_stores_have_tables();
+    postprocessing_reads_constant_tables();
+    frames_of_equal_values();
+    frames_are_told_by_place();
 }
 
 /// Rows that lookups see are those of the store whose replicated objects they see.
