@@ -1,6 +1,6 @@
 //! What holds of the tables that a switch tells, and of its answers over them. These functions do nothing: their
 //! contracts are the laws.
-ghost use Rattle.std.specs.Prelude.{◌≡◌, ◌++◌, ◌∷◌, [], ℕ, List, true, false, length, Some};
+ghost use Rattle.std.specs.Prelude.{◌≡◌, ◌++◌, ◌∷◌, [], ℕ, List, true, false, length};
 ghost use Rattle.std.specs.FinMap as map;
 ghost use Rattle.packet_fields.specs.declared.packet.Packet.{Packet};
 ghost use Rattle.packet_fields.specs.declared.verdict.Verdict.{Verdict};
@@ -17,7 +17,6 @@ ghost use Rattle.writeback_table.specs.declared.command.Command.{Command};
 ghost use Rattle.writeback_table.specs.declared.command.Update.{Update};
 ghost use Rattle.writeback_table.specs.Batches.{seen_after};
 ghost use Rattle.writeback_table.specs.Commands.{pair_through, room_for, bit_through};
-ghost use Rattle.writeback_table.specs.Pair.{visible_rows};
 ghost use Rattle.server_runtime.specs.Serving.{IsUpdateIn};
 ghost use Rattle.transfer_header.specs.Frames.{IsFrame};
 ghost use Rattle.split_program.specs.Whole.{whole_of, IsSplit};

@@ -1,0 +1,4 @@
+mod Declared
+mod Commanded
+mod Seen
+mod Passed
