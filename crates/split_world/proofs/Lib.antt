@@ -23,3 +23,4 @@ pub mod Reporting
 pub mod Applied
 pub mod Turning
 pub mod Drained
+pub mod Agreeing

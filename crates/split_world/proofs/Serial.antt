@@ -5,7 +5,8 @@ use Rattle.std.proofs.lemmas.List.Elements.{filter-append}
 use Rattle.packet_fields.specs.declared.packet.Packet.{Packet}
 use Rattle.packet_fields.specs.declared.verdict.Verdict.{Verdict}
 use Rattle.state_store.specs.Store.{Store}
-use Rattle.split_world.specs.Program.{SplitProgram, serial_store, serial_verdicts}
+use Rattle.split_world.specs.Program.{SplitProgram}
+use Rattle.split_world.specs.Meaning.{meaning_of, serial_store, serial_verdicts}
 use Rattle.split_world.specs.World.{packet_at}
 use Rattle.split_world.proofs.Words.{Entry, Member, upto}
 use Rattle.split_world.proofs.Order.{upto_all}
@@ -15,10 +16,10 @@ packets_of packets es = map (λ e. packet_at packets e.number) es
 
 -- the store and the verdicts that these entries leave by serial runs
 abbrev pub left_by : SplitProgram → List Packet → Store → List Entry → Store
-left_by s packets a es = serial_store s a (packets_of packets es)
+left_by s packets a es = serial_store (meaning_of s) a (packets_of packets es)
 
 abbrev pub said_by : SplitProgram → List Packet → Store → List Entry → List Verdict
-said_by s packets a es = serial_verdicts s a (packets_of packets es)
+said_by s packets a es = serial_verdicts (meaning_of s) a (packets_of packets es)
 
 abbrev pub verdicts_of : List Entry → List Verdict
 verdicts_of es = map (λ e. e.verdict) es

@@ -14,7 +14,8 @@ use Rattle.run_text.specs.declared.fate.Fate.{Fate}
 use Rattle.run_text.specs.declared.serial.Decided.{Decided}
 use Rattle.run_text.specs.Order as run
 use Rattle.run_text.specs.Parts.{parts_of}
-use Rattle.split_world.specs.Program.{SplitProgram, IsSplitProgram, serial_store, serial_verdicts}
+use Rattle.split_world.specs.Program.{SplitProgram, IsSplitProgram}
+use Rattle.split_world.specs.Meaning.{meaning_of, serial_store, serial_verdicts}
 use Rattle.split_world.specs.Progress.{Progress, Up, Held, Slow, Fast, fate_of}
 use Rattle.split_world.specs.World.{World, visible, packet_at, first_world, world_of}
 use Rattle.split_world.specs.Run.{is_quiet, run_of, job_run}
@@ -252,12 +253,12 @@ module _ (s : SplitProgram) (packets : List Packet) (w : World) (k : Kept s (sta
   at_place i p h = entry_at w.progress k.in_order.entries i p k.in_order.order (subst (λ l. slice_get l i ≡ Some p) numbers_are h)
 
   -- the verdict there
-  pub verdict_there : (i : ℕ) (x : Entry) → slice_get k.in_order.entries i ≡ Some x → slice_get (run_verdicts s packets (run_of s (length packets) w)) i ≡ Some x.verdict
+  pub verdict_there : (i : ℕ) (x : Entry) → slice_get k.in_order.entries i ≡ Some x → slice_get (run_verdicts (meaning_of s) packets (run_of s (length packets) w)) i ≡ Some x.verdict
   verdict_there i x h =
-      ap (λ l. slice_get (serial_verdicts s (start_store s.objects) l) i) packets_are ∙ ap (λ l. slice_get l i) k.in_order.verdicts
+      ap (λ l. slice_get (serial_verdicts (meaning_of s) (start_store s.objects) l) i) packets_are ∙ ap (λ l. slice_get l i) k.in_order.verdicts
       ∙ map_get (λ (e : Entry). e.verdict) k.in_order.entries i x h
 
-  pub serialises_from : Serialises s packets (run_of s (length packets) w)
+  pub serialises_from : Serialises (meaning_of s) packets (run_of s (length packets) w)
   serialises_from =
       let o = k.in_order in
       record {
@@ -272,7 +273,7 @@ module _ (s : SplitProgram) (packets : List Packet) (w : World) (k : Kept s (sta
               | inl early ↦ inl (omega arith)
               | inr same ↦ let first = same.0 in let then = same.1 in inr (omega arith, omega arith)
             ];
-        rows = ap (parts_of s.objects) (sym (ap (serial_store s (start_store s.objects)) packets_are ∙ o.store));
+        rows = ap (parts_of s.objects) (sym (ap (serial_store (meaning_of s) (start_store s.objects)) packets_are ∙ o.store));
         verdicts = λ i p r y hi h.
             let a = at_place i p hi in
             let told = released_said p (slice_get w.progress p) (a.0) r y a.2 (sym (ap released_at (fates_at p)) ∙ h) in
@@ -319,7 +320,7 @@ released_since p (Some (Held x d v y)) z h a b = absurd (omega arith)
 released_since p (Some (Slow x d v y r)) z h a b = (record { number = p; version = v; event = d; verdict = y }, r, refl, refl)
 released_since p (Some (Fast x v y)) z h a b = (record { number = p; version = v; event = x; verdict = y }, x, refl, refl)
 
-pub complete_from : (s : SplitProgram) (packets : List Packet) (w : World) → Kept s (start_store s.objects) packets w → IsQuiet w → AllReleased s packets (run_of s (length packets) w)
+pub complete_from : (s : SplitProgram) (packets : List Packet) (w : World) → Kept s (start_store s.objects) packets w → IsQuiet w → AllReleased (meaning_of s) packets (run_of s (length packets) w)
 complete_from s packets w k quiet =
     let o = k.in_order in
     let same = length-map w.progress fate_of in
@@ -350,14 +351,14 @@ complete_from s packets w k quiet =
 pub kept_of : (s : SplitProgram) (packets : List Packet) (events : List Event) → IsSplitProgram s packets → Kept s (start_store s.objects) packets (world_of s packets events)
 kept_of s packets events law = kept_steps s (start_store s.objects) packets (first_world (start_store s.objects)) events law law.start (kept_first s (start_store s.objects) packets law.start)
 
-pub every_run_serialises : (s : SplitProgram) (packets : List Packet) (events : List Event) → IsSplitProgram s packets → Serialises s packets (job_run s packets events)
+pub every_run_serialises : (s : SplitProgram) (packets : List Packet) (events : List Event) → IsSplitProgram s packets → Serialises (meaning_of s) packets (job_run s packets events)
 every_run_serialises s packets events law = serialises_from s packets (world_of s packets events) (kept_of s packets events law)
 
-pub quiet_run_is_complete : (s : SplitProgram) (packets : List Packet) (events : List Event) → IsSplitProgram s packets → IsTrue (is_quiet (world_of s packets events)) → AllReleased s packets (job_run s packets events)
+pub quiet_run_is_complete : (s : SplitProgram) (packets : List Packet) (events : List Event) → IsSplitProgram s packets → IsTrue (is_quiet (world_of s packets events)) → AllReleased (meaning_of s) packets (job_run s packets events)
 quiet_run_is_complete s packets events law quiet =
     complete_from s packets (world_of s packets events) (kept_of s packets events law) (quiet_parts (world_of s packets events) quiet)
 
-pub drained_run_is_drained : (s : SplitProgram) (packets : List Packet) (events : List Event) → IsSplitProgram s packets → (job_run s packets events).drained ≡ true → IsDrained s packets (job_run s packets events)
+pub drained_run_is_drained : (s : SplitProgram) (packets : List Packet) (events : List Event) → IsSplitProgram s packets → (job_run s packets events).drained ≡ true → IsDrained (meaning_of s) packets (job_run s packets events)
 drained_run_is_drained s packets events law drained =
     let w = world_of s packets events in
     let parts = and_parts (eqb (length w.progress) (length packets)) (is_quiet w) drained in

@@ -1,4 +1,5 @@
 pub mod Program
+pub mod Meaning
 pub mod Progress
 pub mod World
 pub mod Applying

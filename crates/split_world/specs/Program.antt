@@ -1,5 +1,5 @@
 -- A split program: what it does to whole packets, and what its parts on the switch and on the server do.
-use Rattle.std.specs.Prelude.{◌≡◌, ◌≤◌, ℕ, Bool, true, List, [], ◌∷◌, length, Some, slice_get}
+use Rattle.std.specs.Prelude.{◌≡◌, ◌≤◌, ℕ, Bool, true, List, length, Some, slice_get}
 use Rattle.packet_fields.specs.declared.packet.Packet.{Packet}
 use Rattle.packet_fields.specs.declared.verdict.Verdict.{Verdict}
 use Rattle.state_store.specs.declared.object.ObjectDecl.{ObjectDecl}
@@ -31,18 +31,6 @@ pub record SplitProgram : Type 0 where
   pub serve_down : Store → List ℕ → List ℕ
   -- the verdict of the switch on a frame that comes down
   pub post : List ℕ → Verdict
-
--- ## Serial runs
-
--- the store that is left when packets run one after the other
-abbrev pub serial_store : SplitProgram → Store → List Packet → Store
-serial_store s store [] = store
-serial_store s store (packet ∷ packets) = serial_store s (s.after store packet) packets
-
--- and the verdict of each
-abbrev pub serial_verdicts : SplitProgram → Store → List Packet → List Verdict
-serial_verdicts s store [] = []
-serial_verdicts s store (packet ∷ packets) = s.verdict store packet ∷ serial_verdicts s (s.after store packet) packets
 
 -- ## What the layers below show
 

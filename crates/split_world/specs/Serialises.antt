@@ -1,4 +1,4 @@
--- What a run promises: that it is a serial run of the whole program.
+-- What a run promises: that a program with this meaning, run on whole packets one after the other, does the same.
 use Rattle.std.specs.Prelude.{◌≡◌, ◌<◌, ◌≤◌, ◌⊎◌, ℕ, suc, ◌==◌, Bool, true, false, if◌then◌else◌, Option, Some, None}
 use Rattle.std.specs.Prelude.{is_some, List, [], ◌∷◌, map, length, slice_get}
 use Rattle.packet_fields.specs.declared.packet.Packet.{Packet}
@@ -8,7 +8,7 @@ use Rattle.run_text.specs.declared.fate.Fate.{Fate}
 use Rattle.run_text.specs.declared.fate.Fate.TheVariants.{Up, Held, Slow, Fast}
 use Rattle.run_text.specs.declared.run.Run.{Run}
 use Rattle.run_text.specs.Parts.{parts_of}
-use Rattle.split_world.specs.Program.{SplitProgram, serial_store, serial_verdicts}
+use Rattle.split_world.specs.Meaning.{Meaning, serial_store, serial_verdicts}
 use Rattle.split_world.specs.World.{packet_at}
 
 -- ## What a fate says, as far as it has come
@@ -61,13 +61,13 @@ abbrev pub in_order : List Packet → Run → List Packet
 in_order packets run = map (packet_at packets) run.order
 
 -- the verdicts of whole runs of these packets, one after the other from the start store
-abbrev pub run_verdicts : SplitProgram → List Packet → Run → List Verdict
-run_verdicts s packets run = serial_verdicts s (start_store s.objects) (in_order packets run)
+abbrev pub run_verdicts : Meaning → List Packet → Run → List Verdict
+run_verdicts m packets run = serial_verdicts m (start_store m.objects) (in_order packets run)
 
 -- ## The promises
 
 -- What a run reports is what whole runs do to its decided packets one after the other.
-pub record Serialises (s : SplitProgram) (packets : List Packet) (run : Run) : Type 0 where
+pub record Serialises (m : Meaning) (packets : List Packet) (run : Run) : Type 0 where
   -- every admitted packet is one of the trace
   pub admitted : length run.fates ≤ length packets
   -- the order has each decided packet once, and no other
@@ -77,21 +77,21 @@ pub record Serialises (s : SplitProgram) (packets : List Packet) (run : Run) : T
       → decided_at (slice_get run.fates p) ≡ Some x → decided_at (slice_get run.fates q) ≡ Some y
       → i < j → IsEarlier x y
   -- the serial run leaves the rows that are reported
-  pub rows : run.objects ≡ parts_of s.objects (serial_store s (start_store s.objects) (in_order packets run))
+  pub rows : run.objects ≡ parts_of m.objects (serial_store m (start_store m.objects) (in_order packets run))
   -- and gives each released packet its verdict, at its place in the order
   pub verdicts : (i p r : ℕ) (y : Verdict) → slice_get run.order i ≡ Some p
-      → released_at (slice_get run.fates p) ≡ Some (r, y) → slice_get (run_verdicts s packets run) i ≡ Some y
+      → released_at (slice_get run.fates p) ≡ Some (r, y) → slice_get (run_verdicts m packets run) i ≡ Some y
   -- a packet that was released before another was admitted stands before it
   pub respects : (i j p q r a : ℕ) (y : Verdict) → slice_get run.order i ≡ Some p → slice_get run.order j ≡ Some q
       → released_at (slice_get run.fates p) ≡ Some (r, y) → admitted_at (slice_get run.fates q) ≡ Some a → r < a → i < j
 
 -- Every admitted packet was released, with its verdict in that serial run.
-pub record AllReleased (s : SplitProgram) (packets : List Packet) (run : Run) : Type 0 where
+pub record AllReleased (m : Meaning) (packets : List Packet) (run : Run) : Type 0 where
   pub each : (p : ℕ) → p < length run.fates
       → (i r : ℕ) × (y : Verdict) × (slice_get run.order i ≡ Some p)
-      × (released_at (slice_get run.fates p) ≡ Some (r, y)) × (slice_get (run_verdicts s packets run) i ≡ Some y)
+      × (released_at (slice_get run.fates p) ≡ Some (r, y)) × (slice_get (run_verdicts m packets run) i ≡ Some y)
 
 -- The trace is done: every packet of it was admitted, and released with its verdict in that serial run.
-pub record IsDrained (s : SplitProgram) (packets : List Packet) (run : Run) : Type 0 where
+pub record IsDrained (m : Meaning) (packets : List Packet) (run : Run) : Type 0 where
   pub all : length run.fates ≡ length packets
-  pub complete : AllReleased s packets run
+  pub complete : AllReleased m packets run

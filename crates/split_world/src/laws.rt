@@ -8,7 +8,9 @@ ghost use Rattle.state_store.specs.Store.{start_store};
 ghost use Rattle.output_commit.specs.Commit.{IsInOrder};
 ghost use Rattle.run_text.specs.declared.event.Event.{Event};
 ghost use Rattle.run_text.specs.declared.event.Event.TheVariants.{Admit};
+ghost use Rattle.run_text.specs.declared.run.Run.{Run};
 ghost use Rattle.split_world.specs.Program.{SplitProgram, IsSplitProgram};
+ghost use Rattle.split_world.specs.Meaning.{AreAlike, Meaning, meaning_of};
 ghost use Rattle.split_world.specs.World.{World, idled, seen_store, step, tick, world_of};
 ghost use Rattle.split_world.specs.Applying.{applies};
 ghost use Rattle.split_world.specs.Run.{is_drained, is_quiet, job_run, seen_parts};
@@ -39,13 +41,23 @@ pub fn an_event_applies_or_is_idle()
 /// packet was released; and a run that says `drained` has done so with the whole trace.
 pub fn every_run_serialises()
     ensures serialises { (s : SplitProgram) (packets : List Packet) (events : List Event)
-        → IsSplitProgram s packets → Serialises s packets (job_run s packets events) }
+        → IsSplitProgram s packets → Serialises (meaning_of s) packets (job_run s packets events) }
     ensures quiet { (s : SplitProgram) (packets : List Packet) (events : List Event)
         → IsSplitProgram s packets → IsTrue (is_quiet (world_of s packets events))
-        → AllReleased s packets (job_run s packets events) }
+        → AllReleased (meaning_of s) packets (job_run s packets events) }
     ensures drained { (s : SplitProgram) (packets : List Packet) (events : List Event)
         → IsSplitProgram s packets → (job_run s packets events).drained ≡ true
-        → IsDrained s packets (job_run s packets events) }
+        → IsDrained (meaning_of s) packets (job_run s packets events) }
+{}
+
+/// A serial run of one program is a serial run of each that means the same.
+pub fn meanings_that_agree()
+    ensures serialises { (m n : Meaning) (packets : List Packet) (run : Run)
+        → AreAlike m n packets → Serialises m packets run → Serialises n packets run }
+    ensures released { (m n : Meaning) (packets : List Packet) (run : Run)
+        → AreAlike m n packets → AllReleased m packets run → AllReleased n packets run }
+    ensures drained { (m n : Meaning) (packets : List Packet) (run : Run)
+        → AreAlike m n packets → IsDrained m packets run → IsDrained n packets run }
 {}
 
 /// At every point of a run, lookups of replicated objects see the store with which the visible version began, and the

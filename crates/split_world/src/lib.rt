@@ -9,5 +9,6 @@ pub use laws::{
     a_replay_applies_an_event_or_is_idle, a_replay_drains_as_its_world,
     a_replay_is_answered_by_its_calls, a_tied_replay_reports_the_run,
     a_tied_replay_takes_the_same_turns, a_told_step_keeps_the_tie, an_event_applies_or_is_idle,
-    drain_ends, every_run_serialises, lookups_see_one_version, stores_keep_what_was_declared,
+    drain_ends, every_run_serialises, lookups_see_one_version, meanings_that_agree,
+    stores_keep_what_was_declared,
 };
