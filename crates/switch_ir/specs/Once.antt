@@ -26,13 +26,13 @@ can_run_prop (byte index) = Unit-prop
 can_run_prop (put object keys values) = Unit-prop
 can_run_prop (del object keys) = Unit-prop
 
-can_step_prop : (steps : List Step) → IsProp (AllByRecursion CanStep steps)
+pub can_step_prop : (steps : List Step) → IsProp (AllByRecursion CanStep steps)
 can_step_prop = AllByRecursion-prop CanStep (λ s. can_run_prop s.work)
 
 writable_prop : (fields : List FieldValue) → IsProp (AllByRecursion IsWritable fields)
 writable_prop = AllByRecursion-prop IsWritable (λ w. Coded-set coded_bool _ _)
 
-kept_prop : (d : ObjectDecl) (object : Object) → IsProp (IsKeptObject d object)
+pub kept_prop : (d : ObjectDecl) (object : Object) → IsProp (IsKeptObject d object)
 kept_prop d object a b = λ i. record {
   kind = Coded-set kind_code _ _ a.kind b.kind i;
   size = Coded-set coded_ℕ _ _ a.size b.size i;
