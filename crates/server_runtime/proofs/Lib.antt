@@ -1,5 +1,6 @@
 pub mod Lengths
 pub mod Numbers
+pub mod Readings
 pub mod Steps
 pub mod Told
 pub mod Wholes

@@ -15,7 +15,7 @@ loop-instr-preserved c =
     let is = step_is c.args.f.now n c.instr-item.result c.as_slice-instr-items.result.now c.as_slice-instr-items.ensures lt c.instr-item.is in
     let fit = subst (λ (s : Step). IsTrue (fits f s.work)) (sym is) (c.requires.fit n (omega (arith, lt, code_length c.args.f.now))) in
     elim c.if-is_followed.branch [
-      then-is_followed w ↦ record {
+      | then-is_followed w ↦ record {
         few = omega (arith, w.writes-is, c.loop-instr.invariant.few);
         counted = λ split marks.
             let test = λ (i : ℕ). is_followed f split (step_at f i).work in

@@ -14,9 +14,9 @@ loop-instr-preserved c =
     let lt : n < length c.args.f.now.code = omega (arith, c.loop-instr-test.true, ap length c.as_slice-instr-items.ensures) in
     let is = step_is c.args.f.now n c.instr-item.result c.as_slice-instr-items.result.now c.as_slice-instr-items.ensures lt c.instr-item.is in
     let count : c.result_count-next.result ≡ count_at f n =
-        c.result_count-next.ensures.value
-        ∙ ap (λ os. result_count os (work_of c.instr-item.result.kind)) c.as_slice.ensures
-        ∙ ap (λ (s : Step). result_count c.args.f.now.objects s.work) is
+    c.result_count-next.ensures.value
+    ∙ ap (λ os. result_count os (work_of c.instr-item.result.kind)) c.as_slice.ensures
+    ∙ ap (λ (s : Step). result_count c.args.f.now.objects s.work) is
     in
     record {
       count = omega (arith, now.count, ap length c.in_ok-push.ensures.items, length_push c.loop-instr.firsts.items c.loop-instr.next);
