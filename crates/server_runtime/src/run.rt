@@ -2,7 +2,6 @@
 ghost use Rattle.std.specs.Prelude.{◌≡◌, ◌↔◌, ◌+◌, ◌<◌, ◌≤◌, ◌++◌, ◌∷◌, [], length, vec_capacity, vec_len};
 ghost use Rattle.std.specs.Prelude.{Err, IfOk, IsOk, OnErr};
 ghost use Rattle.packet_fields.specs.Shape.{shape_of};
-ghost use Rattle.packet_fields.specs.Sizes.{largest_packet};
 ghost use Rattle.state_store.specs.Kept.{IsKept};
 ghost use Rattle.flat_ir.specs.Arrivals.{IsArrival};
 ghost use Rattle.flat_ir.specs.Laws.{AllFit};
@@ -81,7 +80,9 @@ fn take_turns(
 ) -> u32
     requires prepared { IsPrepared whole.now }
     requires all { AreAll (program_of whole.now.flat) values.old }
-    requires size { length arrival.now.bytes.now ≤ largest_packet }
+    requires kept { IsKept whole.now.flat.objects store.old }
+    requires fit { AllFit (program_of whole.now.flat) (register_reads (program_of whole.now.flat) values.old) }
+    requires arrives { IsArrival (packet_of arrival.now) }
     requires shape { arrival.now.shape ≡ shape_of arrival.now.bytes.now }
     requires empty { updates.old.items ≡ [] }
     requires room { followed_writes (program_of whole.now.flat) whole.now.split ≤ vec_capacity updates.old }
@@ -91,6 +92,7 @@ fn take_turns(
         (register_reads f values.new) store.new updates.new.items }
     ensures count { length values.new ≡ length values.old }
 {
+    a_server_keeps_widths();
     what_the_switch_is_told_fits();
     let mut evaluated = 0;
     for i in 0..whole.flat.code.len() {
