@@ -31,7 +31,8 @@ abbrev pub IsEndOf : UpEnd → UpAnswer → Type 0
 IsEndOf end (Finished verdict) = end ≡ up.Finished verdict
 IsEndOf end (SentUp frame) = end ≡ up.Up frame
 
--- the switch's tables are the store's: each replicated object is its main table, nothing is staged, and the bit is clear
+-- the switch's tables are the store's: each replicated object is its main table, nothing is staged, and the bit is
+-- clear
 pub record HasTables (f : Program) (split : List Part) (writeback : ℕ) (st : Store) (told : Told) : Type 0 where
   pub bit : told.bit ≡ false
   pub each : (o : ℕ) → is_replicated f split o ≡ true

@@ -72,8 +72,8 @@ pub fn a_told_command_finds_room()
         → has_room_in told.pairs command ≡ true }
 {}
 
-/// Where lookups of replicated objects see those of a store after some commands, a packet that is fast over the store is
-/// finished with its verdict, and any other goes up in its frame.
+/// Where lookups of replicated objects see those of a store after some commands, a packet that is fast over the store
+/// is finished with its verdict, and any other goes up in its frame.
 pub fn a_told_pass_up_is_right()
     ensures { (f : Program) (split : List Part) (writeback : ℕ) (st : Store) (commands : List Command) (told : Told)
         (number : ℕ) (packet : Packet) (end : UpEnd) (answer : UpAnswer)

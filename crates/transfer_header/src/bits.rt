@@ -5,8 +5,8 @@ ghost use Rattle.transfer_header.specs.Bits.{bits_of, bits_in, packed};
 
 use std::marker::Model;
 
-// Bits that are put one behind the other into memory that was taken before. Contracts see the list of them, and how many
-// bytes the memory holds. Bits that don't fill a byte are held back.
+// Bits that are put one behind the other into memory that was taken before. Contracts see the list of them, and how
+// many bytes the memory holds. Bits that don't fill a byte are held back.
 #[derive(Drop)]
 pub(crate) struct BitWriter {
     bytes: Vec<u8>,

@@ -32,8 +32,8 @@ pub fn frames_of_equal_values()
         → frame_of kind layout number port values packet ≡ frame_of kind layout number port others packet }
 {}
 
-/// A frame says of each value its lowest bits alone, as many as its width. These are narrow, so that the bytes are their
-/// frame, where number, port and packet have room.
+/// A frame says of each value its lowest bits alone, as many as its width. These are narrow, so that the bytes are
+/// their frame, where number, port and packet have room.
 pub fn frames_of_low_bits()
     ensures bytes { (kind : ℕ) (layout : List Crossing) (number port : ℕ) (values : Crossing → ℕ) (packet : List ℕ)
         → frame_of kind layout number port values packet

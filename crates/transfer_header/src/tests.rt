@@ -164,8 +164,8 @@ fn packets_have_a_most(rt: HostRuntime) -> Result<(), Fail> {
     Ok(())
 }
 
-// 13 bits, 1 bit and 64 bits, from 0xf555, 3 and 0x8000_0000_0000_0001, and 2 bits of filling. The higher bits of the first
-// two are left out.
+// 13 bits, 1 bit and 64 bits, from 0xf555, 3 and 0x8000_0000_0000_0001, and 2 bits of filling. The higher bits of the
+// first two are left out.
 #[test]
 fn values_have_no_gaps(rt: HostRuntime) -> Result<(), Fail> {
     let alloc = rt.alloc();
