@@ -3,6 +3,7 @@ pub mod Lengths
 pub mod Numbers
 pub mod Readings
 pub mod Results
+pub mod Running
 pub mod Steps
 pub mod Told
 pub mod Wholes
