@@ -1,4 +1,3 @@
 pub mod Setup
 pub mod Entries
-pub mod Drains
 pub mod Replayed

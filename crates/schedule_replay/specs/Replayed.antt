@@ -1,8 +1,10 @@
 -- What a replay promises.
-use Rattle.std.specs.Prelude.{◌≡◌, ◌++◌, ◌∷◌, Bool, true, List, Some, IsTrue, length, map}
+use Rattle.std.specs.Prelude.{◌≡◌, ◌++◌, ◌∷◌, [], Bool, true, false, List, Some, IsTrue, length, map}
 use Rattle.run_text.specs.declared.event.Event.{Event}
 use Rattle.run_text.specs.declared.run.Run.{Run}
-use Rattle.split_world.specs.Answered.{Call, IsAnswered}
+use Rattle.split_world.specs.Answered.{Alone, Call, Drains, IsAnswered}
+use Rattle.split_world.specs.Drain.{drain_bound, plan_run, plan_world}
+use Rattle.split_world.specs.Meaning.{meaning_of}
 use Rattle.split_world.specs.Replay.{Replay}
 use Rattle.split_world.specs.Reported.{run_of}
 use Rattle.split_world.specs.Run.{is_quiet}
@@ -14,7 +16,12 @@ use Rattle.told_switch.specs.Through.{HasTables}
 use Rattle.schedule_replay.specs.declared.job.Replayed.{Replayed}
 use Rattle.schedule_replay.specs.Setup.{Setup, whole, code_for}
 use Rattle.schedule_replay.specs.Entries.{entry_of, calls_in}
-use Rattle.schedule_replay.specs.Drains.{Ends, plan_run, plan_world}
+
+-- the events behind those of a schedule, with their calls: none, or those that drain picks
+abbrev pub Ends : Bool → Setup → List Event → Replay → List Call → Replay → Type 0
+Ends false x more r calls next = (more ≡ []) × Alone calls r next
+Ends true x more r calls next =
+    Drains (whole x) x.packets (drain_bound (length x.packets) (whole x).writes) r more calls next
 
 -- The replay of a schedule that these calls determine: its events, and then those that drain picks, if it is asked for.
 pub record IsReplayOf (x : Setup) (events : List Event) (drain : Bool) (calls : List Call) (last : Replay) : Type 0 where
@@ -27,20 +34,21 @@ pub record IsReplayOf (x : Setup) (events : List Event) (drain : Bool) (calls : 
   pub behind : List Call
   pub joined : calls ≡ scheduled ++ behind
   pub first : IsAnswered (whole x) x.packets events scheduled between
-  pub ends : Ends drain (whole x) x.packets more between behind last
+  pub ends : Ends drain x more between behind last
 
 -- the port has the program's code, and its journal has a load and then these calls, beside calls for room and for rows
 pub record HasCalls (x : Setup) (calls : List Call) (port : PortState) : Type 0 where
   pub code : port.code ≡ Some (code_for x)
   pub journal : calls_in port.journal ≡ Load ∷ map entry_of calls
 
--- What comes of a replay over any port: it reports the replay that the port's calls determine.
+-- What comes of a replay over any port: it reports the replay that the port's calls determine, with the rows that the
+-- port gave.
 pub record IsReported (x : Setup) (events : List Event) (drain : Bool) (replayed : Replayed) (port : PortState) : Type 0 where
   pub calls : List Call
   pub last : Replay
   pub replay : IsReplayOf x events drain calls last
   pub called : HasCalls x calls port
-  pub run : replayed.run ≡ run_of (whole x) (length x.packets) last
+  pub run : replayed.run ≡ run_of (whole x) (length x.packets) replayed.run.switch last
   pub commands : replayed.commands ≡ length last.commit.commands
 
 -- the port tells tables, and they are those of the last world's store
@@ -54,9 +62,10 @@ pub record HasNewestTables (x : Setup) (events : List Event) (drain : Bool) (por
 -- the whole program.
 pub record IsRunOf (x : Setup) (events : List Event) (drain : Bool) (run : Run) (port : PortState) : Type 0 where
   pub is : run ≡ plan_run (whole x) x.packets events drain
-  pub serialises : Serialises (whole x) x.packets run
+  pub serialises : Serialises (meaning_of (whole x)) x.packets run
   -- where nothing is left on its way, every admitted packet was released, and the switch has the server's tables
-  pub released : IsTrue (is_quiet (plan_world (whole x) x.packets events drain)) → AllReleased (whole x) x.packets run
+  pub released : IsTrue (is_quiet (plan_world (whole x) x.packets events drain))
+      → AllReleased (meaning_of (whole x)) x.packets run
   pub tables : IsTrue (is_quiet (plan_world (whole x) x.packets events drain)) → HasNewestTables x events drain port
   -- and where the run says `drained`, so was every packet of the trace
-  pub drained : run.drained ≡ true → IsDrained (whole x) x.packets run
+  pub drained : run.drained ≡ true → IsDrained (meaning_of (whole x)) x.packets run
