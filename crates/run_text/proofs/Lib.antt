@@ -1,3 +1,6 @@
 pub mod SerialOrder
 pub mod LineSteps
 pub mod ShortPackets
+pub mod Numbers
+pub mod PrintedLines
+pub mod PrintedBack

@@ -5,3 +5,4 @@ pub mod Order
 pub mod Report
 pub mod Parts
 pub mod Answer
+pub mod Printed

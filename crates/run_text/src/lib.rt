@@ -21,9 +21,9 @@ pub use plan::Plan;
 pub use refusal::{LineKind, LinesError, MAX_EVENTS, MAX_PACKETS};
 pub use report::print_run;
 pub use run::{Order, Part, Parts, Run};
-pub use schedule::read_schedule;
+pub use schedule::{print_schedule, read_schedule};
 pub use serial::{Decided, order};
-pub use trace::read_trace;
+pub use trace::{print_trace, read_trace};
 
 #[cfg(test)]
 mod tests;

@@ -13,7 +13,7 @@ use packet_fields::Verdict;
 use state_store::{ObjectDecl, Objects};
 use std::alloc::Global;
 
-fn body_text(alloc: Global, bytes: &[u8]) -> Result<String, NoMemory>
+pub(crate) fn body_text(alloc: Global, bytes: &[u8]) -> Result<String, NoMemory>
     ensures { IfOk result (λ text. string_bytes text ≡ body_text bytes.now) }
 {
     match bytes {

@@ -1,6 +1,8 @@
 //! The text of a schedule.
-ghost use Rattle.std.specs.Prelude.{◌≡◌, ◌≤◌, ◌⊎◌, length, IfOk, IfErr, MatchResult, Some, None, Ok, Err};
+ghost use Rattle.std.specs.Prelude.{◌≡◌, ◌≤◌, ◌⊎◌, ◌++◌, ◌∷◌, length, decimal, map, All, OnOk, IfOk, IfErr, MatchResult, Some, None, Ok, Err};
 ghost use Rattle.gal_io.specs.Number.{number_up_to};
+ghost use Rattle.run_text.specs.Printed.{IsLineOf, event_text, lined, schedule_text};
+ghost use Rattle.run_text.specs.Report.{line_end};
 ghost use Rattle.run_text.specs.Sizes.{most_events};
 ghost use Rattle.run_text.specs.Trace.{event_line, is_drain, largest, schedule_of, word_event};
 
@@ -8,7 +10,7 @@ use crate::event::{Event, Events};
 use crate::line_value::{LineValue, read_values, split_at_space};
 use crate::plan::Plan;
 use crate::refusal::{LineKind, LinesError, MAX_EVENTS};
-use gal_io::{NoMemory, number_up_to};
+use gal_io::{NoMemory, Text, number_up_to};
 use std::alloc::Global;
 
 fn read_item(item: &[u8]) -> Result<u32, LineKind>
@@ -84,4 +86,54 @@ pub fn read_schedule(alloc: Global, text: &[u8]) -> Result<Plan, LinesError>
         events: Events::from(lines.items),
         drain: lines.ended,
     })
+}
+
+// An item behind the letter of its event.
+fn put_item(letter: u8, item: u32, text: &mut Text) -> Result<(), NoMemory>
+    ensures text { OnOk result (text.new ≡ text.old ++ (letter ∷ 32 ∷ decimal item)) }
+    ensures fits { item ≤ largest }
+{
+    text.push(letter)?;
+    text.push(b' ')?;
+    text.push_number(u64::from(item))
+}
+
+fn put_event(event: &Event, text: &mut Text) -> Result<(), NoMemory>
+    ensures text { OnOk result (text.new ≡ text.old ++ event_text event.now) }
+    ensures back { OnOk result (IsLineOf event_line (event_text event.now) event.now) }
+{
+    match event {
+        Event::Admit => text.push(b'a'),
+        Event::Serve(item) => put_item(b'u', *item, text),
+        Event::Send => text.push(b'c'),
+        Event::Apply => text.push(b'w'),
+        Event::Ack => text.push(b'k'),
+        Event::Hold(item) => put_item(b'h', *item, text),
+        Event::Down(item) => put_item(b'd', *item, text),
+    }
+}
+
+fn put_events(events: &[Event], text: &mut Text) -> Result<(), NoMemory>
+    ensures text { OnOk result (text.new ≡ text.old ++ lined (map event_text events.now)) }
+    ensures back { OnOk result (All (λ event. IsLineOf event_line (event_text event) event) events.now) }
+{
+    for event in events {
+        put_event(event, text)?;
+        text.push(b'\n')?;
+    }
+    Ok(())
+}
+
+/// The text of a schedule, with a line for each event. It reads back, where there are no more events than a schedule
+/// may have.
+pub fn print_schedule(alloc: Global, plan: &Plan) -> Result<Text, NoMemory>
+    ensures text { IfOk result (λ text. text ≡ schedule_text plan.now) }
+    ensures back { length plan.now.events ≤ most_events → IfOk result (λ text. schedule_of text ≡ Ok plan.now) }
+{
+    let mut text = Text::new(alloc);
+    put_events(plan.events.as_slice(), &mut text)?;
+    if plan.drain {
+        text.extend(b"drain\n")?;
+    }
+    Ok(text)
 }

@@ -1,12 +1,16 @@
 //! The text of a trace.
-ghost use Rattle.std.specs.Prelude.{◌≡◌, ◌≤◌, ◌⊎◌, length, false, IfOk, IfErr, Ok, Err};
-ghost use Rattle.packet_fields.specs.Sizes.{AreShort};
+ghost use Rattle.std.specs.Prelude.{◌≡◌, ◌≤◌, ◌⊎◌, ◌++◌, length, false, codes, decimal, IfOk, IfErr, OnOk, Ok, Err};
+ghost use Rattle.hex.specs.Hex.{IsBytes};
+ghost use Rattle.packet_fields.specs.Sizes.{AreShort, largest_packet};
+ghost use Rattle.run_text.specs.Printed.{IsLineOf, packet_text, trace_text};
+ghost use Rattle.run_text.specs.Report.{body_text, line_end};
 ghost use Rattle.run_text.specs.Sizes.{most_packets};
 ghost use Rattle.run_text.specs.Trace.{body_of, packet_line, trace_of};
 
 use crate::line_value::{LineValue, read_values, split_at_space};
 use crate::refusal::{LineKind, LinesError, MAX_PACKETS};
-use gal_io::{Bytes, NoMemory, number_up_to};
+use crate::report::body_text;
+use gal_io::{Bytes, NoMemory, Text, number_up_to};
 use hex::FromHexError;
 use packet_fields::{Packet, Packets, is_short};
 use std::alloc::Global;
@@ -64,4 +68,42 @@ pub fn read_trace(alloc: Global, text: &[u8]) -> Result<Packets, LinesError>
 {
     let lines = read_values(alloc, text, MAX_PACKETS)?;
     Ok(Packets::of(lines.items))
+}
+
+fn put_port(port: u8, text: &mut Text) -> Result<(), NoMemory>
+    ensures text { OnOk result (text.new ≡ text.old ++ (decimal port ++ codes " ")) }
+    ensures fits { port ≤ 255 }
+{
+    text.push_number(u64::from(port))?;
+    text.push(b' ')
+}
+
+fn put_body(alloc: Global, bytes: &[u8], text: &mut Text) -> Result<(), NoMemory>
+    ensures text { OnOk result (text.new ≡ text.old ++ body_text bytes.now) }
+    ensures fits { IsBytes bytes.now }
+{
+    text.extend(body_text(alloc, bytes)?.as_bytes())
+}
+
+fn put_packet(alloc: Global, packet: &Packet, text: &mut Text) -> Result<(), NoMemory>
+    requires { length packet.now.bytes ≤ largest_packet }
+    ensures text { OnOk result (text.new ≡ text.old ++ (packet_text packet.now ++ line_end)) }
+    ensures back { OnOk result (IsLineOf packet_line (packet_text packet.now) packet.now) }
+{
+    put_port(packet.port, text)?;
+    put_body(alloc, packet.bytes.as_slice(), text)?;
+    text.push(b'\n')
+}
+
+/// The text of a trace, with a line for each packet. It reads back, where there are no more packets than a trace may
+/// have.
+pub fn print_trace(alloc: Global, packets: &Packets) -> Result<Text, NoMemory>
+    ensures text { IfOk result (λ text. text ≡ trace_text packets.now) }
+    ensures back { length packets.now ≤ most_packets → IfOk result (λ text. trace_of text ≡ Ok packets.now) }
+{
+    let mut text = Text::new(alloc);
+    for packet in packets.as_slice() {
+        put_packet(alloc, packet, &mut text)?;
+    }
+    Ok(text)
 }
