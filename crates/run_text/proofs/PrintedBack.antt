@@ -1,17 +1,17 @@
 -- Traces and schedules that are printed read back.
-use Rattle.std.proofs.Common.{◌≡◌, ℕ, ◌<◌, ◌≤◌, ◌^◌, ◌/◌, ◌%◌, Bool, true, false, not, ◌&&◌, cond, leb, eqb, List, [], ◌∷◌, ◌++◌, length, map, Some, None, Option, refl, sym, ap, subst, ◌∙◌, arith}
-use Rattle.std.specs.Prelude.{All, Result, Ok, Err, codes, slice_index, nat_le, if◌then◌else◌}
+use Rattle.std.proofs.Common.{◌≡◌, ℕ, suc, inl, inr, ◌<◌, ◌≤◌, ◌/◌, ◌%◌, Bool, true, false, ◌&&◌, leb, eqb, List, [], ◌∷◌, ◌++◌, length, map, Some, refl, sym, ap, ◌∙◌, arith}
+use Rattle.std.specs.Prelude.{Ok, codes, slice_index}
 use Rattle.std.specs.Fmt.{decimal}
 use Rattle.std.specs.Str.{all_ascii_digits, bytes_eq}
 use Rattle.std.specs.List.{list_all, list_any}
-use Rattle.std.proofs.lemmas.Bool.{and_parts}
+use Rattle.std.proofs.lemmas.Bool.{cases_lt, le-leb}
+use Rattle.std.proofs.lemmas.Option.{none-some}
 use Rattle.std.proofs.lemmas.Bool.Decides.{nat_tests}
 use Rattle.std.proofs.lemmas.List.{append-nil}
 use Rattle.std.proofs.lemmas.Fmt.{decimal_nonempty}
 use Rattle.hex.specs.Hex.{IsBytes, encode_lower, encode_with, lower_digits, hex_digit_value, decode_of}
 use Rattle.hex.proofs.HexLemmas.{decode_of-encode_lower, IsDigits-lower_digits}
 use Rattle.gal_io.specs.Lines.{is_skipped, lines}
-use Rattle.gal_io.specs.Number.{number_up_to}
 use Rattle.packet_fields.specs.declared.packet.Packet.{Packet}
 use Rattle.packet_fields.specs.Sizes.{largest_packet}
 use Rattle.run_text.specs.declared.event.Event.{Event}
@@ -20,7 +20,7 @@ use Rattle.run_text.specs.declared.plan.Plan.{Plan}
 use Rattle.run_text.specs.Report.{body_text}
 use Rattle.run_text.specs.Printed.{IsLineOf, drain_lines, event_text, lined, packet_text, schedule_text, trace_text}
 use Rattle.run_text.specs.Sizes.{most_packets, most_events}
-use Rattle.run_text.specs.Trace.{at_most, body_of, event_line, is_drain, is_space, largest, packet_line, plan_of, schedule_of, trace_of, values_until}
+use Rattle.run_text.specs.Trace.{at_most, body_of, event_line, is_drain, largest, numbered, packet_line, schedule_of, trace_of, values_until}
 use Rattle.run_text.proofs.LineSteps.{ahead_values, all_lines}
 use Rattle.run_text.proofs.ShortPackets.{trace_values}
 use Rattle.run_text.proofs.Numbers.{decimal_digits, read_again}
@@ -44,13 +44,44 @@ digits_told (d ∷ ds) rest some h = grind (arith, nat_tests, h)
 -- ---- bodies
 
 digit_plain : (c v : ℕ) → hex_digit_value c ≡ Some v → plain c ≡ true
-digit_plain c v h = ?
+digit_plain c v h = elim (cases_lt c 32) [
+  | inl low ↦
+      let f : leb 65 c ≡ false = grind (arith, nat_tests, low) in
+      let g : leb 97 c ≡ false = grind (arith, nat_tests, low) in
+      let k : leb 48 c ≡ false = grind (arith, nat_tests, low) in
+      absurd (none-some v (rw (f, g, k) at h))
+  | inr high ↦ le-leb 32 c high
+]
+
+encoded_plain : (bytes : List ℕ) → IsBytes bytes → list_all plain (encode_lower bytes) ≡ true
+unfolding encode_with
+encoded_plain [] h = refl
+encoded_plain (b ∷ bytes) h =
+    let small = h 0 in
+    let first = digit_plain (slice_index lower_digits (b / 16)) (b / 16) (IsDigits-lower_digits (b / 16) (omega arith)) in
+    let second = digit_plain (slice_index lower_digits (b % 16)) (b % 16) (IsDigits-lower_digits (b % 16) (omega arith)) in
+    let rest = encoded_plain bytes (λ i. h (suc i)) in
+    rw (first, second) rest
 
 body_plain : (bytes : List ℕ) → IsBytes bytes → list_all plain (body_text bytes) ≡ true
-body_plain bytes h = ?
+body_plain [] h = refl
+body_plain (b ∷ bytes) h = encoded_plain (b ∷ bytes) h
+
+-- a body of two digits or more is no dash
+digits_back : (x y : ℕ) (more bytes : List ℕ) → decode_of (x ∷ (y ∷ more)) ≡ Ok bytes → length bytes ≤ largest_packet → body_of (x ∷ (y ∷ more)) ≡ Ok bytes
+digits_back x y more bytes h short =
+    let dash : bytes_eq (x ∷ (y ∷ more)) (codes "-") ≡ false = elim (eqb x 45) as (λ t. (t && false) ≡ false) [ true ↦ refl | false ↦ refl ] in
+    let few = le-leb (length bytes) largest_packet short in
+    rw (dash, h, few) refl
 
 body_back : (bytes : List ℕ) → IsBytes bytes → length bytes ≤ largest_packet → body_of (body_text bytes) ≡ Ok bytes
-body_back bytes h short = ?
+unfolding encode_with
+body_back [] h short = refl
+body_back (b ∷ bytes) h short =
+    digits_back (slice_index lower_digits (b / 16)) (slice_index lower_digits (b % 16)) (encode_with lower_digits bytes) (b ∷ bytes) (decode_of-encode_lower (b ∷ bytes) h) short
+
+within : {X : Type 0} (most : ℕ) (xs : List X) → length xs ≤ most → at_most most (Ok xs) ≡ Ok xs
+within most xs few = rw (le-leb (length xs) most few) refl
 
 -- ---- packets
 
@@ -62,23 +93,78 @@ packet_back packet fits bytes short =
     record {
       whole = all_both plain port (32 ∷ body) (digits_plain port digits) (body_plain packet.bytes bytes);
       told = digits_told port (32 ∷ body) (decimal_nonempty packet.port (omega arith)) digits;
-      says = rw (space_there port body, before_space port body (digits_unspaced port digits), after_space port body (digits_unspaced port digits),
-      read_again 255 packet.port fits (omega arith), body_back packet.bytes bytes short) refl;
+      says = rw (
+        space_there port body,
+        before_space port body (digits_unspaced port digits),
+        after_space port body (digits_unspaced port digits),
+        read_again 255 packet.port fits (omega arith),
+        body_back packet.bytes bytes short,
+      ) refl;
     }
 
 pub trace_back : (packets : List Packet) → AreLines packet_line packet_text packets → length packets ≤ most_packets → trace_of (trace_text packets) ≡ Ok packets
-trace_back packets h few = ?
+trace_back packets h few =
+    let text = trace_text packets in
+    let read : lines text ≡ map packet_text packets ++ [] = ap lines (sym (append-nil text)) ∙ lines_lined packet_line packet_text packets [] h in
+    let values : values_until (λ _. false) packet_line (lines text) ≡ Ok packets =
+    sym (all_lines (λ _. false) packet_line (lines text)) ∙ ap (ahead_values (λ _. false) packet_line false 1) read
+    ∙ values_lined (λ _. false) packet_line packet_text packets 1 [] h (λ x. refl) (λ m. refl) in
+    sym (trace_values text) ∙ ap (at_most most_packets) values ∙ within most_packets packets few
 
 -- ---- events
 
 pub serve_back : (j : ℕ) → j ≤ largest → IsLineOf event_line (event_text (Serve j)) (Serve j)
-serve_back j fits = ?
+serve_back j fits = record {
+  whole = digits_plain (decimal j) (decimal_digits j (omega arith));
+  told = refl;
+  says = ap (numbered Serve) (read_again largest j fits (omega arith));
+}
 
 pub hold_back : (j : ℕ) → j ≤ largest → IsLineOf event_line (event_text (Hold j)) (Hold j)
-hold_back j fits = ?
+hold_back j fits = record {
+  whole = digits_plain (decimal j) (decimal_digits j (omega arith));
+  told = refl;
+  says = ap (numbered Hold) (read_again largest j fits (omega arith));
+}
 
 pub down_back : (j : ℕ) → j ≤ largest → IsLineOf event_line (event_text (Down j)) (Down j)
-down_back j fits = ?
+down_back j fits = record {
+  whole = digits_plain (decimal j) (decimal_digits j (omega arith));
+  told = refl;
+  says = ap (numbered Down) (read_again largest j fits (omega arith));
+}
+
+no_drain : (event : Event) → is_drain (event_text event) ≡ false
+no_drain Admit = refl
+no_drain (Serve j) = refl
+no_drain Send = refl
+no_drain Apply = refl
+no_drain Ack = refl
+no_drain (Hold j) = refl
+no_drain (Down j) = refl
+
+drain_read : (drain : Bool) → lines (lined (drain_lines drain)) ≡ drain_lines drain
+drain_read true = refl
+drain_read false = refl
+
+drain_there : (drain : Bool) → list_any is_drain (drain_lines drain) ≡ drain
+drain_there true = refl
+drain_there false = refl
+
+drain_alone : (drain : Bool) (m : ℕ) → ahead_values is_drain event_line false m (drain_lines drain) ≡ Ok []
+drain_alone true m = refl
+drain_alone false m = refl
 
 pub schedule_back : (plan : Plan) → AreLines event_line event_text plan.events → length plan.events ≤ most_events → schedule_of (schedule_text plan) ≡ Ok plan
-schedule_back plan h few = ?
+schedule_back plan h few =
+    let text = schedule_text plan in
+    let events = plan.events in
+    let behind = drain_lines plan.drain in
+    let read : lines text ≡ map event_text events ++ behind =
+    lines_lined event_line event_text events (lined behind) h ∙ ap (λ ls. map event_text events ++ ls) (drain_read plan.drain) in
+    let drain : list_any is_drain (lines text) ≡ plan.drain =
+    ap (list_any is_drain) read ∙ none_lined is_drain event_text events behind no_drain ∙ drain_there plan.drain in
+    let values : values_until is_drain event_line (lines text) ≡ Ok events =
+    sym (all_lines is_drain event_line (lines text)) ∙ ap (ahead_values is_drain event_line false 1) read
+    ∙ values_lined is_drain event_line event_text events 1 behind h no_drain (drain_alone plan.drain) in
+    rw (drain, values, within most_events events few) refl

@@ -1,14 +1,14 @@
 -- Lines that are printed, and read again.
-use Rattle.std.proofs.Common.{◌≡◌, ℕ, suc, ◌+◌, ◌-◌, ◌<◌, ◌≤◌, Bool, true, false, not, ◌&&◌, cond, leb, eqb, List, [], ◌∷◌, ◌++◌, length, get_or, take, drop, map, inl, inr, refl, sym, ap, ◌∙◌, arith, append_assoc}
-use Rattle.std.specs.Prelude.{All, Result, Ok, Err, if◌then◌else◌}
+use Rattle.std.proofs.Common.{◌≡◌, ℕ, zero, suc, ◌+◌, ◌-◌, ◌<◌, ◌≤◌, Bool, true, false, not, ◌||◌, leb, eqb, List, [], ◌∷◌, ◌++◌, length, get_or, take, drop, map, inl, inr, refl, sym, ap, subst, ◌∙◌, arith, append_assoc}
+use Rattle.std.specs.Prelude.{All, Result, Ok}
 use Rattle.std.specs.List.{list_all, list_any, onto_first, position_or_len, before_first, after_first}
-use Rattle.std.proofs.lemmas.Bool.{cases_Bool, and_parts, leb-true}
+use Rattle.std.proofs.lemmas.Bool.{cases_lt, and_parts, leb-true}
+use Rattle.std.proofs.lemmas.List.{get_or_default}
 use Rattle.std.proofs.lemmas.Bool.Decides.{nat_tests}
-use Rattle.gal_io.specs.Lines.{fed_lines, is_skipped, lines, without_return}
+use Rattle.gal_io.specs.Lines.{fed_lines, lines, without_return}
 use Rattle.run_text.specs.declared.refusal.LineKind.{LineKind}
-use Rattle.run_text.specs.declared.refusal.LinesError.{LinesError}
 use Rattle.run_text.specs.Printed.{IsLineOf, lined}
-use Rattle.run_text.specs.Trace.{after_drain, in_front, is_space, with_line}
+use Rattle.run_text.specs.Trace.{is_space}
 use Rattle.run_text.proofs.LineSteps.{ahead_values}
 
 abbrev pub plain : ℕ → Bool
@@ -25,7 +25,7 @@ fed_plain (byte ∷ line) rest h =
 
 plain_at : (line : List ℕ) (k : ℕ) → k < length line → list_all plain line ≡ true → 32 ≤ get_or line k 0
 plain_at [] k inside h = absurd (omega arith)
-plain_at (byte ∷ line) 0 inside h = leb-true 32 byte (and_parts (plain byte) (list_all plain line) h).0
+plain_at (byte ∷ line) zero inside h = leb-true 32 byte (and_parts (plain byte) (list_all plain line) h).0
 plain_at (byte ∷ line) (suc k) inside h = plain_at line k (omega arith) (and_parts (plain byte) (list_all plain line) h).1
 
 returns_none : (line : List ℕ) → list_all plain line ≡ true → without_return line ≡ line
@@ -82,7 +82,7 @@ unspaced byte = not (eqb byte 32)
 pub space_there : (front back : List ℕ) → list_any is_space (front ++ (32 ∷ back)) ≡ true
 space_there [] back = refl
 space_there (byte ∷ front) back = let rest = space_there front back in
-    elim (eqb byte 32) as (λ b. (if b then true else list_any is_space (front ++ (32 ∷ back))) ≡ true) [ true ↦ refl | false ↦ rest ]
+    elim (eqb byte 32) as (λ b. (b || list_any is_space (front ++ (32 ∷ back))) ≡ true) [ true ↦ refl | false ↦ rest ]
 
 pub space_place : (front back : List ℕ) → list_all unspaced front ≡ true → position_or_len is_space (front ++ (32 ∷ back)) ≡ length front
 space_place [] back h = refl
@@ -114,3 +114,13 @@ all_both test [] ys h k = k
 all_both test (x ∷ xs) ys h k =
     let parts = and_parts (test x) (list_all test xs) h in
     rw parts.0 (all_both test xs ys parts.1 k)
+
+-- what holds of the first n elements, and of the next one, holds of one more
+pub one_more : {X : Type 0} (P : X → Type 0) (xs : List X) (n : ℕ) (e : X) → n < length xs → ((k : ℕ) (d : X) → k < n → P (get_or xs k d)) → P (get_or xs n e)
+    → (k : ℕ) (d : X) → k < n + 1 → P (get_or xs k d)
+one_more P xs n e inside before here k d low = elim (cases_lt k n) [
+  | inl lt ↦ before k d lt
+  | inr ge ↦
+      let same : k ≡ n = omega arith in
+      subst (λ m. P (get_or xs m d)) (sym same) (subst P (get_or_default xs n e d inside) here)
+]

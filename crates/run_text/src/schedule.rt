@@ -1,5 +1,6 @@
 //! The text of a schedule.
-ghost use Rattle.std.specs.Prelude.{◌≡◌, ◌≤◌, ◌⊎◌, ◌++◌, ◌∷◌, length, decimal, map, All, OnOk, IfOk, IfErr, MatchResult, Some, None, Ok, Err};
+ghost use Rattle.std.specs.Prelude.{◌≡◌, ◌≤◌, ◌⊎◌, ◌++◌, ◌∷◌, length, decimal, map, All, OnOk, IfOk, IfErr};
+ghost use Rattle.std.specs.Prelude.{MatchResult, Some, None, Ok, Err};
 ghost use Rattle.gal_io.specs.Number.{number_up_to};
 ghost use Rattle.run_text.specs.Printed.{IsLineOf, event_text, lined, schedule_text};
 ghost use Rattle.run_text.specs.Report.{line_end};

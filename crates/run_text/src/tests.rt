@@ -168,25 +168,93 @@ fn schedules_that_drain(rt: HostRuntime) {
     }
 }
 
+// So many packets are admitted: a power of two.
+fn text_of_many(alloc: Global, doublings: u32) -> Result<Vec<u8>, NoMemory> {
+    let mut text = b"a\n".to_vec(alloc)?;
+    for _ in 0..doublings {
+        let half = text.as_slice().to_vec(alloc)?;
+        text.extend_from_slice(&half)?;
+    }
+    Ok(text)
+}
+
 #[test]
 fn sizes_of_a_schedule(rt: HostRuntime) -> Result<(), Fail> {
     let alloc = rt.alloc();
-    let mut text = Vec::new(alloc);
-    for _ in 0..1_048_576 {
-        text.extend_from_slice(b"a\n")?;
-    }
+    let Ok(mut text) = text_of_many(alloc, 20) else {
+        return Err(Fail::from("no memory"));
+    };
     let many = LinesError::TooMany {
         have: 1_048_577,
         allowed: 1_048_576,
     };
     for (more, want) in [
-        (b"#\n".as_slice(), Ok(1_048_576)),
-        (b"k\ndrain\n", Err(many)),
-        (b"a\n", refused(1_048_580, LineKind::AfterDrain)),
+        (b"k\ndrain\n".as_slice(), Err(many)),
+        (b"a\n", refused(1_048_579, LineKind::AfterDrain)),
     ] {
         text.extend_from_slice(more)?;
         let have = read_schedule(alloc, &text).map(|plan| plan.events.len());
         assert_eq!(rt; have, want, "{more:?}");
+    }
+    Ok(())
+}
+
+// The address translator's packet from 10.0.0.1 port 5000, as it comes in.
+const ARRIVED: &str = "020000000001020000000002080045000028000140004006\
+    06940a000001c63364071388005000000000000000005002200047cf0000";
+
+// A trace is read, and printed again.
+fn printed_trace(alloc: Global, text: &[u8]) -> Result<Text, NoMemory> {
+    match read_trace(alloc, text) {
+        Ok(packets) => print_trace(alloc, &packets),
+        Err(_) => Text::from_slice(alloc, b"refused"),
+    }
+}
+
+#[test]
+fn traces_are_printed(rt: HostRuntime) -> Result<(), Fail> {
+    let alloc = rt.alloc();
+    let twice = format!(in alloc; "0 {ARRIVED}\n0 {ARRIVED}\n")?;
+    for (text, want) in [
+        (b"".as_slice(), b"".as_slice()),
+        (b"# none\n\n", b""),
+        (b"0 -", b"0 -\n"),
+        (b"255 0aFF\r\n#\n0 -\n1 00", b"255 0aff\n0 -\n1 00\n"),
+        (twice.as_bytes(), twice.as_bytes()),
+    ] {
+        let Ok(have) = printed_trace(alloc, text) else {
+            return Err(Fail::from("no memory"));
+        };
+        assert_eq!(rt; have.as_slice(), want);
+    }
+    Ok(())
+}
+
+// A schedule is read, and printed again.
+fn printed_schedule(alloc: Global, text: &[u8]) -> Result<Text, NoMemory> {
+    match read_schedule(alloc, text) {
+        Ok(plan) => print_schedule(alloc, &plan),
+        Err(_) => Text::from_slice(alloc, b"refused"),
+    }
+}
+
+#[test]
+fn schedules_are_printed(rt: HostRuntime) -> Result<(), Fail> {
+    let alloc = rt.alloc();
+    for (text, want) in [
+        (b"".as_slice(), b"".as_slice()),
+        (b"#drain", b""),
+        (b"drain", b"drain\n"),
+        (b"a\r\na\nu 0\n\nu 0\ndrain\n#", b"a\na\nu 0\nu 0\ndrain\n"),
+        (
+            b"h 4294967295\nd 10\nu 7\nc\nw\nk\na",
+            b"h 4294967295\nd 10\nu 7\nc\nw\nk\na\n",
+        ),
+    ] {
+        let Ok(have) = printed_schedule(alloc, text) else {
+            return Err(Fail::from("no memory"));
+        };
+        assert_eq!(rt; have.as_slice(), want);
     }
     Ok(())
 }
