@@ -2,6 +2,7 @@ pub mod Changes
 pub mod Handed
 pub mod Lengths
 pub mod Numbers
+pub mod Outcomes
 pub mod Readings
 pub mod Results
 pub mod Running

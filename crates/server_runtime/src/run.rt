@@ -2,13 +2,15 @@
 ghost use Rattle.std.specs.Prelude.{◌≡◌, ◌↔◌, ◌+◌, ◌<◌, ◌≤◌, ◌++◌, ◌∷◌, [], length, vec_capacity, vec_len};
 ghost use Rattle.std.specs.Prelude.{Err, IfOk, IsOk, OnErr};
 ghost use Rattle.packet_fields.specs.Shape.{shape_of};
+ghost use Rattle.packet_fields.specs.Sizes.{largest_packet};
 ghost use Rattle.state_store.specs.Kept.{IsKept};
 ghost use Rattle.flat_ir.specs.Arrivals.{IsArrival};
 ghost use Rattle.flat_ir.specs.Laws.{AllFit};
 ghost use Rattle.flat_ir.specs.Program.{program_of};
 ghost use Rattle.flat_ir.specs.Registers.{packet_of};
+ghost use Rattle.flat_ir.specs.Run.{with_writes};
 ghost use Rattle.split_model.specs.Layouts.{up_layout};
-ghost use Rattle.split_model.specs.Passes.{server_run};
+ghost use Rattle.split_model.specs.Passes.{server_fields, server_run};
 ghost use Rattle.transfer_header.specs.Frames.{HasRoom, IsFrame};
 ghost use Rattle.transfer_header.specs.Told.{number_in, packet_in, reads_in};
 ghost use Rattle.server_runtime.specs.Plans.{IsPrepared};
@@ -29,8 +31,8 @@ use split_model::a_server_keeps_widths;
 use state_store::Store;
 use std::alloc::Global;
 use transfer_header::{
-    Head, Malformed, Regs, frames_are_told_by_place, layouts_fit, pack_down_in, unpack_up,
-    values_have_their_numbers, what_crosses_is_held, what_crosses_is_narrow,
+    Head, Malformed, Regs, frames_are_told_by_place, frames_of_low_bits, layouts_fit, pack_down_in,
+    unpack_up, values_have_their_numbers, what_crosses_is_held,
 };
 use writeback_table::{Update, Updates};
 
@@ -103,6 +105,27 @@ fn take_turns(
     evaluated
 }
 
+// The packet's bytes with the fields set that the server sets.
+fn set_fields(
+    whole: &SplitProgram,
+    values: &Regs,
+    arrival: &Arrival<'_>,
+    mut packet: Vec<u8>,
+) -> Vec<u8>
+    requires prepared { IsPrepared whole.now }
+    requires all { AreAll (program_of whole.now.flat) values.now }
+    requires copy { packet.items ≡ arrival.now.bytes.now }
+    requires size { length arrival.now.bytes.now ≤ largest_packet }
+    requires shape { arrival.now.shape ≡ shape_of arrival.now.bytes.now }
+    ensures { let f = program_of whole.now.flat in
+        result.items
+        ≡ with_writes (server_fields f whole.now.split) (register_reads f values.now) arrival.now.bytes.now }
+{
+    let numbers = Registers { whole, values };
+    write_fields(&whole.fields, &numbers, &arrival.shape, &mut packet);
+    packet
+}
+
 // The server's run of a packet. This takes no memory besides `room`.
 fn run(
     whole: &SplitProgram,
@@ -129,18 +152,17 @@ fn run(
     ensures kept { IsKept whole.now.flat.objects store.new }
 {
     a_server_keeps_widths();
+    frames_of_low_bits();
     layouts_fit();
     what_crosses_is_held();
-    what_crosses_is_narrow();
     what_the_switch_is_told_fits();
     let Room {
-        mut packet,
+        packet,
         frame,
         mut updates,
     } = room;
     let evaluated = take_turns(whole, arrival, values, store, &mut updates);
-    let numbers = Registers { whole, values };
-    write_fields(&whole.fields, &numbers, &arrival.shape, &mut packet);
+    let packet = set_fields(whole, values, arrival, packet);
     let down = pack_down_in(frame, &whole.down, number, arrival.port, values, &packet);
     Ran {
         number,
@@ -161,8 +183,6 @@ fn read(whole: &SplitProgram, frame: &[u8], values: &mut Regs) -> Result<Head, M
     frames_are_told_by_place();
     layouts_fit();
     values_have_their_numbers();
-    what_crosses_is_held();
-    what_crosses_is_narrow();
     clear(values);
     unpack_up(&whole.up, frame, values)
 }
