@@ -1,7 +1,8 @@
 -- What comes of a packet.
-use Rattle.std.proofs.Common.{◌≡◌, ◌<◌, ◌≤◌, ◌^◌, ℕ, Bool, true, false, cond, IsTrue, not, List, [], ◌∷◌, length, sym, ap, ◌∙◌, subst, arith}
+use Rattle.std.proofs.Common.{◌≡◌, ◌<◌, ◌≤◌, ◌^◌, ℕ, Bool, true, false, cond, ◌-◌, List, [], ◌∷◌, length, take, drop, length-drop, sym, ap, ◌∙◌, subst, arith}
 use Rattle.std.specs.List.{filter, AllByRecursion as Each}
 use Rattle.std.proofs.lemmas.Bool.{and_parts}
+use Rattle.std.proofs.Math.Seq.{take-length}
 use Rattle.packet_fields.specs.declared.packet.Packet.{Packet}
 use Rattle.packet_fields.specs.Sizes.{largest_packet}
 use Rattle.state_store.specs.Store.{Store}
@@ -15,8 +16,10 @@ use Rattle.flat_ir.specs.Writable.{IsWritable}
 use Rattle.split_model.specs.declared.layout.Crossing.{Crossing}
 use Rattle.split_model.specs.declared.split.Part.{Part}
 use Rattle.split_model.specs.Crossing.{crosses_down, is_server_write}
-use Rattle.split_model.specs.Layouts.{down_layout}
+use Rattle.split_model.specs.Layouts.{down_layout, up_layout}
 use Rattle.split_model.specs.Passes.{sent_down, server_fields, server_run, IsHanded}
+use Rattle.transfer_header.specs.declared.frame.Head.{Head}
+use Rattle.transfer_header.specs.Told.{number_in, packet_in, reads_in}
 use Rattle.transfer_header.specs.Frames.{down_frame, frame_of, IsFrame, IsFrameOf}
 use Rattle.transfer_header.specs.Registers.{reads_of, value_in, Holds}
 use Rattle.transfer_header.specs.Values.{low_bits}
@@ -24,7 +27,7 @@ use Rattle.writeback_table.specs.declared.command.Update.{Update}
 use Rattle.server_runtime.specs.declared.run.Ran.{Ran}
 use Rattle.server_runtime.specs.Registers.{register_reads}
 use Rattle.server_runtime.specs.Serving.{followed_writes, updates_of, IsUpdateIn}
-use Rattle.server_runtime.specs.Turns.{IsOutcome, IsRunning}
+use Rattle.server_runtime.specs.Turns.{IsOutcome, IsRead, IsRunning}
 use Rattle.server_runtime.proofs.Lengths.{length_with_writes}
 use Rattle.server_runtime.proofs.Readings.{reads_named}
 
@@ -82,3 +85,20 @@ is_outcome f split st after number packet up registers sent updates ran so numbe
       fit = subst (Each (IsUpdateIn f split)) (sym tells) fit;
       few = subst (λ us. length us ≤ followed_writes f split) (sym tells) few;
     }
+
+-- ## Of a frame
+
+pub part_is : (xs : List ℕ) (n : ℕ) → take (length xs - n) (drop n xs) ≡ drop n xs
+part_is xs n = subst (λ k. take k (drop n xs) ≡ drop n xs) (length-drop n xs) (take-length (drop n xs))
+
+-- what comes of a packet comes of the frame in which it was read
+pub outcome_read : (f : Program) (split : List Part) (st after : Store) (frame registers bytes : List ℕ) (head : Head) (ran : Ran)
+    → IsRead f split frame registers head → bytes ≡ drop head.packet_at frame
+    → IsOutcome f split st head.number (record { port = head.port; bytes = bytes }) (register_reads f registers) after ran
+    → IsOutcome f split st (number_in frame) (packet_in (up_layout f split) frame) (reads_in (up_layout f split) frame) after ran
+outcome_read f split st after frame registers bytes head ran read same h =
+    let layout = up_layout f split in
+    let packet : record { port = head.port; bytes = bytes } ≡ packet_in layout frame = (λ p. record { port = head.port; bytes = same p }) ∙ read.packet in
+    subst (λ n. IsOutcome f split st n (packet_in layout frame) (reads_in layout frame) after ran) read.number
+    (subst (λ p. IsOutcome f split st head.number p (reads_in layout frame) after ran) packet
+    (subst (λ r. IsOutcome f split st head.number (record { port = head.port; bytes = bytes }) r after ran) read.reads h))

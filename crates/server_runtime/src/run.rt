@@ -19,7 +19,7 @@ ghost use Rattle.server_runtime.specs.Serving.{followed_writes};
 ghost use Rattle.server_runtime.specs.Turns.{as_list, IsOutcome, IsRead, IsRunning};
 
 use crate::laws::what_the_switch_is_told_fits;
-use crate::plan::SplitProgram;
+use crate::plan::{Plan, SplitProgram};
 use crate::registers::{Registers, clear};
 use crate::room::Room;
 use crate::served::ServeError;
@@ -190,24 +190,23 @@ fn read(whole: &SplitProgram, frame: &[u8], values: &mut Regs) -> Result<Head, M
 /// What comes of a frame that came up. All memory is taken before the store changes.
 pub(crate) fn answer(
     alloc: Global,
-    whole: &SplitProgram,
+    plan: &Plan,
     values: &mut Regs,
     store: &mut Store,
     frame: &[u8],
 ) -> Result<Ran, ServeError>
-    requires prepared { IsPrepared whole.now }
-    requires all { AreAll (program_of whole.now.flat) values.old }
-    requires kept { IsKept whole.now.flat.objects store.old }
-    ensures ok { IfOk result (λ ran. let f = program_of whole.now.flat in
-        let layout = up_layout f whole.now.split in
-        IsOutcome f whole.now.split store.old (number_in frame.now) (packet_in layout frame.now)
+    requires all { AreAll plan.now.program values.old }
+    requires kept { IsKept plan.now.program.objects store.old }
+    ensures ok { IfOk result (λ ran. let layout = up_layout plan.now.program plan.now.split in
+        IsOutcome plan.now.program plan.now.split store.old (number_in frame.now) (packet_in layout frame.now)
         (reads_in layout frame.now) store.new ran) }
     ensures malformed { (result ≡ Err ServeError.Malformed)
-        ↔ (¬ (IsFrame 1 (up_layout (program_of whole.now.flat) whole.now.split) frame.now)) }
+        ↔ (¬ (IsFrame 1 (up_layout plan.now.program plan.now.split) frame.now)) }
     ensures err { OnErr result (store.new ≡ store.old) }
     ensures count { length values.new ≡ length values.old }
-    ensures kept { IsKept whole.now.flat.objects store.new }
+    ensures kept { IsKept plan.now.program.objects store.new }
 {
+    let whole = &plan.whole;
     let head = read(whole, frame, values)?;
     let bytes = &frame[head.packet_at..];
     let room = Room::take(alloc, whole, bytes)?;

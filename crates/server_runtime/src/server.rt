@@ -8,6 +8,7 @@ ghost use Rattle.split_model.specs.Legal.{IsLegal};
 ghost use Rattle.transfer_header.specs.Frames.{IsFrame};
 ghost use Rattle.server_runtime.specs.Kept.{kept_prop};
 ghost use Rattle.server_runtime.specs.Registers.{AreAll};
+ghost use Rattle.server_runtime.specs.Serving.{version_after};
 
 use crate::plan::Plan;
 use crate::run::answer;
@@ -18,6 +19,7 @@ use split_model::Split;
 use state_store::Store;
 use std::alloc::Global;
 use transfer_header::Regs;
+use writeback_table::Updates;
 
 /// The server's part of a split program at work, with the store that it keeps.
 #[derive(Debug, Drop)]
@@ -30,6 +32,18 @@ pub struct Server {
     values: Regs,
     ghost kept: { IsKept plan.program.objects store } by { kept_prop plan.program.objects store },
     ghost all: { AreAll plan.program values },
+}
+
+// How many versions there are with these changes.
+fn version_after(version: u32, updates: &Updates) -> u32
+    requires { version < 2 ^ 32 - 1 }
+    ensures { result ≡ version_after version updates.now }
+{
+    if updates.is_empty() {
+        version
+    } else {
+        version + 1
+    }
 }
 
 impl Server {
@@ -69,15 +83,13 @@ impl Server {
     {
         let ran = answer(
             self.alloc,
-            &self.plan.whole,
+            &self.plan,
             &mut self.values,
             &mut self.store,
             frame,
         )?;
         self.evaluated = ran.evaluated;
-        if !ran.updates.is_empty() {
-            self.version += 1;
-        }
+        self.version = version_after(self.version, &ran.updates);
         Ok(Served {
             number: ran.number,
             down: ran.down,
