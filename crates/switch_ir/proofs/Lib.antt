@@ -6,3 +6,4 @@ mod Computing
 mod Places
 mod Marks
 mod Codes
+mod Chain

@@ -99,8 +99,8 @@ impl Journal {
         ensures ok { OnOk result (self.new ≡ record self.old { entries = self.old.entries ++ entry ∷ [] }) }
         ensures err { OnErr result (self.new ≡ self.old) }
     {
-        self.items.reserve(self.spare + 1)?;
-        self.items.push_reserved(entry);
+        self.reserve(self.spare + 1)?;
+        self.push_spare(entry);
         Ok(())
     }
 
