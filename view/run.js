@@ -5,15 +5,22 @@
 const CHUNK = 100;
 const ROW_HEIGHT = 24;
 
+// A number that is between two, with a word before each.
+function rangeOf({ least, most }, word) {
+  return least === most ? `${word}${grouped(least)}` : `${word}${grouped(least)} to ${grouped(most)}`;
+}
+
 class RunDrawing {
-  constructor(report, schedule, trace) {
+  constructor(report, schedule, trace, answer) {
     this.report = report;
     this.trace = trace;
-    this.strangeness = schedule ? strangenessOf(report, schedule) : null;
-    this.schedule = this.strangeness ? null : schedule;
-    this.versions = versionsOf(report, this.schedule);
-    this.letGo = letGoOf(report, this.schedule, this.versions);
-    this.idle = this.schedule && report.version === 0 ? replayWithoutVersions(report, this.schedule).idle : new Set();
+    this.warnings = [];
+    this.told = toldEvents(report);
+    this.derive(schedule, answer);
+    this.versions = versionsOf(report);
+    if (this.derived) {
+      this.takeDerived();
+    }
     this.last = report.events + 0.5;
     this.places = new Map(report.order.map((number, place) => [number, place]));
     this.rows = [];
@@ -22,13 +29,72 @@ class RunDrawing {
     this.pictures = [];
   }
 
+  // Goes through the schedule, where there is one, as far as it can be that of the report.
+  derive(schedule, answer) {
+    const strangeness = schedule ? strangenessOf(this.report, schedule) : null;
+    let most = schedule && answer ? mostChangesOf(answer, this.report) : null;
+    let isSplit = !schedule || !answer || most !== null;
+    const first = schedule && !strangeness ? new Derivation(this.report, schedule, most) : null;
+    let derivation = first;
+    if (first && first.isOther && most !== null) {
+      most = null;
+      derivation = new Derivation(this.report, schedule, null);
+      isSplit = derivation.isOther === true;
+    }
+    const isOther = strangeness || (derivation && derivation.isOther ? derivation.failure : null);
+    if (isOther) {
+      this.warnings.push(`The schedule isn't drawn, since it isn't that of the report: ${isOther}.`);
+    }
+    if (!isSplit) {
+      this.warnings.push("No run with this split does what the report tells, so the run is drawn without the split.");
+    }
+    this.schedule = isOther ? null : schedule;
+    this.derived = derivation && !derivation.failure ? derivation : null;
+    this.most = most;
+    this.failure = derivation && !derivation.isOther ? derivation.failure : null;
+  }
+
+  // When each version was shown, by the schedule's events.
+  takeDerived() {
+    const { notYet, shown } = this.versions;
+    for (let version = 1; version < shown.length; version += 1) {
+      const range = this.derived.ranges.shown.get(version);
+      notYet[version] = range ? range.least - 1 : this.report.events;
+      shown[version] = range ? range.most : null;
+    }
+  }
+
+  // What certain events of commands and of `h` do, by event.
+  get effects() {
+    if (!this.foundEffects) {
+      this.foundEffects = { letGo: new Map(), notes: new Map() };
+      const words = { shown: " From now on lookups see version ", known: " This acknowledges version " };
+      const { ranges } = this.derived;
+      ranges.letGo.forEach(({ least, most }, number) => least === most && this.foundEffects.letGo.set(least, number));
+      Object.entries(words).forEach(([name, word]) => ranges[name].forEach(({ least, most }, version) =>
+        least === most && this.foundEffects.notes.set(least, `${word}${version}.`)));
+    }
+    return this.foundEffects;
+  }
+
+  letGoAt(event) {
+    return this.derived ? this.effects.letGo.get(event) : undefined;
+  }
+
+  versionNote(event) {
+    const maker = this.told.get(event);
+    const isMade = maker && maker.letter === "u" && this.versions.makers[maker.packet.version] === maker.packet;
+    const made = isMade ? ` It made version ${maker.packet.version}.` : "";
+    return made + ((this.derived && this.effects.notes.get(event)) || "");
+  }
+
   draw() {
     this.timeline = make("div", "timeline");
     this.strips = make("div", "strips");
     this.axis = drawBand(make("span", "label", "event"), [], "", 0);
     this.axis.classList.add("axis");
     this.strips.append(this.axis);
-    if (this.schedule && this.schedule.events.length > 0) {
+    if (this.schedule && this.report.events > 0) {
       this.strips.append(drawScheduleStrip(this));
     }
     if (this.versions.made.length > 1) {
@@ -36,8 +102,9 @@ class RunDrawing {
     }
     this.timeline.append(makeWith("div", "ways", [this.strips, this.drawWays()]), this.drawOrder());
     const section = makeWith("section", "run", [
-      make("h2", "", "What became of the packets"), ...this.drawFacts(), this.drawLegend(), this.drawWindow(),
-      this.timeline, drawState(this.report),
+      make("h2", "", "What became of the packets"), ...this.drawFacts(), this.drawLegend(),
+      make("p", "source", this.sourceOfDrawing()), this.drawWindow(), this.timeline, ...drawVersions(this),
+      drawState(this.report),
     ]);
     this.show(0.5, this.last);
     letKeysMove(this.timeline, ".row, .seats", null);
@@ -53,6 +120,10 @@ class RunDrawing {
       const most = slow.reduce((one, other) => (one && length(one) >= length(other) ? one : other), null);
       return most ? `at most ${counted(length(most), "event")} (packet ${most.number})` : "none";
     };
+    const waits = slow.map((packet) => ({ packet, range: this.waitOf(packet) })).filter(({ range }) => range);
+    const most = waits.reduce((one, other) => (one && one.range.most >= other.range.most ? one : other), null);
+    const versionWait = !most || most.range.most === 0 ? "none"
+      : `at most ${counted(most.range.most, "event")} (packet ${most.packet.number}, version ${most.packet.version})`;
     const facts = [
       ["packets", `${grouped(report.admitted)} of ${grouped(report.total)} admitted`],
       ["never visited the server", grouped(fast)],
@@ -60,20 +131,58 @@ class RunDrawing {
       ["released", `${grouped(report.released)}, ${grouped(report.admitted - report.released)} on their way`],
       ["waited for the server", longest("admitted", "decided")],
       ["then for release", longest("decided", "released")],
+      ...(this.derived && report.version > 0 ? [["of that, for its version", versionWait]] : []),
       ["events", `${grouped(report.events)}, ${grouped(report.idle)} idle`],
       ["version", `${grouped(report.version)}, the switch shows ${grouped(report.visible)}`],
       ["drained", report.drained ? "yes" : "no"],
     ];
     const pairs = facts.map(([name, value]) => makeWith("div", "", [make("dt", "", name), make("dd", "", value)]));
-    const strange = `The schedule isn't drawn, since it isn't that of the report: ${this.strangeness}.`;
-    return [makeWith("dl", "facts", pairs), ...(this.strangeness ? [make("p", "warning", strange)] : [])];
+    return [makeWith("dl", "facts", pairs), ...this.warnings.map((warning) => make("p", "warning", warning))];
+  }
+
+  // How many events an output waited until its version was acknowledged, where that is derived: { least, most }.
+  waitOf({ decided, version }) {
+    if (!this.derived) {
+      return null;
+    }
+    const known = version === 0 ? { least: 0, most: 0 } : this.derived.ranges.known.get(version);
+    return known && { least: Math.max(0, known.least - decided), most: Math.max(0, known.most - decided) };
+  }
+
+  changesNote(bound) {
+    return this.report.version === 0 ? "Nothing is left open by that."
+      : `How many changes a version has is told nowhere (${bound}), so each number was tried, and what is left is what`
+        + " agrees with the report.";
+  }
+
+  // What of the drawing stands in the report, and what is derived and how.
+  sourceOfDrawing() {
+    const told = "The report tells when packets were admitted, decided and released, and their versions; so also when"
+      + " the server made each version.";
+    if (!this.schedule) {
+      return `${told} It doesn't tell when an output was let go, nor when the switch showed a version: what packets saw`
+        + " and when they left only bounds that. With the schedule beside it more can be derived.";
+    }
+    if (this.failure) {
+      return `${told} When outputs were let go and versions were shown isn't derived here: ${this.failure}.`;
+    }
+    const drains = this.report.events - this.schedule.events.length;
+    const rule = drains > 0 ? `, and the ${counted(drains, "event")} of drain, each the first of k, w, c, d 0, h 0, u 0`
+      + " and a that applies" : "";
+    const open = this.derived.openCount;
+    const bound = this.most !== null ? `at most ${this.most}, by the split` : "without the split beside it, any number";
+    return `${told} Derived from the schedule: which events were idle, when commands showed and acknowledged versions, `
+      + `when outputs were let go${rule}. ${this.changesNote(bound)}${open === 0 ? ""
+        : ` ${counted(open, "number of these isn't", "numbers of these aren't")} certain, and drawn as stretches.`}`;
   }
 
   // What the marks that are drawn mean.
   drawLegend() {
     const samples = [
       ["mark admitted", "admitted"], ["wait up", "waits for the server"], ["mark decided", "decided by the server"],
-      ["wait held", "its output waits"], ["wait down", "let go, on its way down"], ["mark sent", "sent"],
+      ["wait kept", "its output isn't out yet"], ["wait held", "held until its version is acknowledged"],
+      ["wait free", "held, and may go"], ["wait perhaps", "one or the other"],
+      ["wait down", "let go, on its way down"], ["mark sent", "sent"],
       ["mark dropped", "dropped"], ["mark fast", "fast: sent by the switch alone"],
       ["mark fast drops", "fast, dropped"], ["wait open", "still on its way"],
     ].filter(([shape]) => this.timeline.querySelector(`.track > .${shape.replaceAll(" ", ".")}`));
@@ -173,7 +282,6 @@ class RunDrawing {
     const { number, way, admitted, decided, released, port, version } = packet;
     const track = make("span", "track");
     const verdict = make("span", "verdict");
-    const letGo = this.letGo.get(number);
     const open = released ? "" : " open";
     const end = released || this.last;
     if (way === "up") {
@@ -181,13 +289,11 @@ class RunDrawing {
       verdict.textContent = "… waits for the server";
     } else if (way === "slow") {
       track.append(this.stretch("up", admitted, decided));
-      if (letGo) {
-        track.append(this.stretch("held", decided, letGo), this.stretch(`down${open}`, letGo, end));
-      } else {
-        track.append(this.stretch(`held${open}`, decided, end));
-      }
+      const parts = this.partsOf(packet, end);
+      parts.forEach(([name, from, until], place) =>
+        track.append(this.stretch(`${name}${place === parts.length - 1 ? open : ""}`, from, until)));
       track.append(this.point("admitted", admitted), this.point("decided", decided));
-      verdict.textContent = letGo ? "… on its way down" : "… its output waits";
+      verdict.textContent = `… ${this.placeOf(packet)}`;
     }
     if (released) {
       const name = port === null ? "dropped" : "sent";
@@ -197,11 +303,41 @@ class RunDrawing {
       verdict.textContent = port === null ? "✕ dropped" : `▶ port ${port}, ${counted(packet.bytes, "byte")}`;
     }
     const label = makeWith("span", "label", [
-      make("b", "", number), way === "fast" ? " fast" : "", version ? ` v${version}` : "",
+      make("b", "", number), way === "fast" ? " fast" : "",
+      version !== undefined && this.report.version > 0 ? ` v${version}` : "",
     ]);
     const row = makeWith("div", `row ${way}${open}`, [label, track, verdict]);
     this.rows[number] = row;
     return tellOf(row, (target) => this.tellPacket(packet, undefined, Number(target.style.getPropertyValue("--at"))));
+  }
+
+  // The stretches of a packet's way from its decision on, each with its ends.
+  partsOf({ number, decided, version }, end) {
+    if (!this.derived) {
+      return [["kept", decided, end]];
+    }
+    const { known, letGo } = this.derived.ranges;
+    const inside = (event) => Math.min(Math.max(event, decided), end);
+    const never = { least: Infinity, most: Infinity };
+    const seen = version === 0 ? { least: 0, most: 0 } : known.get(version) || never;
+    const gone = letGo.get(number) || never;
+    const isOut = end < this.last || this.derived.placeOf(number) === "down";
+    const [least, most] = [inside(gone.least), inside(isOut ? gone.most : Infinity)];
+    const isSure = version === 0 || end < this.last || this.derived.isKnown(version);
+    const [first, last] = [Math.min(inside(seen.least), least), Math.min(inside(isSure ? seen.most : Infinity), least)];
+    const parts = [["held", decided, first], ["perhaps", first, last], ["free", last, least], ["perhaps", least, most],
+      ["down", most, end]].filter(([, from, until]) => from < until);
+    return parts.length > 0 ? parts : [["down", end, end]];
+  }
+
+  // Where a packet is that was decided and isn't out.
+  placeOf({ number, version }) {
+    const place = this.derived ? this.derived.placeOf(number) : null;
+    if (place === null) {
+      return "held, or on its way down";
+    }
+    return place === "down" ? "on its way down"
+      : this.derived.isKnown(version) ? "held, and may go" : `held for version ${version}`;
   }
 
   inChunks(elements, classes) {
@@ -254,7 +390,8 @@ class RunDrawing {
   }
 
   // What a packet waited for, and how long.
-  historyOf({ number, way, admitted, decided, released, version }) {
+  historyOf(packet) {
+    const { number, way, admitted, decided, released, version } = packet;
     const waited = (from, to) => `waited ${counted(to - from, "event")}`;
     if (way === "fast") {
       return `Packet ${number} never visited the server: the switch finished it at event ${admitted}, on version ${
@@ -264,17 +401,31 @@ class RunDrawing {
     if (way === "up") {
       return `${start} and waits for the server, ${counted(this.report.events - admitted, "event")} so far`;
     }
-    const letGo = this.letGo.get(number);
-    const need = version > 0 ? `, which needs version ${version} acknowledged,` : "";
-    const end = letGo ? `${waited(decided, letGo)}, and was let go at event ${letGo}`
-      : `${waited(decided, released || this.report.events)}${released ? "" : " so far"}`;
-    return `${start}, ${waited(admitted, decided)} for the server, and was decided at event ${decided}, `
-      + `on version ${version}. Its output${need} ${end}`;
+    const decision = `${start}, ${waited(admitted, decided)} for the server, and was decided at event ${decided}, `
+      + `on version ${version}`;
+    if (!this.derived) {
+      return `${decision}. Its output ${waited(decided, released || this.report.events)}${released ? "" : " so far"}`;
+    }
+    const gone = this.derived.ranges.letGo.get(number);
+    const isGone = released || this.derived.placeOf(number) === "down";
+    const end = isGone ? `it was let go at ${rangeOf(gone, "event ")}` : `it is ${this.placeOf(packet)}`;
+    const wait = this.waitOf(packet);
+    const known = this.derived.ranges.known.get(version);
+    const isKnown = version === 0 || (wait && wait.most === 0);
+    const need = version === 0 ? "No change has to be acknowledged for its output"
+      : isKnown ? "Its version was acknowledged before"
+      : known && this.derived.isKnown(version)
+        ? `Its output waited ${rangeOf(wait, "")} ${wait.most === 1 ? "event" : "events"} for version ${version}, which`
+          + ` was shown at ${rangeOf(this.derived.ranges.shown.get(version), "event ")} and acknowledged at ${
+            rangeOf(known, "event ")}`
+        : `Its output waits for version ${version}, which isn't ${known ? "certain to be " : ""}acknowledged`;
+    return `${decision}. ${need}; ${end}`;
   }
 
   tellPacket(packet, place, event) {
-    const { number, released, port, line } = packet;
-    const parts = [this.historyOf(packet)];
+    const { number, way, version, released, port, line } = packet;
+    const isMade = way === "slow" && this.versions.makers[version] === packet;
+    const parts = [this.historyOf(packet), isMade ? `. It made version ${version}` : ""];
     const left = port === null ? "dropped" : `sent by port ${port}`;
     parts.push(released ? `. It was ${left} at event ${released}.` : ". It isn't out yet.");
     const arrived = this.trace && this.trace.packets[number];

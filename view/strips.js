@@ -43,49 +43,77 @@ function letEventsBeTold(band, run, teller) {
   });
 }
 
-function tellEvent(run, event) {
-  const { schedule, report, letGo } = run;
-  const performed = schedule.events[event - 1];
-  if (!performed) {
-    return { note: event <= report.events ? `Event ${event} is one of drain.` : "", lines: [] };
+// The letter and the item of an event, by the schedule or by the rule of drain; or null where that isn't certain.
+function eventOf(run, event) {
+  const given = run.schedule.events[event - 1];
+  if (given || !run.derived) {
+    return given || null;
   }
-  const done = report.packets.find((packet) =>
-    packet.admitted === event || packet.decided === event || packet.released === event);
-  const [released] = [...letGo].filter(([, at]) => at === event).map(([number]) => number);
-  const packet = done ? done.number : released;
+  const letter = run.derived.letterOf(event);
+  return letter && { letter, item: 0, line: null };
+}
+
+function tellEvent(run, event) {
+  const { report, derived, told } = run;
+  const performed = eventOf(run, event);
+  const done = told.get(event);
+  const drain = event > run.schedule.events.length;
+  const byDrain = drain ? ", of drain" : "";
+  if (!performed) {
+    const word = `Event ${event} is one of drain${derived ? "; which one isn't certain" : ""}.`;
+    const lines = done ? [{ kind: "report", line: done.packet.line }] : [];
+    return { note: event <= report.events ? word : "", lines };
+  }
+  const packet = done ? done.packet.number : run.letGoAt(event);
   const { letter, item, line } = performed;
   const title = LETTERS.find(([other]) => other === letter)[1];
   const spelled = "uhd".includes(letter) ? `${letter} ${item}` : letter;
   const ofPacket = packet === undefined ? "" : `, packet ${packet}`;
+  const state = derived ? derived.stateOf(event) : "done";
+  const idle = { done: "", idle: " It was idle.", perhaps: " It isn't certain whether it was idle." }[state];
   return {
-    note: `Event ${event}, ${spelled}: ${title}${ofPacket}.${run.idle.has(event) ? " It was idle." : ""}`,
-    lines: [{ kind: "schedule", line }, ...(done ? [{ kind: "report", line: done.line }] : [])],
+    note: `Event ${event}, ${spelled}${byDrain}: ${title}${ofPacket}.${idle}${run.versionNote(event)}`,
+    lines: [{ kind: "schedule", line }, ...(done ? [{ kind: "report", line: done.packet.line }] : [])],
     related: packet === undefined ? [] : run.relatedTo(packet),
   };
 }
 
-// The events of the schedule, a line for each letter.
+// The events of the schedule, and those of drain as far as they are derived, a line for each letter.
 function drawScheduleStrip(run) {
-  const { events, drain } = run.schedule;
-  const used = LETTERS.filter(([letter]) => events.some((event) => event.letter === letter));
-  const gap = run.report.events / DRAWN_EVENTS;
+  const { schedule, derived, report } = run;
+  const own = schedule.events.length;
+  const places = new Map(LETTERS.map(([letter]) => [letter, []]));
+  for (let event = 1; event <= (derived ? report.events : own); event += 1) {
+    const performed = eventOf(run, event);
+    if (performed) {
+      places.get(performed.letter).push(event);
+    }
+  }
+  const used = LETTERS.filter(([letter]) => places.get(letter).length > 0);
+  const gap = report.events / DRAWN_EVENTS;
   const picture = makeVector("svg", { preserveAspectRatio: "none", class: "events" });
-  run.pictures.push({ picture, heightsOf: () => [0, used.length] });
+  run.pictures.push({ picture, heightsOf: () => [0, Math.max(1, used.length)] });
+  if (report.events > own) {
+    picture.append(makeVector("rect", {
+      x: own + 0.5, y: 0, width: report.events - own, height: Math.max(1, used.length), class: "drain",
+    }));
+  }
   used.forEach(([letter], place) => {
-    const ticks = { done: [], idle: [] };
+    const ticks = new Map();
     let last = -gap;
-    events.forEach((event, at) => {
-      if (event.letter === letter && at - last >= gap) {
-        ticks[run.idle.has(at + 1) ? "idle" : "done"].push(`M${at + 1} ${place + 0.15}v.7`);
-        last = at;
+    for (const event of places.get(letter)) {
+      if (event - last >= gap) {
+        const name = event > own ? "drain" : derived ? derived.stateOf(event) : "done";
+        ticks.set(name, ticks.get(name) || []);
+        ticks.get(name).push(`M${event} ${place + 0.15}v.7`);
+        last = event;
       }
-    });
-    Object.entries(ticks).forEach(([name, some]) =>
-      picture.append(makeVector("path", { d: some.join(""), class: `${name} ${letter}` })));
+    }
+    ticks.forEach((some, name) => picture.append(makeVector("path", { d: some.join(""), class: `${name} ${letter}` })));
   });
   const names = used.map(([letter, title]) => makeWith("span", "", [make("b", "", letter), ` ${title}`]));
-  const label = makeWith("span", "label letters", names);
-  const band = drawBand(label, [picture], drain ? "then drain" : "", used.length);
+  const behind = !schedule.drain ? "" : derived && report.events > own ? "▒ by drain, derived" : "then drain";
+  const band = drawBand(makeWith("span", "label letters", names), [picture], behind, Math.max(1, used.length));
   letEventsBeTold(band, run, (event) => tellEvent(run, event));
   return band;
 }
@@ -102,23 +130,32 @@ function stepsOf(events, version, end) {
   return points.map(([event, at]) => `${event} ${version - at + 0.1}`);
 }
 
-// The server's version, and what is certain of the one that the switch shows.
+// The versions: the one that the server has, what is certain of the one that the switch shows, and where it is derived
+// the one that the server knows to be shown.
 function drawVersionStrip(run) {
   const { made, notYet, shown } = run.versions;
   const version = made.length - 1;
   const end = run.report.events + 0.5;
   const picture = makeVector("svg", { preserveAspectRatio: "none", class: "versions" });
-  const soonest = notYet.map((event, at) => (at <= run.report.visible ? event : null));
+  const soonest = notYet.map((event, at) => (at > 0 && at <= run.report.visible ? event : null));
   const [madeSteps, shownSteps, soonestSteps] = [made, shown, soonest].map((events) => stepsOf(events, version, end));
-  picture.append(
-    makeVector("path", { class: "perhaps", d: `M${[...shownSteps, ...soonestSteps.reverse()].join("L")}Z` }),
-    makeVector("path", { class: "made", d: `M${madeSteps.join("L")}` }),
-    makeVector("path", { class: "shown", d: `M${shownSteps.join("L")}` }));
-  const keys = [
-    ["made-key", "- -", "server's version"], ["shown-key", "—", "shown for certain"],
-    ["perhaps-key", "▨", "shown perhaps"],
-  ].map(([name, sign, text]) => makeWith("span", "", [make("b", name, sign), ` ${text}`]));
-  const band = drawBand(makeWith("span", "label", keys), [picture], "", 5);
+  const isSure = soonest.every((event, at) => event === null || event + 1 === shown[at]);
+  const keys = [["made-key", "- -", "server's version"], ["shown-key", "—", "shown by the switch"]];
+  if (!isSure || !run.derived) {
+    const around = [...shownSteps, ...soonestSteps.reverse()].join("L");
+    picture.append(makeVector("path", { class: "perhaps", d: `M${around}Z` }));
+    keys[1][2] = "shown for certain";
+    keys.push(["perhaps-key", "▨", "shown perhaps"]);
+  }
+  picture.append(makeVector("path", { class: "made", d: `M${madeSteps.join("L")}` }));
+  if (run.derived) {
+    const known = made.map((event, at) => (run.derived.ranges.known.get(at) || { most: null }).most);
+    picture.append(makeVector("path", { class: "known", d: `M${stepsOf(known, version, end).join("L")}` }));
+    keys.push(["known-key", "···", "acknowledged"]);
+  }
+  picture.append(makeVector("path", { class: "shown", d: `M${shownSteps.join("L")}` }));
+  const signs = keys.map(([name, sign, text]) => makeWith("span", "", [make("b", name, sign), ` ${text}`]));
+  const band = drawBand(makeWith("span", "label", signs), [picture], "", 5);
   const heightsOf = (from, to) => {
     const [low, high] = [versionsAfter(run, from).least, Math.max(1, versionsAfter(run, to).server)];
     band.querySelector(".verdict").textContent = `versions ${grouped(low)} to ${grouped(high)}`;

@@ -36,11 +36,12 @@ function redraw() {
       return;
     }
   }
+  if (read.has("report")) {
+    drawing.append(
+      new RunDrawing(read.get("report"), read.get("schedule"), read.get("trace"), read.get("answer")).draw());
+  }
   if (read.has("answer")) {
     drawing.append(new SplitDrawing(read.get("answer"), read.get("source"), read.get("limits")).draw());
-  }
-  if (read.has("report")) {
-    drawing.append(new RunDrawing(read.get("report"), read.get("schedule"), read.get("trace")).draw());
   }
   if (texts.size > 0 && drawing.children.length === 0) {
     document.getElementById("refusal").textContent = "Give an answer of compile or a report too, and it is drawn.";
@@ -105,11 +106,13 @@ function writeCounts(milliseconds) {
     before: ".lane.before .chip", server: ".lane.server .chip", after: ".lane.after .chip",
     twice: ".lane.server .chip.twice", blocks: ".block-line", tables: ".mark.table", gauges: ".gauge .used",
     over: ".used.over",
-    up: ".crossing.up .value", down: ".crossing.down .value", unknown: ".value.unknown", outputs: ".mark.output",
+    up: ".crossing.up .value", returned: ".crossing.down .value", unknown: ".value.unknown", outputs: ".mark.output",
     rows: ".rows .row", fast: ".rows .mark.fast", admitted: ".rows .mark.admitted", decided: ".rows .mark.decided",
     sent: ".rows .mark.sent", dropped: ".rows .mark.dropped, .rows .mark.drops", open: ".rows .row.open",
     seats: ".mark.seat", slopes: ".slopes path", state: ".state-row", differs: ".differs", warnings: ".warning",
-    versions: ".versions path.shown",
+    versions: ".versions path.shown", made: ".version-row", others: ".state-row.other",
+    held: ".rows .wait.held", kept: ".rows .wait.kept", free: ".rows .wait.free", down: ".rows .wait.down",
+    uncertain: ".rows .wait.perhaps",
   };
   const lines = Object.entries(shapes).map(([name, shape]) => `${name} ${drawing.querySelectorAll(shape).length}`);
   const told = [...drawing.querySelectorAll(".crossing .told-count")].map((element) => element.textContent);
@@ -117,8 +120,20 @@ function writeCounts(milliseconds) {
     const titles = [...lane.querySelectorAll(".stage h4")].map((title) => Number(title.textContent.split(" ")[1]));
     return Math.max(0, ...titles);
   });
-  const paths = [...drawing.querySelectorAll(".events path")].map((path) => path.getAttribute("d"));
-  lines.push(`ticks ${paths.join("").split("M").length - 1}`);
+  const ticksOf = (shape) => [...drawing.querySelectorAll(`.events path${shape}`)]
+    .map((path) => path.getAttribute("d")).join("").split("M").slice(1).map((tick) => Number(tick.split(" ")[0]));
+  lines.push(`ticks ${ticksOf(":not(.drain)").length}`, `drains ${ticksOf(".drain").length}`);
+  for (const [letter] of LETTERS) {
+    lines.push(`ticks-${letter} ${ticksOf(`.${letter}`).sort((one, other) => one - other).join(" ")}`);
+  }
+  const placesOf = (row, shape) => [...row.querySelectorAll(shape)]
+    .map(({ style }) => `${style.getPropertyValue("--at")}-${style.getPropertyValue("--until")}`);
+  const ways = (shape) => [...drawing.querySelectorAll(".rows .row")]
+    .flatMap((row) => placesOf(row, shape).map((place) => `${row.querySelector(".label b").textContent}:${place}`));
+  lines.push(`waits ${ways(".wait.held").join(" ")}`, `comes-down ${ways(".wait.down").join(" ")}`);
+  const list = [...drawing.querySelectorAll(".version-row")].map((row) =>
+    [...row.children].map((cell) => cell.textContent).join(","));
+  lines.push(`version-list ${list.join(" ")}`);
   lines.push(`stages ${stages.join(" ")}`, `crossing ${told.join(" | ")}`);
   lines.push(`order ${[...drawing.querySelectorAll(".seat b")].map((seat) => seat.textContent).join(" ")}`);
   lines.push(`refusal ${document.getElementById("refusal").textContent}`, `milliseconds ${Math.round(milliseconds)}`);
