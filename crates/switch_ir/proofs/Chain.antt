@@ -1,5 +1,5 @@
 -- A program whose sums are carried, and whose last instruction is done behind the server.
-use Rattle.std.proofs.Common.{◌≡◌, ◌<◌, ℕ, zero, suc, Bool, true, false, not, List, [], ◌∷◌, Some, None, refl, arith, ap, sym, subst, ⊎_elim}
+use Rattle.std.proofs.Common.{◌≡◌, ◌<◌, ℕ, zero, suc, Bool, true, false, not, List, [], ◌∷◌, Some, None, refl, arith, sym, subst, ⊎_elim}
 use Rattle.std.proofs.lemmas.Bool.{and_parts, not-true}
 use Rattle.std.proofs.Math.Nat.{eq-or-lt_of_le}
 use Rattle.gal_bits.specs.declared.op.Op.TheVariants.{Add, Cast}

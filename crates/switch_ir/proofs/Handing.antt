@@ -1,5 +1,5 @@
 -- What postprocessing begins with.
-use Rattle.std.proofs.Common.{◌≡◌, ℕ, zero, suc, ◌==◌, ◌<◌, ◌≤◌, Bool, true, false, not, ◌&&◌, ◌||◌, List, [], ◌∷◌, map, length, Some, None, refl, sym, ap, ◌∙◌, arith, ⊎_elim, slice_get, slice_index, if◌then◌else◌}
+use Rattle.std.proofs.Common.{◌≡◌, ℕ, zero, suc, ◌==◌, Bool, true, false, not, ◌&&◌, ◌||◌, List, [], ◌∷◌, map, length, Some, None, refl, sym, ap, ◌∙◌, ⊎_elim, slice_get, slice_index, if◌then◌else◌}
 use Rattle.std.proofs.lemmas.Bool.{cond-true, cond-false, cases_Bool, cases_lt, eq-eqb, eqb-true, and_parts, and_from, or_cases, or_left, or_right, false≢true}
 use Rattle.std.proofs.lemmas.List.{get_or_past}
 use Rattle.std.specs.List.{filter}
@@ -17,7 +17,7 @@ use Rattle.split_model.specs.Passes.{is_stage, given_down}
 use Rattle.split_model.specs.Split.{is_post}
 use Rattle.transfer_header.specs.Values.{value_by}
 use Rattle.switch_ir.specs.Emitted.{given_stage, steps_of, emitted}
-use Rattle.switch_ir.specs.Meaning.{after_stage, crosses, handed, inputs, down_given}
+use Rattle.switch_ir.specs.Meaning.{after_stage, crosses, handed, down_given}
 use Rattle.switch_ir.proofs.Passes.{one_stage, past_stage}
 
 -- each value stands among all of them at its number

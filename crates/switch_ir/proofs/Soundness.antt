@@ -1,5 +1,5 @@
 -- What is emitted can be run.
-use Rattle.std.proofs.Common.{◌≡◌, ℕ, zero, suc, ◌+◌, ◌==◌, ◌<◌, ◌≤◌, Bool, true, false, not, ◌&&◌, List, [], ◌∷◌, ◌++◌, length, Option, Some, None, refl, sym, ap, ◌∙◌, subst, arith, add-zero, add-suc, get_or, slice_get, replicate, if◌then◌else◌}
+use Rattle.std.proofs.Common.{◌≡◌, ℕ, zero, suc, ◌+◌, ◌==◌, ◌<◌, ◌≤◌, Bool, true, false, not, ◌&&◌, List, [], ◌∷◌, ◌++◌, length, Option, Some, None, refl, sym, ap, subst, arith, get_or, slice_get, replicate, if◌then◌else◌}
 use Rattle.std.proofs.lemmas.Bool.{eqb-true}
 use Rattle.std.proofs.lemmas.List.{length-replicate}
 use Rattle.std.specs.List.{AllByRecursion as Each, All, filter}
@@ -17,7 +17,7 @@ use Rattle.split_model.specs.declared.layout.Crossing.{Crossing}
 use Rattle.split_model.specs.Split.{is_pre, is_post, pre_stage, post_stage}
 use Rattle.transfer_header.specs.Registers.{FitsLayout}
 use Rattle.switch_ir.specs.declared.code.Table.{Table}
-use Rattle.switch_ir.specs.Code.{Step, Code}
+use Rattle.switch_ir.specs.Code.{Code}
 use Rattle.switch_ir.specs.Emitted.{placed, steps_below, given_stage, is_among, rest_below, is_looked_up, tables_from, emitted, AllRun, IsEmitted}
 use Rattle.switch_ir.specs.Sound.{CanStep, IsWritable, IsSound, CanBeRun}
 use Rattle.switch_ir.specs.Tables.{declared_at}

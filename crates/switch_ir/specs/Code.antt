@@ -1,6 +1,5 @@
 -- The code of a switch as plain data.
 use Rattle.std.specs.Prelude.{ℕ, List, map}
-use Rattle.packet_fields.specs.declared.field.Field.{Field}
 use Rattle.flat_ir.specs.declared.program.ValueId.{ValueId}
 use Rattle.flat_ir.specs.declared.program.Block.{Block}
 use Rattle.flat_ir.specs.declared.program.FieldValue.{FieldValue}

@@ -1,5 +1,5 @@
 -- The code of a split program.
-use Rattle.std.specs.Prelude.{◌≡◌, ◌≤◌, ◌<◌, ℕ, zero, suc, ◌==◌, Bool, true, not, ◌&&◌, ◌||◌, List, [], ◌∷◌, ◌++◌, length}
+use Rattle.std.specs.Prelude.{◌≡◌, ◌≤◌, ◌<◌, ℕ, zero, suc, ◌==◌, Bool, not, ◌&&◌, ◌||◌, List, [], ◌∷◌, ◌++◌, length}
 use Rattle.std.specs.Prelude.{max, Option, Some, None, if◌then◌else◌}
 use Rattle.std.specs.List.{list_any}
 use Rattle.packet_fields.specs.declared.packet.Packet.{Packet}
@@ -11,10 +11,10 @@ use Rattle.flat_ir.specs.Program.{Program, step_at}
 use Rattle.flat_ir.specs.Operands.{CanRun}
 use Rattle.flat_ir.specs.Blocks.{Reading}
 use Rattle.split_model.specs.declared.split.Part.{Part}
-use Rattle.split_model.specs.Split.{pre_stage, post_stage, is_pre, is_post}
+use Rattle.split_model.specs.Split.{pre_stage, post_stage, is_pre}
 use Rattle.split_model.specs.Bounds.{IsBounded}
 use Rattle.split_model.specs.Counts.{is_post_shown, stage_or_zero}
-use Rattle.split_model.specs.Crossing.{is_at_hand, crosses_down}
+use Rattle.split_model.specs.Crossing.{is_at_hand}
 use Rattle.split_model.specs.Layouts.{values_of, values_below, up_layout, down_layout}
 use Rattle.split_model.specs.Legal.{IsLegal}
 use Rattle.split_model.specs.Passes.{pre_values, pre_verdict, meets_rest, post_values, post_fields, down_verdict}

@@ -1,5 +1,5 @@
 -- The tables on a switch, and what lookups see of them.
-use Rattle.std.specs.Prelude.{◌≡◌, ◌<◌, length, ℕ, zero, suc, ◌==◌, Bool, true, false, List, [], ◌∷◌, map, Option, Some, None}
+use Rattle.std.specs.Prelude.{◌≡◌, ◌<◌, length, ℕ, ◌==◌, Bool, true, false, List, [], ◌∷◌, map, Option, Some, None}
 use Rattle.std.specs.Prelude.{if◌then◌else◌, unwrap_or, slice_get, slice_set}
 use Rattle.std.specs.FinMap as finmap
 use Rattle.state_store.specs.Store.{Object, Store, start_object, no_object}

@@ -1,4 +1,4 @@
-use Rattle.std.proofs.Common.{◌≡◌, sym, subst}
+use Rattle.std.proofs.Common.{sym, subst}
 use Rattle.flat_ir.specs.Program.{program_of}
 use Rattle.switch_ir.specs.Emitted.{Computes}
 use Rattle.switch_ir.proofs.Codes.{by_parts}

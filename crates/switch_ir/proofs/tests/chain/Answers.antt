@@ -2,7 +2,7 @@ use Rattle.std.proofs.Common.{◌≡◌, ◌++◌, ◌∷◌, [], ◌∙◌, ap,
 use Rattle.gal_bits.specs.declared.op.Op.TheVariants.{Add, Cast}
 use Rattle.flat_ir.specs.Program.{step_of, work_of}
 use Rattle.flat_ir.specs.Program.Work.{const, apply}
-use Rattle.switch_ir.proofs.Chain.{val, step, code, program, legal_by}
+use Rattle.switch_ir.proofs.Chain.{val, step, code, legal_by}
 use Rattle.switch_ir.proofs.tests.chain.Goals as goal
 
 pub returns-clause-legal : goal.returns-clause-legal
