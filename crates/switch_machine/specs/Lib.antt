@@ -1,3 +1,11 @@
-pub mod Rows
+pub mod Calls
+pub mod Codes
+pub mod Counts
+pub mod Ends
+pub mod Handed
+pub mod Kept
+pub mod Loading
 pub mod Machine
-pub mod Sound
+pub mod Rows
+pub mod Staged
+pub mod Views

@@ -1,9 +1,11 @@
 //! Which calls of a switch are to fail.
 ghost use Rattle.std.specs.Prelude.{◌≡◌};
-ghost use Rattle.switch_machine.specs.Machine.{same_kind, is_planned};
+ghost use Rattle.gal_io.specs.Count.{one_more};
+ghost use Rattle.switch_machine.specs.Counts.{count_of, counted, counts_of};
+ghost use Rattle.switch_machine.specs.Machine.{is_planned, same_kind};
 
 /// A call of a switch.
-#[derive(Clone, Copy, Debug, PartialEq, Eq)]
+#[derive(Clone, Copy, Debug)]
 pub enum CallKind {
     Load,
     Room,
@@ -26,27 +28,57 @@ pub(crate) struct Calls {
 
 impl Calls {
     /// No calls.
-    pub const NONE: Calls = Calls {
-        load: 0,
-        room: 0,
-        up: 0,
-        down: 0,
-        command: 0,
-        visible: 0,
-    };
+    pub fn none() -> Calls
+        ensures { counts_of result
+            ≡ record { load = 0; room = 0; up = 0; down = 0; command = 0; visible = 0 } }
+    {
+        Calls {
+            load: 0,
+            room: 0,
+            up: 0,
+            down: 0,
+            command: 0,
+            visible: 0,
+        }
+    }
 
     /// Counts a call, and answers its number among those of its kind, from 1.
-    pub fn count(&mut self, kind: CallKind) -> u64 {
-        let count = match kind {
-            CallKind::Load => &mut self.load,
-            CallKind::Room => &mut self.room,
-            CallKind::Up => &mut self.up,
-            CallKind::Down => &mut self.down,
-            CallKind::Command => &mut self.command,
-            CallKind::Visible => &mut self.visible,
-        };
-        *count = count.saturating_add(1);
-        *count
+    pub fn count(&mut self, kind: CallKind) -> u64
+        ensures counted { counts_of self.new ≡ counted (counts_of self.old) kind }
+        ensures number { result ≡ one_more (count_of (counts_of self.old) kind) }
+    {
+        match kind {
+            CallKind::Load => count(&mut self.load),
+            CallKind::Room => count(&mut self.room),
+            CallKind::Up => count(&mut self.up),
+            CallKind::Down => count(&mut self.down),
+            CallKind::Command => count(&mut self.command),
+            CallKind::Visible => count(&mut self.visible),
+        }
+    }
+}
+
+/// Counts one more, and answers the count.
+pub(crate) fn count(number: &mut u64) -> u64
+    ensures counted { number.new ≡ one_more number.old }
+    ensures told { result ≡ number.new }
+{
+    *number = number.saturating_add(1);
+    *number
+}
+
+// Whether two calls are of one kind.
+fn same_kind(kind: CallKind, other: CallKind) -> bool
+    ensures { result ≡ same_kind kind other }
+{
+    match (kind, other) {
+        (CallKind::Load, CallKind::Load) => true,
+        (CallKind::Room, CallKind::Room) => true,
+        (CallKind::Up, CallKind::Up) => true,
+        (CallKind::Down, CallKind::Down) => true,
+        (CallKind::Command, CallKind::Command) => true,
+        (CallKind::Visible, CallKind::Visible) => true,
+        _ => false,
     }
 }
 
@@ -54,5 +86,10 @@ impl Calls {
 pub(crate) fn is_planned(planned: &[(CallKind, u64)], kind: CallKind, call: u64) -> bool
     ensures { result ≡ is_planned planned.now kind call }
 {
-    planned.iter().any(|(planned_kind, number)| *planned_kind == kind && *number == call)
+    for (planned_kind, number) in planned {
+        if same_kind(*planned_kind, kind) && *number == call {
+            return true;
+        }
+    }
+    false
 }

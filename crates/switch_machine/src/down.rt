@@ -1,55 +1,40 @@
 //! The pass over a packet that comes down from the server.
-ghost use Rattle.std.specs.Prelude.{◌≡◌, ◌≤◌, length};
-ghost use Rattle.switch_machine.specs.Rows.{handed_over};
+ghost use Rattle.std.specs.Prelude.{◌≡◌, ◌≤◌, length, IfOk};
+ghost use Rattle.packet_fields.specs.Shape.{shape_of};
+ghost use Rattle.packet_fields.specs.declared.packet.TheConstants.{MAX_PACKET_BYTES};
+ghost use Rattle.flat_ir.specs.Registers.{packet_of};
+ghost use Rattle.transfer_header.specs.Frames.{IsFrame};
+ghost use Rattle.transfer_header.specs.Registers.{value_in};
+ghost use Rattle.switch_ir.specs.Code.{code_of};
+ghost use Rattle.switch_ir.specs.Meaning.{down_end};
+ghost use Rattle.switch_ir.specs.Tables.{seen_tables};
+ghost use Rattle.switch_machine.specs.Handed.{HaveRegisters};
+ghost use Rattle.switch_ir.specs.Port.{EndsDown};
+ghost use Rattle.switch_ir.specs.declared.port.DownEnd.TheVariants.{Verdict as Ended};
 
-use crate::run::{Nothing, Row, Run, given_rows, run_pass};
+use crate::handed::{Handed, places};
+use crate::loaded::Loaded;
+use crate::run::{Run, given_rows, run_pass};
 use crate::tables::SwitchTables;
-use flat_ir::{Arrival, Numbers, ValueId, leave};
+use flat_ir::{Arrival, leave};
 use gal_io::NoMemory;
 use packet_fields::{Shape, Verdict};
-use split_model::{Crossing, Layout};
 use std::alloc::Global;
-use switch_ir::SwitchCode;
 use transfer_header::{Regs, unpack_down};
 
-/// What postprocessing begins with: the numbers of a frame, and those of the consts and fields that it is given.
-#[derive(Clone, Copy, Debug)]
-struct Handed<'a> {
-    layout: &'a Layout,
-    regs: &'a Regs,
-    given: Run<'a, Nothing>,
-}
-
-// The number of a value among all values, where a layout has it.
-fn number_in(layout: &[Crossing], value: ValueId) -> Option<u32> {
-    for crossing in layout {
-        if crossing.value == value {
-            return Some(crossing.number);
-        }
-    }
-    None
-}
-
-impl Numbers for Handed<'_> {
-    ghost reads = { λ h. handed_over h.layout.now h.regs.now h.given.rows.now };
-
-    fn number(&self, value: ValueId) -> u64 {
-        match number_in(self.layout.as_slice(), value) {
-            Some(number) => self.regs.at(number),
-            None => self.given.number(value),
-        }
-    }
-}
-
 /// The verdict of postprocessing on a frame.
-pub(crate) fn finish(
+pub(crate) fn go_down(
     alloc: Global,
-    code: &SwitchCode,
+    loaded: &Loaded,
     tables: &SwitchTables,
     frame: &[u8],
-) -> Result<Verdict, NoMemory> {
-    let mut regs = Regs::new(alloc, code.values)?;
-    let Ok(head) = unpack_down(&code.down, frame, &mut regs) else {
+) -> Result<Verdict, NoMemory>
+    requires { IsFrame 2 loaded.now.code.down frame.now }
+    ensures { IfOk result (λ verdict. EndsDown (code_of loaded.now.code) tables.now frame.now (Ended verdict)) }
+{
+    let code = &loaded.code;
+    let mut registers = Regs::new(alloc, code.values)?;
+    let Ok(head) = unpack_down(&code.down, frame, &mut registers) else {
         unreachable!()
     };
     let packet = &frame[head.packet_at..];
@@ -58,20 +43,37 @@ pub(crate) fn finish(
         bytes: packet,
         shape: Shape::of(packet),
     };
-    let inputs = given_rows(alloc, &code.post, &arrival)?;
+    finish(alloc, loaded, tables, &registers, &arrival)
+}
+
+// The verdict of postprocessing from the numbers in registers.
+fn finish(
+    alloc: Global,
+    loaded: &Loaded,
+    tables: &SwitchTables,
+    registers: &Regs,
+    arrival: &Arrival<'_>,
+) -> Result<Verdict, NoMemory>
+    requires size { length arrival.now.bytes.now ≤ MAX_PACKET_BYTES }
+    requires shape { arrival.now.shape ≡ shape_of arrival.now.bytes.now }
+    requires registers { HaveRegisters loaded.now.code.down registers.now }
+    ensures { IfOk result (λ verdict. verdict
+        ≡ down_end (code_of loaded.now.code) (value_in registers.now) (seen_tables tables.now) (packet_of arrival.now)) }
+{
+    let code = &loaded.code;
+    let inputs = given_rows(alloc, &code.post, arrival)?;
+    let places = places(alloc, &code.down)?;
     let handed = Handed {
         layout: &code.down,
-        regs: &regs,
-        given: Run {
-            given: &Nothing,
-            rows: &inputs,
-        },
+        places: &places,
+        registers,
+        rows: &inputs,
     };
-    let rows = run_pass(alloc, &code.post, &handed, tables, &arrival)?;
+    let rows = run_pass(alloc, &code.post, &loaded.post, &handed, tables, arrival)?;
     let run = Run {
         given: &handed,
         rows: &rows,
     };
-    let copy = packet.to_vec(alloc)?;
-    Ok(leave(&code.post.out, &arrival, &run, copy))
+    let copy = arrival.bytes.to_vec(alloc)?;
+    Ok(leave(&code.post.out, arrival, &run, copy))
 }

@@ -3,9 +3,13 @@
 
 mod calls;
 mod down;
+mod handed;
+mod loaded;
 mod machine;
 mod run;
+mod stages;
 mod tables;
+mod up;
 
 pub use calls::CallKind;
 pub use machine::ModelSwitch;

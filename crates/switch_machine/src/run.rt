@@ -1,16 +1,17 @@
 //! How a pass is computed.
-ghost use Rattle.std.specs.Prelude.{◌≡◌, ◌≤◌, [], length, map, IfOk};
+ghost use Rattle.std.specs.Prelude.{◌≡◌, ℕ, ◌≤◌, ◌<◌, ◌∷◌, [], length, map, replicate, IfOk, OnOk};
 ghost use Rattle.std.specs.List.{AllByRecursion as Each};
 ghost use Rattle.packet_fields.specs.Shape.{shape_of};
 ghost use Rattle.packet_fields.specs.declared.packet.TheConstants.{MAX_PACKET_BYTES};
-ghost use Rattle.flat_ir.specs.declared.program.ValueId.{ValueId as Value};
-ghost use Rattle.flat_ir.specs.Blocks.{nothing};
-ghost use Rattle.flat_ir.specs.Operands.{CanRun};
+ghost use Rattle.flat_ir.specs.Blocks.{nothing, Reading};
 ghost use Rattle.flat_ir.specs.Registers.{packet_of};
-ghost use Rattle.switch_ir.specs.Code.{Step, step_of, pass_of};
+ghost use Rattle.switch_ir.specs.Code.{step_of, pass_of};
 ghost use Rattle.switch_ir.specs.Meaning.{after_stage, pass_values};
-ghost use Rattle.switch_machine.specs.Rows.{over};
+ghost use Rattle.switch_ir.specs.Sound.{CanStep};
+ghost use Rattle.switch_machine.specs.Staged.{AreStages};
+ghost use Rattle.switch_machine.specs.Rows.{gives_of, instructions_of, over, stage_gives, with_gives, Gives, HaveRows};
 
+use crate::stages::Stages;
 use crate::tables::SwitchTables;
 use flat_ir::{Arrival, Lookup, Numbers, Results, ValueId, given};
 use gal_io::NoMemory;
@@ -26,7 +27,7 @@ pub(crate) enum Row {
 }
 
 /// The numbers of a pass under way: those that it was given, and those that it has computed, by instruction.
-#[derive(Clone, Copy, Debug)]
+#[derive(Debug, Drop)]
 pub(crate) struct Run<'a, G> {
     pub given: &'a G,
     pub rows: &'a [Row],
@@ -61,68 +62,116 @@ impl Numbers for Nothing {
     }
 }
 
-// What the instructions of a stage give, all of the numbers before the stage.
+// Computes the instructions of a stage, all from the numbers before the stage.
 fn read_stage<L: Lookup, G: Numbers>(
-    alloc: Global,
     steps: &[PassStep],
     stage: u32,
     tables: &L,
     arrival: &Arrival<'_>,
     run: &Run<'_, G>,
-) -> Result<Vec<(u32, Results)>, NoMemory>
-    requires can { Each (λ (s : Step). CanRun s.work) (map step_of steps.now) }
+    computed: &mut Vec<(u32, Results)>,
+) -> Result<(), NoMemory>
+    requires can { Each CanStep (map step_of steps.now) }
     requires size { length arrival.now.bytes.now ≤ MAX_PACKET_BYTES }
     requires shape { arrival.now.shape ≡ shape_of arrival.now.bytes.now }
+    requires rows { HaveRows (length run.now.rows.now) (instructions_of (map step_of steps.now)) }
+    requires empty { computed.old.items ≡ [] }
+    ensures gives { OnOk result (map gives_of computed.new.items
+        ≡ stage_gives (map step_of steps.now) stage (over (G.reads run.now.given.now) run.now.rows.now)
+        (L.seen tables.now) (packet_of arrival.now)) }
+    ensures rows { OnOk result (HaveRows (length run.now.rows.now) (map (λ (g : Gives). g.0) (map gives_of computed.new.items))) }
 {
-    let mut computed = Vec::new(alloc);
     for step in steps {
         if step.stage == stage {
             computed.push((step.instruction, given(tables, arrival, run, &step.kind)))?;
         }
     }
-    Ok(computed)
+    Ok(())
 }
 
-// Puts what a stage gave into the rows.
-fn write_stage(computed: &[(u32, Results)], rows: &mut Vec<Row>) {
-    for (instruction, results) in computed.iter().rev() {
-        let place = *instruction as usize;
-        if place < rows.len() {
-            rows[place] = Row::Done(*results);
-        }
+// Moves what a stage gave into the rows.
+fn write_stage(computed: &mut Vec<(u32, Results)>, rows: &mut Vec<Row>)
+    requires { HaveRows (length rows.old.items) (map (λ (g : Gives). g.0) (map gives_of computed.old.items)) }
+    ensures empty { computed.new.items ≡ [] }
+    ensures rows { length rows.new.items ≡ length rows.old.items }
+    ensures gives { (reads : Reading) → over reads rows.new.items
+        ≡ with_gives (map gives_of computed.old.items) (over reads rows.old.items) }
+{
+    while let Some((instruction, results)) = computed.pop() {
+        rows[instruction as usize] = Row::Done(results);
     }
 }
 
-// So many open rows that each instruction of a pass has one.
-fn open_rows(alloc: Global, steps: &[PassStep]) -> Result<Vec<Row>, NoMemory> {
+// Computes a stage.
+fn run_stage<L: Lookup, G: Numbers>(
+    steps: &[PassStep],
+    stage: u32,
+    given: &G,
+    tables: &L,
+    arrival: &Arrival<'_>,
+    computed: &mut Vec<(u32, Results)>,
+    rows: &mut Vec<Row>,
+) -> Result<(), NoMemory>
+    requires can { Each CanStep (map step_of steps.now) }
+    requires size { length arrival.now.bytes.now ≤ MAX_PACKET_BYTES }
+    requires shape { arrival.now.shape ≡ shape_of arrival.now.bytes.now }
+    requires rows { HaveRows (length rows.old.items) (instructions_of (map step_of steps.now)) }
+    requires empty { computed.old.items ≡ [] }
+    ensures stage { OnOk result (over (G.reads given.now) rows.new.items
+        ≡ after_stage (map step_of steps.now) stage (over (G.reads given.now) rows.old.items)
+        (L.seen tables.now) (packet_of arrival.now)) }
+    ensures empty { OnOk result (computed.new.items ≡ []) }
+    ensures rows { OnOk result (length rows.new.items ≡ length rows.old.items) }
+{
+    let run = Run { given, rows };
+    read_stage(steps, stage, tables, arrival, &run, computed)?;
+    write_stage(computed, rows);
+    Ok(())
+}
+
+// So many open rows that each instruction has one.
+fn open_rows(alloc: Global, steps: &[PassStep]) -> Result<Vec<Row>, NoMemory>
+    ensures open { IfOk result (λ rows. (reads : Reading) → over reads rows.items ≡ reads) }
+    ensures rows { IfOk result (λ rows. HaveRows (length rows.items) (instructions_of (map step_of steps.now))) }
+{
+    let rows = vec![in alloc; Row::Open; row_count(steps)]?;
+    Ok(rows)
+}
+
+// A number above that of each instruction.
+fn row_count(steps: &[PassStep]) -> usize
+    ensures { HaveRows result (instructions_of (map step_of steps.now)) }
+{
     let mut count = 0;
     for step in steps {
         count = (step.instruction as usize + 1).max(count);
     }
-    let rows = vec![in alloc; Row::Open; count]?;
-    Ok(rows)
+    count
 }
 
-/// What a pass computes, from what it is given.
+/// What a pass computes, from what it is given. It has its instructions stage by stage.
 pub(crate) fn run_pass<L: Lookup, G: Numbers>(
     alloc: Global,
     pass: &Pass,
+    stages: &Stages,
     given: &G,
     tables: &L,
     arrival: &Arrival<'_>,
 ) -> Result<Vec<Row>, NoMemory>
-    requires can { Each (λ (s : Step). CanRun s.work) (map step_of pass.now.steps) }
+    requires can { Each CanStep (pass_of pass.now).steps }
+    requires stages { AreStages (pass_of pass.now).steps pass.now.highest stages.now }
     requires size { length arrival.now.bytes.now ≤ MAX_PACKET_BYTES }
     requires shape { arrival.now.shape ≡ shape_of arrival.now.bytes.now }
-    ensures { IfOk result (λ rows. (v : Value) → over (G.reads given.now) rows.items v
-        ≡ pass_values (pass_of pass.now) (G.reads given.now) (L.seen tables.now) (packet_of arrival.now) v) }
+    ensures { IfOk result (λ rows. over (G.reads given.now) rows.items
+        ≡ pass_values (pass_of pass.now) (G.reads given.now) (L.seen tables.now) (packet_of arrival.now)) }
 {
     let steps = pass.steps.as_slice();
     let mut rows = open_rows(alloc, steps)?;
-    for stage in 0..=pass.highest {
-        let run = Run { given, rows: &rows };
-        let computed = read_stage(alloc, steps, stage, tables, arrival, &run)?;
-        write_stage(&computed, &mut rows);
+    let mut computed = Vec::with_capacity(alloc, steps.len())?;
+    let count = pass.highest as usize + 1;
+    for stage in 0..count {
+        let own = stages.stage(stage);
+        run_stage(own, stage as u32, given, tables, arrival, &mut computed, &mut rows)?;
     }
     Ok(rows)
 }
@@ -133,20 +182,16 @@ pub(crate) fn given_rows(
     pass: &Pass,
     arrival: &Arrival<'_>,
 ) -> Result<Vec<Row>, NoMemory>
-    requires can { Each (λ (s : Step). CanRun s.work) (map step_of pass.now.given) }
+    requires can { Each CanStep (pass_of pass.now).given }
     requires size { length arrival.now.bytes.now ≤ MAX_PACKET_BYTES }
     requires shape { arrival.now.shape ≡ shape_of arrival.now.bytes.now }
-    ensures { IfOk result (λ rows. (v : Value) → over nothing rows.items v
-        ≡ after_stage (map step_of pass.now.given) 0 nothing [] (packet_of arrival.now) v) }
+    ensures { IfOk result (λ rows. over nothing rows.items
+        ≡ after_stage (pass_of pass.now).given 0 nothing [] (packet_of arrival.now)) }
 {
     let steps = pass.given.as_slice();
     let mut rows = open_rows(alloc, steps)?;
-    let run = Run {
-        given: &Nothing,
-        rows: &rows,
-    };
-    let none = SwitchTables::none(alloc);
-    let computed = read_stage(alloc, steps, 0, &none, arrival, &run)?;
-    write_stage(&computed, &mut rows);
+    let mut computed = Vec::with_capacity(alloc, steps.len())?;
+    let tables = SwitchTables::none(alloc);
+    run_stage(steps, 0, &Nothing, &tables, arrival, &mut computed, &mut rows)?;
     Ok(rows)
 }

@@ -1,7 +1,8 @@
 //! The tables of a switch.
-ghost use Rattle.std.specs.Prelude.{◌≡◌, ◌+◌, ◌≤◌, ◌<◌, Option, IfOk, length};
+ghost use Rattle.std.specs.Prelude.{◌≡◌, ℕ, ◌≤◌, [], false, IfOk};
+ghost use Rattle.state_store.specs.Store.{no_object, start_object};
 ghost use Rattle.switch_ir.specs.Code.{code_of};
-ghost use Rattle.switch_ir.specs.Tables.{seen_tables, told_after, pair_at, start_pair, declared_at, IsStart};
+ghost use Rattle.switch_ir.specs.Tables.{told_after, pair_at, start_pair, declared_at, with_command, IsStart};
 ghost use Rattle.writeback_table.specs.Pair.{visible_rows};
 
 use flat_ir::Lookup;
@@ -23,13 +24,18 @@ pub(crate) struct SwitchTables {
 
 impl Model for SwitchTables {
     ghost use Rattle.switch_ir.specs.Tables.{Told};
+    ghost use Rattle.switch_machine.specs.Codes.{told_code};
 
     ghost Value = { Told };
+
+    ghost coded = { told_code };
 
     ghost view = { λ tables. record { pairs = tables.pairs.items; bit = tables.bit } };
 }
 
 impl Lookup for SwitchTables {
+    ghost use Rattle.switch_ir.specs.Tables.{seen_tables};
+
     ghost seen = { seen_tables };
 
     fn find(&self, object: u32, key: &Values) -> Found {
@@ -47,7 +53,9 @@ impl Lookup for SwitchTables {
 
 impl SwitchTables {
     /// No tables at all.
-    pub fn none(alloc: Global) -> SwitchTables {
+    pub fn none(alloc: Global) -> SwitchTables
+        ensures { result ≡ record { pairs = []; bit = false } }
+    {
         SwitchTables {
             pairs: Vec::new(alloc),
             bit: false,
@@ -71,21 +79,11 @@ impl SwitchTables {
         ensures { self.new ≡ told_after command.now self.old }
     {
         match command {
-            Command::Stage(update) | Command::Main(update) => {
-                self.apply_to(update.object, command);
-            }
-            Command::Clear(object, _) => self.apply_to(*object, command),
+            Command::Stage(update) => apply_to(&mut self.pairs, update.object, command),
             Command::On => self.bit = true,
+            Command::Main(update) => apply_to(&mut self.pairs, update.object, command),
             Command::Off => self.bit = false,
-        }
-    }
-
-    // Applies a command to the tables of an object.
-    fn apply_to(&mut self, object: u32, command: &Command) {
-        let number = object as usize;
-        if number < self.pairs.len() {
-            let pair = &mut self.pairs[number];
-            let _ = pair.apply(command);
+            Command::Clear(object, _) => apply_to(&mut self.pairs, *object, command),
         }
     }
 
@@ -102,8 +100,20 @@ impl SwitchTables {
     }
 }
 
+// Applies a command to the tables of an object.
+fn apply_to(pairs: &mut Vec<Pair>, object: u32, command: &Command)
+    ensures { pairs.new.items ≡ with_command pairs.old.items object command.now }
+{
+    let number = object as usize;
+    if number < pairs.len() {
+        let _ = pairs[number].apply(command);
+    }
+}
+
 // A number above that of each object that is looked up.
-fn object_count(tables: &[Table]) -> u64 {
+fn object_count(tables: &[Table]) -> u64
+    ensures { (o : ℕ) → result ≤ o → declared_at tables.now o ≡ None }
+{
     let mut count = 0;
     for table in tables {
         count = (u64::from(table.number) + 1).max(count);
@@ -129,7 +139,9 @@ fn start_pair(
 }
 
 // An object without rows, and with room for none.
-fn no_object(alloc: Global) -> ObjectDecl {
+fn no_object(alloc: Global) -> ObjectDecl
+    ensures { start_object result ≡ no_object }
+{
     ObjectDecl {
         name: Bytes::new(alloc),
         kind: Kind::Map,

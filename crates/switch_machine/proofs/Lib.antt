@@ -1,0 +1,6 @@
+mod Each
+mod PassRows
+mod StageSteps
+mod StageLists
+mod Lists
+mod TableRows

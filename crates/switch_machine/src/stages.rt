@@ -1,0 +1,71 @@
+//! The instructions of a pass, stage by stage.
+ghost use Rattle.std.specs.Prelude.{◌≡◌, ℕ, ◌+◌, ◌≤◌, ◌<◌, ◌==◌, ◌++◌, ◌∷◌, [], length, map, slice_index_or, IfOk, OnOk, if◌then◌else◌};
+ghost use Rattle.switch_ir.specs.Code.{step_of, pass_of};
+ghost use Rattle.switch_machine.specs.Staged.{stage_at, AreStages};
+
+use gal_io::NoMemory;
+use std::alloc::Global;
+use std::marker::Model;
+use switch_ir::{Pass, PassStep, Steps};
+
+/// The instructions of a pass, in a list for each stage.
+#[derive(Debug, Drop)]
+pub(crate) struct Stages {
+    items: Vec<Steps>,
+}
+
+impl Model for Stages {
+    ghost use Rattle.std.specs.Prelude.{List};
+    ghost use Rattle.switch_ir.specs.declared.code.PassStep.{PassStep};
+
+    ghost Value = { List (List PassStep) };
+
+    ghost view = { λ stages. stages.items.items };
+}
+
+impl Stages {
+    /// The stages of a pass.
+    pub fn of(alloc: Global, pass: &Pass) -> Result<Stages, NoMemory>
+        ensures { IfOk result (λ stages. AreStages (pass_of pass.now).steps pass.now.highest stages) }
+    {
+        let mut stages = empty_stages(alloc, pass.highest as usize + 1)?;
+        for step in pass.steps.as_slice() {
+            place(alloc, &mut stages, step)?;
+        }
+        Ok(Stages { items: stages })
+    }
+
+    /// The instructions of a stage.
+    pub fn stage(&self, stage: usize) -> &[PassStep]
+        requires { stage < length self.now }
+        ensures { result.now ≡ slice_index_or self.now stage [] }
+    {
+        self.items[stage].as_slice()
+    }
+}
+
+// So many stages without instructions.
+fn empty_stages(alloc: Global, count: usize) -> Result<Vec<Steps>, NoMemory>
+    ensures count { IfOk result (λ stages. length stages.items ≡ count) }
+    ensures empty { IfOk result (λ stages. (t : ℕ) → slice_index_or stages.items t [] ≡ []) }
+{
+    let mut stages = Vec::new(alloc);
+    for _ in 0..count {
+        stages.push(Steps::new(alloc))?;
+    }
+    Ok(stages)
+}
+
+// Puts a copy of an instruction last in its stage, if there is such a stage.
+fn place(alloc: Global, stages: &mut Vec<Steps>, step: &PassStep) -> Result<(), NoMemory>
+    ensures placed { OnOk result ((t : ℕ) → t < length stages.old.items → stage_at stages.new.items t
+        ≡ stage_at stages.old.items t ++ (if step.now.stage == t then step_of step.now ∷ [] else [])) }
+    ensures count { OnOk result (length stages.new.items ≡ length stages.old.items) }
+{
+    let stage = step.stage as usize;
+    if stage < stages.len() {
+        let copy = step.copy(alloc)?;
+        stages[stage].push(copy)?;
+    }
+    Ok(())
+}
