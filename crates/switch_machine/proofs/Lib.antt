@@ -1,6 +1,8 @@
 mod Each
-mod PassRows
-mod StageSteps
-mod StageLists
+mod KeptRows
+mod KeptTables
 mod Lists
+mod PassRows
+mod StageLists
+mod StageSteps
 mod TableRows

@@ -1,6 +1,7 @@
 //! What postprocessing begins with.
 ghost use Rattle.std.specs.Prelude.{◌≡◌, ◌≤◌, ◌<◌, ℕ, length, slice_index_or, find, IfOk};
 ghost use Rattle.split_model.specs.declared.layout.Crossing.{Crossing as Entry};
+ghost use Rattle.split_model.specs.Crossing.{is_value};
 ghost use Rattle.flat_ir.specs.Blocks.{nothing};
 ghost use Rattle.switch_machine.specs.Rows.{over};
 ghost use Rattle.switch_machine.specs.Handed.{holds_value, index_prop, registers_prop, HaveRegisters, IsIndexOf};
@@ -71,12 +72,19 @@ fn place_of(places: &[usize], instruction: u32, end: usize) -> usize
     }
 }
 
+// Whether two values are the same one.
+fn is_value(value: ValueId, other: ValueId) -> bool
+    ensures { result ≡ is_value value other }
+{
+    value.instruction == other.instruction && value.result == other.result
+}
+
 // The first of these entries that is of the value.
 fn first_of(crossings: &[Crossing], value: ValueId) -> Option<Crossing>
     ensures { result ≡ find (holds_value value) crossings.now }
 {
     for crossing in crossings {
-        if crossing.value.instruction == value.instruction && crossing.value.result == value.result {
+        if is_value(crossing.value, value) {
             return Some(*crossing);
         }
     }

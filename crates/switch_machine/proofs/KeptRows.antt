@@ -1,0 +1,187 @@
+-- The tables of an object keep what was declared under each command.
+use Rattle.std.proofs.Common.{◌≡◌, ◌≤◌, ◌<◌, ◌+◌, ◌-◌, ℕ, zero, suc, Bool, true, false, cond, not, ◌&&◌, ◌||◌, List, [], ◌∷◌, length, nat_le, nat_lt, Option, Some, None, refl, sym, ap, ◌∙◌, subst, arith, true≢false, slice_get, slice_set}
+use Rattle.std.specs.Ordering.{eq_by_cmp, is_eq}
+use Rattle.std.specs.declared.cmp.Ordering.{Ordering}
+use Rattle.std.specs.declared.cmp.Ordering.TheVariants.{Less, Equal, Greater}
+use Rattle.std.specs.FinMap.{FinMap, get, insert, remove, empty, len, contains_key, get-empty, get-insert, get-remove, len-empty, len-insert, len-remove}
+use Rattle.std.proofs.lemmas.Bool.{and_parts}
+use Rattle.std.proofs.lemmas.Bool.Decides.{nat_tests}
+use Rattle.std.proofs.lemmas.Cmp.{nat_list_cmp_total}
+use Rattle.std.proofs.lemmas.Map.Lookups.{exact_bytes}
+use Rattle.state_store.specs.declared.object.Kind.TheVariants.{Table}
+use Rattle.state_store.specs.declared.object.ObjectDecl.{ObjectDecl}
+use Rattle.state_store.specs.Kept.{have_widths, IsKeptObject}
+use Rattle.state_store.specs.Kinds.{is_table}
+use Rattle.state_store.specs.Store.{key_cmp, Contents, Object, is_out, is_full, look, put_row, del_row, start_object}
+use Rattle.writeback_table.specs.declared.command.To.{To}
+use Rattle.writeback_table.specs.declared.command.To.TheVariants.{Value, Gone}
+use Rattle.writeback_table.specs.declared.command.Update.{Update}
+use Rattle.writeback_table.specs.declared.command.Command.{Command}
+use Rattle.writeback_table.specs.declared.command.Command.TheVariants.{Stage, On, Main, Off, Clear}
+use Rattle.writeback_table.specs.Pair.{Pair, Staged, applied, can_stage, change_to, values_of, with_change}
+use Rattle.writeback_table.specs.Widths.{fits_update, has_value_widths}
+use Rattle.switch_machine.specs.Kept.{staged_fits, KeepsRows}
+
+pub the_some : {X : Type 0} (a b : X) → Some a ≡ Some b → a ≡ b
+the_some a b e = cc
+
+pub none_some : {X : Type 0} (a : X) → None ≡ Some a → ⊥
+none_some a e = cc
+
+is_equal : (o : Ordering) → is_eq o ≡ true → o ≡ Equal
+is_equal Less e = absurd (true≢false (sym e))
+is_equal Equal e = refl
+is_equal Greater e = absurd (true≢false (sym e))
+
+-- ## Rows of a map, whatever their values
+
+module _ {X : Type 0} (P : List ℕ → X → Type 0) where
+  abbrev AllRows : FinMap key_cmp X → Type 0
+  AllRows rows = (key : List ℕ) (row : X) → get rows key ≡ Some row → P key row
+
+  one_row : (key found : List ℕ) (row there : X) (before : Option X) (same : Bool) → eq_by_cmp key_cmp found key ≡ same → P key row
+      → (before ≡ Some there → P found there) → cond same (Some row) before ≡ Some there → P found there
+  one_row key found row there before true e fits old is =
+      subst (λ k. P k there) (sym (exact_bytes found key (is_equal (key_cmp found key) e))) (subst (P key) (the_some row there is) fits)
+  one_row key found row there before false e fits old is = old is
+
+  pub row_more : (rows : FinMap key_cmp X) (key : List ℕ) (row : X) → P key row → AllRows rows → AllRows (insert rows key row)
+  row_more rows key row fits all found there is =
+      one_row key found row there (get rows found) (eq_by_cmp key_cmp found key) refl fits (all found there)
+      (sym (get-insert nat_list_cmp_total rows key row found) ∙ is)
+
+  row_stays : (found : List ℕ) (there : X) (before : Option X) (same : Bool) → (before ≡ Some there → P found there)
+      → cond same None before ≡ Some there → P found there
+  row_stays found there before true old is = absurd (none_some there is)
+  row_stays found there before false old is = old is
+
+  pub row_less : (rows : FinMap key_cmp X) (key : List ℕ) → AllRows rows → AllRows (remove rows key)
+  row_less rows key all found there is =
+      row_stays found there (get rows found) (eq_by_cmp key_cmp found key) (all found there)
+      (sym (get-remove nat_list_cmp_total rows key found) ∙ is)
+
+  no_more : (known : Bool) (n : ℕ) → cond known (n - 1) n ≤ n
+  no_more true n = omega arith
+  no_more false n = omega arith
+
+  pub none_more : (rows : FinMap key_cmp X) (key : List ℕ) → len (remove rows key) ≤ len rows
+  none_more rows key = subst (λ n. n ≤ len rows) (sym (len-remove nat_list_cmp_total rows key)) (no_more (contains_key rows key) (len rows))
+
+-- ## The main table
+
+more : (known : Bool) (n size : ℕ) → (not known && nat_le size n) ≡ false → n ≤ size → cond known n (n + 1) ≤ size
+more true n size room le = le
+more false n size room le = grind (arith, nat_tests)
+
+no_table : (d : ObjectDecl) → is_table d.kind ≡ false → d.kind ≡ Table → ⊥
+no_table d h is = true≢false (sym (ap is_table is) ∙ h)
+
+both : (a b : Bool) → a ≡ true → b ≡ true → (a && b) ≡ true
+both true b e f = f
+both false b e f = e
+
+abbrev IsRow : ObjectDecl → List ℕ → List ℕ → Type 0
+IsRow d key values = (have_widths d.keys key && have_widths d.values values) ≡ true
+
+put_keeps : (d : ObjectDecl) (o : Object) (key values : List ℕ) (out full : Bool) → is_out o.kind o.size key ≡ out → is_full o key ≡ full
+    → is_table d.kind ≡ false → have_widths d.keys key ≡ true → have_widths d.values values ≡ true → IsKeptObject d o
+    → IsKeptObject d (put_row o key values)
+put_keeps d o key values true full e f free key_fits values_fit kept = rw e kept
+put_keeps d o key values false true e f free key_fits values_fit kept = rw (e, f) kept
+put_keeps d o key values false false e f free key_fits values_fit kept =
+    let room : (not (contains_key o.contents key) && nat_le d.size (len o.contents)) ≡ false =
+        subst (λ n. (not (contains_key o.contents key) && nat_le n (len o.contents)) ≡ false) kept.size f in
+    let after : Object = record o { contents = insert o.contents key values } in
+    let goes_on : IsKeptObject d after = record {
+      kind = kept.kind;
+      size = kept.size;
+      count = kept.count;
+      few = subst (λ n. n ≤ d.size) (sym (len-insert nat_list_cmp_total o.contents key values))
+          (more (contains_key o.contents key) (len o.contents) d.size room kept.few);
+      rows = row_more (IsRow d) o.contents key values
+          (both (have_widths d.keys key) (have_widths d.values values) key_fits values_fit) kept.rows;
+      table = λ is. absurd (no_table d free is);
+    } in
+    rw (e, f) goes_on
+
+del_keeps : (d : ObjectDecl) (o : Object) (key : List ℕ) → is_table d.kind ≡ false → IsKeptObject d o → IsKeptObject d (del_row o key)
+del_keeps d o key free kept = record {
+  kind = kept.kind;
+  size = kept.size;
+  count = kept.count;
+  few = omega (arith, none_more (IsRow d) o.contents key, kept.few);
+  rows = row_less (IsRow d) o.contents key kept.rows;
+  table = λ is. absurd (no_table d free is);
+}
+
+change_keeps : (d : ObjectDecl) (o : Object) (key : List ℕ) (to : To) → is_table d.kind ≡ false → have_widths d.keys key ≡ true
+    → has_value_widths d to ≡ true → IsKeptObject d o → IsKeptObject d (change_to o key to)
+change_keeps d o key (Value values) free key_fits values_fit kept =
+    put_keeps d o key values (is_out o.kind o.size key) (is_full o key) refl refl free key_fits values_fit kept
+change_keeps d o key Gone free key_fits values_fit kept = del_keeps d o key free kept
+
+-- ## The write-back table
+
+abbrev IsStaged : ObjectDecl → List ℕ → Option (List ℕ) → Type 0
+IsStaged d key row = (have_widths d.keys key && staged_fits d row) ≡ true
+
+staged_by : (d : ObjectDecl) (to : To) → has_value_widths d to ≡ true → staged_fits d (values_of to) ≡ true
+staged_by d (Value values) e = e
+staged_by d Gone e = refl
+
+room_for : (known : Bool) (n room : ℕ) → (known || nat_lt n room) ≡ true → n ≤ room → cond known n (n + 1) ≤ room
+room_for true n room h le = le
+room_for false n room h le = grind (arith, nat_tests)
+
+stage_keeps : (d : ObjectDecl) (pair : Pair) (u : Update) (can : Bool) → can_stage pair.staged pair.room u.key ≡ can
+    → have_widths d.keys u.key ≡ true → has_value_widths d u.to ≡ true → KeepsRows d pair → KeepsRows d (applied pair (Stage u))
+stage_keeps d pair u false e key_fits values_fit kept = rw e kept
+stage_keeps d pair u true e key_fits values_fit kept =
+    let after : Pair = record pair { staged = insert pair.staged u.key (values_of u.to) } in
+    let goes_on : KeepsRows d after = record {
+      main = kept.main;
+      staged = row_more (IsStaged d) pair.staged u.key (values_of u.to)
+          (both (have_widths d.keys u.key) (staged_fits d (values_of u.to)) key_fits (staged_by d u.to values_fit)) kept.staged;
+      few = subst (λ n. n ≤ pair.room) (sym (len-insert nat_list_cmp_total pair.staged u.key (values_of u.to)))
+          (room_for (contains_key pair.staged u.key) (len pair.staged) pair.room e kept.few);
+      room = kept.room;
+    } in
+    rw e goes_on
+
+clear_keeps : (d : ObjectDecl) (pair : Pair) (o : ℕ) (key : List ℕ) → KeepsRows d pair → KeepsRows d (applied pair (Clear o key))
+clear_keeps d pair o key kept = record {
+  main = kept.main;
+  staged = row_less (IsStaged d) pair.staged key kept.staged;
+  few = omega (arith, none_more (IsStaged d) pair.staged key, kept.few);
+  room = kept.room;
+}
+
+pub staging : (d : ObjectDecl) (pair : Pair) (u : Update) → fits_update d u ≡ true → KeepsRows d pair → KeepsRows d (applied pair (Stage u))
+staging d pair u fits kept =
+    let parts = and_parts (have_widths d.keys u.key) (has_value_widths d u.to) fits in
+    stage_keeps d pair u (can_stage pair.staged pair.room u.key) refl parts.0 parts.1 kept
+
+pub changing : (d : ObjectDecl) (pair : Pair) (u : Update) → is_table d.kind ≡ false → fits_update d u ≡ true → KeepsRows d pair
+    → KeepsRows d (applied pair (Main u))
+changing d pair u free fits kept =
+    let parts = and_parts (have_widths d.keys u.key) (has_value_widths d u.to) fits in
+    record {
+      main = change_keeps d pair.main u.key u.to free parts.0 parts.1 kept.main;
+      staged = kept.staged;
+      few = kept.few;
+      room = kept.room;
+    }
+
+pub clearing : (d : ObjectDecl) (pair : Pair) (o : ℕ) (key : List ℕ) → KeepsRows d pair → KeepsRows d (applied pair (Clear o key))
+clearing = clear_keeps
+
+-- ## What an object starts with
+
+pub starting : (d : ObjectDecl) (room : ℕ) → IsKeptObject d (start_object d) → room ≤ 65536
+    → KeepsRows d (record { main = start_object d; staged = empty; room = room })
+starting d room kept le = record {
+  main = kept;
+  staged = λ key row is. absurd (none_some row (sym (get-empty key_cmp key) ∙ is));
+  few = omega (arith, len-empty key_cmp (Option (List ℕ)));
+  room = le;
+}
