@@ -1,4 +1,5 @@
 mod Each
+mod HandedLemmas
 mod KeptRows
 mod KeptTables
 mod Lists

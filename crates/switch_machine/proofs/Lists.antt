@@ -1,5 +1,6 @@
 -- What is ahead in a list.
-use Rattle.std.proofs.Common.{◌≡◌, ℕ, zero, suc, ◌+◌, ◌<◌, ◌≤◌, List, [], ◌∷◌, length, get_or, drop, refl, sym, ap, ◌∙◌, arith, add-one, drop-cons}
+use Rattle.std.proofs.Common.{◌≡◌, ℕ, zero, suc, ◌+◌, ◌<◌, ◌≤◌, List, [], ◌∷◌, length, ◌-◌, get_or, take, drop, Result, Ok, Err, IfOk, refl, sym, ap, ◌∙◌, arith, add-one, drop-cons, length-drop}
+use Rattle.std.proofs.Math.Seq.{take-length}
 
 -- the member at a place, and what is behind it
 pub ahead : {X : Type 0} (xs : List X) (i : ℕ) (x : X) → i < length xs → x ≡ get_or xs i x → drop i xs ≡ x ∷ drop (i + 1) xs
@@ -10,3 +11,12 @@ none_ahead [] zero le = refl
 none_ahead [] (suc i) le = refl
 none_ahead (x ∷ xs) zero le = absurd (omega (arith, le))
 none_ahead (x ∷ xs) (suc i) le = none_ahead xs i (omega (arith, le))
+
+-- a slice up to the end
+pub whole_rest : {X : Type 0} (n : ℕ) (xs : List X) → take (length xs - n) (drop n xs) ≡ drop n xs
+whole_rest n xs = ap (λ k. take k (drop n xs)) (sym (length-drop n xs)) ∙ take-length (drop n xs)
+
+-- of the value of a result
+pub ok_weaker : {X E : Type 0} (P Q : X → Type 0) (r : Result X E) → ((x : X) → P x → Q x) → IfOk r P → IfOk r Q
+ok_weaker P Q (Ok x) go h = go x h
+ok_weaker P Q (Err e) go h = tt

@@ -1,6 +1,7 @@
 -- When the calls of a switch in memory fail, and how they are counted.
-use Rattle.std.specs.Prelude.{◌≡◌, Bool, true, false, ⊤, if◌then◌else◌}
+use Rattle.std.specs.Prelude.{◌≡◌, ◌++◌, Bool, true, false, List, ⊤, if◌then◌else◌}
 use Rattle.gal_io.specs.Count.{one_more}
+use Rattle.switch_ir.specs.declared.journal.Entry.{Entry}
 use Rattle.switch_ir.specs.declared.port.PortEnd.{PortEnd}
 use Rattle.switch_ir.specs.declared.port.PortEnd.TheVariants as port
 use Rattle.switch_ir.specs.declared.port.UpEnd.{UpEnd}
@@ -16,33 +17,40 @@ use Rattle.switch_machine.specs.Counts.{counted}
 use Rattle.switch_machine.specs.Machine.{MachineState}
 
 -- A call fails exactly where that was planned. Only for want of memory may it end before.
-abbrev pub PortAsPlanned : Bool → PortEnd → Type 0
-PortAsPlanned planned port.Failed = planned ≡ true
-PortAsPlanned planned port.Done = planned ≡ false
-PortAsPlanned planned port.NoMemory = ⊤
+abbrev pub PortEndsAsPlanned : Bool → PortEnd → Type 0
+PortEndsAsPlanned planned port.Failed = planned ≡ true
+PortEndsAsPlanned planned port.Done = planned ≡ false
+PortEndsAsPlanned planned port.NoMemory = ⊤
 
-abbrev pub UpAsPlanned : Bool → UpEnd → Type 0
-UpAsPlanned planned up.Failed = planned ≡ true
-UpAsPlanned planned (up.Finished verdict) = planned ≡ false
-UpAsPlanned planned (up.Up frame) = planned ≡ false
-UpAsPlanned planned up.NoMemory = ⊤
+abbrev pub UpEndsAsPlanned : Bool → UpEnd → Type 0
+UpEndsAsPlanned planned up.Failed = planned ≡ true
+UpEndsAsPlanned planned (up.Finished verdict) = planned ≡ false
+UpEndsAsPlanned planned (up.Up frame) = planned ≡ false
+UpEndsAsPlanned planned up.NoMemory = ⊤
 
-abbrev pub DownAsPlanned : Bool → DownEnd → Type 0
-DownAsPlanned planned down.Failed = planned ≡ true
-DownAsPlanned planned (down.Verdict verdict) = planned ≡ false
-DownAsPlanned planned down.NoMemory = ⊤
+abbrev pub DownEndsAsPlanned : Bool → DownEnd → Type 0
+DownEndsAsPlanned planned down.Failed = planned ≡ true
+DownEndsAsPlanned planned (down.Verdict verdict) = planned ≡ false
+DownEndsAsPlanned planned down.NoMemory = ⊤
 
-abbrev pub CommandAsPlanned : Bool → CommandEnd → Type 0
-CommandAsPlanned planned command.Failed = planned ≡ true
-CommandAsPlanned planned command.Done = planned ≡ false
+abbrev pub CommandEndsAsPlanned : Bool → CommandEnd → Type 0
+CommandEndsAsPlanned planned command.Failed = planned ≡ true
+CommandEndsAsPlanned planned command.Done = planned ≡ false
 
-abbrev pub RowsAsPlanned : Bool → RowsEnd → Type 0
-RowsAsPlanned planned rows.Failed = planned ≡ true
-RowsAsPlanned planned (rows.Rows list) = planned ≡ false
-RowsAsPlanned planned rows.NoMemory = ⊤
+abbrev pub RowsEndAsPlanned : Bool → RowsEnd → Type 0
+RowsEndAsPlanned planned rows.Failed = planned ≡ true
+RowsEndAsPlanned planned (rows.Rows list) = planned ≡ false
+RowsEndAsPlanned planned rows.NoMemory = ⊤
 
 -- a call of this kind is counted, and a fault where it failed; the plan stays
 pub record IsCountedAs (kind : CallKind) (failed : Bool) (old new : MachineState) : Type 0 where
   pub planned : new.planned ≡ old.planned
   pub calls : new.calls ≡ counted old.calls kind
   pub faults : new.faults ≡ (if failed then one_more old.faults else old.faults)
+
+-- the state after a call that left these entries, and that failed or didn't
+abbrev pub ended : MachineState → List Entry → Bool → MachineState
+ended m entries failed = record m {
+  journal = record m.journal { entries = m.journal.entries ++ entries };
+  faults = if failed then one_more m.faults else m.faults;
+}

@@ -1,18 +1,22 @@
 //! A switch in memory.
-ghost use Rattle.std.specs.Prelude.{◌≡◌, ◌≤◌, ◌<◌, ◌++◌, ◌∷◌, [], ℕ, Bool, true, false, None, Some, length, OnOk, OnErr, IfOk, IfSome, IsSome};
+ghost use Rattle.std.specs.Prelude.{◌≡◌, ◌≤◌, ◌<◌, ◌-◌, ◌++◌, ◌∷◌, [], ℕ, false, max, None, Some};
+ghost use Rattle.std.specs.Prelude.{length, OnOk, OnErr, IfOk, IsSome};
 ghost use Rattle.gal_io.specs.Count.{one_more};
 ghost use Rattle.packet_fields.specs.declared.packet.TheConstants.{MAX_PACKET_BYTES};
-ghost use Rattle.switch_ir.specs.Code.{code_of};
+ghost use Rattle.state_store.specs.declared.object.ObjectDecl.{ObjectDecl};
+ghost use Rattle.writeback_table.specs.Pair.{visible_rows};
+ghost use Rattle.switch_ir.specs.Code.{code_of, Code};
 ghost use Rattle.switch_ir.specs.Emitted.{IsEmitted};
 ghost use Rattle.switch_ir.specs.Sound.{CanBeRun};
-ghost use Rattle.switch_ir.specs.Tables.{IsStart, Told, told_after};
-ghost use Rattle.switch_ir.specs.Port.{has_failed, up_failed, down_failed, command_failed, rows_failed};
+ghost use Rattle.switch_ir.specs.Tables.{pair_at, told_after, IsStart, Told};
+ghost use Rattle.switch_ir.specs.Port.{has_failed, up_failed, up_entry, down_failed, down_entry, command_failed};
+ghost use Rattle.switch_ir.specs.Port.{rows_failed, AreRowsOf, EndsDown, EndsUp, IsReplicatedIn, IsUpFrame};
 ghost use Rattle.switch_ir.specs.Port.{Loads, MakesRoom, PassesUp, PassesDown, Commands, ShowsRows};
 ghost use Rattle.switch_ir.specs.Port.{IsLoaded, IsDownFrame, CanCommand, HasReplicated, HasRoomFor};
 ghost use Rattle.switch_ir.specs.declared.journal.Entry.TheVariants as entry;
 ghost use Rattle.switch_machine.specs.declared.calls.CallKind.TheVariants as call;
-ghost use Rattle.switch_machine.specs.Calls.{IsCountedAs, PortAsPlanned, UpAsPlanned, DownAsPlanned};
-ghost use Rattle.switch_machine.specs.Calls.{CommandAsPlanned, RowsAsPlanned};
+ghost use Rattle.switch_machine.specs.Calls.{ended, IsCountedAs, PortEndsAsPlanned, UpEndsAsPlanned};
+ghost use Rattle.switch_machine.specs.Calls.{DownEndsAsPlanned, CommandEndsAsPlanned, RowsEndAsPlanned};
 ghost use Rattle.switch_machine.specs.Counts.{counted};
 ghost use Rattle.switch_machine.specs.Kept.{safe_prop, AreSafe};
 ghost use Rattle.switch_machine.specs.Loading.{code_in};
@@ -24,12 +28,13 @@ use crate::loaded::Loaded;
 use crate::tables::SwitchTables;
 use crate::up::go_up;
 use gal_io::{Bytes, NoMemory};
+use state_store::Rows;
 use std::alloc::Global;
 use switch_ir::{
     CommandEnd, DownEnd, Entry, Journal, PortEnd, RowsEnd, SwitchCode, SwitchPort, UpEnd,
     what_is_emitted_can_be_run,
 };
-use writeback_table::Command;
+use writeback_table::{Command, what_a_lookup_sees};
 
 /// A switch in memory. It tells its tables, and a call fails where that was planned, and in no other case.
 #[derive(Debug, Drop)]
@@ -138,5 +143,260 @@ impl ModelSwitch {
         self.tables = tables;
         self.journal = journal;
         Ok(())
+    }
+
+    fn try_room(&mut self, commands: usize) -> Result<(), NoMemory>
+        ensures ok { let old = machine_of self.old in
+            OnOk result (machine_of self.new ≡ record old { journal = record {
+              entries = old.journal.entries ++ entry.Room commands ∷ [];
+              spare = max old.journal.spare commands;
+            } }) }
+        ensures err { let old = machine_of self.old in
+            OnErr result ((spare : ℕ) × (old.journal.spare ≤ spare)
+            × (machine_of self.new ≡ record old { journal = record old.journal { spare = spare } })) }
+    {
+        self.journal.reserve(commands)?;
+        self.note(Entry::Room(commands))
+    }
+
+    // How the pass over a packet that arrives ends, where it fails or doesn't.
+    fn up_end(
+        &self,
+        alloc: Global,
+        number: u32,
+        port: u8,
+        packet: &[u8],
+        fails: bool,
+    ) -> Result<UpEnd, NoMemory>
+        requires loaded { IsSome (machine_of self.now).code }
+        requires size { length packet.now ≤ MAX_PACKET_BYTES }
+        ensures plan { IfOk result (UpEndsAsPlanned fails) }
+        ensures frame { (code : Code) → (machine_of self.now).code ≡ Some code
+            → IfOk result (IsUpFrame code number port packet.now) }
+        ensures told { (code : Code) → (machine_of self.now).code ≡ Some code
+            → IfOk result (EndsUp code self.now.tables number (record { port = port; bytes = packet.now })) }
+    {
+        if fails {
+            return Ok(UpEnd::Failed);
+        }
+        let Some(loaded) = &self.loaded else {
+            unreachable!()
+        };
+        go_up(alloc, loaded, &self.tables, number, port, packet)
+    }
+
+    fn try_up(
+        &mut self,
+        alloc: Global,
+        number: u32,
+        port: u8,
+        packet: &[u8],
+        fails: bool,
+    ) -> Result<UpEnd, NoMemory>
+        requires loaded { IsSome (machine_of self.old).code }
+        requires size { length packet.now ≤ MAX_PACKET_BYTES }
+        ensures plan { IfOk result (UpEndsAsPlanned fails) }
+        ensures frame { (code : Code) → (machine_of self.old).code ≡ Some code
+            → IfOk result (IsUpFrame code number port packet.now) }
+        ensures told { (code : Code) → (machine_of self.old).code ≡ Some code
+            → IfOk result (EndsUp code self.old.tables number (record { port = port; bytes = packet.now })) }
+        ensures ok { IfOk result (λ end. machine_of self.new
+            ≡ ended (machine_of self.old) (up_entry number port packet.now end) (up_failed end)) }
+        ensures err { OnErr result (machine_of self.new ≡ machine_of self.old) }
+    {
+        let end = self.up_end(alloc, number, port, packet, fails)?;
+        let packet = Bytes::from_slice(alloc, packet)?;
+        let answer = end.copy(alloc)?;
+        self.note(Entry::Up {
+            number,
+            port,
+            packet,
+            answer,
+        })?;
+        if fails {
+            self.count_fault();
+        }
+        Ok(end)
+    }
+
+    // How the pass over a packet that comes down ends, where it fails or doesn't.
+    fn down_end(&self, alloc: Global, frame: &[u8], fails: bool) -> Result<DownEnd, NoMemory>
+        requires { IsDownFrame (seen_of (machine_of self.now)) frame.now }
+        ensures plan { IfOk result (DownEndsAsPlanned fails) }
+        ensures told { (code : Code) → (machine_of self.now).code ≡ Some code
+            → IfOk result (EndsDown code self.now.tables frame.now) }
+    {
+        if fails {
+            return Ok(DownEnd::Failed);
+        }
+        let Some(loaded) = &self.loaded else {
+            unreachable!()
+        };
+        Ok(DownEnd::Verdict(go_down(
+            alloc,
+            loaded,
+            &self.tables,
+            frame,
+        )?))
+    }
+
+    fn try_down(&mut self, alloc: Global, frame: &[u8], fails: bool) -> Result<DownEnd, NoMemory>
+        requires { IsDownFrame (seen_of (machine_of self.old)) frame.now }
+        ensures plan { IfOk result (DownEndsAsPlanned fails) }
+        ensures told { (code : Code) → (machine_of self.old).code ≡ Some code
+            → IfOk result (EndsDown code self.old.tables frame.now) }
+        ensures ok { IfOk result (λ end. machine_of self.new
+            ≡ ended (machine_of self.old) (down_entry frame.now end) (down_failed end)) }
+        ensures err { OnErr result (machine_of self.new ≡ machine_of self.old) }
+    {
+        let end = self.down_end(alloc, frame, fails)?;
+        let frame = Bytes::from_slice(alloc, frame)?;
+        let answer = end.copy(alloc)?;
+        self.note(Entry::Down { frame, answer })?;
+        if fails {
+            self.count_fault();
+        }
+        Ok(end)
+    }
+
+    // Applies a command to the tables.
+    fn apply(&mut self, command: &Command)
+        requires { CanCommand (seen_of (machine_of self.old)) command.now }
+        ensures { let old = machine_of self.old in
+            machine_of self.new ≡ record old { tables = told_after command.now old.tables } }
+    {
+        self.tables.apply(command);
+    }
+
+    // Puts a command last in the journal, in memory that was taken before.
+    fn note_command(&mut self, command: &Command, end: CommandEnd)
+        requires { 0 < (machine_of self.old).journal.spare }
+        ensures { let old = machine_of self.old in
+            machine_of self.new ≡ record old { journal = record {
+              entries = old.journal.entries ++ entry.Command command.now end ∷ [];
+              spare = old.journal.spare - 1;
+            } } }
+    {
+        self.journal.push_spare(Entry::Command(*command, end));
+    }
+
+    fn try_rows(&mut self, alloc: Global, object: u32) -> Result<Rows, NoMemory>
+        requires { HasReplicated (seen_of (machine_of self.old)) object }
+        ensures seen { IfOk result (λ rows. rows
+            ≡ visible_rows self.old.tables.bit (pair_at self.old.tables.pairs object)) }
+        ensures rows { (code : Code) (d : ObjectDecl) → (machine_of self.old).code ≡ Some code
+            → IsReplicatedIn code object d → IfOk result (AreRowsOf d) }
+        ensures ok { OnOk result (machine_of self.new
+            ≡ ended (machine_of self.old) (entry.Visible object ∷ []) false) }
+        ensures err { OnErr result (machine_of self.new ≡ machine_of self.old) }
+    {
+        what_a_lookup_sees();
+        let rows = self.tables.rows(alloc, object)?;
+        self.note(Entry::Visible(object))?;
+        Ok(rows)
+    }
+}
+
+impl SwitchPort for ModelSwitch {
+    ghost use Rattle.switch_machine.specs.Views.{machine_of};
+
+    ghost seen = { λ m. seen_of (machine_of m) };
+
+    fn load(&mut self, alloc: Global, code: &SwitchCode) -> PortEnd
+        requires { IsEmitted (code_of code.now) }
+        ensures loads { Loads result (code_of code.now) (seen_of (machine_of self.old)) (seen_of (machine_of self.new)) }
+        ensures plan { PortEndsAsPlanned (fails_next (machine_of self.old) call.Load) result }
+        ensures counted { IsCountedAs call.Load (has_failed result) (machine_of self.old) (machine_of self.new) }
+    {
+        what_is_emitted_can_be_run();
+        if self.is_to_fail(CallKind::Load) {
+            self.count_fault();
+            return PortEnd::Failed;
+        }
+        match self.try_load(alloc, code) {
+            Ok(()) => PortEnd::Done,
+            Err(NoMemory) => PortEnd::NoMemory,
+        }
+    }
+
+    fn room(&mut self, _alloc: Global, commands: usize) -> PortEnd
+        requires { IsLoaded (seen_of (machine_of self.old)) }
+        ensures room { MakesRoom result commands (seen_of (machine_of self.old)) (seen_of (machine_of self.new)) }
+        ensures plan { PortEndsAsPlanned (fails_next (machine_of self.old) call.Room) result }
+        ensures counted { IsCountedAs call.Room (has_failed result) (machine_of self.old) (machine_of self.new) }
+    {
+        if self.is_to_fail(CallKind::Room) {
+            self.count_fault();
+            return PortEnd::Failed;
+        }
+        match self.try_room(commands) {
+            Ok(()) => PortEnd::Done,
+            Err(NoMemory) => PortEnd::NoMemory,
+        }
+    }
+
+    fn pass_up(&mut self, alloc: Global, number: u32, port: u8, packet: &[u8]) -> UpEnd
+        requires loaded { IsLoaded (seen_of (machine_of self.old)) }
+        requires size { length packet.now ≤ MAX_PACKET_BYTES }
+        ensures passes { PassesUp result number port packet.now
+            (seen_of (machine_of self.old)) (seen_of (machine_of self.new)) }
+        ensures plan { UpEndsAsPlanned (fails_next (machine_of self.old) call.Up) result }
+        ensures counted { IsCountedAs call.Up (up_failed result) (machine_of self.old) (machine_of self.new) }
+    {
+        let fails = self.is_to_fail(CallKind::Up);
+        match self.try_up(alloc, number, port, packet, fails) {
+            Ok(end) => end,
+            Err(NoMemory) => UpEnd::NoMemory,
+        }
+    }
+
+    fn pass_down(&mut self, alloc: Global, frame: &[u8]) -> DownEnd
+        requires loaded { IsLoaded (seen_of (machine_of self.old)) }
+        requires frame { IsDownFrame (seen_of (machine_of self.old)) frame.now }
+        ensures passes { PassesDown result frame.now (seen_of (machine_of self.old)) (seen_of (machine_of self.new)) }
+        ensures plan { DownEndsAsPlanned (fails_next (machine_of self.old) call.Down) result }
+        ensures counted { IsCountedAs call.Down (down_failed result) (machine_of self.old) (machine_of self.new) }
+    {
+        let fails = self.is_to_fail(CallKind::Down);
+        match self.try_down(alloc, frame, fails) {
+            Ok(end) => end,
+            Err(NoMemory) => DownEnd::NoMemory,
+        }
+    }
+
+    fn command(&mut self, command: &Command) -> CommandEnd
+        requires loaded { IsLoaded (seen_of (machine_of self.old)) }
+        requires named { CanCommand (seen_of (machine_of self.old)) command.now }
+        requires spare { 0 < (seen_of (machine_of self.old)).spare }
+        requires room { HasRoomFor (seen_of (machine_of self.old)) command.now }
+        ensures commands { Commands result command.now (seen_of (machine_of self.old)) (seen_of (machine_of self.new)) }
+        ensures plan { CommandEndsAsPlanned (fails_next (machine_of self.old) call.Command) result }
+        ensures counted { IsCountedAs call.Command (command_failed result) (machine_of self.old) (machine_of self.new) }
+    {
+        if self.is_to_fail(CallKind::Command) {
+            self.count_fault();
+            self.note_command(command, CommandEnd::Failed);
+            return CommandEnd::Failed;
+        }
+        self.apply(command);
+        self.note_command(command, CommandEnd::Done);
+        CommandEnd::Done
+    }
+
+    fn visible(&mut self, alloc: Global, object: u32) -> RowsEnd
+        requires loaded { IsLoaded (seen_of (machine_of self.old)) }
+        requires replicated { HasReplicated (seen_of (machine_of self.old)) object }
+        ensures shows { ShowsRows result object (seen_of (machine_of self.old)) (seen_of (machine_of self.new)) }
+        ensures plan { RowsEndAsPlanned (fails_next (machine_of self.old) call.Visible) result }
+        ensures counted { IsCountedAs call.Visible (rows_failed result) (machine_of self.old) (machine_of self.new) }
+    {
+        if self.is_to_fail(CallKind::Visible) {
+            self.count_fault();
+            return RowsEnd::Failed;
+        }
+        match self.try_rows(alloc, object) {
+            Ok(rows) => RowsEnd::Rows(rows),
+            Err(NoMemory) => RowsEnd::NoMemory,
+        }
     }
 }

@@ -1,0 +1,23 @@
+use Rattle.std.proofs.Common.{◌≡◌, ◌∙◌, ap, sym}
+use Rattle.flat_ir.specs.Blocks.{Reading, nothing}
+use Rattle.flat_ir.specs.Registers.{packet_of}
+use Rattle.transfer_header.specs.Registers.{value_in}
+use Rattle.switch_ir.specs.Code.{code_of}
+use Rattle.switch_ir.specs.Meaning.{leaves, pass_values}
+use Rattle.switch_ir.specs.Tables.{seen_tables}
+use Rattle.switch_machine.specs.Handed.{handed_over}
+use Rattle.switch_machine.specs.Rows.{over}
+use Rattle.switch_machine.proofs.HandedLemmas.{handed_is_given}
+use Rattle.switch_machine.proofs.down.finish.Goals as goal
+
+pub returns : goal.returns
+returns c =
+    let code = code_of c.args.loaded.now.code in
+    let packet = packet_of c.args.arrival.now in
+    let given = handed_over code.down c.args.registers.now c.deref-2.result.now in
+    let inputs_are = ap (over nothing) c.deref-2.ensures.value ∙ c.in_ok-inputs.ensures in
+    let same = ap (over given) c.deref-3.ensures.value ∙ c.in_ok-rows.ensures in
+    c.leave.ensures
+    ∙ ap (λ (r : Reading). leaves code.post r packet) same
+    ∙ ap (λ (g : Reading). leaves code.post (pass_values code.post g (seen_tables c.args.tables.now) packet) packet)
+      (handed_is_given code c.args.registers.now packet c.deref-2.result.now inputs_are)
