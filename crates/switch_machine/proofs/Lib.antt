@@ -3,7 +3,10 @@ mod HandedLemmas
 mod KeptRows
 mod KeptTables
 mod Lists
+mod LoadedCode
 mod PassRows
+mod Passing
 mod StageLists
 mod StageSteps
 mod TableRows
+mod VisibleRows

@@ -48,6 +48,13 @@ pub record IsCountedAs (kind : CallKind) (failed : Bool) (old new : MachineState
   pub calls : new.calls ≡ counted old.calls kind
   pub faults : new.faults ≡ (if failed then one_more old.faults else old.faults)
 
+-- the state after a call of this kind is counted, and its fault where it fails
+abbrev pub called : MachineState → CallKind → Bool → MachineState
+called m kind failed = record m {
+  calls = counted m.calls kind;
+  faults = if failed then one_more m.faults else m.faults;
+}
+
 -- the state after a call that left these entries, and that failed or didn't
 abbrev pub ended : MachineState → List Entry → Bool → MachineState
 ended m entries failed = record m {

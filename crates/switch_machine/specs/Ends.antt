@@ -1,10 +1,18 @@
--- How the pass over a packet that arrives ends, where nothing fails.
-use Rattle.std.specs.Prelude.{Bool, true, false}
+-- How a pass ends that has the memory that it takes.
+use Rattle.std.specs.Prelude.{◌≡◌, Bool, true, false}
 use Rattle.switch_ir.specs.declared.port.UpEnd.{UpEnd}
-use Rattle.switch_ir.specs.declared.port.UpEnd.TheVariants.{Finished, Up, Failed, NoMemory}
+use Rattle.switch_ir.specs.declared.port.UpEnd.TheVariants as up
+use Rattle.switch_ir.specs.declared.port.DownEnd.{DownEnd}
+use Rattle.switch_ir.specs.declared.port.DownEnd.TheVariants as down
 
-abbrev pub has_passed : UpEnd → Bool
-has_passed (Finished verdict) = true
-has_passed (Up frame) = true
-has_passed Failed = false
-has_passed NoMemory = false
+-- it fails or doesn't
+abbrev pub UpPasses : Bool → UpEnd → Type 0
+UpPasses fails up.Failed = fails ≡ true
+UpPasses fails (up.Finished verdict) = fails ≡ false
+UpPasses fails (up.Up frame) = fails ≡ false
+UpPasses fails up.NoMemory = ⊥
+
+abbrev pub DownPasses : Bool → DownEnd → Type 0
+DownPasses fails down.Failed = fails ≡ true
+DownPasses fails (down.Verdict verdict) = fails ≡ false
+DownPasses fails down.NoMemory = ⊥

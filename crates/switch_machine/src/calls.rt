@@ -1,5 +1,5 @@
 //! Which calls of a switch are to fail.
-ghost use Rattle.std.specs.Prelude.{◌≡◌};
+ghost use Rattle.std.specs.Prelude.{◌≡◌, ◌≤◌};
 ghost use Rattle.gal_io.specs.Count.{one_more};
 ghost use Rattle.switch_machine.specs.Counts.{count_of, counted, counts_of};
 ghost use Rattle.switch_machine.specs.Machine.{is_planned, same_kind};
@@ -61,6 +61,7 @@ impl Calls {
 /// Counts one more, and answers the count.
 pub(crate) fn count(number: &mut u64) -> u64
     ensures counted { number.new ≡ one_more number.old }
+    ensures rises { number.old ≤ number.new }
     ensures told { result ≡ number.new }
 {
     *number = number.saturating_add(1);

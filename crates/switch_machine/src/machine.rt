@@ -1,7 +1,7 @@
 //! A switch in memory.
 ghost use Rattle.std.specs.Prelude.{◌≡◌, ◌≤◌, ◌<◌, ◌-◌, ◌++◌, ◌∷◌, [], ℕ, false, max, None, Some};
-ghost use Rattle.std.specs.Prelude.{length, OnOk, OnErr, IfOk, IsSome};
-ghost use Rattle.gal_io.specs.Count.{one_more};
+ghost use Rattle.std.specs.Prelude.{length, OnOk, OnErr, IfOk, IsSome, if◌then◌else◌};
+ghost use Rattle.gal_io.specs.Count.{one_more, Counts};
 ghost use Rattle.packet_fields.specs.declared.packet.TheConstants.{MAX_PACKET_BYTES};
 ghost use Rattle.state_store.specs.declared.object.ObjectDecl.{ObjectDecl};
 ghost use Rattle.writeback_table.specs.Pair.{visible_rows};
@@ -15,9 +15,10 @@ ghost use Rattle.switch_ir.specs.Port.{Loads, MakesRoom, PassesUp, PassesDown, C
 ghost use Rattle.switch_ir.specs.Port.{IsLoaded, IsDownFrame, CanCommand, HasReplicated, HasRoomFor};
 ghost use Rattle.switch_ir.specs.declared.journal.Entry.TheVariants as entry;
 ghost use Rattle.switch_machine.specs.declared.calls.CallKind.TheVariants as call;
-ghost use Rattle.switch_machine.specs.Calls.{ended, IsCountedAs, PortEndsAsPlanned, UpEndsAsPlanned};
+ghost use Rattle.switch_machine.specs.Calls.{called, ended, IsCountedAs, PortEndsAsPlanned, UpEndsAsPlanned};
 ghost use Rattle.switch_machine.specs.Calls.{DownEndsAsPlanned, CommandEndsAsPlanned, RowsEndAsPlanned};
 ghost use Rattle.switch_machine.specs.Counts.{counted};
+ghost use Rattle.switch_machine.specs.Ends.{DownPasses, UpPasses};
 ghost use Rattle.switch_machine.specs.Kept.{safe_prop, AreSafe};
 ghost use Rattle.switch_machine.specs.Loading.{code_in};
 ghost use Rattle.switch_machine.specs.Machine.{fails_next, seen_of};
@@ -107,11 +108,26 @@ impl ModelSwitch {
         is_planned(&self.planned, kind, call)
     }
 
-    fn count_fault(&mut self)
-        ensures { let old = machine_of self.old in
-            machine_of self.new ≡ record old { faults = one_more old.faults } }
+    // Counts a fault, where there was one.
+    fn count_fault(&mut self, failed: bool)
+        ensures counted { let old = machine_of self.old in
+            machine_of self.new ≡ record old { faults = if failed then one_more old.faults else old.faults } }
+        ensures rises { Counts failed (machine_of self.old).faults (machine_of self.new).faults }
     {
-        let _ = count(&mut self.faults);
+        if failed {
+            let _ = count(&mut self.faults);
+        }
+    }
+
+    // Counts a call that leaves nothing where it fails, and its fault. It answers whether the call fails.
+    fn fails(&mut self, kind: CallKind) -> bool
+        ensures told { result ≡ fails_next (machine_of self.old) kind }
+        ensures counted { machine_of self.new ≡ called (machine_of self.old) kind result }
+        ensures rises { Counts result (machine_of self.old).faults (machine_of self.new).faults }
+    {
+        let fails = self.is_to_fail(kind);
+        self.count_fault(fails);
+        fails
     }
 
     // Puts a call last in the journal.
@@ -170,7 +186,7 @@ impl ModelSwitch {
     ) -> Result<UpEnd, NoMemory>
         requires loaded { IsSome (machine_of self.now).code }
         requires size { length packet.now ≤ MAX_PACKET_BYTES }
-        ensures plan { IfOk result (UpEndsAsPlanned fails) }
+        ensures passes { IfOk result (UpPasses fails) }
         ensures frame { (code : Code) → (machine_of self.now).code ≡ Some code
             → IfOk result (IsUpFrame code number port packet.now) }
         ensures told { (code : Code) → (machine_of self.now).code ≡ Some code
@@ -195,13 +211,15 @@ impl ModelSwitch {
     ) -> Result<UpEnd, NoMemory>
         requires loaded { IsSome (machine_of self.old).code }
         requires size { length packet.now ≤ MAX_PACKET_BYTES }
-        ensures plan { IfOk result (UpEndsAsPlanned fails) }
+        ensures passes { IfOk result (UpPasses fails) }
         ensures frame { (code : Code) → (machine_of self.old).code ≡ Some code
             → IfOk result (IsUpFrame code number port packet.now) }
         ensures told { (code : Code) → (machine_of self.old).code ≡ Some code
             → IfOk result (EndsUp code self.old.tables number (record { port = port; bytes = packet.now })) }
         ensures ok { IfOk result (λ end. machine_of self.new
             ≡ ended (machine_of self.old) (up_entry number port packet.now end) (up_failed end)) }
+        ensures rises { IfOk result (λ end.
+            Counts (up_failed end) (machine_of self.old).faults (machine_of self.new).faults) }
         ensures err { OnErr result (machine_of self.new ≡ machine_of self.old) }
     {
         let end = self.up_end(alloc, number, port, packet, fails)?;
@@ -213,16 +231,15 @@ impl ModelSwitch {
             packet,
             answer,
         })?;
-        if fails {
-            self.count_fault();
-        }
+        self.count_fault(fails);
         Ok(end)
     }
 
     // How the pass over a packet that comes down ends, where it fails or doesn't.
     fn down_end(&self, alloc: Global, frame: &[u8], fails: bool) -> Result<DownEnd, NoMemory>
-        requires { IsDownFrame (seen_of (machine_of self.now)) frame.now }
-        ensures plan { IfOk result (DownEndsAsPlanned fails) }
+        requires loaded { IsSome (machine_of self.now).code }
+        requires frame { IsDownFrame (seen_of (machine_of self.now)) frame.now }
+        ensures passes { IfOk result (DownPasses fails) }
         ensures told { (code : Code) → (machine_of self.now).code ≡ Some code
             → IfOk result (EndsDown code self.now.tables frame.now) }
     {
@@ -241,21 +258,22 @@ impl ModelSwitch {
     }
 
     fn try_down(&mut self, alloc: Global, frame: &[u8], fails: bool) -> Result<DownEnd, NoMemory>
-        requires { IsDownFrame (seen_of (machine_of self.old)) frame.now }
-        ensures plan { IfOk result (DownEndsAsPlanned fails) }
+        requires loaded { IsSome (machine_of self.old).code }
+        requires frame { IsDownFrame (seen_of (machine_of self.old)) frame.now }
+        ensures passes { IfOk result (DownPasses fails) }
         ensures told { (code : Code) → (machine_of self.old).code ≡ Some code
             → IfOk result (EndsDown code self.old.tables frame.now) }
         ensures ok { IfOk result (λ end. machine_of self.new
             ≡ ended (machine_of self.old) (down_entry frame.now end) (down_failed end)) }
+        ensures rises { IfOk result (λ end.
+            Counts (down_failed end) (machine_of self.old).faults (machine_of self.new).faults) }
         ensures err { OnErr result (machine_of self.new ≡ machine_of self.old) }
     {
         let end = self.down_end(alloc, frame, fails)?;
         let frame = Bytes::from_slice(alloc, frame)?;
         let answer = end.copy(alloc)?;
         self.note(Entry::Down { frame, answer })?;
-        if fails {
-            self.count_fault();
-        }
+        self.count_fault(fails);
         Ok(end)
     }
 
@@ -309,8 +327,7 @@ impl SwitchPort for ModelSwitch {
         ensures counted { IsCountedAs call.Load (has_failed result) (machine_of self.old) (machine_of self.new) }
     {
         what_is_emitted_can_be_run();
-        if self.is_to_fail(CallKind::Load) {
-            self.count_fault();
+        if self.fails(CallKind::Load) {
             return PortEnd::Failed;
         }
         match self.try_load(alloc, code) {
@@ -325,8 +342,7 @@ impl SwitchPort for ModelSwitch {
         ensures plan { PortEndsAsPlanned (fails_next (machine_of self.old) call.Room) result }
         ensures counted { IsCountedAs call.Room (has_failed result) (machine_of self.old) (machine_of self.new) }
     {
-        if self.is_to_fail(CallKind::Room) {
-            self.count_fault();
+        if self.fails(CallKind::Room) {
             return PortEnd::Failed;
         }
         match self.try_room(commands) {
@@ -373,8 +389,7 @@ impl SwitchPort for ModelSwitch {
         ensures plan { CommandEndsAsPlanned (fails_next (machine_of self.old) call.Command) result }
         ensures counted { IsCountedAs call.Command (command_failed result) (machine_of self.old) (machine_of self.new) }
     {
-        if self.is_to_fail(CallKind::Command) {
-            self.count_fault();
+        if self.fails(CallKind::Command) {
             self.note_command(command, CommandEnd::Failed);
             return CommandEnd::Failed;
         }
@@ -390,8 +405,7 @@ impl SwitchPort for ModelSwitch {
         ensures plan { RowsEndAsPlanned (fails_next (machine_of self.old) call.Visible) result }
         ensures counted { IsCountedAs call.Visible (rows_failed result) (machine_of self.old) (machine_of self.new) }
     {
-        if self.is_to_fail(CallKind::Visible) {
-            self.count_fault();
+        if self.fails(CallKind::Visible) {
             return RowsEnd::Failed;
         }
         match self.try_rows(alloc, object) {

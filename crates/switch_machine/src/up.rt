@@ -1,5 +1,5 @@
 //! The pass over a packet that arrives.
-ghost use Rattle.std.specs.Prelude.{◌≡◌, ◌≤◌, ℕ, true, length, replicate, IfOk};
+ghost use Rattle.std.specs.Prelude.{◌≡◌, ◌≤◌, false, length, replicate, IfOk};
 ghost use Rattle.std.specs.List.{list_any, AllByRecursion as Each};
 ghost use Rattle.packet_fields.specs.declared.packet.TheConstants.{MAX_PACKET_BYTES};
 ghost use Rattle.flat_ir.specs.Blocks.{is_live, HasLowParents};
@@ -8,7 +8,7 @@ ghost use Rattle.transfer_header.specs.Registers.{FitsLayout, Holds};
 ghost use Rattle.switch_ir.specs.Code.{code_of, pass_of};
 ghost use Rattle.switch_ir.specs.Port.{EndsUp, IsUpFrame};
 ghost use Rattle.switch_ir.specs.declared.port.UpEnd.TheVariants.{Up};
-ghost use Rattle.switch_machine.specs.Ends.{has_passed};
+ghost use Rattle.switch_machine.specs.Ends.{UpPasses};
 
 use crate::loaded::Loaded;
 use crate::run::{Nothing, Run, run_pass};
@@ -76,7 +76,7 @@ pub(crate) fn go_up(
     packet: &[u8],
 ) -> Result<UpEnd, NoMemory>
     requires { length packet.now ≤ MAX_PACKET_BYTES }
-    ensures passed { IfOk result (λ end. has_passed end ≡ true) }
+    ensures passes { IfOk result (UpPasses false) }
     ensures frame { IfOk result (λ end. IsUpFrame (code_of loaded.now.code) number port packet.now end) }
     ensures told { IfOk result (λ end.
         EndsUp (code_of loaded.now.code) tables.now number (record { port = port; bytes = packet.now }) end) }

@@ -1,4 +1,4 @@
-use Rattle.std.proofs.Common.{sym, subst}
+use Rattle.std.proofs.Common.{◌≡◌, sym, subst}
 use Rattle.transfer_header.specs.Frames.{IsFrameOf, up_frame}
 use Rattle.transfer_header.specs.Values.{low_bits, value_by}
 use Rattle.switch_ir.specs.Code.{code_of}

@@ -1,0 +1,134 @@
+-- The rows that lookups see of an object that keeps what was declared.
+use Rattle.std.proofs.Common.{◌≡◌, ◌≤◌, ◌<◌, ◌+◌, ◌-◌, ◌^◌, ℕ, Bool, true, false, cond, ◌&&◌, List, [], ◌∷◌, length, map, Option, Some, None, refl, sym, ap, ◌∙◌, subst, arith, true≢false}
+use Rattle.std.specs.Prelude.{T}
+use Rattle.std.specs.Ordering.{eq_by_cmp, is_eq, is_lt}
+use Rattle.std.specs.declared.cmp.Ordering.{Ordering}
+use Rattle.std.specs.declared.cmp.Ordering.TheVariants.{Less, Equal, Greater}
+use Rattle.std.specs.Cmp.{tied_itself}
+use Rattle.std.specs.FinMap.{FinMap, find, is_sorted, get, insert, remove, entries, entries_sorted, len, contains_key, get-entries, len-entries, len-insert, len-remove}
+use Rattle.std.specs.FinMap.Entries.{below_all}
+use Rattle.std.specs.List.{AllByRecursion as Each}
+use Rattle.std.proofs.lemmas.Bool.{and_parts}
+use Rattle.std.proofs.lemmas.Cmp.{nat_list_cmp_total}
+use Rattle.std.proofs.lemmas.Map.Lookups.{exact_bytes}
+use Rattle.state_store.specs.declared.object.ObjectDecl.{ObjectDecl}
+use Rattle.state_store.specs.declared.object.Row.{Row}
+use Rattle.state_store.specs.Kept.{have_widths}
+use Rattle.state_store.specs.Places.{IsSorted}
+use Rattle.state_store.specs.Store.{Contents, key_cmp, look, rows_from}
+use Rattle.writeback_table.specs.Pair.{Pair, Staged, seen, visible, visible_rows, with_row, with_staged}
+use Rattle.switch_ir.specs.Port.{entry_of, fits_row, AreRowsOf}
+use Rattle.switch_machine.specs.Kept.{staged_fits, KeepsRows}
+use Rattle.switch_machine.proofs.KeptRows.{the_some, none_some}
+
+-- ## Entries of a map
+
+first : (a b : Bool) → T (a && b) → T a
+first true b h = tt
+first false b h = h
+
+second : (a b : Bool) → T (a && b) → T b
+second true b h = h
+second false b h = absurd h
+
+less_is_other : (o : Ordering) → T (is_lt o) → is_eq o ≡ false
+less_is_other Less h = refl
+less_is_other Equal h = absurd h
+less_is_other Greater h = absurd h
+
+is_equal : (o : Ordering) → is_eq o ≡ true → o ≡ Equal
+is_equal Less e = absurd (true≢false (sym e))
+is_equal Equal e = refl
+is_equal Greater e = absurd (true≢false (sym e))
+
+abbrev Rows : Type 0
+Rows = List (List ℕ × List ℕ)
+
+-- no entry above a key has it
+none_above : (key : List ℕ) (es : Rows) → T (below_all key_cmp key es) → find key_cmp key es ≡ None
+none_above key [] h = refl
+none_above key (e ∷ es) h =
+    ap (λ b. cond b (Some e.1) (find key_cmp key es)) (less_is_other (key_cmp key e.0) (first (is_lt (key_cmp key e.0)) (below_all key_cmp key es) h))
+    ∙ none_above key es (second (is_lt (key_cmp key e.0)) (below_all key_cmp key es) h)
+
+-- what is found behind an entry is found with it
+found_too : (key values : List ℕ) (e : List ℕ × List ℕ) (es : Rows) (same : Bool) → eq_by_cmp key_cmp key e.0 ≡ same
+    → T (below_all key_cmp e.0 es) → find key_cmp key es ≡ Some values → cond same (Some e.1) (find key_cmp key es) ≡ Some values
+found_too key values e es true is below found =
+    let one : key ≡ e.0 = exact_bytes key e.0 (is_equal (key_cmp key e.0) is) in
+    absurd (none_some values (sym (none_above e.0 es below) ∙ ap (λ k. find key_cmp k es) (sym one) ∙ found))
+found_too key values e es false is below found = found
+
+-- what holds of each key with its values holds of each entry
+pub each_entry : (P : List ℕ → List ℕ → Type 0) (es : Rows) → T (is_sorted key_cmp es)
+    → ((key values : List ℕ) → find key_cmp key es ≡ Some values → P key values) → Each (λ (r : Row). P r.keys r.values) (rows_from es)
+each_entry P [] sorted all = tt
+each_entry P (e ∷ es) sorted all =
+    let below = first (below_all key_cmp e.0 es) (is_sorted key_cmp es) sorted in
+    (all e.0 e.1 (ap (λ b. cond b (Some e.1) (find key_cmp e.0 es)) (itself e.0)),
+     each_entry P es (second (below_all key_cmp e.0 es) (is_sorted key_cmp es) sorted)
+     (λ key values found.
+         all key values (ap (λ b. cond b (Some e.1) (find key_cmp key es)) refl ∙ found_too key values e es (eq_by_cmp key_cmp key e.0) refl below found)))
+  where
+    itself : (key : List ℕ) → eq_by_cmp key_cmp key key ≡ true
+    itself key = ap is_eq (tied_itself nat_list_cmp_total key)
+
+pub entries_back : (es : Rows) → map entry_of (rows_from es) ≡ es
+entries_back [] = refl
+entries_back (e ∷ es) = ap (λ (l : Rows). e ∷ l) (entries_back es)
+
+count_same : (es : Rows) → length (rows_from es) ≡ length es
+count_same [] = refl
+count_same (e ∷ es) = omega (arith, count_same es)
+
+-- ## How many there are
+
+at_most_one : (known : Bool) (n : ℕ) → cond known n (n + 1) ≤ n + 1
+at_most_one true n = omega arith
+at_most_one false n = omega arith
+
+no_more : (known : Bool) (n : ℕ) → cond known (n - 1) n ≤ n + 1
+no_more true n = omega arith
+no_more false n = omega arith
+
+one_over : (key : List ℕ) (row : Option (List ℕ)) (rows : Contents) → len (with_row key row rows) ≤ len rows + 1
+one_over key (Some values) rows =
+    subst (λ n. n ≤ len rows + 1) (sym (len-insert nat_list_cmp_total rows key values)) (at_most_one (contains_key rows key) (len rows))
+one_over key None rows =
+    subst (λ n. n ≤ len rows + 1) (sym (len-remove nat_list_cmp_total rows key)) (no_more (contains_key rows key) (len rows))
+
+all_over : (staged : List (List ℕ × Option (List ℕ))) (rows : Contents) → len (with_staged staged rows) ≤ len rows + length staged
+all_over [] rows = omega arith
+all_over (s ∷ more) rows = omega (arith, one_over s.0 s.1 (with_staged more rows), all_over more rows)
+
+-- ## Rows of the declared widths
+
+abbrev IsRow : ObjectDecl → List ℕ → List ℕ → Type 0
+IsRow d key values = (have_widths d.keys key && have_widths d.values values) ≡ true
+
+module _ (d : ObjectDecl) (pair : Pair) (kept : KeepsRows d pair)
+    (main : (key : List ℕ) → seen false pair key ≡ look pair.main key)
+    (staged : (key : List ℕ) (row : Option (List ℕ)) → get pair.staged key ≡ Some row → seen true pair key ≡ row)
+    (others : (key : List ℕ) → get pair.staged key ≡ None → seen true pair key ≡ look pair.main key) where
+  over_main : (key values : List ℕ) (row : Option (Option (List ℕ))) → get pair.staged key ≡ row → seen true pair key ≡ Some values → IsRow d key values
+  over_main key values None is found = kept.main.rows key values (sym (others key is) ∙ found)
+  over_main key values (Some row) is found =
+      let this : row ≡ Some values = sym (staged key row is) ∙ found in
+      subst (λ (r : Option (List ℕ)). (have_widths d.keys key && staged_fits d r) ≡ true) this (kept.staged key row is)
+
+  fits : (bit : Bool) (key values : List ℕ) → seen bit pair key ≡ Some values → IsRow d key values
+  fits false key values found = kept.main.rows key values (sym (main key) ∙ found)
+  fits true key values found = over_main key values (get pair.staged key) refl found
+
+  few_rows : (bit : Bool) → len (visible bit pair) ≤ d.size + 65536
+  few_rows false = omega (arith, kept.main.few)
+  few_rows true = omega (arith, all_over (entries pair.staged) pair.main.contents, len-entries pair.staged, kept.main.few, kept.few, kept.room)
+
+  pub rows_of : (bit : Bool) → d.size ≤ 1048576 → AreRowsOf d (visible_rows bit pair)
+  rows_of bit small =
+      let es = entries (visible bit pair) in
+      record {
+        few = omega (arith, count_same es, len-entries (visible bit pair), few_rows bit, small);
+        fit = each_entry (IsRow d) es (entries_sorted (visible bit pair)) (λ key values found. fits bit key values (get-entries (visible bit pair) key ∙ found));
+        rising = subst IsSorted (sym (entries_back es)) (entries_sorted (visible bit pair));
+      }
