@@ -363,3 +363,19 @@ fn a_sum_crosses(rt: HostRuntime) -> Result<(), Fail> {
     assert_eq!(rt; code.values, 11);
     Ok(())
 }
+
+#[test]
+fn a_journal_keeps_its_calls(rt: HostRuntime) -> Result<(), Fail> {
+    let alloc = rt.alloc();
+    let mut journal = Journal::new(alloc);
+    journal.reserve(1)?;
+    journal.push(Entry::Load)?;
+    journal.push_spare(Entry::Room(1));
+    assert!(rt; matches!(journal.as_slice(), [Entry::Load, Entry::Room(1)]));
+    assert_eq!(rt; journal.spare(), 0);
+    let up = UpEnd::Finished(Verdict::Drop).copy(alloc)?;
+    let down = DownEnd::Verdict(Verdict::Drop).copy(alloc)?;
+    assert!(rt; matches!(up, UpEnd::Finished(Verdict::Drop)));
+    assert!(rt; matches!(down, DownEnd::Verdict(Verdict::Drop)));
+    Ok(())
+}
