@@ -1,5 +1,5 @@
 -- The first result of a put or a del says whether it took effect.
-use Rattle.std.proofs.Common.{◌≡◌, ◌==◌, ℕ, Bool, true, false, List, [], ◌∷◌, map, length, get_or, Option, Some, None, is_some, refl, ap, if◌then◌else◌}
+use Rattle.std.proofs.Common.{◌≡◌, ◌==◌, ℕ, Bool, true, false, List, [], ◌∷◌, map, length, get_or, Some, None, is_some, refl, ap, if◌then◌else◌}
 use Rattle.packet_fields.specs.declared.packet.Packet.{Packet}
 use Rattle.state_store.specs.Store.{object_at, put_answer, Store}
 use Rattle.state_store.specs.Store as store

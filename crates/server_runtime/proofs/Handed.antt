@@ -1,16 +1,14 @@
 -- Registers into which a frame was read hold what stands in it.
-use Rattle.std.proofs.Common.{◌≡◌, ◌≢◌, ◌+◌, ◌<◌, ◌≤◌, ◌==◌, ◌^◌, ℕ, zero, suc, Bool, true, false, cond, ◌&&◌, IsTrue, List, [], ◌∷◌, map, length, get_or, drop, replicate, slice_get, Option, Some, refl, sym, ap, ◌∙◌, subst, arith, ⊎_elim}
+use Rattle.std.proofs.Common.{◌≡◌, ◌≢◌, ◌+◌, ◌<◌, ◌==◌, ◌^◌, ℕ, Bool, true, false, cond, IsTrue, List, [], ◌∷◌, map, get_or, drop, replicate, slice_get, Some, refl, sym, ap, ◌∙◌, subst, arith, ⊎_elim}
 use Rattle.std.specs.List.{filter, All}
 use Rattle.std.specs.Result.{IfOk, OnErr}
 use Rattle.std.proofs.Common.{Result, Ok, Err}
-use Rattle.std.proofs.lemmas.Bool.{and_parts, cases_lt, cond-false, cond-true, eqb-true}
+use Rattle.std.proofs.lemmas.Bool.{and_parts, cases_lt, cond-false, eqb-true}
 use Rattle.std.proofs.lemmas.List.{get_or-drop, get_or-replicate, get_or_past, length-replicate}
 use Rattle.std.proofs.lemmas.List.Elements.{All-cons, All-map, All-nil}
 use Rattle.std.proofs.lemmas.Nat.{pow_pos}
-use Rattle.packet_fields.specs.declared.packet.Packet.{Packet}
 use Rattle.flat_ir.specs.declared.program.ValueId.{ValueId}
 use Rattle.flat_ir.specs.Arrivals.{IsArrival}
-use Rattle.flat_ir.specs.Blocks.{Reading}
 use Rattle.flat_ir.specs.Laws.{AllFit}
 use Rattle.flat_ir.specs.Program.{is_named, width_of_value, Program}
 use Rattle.split_model.specs.declared.layout.Crossing.{Crossing}
@@ -20,7 +18,7 @@ use Rattle.split_model.specs.Layouts.{crossing, number_of, up_layout, values_of}
 use Rattle.transfer_header.specs.declared.frame.Head.{Head}
 use Rattle.transfer_header.specs.Frames.{IsUnpacked}
 use Rattle.transfer_header.specs.Registers.{value_in, ChangesOnly}
-use Rattle.transfer_header.specs.Told.{packet_in, reads_in, value_among, AreToldByPlace, IsToldByPlace}
+use Rattle.transfer_header.specs.Told.{reads_in, value_among, AreToldByPlace, IsToldByPlace}
 use Rattle.server_runtime.specs.Registers.{register_reads}
 use Rattle.server_runtime.specs.Turns.{IsRead}
 use Rattle.server_runtime.proofs.Readings.{reads_named, reads_none}

@@ -1,5 +1,5 @@
 -- Fields that are set leave a packet's length.
-use Rattle.std.proofs.Common.{◌≡◌, ◌*◌, ◌+◌, ℕ, List, [], ◌∷◌, length, Option, Some, None, unwrap_or, refl, ◌∙◌}
+use Rattle.std.proofs.Common.{◌≡◌, ◌*◌, ℕ, List, [], ◌∷◌, length, Option, Some, None, unwrap_or, refl, ◌∙◌}
 use Rattle.std.proofs.lemmas.List.FromFn.{length-map-range_with_len}
 use Rattle.std.specs.Option.{option_map}
 use Rattle.packet_fields.specs.declared.field.Field.{Field}

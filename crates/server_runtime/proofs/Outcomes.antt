@@ -7,20 +7,18 @@ use Rattle.packet_fields.specs.declared.packet.Packet.{Packet}
 use Rattle.packet_fields.specs.Sizes.{largest_packet}
 use Rattle.state_store.specs.Store.{Store}
 use Rattle.flat_ir.specs.declared.program.FieldValue.{FieldValue}
-use Rattle.flat_ir.specs.declared.program.ValueId.{ValueId}
 use Rattle.flat_ir.specs.Blocks.{Reading}
 use Rattle.flat_ir.specs.Program.{is_named, Program}
-use Rattle.flat_ir.specs.Run.{with_writes, Machine}
+use Rattle.flat_ir.specs.Run.{with_writes}
 use Rattle.flat_ir.specs.WellFormed.{IsWritten}
 use Rattle.flat_ir.specs.Writable.{IsWritable}
-use Rattle.split_model.specs.declared.layout.Crossing.{Crossing}
 use Rattle.split_model.specs.declared.split.Part.{Part}
 use Rattle.split_model.specs.Crossing.{crosses_down, is_server_write}
 use Rattle.split_model.specs.Layouts.{down_layout, up_layout}
 use Rattle.split_model.specs.Passes.{sent_down, server_fields, server_run, IsHanded}
 use Rattle.transfer_header.specs.declared.frame.Head.{Head}
 use Rattle.transfer_header.specs.Told.{number_in, packet_in, reads_in}
-use Rattle.transfer_header.specs.Frames.{down_frame, frame_of, IsFrame, IsFrameOf}
+use Rattle.transfer_header.specs.Frames.{down_frame, frame_of, IsFrameOf}
 use Rattle.transfer_header.specs.Registers.{reads_of, value_in, Holds}
 use Rattle.transfer_header.specs.Values.{low_bits}
 use Rattle.writeback_table.specs.declared.command.Update.{Update}

@@ -1,12 +1,12 @@
 -- What registers hold, as a reading.
-use Rattle.std.proofs.Common.{◌≡◌, ◌+◌, ◌<◌, ◌≤◌, ◌==◌, ℕ, zero, suc, Bool, true, false, List, length, get_or, slice_index, refl, sym, ap, ◌∙◌, arith, ⊎_elim}
+use Rattle.std.proofs.Common.{◌≡◌, ◌+◌, ◌<◌, ◌≤◌, ◌==◌, ℕ, suc, Bool, true, false, List, length, get_or, slice_index, refl, sym, ap, ◌∙◌, arith, ⊎_elim}
 use Rattle.std.proofs.lemmas.Bool.{cases_eq, cases_lt, cond-false, cond-true, eq-eqb, ne_eqb}
 use Rattle.std.proofs.lemmas.List.{get_or_past}
 use Rattle.flat_ir.specs.declared.program.ValueId.{ValueId}
 use Rattle.flat_ir.specs.Blocks.{Reading}
 use Rattle.flat_ir.specs.Program.{is_named, Program}
 use Rattle.flat_ir.specs.Run.{with_results}
-use Rattle.split_model.specs.Layouts.{number_of, values_below, values_of}
+use Rattle.split_model.specs.Layouts.{number_of, values_below}
 use Rattle.server_runtime.specs.Registers.{register_reads}
 use Rattle.server_runtime.proofs.Numbers.{below_mono, below_suc, count_at, is_named_by, named_parts}
 

@@ -1,5 +1,5 @@
 -- How many results an instruction gives.
-use Rattle.std.proofs.Common.{◌≡◌, ℕ, suc, Bool, true, false, ◌&&◌, ◌^◌, List, [], ◌∷◌, map, length, nat_lt, replicate, slice_get, Option, Some, None, unwrap_or, refl, sym, ap, ◌∙◌, true≢false}
+use Rattle.std.proofs.Common.{◌≡◌, ℕ, suc, Bool, true, ◌^◌, List, [], ◌∷◌, map, length, nat_lt, replicate, slice_get, Option, Some, None, unwrap_or, refl, sym, ap, ◌∙◌, true≢false}
 use Rattle.std.specs.Option.{option_map}
 use Rattle.std.proofs.lemmas.Bool.{and_parts}
 use Rattle.std.proofs.lemmas.List.{length-replicate}
@@ -10,7 +10,7 @@ use Rattle.state_store.specs.Kept.{have_widths, IsKept, IsKeptObject}
 use Rattle.state_store.specs.Store.{look as found_in, looked_up, object_at, Object, Store}
 use Rattle.flat_ir.specs.Blocks.{Reading}
 use Rattle.flat_ir.specs.Fits.{fits, widths_of}
-use Rattle.flat_ir.specs.Program.{result_count, value_widths, Program, Work}
+use Rattle.flat_ir.specs.Program.{result_count, Program, Work}
 use Rattle.flat_ir.specs.Program.Work.{const, field, apply, shift, select, byte, look, put, del}
 use Rattle.flat_ir.specs.Run.{results}
 

@@ -1,7 +1,7 @@
 -- What the switch is told of the server's changes.
 use Rattle.std.proofs.Common.{◌≡◌, ◌≤◌, ◌<◌, ◌+◌, ◌^◌, ℕ, zero, suc, Bool, true, false, cond, ◌&&◌, ◌||◌, List, [], ◌∷◌, ◌++◌, map, length, nat_lt, Option, Some, None, is_some, slice_get, refl, sym, ap, ◌∙◌, subst, arith, true≢false, length-append, if◌then◌else◌, ◌==◌}
 use Rattle.std.specs.List.{AllByRecursion as Each, filter}
-use Rattle.std.proofs.lemmas.Bool.{and_from, and_parts, eqb-true, lt-ltb, cond-true, false≢true}
+use Rattle.std.proofs.lemmas.Bool.{and_from, and_parts, eqb-true, lt-ltb, cond-true}
 use Rattle.std.proofs.lemmas.List.{map-append}
 use Rattle.std.proofs.lemmas.List.Elements.{filter-append}
 use Rattle.std.proofs.lemmas.Nat.{pow_pos}
@@ -9,11 +9,10 @@ use Rattle.packet_fields.specs.declared.packet.Packet.{Packet}
 use Rattle.gal_bits.specs.Fitting.{same_widths}
 use Rattle.state_store.specs.declared.object.ObjectDecl.{ObjectDecl}
 use Rattle.state_store.specs.Fitting.{can_del, can_put, fits_keys, fits_values}
-use Rattle.state_store.specs.Kept.{have_widths, IsKept}
+use Rattle.state_store.specs.Kept.{have_widths}
 use Rattle.state_store.specs.Store.{object_at, put_answer, Store}
 use Rattle.state_store.specs.Store as store
 use Rattle.flat_ir.specs.declared.program.ValueId.{ValueId}
-use Rattle.flat_ir.specs.Arrivals.{IsArrival}
 use Rattle.flat_ir.specs.Blocks.{Reading, is_live}
 use Rattle.flat_ir.specs.Fits.{fits, widths_of}
 use Rattle.flat_ir.specs.Kinds.{is_input}
@@ -31,7 +30,7 @@ use Rattle.split_model.specs.Shown.{is_replicated}
 use Rattle.split_model.specs.Split.{is_server}
 use Rattle.writeback_table.specs.declared.command.Update.{Update}
 use Rattle.writeback_table.specs.Widths.{fits_update}
-use Rattle.server_runtime.specs.Serving.{is_followed, to_of, update_of, updates_of, IsUpdateIn}
+use Rattle.server_runtime.specs.Serving.{is_followed, update_of, updates_of, IsUpdateIn}
 
 -- ## Lists of changes
 

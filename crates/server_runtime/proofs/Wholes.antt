@@ -1,20 +1,19 @@
 -- The server's run of a packet's frame is the whole program's.
-use Rattle.std.proofs.Common.{◌≡◌, ◌↔◌, ◌<◌, ◌≤◌, ◌^◌, ℕ, Bool, true, List, length, refl, sym, ap, ◌∙◌, subst, arith}
+use Rattle.std.proofs.Common.{◌≡◌, ◌<◌, ◌≤◌, ◌^◌, ℕ, List, length, refl, ap, ◌∙◌, arith}
 use Rattle.packet_fields.specs.declared.packet.Packet.{Packet}
 use Rattle.packet_fields.specs.Sizes.{largest_packet}
 use Rattle.state_store.specs.Store.{Store}
-use Rattle.flat_ir.specs.declared.program.ValueId.{ValueId}
 use Rattle.flat_ir.specs.Arrivals.{IsArrival}
 use Rattle.flat_ir.specs.Blocks.{Reading}
 use Rattle.flat_ir.specs.Program.{Program}
 use Rattle.split_model.specs.declared.layout.Crossing.{Crossing}
 use Rattle.split_model.specs.declared.split.Part.{Part}
-use Rattle.split_model.specs.Crossing.{crosses_down, crosses_up}
-use Rattle.split_model.specs.Laws.{FitAcross, IsSentDown, IsServedWithin, IsWhole}
+use Rattle.split_model.specs.Crossing.{crosses_down}
+use Rattle.split_model.specs.Laws.{IsSentDown, IsWhole}
 use Rattle.split_model.specs.Layouts.{down_layout, up_layout}
 use Rattle.split_model.specs.Passes.{down_verdict, pre_values, sent_down, server_fields, server_run, IsHanded}
-use Rattle.transfer_header.specs.Frames.{down_frame, up_frame, IsFrame, IsFrameOf}
-use Rattle.transfer_header.specs.Told.{number_in, packet_in, port_in, reads_in, AreToldByPlace, IsToldByPlace}
+use Rattle.transfer_header.specs.Frames.{down_frame, up_frame, IsFrameOf}
+use Rattle.transfer_header.specs.Told.{reads_in, IsToldByPlace}
 use Rattle.transfer_header.specs.Values.{value_by, AreNarrow}
 use Rattle.server_runtime.specs.Serving.{frame_verdict, packet_frame, served_frame, updates_of, IsWholeRun}
 use Rattle.server_runtime.proofs.Lengths.{length_with_writes}

@@ -1,9 +1,6 @@
-use Rattle.std.proofs.Common.{◌<◌, ◌^◌, ℕ, List}
-use Rattle.flat_ir.specs.Blocks.{Reading}
-use Rattle.split_model.specs.Crossing.{crosses_down, crosses_up}
 use Rattle.split_model.specs.Layouts.{down_layout, up_layout}
 use Rattle.split_model.specs.Passes.{pre_values, sent_down, server_run}
-use Rattle.transfer_header.specs.Frames.{down_frame, up_frame}
+use Rattle.transfer_header.specs.Frames.{down_frame}
 use Rattle.transfer_header.specs.Told.{reads_in}
 use Rattle.transfer_header.specs.Values.{value_by}
 use Rattle.server_runtime.specs.Serving.{packet_frame}

@@ -1,4 +1,4 @@
-use Rattle.std.proofs.Common.{◌≡◌, ◌≤◌, ◌<◌, ◌+◌, ℕ, length, sym, ap, ◌∙◌, subst, arith, IsTrue}
+use Rattle.std.proofs.Common.{◌<◌, ℕ, length, sym, ap, ◌∙◌, subst, arith, IsTrue}
 use Rattle.flat_ir.specs.Fits.{fits}
 use Rattle.flat_ir.specs.Program.{program_of, step_at, Step}
 use Rattle.split_model.specs.Counts.{count_below}

@@ -1,4 +1,4 @@
-use Rattle.std.proofs.Common.{length, drop, subst}
+use Rattle.std.proofs.Common.{subst}
 use Rattle.flat_ir.specs.Program.{program_of}
 use Rattle.split_model.specs.Layouts.{up_layout}
 use Rattle.transfer_header.specs.Told.{number_in, packet_in, reads_in}

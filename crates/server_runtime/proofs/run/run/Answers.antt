@@ -1,10 +1,7 @@
-use Rattle.std.proofs.Common.{◌≡◌, ◌<◌, ◌^◌, ℕ, List, length, refl, sym, ap, ◌∙◌, subst, arith}
-use Rattle.std.specs.List.{AllByRecursion as Each}
+use Rattle.std.proofs.Common.{◌≡◌, length, refl, sym, ap, ◌∙◌, subst, arith}
 use Rattle.state_store.specs.Kept.{IsKept}
 use Rattle.flat_ir.specs.Program.{program_of}
 use Rattle.flat_ir.specs.Registers.{packet_of}
-use Rattle.flat_ir.specs.Run.{with_writes}
-use Rattle.flat_ir.specs.Writable.{IsWritable}
 use Rattle.split_model.specs.Layouts.{down_layout}
 use Rattle.split_model.specs.Passes.{server_fields, server_run}
 use Rattle.transfer_header.specs.Frames.{down_frame, frame_of, HasRoom}

@@ -1,7 +1,7 @@
-use Rattle.std.proofs.Common.{◌≡◌, ◌+◌, ◌≤◌, ◌++◌, length, vec_capacity, sym, ap, ◌∙◌, subst, arith}
+use Rattle.std.proofs.Common.{◌≡◌, ◌+◌, length, sym, ◌∙◌, subst, arith}
 use Rattle.flat_ir.specs.Program.{program_of}
 use Rattle.flat_ir.specs.Registers.{packet_of}
-use Rattle.split_model.specs.Passes.{served, server_run}
+use Rattle.split_model.specs.Passes.{served}
 use Rattle.server_runtime.specs.Registers.{register_reads}
 use Rattle.server_runtime.specs.Turns.{as_list, IsRunning}
 use Rattle.server_runtime.proofs.Running.{more_fits, served_more}

@@ -1,4 +1,4 @@
-use Rattle.std.proofs.Common.{◌≡◌, ◌<◌, ◌≤◌, length, sym, ap, ◌∙◌, subst, arith, IsTrue}
+use Rattle.std.proofs.Common.{◌≤◌, length, sym, ap, ◌∙◌, subst, arith, IsTrue}
 use Rattle.flat_ir.specs.Blocks.{is_live}
 use Rattle.flat_ir.specs.Fits.{fits}
 use Rattle.flat_ir.specs.Program.{program_of, result_count, work_of, Step}

@@ -1,7 +1,7 @@
-use Rattle.std.proofs.Common.{◌≡◌, ap, ◌∙◌}
+use Rattle.std.proofs.Common.{ap, ◌∙◌}
 use Rattle.flat_ir.specs.Blocks.{is_live}
 use Rattle.flat_ir.specs.Program.{program_of, work_of}
-use Rattle.flat_ir.specs.Registers.{packet_of, results_of}
+use Rattle.flat_ir.specs.Registers.{packet_of}
 use Rattle.flat_ir.specs.Run.{change_of, made, results, with_changes}
 use Rattle.server_runtime.specs.Registers.{register_reads}
 use Rattle.server_runtime.specs.Serving.{updates_of}

@@ -1,4 +1,4 @@
-use Rattle.std.proofs.Common.{◌≤◌, ◌+◌, length, arith, ◌∙◌}
+use Rattle.std.proofs.Common.{◌+◌, arith, ◌∙◌}
 use Rattle.std.proofs.lemmas.Grind.{get_or_default_zero}
 use Rattle.flat_ir.specs.Program.{program_of}
 use Rattle.server_runtime.proofs.Numbers.{number_of_named, number_of_none}
