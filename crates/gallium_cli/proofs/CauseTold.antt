@@ -1,4 +1,4 @@
--- Which line a bad content leads to.
+-- Which line a shut gate leads to.
 use Rattle.std.proofs.Common.{◌≡◌, ◌<◌, ◌⊎◌, ℕ, List, [], ◌∷◌, length, Option, Some, None, IfSome, IsSomeAnd, sym}
 use Rattle.std.proofs.Common.{refl, ap, subst, ◌∙◌, inl, inr, arith}
 use Rattle.std.specs.Io.KnownBytes.{append_known}
@@ -7,37 +7,45 @@ use Rattle.gal_io.specs.Sink.{SinkState}
 use Rattle.gal_io.specs.declared.sink.SinkEnd.TheVariants as ends
 use Rattle.element_text.specs.declared.error.TextError.{TextError}
 use Rattle.resource_limits.specs.declared.limits.LimitsError.{LimitsError}
+use Rattle.run_text.specs.declared.refusal.LinesError.{LinesError}
 use Rattle.gallium_cli.specs.declared.status.Status.{Status}
+use Rattle.gallium_cli.specs.declared.status.Status.TheVariants as statuses
 use Rattle.gallium_cli.specs.declared.refusal.Refusal.{Refusal}
-use Rattle.gallium_cli.specs.declared.refusal.Refusal.TheVariants.{Source, LongProgram, Limits, Trace, Schedule}
+use Rattle.gallium_cli.specs.declared.refusal.Refusal.TheVariants.{Source, LongProgram, Limits, Exceeded, Trace, Schedule}
 use Rattle.gallium_cli.specs.declared.refusal.Refusal.TheVariants.{TooLong, ReadFault, NoMemory}
 use Rattle.gallium_cli.specs.Call.{Call}
 use Rattle.gallium_cli.specs.Lines.{status_of, line_of}
 use Rattle.gallium_cli.specs.Words.{Request}
-use Rattle.gallium_cli.specs.Roles.{Role, source, program, limits, trace, schedule, size_of, files_of, IsGood, IsBad}
-use Rattle.gallium_cli.specs.Loads.{IsBadSource, IsLongProgram, AreBadLimits, IsFileRefused}
-use Rattle.gallium_cli.specs.Causes.{IsFirstRefused, IsTold, EndsFor}
-use Rattle.gallium_cli.specs.Promises.{IsFault, refused_status, IsRefusedAs, IsFirstBad, IsCause, IsFirstCause, IsCauseTold}
-use Rattle.gallium_cli.proofs.Exact.{no_limits, good_refused, done_not_bad, over_not_bad, unwritten, write_is_fault}
+use Rattle.gallium_cli.specs.Roles.{Role, source, program, limits, trace, schedule, size_of, IsGood, IsBad}
+use Rattle.gallium_cli.specs.Roles.{Gate, File, Choice, gates_of}
+use Rattle.gallium_cli.specs.Loads.{IsBadSource, IsLongProgram, AreBadLimits, IsBadTrace, IsBadSchedule, IsFileRefused}
+use Rattle.gallium_cli.specs.Causes.{IsRefusedAt, IsFirstRefused, IsTold, EndsFor}
+use Rattle.gallium_cli.specs.Promises.{IsFault, refused_status, IsRefusedAs, IsShut, IsCause, IsShutFor, IsFirstShut}
+use Rattle.gallium_cli.specs.Promises.{IsFirstCause, IsCauseTold}
+use Rattle.gallium_cli.proofs.Choices.{IsGreatestOne, IsKeptUnexceeded, same_excess}
+use Rattle.gallium_cli.proofs.Exact.{no_limits, no_trace, no_schedule, open_refused, shut_unpassed, passed_unshut}
+use Rattle.gallium_cli.proofs.Exact.{answer_passed, unwritten_fault, switch_is_fault}
 
 -- a status and what err received, for this cause
-abbrev pub IsLine : Refusal → Status → SinkState → SinkState → Type 0
+abbrev IsLine : Refusal → Status → SinkState → SinkState → Type 0
 IsLine cause result e e' =
     ((result ≡ status_of cause) × (e'.taken ≡ append_known e.taken (line_of cause))) ⊎ IsFault result
 
 -- the line of a refusal that is a fault, and of one that is this cause
-pub line_of_fault : (refusal cause : Refusal) (result : Status) (e e' : SinkState) → IsTold refusal result e e'
+line_of_fault : (refusal cause : Refusal) (result : Status) (e e' : SinkState) → IsTold refusal result e e'
     → IsFault (status_of refusal) → IsLine cause result e e'
 line_of_fault refusal cause result e e' (ends.Done, is, written) h = inr (subst IsFault (sym is) h)
 line_of_fault refusal cause result e e' (ends.Failed, is, written) h = inr (subst IsFault (sym is) tt)
 line_of_fault refusal cause result e e' (ends.NoMemory, is, written) h = inr (subst IsFault (sym is) tt)
 
-pub line_of_cause : (refusal cause : Refusal) (result : Status) (e e' : SinkState) → cause ≡ refusal
+line_of_cause : (refusal cause : Refusal) (result : Status) (e e' : SinkState) → cause ≡ refusal
     → IsTold refusal result e e' → IsLine cause result e e'
 line_of_cause refusal cause result e e' same (ends.Done, is, written) =
     inl (is ∙ ap status_of (sym same), written.taken ∙ ap (λ x. append_known e.taken (line_of x)) (sym same))
 line_of_cause refusal cause result e e' same (ends.Failed, is, written) = inr (subst IsFault (sym is) tt)
 line_of_cause refusal cause result e e' same (ends.NoMemory, is, written) = inr (subst IsFault (sym is) tt)
+
+-- ## One file
 
 -- a content that has a cause is bad
 cause_is_bad : (cause : Refusal) (role : Role) (text : List ℕ) → IsCause cause role text → IsBad role text
@@ -45,19 +53,14 @@ cause_is_bad (Source fault) source text why = why.1
 cause_is_bad (Source fault) program text why = (why.1.0, λ spelled. why.1.1 (spelled.0, spelled.1))
 cause_is_bad LongProgram program text why = (why.0.0, why.1)
 cause_is_bad (Limits fault) limits text why = no_limits fault text why
-cause_is_bad Trace trace text why = why
-cause_is_bad Schedule schedule text why = why
+cause_is_bad (Trace fault) trace text why = no_trace fault text why
+cause_is_bad (Schedule fault) schedule text why = no_schedule fault text why
 cause_is_bad _ role text why = absurd why
 
 not_long : (cause : Refusal) (role : Role) (told : Option (List ℕ)) → IsSomeAnd told (IsCause cause role)
     → IfSome told (λ text. size_of role < length text) → ⊥
 not_long cause role None why long = why
 not_long cause role (Some text) why long = let short = (cause_is_bad cause role text why).0 in omega arith
-
-not_good : (cause : Refusal) (role : Role) (told : Option (List ℕ)) → IsSomeAnd told (IsCause cause role)
-    → IfSome told (IsGood role) → ⊥
-not_good cause role None why good = why
-not_good cause role (Some text) why good = (cause_is_bad cause role text why).1 good.1
 
 -- the one cause of a told content
 same_in_source : (cause : Refusal) (found : TextError) (text : List ℕ) → IsCause cause source text
@@ -82,13 +85,17 @@ same_in_limits (Limits fault) found text why bad =
     let one = why.1 in let other = bad.1 in let same : fault ≡ found = cc in ap Limits same
 same_in_limits _ found text why bad = absurd why
 
-same_in_trace : (cause : Refusal) (text : List ℕ) → IsCause cause trace text → cause ≡ Trace
-same_in_trace Trace text why = refl
-same_in_trace _ text why = absurd why
+same_in_trace : (cause : Refusal) (found : LinesError) (text : List ℕ) → IsCause cause trace text
+    → IsBadTrace found text → cause ≡ Trace found
+same_in_trace (Trace fault) found text why bad =
+    let one = why.1 in let other = bad.1 in let same : fault ≡ found = cc in ap Trace same
+same_in_trace _ found text why bad = absurd why
 
-same_in_schedule : (cause : Refusal) (text : List ℕ) → IsCause cause schedule text → cause ≡ Schedule
-same_in_schedule Schedule text why = refl
-same_in_schedule _ text why = absurd why
+same_in_schedule : (cause : Refusal) (found : LinesError) (text : List ℕ) → IsCause cause schedule text
+    → IsBadSchedule found text → cause ≡ Schedule found
+same_in_schedule (Schedule fault) found text why bad =
+    let one = why.1 in let other = bad.1 in let same : fault ≡ found = cc in ap Schedule same
+same_in_schedule _ found text why bad = absurd why
 
 same_told : (P : List ℕ → Type 0) (cause found : Refusal) (role : Role)
     → ((text : List ℕ) → IsCause cause role text → P text → cause ≡ found) → (told : Option (List ℕ))
@@ -112,38 +119,18 @@ cause_file LongProgram program name cause result f f' e e' why refused told =
 cause_file (Limits found) limits name cause result f f' e e' why refused told =
     let same = same_told (AreBadLimits found) cause (Limits found) limits (same_in_limits cause found) (f.told name) why refused.1 in
     line_of_cause (Limits found) cause result e e' same told
-cause_file Trace trace name cause result f f' e e' why refused told =
-    let same = same_told (IsBad trace) cause Trace trace (λ text here bad. same_in_trace cause text here) (f.told name) why refused in
-    line_of_cause Trace cause result e e' same told
-cause_file Schedule schedule name cause result f f' e e' why refused told =
-    let same = same_told (IsBad schedule) cause Schedule schedule (λ text here bad. same_in_schedule cause text here) (f.told name) why refused in
-    line_of_cause Schedule cause result e e' same told
+cause_file (Trace found) trace name cause result f f' e e' why refused told =
+    let same = same_told (IsBadTrace found) cause (Trace found) trace (same_in_trace cause found) (f.told name) why refused.1 in
+    line_of_cause (Trace found) cause result e e' same told
+cause_file (Schedule found) schedule name cause result f f' e e' why refused told =
+    let same = same_told (IsBadSchedule found) cause (Schedule found) schedule (same_in_schedule cause found) (f.told name) why refused.1 in
+    line_of_cause (Schedule found) cause result e e' same told
 cause_file (TooLong blamed) role name cause result f f' e e' why refused told =
     absurd (not_long cause role (f.told name) why refused.1)
 cause_file (ReadFault blamed) role name cause result f f' e e' why refused told =
     line_of_fault (ReadFault blamed) cause result e e' told tt
 cause_file NoMemory role name cause result f f' e e' why refused told = line_of_fault NoMemory cause result e e' told tt
 cause_file _ role name cause result f f' e e' why refused told = absurd refused
-
--- a good file isn't refused but for a fault
-good_file : (refusal : Refusal) (role : Role) (name : List ℕ) (cause : Refusal) (result : Status) (f f' : FilesState)
-    (e e' : SinkState) → IsSomeAnd (f.told name) (IsGood role) → IsFileRefused refusal role name f f'
-    → IsTold refusal result e e' → IsLine cause result e e'
-good_file refusal role name cause result f f' e e' good refused told =
-    line_of_fault refusal cause result e e' told (good_refused refusal role name f f' good refused)
-
-cause_files : (refusal : Refusal) (files : List (List ℕ × Role)) (cause : Refusal) (result : Status) (f f' : FilesState)
-    (e e' : SinkState) → IsFirstCause f.told files cause → IsFirstRefused refusal files f f'
-    → IsTold refusal result e e' → IsLine cause result e e'
-cause_files refusal [] cause result f f' e e' why refused told = absurd why
-cause_files refusal (file ∷ files) cause result f f' e e' (inl here) (inl refused) told =
-    cause_file refusal file.1 file.0 cause result f f' e e' here refused told
-cause_files refusal (file ∷ files) cause result f f' e e' (inl here) (inr later) told =
-    absurd (not_good cause file.1 (f.told file.0) here later.0)
-cause_files refusal (file ∷ files) cause result f f' e e' (inr why) (inl refused) told =
-    good_file refusal file.1 file.0 cause result f f' e e' why.0 refused told
-cause_files refusal (file ∷ files) cause result f f' e e' (inr why) (inr later) told =
-    cause_files refusal files cause result f f' e e' why.1 later.1 told
 
 -- the status of a content that has a cause
 cause_status : (cause : Refusal) (role : Role) (text : List ℕ) → IsCause cause role text
@@ -152,8 +139,8 @@ cause_status (Source fault) source text why = refl
 cause_status (Source fault) program text why = refl
 cause_status LongProgram program text why = refl
 cause_status (Limits fault) limits text why = refl
-cause_status Trace trace text why = refl
-cause_status Schedule schedule text why = refl
+cause_status (Trace fault) trace text why = refl
+cause_status (Schedule fault) schedule text why = refl
 cause_status _ role text why = absurd why
 
 refused_as : (cause : Refusal) (role : Role) (told : Option (List ℕ)) → IsSomeAnd told (IsCause cause role)
@@ -161,23 +148,61 @@ refused_as : (cause : Refusal) (role : Role) (told : Option (List ℕ)) → IsSo
 refused_as cause role None why = why
 refused_as cause role (Some text) why = inr (cause_status cause role text why, cause_is_bad cause role text why)
 
-first_bad : (told : List ℕ → Option (List ℕ)) (files : List (List ℕ × Role)) (cause : Refusal)
-    → IsFirstCause told files cause → IsFirstBad told files (status_of cause)
-first_bad told [] cause why = why
-first_bad told (file ∷ files) cause (inl here) = inl (refused_as cause file.1 (told file.0) here)
-first_bad told (file ∷ files) cause (inr why) = inr (why.0, first_bad told files cause why.1)
+-- ## One gate
 
-pub cause_told : (request : Option Request) (result : Status) (call : Call)
+-- a gate that is shut for a cause is shut with its status
+shut_with : (told : List ℕ → Option (List ℕ)) (gate : Gate) (cause : Refusal) → IsShutFor told gate cause
+    → IsShut told gate (status_of cause)
+shut_with told (File name role) cause why = refused_as cause role (told name) why
+shut_with told (Choice s l shrink) cause (m, allowed, over, asked, refused, is) =
+    (ap status_of is, (m, allowed, over, asked, refused))
+
+-- what is refused at such a gate is refused for this cause, or there is a fault
+shut_line : (refusal : Refusal) (gate : Gate) (cause : Refusal) (result : Status) (f f' : FilesState) (e e' : SinkState)
+    → IsGreatestOne → IsShutFor f.told gate cause → IsRefusedAt refusal gate f f' → IsTold refusal result e e'
+    → IsLine cause result e e'
+shut_line refusal (File name role) cause result f f' e e' one why refused told =
+    cause_file refusal role name cause result f f' e e' why refused told
+shut_line refusal (Choice s l shrink) cause result f f' e e' one (m, allowed, over, asked, exceeded, is) refused told =
+    elim same_excess refusal f.told s l shrink m allowed over one asked exceeded refused [
+      inl same ↦ line_of_cause refusal cause result e e' (is ∙ same) told
+      | inr fault ↦ line_of_fault refusal cause result e e' told fault
+    ]
+
+-- ## All gates
+
+cause_gates : (refusal : Refusal) (gates : List Gate) (cause : Refusal) (result : Status) (f f' : FilesState)
+    (e e' : SinkState) → IsGreatestOne → IsKeptUnexceeded → IsFirstCause f.told gates cause
+    → IsFirstRefused refusal gates f f' → IsTold refusal result e e' → IsLine cause result e e'
+cause_gates refusal [] cause result f f' e e' one kept why refused told = absurd why
+cause_gates refusal (gate ∷ gates) cause result f f' e e' one kept (inl here) (inl refused) told =
+    shut_line refusal gate cause result f f' e e' one here refused told
+cause_gates refusal (gate ∷ gates) cause result f f' e e' one kept (inl here) (inr later) told =
+    absurd (shut_unpassed gate (status_of cause) f one kept (shut_with f.told gate cause here) later.0)
+cause_gates refusal (gate ∷ gates) cause result f f' e e' one kept (inr why) (inl refused) told =
+    line_of_fault refusal cause result e e' told (open_refused refusal gate f f' one kept why.0 refused)
+cause_gates refusal (gate ∷ gates) cause result f f' e e' one kept (inr why) (inr later) told =
+    cause_gates refusal gates cause result f f' e e' one kept why.1 later.1 told
+
+first_shut : (told : List ℕ → Option (List ℕ)) (gates : List Gate) (cause : Refusal)
+    → IsFirstCause told gates cause → IsFirstShut told gates (status_of cause)
+first_shut told [] cause why = why
+first_shut told (gate ∷ gates) cause (inl here) = inl (shut_with told gate cause here)
+first_shut told (gate ∷ gates) cause (inr why) = inr (why.0, first_shut told gates cause why.1)
+
+pub cause_told : (request : Option Request) (result : Status) (call : Call) → IsGreatestOne → IsKeptUnexceeded
     → EndsFor request result call → IsCauseTold request result call
-cause_told None result call end = tt
-cause_told (Some request) result call (inl (is, (text, answer, taken, read), silent)) = λ cause why.
-    let bad = first_bad call.files.told (files_of request) cause why in
-    absurd (done_not_bad text request call.files.told (status_of cause) answer bad)
-cause_told (Some request) result call (inr (refusal, (inl first, few), told)) = λ cause why.
-    cause_files refusal (files_of request) cause result call.files call.files_after call.err call.err_after why first.0 told
-cause_told (Some request) result call (inr (refusal, (inr (inl over), few), told)) = λ cause why.
-    let bad = first_bad call.files.told (files_of request) cause why in
-    absurd (over_not_bad refusal request call.files.told (status_of cause) over.0 bad)
-cause_told (Some request) result call (inr (refusal, (inr (inr unput), few), told)) = λ cause why.
+cause_told None result call one kept end = tt
+cause_told (Some request) result call one kept (inl (is, (text, answer, taken, read, aside), silent)) = λ cause why.
+    let work = call.work in
+    let shut = first_shut work.files.told (gates_of request) cause why in
+    let passed = answer_passed text request work.files work.port work.port_after answer in
+    absurd (passed_unshut (gates_of request) (status_of cause) work.files one kept passed shut)
+cause_told (Some request) result call one kept (inr (refusal, (inl first, few, aside), told)) = λ cause why.
+    cause_gates refusal (gates_of request) cause result call.work.files call.work.files_after call.err call.err_after
+    one kept why first.0 told
+cause_told (Some request) result call one kept (inr (refusal, (inr (inl faulty), few, aside), told)) = λ cause why.
     line_of_fault refusal cause result call.err call.err_after told
-    (write_is_fault (status_of refusal) (unwritten refusal request call.files call.out call.out_after unput))
+    (switch_is_fault refusal request call.work.port call.work.port_after faulty.0)
+cause_told (Some request) result call one kept (inr (refusal, (inr (inr unput), few, aside), told)) = λ cause why.
+    line_of_fault refusal cause result call.err call.err_after told (unwritten_fault refusal request call.work unput)

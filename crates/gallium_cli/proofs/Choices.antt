@@ -1,6 +1,6 @@
 -- What told files and limits say of the split.
 use Rattle.std.proofs.Common.{◌≡◌, ◌≤◌, ◌↔◌, ℕ, Bool, true, false, List, length, Option, Some, None, IfSome, IsSomeAnd}
-use Rattle.std.proofs.Common.{sym, ap, subst, ◌∙◌, inl, inr}
+use Rattle.std.proofs.Common.{◌⊎◌, refl, sym, ap, subst, ◌∙◌, inl, inr}
 use Rattle.element_lang.specs.Tree.{Tree}
 use Rattle.element_lang.specs.Accepted.{IsSource}
 use Rattle.flat_ir.specs.Program.{Program}
@@ -19,20 +19,16 @@ use Rattle.partition.specs.Choice.{IsChosen, IsRefused}
 use Rattle.gallium_cli.specs.declared.status.Status.{Status}
 use Rattle.gallium_cli.specs.declared.status.Status.TheVariants as statuses
 use Rattle.gallium_cli.specs.declared.refusal.Refusal.{Refusal}
-use Rattle.gallium_cli.specs.declared.refusal.Refusal.TheVariants.{Exceeded}
-use Rattle.gallium_cli.specs.Call.{Call}
+use Rattle.gallium_cli.specs.declared.refusal.Refusal.TheVariants.{Exceeded, NoMemory}
 use Rattle.gallium_cli.specs.Lines.{status_of}
-use Rattle.gallium_cli.specs.Words.{Request, Compile}
-use Rattle.gallium_cli.specs.Roles.{program, limits, size_of, plan_files, IsGood, AreLimits}
+use Rattle.gallium_cli.specs.Roles.{program, limits, size_of, AreLimits}
 use Rattle.gallium_cli.specs.Answers.{IsOnlySource, IsPlan}
-use Rattle.gallium_cli.specs.Causes.{IsOverLimit, EndsFor, excess_of}
-use Rattle.gallium_cli.specs.Promises.{AllGood, IsToldPlan, IsExactChoice}
-use Rattle.gallium_cli.proofs.Exact.{unwritten, write_is_fault, of_told, good_files}
-use Rattle.gallium_cli.proofs.CauseTold.{line_of_fault, line_of_cause}
+use Rattle.gallium_cli.specs.Causes.{IsOverLimit, excess_of}
+use Rattle.gallium_cli.specs.Promises.{IsToldPlan, IsFault, IsUnlessFault}
 
 -- ## One split and one refusal
 
--- there is at most one greatest split of a kind
+-- There is at most one greatest split of a kind.
 abbrev pub IsGreatestOne : Type 0
 IsGreatestOne =
     (f : Program) (k : ℕ) (all : Bool) (split other : List Part) → IsWellFormed f
@@ -106,27 +102,8 @@ one_limits : (told : Option (List ℕ)) (allowed other : Allowed)
 one_limits None allowed other one two = absurd one
 one_limits (Some text) allowed other one two = one_record text allowed other one.1 two.1
 
--- the files of a told plan are good
-good_some : (P Q : List ℕ → Type 0) → ((text : List ℕ) → P text → Q text) → (told : Option (List ℕ))
-    → IsSomeAnd told P → IsSomeAnd told Q
-good_some P Q follows None h = absurd h
-good_some P Q follows (Some text) h = follows text h
+-- ## The plan that is told, and the one that a call found
 
-good_plan : (told : List ℕ → Option (List ℕ)) (s l : List ℕ) (m : Tree) (allowed : Allowed)
-    → IsToldPlan told s l m allowed → AllGood told (plan_files s l)
-good_plan told s l m allowed plan = (
-  good_some (λ text. (length text ≤ size_of program) × IsSource text m) (IsGood program)
-      (λ text h. (h.0, (m, h.1, plan.short))) (told s) plan.source,
-  (
-    good_some (λ text. (length text ≤ size_of limits) × AreLimits text allowed) (IsGood limits)
-        (λ text h. (h.0, (allowed, h.1))) (told l) plan.limits,
-    tt,
-  ),
-)
-
--- ## How a call for a split ends
-
--- a plan that is told is the one that a call found
 record IsSamePlan (m m' : Tree) (allowed allowed' : Allowed) : Type 0 where
   middlebox : m ≡ m'
   limits : allowed ≡ allowed'
@@ -134,7 +111,7 @@ record IsSamePlan (m m' : Tree) (allowed allowed' : Allowed) : Type 0 where
 same_plan : (told : List ℕ → Option (List ℕ)) (s l : List ℕ) (m m' : Tree) (allowed allowed' : Allowed)
     → IsToldPlan told s l m allowed → IsPlan told s l m' allowed' → IsSamePlan m m' allowed allowed'
 same_plan told s l m m' allowed allowed' asked found = record {
-  middlebox = one_source (told s) m m' asked.source found.source;
+  middlebox = one_source (told s) m m' asked.source found.program.source;
   limits = one_limits (told l) allowed allowed' asked.limits found.limits;
 }
 
@@ -152,59 +129,56 @@ refused_there m m' allowed allowed' shrink over same refused =
     subst (λ (n : Tree). IsRefused (flat_of n) allowed' shrink over) same.middlebox
     (subst (λ (a : Allowed). IsRefused (flat_of m) a shrink over) same.limits refused)
 
--- where a limit was exceeded no split is chosen
-over_not_chosen : (refusal : Refusal) (told : List ℕ → Option (List ℕ)) (s l : List ℕ) (shrink : Bool) (m : Tree)
+-- ## Choosing and refusing exclude each other
+
+-- where a split of the told plan is there to choose, none is refused
+chosen_unrefused : (told : List ℕ → Option (List ℕ)) (s l : List ℕ) (shrink : Bool) (m m' : Tree)
+    (allowed allowed' : Allowed) (split : List Part) (over : Over) → IsGreatestOne → IsKeptUnexceeded
+    → IsToldPlan told s l m allowed → IsChosen (flat_of m) allowed shrink split
+    → IsPlan told s l m' allowed' → IsRefused (flat_of m') allowed' shrink over → ⊥
+chosen_unrefused told s l shrink m m' allowed allowed' split over one kept asked chosen found refused =
+    let same = same_plan told s l m m' allowed allowed' asked found in
+    not_both (flat_of m') allowed' shrink split over one kept found.program.bounded.formed
+    (chosen_there m m' allowed allowed' shrink split same chosen) refused
+
+-- and where it is refused, none was chosen
+pub refused_unchosen : (told : List ℕ → Option (List ℕ)) (s l : List ℕ) (shrink : Bool) (m m' : Tree)
+    (allowed allowed' : Allowed) (split : List Part) (over : Over) → IsGreatestOne → IsKeptUnexceeded
+    → IsToldPlan told s l m allowed → IsRefused (flat_of m) allowed shrink over
+    → IsPlan told s l m' allowed' → IsChosen (flat_of m') allowed' shrink split → ⊥
+refused_unchosen told s l shrink m m' allowed allowed' split over one kept asked refused found chosen =
+    let same = same_plan told s l m m' allowed allowed' asked found in
+    not_both (flat_of m') allowed' shrink split over one kept found.program.bounded.formed chosen
+    (refused_there m m' allowed allowed' shrink over same refused)
+
+-- a choice that is open is refused for want of memory alone
+pub open_over : (refusal : Refusal) (told : List ℕ → Option (List ℕ)) (s l : List ℕ) (shrink : Bool) (m : Tree)
     (allowed : Allowed) (split : List Part) → IsGreatestOne → IsKeptUnexceeded → IsToldPlan told s l m allowed
-    → IsChosen (flat_of m) allowed shrink split → IsOverLimit refusal (Compile s l shrink) told → ⊥
-over_not_chosen (Exceeded excess) told s l false m allowed split one kept asked chosen (m', allowed', found, (over, refused, is)) =
-    let same = same_plan told s l m m' allowed allowed' asked found in
-    not_both (flat_of m') allowed' false split over one kept found.bounded.formed
-    (chosen_there m m' allowed allowed' false split same chosen) refused
-over_not_chosen _ told s l shrink m allowed split one kept asked chosen over = absurd over
+    → IsChosen (flat_of m) allowed shrink split → IsOverLimit refusal s l shrink told → IsFault (status_of refusal)
+open_over (Exceeded excess) told s l shrink m allowed split one kept asked chosen (m', allowed', found, (over, refused, is)) =
+    chosen_unrefused told s l shrink m m' allowed allowed' split over one kept asked chosen found refused
+open_over NoMemory told s l shrink m allowed split one kept asked chosen over = tt
+open_over _ told s l shrink m allowed split one kept asked chosen (m', allowed', found, never) = absurd never
 
--- where a limit was exceeded, it is the one that is told
-same_excess : (refusal : Refusal) (told : List ℕ → Option (List ℕ)) (s l : List ℕ) (shrink : Bool) (m : Tree)
+-- a choice is refused with one status, or for want of memory
+pub over_status : (refusal : Refusal) (told : List ℕ → Option (List ℕ)) (s l : List ℕ) (shrink : Bool)
+    → IsOverLimit refusal s l shrink told → IsUnlessFault statuses.Exceeded (status_of refusal)
+over_status (Exceeded excess) told s l shrink over = inl refl
+over_status NoMemory told s l shrink over = inr tt
+over_status _ told s l shrink (m', allowed', found, never) = absurd never
+
+-- where the told plan exceeds a limit first, that one is told, or there was no memory
+pub same_excess : (refusal : Refusal) (told : List ℕ → Option (List ℕ)) (s l : List ℕ) (shrink : Bool) (m : Tree)
     (allowed : Allowed) (over : Over) → IsGreatestOne → IsToldPlan told s l m allowed
-    → IsRefused (flat_of m) allowed shrink over → IsOverLimit refusal (Compile s l shrink) told
-    → Exceeded (excess_of m.objects over) ≡ refusal
-same_excess (Exceeded excess) told s l false m allowed over one asked refused (m', allowed', found, (other, also, is)) =
+    → IsRefused (flat_of m) allowed shrink over → IsOverLimit refusal s l shrink told
+    → (Exceeded (excess_of m.objects over) ≡ refusal) ⊎ IsFault (status_of refusal)
+same_excess (Exceeded excess) told s l shrink m allowed over one asked refused (m', allowed', found, (other, also, is)) =
     let same = same_plan told s l m m' allowed allowed' asked found in
-    let first = one_over (flat_of m') allowed' false over other one found.bounded.formed
-    (refused_there m m' allowed allowed' false over same refused) also in
-    ap (λ (n : Tree). Exceeded (excess_of n.objects over)) same.middlebox
-    ∙ ap (λ o. Exceeded (excess_of m'.objects o)) first ∙ sym (ap Exceeded is)
-same_excess _ told s l shrink m allowed over one asked refused found = absurd found
-
-pub choice_ends : (request : Option Request) (result : Status) (call : Call) → IsGreatestOne → IsKeptUnexceeded
-    → EndsFor request result call → IsExactChoice request result call
-choice_ends (Some (Compile s l shrink)) result call one kept (inl (is, (text, (m', allowed', found, made), taken, read), silent)) =
-    λ m allowed asked. (
-      λ split chosen. inl is,
-      λ over refused.
-          let same = same_plan call.files.told s l m m' allowed allowed' asked found in
-          absurd (not_both (flat_of m') allowed' shrink made.split over one kept found.bounded.formed made.chosen
-          (refused_there m m' allowed allowed' shrink over same refused)),
+    let first = one_over (flat_of m') allowed' shrink over other one found.program.bounded.formed
+    (refused_there m m' allowed allowed' shrink over same refused) also in
+    inl (
+      ap (λ (n : Tree). Exceeded (excess_of n.objects over)) same.middlebox
+      ∙ ap (λ (o : Over). Exceeded (excess_of m'.objects o)) first ∙ sym (ap Exceeded is)
     )
-choice_ends (Some (Compile s l shrink)) result call one kept (inr (refusal, (inl first, few), told)) =
-    λ m allowed asked.
-    let fault = good_files refusal (plan_files s l) call.files call.files_after
-    (good_plan call.files.told s l m allowed asked) first.0 in (
-      λ split chosen. of_told statuses.Done result refusal call.err call.err_after told (inr fault),
-      λ over refused. line_of_fault refusal (Exceeded (excess_of m.objects over)) result call.err call.err_after told fault,
-    )
-choice_ends (Some (Compile s l shrink)) result call one kept (inr (refusal, (inr (inl over'), few), told)) =
-    λ m allowed asked. (
-      λ split chosen.
-          absurd (over_not_chosen refusal call.files.told s l shrink m allowed split one kept asked chosen over'.0),
-      λ over refused.
-          line_of_cause refusal (Exceeded (excess_of m.objects over)) result call.err call.err_after
-          (same_excess refusal call.files.told s l shrink m allowed over one asked refused over'.0) told,
-    )
-choice_ends (Some (Compile s l shrink)) result call one kept (inr (refusal, (inr (inr unput), few), told)) =
-    λ m allowed asked.
-    let fault = write_is_fault (status_of refusal)
-    (unwritten refusal (Compile s l shrink) call.files call.out call.out_after unput) in (
-      λ split chosen. of_told statuses.Done result refusal call.err call.err_after told (inr fault),
-      λ over refused. line_of_fault refusal (Exceeded (excess_of m.objects over)) result call.err call.err_after told fault,
-    )
-choice_ends _ result call one kept end = tt
+same_excess NoMemory told s l shrink m allowed over one asked refused found = inr tt
+same_excess _ told s l shrink m allowed over one asked refused (m', allowed', found, never) = absurd never

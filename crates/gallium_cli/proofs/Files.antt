@@ -1,23 +1,24 @@
--- What the reading of one file shows, and of several one after another.
-use Rattle.std.proofs.Common.{◌≡◌, ◌≤◌, ◌<◌, ◌^◌, ℕ, List, length, Option, Some, None, IfSome, subst, inl, inr}
-use Rattle.std.proofs.Common.{arith, Ok}
+-- What the reading of one file shows, and what is passed and refused one after the other.
+use Rattle.std.proofs.Common.{◌≡◌, ◌≤◌, ◌<◌, ◌+◌, ◌-◌, ◌^◌, ℕ, min, Bool, List, [], ◌∷◌, ◌++◌, length, Option, Some, None, IfSome}
+use Rattle.std.proofs.Common.{subst, inl, inr, arith, Ok}
 use Rattle.gal_io.specs.Files.{FilesState}
 use Rattle.packet_fields.specs.declared.packet.Packet.{Packet}
 use Rattle.element_lang.specs.Tree.{Tree}
+use Rattle.element_lang.specs.Accepted.{IsSource}
 use Rattle.flatten.specs.Flatten.{flat_of}
 use Rattle.split_model.specs.Bounds.{IsBounded}
 use Rattle.resource_limits.specs.declared.limits.Limits.{Limits as Allowed}
-use Rattle.element_lang.specs.Accepted.{IsSource}
-use Rattle.run_text.specs.Trace.{trace_of}
+use Rattle.run_text.specs.declared.plan.Plan.{Plan}
+use Rattle.run_text.specs.Trace.{trace_of, schedule_of}
 use Rattle.gallium_cli.specs.declared.refusal.Refusal.{Refusal}
 use Rattle.gallium_cli.specs.declared.refusal.Refusal.TheVariants.{Source, LongProgram, Limits, Trace, Schedule}
 use Rattle.gallium_cli.specs.declared.refusal.Refusal.TheVariants.{TooLong, ReadFault, NoMemory}
-use Rattle.gallium_cli.specs.Words.{Run, Replay}
-use Rattle.gallium_cli.specs.Roles.{Role, source, program, limits, trace, schedule, size_of, files_of, plan_files}
-use Rattle.gallium_cli.specs.Roles.{IsShort, IsGood, AreLimits}
-use Rattle.gallium_cli.specs.Answers.{IsInput, IsOnlySource, IsPlan}
+use Rattle.gallium_cli.specs.Words.{Run}
+use Rattle.gallium_cli.specs.Roles.{Role, source, program, limits, trace, schedule, size_of}
+use Rattle.gallium_cli.specs.Roles.{IsShort, IsGood, AreLimits, Gate, File, Choice, gates_of, plan_gates, event_gates}
+use Rattle.gallium_cli.specs.Answers.{IsInput, IsOnlySource, IsProgram, IsPlan, IsTraffic}
 use Rattle.gallium_cli.specs.Loads.{GoesOn, IsUnread, IsFileRefused, IsLoaded}
-use Rattle.gallium_cli.specs.Causes.{IsFirstRefused}
+use Rattle.gallium_cli.specs.Causes.{IsRefusedAt, IsPassed, IsFirstRefused, IsOverLimit, IsUnchosen}
 
 -- ## One file
 
@@ -30,7 +31,7 @@ small_size trace = omega arith
 small_size schedule = omega arith
 
 -- what the bytes that were read spell, the told content spells
-pub told_text : (P : List ℕ → Type 0) (bytes : List ℕ) (told : Option (List ℕ))
+told_text : (P : List ℕ → Type 0) (bytes : List ℕ) (told : Option (List ℕ))
     → IfSome told (λ content. bytes ≡ content) → P bytes → IfSome told P
 told_text P bytes None same holds = tt
 told_text P bytes (Some content) same holds = subst P same holds
@@ -46,50 +47,74 @@ unread_refused LongProgram program bytes name f f' loaded unread =
     told_text _ bytes (f.told name) loaded.1 ((loaded.0, unread.0), unread.1)
 unread_refused (Limits fault) limits bytes name f f' loaded unread =
     (unread.0, told_text _ bytes (f.told name) loaded.1 (loaded.0, unread.1))
-unread_refused Trace trace bytes name f f' loaded unread = told_text _ bytes (f.told name) loaded.1 (loaded.0, unread)
-unread_refused Schedule schedule bytes name f f' loaded unread =
-    told_text _ bytes (f.told name) loaded.1 (loaded.0, unread)
+unread_refused (Trace fault) trace bytes name f f' loaded unread =
+    (unread.0, told_text _ bytes (f.told name) loaded.1 (loaded.0, unread.1))
+unread_refused (Schedule fault) schedule bytes name f f' loaded unread =
+    (unread.0, told_text _ bytes (f.told name) loaded.1 (loaded.0, unread.1))
 unread_refused NoMemory role bytes name f f' loaded unread = tt
 unread_refused _ role bytes name f f' loaded unread = absurd unread
 
--- ## Several files
+-- ## What is passed
 
--- what spells a middlebox is a good source, and what spells packets a good trace
-pub good_source : (told : Option (List ℕ)) (m : Tree)
-    → IfSome told (λ text. (length text ≤ size_of source) × IsSource text m) → IfSome told (IsGood source)
-good_source None m spelled = tt
-good_source (Some text) m spelled = (spelled.0, (m, spelled.1))
+-- each of these gates is passed
+abbrev pub AllPassed : List Gate → FilesState → Type 0
+AllPassed [] f = Unit {0}
+AllPassed (gate ∷ gates) f = IsPassed gate f × AllPassed gates f
 
-pub good_trace : (told : Option (List ℕ)) (packets : List Packet)
-    → IfSome told (λ text. (length text ≤ size_of trace) × (trace_of text ≡ Ok packets)) → IfSome told (IsGood trace)
-good_trace None packets spelled = tt
-good_trace (Some text) packets spelled = (spelled.0, (packets, spelled.1))
+if_spelled : (P Q : List ℕ → Type 0) (told : Option (List ℕ)) → ((text : List ℕ) → P text → Q text)
+    → IfSome told P → IfSome told Q
+if_spelled P Q None follows h = tt
+if_spelled P Q (Some text) follows h = follows text h
 
-pub good_program : (told : Option (List ℕ)) (m : Tree)
-    → IfSome told (λ text. (length text ≤ size_of program) × IsOnlySource text m) → IsShort m
-    → IfSome told (IsGood program)
-good_program None m spelled short = tt
-good_program (Some text) m spelled short = (spelled.0, (m, spelled.1.source, short))
+pub passed_source : (s : List ℕ) (f : FilesState) (m : Tree)
+    → IfSome (f.told s) (λ text. (length text ≤ size_of source) × IsSource text m) → IsPassed (File s source) f
+passed_source s f m spelled =
+    if_spelled (λ text. (length text ≤ size_of source) × IsSource text m) (IsGood source) (f.told s)
+    (λ text h. (h.0, (m, h.1))) spelled
 
-pub good_limits : (told : Option (List ℕ)) (allowed : Allowed)
-    → IfSome told (λ text. (length text ≤ size_of limits) × AreLimits text allowed) → IfSome told (IsGood limits)
-good_limits None allowed spelled = tt
-good_limits (Some text) allowed spelled = (spelled.0, (allowed, spelled.1))
+pub passed_program : (s : List ℕ) (f : FilesState) (m : Tree)
+    → IfSome (f.told s) (λ text. (length text ≤ size_of program) × IsOnlySource text m) → IsShort m
+    → IsPassed (File s program) f
+passed_program s f m spelled short =
+    if_spelled (λ text. (length text ≤ size_of program) × IsOnlySource text m) (IsGood program) (f.told s)
+    (λ text h. (h.0, (m, h.1.source, short))) spelled
+
+pub passed_limits : (l : List ℕ) (f : FilesState) (allowed : Allowed)
+    → IfSome (f.told l) (λ text. (length text ≤ size_of limits) × AreLimits text allowed) → IsPassed (File l limits) f
+passed_limits l f allowed spelled =
+    if_spelled (λ text. (length text ≤ size_of limits) × AreLimits text allowed) (IsGood limits) (f.told l)
+    (λ text h. (h.0, (allowed, h.1))) spelled
+
+pub passed_trace : (t : List ℕ) (f : FilesState) (packets : List Packet)
+    → IfSome (f.told t) (λ text. (length text ≤ size_of trace) × (trace_of text ≡ Ok packets))
+    → IsPassed (File t trace) f
+passed_trace t f packets spelled =
+    if_spelled (λ text. (length text ≤ size_of trace) × (trace_of text ≡ Ok packets)) (IsGood trace) (f.told t)
+    (λ text h. (h.0, (packets, h.1))) spelled
+
+pub passed_schedule : (c : List ℕ) (f : FilesState) (plan : Plan)
+    → IfSome (f.told c) (λ text. (length text ≤ size_of schedule) × (schedule_of text ≡ Ok plan))
+    → IsPassed (File c schedule) f
+passed_schedule c f plan spelled =
+    if_spelled (λ text. (length text ≤ size_of schedule) × (schedule_of text ≡ Ok plan)) (IsGood schedule) (f.told c)
+    (λ text h. (h.0, (plan, h.1))) spelled
+
+-- ## After other reads
 
 -- what is told of a content is as before
-pub told_before : (P : List ℕ → Type 0) (f g : FilesState) (name : List ℕ)
+told_before : (P : List ℕ → Type 0) (f g : FilesState) (name : List ℕ)
     → GoesOn f g → IfSome (g.told name) P → IfSome (f.told name) P
 told_before P f g name goes h = subst (λ told. IfSome told P) (goes.told name) h
 
 -- a file that is refused after other reads is refused as if they hadn't been
-pub refused_later : (refusal : Refusal) (role : Role) (name : List ℕ) (f g h : FilesState)
+refused_later : (refusal : Refusal) (role : Role) (name : List ℕ) (f g h : FilesState)
     → GoesOn f g → IsFileRefused refusal role name g h → IsFileRefused refusal role name f h
 refused_later (Source fault) source name f g h goes refused = (refused.0, told_before _ f g name goes refused.1)
 refused_later (Source fault) program name f g h goes refused = (refused.0, told_before _ f g name goes refused.1)
 refused_later LongProgram program name f g h goes refused = told_before _ f g name goes refused
 refused_later (Limits fault) limits name f g h goes refused = (refused.0, told_before _ f g name goes refused.1)
-refused_later Trace trace name f g h goes refused = told_before _ f g name goes refused
-refused_later Schedule schedule name f g h goes refused = told_before _ f g name goes refused
+refused_later (Trace fault) trace name f g h goes refused = (refused.0, told_before _ f g name goes refused.1)
+refused_later (Schedule fault) schedule name f g h goes refused = (refused.0, told_before _ f g name goes refused.1)
 refused_later (TooLong blamed) role name f g h goes refused =
     let low = goes.overlong in
     (refused.0, told_before _ f g name goes refused.1, refused.2, omega (arith, refused.3))
@@ -99,48 +124,114 @@ refused_later (ReadFault blamed) role name f g h goes refused =
 refused_later NoMemory role name f g h goes refused = tt
 refused_later _ role name f g h goes refused = absurd refused
 
--- the second of two files is refused, behind a good one
+program_before : (s : List ℕ) (f g : FilesState) (m : Tree) → GoesOn f g → IsProgram g.told s m → IsProgram f.told s m
+program_before s f g m goes is = record { source = told_before _ f g s goes is.source; bounded = is.bounded }
+
+plan_before : (s l : List ℕ) (f g : FilesState) (m : Tree) (allowed : Allowed) → GoesOn f g
+    → IsPlan g.told s l m allowed → IsPlan f.told s l m allowed
+plan_before s l f g m allowed goes is =
+    record { program = program_before s f g m goes is.program; limits = told_before _ f g l goes is.limits }
+
+-- so is a gate that is passed, or that isn't
+gate_before : (gate : Gate) (f g : FilesState) → GoesOn f g → IsPassed gate g → IsPassed gate f
+gate_before (File name role) f g goes passed = told_before (IsGood role) f g name goes passed
+gate_before (Choice s l shrink) f g goes (m, allowed, split, found, chosen) =
+    (m, allowed, split, plan_before s l f g m allowed goes found, chosen)
+
+refused_before : (refusal : Refusal) (gate : Gate) (f g h : FilesState) → GoesOn f g → IsRefusedAt refusal gate g h
+    → IsRefusedAt refusal gate f h
+refused_before refusal (File name role) f g h goes refused = refused_later refusal role name f g h goes refused
+refused_before refusal (Choice s l shrink) f g h goes (m, allowed, found, why) =
+    (m, allowed, plan_before s l f g m allowed goes found, why)
+
+pub first_before : (refusal : Refusal) (gates : List Gate) (f g h : FilesState) → GoesOn f g
+    → IsFirstRefused refusal gates g h → IsFirstRefused refusal gates f h
+first_before refusal [] f g h goes refused = refused
+first_before refusal (gate ∷ gates) f g h goes (inl refused) = inl (refused_before refusal gate f g h goes refused)
+first_before refusal (gate ∷ gates) f g h goes (inr later) =
+    inr (gate_before gate f g goes later.0, first_before refusal gates f g h goes later.1)
+
+-- ## Several gates
+
+-- what is refused at some gates is refused at these and more
+pub refused_of_more : (refusal : Refusal) (gates more : List Gate) (f f' : FilesState)
+    → IsFirstRefused refusal gates f f' → IsFirstRefused refusal (gates ++ more) f f'
+refused_of_more refusal [] more f f' refused = absurd refused
+refused_of_more refusal (gate ∷ gates) more f f' (inl refused) = inl refused
+refused_of_more refusal (gate ∷ gates) more f f' (inr later) =
+    inr (later.0, refused_of_more refusal gates more f f' later.1)
+
+-- behind gates that are passed, what is refused is refused first
+pub refused_behind : (refusal : Refusal) (gates more : List Gate) (f f' : FilesState) → AllPassed gates f
+    → IsFirstRefused refusal more f f' → IsFirstRefused refusal (gates ++ more) f f'
+refused_behind refusal [] more f f' passed refused = refused
+refused_behind refusal (gate ∷ gates) more f f' passed refused =
+    inr (passed.0, refused_behind refusal gates more f f' passed.1 refused)
+
+-- a trace is refused behind a good source
 pub second_refused : (refusal : Refusal) (s t : List ℕ) (f g h : FilesState) (m : Tree)
     → IfSome (f.told s) (λ text. (length text ≤ size_of source) × IsSource text m) → GoesOn f g
-    → IsFileRefused refusal trace t g h → IsFirstRefused refusal (files_of (Run s t)) f h
+    → IsFileRefused refusal trace t g h → IsFirstRefused refusal (gates_of (Run s t)) f h
 second_refused refusal s t f g h m one goes refused =
-    inr (good_source (f.told s) m one, inl (refused_later refusal trace t f g h goes refused))
+    inr (passed_source s f m one, inl (refused_later refusal trace t f g h goes refused))
 
--- the third of three files is refused, behind two good ones
-pub third_refused : (refusal : Refusal) (s t c : List ℕ) (f g h : FilesState) (m : Tree) (packets : List Packet)
-    → IsInput f.told s t m packets → GoesOn f g → IsFileRefused refusal schedule c g h
-    → IsFirstRefused refusal (files_of (Replay s t c)) f h
-third_refused refusal s t c f g h m packets input goes refused =
-    inr (
-      good_source (f.told s) m input.source,
-      inr (good_trace (f.told t) packets input.trace, inl (refused_later refusal schedule c f g h goes refused)),
-    )
-
--- what is refused of two files is refused of these and a third
-pub refused_of_more : (refusal : Refusal) (s t c : List ℕ) (f h : FilesState)
-    → IsFirstRefused refusal (files_of (Run s t)) f h → IsFirstRefused refusal (files_of (Replay s t c)) f h
-refused_of_more refusal s t c f h (inl first) = inl first
-refused_of_more refusal s t c f h (inr (good, inl second)) = inr (good, inl second)
-refused_of_more refusal s t c f h (inr (good, inr (also, none))) = absurd none
-
--- the limits are refused, behind a good source
+-- limits are refused behind a good source
 pub limits_refused : (refusal : Refusal) (s l : List ℕ) (f g h : FilesState) (m : Tree)
     → IfSome (f.told s) (λ text. (length text ≤ size_of program) × IsOnlySource text m) → IsBounded (flat_of m)
-    → GoesOn f g → IsFileRefused refusal limits l g h → IsFirstRefused refusal (plan_files s l) f h
+    → GoesOn f g → IsFileRefused refusal limits l g h
+    → IsFirstRefused refusal (File s program ∷ (File l limits ∷ [])) f h
 limits_refused refusal s l f g h m one bounded goes refused =
-    inr (good_program (f.told s) m one bounded.few, inl (refused_later refusal limits l f g h goes refused))
+    inr (passed_program s f m one bounded.few, inl (refused_later refusal limits l f g h goes refused))
+
+-- a schedule is refused behind a good trace
+pub schedule_refused : (refusal : Refusal) (t c : List ℕ) (f g h : FilesState) (packets : List Packet)
+    → IfSome (f.told t) (λ text. (length text ≤ size_of trace) × (trace_of text ≡ Ok packets)) → GoesOn f g
+    → IsFileRefused refusal schedule c g h → IsFirstRefused refusal (event_gates t c) f h
+schedule_refused refusal t c f g h packets one goes refused =
+    inr (passed_trace t f packets one, inl (refused_later refusal schedule c f g h goes refused))
+
+-- the files of a plan are passed, and its choice
+pub plan_files_passed : (s l : List ℕ) (f : FilesState) (m : Tree) (allowed : Allowed) → IsPlan f.told s l m allowed
+    → AllPassed (File s program ∷ (File l limits ∷ [])) f
+plan_files_passed s l f m allowed found = (
+  passed_program s f m found.program.source found.program.bounded.few,
+  (passed_limits l f allowed found.limits, tt),
+)
+
+-- no split is chosen for the plan of two files that are passed
+pub choice_refused : (refusal : Refusal) (s l : List ℕ) (shrink : Bool) (f f' : FilesState) (m : Tree)
+    (allowed : Allowed) → IsPlan f.told s l m allowed → IsUnchosen refusal (flat_of m) allowed shrink
+    → IsFirstRefused refusal (plan_gates s l shrink) f f'
+choice_refused refusal s l shrink f f' m allowed found why =
+    refused_behind refusal (File s program ∷ (File l limits ∷ [])) (Choice s l shrink ∷ []) f f'
+    (plan_files_passed s l f m allowed found) (inl (m, allowed, found, why))
+
+-- ## What is told after other reads
 
 -- the told limits, as they were before other reads
 pub plan_told : (s l : List ℕ) (f g : FilesState) (m : Tree) (allowed : Allowed) → GoesOn f g
     → IfSome (f.told s) (λ text. (length text ≤ size_of program) × IsOnlySource text m) → IsBounded (flat_of m)
     → IfSome (g.told l) (λ text. (length text ≤ size_of limits) × AreLimits text allowed)
     → IsPlan f.told s l m allowed
-plan_told s l f g m allowed goes one bounded two =
-    record { source = one; limits = told_before _ f g l goes two; bounded = bounded }
+plan_told s l f g m allowed goes one bounded two = record {
+  program = record { source = one; bounded = bounded };
+  limits = told_before _ f g l goes two;
+}
 
--- the told trace, as it was before other reads
+-- the told trace, and the told schedule
 pub input_told : (s t : List ℕ) (f g : FilesState) (m : Tree) (packets : List Packet) → GoesOn f g
     → IfSome (f.told s) (λ text. (length text ≤ size_of source) × IsSource text m)
     → IfSome (g.told t) (λ text. (length text ≤ size_of trace) × (trace_of text ≡ Ok packets))
     → IsInput f.told s t m packets
 input_told s t f g m packets goes one two = record { source = one; trace = told_before _ f g t goes two }
+
+pub traffic_told : (t c : List ℕ) (f g : FilesState) (packets : List Packet) (plan : Plan) → GoesOn f g
+    → IfSome (f.told t) (λ text. (length text ≤ size_of trace) × (trace_of text ≡ Ok packets))
+    → IfSome (g.told c) (λ text. (length text ≤ size_of schedule) × (schedule_of text ≡ Ok plan))
+    → IsTraffic f.told t c packets plan
+traffic_told t c f g packets plan goes one two = record { trace = one; schedule = told_before _ f g c goes two }
+
+pub traffic_before : (t c : List ℕ) (f g : FilesState) (packets : List Packet) (plan : Plan) → GoesOn f g
+    → IsTraffic g.told t c packets plan → IsTraffic f.told t c packets plan
+traffic_before t c f g packets plan goes two =
+    record { trace = told_before _ f g t goes two.trace; schedule = told_before _ f g c goes two.schedule }

@@ -1,7 +1,7 @@
 pub mod Bounds
 pub mod Files
 pub mod Written
+pub mod Choices
 pub mod Exact
 pub mod CauseTold
-pub mod Choices
 pub mod Promised

@@ -1,25 +1,29 @@
 -- What follows from how a call ends.
-use Rattle.std.proofs.Common.{◌≡◌, ◌⊎◌, ℕ, false, List, [], ◌∷◌, Option, Some, None, sym, subst, ap, ◌∙◌, inl, inr}
+use Rattle.std.proofs.Common.{◌≡◌, ◌⊎◌, ℕ, Bool, true, false, List, [], ◌∷◌, Option, Some, None, sym, subst, ap, ◌∙◌, inl, inr}
+use Rattle.std.proofs.Common.{refl}
 use Rattle.gal_io.specs.Count.{Rose}
 use Rattle.gal_io.specs.Files.{FilesState}
 use Rattle.gal_io.specs.declared.sink.SinkEnd.{SinkEnd}
 use Rattle.gal_io.specs.declared.sink.SinkEnd.TheVariants as ends
+use Rattle.switch_ir.specs.Port.{PortState}
 use Rattle.gallium_cli.specs.declared.status.Status.{Status}
 use Rattle.gallium_cli.specs.declared.status.Status.TheVariants as statuses
 use Rattle.gallium_cli.specs.declared.refusal.Excess.{Excess}
 use Rattle.gallium_cli.specs.declared.refusal.Refusal.{Refusal}
-use Rattle.gallium_cli.specs.declared.refusal.Refusal.TheVariants.{Usage, Exceeded, TooLong, ReadFault, WriteFault}
-use Rattle.gallium_cli.specs.Call.{Call}
+use Rattle.gallium_cli.specs.declared.refusal.Refusal.TheVariants.{Usage, Exceeded, TooLong, ReadFault, WriteFault, SwitchFault}
+use Rattle.gallium_cli.specs.declared.refusal.Refusal.TheVariants.{NoMemory}
+use Rattle.gallium_cli.specs.Call.{Call, Work}
 use Rattle.gallium_cli.specs.Lines.{status_of}
-use Rattle.gallium_cli.specs.Words.{Request, Compile, request_of}
-use Rattle.gallium_cli.specs.Roles.{Role, files_of}
-use Rattle.gallium_cli.specs.Causes.{IsFirstRefused, IsOverLimit, IsDone, HasCause, after_line, EndsFor, Ends}
+use Rattle.gallium_cli.specs.Words.{Request, Run, Compile, Replay, ReplayWithin, is_replay, request_of}
+use Rattle.gallium_cli.specs.Roles.{Gate, File, Choice, gates_of, names_in, names_of}
+use Rattle.gallium_cli.specs.Causes.{IsFirstRefused, IsSwitchKept, IsSwitchFaulty, IsNotWritten, IsIdle, IsDone, HasCause}
+use Rattle.gallium_cli.specs.Causes.{after_line, EndsFor, Ends}
 use Rattle.gallium_cli.specs.Promises.{IsWriteFault, BlamesInput, IsReadOnce, IsUsage, IsOneOf, IsBlamed}
-use Rattle.gallium_cli.specs.Promises.{MayExceed, Promises}
+use Rattle.gallium_cli.specs.Promises.{MayExceed, IsReplay, Promises}
 use Rattle.gallium_cli.proofs.Written.{at_most}
-use Rattle.gallium_cli.proofs.Exact.{unwritten, exact_ends, complete_ends}
+use Rattle.gallium_cli.proofs.Choices.{IsGreatestOne, IsKeptUnexceeded}
+use Rattle.gallium_cli.proofs.Exact.{exact_ends, complete_ends}
 use Rattle.gallium_cli.proofs.CauseTold.{cause_told}
-use Rattle.gallium_cli.proofs.Choices.{IsGreatestOne, IsKeptUnexceeded, choice_ends}
 
 -- ## A refusal isn't done
 
@@ -37,37 +41,67 @@ told_not_done refusal ends.Failed = tt
 told_not_done refusal ends.NoMemory = tt
 
 done_ends : (request : Option Request) (status : Status) (call : Call) → EndsFor request status call
-    → status ≡ statuses.Done
-    → IsDone request call.files call.files_after call.out call.out_after × (call.err_after ≡ call.err)
+    → status ≡ statuses.Done → IsDone request call.work × (call.err_after ≡ call.err)
 done_ends request status call (inl done) is = (done.1, done.2)
 done_ends request status call (inr (refusal, cause, (end, told, written))) is =
     absurd (subst IsNotDone (sym told ∙ is) (told_not_done refusal end))
 
--- ## What words and files are to blame for
+-- ## What a gate is to blame for
 
-told_input : (refusal : Refusal) (end : SinkEnd) → BlamesInput (after_line refusal end)
-    → BlamesInput (status_of refusal)
-told_input refusal ends.Done h = h
-told_input refusal ends.Failed h = absurd h
-told_input refusal ends.NoMemory h = absurd h
+-- no fault of writing, of memory or of the switch has this status, and no answer
+record IsOfGates (P : Status → Type 0) : Type 0 where
+  done : P statuses.Done → ⊥
+  write : P statuses.WriteFault → ⊥
+  switch : P statuses.SwitchFault → ⊥
+  memory : P statuses.NoMemory → ⊥
 
-not_both : (status : Status) → IsWriteFault status → BlamesInput status → ⊥
-not_both statuses.Done written h = h
-not_both statuses.WriteFault written h = h
-not_both statuses.NoMemory written h = h
-not_both _ written h = written
+-- such a status is that of the refusal whose line was written
+told_of : (P : Status → Type 0) (refusal : Refusal) (end : SinkEnd) (status : Status) → IsOfGates P
+    → status ≡ after_line refusal end → P status → P (status_of refusal)
+told_of P refusal ends.Done status of is h = subst P is h
+told_of P refusal ends.Failed status of is h = absurd (of.write (subst P is h))
+told_of P refusal ends.NoMemory status of is h = absurd (of.memory (subst P is h))
 
-untouched_ends : (request : Option Request) (status : Status) (call : Call)
-    → EndsFor request status call → BlamesInput status → call.out_after ≡ call.out
-untouched_ends request status call (inl done) input = absurd (subst BlamesInput done.0 input)
-untouched_ends None status call (inr (refusal, cause, told)) input = cause.2
-untouched_ends (Some request) status call (inr (refusal, (inl first, few), told)) input = first.1
-untouched_ends (Some request) status call (inr (refusal, (inr (inl over), few), told)) input = over.1
-untouched_ends (Some request) status call (inr (refusal, (inr (inr unput), few), (end, is, written))) input =
+unwritten_not_so : (P : Status → Type 0) (refusal : Refusal) (request : Request) (work : Work) → IsOfGates P
+    → IsNotWritten refusal request work → P (status_of refusal) → ⊥
+unwritten_not_so P WriteFault request work of unput h = of.write h
+unwritten_not_so P NoMemory request work of unput h = of.memory h
+unwritten_not_so P _ request work of unput h = absurd unput
+
+switch_not_so : (P : Status → Type 0) (refusal : Refusal) (request : Request) (p p' : PortState) → IsOfGates P
+    → IsSwitchFaulty refusal request p p' → P (status_of refusal) → ⊥
+switch_not_so P SwitchFault request p p' of faulty h = of.switch h
+switch_not_so P _ request p p' of faulty h = absurd faulty
+
+-- a request that ends so wasn't let through a gate, and left the rest as it was
+record IsShutOut (P : Status → Type 0) (request : Request) (work : Work) : Type 0 where
+  refusal : Refusal
+  first : IsFirstRefused refusal (gates_of request) work.files work.files_after
+  idle : IsIdle work
+  is : P (status_of refusal)
+
+shut_out : (P : Status → Type 0) (request : Request) (status : Status) (call : Call) → IsOfGates P
+    → EndsFor (Some request) status call → P status → IsShutOut P request call.work
+shut_out P request status call of (inl done) h = absurd (of.done (subst P done.0 h))
+shut_out P request status call of (inr (refusal, (inl first, few, aside), (end, is, written))) h =
+    record { refusal = refusal; first = first.0; idle = first.1; is = told_of P refusal end status of is h }
+shut_out P request status call of (inr (refusal, (inr (inl faulty), few, aside), (end, is, written))) h =
     absurd (
-    not_both (status_of refusal) (unwritten refusal request call.files call.out call.out_after unput)
-    (told_input refusal end (subst BlamesInput is input))
+    switch_not_so P refusal request call.work.port call.work.port_after of faulty.0
+    (told_of P refusal end status of is h)
     )
+shut_out P request status call of (inr (refusal, (inr (inr unput), few, aside), (end, is, written))) h =
+    absurd (unwritten_not_so P refusal request call.work of unput (told_of P refusal end status of is h))
+
+-- where words, a file or a limit are to blame, all else is as it was
+blamed_gates : IsOfGates BlamesInput
+blamed_gates = record { done = λ h. h; write = λ h. h; switch = λ h. h; memory = λ h. h }
+
+idle_ends : (request : Option Request) (status : Status) (call : Call)
+    → EndsFor request status call → BlamesInput status → IsIdle call.work
+idle_ends None status call (inl done) input = absurd done.1
+idle_ends None status call (inr (refusal, cause, told)) input = cause.2
+idle_ends (Some request) status call end input = (shut_out BlamesInput request status call blamed_gates end input).idle
 
 -- ## Words with no form
 
@@ -77,49 +111,29 @@ told_usage refusal ends.Done status usage is = inl (is ∙ ap status_of usage)
 told_usage refusal ends.Failed status usage is = inr (subst IsWriteFault (sym is) tt)
 told_usage refusal ends.NoMemory status usage is = inr (subst IsWriteFault (sym is) tt)
 
-abbrev IsNotUsage : Status → Type 0
-IsNotUsage statuses.Usage = ⊥
-IsNotUsage _ = Unit {0}
+abbrev IsUsageStatus : Status → Type 0
+IsUsageStatus statuses.Usage = Unit {0}
+IsUsageStatus _ = ⊥
 
-usage_unrefused : (files : List (List ℕ × Role)) (f f' : FilesState) → IsFirstRefused Usage files f f' → ⊥
-usage_unrefused [] f f' h = h
-usage_unrefused (file ∷ files) f f' (inl h) = h
-usage_unrefused (file ∷ files) f f' (inr later) = usage_unrefused files f f' later.1
+usage_gates : IsOfGates IsUsageStatus
+usage_gates = record { done = λ h. h; write = λ h. h; switch = λ h. h; memory = λ h. h }
 
-file_not_usage : (refusal : Refusal) (files : List (List ℕ × Role)) (f f' : FilesState)
-    → IsFirstRefused refusal files f f' → IsNotUsage (status_of refusal)
-file_not_usage Usage files f f' h = usage_unrefused files f f' h
-file_not_usage _ files f f' h = tt
-
-over_not_usage : (refusal : Refusal) (request : Request) (told : List ℕ → Option (List ℕ))
-    → IsOverLimit refusal request told → IsNotUsage (status_of refusal)
-over_not_usage (Exceeded excess) request told h = tt
-over_not_usage _ request told h = absurd h
-
-write_not_usage : (status : Status) → IsWriteFault status → IsNotUsage status
-write_not_usage statuses.Usage h = h
-write_not_usage _ h = tt
-
-told_not_usage : (refusal : Refusal) (end : SinkEnd) → IsNotUsage (status_of refusal)
-    → IsNotUsage (after_line refusal end)
-told_not_usage refusal ends.Done h = h
-told_not_usage refusal ends.Failed h = tt
-told_not_usage refusal ends.NoMemory h = tt
+-- no gate is refused for the words
+no_usage : (refusal : Refusal) (gates : List Gate) (f f' : FilesState)
+    → IsUsageStatus (status_of refusal) → IsFirstRefused refusal gates f f' → ⊥
+no_usage Usage [] f f' is h = h
+no_usage Usage (File name role ∷ gates) f f' is (inl h) = h
+no_usage Usage (Choice s l shrink ∷ gates) f f' is (inl (m, allowed, found, never)) = never
+no_usage Usage (gate ∷ gates) f f' is (inr later) = no_usage Usage gates f f' is later.1
+no_usage _ gates f f' is h = is
 
 usage_ends : (request : Option Request) (status : Status) (call : Call) → EndsFor request status call
     → IsUsage request status
 usage_ends None status call (inl done) = absurd done.1
 usage_ends None status call (inr (refusal, cause, (end, is, written))) = told_usage refusal end status cause.0 is
-usage_ends (Some request) status call (inl done) = λ usage. subst IsNotUsage (sym done.0 ∙ usage) tt
-usage_ends (Some request) status call (inr (refusal, (inl first, few), (end, is, written))) = λ usage.
-    let other = file_not_usage refusal (files_of request) call.files call.files_after first.0 in
-    subst IsNotUsage (sym is ∙ usage) (told_not_usage refusal end other)
-usage_ends (Some request) status call (inr (refusal, (inr (inl over), few), (end, is, written))) = λ usage.
-    let other = over_not_usage refusal request call.files.told over.0 in
-    subst IsNotUsage (sym is ∙ usage) (told_not_usage refusal end other)
-usage_ends (Some request) status call (inr (refusal, (inr (inr unput), few), (end, is, written))) = λ usage.
-    let fault = unwritten refusal request call.files call.out call.out_after unput in
-    subst IsNotUsage (sym is ∙ usage) (told_not_usage refusal end (write_not_usage (status_of refusal) fault))
+usage_ends (Some request) status call end = λ usage.
+    let out = shut_out IsUsageStatus request status call usage_gates end (subst IsUsageStatus (sym usage) tt) in
+    no_usage out.refusal (gates_of request) call.work.files call.work.files_after out.is out.first
 
 -- ## Which count rose
 
@@ -127,119 +141,59 @@ abbrev IsTooLong : Status → Type 0
 IsTooLong statuses.TooLong = Unit {0}
 IsTooLong _ = ⊥
 
+long_gates : IsOfGates IsTooLong
+long_gates = record { done = λ h. h; write = λ h. h; switch = λ h. h; memory = λ h. h }
+
+long_rose : (refusal : Refusal) (gates : List Gate) (f f' : FilesState)
+    → IsTooLong (status_of refusal) → IsFirstRefused refusal gates f f'
+    → Rose f.overlong f'.overlong × IsOneOf (names_in gates) f'.overlong_name
+long_rose (TooLong name) [] f f' is h = absurd h
+long_rose (TooLong name) (File file role ∷ gates) f f' is (inl h) = (h.3, inl h.2)
+long_rose (TooLong name) (File file role ∷ gates) f f' is (inr later) =
+    let rest = long_rose (TooLong name) gates f f' is later.1 in (rest.0, inr rest.1)
+long_rose (TooLong name) (Choice s l shrink ∷ gates) f f' is (inl (m, allowed, found, never)) = absurd never
+long_rose (TooLong name) (Choice s l shrink ∷ gates) f f' is (inr later) =
+    long_rose (TooLong name) gates f f' is later.1
+long_rose _ gates f f' is h = absurd is
+
+too_long_ends : (request : Option Request) (status : Status) (call : Call)
+    → EndsFor request status call → IsTooLong status
+    → IsBlamed request call.work.files.overlong call.work.files_after.overlong call.work.files_after.overlong_name
+too_long_ends None status call (inl done) long = absurd done.1
+too_long_ends None status call (inr (refusal, cause, (end, is, written))) long =
+    subst (λ r. IsTooLong (status_of r)) cause.0 (told_of IsTooLong refusal end status long_gates is long)
+too_long_ends (Some request) status call end long =
+    let out = shut_out IsTooLong request status call long_gates end long in
+    long_rose out.refusal (gates_of request) call.work.files call.work.files_after out.is out.first
+
 abbrev IsReadFault : Status → Type 0
 IsReadFault statuses.ReadFault = Unit {0}
 IsReadFault _ = ⊥
 
-told_long : (refusal : Refusal) (end : SinkEnd) → IsTooLong (after_line refusal end) → IsTooLong (status_of refusal)
-told_long refusal ends.Done h = h
-told_long refusal ends.Failed h = absurd h
-told_long refusal ends.NoMemory h = absurd h
+fault_gates : IsOfGates IsReadFault
+fault_gates = record { done = λ h. h; write = λ h. h; switch = λ h. h; memory = λ h. h }
 
-told_read_fault : (refusal : Refusal) (end : SinkEnd) → IsReadFault (after_line refusal end)
-    → IsReadFault (status_of refusal)
-told_read_fault refusal ends.Done h = h
-told_read_fault refusal ends.Failed h = absurd h
-told_read_fault refusal ends.NoMemory h = absurd h
-
-long_rose : (refusal : Refusal) (files : List (List ℕ × Role)) (f f' : FilesState)
-    → IsTooLong (status_of refusal) → IsFirstRefused refusal files f f'
-    → Rose f.overlong f'.overlong × IsOneOf files f'.overlong_name
-long_rose (TooLong name) [] f f' is h = absurd h
-long_rose (TooLong name) (file ∷ files) f f' is (inl h) = (h.3, inl h.2)
-long_rose (TooLong name) (file ∷ files) f f' is (inr later) =
-    let rest = long_rose (TooLong name) files f f' is later.1 in (rest.0, inr rest.1)
-long_rose _ files f f' is h = absurd is
-
-fault_rose : (refusal : Refusal) (files : List (List ℕ × Role)) (f f' : FilesState)
-    → IsReadFault (status_of refusal) → IsFirstRefused refusal files f f'
-    → Rose f.faults f'.faults × IsOneOf files f'.fault_name
+fault_rose : (refusal : Refusal) (gates : List Gate) (f f' : FilesState)
+    → IsReadFault (status_of refusal) → IsFirstRefused refusal gates f f'
+    → Rose f.faults f'.faults × IsOneOf (names_in gates) f'.fault_name
 fault_rose (ReadFault name) [] f f' is h = absurd h
-fault_rose (ReadFault name) (file ∷ files) f f' is (inl h) = (h.2, inl h.1)
-fault_rose (ReadFault name) (file ∷ files) f f' is (inr later) =
-    let rest = fault_rose (ReadFault name) files f f' is later.1 in (rest.0, inr rest.1)
-fault_rose _ files f f' is h = absurd is
-
-write_not_long : (status : Status) → IsWriteFault status → IsTooLong status → ⊥
-write_not_long statuses.WriteFault written h = h
-write_not_long statuses.NoMemory written h = h
-write_not_long _ written h = written
-
-over_not_long : (refusal : Refusal) (request : Request) (told : List ℕ → Option (List ℕ))
-    → IsOverLimit refusal request told → IsTooLong (status_of refusal) → ⊥
-over_not_long (Exceeded excess) request told h is = is
-over_not_long _ request told h is = absurd h
-
-over_not_read : (refusal : Refusal) (request : Request) (told : List ℕ → Option (List ℕ))
-    → IsOverLimit refusal request told → IsReadFault (status_of refusal) → ⊥
-over_not_read (Exceeded excess) request told h is = is
-over_not_read _ request told h is = absurd h
-
-write_not_read : (status : Status) → IsWriteFault status → IsReadFault status → ⊥
-write_not_read statuses.WriteFault written h = h
-write_not_read statuses.NoMemory written h = h
-write_not_read _ written h = written
-
-too_long_ends : (request : Option Request) (status : Status) (call : Call)
-    → EndsFor request status call → IsTooLong status
-    → IsBlamed request call.files.overlong call.files_after.overlong call.files_after.overlong_name
-too_long_ends request status call (inl done) long = absurd (subst IsTooLong done.0 long)
-too_long_ends None status call (inr (refusal, cause, (end, is, written))) long =
-    absurd (subst (λ r. IsTooLong (status_of r)) cause.0 (told_long refusal end (subst IsTooLong is long)))
-too_long_ends (Some request) status call (inr (refusal, (inl first, few), (end, is, written))) long =
-    long_rose refusal (files_of request) call.files call.files_after (told_long refusal end (subst IsTooLong is long)) first.0
-too_long_ends (Some request) status call (inr (refusal, (inr (inl over), few), (end, is, written))) long =
-    absurd (over_not_long refusal request call.files.told over.0 (told_long refusal end (subst IsTooLong is long)))
-too_long_ends (Some request) status call (inr (refusal, (inr (inr unput), few), (end, is, written))) long =
-    absurd (
-    write_not_long (status_of refusal) (unwritten refusal request call.files call.out call.out_after unput)
-    (told_long refusal end (subst IsTooLong is long))
-    )
+fault_rose (ReadFault name) (File file role ∷ gates) f f' is (inl h) = (h.2, inl h.1)
+fault_rose (ReadFault name) (File file role ∷ gates) f f' is (inr later) =
+    let rest = fault_rose (ReadFault name) gates f f' is later.1 in (rest.0, inr rest.1)
+fault_rose (ReadFault name) (Choice s l shrink ∷ gates) f f' is (inl (m, allowed, found, never)) = absurd never
+fault_rose (ReadFault name) (Choice s l shrink ∷ gates) f f' is (inr later) =
+    fault_rose (ReadFault name) gates f f' is later.1
+fault_rose _ gates f f' is h = absurd is
 
 read_fault_ends : (request : Option Request) (status : Status) (call : Call)
     → EndsFor request status call → IsReadFault status
-    → IsBlamed request call.files.faults call.files_after.faults call.files_after.fault_name
-read_fault_ends request status call (inl done) fault = absurd (subst IsReadFault done.0 fault)
+    → IsBlamed request call.work.files.faults call.work.files_after.faults call.work.files_after.fault_name
+read_fault_ends None status call (inl done) fault = absurd done.1
 read_fault_ends None status call (inr (refusal, cause, (end, is, written))) fault =
-    absurd (subst (λ r. IsReadFault (status_of r)) cause.0 (told_read_fault refusal end (subst IsReadFault is fault)))
-read_fault_ends (Some request) status call (inr (refusal, (inl first, few), (end, is, written))) fault =
-    fault_rose refusal (files_of request) call.files call.files_after (told_read_fault refusal end (subst IsReadFault is fault)) first.0
-read_fault_ends (Some request) status call (inr (refusal, (inr (inl over), few), (end, is, written))) fault =
-    absurd (over_not_read refusal request call.files.told over.0 (told_read_fault refusal end (subst IsReadFault is fault)))
-read_fault_ends (Some request) status call (inr (refusal, (inr (inr unput), few), (end, is, written))) fault =
-    absurd (
-    write_not_read (status_of refusal) (unwritten refusal request call.files call.out call.out_after unput)
-    (told_read_fault refusal end (subst IsReadFault is fault))
-    )
-
-abbrev IsOutFault : Status → Type 0
-IsOutFault statuses.WriteFault = Unit {0}
-IsOutFault _ = ⊥
-
-write_unrefused : (files : List (List ℕ × Role)) (f f' : FilesState) → IsFirstRefused WriteFault files f f' → ⊥
-write_unrefused [] f f' h = h
-write_unrefused (file ∷ files) f f' (inl h) = h
-write_unrefused (file ∷ files) f f' (inr later) = write_unrefused files f f' later.1
-
-out_rose : (refusal : Refusal) (request : Option Request) (call : Call)
-    → IsOutFault (status_of refusal) → HasCause refusal request call.files call.files_after call.out call.out_after
-    → Rose call.out.faults call.out_after.faults
-out_rose WriteFault None call is cause = let usage : WriteFault ≡ Usage = cause.0 in cc
-out_rose WriteFault (Some request) call is (inl first, few) =
-    absurd (write_unrefused (files_of request) call.files call.files_after first.0)
-out_rose WriteFault (Some request) call is (inr (inl over), few) = absurd over.0
-out_rose WriteFault (Some request) call is (inr (inr unput), few) = unput.0
-out_rose _ request call is cause = absurd is
-
-write_fault_ends : (request : Option Request) (status : Status) (call : Call)
-    → EndsFor request status call → IsOutFault status
-    → Rose call.out.faults call.out_after.faults ⊎ Rose call.err.faults call.err_after.faults
-write_fault_ends request status call (inl done) fault = absurd (subst IsOutFault done.0 fault)
-write_fault_ends request status call (inr (refusal, cause, (ends.Done, is, written))) fault =
-    inl (out_rose refusal request call (subst IsOutFault is fault) cause)
-write_fault_ends request status call (inr (refusal, cause, (ends.Failed, is, written))) fault = inr written.faults.1
-write_fault_ends request status call (inr (refusal, cause, (ends.NoMemory, is, written))) fault =
-    absurd (subst IsOutFault is fault)
+    subst (λ r. IsReadFault (status_of r)) cause.0 (told_of IsReadFault refusal end status fault_gates is fault)
+read_fault_ends (Some request) status call end fault =
+    let out = shut_out IsReadFault request status call fault_gates end fault in
+    fault_rose out.refusal (gates_of request) call.work.files call.work.files_after out.is out.first
 
 -- ## A limit that is exceeded
 
@@ -247,59 +201,134 @@ abbrev IsExceededStatus : Status → Type 0
 IsExceededStatus statuses.Exceeded = Unit {0}
 IsExceededStatus _ = ⊥
 
-told_exceeded : (refusal : Refusal) (end : SinkEnd) → IsExceededStatus (after_line refusal end)
-    → IsExceededStatus (status_of refusal)
-told_exceeded refusal ends.Done h = h
-told_exceeded refusal ends.Failed h = absurd h
-told_exceeded refusal ends.NoMemory h = absurd h
+exceeded_gates : IsOfGates IsExceededStatus
+exceeded_gates = record { done = λ h. h; write = λ h. h; switch = λ h. h; memory = λ h. h }
 
-exceeded_unrefused : (excess : Excess) (files : List (List ℕ × Role)) (f f' : FilesState)
-    → IsFirstRefused (Exceeded excess) files f f' → ⊥
-exceeded_unrefused excess [] f f' h = h
-exceeded_unrefused excess (file ∷ files) f f' (inl h) = h
-exceeded_unrefused excess (file ∷ files) f f' (inr later) = exceeded_unrefused excess files f f' later.1
+-- no choice among these gates is of a split that may not shrink
+abbrev AllMayShrink : List Gate → Type 0
+AllMayShrink [] = Unit {0}
+AllMayShrink (File name role ∷ gates) = AllMayShrink gates
+AllMayShrink (Choice s l true ∷ gates) = AllMayShrink gates
+AllMayShrink (Choice s l false ∷ gates) = ⊥
 
-file_not_exceeded : (refusal : Refusal) (files : List (List ℕ × Role)) (f f' : FilesState)
-    → IsExceededStatus (status_of refusal) → IsFirstRefused refusal files f f' → ⊥
-file_not_exceeded (Exceeded excess) files f f' is h = exceeded_unrefused excess files f f' h
-file_not_exceeded _ files f f' is h = absurd is
+shrunk_unexceeded : (refusal : Refusal) (gates : List Gate) (f f' : FilesState) → AllMayShrink gates
+    → IsExceededStatus (status_of refusal) → IsFirstRefused refusal gates f f' → ⊥
+shrunk_unexceeded (Exceeded excess) [] f f' may is h = h
+shrunk_unexceeded (Exceeded excess) (File name role ∷ gates) f f' may is (inl h) = h
+shrunk_unexceeded (Exceeded excess) (File name role ∷ gates) f f' may is (inr later) =
+    shrunk_unexceeded (Exceeded excess) gates f f' may is later.1
+shrunk_unexceeded (Exceeded excess) (Choice s l true ∷ gates) f f' may is (inl (m, allowed, found, (over, never, told))) =
+    never
+shrunk_unexceeded (Exceeded excess) (Choice s l true ∷ gates) f f' may is (inr later) =
+    shrunk_unexceeded (Exceeded excess) gates f f' may is later.1
+shrunk_unexceeded (Exceeded excess) (Choice s l false ∷ gates) f f' may is h = may
+shrunk_unexceeded _ gates f f' may is h = is
 
-write_not_exceeded : (status : Status) → IsWriteFault status → IsExceededStatus status → ⊥
-write_not_exceeded statuses.WriteFault written h = h
-write_not_exceeded statuses.NoMemory written h = h
-write_not_exceeded _ written h = written
-
-over_may : (refusal : Refusal) (request : Request) (told : List ℕ → Option (List ℕ))
-    → IsOverLimit refusal request told → MayExceed (Some request)
-over_may (Exceeded excess) (Compile s l false) told h = tt
-over_may _ _ told h = absurd h
+may_exceed : (refusal : Refusal) (request : Request) (f f' : FilesState) → IsExceededStatus (status_of refusal)
+    → IsFirstRefused refusal (gates_of request) f f' → MayExceed (Some request)
+may_exceed refusal (Run s t) f f' is first = shrunk_unexceeded refusal (gates_of (Run s t)) f f' tt is first
+may_exceed refusal (Compile s l false) f f' is first = tt
+may_exceed refusal (Compile s l true) f f' is first =
+    shrunk_unexceeded refusal (gates_of (Compile s l true)) f f' tt is first
+may_exceed refusal (Replay s t c) f f' is first = shrunk_unexceeded refusal (gates_of (Replay s t c)) f f' tt is first
+may_exceed refusal (ReplayWithin s t c l false) f f' is first = tt
+may_exceed refusal (ReplayWithin s t c l true) f f' is first =
+    shrunk_unexceeded refusal (gates_of (ReplayWithin s t c l true)) f f' tt is first
 
 exceeded_ends : (request : Option Request) (status : Status) (call : Call)
     → EndsFor request status call → IsExceededStatus status → MayExceed request
-exceeded_ends request status call (inl done) exceeded = absurd (subst IsExceededStatus done.0 exceeded)
+exceeded_ends None status call (inl done) exceeded = absurd done.1
 exceeded_ends None status call (inr (refusal, cause, (end, is, written))) exceeded =
-    absurd (subst (λ r. IsExceededStatus (status_of r)) cause.0 (told_exceeded refusal end (subst IsExceededStatus is exceeded)))
-exceeded_ends (Some request) status call (inr (refusal, (inl first, few), (end, is, written))) exceeded =
-    absurd (
-    file_not_exceeded refusal (files_of request) call.files call.files_after
-    (told_exceeded refusal end (subst IsExceededStatus is exceeded)) first.0
-    )
-exceeded_ends (Some request) status call (inr (refusal, (inr (inl over), few), told)) exceeded =
-    over_may refusal request call.files.told over.0
-exceeded_ends (Some request) status call (inr (refusal, (inr (inr unput), few), (end, is, written))) exceeded =
-    absurd (
-    write_not_exceeded (status_of refusal) (unwritten refusal request call.files call.out call.out_after unput)
-    (told_exceeded refusal end (subst IsExceededStatus is exceeded))
-    )
+    subst (λ r. IsExceededStatus (status_of r)) cause.0
+    (told_of IsExceededStatus refusal end status exceeded_gates is exceeded)
+exceeded_ends (Some request) status call end exceeded =
+    let out = shut_out IsExceededStatus request status call exceeded_gates end exceeded in
+    may_exceed out.refusal request call.work.files call.work.files_after out.is out.first
 
--- ## How often files are read
+-- ## Faults of out and of the switch
+
+abbrev IsOutFault : Status → Type 0
+IsOutFault statuses.WriteFault = Unit {0}
+IsOutFault _ = ⊥
+
+no_write_fault : (gates : List Gate) (f f' : FilesState) → IsFirstRefused WriteFault gates f f' → ⊥
+no_write_fault [] f f' h = h
+no_write_fault (File name role ∷ gates) f f' (inl h) = h
+no_write_fault (Choice s l shrink ∷ gates) f f' (inl (m, allowed, found, never)) = never
+no_write_fault (gate ∷ gates) f f' (inr later) = no_write_fault gates f f' later.1
+
+out_rose : (refusal : Refusal) (request : Option Request) (work : Work)
+    → IsOutFault (status_of refusal) → HasCause refusal request work → Rose work.out.faults work.out_after.faults
+out_rose WriteFault None work is cause = let usage : WriteFault ≡ Usage = cause.0 in cc
+out_rose WriteFault (Some request) work is (inl first, few, aside) =
+    absurd (no_write_fault (gates_of request) work.files work.files_after first.0)
+out_rose WriteFault (Some request) work is (inr (inl faulty), few, aside) = absurd faulty.0
+out_rose WriteFault (Some request) work is (inr (inr unput), few, aside) = unput.0
+out_rose _ request work is cause = absurd is
+
+write_fault_ends : (request : Option Request) (status : Status) (call : Call)
+    → EndsFor request status call → IsOutFault status
+    → Rose call.work.out.faults call.work.out_after.faults ⊎ Rose call.err.faults call.err_after.faults
+write_fault_ends request status call (inl done) fault = absurd (subst IsOutFault done.0 fault)
+write_fault_ends request status call (inr (refusal, cause, (ends.Done, is, written))) fault =
+    inl (out_rose refusal request call.work (subst IsOutFault is fault) cause)
+write_fault_ends request status call (inr (refusal, cause, (ends.Failed, is, written))) fault = inr written.faults.1
+write_fault_ends request status call (inr (refusal, cause, (ends.NoMemory, is, written))) fault =
+    absurd (subst IsOutFault is fault)
+
+abbrev IsSwitchStatus : Status → Type 0
+IsSwitchStatus statuses.SwitchFault = Unit {0}
+IsSwitchStatus _ = ⊥
+
+no_switch_fault : (gates : List Gate) (f f' : FilesState) → IsFirstRefused SwitchFault gates f f' → ⊥
+no_switch_fault [] f f' h = h
+no_switch_fault (File name role ∷ gates) f f' (inl h) = h
+no_switch_fault (Choice s l shrink ∷ gates) f f' (inl (m, allowed, found, never)) = never
+no_switch_fault (gate ∷ gates) f f' (inr later) = no_switch_fault gates f f' later.1
+
+switch_rose : (refusal : Refusal) (request : Option Request) (work : Work)
+    → IsSwitchStatus (status_of refusal) → HasCause refusal request work
+    → IsReplay request × Rose work.port.faults work.port_after.faults
+switch_rose SwitchFault None work is cause = let usage : SwitchFault ≡ Usage = cause.0 in cc
+switch_rose SwitchFault (Some request) work is (inl first, few, aside) =
+    absurd (no_switch_fault (gates_of request) work.files work.files_after first.0)
+switch_rose SwitchFault (Some request) work is (inr (inl faulty), few, aside) = faulty.0
+switch_rose SwitchFault (Some request) work is (inr (inr unput), few, aside) = absurd unput
+switch_rose _ request work is cause = absurd is
+
+switch_fault_ends : (request : Option Request) (status : Status) (call : Call)
+    → EndsFor request status call → IsSwitchStatus status
+    → IsReplay request × Rose call.work.port.faults call.work.port_after.faults
+switch_fault_ends request status call (inl done) fault = absurd (subst IsSwitchStatus done.0 fault)
+switch_fault_ends request status call (inr (refusal, cause, (ends.Done, is, written))) fault =
+    switch_rose refusal request call.work (subst IsSwitchStatus is fault) cause
+switch_fault_ends request status call (inr (refusal, cause, (ends.Failed, is, written))) fault =
+    absurd (subst IsSwitchStatus is fault)
+switch_fault_ends request status call (inr (refusal, cause, (ends.NoMemory, is, written))) fault =
+    absurd (subst IsSwitchStatus is fault)
+
+-- ## Who calls the switch, and how often files are read
+
+kept_aside : (replays : Bool) (p p' : PortState) → (replays ≡ true → ⊥) → IsSwitchKept replays p p' → p' ≡ p
+kept_aside true p p' none kept = absurd (none refl)
+kept_aside false p p' none kept = kept
+
+aside_ends : (request : Option Request) (status : Status) (call : Call) → EndsFor request status call
+    → (IsReplay request → ⊥) → call.work.port_after ≡ call.work.port
+aside_ends None status call (inl done) none = absurd done.1
+aside_ends None status call (inr (refusal, cause, told)) none = cause.2.port
+aside_ends (Some request) status call (inl (is, (text, answer, taken, read, aside), silent)) none =
+    kept_aside (is_replay request) call.work.port call.work.port_after none aside
+aside_ends (Some request) status call (inr (refusal, (why, few, aside), told)) none =
+    kept_aside (is_replay request) call.work.port call.work.port_after none aside
 
 once_ends : (request : Option Request) (status : Status) (call : Call)
     → EndsFor request status call → IsReadOnce request status call
 once_ends None status call (inl done) = absurd done.1
 once_ends None status call (inr (refusal, cause, told)) = cause.1
-once_ends (Some request) status call (inl (is, (text, answer, taken, read), silent)) = (at_most _ _ read, λ _. read)
-once_ends (Some request) status call (inr (refusal, (cause, few), (end, told, written))) =
+once_ends (Some request) status call (inl (is, (text, answer, taken, read, aside), silent)) =
+    (at_most _ _ read, λ _. read)
+once_ends (Some request) status call (inr (refusal, (why, few, aside), (end, told, written))) =
     (few, λ is. absurd (subst IsNotDone (sym told ∙ is) (told_not_done refusal end)))
 
 -- all that is promised follows from how a call ends
@@ -311,15 +340,17 @@ promised status call one kept end =
       ends = end;
       done = λ is. (done_ends request status call end is).0;
       silent = λ is. (done_ends request status call end is).1;
-      untouched = untouched_ends request status call end;
+      untouched = λ input. (idle_ends request status call end input).out;
+      uncalled = λ input. (idle_ends request status call end input).port;
+      aside = aside_ends request status call end;
       once = once_ends request status call end;
       usage = usage_ends request status call end;
-      exact = exact_ends request status call end;
-      cause = cause_told request status call end;
-      complete = complete_ends request status call end;
-      choice = choice_ends request status call one kept end;
+      exact = exact_ends request status call one kept end;
+      cause = cause_told request status call one kept end;
+      complete = complete_ends request status call one kept end;
       exceeded = λ is. exceeded_ends request status call end (subst IsExceededStatus (sym is) tt);
       too_long = λ is. too_long_ends request status call end (subst IsTooLong (sym is) tt);
       read_fault = λ is. read_fault_ends request status call end (subst IsReadFault (sym is) tt);
       write_fault = λ is. write_fault_ends request status call end (subst IsOutFault (sym is) tt);
+      switch_fault = λ is. switch_fault_ends request status call end (subst IsSwitchStatus (sym is) tt);
     }
