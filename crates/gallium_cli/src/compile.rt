@@ -1,7 +1,8 @@
 //! The split of a middlebox, within limits.
-ghost use Rattle.std.specs.Prelude.{◌≡◌, ◌≤◌, ◌∷◌, [], Some, IfOk, IfErr, OnOk, length};
+ghost use Rattle.std.specs.Prelude.{◌≡◌, ◌≤◌, ◌∷◌, [], Some, IfOk, IfErr, IsTrue, OnOk, length};
 ghost use Rattle.std.specs.Option.{option_map};
 ghost use Rattle.element_lang.specs.View.{tree};
+ghost use Rattle.element_lang.specs.Rules.{is_good};
 ghost use Rattle.flat_ir.specs.Program.{program_of};
 ghost use Rattle.flat_ir.specs.Listing.{name_of};
 ghost use Rattle.flatten.specs.Flatten.{flat_of};
@@ -17,12 +18,14 @@ ghost use Rattle.switch_ir.specs.Port.{PortState};
 ghost use Rattle.gallium_cli.specs.Roles.{program as program_role, limits as limits_role, File, plan_gates};
 ghost use Rattle.gallium_cli.specs.Answers.{IsChoice, IsPlan, heading_text, compiled_text};
 ghost use Rattle.gallium_cli.specs.Loads.{GoesOn, raised_by};
+ghost use Rattle.gallium_cli.specs.Runnable.{IsRunnable};
 ghost use Rattle.gallium_cli.specs.Causes.{HasCause, IsDone, IsFirstRefused, IsUnchosen, excess_of};
 
 use crate::formats::{Flattened, LimitsFormat, ProgramFormat};
 use crate::load::load;
 use crate::output::put;
 use crate::refusal::{Excess, Refusal};
+use element_interp::stores_are_kept;
 use flat_ir::{Flat, print_flat};
 use gal_io::{Files, NoMemory, Sink, Text};
 use partition::{PartError, partition};
@@ -41,6 +44,7 @@ fn load_plan<'a, F: Files>(
 ) -> Result<(Flattened, Limits), Refusal<'a>>
     ensures ok { IfOk result (λ x. IsPlan (F.seen files.old).told source.now limits.now (tree x.0.middlebox) x.1) }
     ensures program { IfOk result (λ x. program_of x.0.flat ≡ flat_of (tree x.0.middlebox)) }
+    ensures good { IfOk result (λ x. IsTrue (is_good (tree x.0.middlebox))) }
     ensures in_range { IfOk result (λ x. AreInRange x.1) }
     ensures err { IfErr result (λ refusal. IsFirstRefused refusal
         (File source.now program_role ∷ (File limits.now limits_role ∷ [])) (F.seen files.old) (F.seen files.new)) }
@@ -159,15 +163,16 @@ pub fn load_split<'a, F: Files>(
 ) -> Result<SplitMiddlebox, Refusal<'a>>
     ensures ok { IfOk result (λ x. (allowed : Allowed)
         × IsPlan (F.seen files.old).told source.now limits.now (tree x.program.middlebox) allowed
-        × IsChoice (program_of x.program.flat) allowed shrink x.split
-        × HasLowStages x.split × AreInRange allowed × (x.writeback ≡ allowed.writeback)) }
-    ensures program { IfOk result (λ x. program_of x.program.flat ≡ flat_of (tree x.program.middlebox)) }
+        × IsChoice (program_of x.program.flat) allowed shrink x.split × (x.writeback ≡ allowed.writeback)) }
+    ensures runnable { IfOk result (λ x.
+        IsRunnable (tree x.program.middlebox) (program_of x.program.flat) x.split x.writeback) }
     ensures err { IfErr result (λ refusal. IsFirstRefused refusal (plan_gates source.now limits.now shrink)
         (F.seen files.old) (F.seen files.new)) }
     ensures stays { GoesOn (F.seen files.old) (F.seen files.new) }
     ensures read { OnOk result ((F.seen files.new).reads ≡ raised_by 2 (F.seen files.old).reads) }
     ensures few_reads { (F.seen files.new).reads ≤ raised_by 2 (F.seen files.old).reads }
 {
+    stores_are_kept();
     let (program, allowed) = load_plan(alloc, source, limits, files)?;
     let split = choose(alloc, &program.flat, &allowed, shrink)?;
     Ok(SplitMiddlebox {

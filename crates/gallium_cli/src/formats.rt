@@ -92,6 +92,7 @@ fn with_flat(
     ensures same { IfOk result (λ p. tree p.middlebox ≡ tree middlebox) }
     ensures program { IfOk result (λ p. program_of p.flat ≡ flat_of (tree p.middlebox)) }
     ensures bounded { IfOk result (λ p. IsBounded (flat_of (tree p.middlebox))) }
+    ensures good { IfOk result (λ p. IsTrue (is_good (tree p.middlebox))) }
     ensures err { IfErr result (λ refusal. IsUnread refusal program text.now) }
 {
     match flatten(alloc, &middlebox) {
@@ -108,7 +109,8 @@ impl Format for ProgramFormat {
 
     ghost spells = { λ _ text p. IsOnlySource text (tree p.middlebox) };
 
-    ghost sound = { λ p. (program_of p.flat ≡ flat_of (tree p.middlebox)) × IsBounded (flat_of (tree p.middlebox)) };
+    ghost sound = { λ p. (program_of p.flat ≡ flat_of (tree p.middlebox)) × IsBounded (flat_of (tree p.middlebox))
+        × IsTrue (is_good (tree p.middlebox)) };
 
     fn size(&self) -> usize {
         MAX_SOURCE

@@ -20,6 +20,8 @@ mod refusal;
 mod replay;
 #[cfg(test)]
 mod run_tests;
+#[cfg(test)]
+mod split_tests;
 mod status;
 #[cfg(test)]
 mod tests;

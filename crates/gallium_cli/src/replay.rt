@@ -1,17 +1,14 @@
 //! Replays of a middlebox over a switch.
-ghost use Rattle.std.specs.Prelude.{◌≡◌, ◌⊎◌, ◌≤◌, ◌∷◌, [], Some, IfOk, IfErr, OnOk, IsTrue, length};
+ghost use Rattle.std.specs.Prelude.{◌≡◌, ◌⊎◌, ◌≤◌, ◌∷◌, [], Some, IfOk, IfErr, OnOk, length};
 ghost use Rattle.gal_io.specs.Count.{Rose};
 ghost use Rattle.element_lang.specs.View.{tree};
 ghost use Rattle.flat_ir.specs.Program.{program_of};
-ghost use Rattle.flatten.specs.Flatten.{flat_of};
-ghost use Rattle.split_program.specs.Whole.{IsSplit};
-ghost use Rattle.switch_ir.specs.Emitted.{HasFewStages};
-ghost use Rattle.element_lang.specs.Rules.{is_good};
 ghost use Rattle.gallium_cli.specs.Answers.{IsNoChoice, IsProgram, IsReport, IsTraffic, setup};
 ghost use Rattle.gallium_cli.specs.Call.{work_of};
 ghost use Rattle.gallium_cli.specs.Causes.{HasCause, IsDone, IsFirstRefused};
 ghost use Rattle.gallium_cli.specs.Loads.{GoesOn, raised_by};
 ghost use Rattle.gallium_cli.specs.Roles.{program, File, event_gates};
+ghost use Rattle.gallium_cli.specs.Runnable.{IsRunnable};
 ghost use Rattle.gallium_cli.specs.Words.{Replay, ReplayWithin};
 
 use crate::compile::{SplitMiddlebox, load_split};
@@ -19,12 +16,14 @@ use crate::formats::{Flattened, ProgramFormat, ScheduleFormat, TraceFormat};
 use crate::load::load;
 use crate::output::put;
 use crate::refusal::Refusal;
-use element_lang::Middlebox;
+use element_interp::stores_are_kept;
+use flatten::flattening_keeps_the_meaning;
 use gal_io::{Files, Sink, Text};
 use packet_fields::Packets;
 use partition::all_on_server;
 use run_text::{Plan, print_run};
 use schedule_replay::{Job, ReplayError, replay};
+use split_world::meanings_that_agree;
 use std::alloc::Global;
 use switch_ir::SwitchPort;
 
@@ -59,13 +58,15 @@ fn load_unsplit<'a, F: Files>(
 ) -> Result<SplitMiddlebox, Refusal<'a>>
     ensures ok { IfOk result (λ x. IsProgram (F.seen files.old).told source.now (tree x.program.middlebox)
         × IsNoChoice (program_of x.program.flat) x.split × (x.writeback ≡ 0)) }
-    ensures program { IfOk result (λ x. program_of x.program.flat ≡ flat_of (tree x.program.middlebox)) }
+    ensures runnable { IfOk result (λ x.
+        IsRunnable (tree x.program.middlebox) (program_of x.program.flat) x.split x.writeback) }
     ensures err { IfErr result (λ refusal. IsFirstRefused refusal (File source.now program ∷ [])
         (F.seen files.old) (F.seen files.new)) }
     ensures stays { GoesOn (F.seen files.old) (F.seen files.new) }
     ensures read { OnOk result ((F.seen files.new).reads ≡ raised_by 1 (F.seen files.old).reads) }
     ensures few_reads { (F.seen files.new).reads ≤ raised_by 1 (F.seen files.old).reads }
 {
+    stores_are_kept();
     let program = load(alloc, files, &ProgramFormat, source)?;
     match all_on_server(alloc, &program.flat) {
         Ok(split) => Ok(SplitMiddlebox {
@@ -85,11 +86,8 @@ fn report<S: SwitchPort>(
     plan: Plan,
     port: &mut S,
 ) -> Result<Text, Refusal<'static>>
-    requires good { IsTrue (is_good (tree split_middlebox.program.middlebox)) }
-    requires program { program_of split_middlebox.program.flat ≡ flat_of (tree split_middlebox.program.middlebox) }
-    requires split { IsSplit (program_of split_middlebox.program.flat) split_middlebox.split split_middlebox.writeback }
-    requires stages { HasFewStages split_middlebox.split }
-    requires writeback { split_middlebox.writeback ≤ 65536 }
+    requires runnable { IsRunnable (tree split_middlebox.program.middlebox) (program_of split_middlebox.program.flat)
+        split_middlebox.split split_middlebox.writeback }
     requires few_packets { length packets ≤ 16384 }
     requires few_events { length plan.events ≤ 1048576 }
     ensures ok { IfOk result (λ text. let m = tree split_middlebox.program.middlebox in
@@ -98,6 +96,9 @@ fn report<S: SwitchPort>(
     ensures err { IfErr result (λ refusal. (refusal ≡ Refusal.NoMemory)
         ⊎ ((refusal ≡ Refusal.SwitchFault) × Rose (S.seen port.old).faults (S.seen port.new).faults)) }
 {
+    stores_are_kept();
+    flattening_keeps_the_meaning();
+    meanings_that_agree();
     let SplitMiddlebox {
         program,
         split,
