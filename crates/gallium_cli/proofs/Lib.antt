@@ -1,6 +1,7 @@
 pub mod Bounds
 pub mod Files
 pub mod Written
+pub mod Reported
 pub mod Runnable
 pub mod Choices
 pub mod Exact
