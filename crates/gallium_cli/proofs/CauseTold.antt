@@ -164,7 +164,7 @@ shut_line : (refusal : Refusal) (gate : Gate) (cause : Refusal) (result : Status
 shut_line refusal (File name role) cause result f f' e e' one why refused told =
     cause_file refusal role name cause result f f' e e' why refused told
 shut_line refusal (Choice s l shrink) cause result f f' e e' one (m, allowed, over, asked, exceeded, is) refused told =
-    elim same_excess refusal f.told s l shrink m allowed over one asked exceeded refused [
+    elim (same_excess refusal f.told s l shrink m allowed over one asked exceeded refused) [
       inl same ↦ line_of_cause refusal cause result e e' (is ∙ same) told
       | inr fault ↦ line_of_fault refusal cause result e e' told fault
     ]

@@ -150,7 +150,7 @@ exact_file _ role name status f f' bad refused = absurd refused
 -- what is refused at an open gate is a fault
 pub open_refused : (refusal : Refusal) (gate : Gate) (f f' : FilesState) → IsGreatestOne → IsKeptUnexceeded
     → IsOpen f.told gate → IsRefusedAt refusal gate f f' → IsFault (status_of refusal)
-open_refused refusal (File name role) f f' one kept open refused = good_refused refusal role name f f' open refused
+open_refused refusal (File name role) f f' one kept free refused = good_refused refusal role name f f' free refused
 open_refused refusal (Choice s l shrink) f f' one kept (m, allowed, split, asked, chosen) refused =
     open_over refusal f.told s l shrink m allowed split one kept asked chosen refused
 
@@ -194,11 +194,11 @@ passed_unshut (gate ∷ gates) status f one kept passed (inr shut) = passed_unsh
 -- what is refused of open gates is a fault
 open_gates : (refusal : Refusal) (gates : List Gate) (f f' : FilesState) → IsGreatestOne → IsKeptUnexceeded
     → AllOpen f.told gates → IsFirstRefused refusal gates f f' → IsFault (status_of refusal)
-open_gates refusal [] f f' one kept open refused = absurd refused
-open_gates refusal (gate ∷ gates) f f' one kept open (inl refused) =
-    open_refused refusal gate f f' one kept open.0 refused
-open_gates refusal (gate ∷ gates) f f' one kept open (inr later) =
-    open_gates refusal gates f f' one kept open.1 later.1
+open_gates refusal [] f f' one kept free refused = absurd refused
+open_gates refusal (gate ∷ gates) f f' one kept free (inl refused) =
+    open_refused refusal gate f f' one kept free.0 refused
+open_gates refusal (gate ∷ gates) f f' one kept free (inr later) =
+    open_gates refusal gates f f' one kept free.1 later.1
 
 -- ## What an answer has passed
 
@@ -216,14 +216,14 @@ answer_passed text (Compile s l shrink) f p p' (m, allowed, plan, made) =
       passed_program s f m plan.program.source plan.program.bounded.few,
       (passed_limits l f allowed plan.limits, ((m, allowed, made.split, plan, made.choice.chosen), tt)),
     )
-answer_passed text (Replay s t c) f p p' (m, packets, plan, split, program, traffic, none, report) =
-    (passed_program s f m program.source program.bounded.few, traffic_passed f t c packets plan traffic)
-answer_passed text (ReplayWithin s t c l shrink) f p p' (m, allowed, packets, plan, split, program, traffic, choice, report) =
+answer_passed text (Replay s t c) f p p' (m, packets, plan, split, found, traffic, none, report) =
+    (passed_program s f m found.source found.bounded.few, traffic_passed f t c packets plan traffic)
+answer_passed text (ReplayWithin s t c l shrink) f p p' (m, allowed, packets, plan, split, found, traffic, choice, report) =
     (
-      passed_program s f m program.program.source program.program.bounded.few,
+      passed_program s f m found.program.source found.program.bounded.few,
       (
-        passed_limits l f allowed program.limits,
-        ((m, allowed, split, program, choice.chosen), traffic_passed f t c packets plan traffic),
+        passed_limits l f allowed found.limits,
+        ((m, allowed, split, found, choice.chosen), traffic_passed f t c packets plan traffic),
       ),
     )
 
@@ -283,13 +283,13 @@ exact_ends (Some request) result call one kept (inr (refusal, (inr (inr unput), 
 pub complete_ends : (request : Option Request) (result : Status) (call : Call) → IsGreatestOne → IsKeptUnexceeded
     → EndsFor request result call → IsComplete request result call
 complete_ends None result call one kept end = tt
-complete_ends (Some request) result call one kept (inl done) = λ open. inl done.0
-complete_ends (Some request) result call one kept (inr (refusal, (inl first, few, aside), told)) = λ open.
+complete_ends (Some request) result call one kept (inl done) = λ free. inl done.0
+complete_ends (Some request) result call one kept (inr (refusal, (inl first, few, aside), told)) = λ free.
     of_told statuses.Done result refusal call.err call.err_after told
-    (inr (open_gates refusal (gates_of request) call.work.files call.work.files_after one kept open first.0))
-complete_ends (Some request) result call one kept (inr (refusal, (inr (inl faulty), few, aside), told)) = λ open.
+    (inr (open_gates refusal (gates_of request) call.work.files call.work.files_after one kept free first.0))
+complete_ends (Some request) result call one kept (inr (refusal, (inr (inl faulty), few, aside), told)) = λ free.
     of_told statuses.Done result refusal call.err call.err_after told
     (inr (switch_is_fault refusal request call.work.port call.work.port_after faulty.0))
-complete_ends (Some request) result call one kept (inr (refusal, (inr (inr unput), few, aside), told)) = λ open.
+complete_ends (Some request) result call one kept (inr (refusal, (inr (inr unput), few, aside), told)) = λ free.
     of_told statuses.Done result refusal call.err call.err_after told
     (inr (unwritten_fault refusal request call.work unput))

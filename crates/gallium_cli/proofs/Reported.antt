@@ -1,6 +1,7 @@
 -- What the report of a replay says of the source.
-use Rattle.std.proofs.Common.{◌≡◌, ◌≤◌, ◌<◌, ◌^◌, ℕ, Bool, List, [], length, Some, sym, subst, inl, inr, arith, refl}
+use Rattle.std.proofs.Common.{◌≡◌, ◌≤◌, ◌<◌, ◌^◌, ℕ, zero, suc, Bool, List, [], ◌∷◌, length, Some, sym, subst, inl, inr, arith, refl}
 use Rattle.std.specs.Prelude.{IsTrue, IsSome, slice_get, slice_index}
+use Rattle.std.specs.List.{AllByRecursion as Each}
 use Rattle.packet_fields.specs.declared.packet.Packet.{Packet}
 use Rattle.state_store.specs.Kept.{IsKept}
 use Rattle.state_store.specs.Store.{Store, start_store}
@@ -54,6 +55,13 @@ pub record CarriesOver : Type 0 where
 -- each of these packets may arrive
 abbrev pub AllArrive : List Packet → Type 0
 AllArrive packets = (n : ℕ) (packet : Packet) → slice_get packets n ≡ Some packet → IsArrival packet
+
+-- as a fact of each of them
+pub each_arrives : (packets : List Packet) → Each IsArrival packets → AllArrive packets
+each_arrives [] each n packet there = cc
+each_arrives (first ∷ packets) each zero packet there =
+    let same : first ≡ packet = cc in subst IsArrival same each.0
+each_arrives (first ∷ packets) each (suc n) packet there = each_arrives packets each.1 n packet there
 
 abbrev no_packet : Packet
 no_packet = record { port = 0; bytes = [] }

@@ -49,7 +49,7 @@ back_all P (x ∷ xs) ys all = back_all P xs ys (All-tail P x (xs ++ ys) all)
 each_number : (P : ℕ → Type 0) (number : ℕ → ℕ) (n o : ℕ) → All P (first_numbers n number) → o < n → P (number o)
 each_number P number zero o all low = absurd (omega arith)
 each_number P number (suc n) o all low =
-    elim cases_lt o n [
+    elim (cases_lt o n) [
       inl before ↦ each_number P number n o (front_all P (first_numbers n number) (number n ∷ []) all) before
       | inr last ↦ (
         let here = All-head P (number n) [] (back_all P (first_numbers n number) (number n ∷ []) all) in
@@ -100,8 +100,7 @@ none_below zero test none = refl
 none_below (suc n) test none =
     let before : count_below n test ≡ 0 = none_below n test (λ i low. none i (omega arith)) in
     let here : test n ≡ false = none n (omega arith) in
-    let last : (if test n then 1 else 0) ≡ 0 = ap (λ b. if b then 1 else 0) here in
-    omega arith
+    ap (λ (k : ℕ). k + (if test n then 1 else 0)) before ∙ ap (λ (b : Bool). 0 + (if b then 1 else 0)) here
 
 at_most_if : (b : Bool) (n limit : ℕ) → n ≡ 0 → (if b then n else 0) ≤ limit
 at_most_if true n limit none = omega arith
@@ -109,7 +108,7 @@ at_most_if false n limit none = omega arith
 
 few_writes : (f : Program) (split : List Part) (limits : Limits) → IsWellFormed f → KeepsLimits f split limits
     → (o : ℕ) → writes f split o ≤ limits.writeback
-few_writes f split limits formed keeps o = elim cases_lt o (length f.objects) [
+few_writes f split limits formed keeps o = elim (cases_lt o (length f.objects)) [
   inl low ↦ each_number (λ n. n ≤ limits.writeback) (writes f split) (length f.objects) o keeps.writeback low
   | inr past ↦ at_most_if (is_replicated f split o) (count_steps f (λ i. writes_to o (step_at f i).work)) limits.writeback
       (none_below (length f.code) (λ i. writes_to o (step_at f i).work)
@@ -134,7 +133,7 @@ abbrev served_part : Part
 served_part = record { pre = None; slow = Server }
 
 all_served : (n i : ℕ) → part_at (replicate n served_part) i ≡ served_part
-all_served n i = elim cases_lt i n [
+all_served n i = elim (cases_lt i n) [
   inl low ↦ get_or-replicate n i served_part served_part low
   | inr past ↦ get_or_past (replicate n served_part) i served_part
       (subst (λ k. k ≤ i) (sym (length-replicate n served_part)) past)

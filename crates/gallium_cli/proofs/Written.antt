@@ -1,26 +1,35 @@
 -- What a text that was written leads to, and what a call that came to none.
-use Rattle.std.proofs.Common.{◌≡◌, ◌≤◌, ◌++◌, ℕ, Bool, true, false, List, length, Some, Result, Ok, Err, IfErr, inl, inr, refl, sym, ap, subst, ◌∙◌, append_assoc, arith}
+use Rattle.std.proofs.Common.{◌≡◌, ◌≤◌, ◌+◌, ◌-◌, ◌^◌, ◌++◌, ℕ, min, Bool, true, false, List, [], ◌∷◌, length, Option, Some, Result, Ok, Err}
+use Rattle.std.proofs.Common.{IfErr, inl, inr, refl, sym, ap, subst, ◌∙◌, append_assoc, arith}
 use Rattle.std.specs.Prelude.{OnOk}
 use Rattle.gal_io.specs.Count.{Rose}
 use Rattle.gal_io.specs.Files.{FilesState}
 use Rattle.gal_io.specs.Sink.{SinkState}
+use Rattle.packet_fields.specs.declared.packet.Packet.{Packet}
+use Rattle.element_lang.specs.Tree.{Tree}
 use Rattle.flat_ir.specs.Program.{Program}
 use Rattle.flat_ir.specs.Listing.{listing}
+use Rattle.flatten.specs.Flatten.{flat_of}
 use Rattle.split_model.specs.declared.split.Part.{Part}
 use Rattle.resource_limits.specs.declared.counting.Counts.{Counts}
 use Rattle.resource_limits.specs.declared.limits.Limits.{Limits}
 use Rattle.resource_limits.specs.Counts.{counts_of}
 use Rattle.split_validate.specs.SplitText.{split_text}
 use Rattle.split_validate.specs.CountsText.{counts_text}
+use Rattle.partition.specs.Choice.{IsChosen}
+use Rattle.run_text.specs.declared.plan.Plan.{Plan}
 use Rattle.switch_ir.specs.Port.{PortState}
 use Rattle.gallium_cli.specs.declared.refusal.Refusal.{Refusal}
 use Rattle.gallium_cli.specs.declared.refusal.Refusal.TheVariants.{WriteFault, SwitchFault, NoMemory}
 use Rattle.gallium_cli.specs.Call.{Work, work_of}
-use Rattle.gallium_cli.specs.Words.{Request, is_replay}
-use Rattle.gallium_cli.specs.Roles.{gates_of}
-use Rattle.gallium_cli.specs.Answers.{IsAnswer, IsChoice, IsCompilation, heading_text, compiled_text}
+use Rattle.gallium_cli.specs.Words.{Request, Compile, Replay, ReplayWithin, is_replay}
+use Rattle.gallium_cli.specs.Roles.{program, Gate, File, gates_of, plan_gates, event_gates, names_of}
+use Rattle.gallium_cli.specs.Answers.{IsAnswer, IsProgram, IsPlan, IsTraffic, IsChoice, IsNoChoice, IsCompilation}
+use Rattle.gallium_cli.specs.Answers.{IsReport, setup, heading_text, compiled_text}
+use Rattle.gallium_cli.specs.Loads.{GoesOn, raised_by}
 use Rattle.gallium_cli.specs.Puts.{IsPut, IsNotPut}
 use Rattle.gallium_cli.specs.Causes.{IsFirstRefused, IsNotWritten, IsSwitchKept, IsDone, HasCause, most_reads}
+use Rattle.gallium_cli.proofs.Files.{AllPassed, passed_program, passed_limits, first_before, refused_behind, traffic_before}
 
 pub at_most : (n m : ℕ) → n ≡ m → n ≤ m
 at_most n m same = omega arith
@@ -106,3 +115,105 @@ told_split f split writeback n counts words head list parts some all counted wor
     two ∙ ap (λ x. x ++ parts) one ∙ append_assoc head list parts ∙ ap (λ x. x ++ (list ++ parts)) top
     ∙ ap (λ x. heading_text (length f.code) (counts_text (counts_of f split writeback)) ++ (x ++ parts)) listed
     ∙ ap (λ x. heading_text (length f.code) (counts_text (counts_of f split writeback)) ++ (listing f ++ x)) parted
+
+-- ## Replays
+
+-- files that are read after others
+reads_at_most : (a b x y z : ℕ) → y ≡ raised_by a x → z ≤ raised_by b y → z ≤ raised_by (a + b) x
+reads_at_most a b x y z one two = omega arith
+
+reads_in_all : (a b x y z : ℕ) → y ≡ raised_by a x → z ≡ raised_by b y → z ≡ raised_by (a + b) x
+reads_in_all a b x y z one two = omega arith
+
+-- what a refusal at the trace or the schedule comes to, behind gates that are passed
+traffic_cause : (refusal : Refusal) (request : Request) (gates : List Gate) (t c : List ℕ) (f g h : FilesState)
+    (p : PortState) (o : SinkState) (a b : ℕ) → gates_of request ≡ gates ++ event_gates t c
+    → length (names_of request) ≡ a + b → AllPassed gates f → GoesOn f g → g.reads ≡ raised_by a f.reads
+    → IsFirstRefused refusal (event_gates t c) g h → h.reads ≤ raised_by b g.reads
+    → HasCause refusal (Some request) (work_of f h p p o o)
+traffic_cause refusal request gates t c f g h p o a b goes_by many passed goes one first two =
+    let before = first_before refusal (event_gates t c) f g h goes first in
+    let behind = refused_behind refusal gates (event_gates t c) f h passed before in
+    let few = reads_at_most a b f.reads g.reads h.reads one two in
+    gate_cause refusal request f h p o
+    (subst (λ (all : List Gate). IsFirstRefused refusal all f h) (sym goes_by) behind)
+    (subst (λ n. h.reads ≤ raised_by n f.reads) (sym many) few)
+
+pub served_refused : (refusal : Refusal) (s t c : List ℕ) (m : Tree) (f g h : FilesState) (p : PortState) (o : SinkState)
+    → IsProgram f.told s m → GoesOn f g → g.reads ≡ raised_by 1 f.reads
+    → IsFirstRefused refusal (event_gates t c) g h → h.reads ≤ raised_by 2 g.reads
+    → HasCause refusal (Some (Replay s t c)) (work_of f h p p o o)
+served_refused refusal s t c m f g h p o found goes one first two =
+    traffic_cause refusal (Replay s t c) (File s program ∷ []) t c f g h p o 1 2 refl refl
+    (passed_program s f m found.source found.bounded.few, tt) goes one first two
+
+pub chosen_refused : (refusal : Refusal) (s t c l : List ℕ) (shrink : Bool) (m : Tree) (allowed : Limits) (q : Program)
+    (split : List Part) (f g h : FilesState) (p : PortState) (o : SinkState) → IsPlan f.told s l m allowed
+    → q ≡ flat_of m → IsChoice q allowed shrink split → GoesOn f g → g.reads ≡ raised_by 2 f.reads
+    → IsFirstRefused refusal (event_gates t c) g h → h.reads ≤ raised_by 2 g.reads
+    → HasCause refusal (Some (ReplayWithin s t c l shrink)) (work_of f h p p o o)
+chosen_refused refusal s t c l shrink m allowed q split f g h p o found same choice goes one first two =
+    let chosen = subst (λ (x : Program). IsChosen x allowed shrink split) same choice.chosen in
+    traffic_cause refusal (ReplayWithin s t c l shrink) (plan_gates s l shrink) t c f g h p o 2 2 refl refl
+    (
+      passed_program s f m found.program.source found.program.bounded.few,
+      (passed_limits l f allowed found.limits, ((m, allowed, split, found, chosen), tt)),
+    )
+    goes one first two
+
+-- the report of a replay that was put on out is an answer
+report_put : (sent text : List ℕ) (m : Tree) (split : List Part) (writeback rows : ℕ) (packets : List Packet) (plan : Plan)
+    (p p' : PortState) → sent ≡ text → writeback ≡ rows → IsReport text m (setup m split writeback packets) plan p p'
+    → IsReport sent m (setup m split rows packets) plan p p'
+report_put sent text m split writeback rows packets plan p p' put same report =
+    subst (λ x. IsReport x m (setup m split rows packets) plan p p') (sym put)
+    (subst (λ n. IsReport text m (setup m split n packets) plan p p') same report)
+
+pub served_answer : (s t c : List ℕ) (m : Tree) (q : Program) (split : List Part) (writeback : ℕ) (packets : List Packet)
+    (plan : Plan) (text sent : List ℕ) (f g : FilesState) (p p' : PortState) → GoesOn f g → IsProgram f.told s m
+    → q ≡ flat_of m → IsNoChoice q split → writeback ≡ 0 → IsTraffic g.told t c packets plan
+    → IsReport text m (setup m split writeback packets) plan p p' → sent ≡ text
+    → IsAnswer sent (Replay s t c) f.told p p'
+served_answer s t c m q split writeback packets plan text sent f g p p' goes found same none rows traffic report put = (
+  m, packets, plan, split, found, traffic_before t c f g packets plan goes traffic,
+  subst (λ (x : Program). IsNoChoice x split) same none,
+  report_put sent text m split writeback 0 packets plan p p' put rows report,
+)
+
+pub chosen_answer : (s t c l : List ℕ) (shrink : Bool) (m : Tree) (allowed : Limits) (q : Program) (split : List Part)
+    (writeback : ℕ) (packets : List Packet) (plan : Plan) (text sent : List ℕ) (f g : FilesState) (p p' : PortState)
+    → GoesOn f g → IsPlan f.told s l m allowed → q ≡ flat_of m → IsChoice q allowed shrink split
+    → writeback ≡ allowed.writeback → IsTraffic g.told t c packets plan
+    → IsReport text m (setup m split writeback packets) plan p p' → sent ≡ text
+    → IsAnswer sent (ReplayWithin s t c l shrink) f.told p p'
+chosen_answer s t c l shrink m allowed q split writeback packets plan text sent f g p p' goes found same choice rows traffic report put = (
+  m, allowed, packets, plan, split, found, traffic_before t c f g packets plan goes traffic,
+  subst (λ (x : Program). IsChoice x allowed shrink split) same choice,
+  report_put sent text m split writeback allowed.writeback packets plan p p' put rows report,
+)
+
+-- all reads of a replay
+pub served_reads : (f g h : FilesState) → g.reads ≡ raised_by 1 f.reads → h.reads ≡ raised_by 2 g.reads
+    → h.reads ≡ raised_by 3 f.reads
+served_reads f g h one two = reads_in_all 1 2 f.reads g.reads h.reads one two
+
+pub chosen_reads : (f g h : FilesState) → g.reads ≡ raised_by 2 f.reads → h.reads ≡ raised_by 2 g.reads
+    → h.reads ≡ raised_by 4 f.reads
+chosen_reads f g h one two = reads_in_all 2 2 f.reads g.reads h.reads one two
+
+-- ## What the words ask for
+
+-- how a request ends is how a call ends whose words ask for it
+pub asked_ok : {A : Type 0} {E : Type 0} (result : Result A E) (asked : Option Request) (form request : Request)
+    (f f' : FilesState) (p p' : PortState) (o o' : SinkState) → asked ≡ Some form → form ≡ request
+    → OnOk result (IsDone (Some request) (work_of f f' p p' o o')) → OnOk result (IsDone asked (work_of f f' p p' o o'))
+asked_ok result asked form request f f' p p' o o' is same done =
+    subst (λ (x : Option Request). OnOk result (IsDone x (work_of f f' p p' o o'))) (sym (is ∙ ap Some same)) done
+
+pub asked_err : {A : Type 0} (result : Result A Refusal) (asked : Option Request) (form request : Request)
+    (f f' : FilesState) (p p' : PortState) (o o' : SinkState) → asked ≡ Some form → form ≡ request
+    → IfErr result (λ refusal. HasCause refusal (Some request) (work_of f f' p p' o o'))
+    → IfErr result (λ refusal. HasCause refusal asked (work_of f f' p p' o o'))
+asked_err result asked form request f f' p p' o o' is same cause =
+    subst (λ (x : Option Request). IfErr result (λ refusal. HasCause refusal x (work_of f f' p p' o o')))
+    (sym (is ∙ ap Some same)) cause

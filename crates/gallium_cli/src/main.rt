@@ -6,6 +6,7 @@ ghost use Rattle.std.specs.Prelude.{◌≡◌};
 ghost use Rattle.std.specs.Process.{exit_status};
 ghost use Rattle.gallium_cli.specs.Status.{code_of};
 
+mod arrivals;
 mod compile;
 #[cfg(test)]
 mod compile_tests;

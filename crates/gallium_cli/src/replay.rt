@@ -11,6 +11,7 @@ ghost use Rattle.gallium_cli.specs.Roles.{program, File, event_gates};
 ghost use Rattle.gallium_cli.specs.Runnable.{IsRunnable};
 ghost use Rattle.gallium_cli.specs.Words.{Replay, ReplayWithin};
 
+use crate::arrivals::all_arrive;
 use crate::compile::{SplitMiddlebox, load_split};
 use crate::formats::{Flattened, ProgramFormat, ScheduleFormat, TraceFormat};
 use crate::load::load;
@@ -99,6 +100,7 @@ fn report<S: SwitchPort>(
     stores_are_kept();
     flattening_keeps_the_meaning();
     meanings_that_agree();
+    all_arrive(packets.as_slice());
     let SplitMiddlebox {
         program,
         split,

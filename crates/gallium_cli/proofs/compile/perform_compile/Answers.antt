@@ -1,18 +1,22 @@
-use Rattle.gallium_cli.proofs.Written.{compilation, put_split, unput_split}
+use Rattle.std.proofs.Common.{refl}
+use Rattle.gallium_cli.specs.Words.{Compile}
+use Rattle.gallium_cli.proofs.Written.{compilation, put_answer, unput_answer}
 use Rattle.gallium_cli.proofs.compile.perform_compile.Goals as goal
 
 pub returns-clause-ok : goal.returns-clause-ok
-returns-clause-ok g c =
-    let split = c.in_ok-split.ensures in
-    let made = compilation _ _ _ _ _ _ _ c.in_ok-program.ensures.program split.chosen split.legal split.keeps c.in-Ok.ensures c.as_slice.ensures in
-    put_split _ _ _ _ _ _ _ (g.F.Files.seen c.args.files.now) (g.F.Files.seen c.load_plan.new.files)
+returns-clause-ok g c = λ port.
+    let found = c.in_ok-middlebox.ensures in
+    let made = compilation _ _ _ _ _ _ _ _ found.runnable.program found.ok.2 found.ok.3 c.in-Ok.ensures c.as_slice.ensures in
+    put_answer _ (Compile c.args.source.now c.args.limits.now c.args.shrink) c.as_slice.result.now
+    (g.F.Files.seen c.args.files.now) (g.F.Files.seen c.load_split.new.files) port port
     (g.O.Sink.seen c.args.out.now) (g.O.Sink.seen c.put.new.out)
-    c.in_ok-program.ensures.ok made c.in_ok-program.ensures.read c.put.ensures.ok
+    (_, found.ok.0, found.ok.1, made) found.read refl c.put.ensures.ok
 
 pub returns-clause-err : goal.returns-clause-err
-returns-clause-err g c =
-    let split = c.in_ok-split.ensures in
-    let made = compilation _ _ _ _ _ _ _ c.in_ok-program.ensures.program split.chosen split.legal split.keeps c.in-Ok.ensures c.as_slice.ensures in
-    unput_split _ _ _ _ _ _ _ (g.F.Files.seen c.args.files.now) (g.F.Files.seen c.load_plan.new.files)
+returns-clause-err g c = λ port.
+    let found = c.in_ok-middlebox.ensures in
+    let made = compilation _ _ _ _ _ _ _ _ found.runnable.program found.ok.2 found.ok.3 c.in-Ok.ensures c.as_slice.ensures in
+    unput_answer _ (Compile c.args.source.now c.args.limits.now c.args.shrink) c.as_slice.result.now
+    (g.F.Files.seen c.args.files.now) (g.F.Files.seen c.load_split.new.files) port port
     (g.O.Sink.seen c.args.out.now) (g.O.Sink.seen c.put.new.out)
-    c.in_ok-program.ensures.ok made c.in_ok-program.ensures.read c.put.ensures.err
+    (_, found.ok.0, found.ok.1, made) found.read refl c.put.ensures.err

@@ -1,0 +1,12 @@
+use Rattle.std.proofs.Common.{refl}
+use Rattle.element_lang.specs.View.{tree}
+use Rattle.gallium_cli.proofs.Runnable.{chosen_runs}
+use Rattle.gallium_cli.proofs.compile.load_split.Goals as goal
+
+pub returns-clause-runnable : goal.returns-clause-runnable
+returns-clause-runnable g c =
+    let m = tree c.in_ok-program.program.middlebox in
+    let found = c.in_ok-program.ensures in
+    let split = c.in_ok-split.ensures in
+    chosen_runs m _ c.in_ok-split.split c.in_ok-program.allowed _ found.good found.program found.ok.program.bounded
+    (c.stores_are_kept.ensures.start m found.good) split.legal split.keeps split.low found.in_range refl

@@ -1,0 +1,38 @@
+use Rattle.std.proofs.lemmas.Result.{err_from_is_err_and}
+use Rattle.gallium_cli.specs.Words.{Replay}
+use Rattle.gallium_cli.proofs.Written.{served_refused, served_answer, served_reads, put_answer, unput_answer}
+use Rattle.gallium_cli.proofs.replay.perform_replay.Goals as goal
+
+pub returns-in_err-packets-clause-err : goal.returns-in_err-packets-clause-err
+returns-in_err-packets-clause-err g c =
+    let p = err_from_is_err_and c.from_residual-in_err-packets.result c.from_residual-in_err-packets.ensures.1 in
+    let found = c.in_ok-middlebox.ensures in
+    rw (p.1, p.2)
+    (served_refused _ _ _ _ _ _ _ _ _ _ found.ok.0 found.stays found.read c.in_err-packets.ensures.err
+    c.in_err-packets.ensures.few_reads)
+
+pub returns-clause-ok : goal.returns-clause-ok
+returns-clause-ok g c =
+    let found = c.in_ok-middlebox.ensures in
+    let came = c.in_ok-packets.ensures in
+    put_answer _ (Replay c.args.source.now c.args.trace.now c.args.schedule.now) c.as_slice.result.now
+    (g.F.Files.seen c.args.files.now) (g.F.Files.seen c.load_traffic.new.files)
+    (g.S.SwitchPort.seen c.args.port.now) (g.S.SwitchPort.seen c.report.new.port)
+    (g.O.Sink.seen c.args.out.now) (g.O.Sink.seen c.put.new.out)
+    (served_answer _ _ _ _ _ _ _ _ _ _ _ _ _ _ _ found.stays found.ok.0 found.runnable.program found.ok.1 found.ok.2
+    came.ok c.in_ok-text.ensures.ok c.as_slice.ensures)
+    (served_reads (g.F.Files.seen c.args.files.now) (g.F.Files.seen c.load_unsplit.new.files) (g.F.Files.seen c.load_traffic.new.files)
+    found.read came.read) tt c.put.ensures.ok
+
+pub returns-clause-err : goal.returns-clause-err
+returns-clause-err g c =
+    let found = c.in_ok-middlebox.ensures in
+    let came = c.in_ok-packets.ensures in
+    unput_answer _ (Replay c.args.source.now c.args.trace.now c.args.schedule.now) c.as_slice.result.now
+    (g.F.Files.seen c.args.files.now) (g.F.Files.seen c.load_traffic.new.files)
+    (g.S.SwitchPort.seen c.args.port.now) (g.S.SwitchPort.seen c.report.new.port)
+    (g.O.Sink.seen c.args.out.now) (g.O.Sink.seen c.put.new.out)
+    (served_answer _ _ _ _ _ _ _ _ _ _ _ _ _ _ _ found.stays found.ok.0 found.runnable.program found.ok.1 found.ok.2
+    came.ok c.in_ok-text.ensures.ok c.as_slice.ensures)
+    (served_reads (g.F.Files.seen c.args.files.now) (g.F.Files.seen c.load_unsplit.new.files) (g.F.Files.seen c.load_traffic.new.files)
+    found.read came.read) tt c.put.ensures.err

@@ -1,0 +1,41 @@
+use Rattle.std.proofs.Common.{ap}
+use Rattle.gallium_cli.specs.Words.{Run, Compile, Replay, ReplayWithin, asked_by}
+use Rattle.gallium_cli.proofs.Written.{asked_ok, asked_err}
+use Rattle.gallium_cli.proofs.top.perform.Goals as goal
+
+pub returns-in-Some-Run-clause-err : goal.returns-in-Some-Run-clause-err
+returns-in-Some-Run-clause-err g c =
+    let arm = c.in-Some-Run in
+    asked_err c.perform_run.result _ (asked_by arm.field-0) (Run arm.source.now arm.trace.now)
+    (g.F.Files.seen c.args.files.now) (g.F.Files.seen c.perform_run.new.files)
+    (g.S.SwitchPort.seen c.args.port.now) (g.S.SwitchPort.seen c.args.port.now)
+    (g.O.Sink.seen c.args.out.now) (g.O.Sink.seen c.perform_run.new.out)
+    arm.ensures (ap asked_by arm.field-0-is) (c.perform_run.ensures.err (g.S.SwitchPort.seen c.args.port.now))
+
+pub returns-in-Some-Compile-clause-err : goal.returns-in-Some-Compile-clause-err
+returns-in-Some-Compile-clause-err g c =
+    let arm = c.in-Some-Compile in
+    asked_err c.perform_compile.result _ (asked_by arm.field-0) (Compile arm.source.now arm.limits.now arm.shrink)
+    (g.F.Files.seen c.args.files.now) (g.F.Files.seen c.perform_compile.new.files)
+    (g.S.SwitchPort.seen c.args.port.now) (g.S.SwitchPort.seen c.args.port.now)
+    (g.O.Sink.seen c.args.out.now) (g.O.Sink.seen c.perform_compile.new.out)
+    arm.ensures (ap asked_by arm.field-0-is) (c.perform_compile.ensures.err (g.S.SwitchPort.seen c.args.port.now))
+
+pub returns-in-Some-Replay-clause-ok : goal.returns-in-Some-Replay-clause-ok
+returns-in-Some-Replay-clause-ok g c =
+    let arm = c.in-Some-Replay in
+    asked_ok c.perform_replay.result _ (asked_by arm.field-0) (Replay arm.source.now arm.trace.now arm.schedule.now)
+    (g.F.Files.seen c.args.files.now) (g.F.Files.seen c.perform_replay.new.files)
+    (g.S.SwitchPort.seen c.args.port.now) (g.S.SwitchPort.seen c.perform_replay.new.port)
+    (g.O.Sink.seen c.args.out.now) (g.O.Sink.seen c.perform_replay.new.out)
+    arm.ensures (ap asked_by arm.field-0-is) c.perform_replay.ensures.ok
+
+pub returns-in-Some-ReplayWithin-clause-ok : goal.returns-in-Some-ReplayWithin-clause-ok
+returns-in-Some-ReplayWithin-clause-ok g c =
+    let arm = c.in-Some-ReplayWithin in
+    asked_ok c.perform_replay_within.result _ (asked_by arm.field-0)
+    (ReplayWithin arm.source.now arm.trace.now arm.schedule.now arm.limits.now arm.shrink)
+    (g.F.Files.seen c.args.files.now) (g.F.Files.seen c.perform_replay_within.new.files)
+    (g.S.SwitchPort.seen c.args.port.now) (g.S.SwitchPort.seen c.perform_replay_within.new.port)
+    (g.O.Sink.seen c.args.out.now) (g.O.Sink.seen c.perform_replay_within.new.out)
+    arm.ensures (ap asked_by arm.field-0-is) c.perform_replay_within.ensures.ok
