@@ -9,14 +9,13 @@ use Rattle.element_text.specs.declared.error.TextError.{TextError}
 use Rattle.resource_limits.specs.declared.limits.LimitsError.{LimitsError}
 use Rattle.run_text.specs.declared.refusal.LinesError.{LinesError}
 use Rattle.gallium_cli.specs.declared.status.Status.{Status}
-use Rattle.gallium_cli.specs.declared.status.Status.TheVariants as statuses
 use Rattle.gallium_cli.specs.declared.refusal.Refusal.{Refusal}
-use Rattle.gallium_cli.specs.declared.refusal.Refusal.TheVariants.{Source, LongProgram, Limits, Exceeded, Trace, Schedule}
+use Rattle.gallium_cli.specs.declared.refusal.Refusal.TheVariants.{Source, LongProgram, Limits, Trace, Schedule}
 use Rattle.gallium_cli.specs.declared.refusal.Refusal.TheVariants.{TooLong, ReadFault, NoMemory}
 use Rattle.gallium_cli.specs.Call.{Call}
 use Rattle.gallium_cli.specs.Lines.{status_of, line_of}
 use Rattle.gallium_cli.specs.Words.{Request}
-use Rattle.gallium_cli.specs.Roles.{Role, source, program, limits, trace, schedule, size_of, IsGood, IsBad}
+use Rattle.gallium_cli.specs.Roles.{Role, source, program, limits, trace, schedule, size_of, IsBad}
 use Rattle.gallium_cli.specs.Roles.{Gate, File, Choice, gates_of}
 use Rattle.gallium_cli.specs.Loads.{IsBadSource, IsLongProgram, AreBadLimits, IsBadTrace, IsBadSchedule, IsFileRefused}
 use Rattle.gallium_cli.specs.Causes.{IsRefusedAt, IsFirstRefused, IsTold, EndsFor}
@@ -165,7 +164,7 @@ shut_line refusal (File name role) cause result f f' e e' one why refused told =
     cause_file refusal role name cause result f f' e e' why refused told
 shut_line refusal (Choice s l shrink) cause result f f' e e' one (m, allowed, over, asked, exceeded, is) refused told =
     elim (same_excess refusal f.told s l shrink m allowed over one asked exceeded refused) [
-      inl same ↦ line_of_cause refusal cause result e e' (is ∙ same) told
+      | inl same ↦ line_of_cause refusal cause result e e' (is ∙ same) told
       | inr fault ↦ line_of_fault refusal cause result e e' told fault
     ]
 

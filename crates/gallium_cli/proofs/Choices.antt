@@ -16,7 +16,6 @@ use Rattle.resource_limits.specs.declared.exceeding.Over.{Over}
 use Rattle.resource_limits.specs.Counts.{counts_of}
 use Rattle.resource_limits.specs.Kept.{Keeps, first_over}
 use Rattle.partition.specs.Choice.{IsChosen, IsRefused}
-use Rattle.gallium_cli.specs.declared.status.Status.{Status}
 use Rattle.gallium_cli.specs.declared.status.Status.TheVariants as statuses
 use Rattle.gallium_cli.specs.declared.refusal.Refusal.{Refusal}
 use Rattle.gallium_cli.specs.declared.refusal.Refusal.TheVariants.{Exceeded, NoMemory}
@@ -177,8 +176,8 @@ same_excess (Exceeded excess) told s l shrink m allowed over one asked refused (
     let first = one_over (flat_of m') allowed' shrink over other one found.program.bounded.formed
     (refused_there m m' allowed allowed' shrink over same refused) also in
     inl (
-      ap (λ (n : Tree). Exceeded (excess_of n.objects over)) same.middlebox
-      ∙ ap (λ (o : Over). Exceeded (excess_of m'.objects o)) first ∙ sym (ap Exceeded is)
+    ap (λ (n : Tree). Exceeded (excess_of n.objects over)) same.middlebox
+    ∙ ap (λ (o : Over). Exceeded (excess_of m'.objects o)) first ∙ sym (ap Exceeded is)
     )
 same_excess NoMemory told s l shrink m allowed over one asked refused found = inr tt
 same_excess _ told s l shrink m allowed over one asked refused (m', allowed', found, never) = absurd never

@@ -1,16 +1,14 @@
 -- Which status told files and limits lead to.
-use Rattle.std.proofs.Common.{◌≡◌, ◌⊎◌, ◌<◌, ℕ, List, [], ◌∷◌, length, Option, Some, None, IfSome, IsSomeAnd, subst, sym}
-use Rattle.std.proofs.Common.{◌∙◌, inl, inr, arith}
+use Rattle.std.proofs.Common.{◌≡◌, ◌<◌, ℕ, List, [], ◌∷◌, length, Option, Some, None, IfSome, IsSomeAnd, subst, sym}
+use Rattle.std.proofs.Common.{inl, inr, arith}
 use Rattle.gal_io.specs.Files.{FilesState}
 use Rattle.gal_io.specs.Sink.{SinkState}
 use Rattle.gal_io.specs.declared.sink.SinkEnd.{SinkEnd}
 use Rattle.gal_io.specs.declared.sink.SinkEnd.TheVariants as ends
 use Rattle.packet_fields.specs.declared.packet.Packet.{Packet}
-use Rattle.element_lang.specs.Tree.{Tree}
 use Rattle.run_text.specs.declared.plan.Plan.{Plan}
 use Rattle.run_text.specs.declared.refusal.LinesError.{LinesError}
 use Rattle.element_text.specs.declared.error.TextError.{TextError}
-use Rattle.resource_limits.specs.declared.limits.Limits.{Limits as Allowed}
 use Rattle.resource_limits.specs.declared.limits.LimitsError.{LimitsError}
 use Rattle.switch_ir.specs.Port.{PortState}
 use Rattle.gallium_cli.specs.declared.status.Status.{Status}
@@ -22,8 +20,8 @@ use Rattle.gallium_cli.specs.Call.{Call, Work}
 use Rattle.gallium_cli.specs.Lines.{status_of}
 use Rattle.gallium_cli.specs.Words.{Request, Run, Compile, Replay, ReplayWithin}
 use Rattle.gallium_cli.specs.Roles.{Role, source, program, limits, trace, schedule, size_of, IsGood, IsBad}
-use Rattle.gallium_cli.specs.Roles.{Gate, File, Choice, gates_of, plan_gates, event_gates}
-use Rattle.gallium_cli.specs.Answers.{IsInput, IsProgram, IsPlan, IsTraffic, IsAnswer}
+use Rattle.gallium_cli.specs.Roles.{Gate, File, Choice, gates_of, event_gates}
+use Rattle.gallium_cli.specs.Answers.{IsTraffic, IsAnswer}
 use Rattle.gallium_cli.specs.Loads.{IsFileRefused, IsBadSource, IsLongProgram, AreBadLimits, IsBadTrace, IsBadSchedule}
 use Rattle.gallium_cli.specs.Causes.{IsRefusedAt, IsPassed, IsFirstRefused, IsSwitchFaulty, IsNotWritten, after_line}
 use Rattle.gallium_cli.specs.Causes.{IsTold, EndsFor}
@@ -211,21 +209,19 @@ pub answer_passed : (text : List ℕ) (request : Request) (f : FilesState) (p p'
     → IsAnswer text request f.told p p' → AllPassed (gates_of request) f
 answer_passed text (Run s t) f p p' (m, packets, input, printed) =
     (passed_source s f m input.source, (passed_trace t f packets input.trace, tt))
-answer_passed text (Compile s l shrink) f p p' (m, allowed, plan, made) =
-    (
-      passed_program s f m plan.program.source plan.program.bounded.few,
-      (passed_limits l f allowed plan.limits, ((m, allowed, made.split, plan, made.choice.chosen), tt)),
-    )
+answer_passed text (Compile s l shrink) f p p' (m, allowed, plan, made) = (
+  passed_program s f m plan.program.source plan.program.bounded.few,
+  (passed_limits l f allowed plan.limits, ((m, allowed, made.split, plan, made.choice.chosen), tt)),
+)
 answer_passed text (Replay s t c) f p p' (m, packets, plan, split, found, traffic, none, report) =
     (passed_program s f m found.source found.bounded.few, traffic_passed f t c packets plan traffic)
-answer_passed text (ReplayWithin s t c l shrink) f p p' (m, allowed, packets, plan, split, found, traffic, choice, report) =
-    (
-      passed_program s f m found.program.source found.program.bounded.few,
-      (
-        passed_limits l f allowed found.limits,
-        ((m, allowed, split, found, choice.chosen), traffic_passed f t c packets plan traffic),
-      ),
-    )
+answer_passed text (ReplayWithin s t c l shrink) f p p' (m, allowed, packets, plan, split, found, traffic, choice, report) = (
+  passed_program s f m found.program.source found.program.bounded.few,
+  (
+    passed_limits l f allowed found.limits,
+    ((m, allowed, split, found, choice.chosen), traffic_passed f t c packets plan traffic),
+  ),
+)
 
 -- ## How a call ends
 

@@ -1,5 +1,5 @@
 -- What the reading of one file shows, and what is passed and refused one after the other.
-use Rattle.std.proofs.Common.{◌≡◌, ◌≤◌, ◌<◌, ◌+◌, ◌-◌, ◌^◌, ℕ, min, Bool, List, [], ◌∷◌, ◌++◌, length, Option, Some, None, IfSome}
+use Rattle.std.proofs.Common.{◌≡◌, ◌≤◌, ◌<◌, ◌^◌, ℕ, Bool, List, [], ◌∷◌, ◌++◌, length, Option, Some, None, IfSome}
 use Rattle.std.proofs.Common.{subst, inl, inr, arith, Ok}
 use Rattle.gal_io.specs.Files.{FilesState}
 use Rattle.packet_fields.specs.declared.packet.Packet.{Packet}
@@ -18,7 +18,7 @@ use Rattle.gallium_cli.specs.Roles.{Role, source, program, limits, trace, schedu
 use Rattle.gallium_cli.specs.Roles.{IsShort, IsGood, AreLimits, Gate, File, Choice, gates_of, plan_gates, event_gates}
 use Rattle.gallium_cli.specs.Answers.{IsInput, IsOnlySource, IsProgram, IsPlan, IsTraffic}
 use Rattle.gallium_cli.specs.Loads.{GoesOn, IsUnread, IsFileRefused, IsLoaded}
-use Rattle.gallium_cli.specs.Causes.{IsRefusedAt, IsPassed, IsFirstRefused, IsOverLimit, IsUnchosen}
+use Rattle.gallium_cli.specs.Causes.{IsRefusedAt, IsPassed, IsFirstRefused, IsUnchosen}
 
 -- ## One file
 

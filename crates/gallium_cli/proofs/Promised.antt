@@ -1,5 +1,5 @@
 -- What follows from how a call ends.
-use Rattle.std.proofs.Common.{◌≡◌, ◌⊎◌, ℕ, Bool, true, false, List, [], ◌∷◌, Option, Some, None, sym, subst, ap, ◌∙◌, inl, inr}
+use Rattle.std.proofs.Common.{◌≡◌, ◌⊎◌, Bool, true, false, List, [], ◌∷◌, Option, Some, None, sym, subst, ap, ◌∙◌, inl, inr}
 use Rattle.std.proofs.Common.{refl}
 use Rattle.gal_io.specs.Count.{Rose}
 use Rattle.gal_io.specs.Files.{FilesState}
@@ -8,14 +8,13 @@ use Rattle.gal_io.specs.declared.sink.SinkEnd.TheVariants as ends
 use Rattle.switch_ir.specs.Port.{PortState}
 use Rattle.gallium_cli.specs.declared.status.Status.{Status}
 use Rattle.gallium_cli.specs.declared.status.Status.TheVariants as statuses
-use Rattle.gallium_cli.specs.declared.refusal.Excess.{Excess}
 use Rattle.gallium_cli.specs.declared.refusal.Refusal.{Refusal}
 use Rattle.gallium_cli.specs.declared.refusal.Refusal.TheVariants.{Usage, Exceeded, TooLong, ReadFault, WriteFault, SwitchFault}
 use Rattle.gallium_cli.specs.declared.refusal.Refusal.TheVariants.{NoMemory}
 use Rattle.gallium_cli.specs.Call.{Call, Work}
 use Rattle.gallium_cli.specs.Lines.{status_of}
 use Rattle.gallium_cli.specs.Words.{Request, Run, Compile, Replay, ReplayWithin, is_replay, request_of}
-use Rattle.gallium_cli.specs.Roles.{Gate, File, Choice, gates_of, names_in, names_of}
+use Rattle.gallium_cli.specs.Roles.{Gate, File, Choice, gates_of, names_in}
 use Rattle.gallium_cli.specs.Causes.{IsFirstRefused, IsSwitchKept, IsSwitchFaulty, IsNotWritten, IsIdle, IsDone, HasCause}
 use Rattle.gallium_cli.specs.Causes.{after_line, EndsFor, Ends}
 use Rattle.gallium_cli.specs.Promises.{IsWriteFault, BlamesInput, IsReadOnce, IsUsage, IsOneOf, IsBlamed}

@@ -1,6 +1,6 @@
 -- What the report of a replay says of the source.
-use Rattle.std.proofs.Common.{◌≡◌, ◌≤◌, ◌<◌, ◌^◌, ℕ, zero, suc, Bool, List, [], ◌∷◌, length, Some, sym, subst, inl, inr, arith, refl}
-use Rattle.std.specs.Prelude.{IsTrue, IsSome, slice_get, slice_index}
+use Rattle.std.proofs.Common.{◌≡◌, ℕ, zero, suc, List, [], ◌∷◌, Some, sym, subst, inl, inr, arith, refl}
+use Rattle.std.specs.Prelude.{IsTrue, IsSome, slice_get}
 use Rattle.std.specs.List.{AllByRecursion as Each}
 use Rattle.packet_fields.specs.declared.packet.Packet.{Packet}
 use Rattle.state_store.specs.Kept.{IsKept}
@@ -14,7 +14,6 @@ use Rattle.flat_ir.specs.Program.{Program}
 use Rattle.flat_ir.specs.Run.{flat_store, flat_verdict}
 use Rattle.flatten.specs.Flatten.{flat_of}
 use Rattle.split_model.specs.declared.split.Part.{Part}
-use Rattle.run_text.specs.declared.event.Event.{Event}
 use Rattle.run_text.specs.declared.plan.Plan.{Plan}
 use Rattle.run_text.specs.declared.run.Run.{Run}
 use Rattle.run_text.specs.Report.{report_of}

@@ -1,7 +1,7 @@
 -- Why a middlebox with its split can be replayed.
 use Rattle.std.proofs.Common.{◌≡◌, ◌≤◌, ◌<◌, ◌+◌, ◌==◌, ◌&&◌, not, ℕ, zero, suc, Bool, true, false, List, [], ◌∷◌, ◌++◌, length, Option, Some, None}
-use Rattle.std.proofs.Common.{refl, sym, ap, subst, ◌∙◌, inl, inr, arith, replicate, get_or, cond}
-use Rattle.std.specs.Prelude.{All, slice_get, slice_index_or, if◌then◌else◌, IsTrue}
+use Rattle.std.proofs.Common.{refl, sym, ap, subst, ◌∙◌, inl, inr, arith, replicate, cond}
+use Rattle.std.specs.Prelude.{All, slice_get, if◌then◌else◌, IsTrue}
 use Rattle.std.proofs.lemmas.Bool.{cases_lt, eqb-true, true≢false}
 use Rattle.std.proofs.lemmas.List.{get_or-replicate, get_or_past, length-replicate}
 use Rattle.std.proofs.lemmas.List.Elements.{All-nil, All-cons, All-head, All-tail}
@@ -30,8 +30,6 @@ use Rattle.resource_limits.specs.Kept.{KeepsLimits}
 use Rattle.resource_limits.specs.Limits.{AreInRange}
 use Rattle.partition.specs.Choice.{HasLowStages}
 use Rattle.switch_ir.specs.Emitted.{HasFewStages}
-use Rattle.split_program.specs.Whole.{IsSplit}
-use Rattle.gallium_cli.specs.Answers.{IsChoice}
 use Rattle.gallium_cli.specs.Runnable.{IsRunnable}
 
 -- ## Few writes, within limits
@@ -50,12 +48,12 @@ each_number : (P : ℕ → Type 0) (number : ℕ → ℕ) (n o : ℕ) → All P 
 each_number P number zero o all low = absurd (omega arith)
 each_number P number (suc n) o all low =
     elim (cases_lt o n) [
-      inl before ↦ each_number P number n o (front_all P (first_numbers n number) (number n ∷ []) all) before
+      | inl before ↦ each_number P number n o (front_all P (first_numbers n number) (number n ∷ []) all) before
       | inr last ↦ (
-        let here = All-head P (number n) [] (back_all P (first_numbers n number) (number n ∷ []) all) in
-        let same : n ≡ o = omega arith in
-        subst (λ k. P (number k)) same here
-      )
+          let here = All-head P (number n) [] (back_all P (first_numbers n number) (number n ∷ []) all) in
+          let same : n ≡ o = omega arith in
+          subst (λ k. P (number k)) same here
+          )
     ]
 
 -- a program changes no object that isn't declared
@@ -68,6 +66,7 @@ unwritten f o (put object keys values) past fit = by_test (object == o) refl
   where
     declared : Option ObjectDecl
     declared = slice_get f.objects object
+
     by_test : (b : Bool) → object == o ≡ b → b ≡ false
     by_test false is = refl
     by_test true is =
@@ -80,6 +79,7 @@ unwritten f o (del object keys) past fit = by_test (object == o) refl
   where
     declared : Option ObjectDecl
     declared = slice_get f.objects object
+
     by_test : (b : Bool) → object == o ≡ b → b ≡ false
     by_test false is = refl
     by_test true is =
@@ -109,7 +109,7 @@ at_most_if false n limit none = omega arith
 few_writes : (f : Program) (split : List Part) (limits : Limits) → IsWellFormed f → KeepsLimits f split limits
     → (o : ℕ) → writes f split o ≤ limits.writeback
 few_writes f split limits formed keeps o = elim (cases_lt o (length f.objects)) [
-  inl low ↦ each_number (λ n. n ≤ limits.writeback) (writes f split) (length f.objects) o keeps.writeback low
+  | inl low ↦ each_number (λ n. n ≤ limits.writeback) (writes f split) (length f.objects) o keeps.writeback low
   | inr past ↦ at_most_if (is_replicated f split o) (count_steps f (λ i. writes_to o (step_at f i).work)) limits.writeback
       (none_below (length f.code) (λ i. writes_to o (step_at f i).work)
       (λ i low. unwritten f o (step_at f i).work past (formed.fit i low)))
@@ -134,7 +134,7 @@ served_part = record { pre = None; slow = Server }
 
 all_served : (n i : ℕ) → part_at (replicate n served_part) i ≡ served_part
 all_served n i = elim (cases_lt i n) [
-  inl low ↦ get_or-replicate n i served_part served_part low
+  | inl low ↦ get_or-replicate n i served_part served_part low
   | inr past ↦ get_or_past (replicate n served_part) i served_part
       (subst (λ k. k ≤ i) (sym (length-replicate n served_part)) past)
 ]

@@ -1,5 +1,5 @@
 -- What a text that was written leads to, and what a call that came to none.
-use Rattle.std.proofs.Common.{◌≡◌, ◌≤◌, ◌+◌, ◌-◌, ◌^◌, ◌++◌, ℕ, min, Bool, true, false, List, [], ◌∷◌, length, Option, Some, Result, Ok, Err}
+use Rattle.std.proofs.Common.{◌≡◌, ◌≤◌, ◌+◌, ◌++◌, ℕ, Bool, true, false, List, [], ◌∷◌, length, Option, Some, Result, Ok, Err}
 use Rattle.std.proofs.Common.{IfErr, inl, inr, refl, sym, ap, subst, ◌∙◌, append_assoc, arith}
 use Rattle.std.specs.Prelude.{OnOk}
 use Rattle.gal_io.specs.Count.{Rose}
@@ -21,8 +21,8 @@ use Rattle.run_text.specs.declared.plan.Plan.{Plan}
 use Rattle.switch_ir.specs.Port.{PortState}
 use Rattle.gallium_cli.specs.declared.refusal.Refusal.{Refusal}
 use Rattle.gallium_cli.specs.declared.refusal.Refusal.TheVariants.{WriteFault, SwitchFault, NoMemory}
-use Rattle.gallium_cli.specs.Call.{Work, work_of}
-use Rattle.gallium_cli.specs.Words.{Request, Compile, Replay, ReplayWithin, is_replay}
+use Rattle.gallium_cli.specs.Call.{work_of}
+use Rattle.gallium_cli.specs.Words.{Request, Replay, ReplayWithin, is_replay}
 use Rattle.gallium_cli.specs.Roles.{program, Gate, File, gates_of, plan_gates, event_gates, names_of}
 use Rattle.gallium_cli.specs.Answers.{IsAnswer, IsProgram, IsPlan, IsTraffic, IsChoice, IsNoChoice, IsCompilation}
 use Rattle.gallium_cli.specs.Answers.{IsReport, setup, heading_text, compiled_text}
@@ -154,8 +154,7 @@ pub chosen_refused : (refusal : Refusal) (s t c l : List ℕ) (shrink : Bool) (m
     → HasCause refusal (Some (ReplayWithin s t c l shrink)) (work_of f h p p o o)
 chosen_refused refusal s t c l shrink m allowed q split f g h p o found same choice goes one first two =
     let chosen = subst (λ (x : Program). IsChosen x allowed shrink split) same choice.chosen in
-    traffic_cause refusal (ReplayWithin s t c l shrink) (plan_gates s l shrink) t c f g h p o 2 2 refl refl
-    (
+    traffic_cause refusal (ReplayWithin s t c l shrink) (plan_gates s l shrink) t c f g h p o 2 2 refl refl (
       passed_program s f m found.program.source found.program.bounded.few,
       (passed_limits l f allowed found.limits, ((m, allowed, split, found, chosen), tt)),
     )
@@ -175,7 +174,12 @@ pub served_answer : (s t c : List ℕ) (m : Tree) (q : Program) (split : List Pa
     → IsReport text m (setup m split writeback packets) plan p p' → sent ≡ text
     → IsAnswer sent (Replay s t c) f.told p p'
 served_answer s t c m q split writeback packets plan text sent f g p p' goes found same none rows traffic report put = (
-  m, packets, plan, split, found, traffic_before t c f g packets plan goes traffic,
+  m,
+  packets,
+  plan,
+  split,
+  found,
+  traffic_before t c f g packets plan goes traffic,
   subst (λ (x : Program). IsNoChoice x split) same none,
   report_put sent text m split writeback 0 packets plan p p' put rows report,
 )
@@ -187,7 +191,13 @@ pub chosen_answer : (s t c l : List ℕ) (shrink : Bool) (m : Tree) (allowed : L
     → IsReport text m (setup m split writeback packets) plan p p' → sent ≡ text
     → IsAnswer sent (ReplayWithin s t c l shrink) f.told p p'
 chosen_answer s t c l shrink m allowed q split writeback packets plan text sent f g p p' goes found same choice rows traffic report put = (
-  m, allowed, packets, plan, split, found, traffic_before t c f g packets plan goes traffic,
+  m,
+  allowed,
+  packets,
+  plan,
+  split,
+  found,
+  traffic_before t c f g packets plan goes traffic,
   subst (λ (x : Program). IsChoice x allowed shrink split) same choice,
   report_put sent text m split writeback allowed.writeback packets plan p p' put rows report,
 )

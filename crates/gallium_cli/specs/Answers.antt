@@ -1,5 +1,6 @@
 -- What a text on out says.
-use Rattle.std.specs.Prelude.{◌≡◌, ◌≤◌, ℕ, List, ◌++◌, length, Option, Some, IfSome, IsSome, Ok, Bool, true, false, IsTrue, codes, decimal}
+use Rattle.std.specs.Prelude.{◌≡◌, ◌≤◌, ℕ, List, ◌++◌, length, Option, IfSome, IsSome, Ok, Bool, true}
+use Rattle.std.specs.Prelude.{false, IsTrue, codes, decimal}
 use Rattle.packet_fields.specs.declared.packet.Packet.{Packet}
 use Rattle.state_store.specs.Store.{start_store}
 use Rattle.element_lang.specs.Tree.{Tree}
@@ -127,8 +128,8 @@ pub record IsSerialRun (m : Tree) (x : Setup) (plan : Plan) (run : RunTold) (por
   -- and where it says `drained`, every packet of the trace was
   pub drained : run.drained ≡ true → IsDrained (source_of m) x.packets run
 
--- A text that reports the replay of a split middlebox over a switch. Whatever the switch answers, the report is what its
--- calls make of the schedule; where it tells its tables, that very run is a serial run of the source.
+-- A text that reports the replay of a split middlebox over a switch. Whatever the switch answers, the report is what
+-- its calls make of the schedule; where it tells its tables, that very run is a serial run of the source.
 pub record IsReport (text : List ℕ) (m : Tree) (x : Setup) (plan : Plan) (port port_after : PortState) : Type 0 where
   pub replayed : Replayed
   pub printed : text ≡ report_of m.objects replayed.run

@@ -1,5 +1,6 @@
 -- How a call ends: why each refusal comes, and what it leaves on out and err.
-use Rattle.std.specs.Prelude.{◌≡◌, ◌≤◌, ◌⊎◌, ℕ, Bool, true, false, List, [], ◌∷◌, length, take, Option, Some, None, IfSome}
+use Rattle.std.specs.Prelude.{◌≡◌, ◌≤◌, ◌⊎◌, ℕ, Bool, true, false, List, [], ◌∷◌, length, take}
+use Rattle.std.specs.Prelude.{Option, Some, None, IfSome}
 use Rattle.std.specs.Option.{option_map}
 use Rattle.std.specs.Io.KnownBytes.{append_known}
 use Rattle.gal_io.specs.Count.{Rose}
@@ -112,8 +113,8 @@ pub record IsIdle (work : Work) : Type 0 where
   pub port : work.port_after ≡ work.port
 
 -- Why a request is refused: by its words, and then no file was read; by a file or a limit; since the switch failed; or
--- since its answer wasn't written. Where words, a file or a limit are to blame, out and the switch are as they were. There
--- was at most one read for each file.
+-- since its answer wasn't written. Where words, a file or a limit are to blame, out and the switch are as they were.
+-- There was at most one read for each file.
 abbrev pub HasCause : Refusal → Option Request → Work → Type 0
 HasCause refusal None work = (refusal ≡ Usage) × (work.files_after ≡ work.files) × IsIdle work
 HasCause refusal (Some request) work =

@@ -16,11 +16,16 @@ use Rattle.gallium_cli.specs.declared.status.Status.{Status}
 use Rattle.gallium_cli.specs.declared.status.Status.TheVariants as statuses
 use Rattle.gallium_cli.specs.declared.refusal.Excess.{Excess}
 use Rattle.gallium_cli.specs.declared.refusal.Refusal.{Refusal}
-use Rattle.gallium_cli.specs.declared.refusal.Refusal.TheVariants.{Usage, Source, LongProgram, Limits, Exceeded, Trace, Schedule}
-use Rattle.gallium_cli.specs.declared.refusal.Refusal.TheVariants.{TooLong, ReadFault, WriteFault, SwitchFault, NoMemory}
+use Rattle.gallium_cli.specs.declared.refusal.Refusal.TheVariants.{Usage, Source, LongProgram, Limits, Exceeded}
+use Rattle.gallium_cli.specs.declared.refusal.Refusal.TheVariants.{Trace, Schedule, TooLong, ReadFault, WriteFault}
+use Rattle.gallium_cli.specs.declared.refusal.Refusal.TheVariants.{SwitchFault, NoMemory}
 
 abbrev pub line_end : List ℕ
 line_end = 10 ∷ []
+
+-- how many there are, and how many there may be
+abbrev pub numbers_text : ℕ → ℕ → List ℕ
+numbers_text have allowed = decimal have ++ (codes ", allowed " ++ (decimal allowed ++ line_end))
 
 -- what there is too much of
 abbrev pub what_text : What → List ℕ
@@ -37,8 +42,7 @@ source_line (errors.Syntax offset) = codes "source: syntax at " ++ (decimal offs
 source_line (errors.Rule rule offset) =
     codes "source: rule " ++ (decimal rule ++ (codes " at " ++ (decimal offset ++ line_end)))
 source_line (errors.TooLarge what have allowed) =
-    codes "source: "
-    ++ (what_text what ++ (codes " have " ++ (decimal have ++ (codes ", allowed " ++ (decimal allowed ++ line_end)))))
+    codes "source: " ++ (what_text what ++ (codes " have " ++ numbers_text have allowed))
 source_line errors.NoMemory = codes "no memory" ++ line_end
 
 -- the line of limits that are refused
@@ -57,8 +61,7 @@ owner_text (Some name) = codes " " ++ name
 -- the line of a limit that is exceeded
 abbrev pub excess_line : Excess → List ℕ
 excess_line e =
-    codes "limit "
-    ++ (limit_name e.limit ++ (owner_text e.object ++ (codes ": have " ++ (decimal e.have ++ (codes ", allowed " ++ (decimal e.allowed ++ line_end))))))
+    codes "limit " ++ (limit_name e.limit ++ (owner_text e.object ++ (codes ": have " ++ numbers_text e.have e.allowed)))
 
 -- what is wrong with a line
 abbrev pub kind_text : LineKind → List ℕ
@@ -73,8 +76,7 @@ abbrev pub lines_line : List ℕ → List ℕ → LinesError → List ℕ
 lines_line file values (lines.Line number kind) =
     file ++ (codes ": line " ++ (decimal number ++ (codes " " ++ (kind_text kind ++ line_end))))
 lines_line file values (lines.TooMany have allowed) =
-    file
-    ++ (codes ": " ++ (values ++ (codes " have " ++ (decimal have ++ (codes ", allowed " ++ (decimal allowed ++ line_end))))))
+    file ++ (codes ": " ++ (values ++ (codes " have " ++ numbers_text have allowed)))
 lines_line file values lines.NoMemory = codes "no memory" ++ line_end
 
 abbrev pub status_of : Refusal → Status

@@ -1,6 +1,6 @@
 -- What the program promises of a whole call.
-use Rattle.std.specs.Prelude.{◌≡◌, ◌<◌, ◌≤◌, ◌⊎◌, ◌≢◌, ℕ, Bool, true, false, List, [], ◌∷◌, length, Option, Some, None}
-use Rattle.std.specs.Prelude.{IsSomeAnd, Err}
+use Rattle.std.specs.Prelude.{◌≡◌, ◌<◌, ◌≤◌, ◌⊎◌, ◌≢◌, ℕ, true, false, List, [], ◌∷◌, length, Option, Some, None}
+use Rattle.std.specs.Prelude.{IsSomeAnd}
 use Rattle.std.specs.Io.KnownBytes.{append_known}
 use Rattle.gal_io.specs.Count.{Rose}
 use Rattle.element_lang.specs.Tree.{Tree}
@@ -13,13 +13,13 @@ use Rattle.partition.specs.Choice as choice
 use Rattle.element_text.specs.Refused.{IsRefused}
 use Rattle.element_text.specs.declared.error.TextError.TheVariants as errors
 use Rattle.gallium_cli.specs.declared.status.Status.{Status}
-use Rattle.gallium_cli.specs.declared.status.Status.TheVariants.{Done, Usage, Source, Limits as BadLimits, Exceeded, Trace}
-use Rattle.gallium_cli.specs.declared.status.Status.TheVariants.{Schedule, TooLong, ReadFault, WriteFault, SwitchFault}
+use Rattle.gallium_cli.specs.declared.status.Status.TheVariants.{Done, Usage, Source, Limits as BadLimits, Exceeded}
+use Rattle.gallium_cli.specs.declared.status.Status.TheVariants.{Trace, Schedule, TooLong, ReadFault, WriteFault, SwitchFault}
 use Rattle.gallium_cli.specs.declared.status.Status.TheVariants.{NoMemory}
 use Rattle.gallium_cli.specs.declared.refusal.Refusal.{Refusal}
 use Rattle.gallium_cli.specs.declared.refusal.Refusal.TheVariants as refusals
 use Rattle.gallium_cli.specs.Call.{Call}
-use Rattle.gallium_cli.specs.Words.{Request, Run, Compile, Replay, ReplayWithin, is_replay, request_of}
+use Rattle.gallium_cli.specs.Words.{Request, Compile, ReplayWithin, is_replay, request_of}
 use Rattle.gallium_cli.specs.Lines.{status_of, line_of}
 use Rattle.gallium_cli.specs.Roles.{Role, source, program, limits, trace, schedule, size_of}
 use Rattle.gallium_cli.specs.Roles.{Gate, File, Choice, gates_of, names_of}
@@ -202,9 +202,11 @@ pub record Promises (status : Status) (call : Call) : Type 0 where
   pub exceeded : status ≡ Exceeded → MayExceed (request_of call.words)
   -- which count rose, whether or not anything is told
   pub too_long : status ≡ TooLong
-      → IsBlamed (request_of call.words) call.work.files.overlong call.work.files_after.overlong call.work.files_after.overlong_name
+      → let before = call.work.files in let now = call.work.files_after in
+      IsBlamed (request_of call.words) before.overlong now.overlong now.overlong_name
   pub read_fault : status ≡ ReadFault
-      → IsBlamed (request_of call.words) call.work.files.faults call.work.files_after.faults call.work.files_after.fault_name
+      → let before = call.work.files in let now = call.work.files_after in
+      IsBlamed (request_of call.words) before.faults now.faults now.fault_name
   pub write_fault : status ≡ WriteFault
       → Rose call.work.out.faults call.work.out_after.faults ⊎ Rose call.err.faults call.err_after.faults
   pub switch_fault : status ≡ SwitchFault

@@ -45,9 +45,7 @@ fn expect(
     let mut out = MemSink::new(alloc);
     let mut err = MemSink::new(alloc);
     let mut port = ModelSwitch::new(alloc);
-    let found = gallium(
-        alloc, &words, &mut held, &mut port, &mut out, &mut err,
-    );
+    let found = gallium(alloc, &words, &mut held, &mut port, &mut out, &mut err);
     assert_eq!(rt; found, status);
     assert_eq!(rt; out.bytes(), written.as_bytes());
     assert_eq!(rt; err.bytes(), line.as_bytes());
@@ -147,7 +145,8 @@ fn shrunk_splits(rt: HostRuntime) -> Result<(), Fail> {
     Ok(())
 }
 
-// A limit that is exceeded: one of the whole split, one of an object, and one of a constant table that both passes read.
+// A limit that is exceeded: one of the whole split, one of an object, and one of a constant table that both passes
+// read.
 #[test]
 fn exceeded_limits(rt: HostRuntime) -> Result<(), Fail> {
     const THREE_STAGES: &str =
@@ -157,8 +156,8 @@ fn exceeded_limits(rt: HostRuntime) -> Result<(), Fail> {
         send b; }";
     const BALANCER: &str = "map conn (32, 16) -> (8) capacity 1024;\n\
         table pool (8) -> (32) { (0:8) -> (0x0a000101:32); (1:8) -> (0x0a000102:32); }\n\
-        process { look f, b = conn[ip.src, tcp.sport]; let k = b; if f == 0:1 { repeat i 1 { k = cast(8, ip.src % 2:32); \
-        put ok = conn[ip.src, tcp.sport] -> k; } } look g, a = pool[k]; ip.dst = a; send 1:8; }";
+        process { look f, b = conn[ip.src, tcp.sport]; let k = b; if f == 0:1 { repeat i 1 { \
+        k = cast(8, ip.src % 2:32); put ok = conn[ip.src, tcp.sport] -> k; } } look g, a = pool[k]; ip.dst = a; send 1:8; }";
     for (source, limits, line) in [
         (SUMS, THREE_STAGES, "limit stages: have 4, allowed 3\n"),
         (TWO_LOOKS, LIMITS, "limit accesses m: have 2, allowed 1\n"),

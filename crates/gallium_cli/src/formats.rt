@@ -1,5 +1,6 @@
 //! What the files of a command are read as.
-ghost use Rattle.std.specs.Prelude.{◌≡◌, ◌≤◌, ◌<◌, ◌^◌, IsTrue, All, Ok, IfOk, IfErr, length};
+ghost use Rattle.std.specs.Prelude.{◌≡◌, ◌≤◌, ◌<◌, ◌^◌, IsTrue, Ok, IfOk, IfErr, length};
+ghost use Rattle.packet_fields.specs.Sizes.{AreShort};
 ghost use Rattle.element_lang.specs.View.{tree};
 ghost use Rattle.element_lang.specs.Rules.{is_good};
 ghost use Rattle.element_lang.specs.Accepted.{IsSource};
@@ -7,8 +8,9 @@ ghost use Rattle.flat_ir.specs.Program.{program_of};
 ghost use Rattle.flatten.specs.Flatten.{flat_of};
 ghost use Rattle.resource_limits.specs.Limits.{AreInRange};
 ghost use Rattle.split_model.specs.Bounds.{IsBounded};
+ghost use Rattle.run_text.specs.Sizes.{most_events, most_packets};
 ghost use Rattle.run_text.specs.Trace.{trace_of, schedule_of};
-ghost use Rattle.gallium_cli.specs.Roles.{Role, source, program, limits, trace, schedule, AreLimits};
+ghost use Rattle.gallium_cli.specs.Roles.{source, program, limits, trace, schedule, AreLimits};
 ghost use Rattle.gallium_cli.specs.Answers.{IsOnlySource};
 ghost use Rattle.gallium_cli.specs.Loads.{refusal_of, IsUnread};
 
@@ -153,7 +155,7 @@ impl Format for TraceFormat {
 
     ghost spells = { λ _ text packets. trace_of text ≡ Ok packets };
 
-    ghost sound = { λ packets. (length packets ≤ 16384) × All (λ p. length p.bytes ≤ 9216) packets };
+    ghost sound = { λ packets. (length packets ≤ most_packets) × AreShort packets };
 
     fn size(&self) -> usize {
         MAX_TEXT
@@ -175,7 +177,7 @@ impl Format for ScheduleFormat {
 
     ghost spells = { λ _ text plan. schedule_of text ≡ Ok plan };
 
-    ghost sound = { λ plan. length plan.events ≤ 1048576 };
+    ghost sound = { λ plan. length plan.events ≤ most_events };
 
     fn size(&self) -> usize {
         MAX_TEXT

@@ -1,5 +1,5 @@
-//! The program: reads a middlebox and a trace, and writes what a run of it, or a replay by a schedule, comes to; or reads a
-//! middlebox and limits, and writes how it is split between a switch and a server.
+//! The program: reads a middlebox and a trace, and writes what a run of it, or a replay by a schedule, comes to; or
+//! reads a middlebox and limits, and writes how it is split between a switch and a server.
 #![tactic(auto)]
 
 ghost use Rattle.std.specs.Prelude.{◌≡◌};
@@ -64,7 +64,5 @@ fn main(rt: HostRuntime) -> ExitCode {
     let mut port = ModelSwitch::new(alloc);
     let mut out = HostSink::new(rt.stdout());
     let mut err = HostSink::new(rt.stderr());
-    ending(top::gallium(
-        alloc, &words, &mut files, &mut port, &mut out, &mut err,
-    ))
+    ending(top::gallium(alloc, &words, &mut files, &mut port, &mut out, &mut err))
 }

@@ -1,5 +1,5 @@
 //! Why nothing is answered, and the line that says so.
-ghost use Rattle.std.specs.Prelude.{◌≡◌, ◌++◌, IfOk, codes, string_bytes};
+ghost use Rattle.std.specs.Prelude.{◌≡◌, ◌++◌, IfOk, string_bytes};
 ghost use Rattle.gallium_cli.specs.declared.refusal.Refusal.{Refusal};
 ghost use Rattle.gallium_cli.specs.declared.refusal.Excess.{Excess};
 ghost use Rattle.gallium_cli.specs.Lines.{status_of, line_of, line_end, what_text, kind_text};
@@ -195,21 +195,13 @@ fn kind_name(kind: LineKind) -> &'static str
 }
 
 // The line of a text of lines that is refused: of which kind of file, and what there may be too many of.
-fn lines_line(
-    alloc: Global,
-    file: &str,
-    values: &str,
-    fault: LinesError,
-) -> Result<Text, NoMemory>
+fn lines_line(alloc: Global, file: &str, values: &str, fault: LinesError) -> Result<Text, NoMemory>
     ensures { IfOk result (λ text. text ≡ lines_line file.now values.now fault) }
 {
     match fault {
         LinesError::Line { number, kind } => {
             let kind = kind_name(kind);
-            told(
-                alloc,
-                format!(in alloc; "{file}: line {number} {kind}\n")?,
-            )
+            told(alloc, format!(in alloc; "{file}: line {number} {kind}\n")?)
         }
         LinesError::TooMany { have, allowed } => told(
             alloc,

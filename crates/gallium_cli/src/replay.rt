@@ -3,6 +3,7 @@ ghost use Rattle.std.specs.Prelude.{◌≡◌, ◌⊎◌, ◌≤◌, ◌∷◌, 
 ghost use Rattle.gal_io.specs.Count.{Rose};
 ghost use Rattle.element_lang.specs.View.{tree};
 ghost use Rattle.flat_ir.specs.Program.{program_of};
+ghost use Rattle.run_text.specs.Sizes.{most_events, most_packets};
 ghost use Rattle.gallium_cli.specs.Answers.{IsNoChoice, IsProgram, IsReport, IsTraffic, setup};
 ghost use Rattle.gallium_cli.specs.Call.{work_of};
 ghost use Rattle.gallium_cli.specs.Causes.{HasCause, IsDone, IsFirstRefused};
@@ -36,8 +37,8 @@ fn load_traffic<'a, F: Files>(
     files: &mut F,
 ) -> Result<(Packets, Plan), Refusal<'a>>
     ensures ok { IfOk result (λ x. IsTraffic (F.seen files.old).told trace.now schedule.now x.0 x.1) }
-    ensures few_packets { IfOk result (λ x. length x.0 ≤ 16384) }
-    ensures few_events { IfOk result (λ x. length x.1.events ≤ 1048576) }
+    ensures few_packets { IfOk result (λ x. length x.0 ≤ most_packets) }
+    ensures few_events { IfOk result (λ x. length x.1.events ≤ most_events) }
     ensures err { IfErr result (λ refusal. IsFirstRefused refusal (event_gates trace.now schedule.now)
         (F.seen files.old) (F.seen files.new)) }
     ensures stays { GoesOn (F.seen files.old) (F.seen files.new) }
@@ -89,8 +90,8 @@ fn report<S: SwitchPort>(
 ) -> Result<Text, Refusal<'static>>
     requires runnable { IsRunnable (tree split_middlebox.program.middlebox) (program_of split_middlebox.program.flat)
         split_middlebox.split split_middlebox.writeback }
-    requires few_packets { length packets ≤ 16384 }
-    requires few_events { length plan.events ≤ 1048576 }
+    requires few_packets { length packets ≤ most_packets }
+    requires few_events { length plan.events ≤ most_events }
     ensures ok { IfOk result (λ text. let m = tree split_middlebox.program.middlebox in
         IsReport text m (setup m split_middlebox.split split_middlebox.writeback packets) plan
         (S.seen port.old) (S.seen port.new)) }

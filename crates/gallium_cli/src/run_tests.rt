@@ -35,9 +35,7 @@ fn expect(
     let mut out = MemSink::new(alloc);
     let mut err = MemSink::new(alloc);
     let mut port = ModelSwitch::new(alloc);
-    let found = gallium(
-        alloc, &words, &mut files, &mut port, &mut out, &mut err,
-    );
+    let found = gallium(alloc, &words, &mut files, &mut port, &mut out, &mut err);
     assert_eq!(rt; found, status);
     assert_eq!(rt; out.bytes(), written.as_bytes());
     assert_eq!(rt; err.bytes(), line.as_bytes());
@@ -129,9 +127,7 @@ fn a_missing_trace(rt: HostRuntime) -> Result<(), Fail> {
     let mut out = MemSink::new(alloc);
     let mut err = MemSink::new(alloc);
     let mut port = ModelSwitch::new(alloc);
-    let status = gallium(
-        alloc, &words, &mut files, &mut port, &mut out, &mut err,
-    );
+    let status = gallium(alloc, &words, &mut files, &mut port, &mut out, &mut err);
     assert_eq!(rt; status, Status::ReadFault);
     assert_eq!(rt; out.bytes(), b"".as_slice());
     assert_eq!(rt; err.bytes(), b"read fault: trace\n".as_slice());
@@ -149,9 +145,7 @@ fn a_failing_sink(rt: HostRuntime) -> Result<(), Fail> {
     assert!(rt; out.fail_at(1, 3).is_ok());
     let mut err = MemSink::new(alloc);
     let mut port = ModelSwitch::new(alloc);
-    let status = gallium(
-        alloc, &words, &mut files, &mut port, &mut out, &mut err,
-    );
+    let status = gallium(alloc, &words, &mut files, &mut port, &mut out, &mut err);
     assert_eq!(rt; status, Status::WriteFault);
     assert_eq!(rt; out.bytes(), b"pac".as_slice());
     assert_eq!(rt; err.bytes(), b"write fault\n".as_slice());

@@ -9,7 +9,8 @@ use std::test::Fail;
 use switch_machine::{CallKind, ModelSwitch};
 
 // An address translator: a flow from within gets a port of its own, and what comes back by that port gets through.
-const TRANSLATOR: &str = "map out (32, 16) -> (16) capacity 60000; map back (16) -> (32, 16) capacity 60000; \
+const TRANSLATOR: &str =
+    "map out (32, 16) -> (16) capacity 60000; map back (16) -> (32, 16) capacity 60000; \
     int next : 16 = 1024; process { if has.tcp == 0:1 { drop; } if meta.port == 0:8 { look f, p = \
     out[ip.src, tcp.sport]; let q = p; if f == 0:1 { repeat i 1 { look g, n = next[]; put a = \
     out[ip.src, tcp.sport] -> n; if a == 0:1 { drop; } put b = back[n] -> ip.src, tcp.sport; put c = next[] -> \
@@ -21,8 +22,7 @@ const TRANSLATOR: &str = "map out (32, 16) -> (16) capacity 60000; map back (16)
     adjust(adjust(adjust(tcp.sum, cast(16, ip.dst >> 16), cast(16, da >> 16)), cast(16, ip.dst), cast(16, da)), \
     tcp.dport, dp); ip.dst = da; tcp.dport = dp; send 0:8; }";
 
-const LIMITS: &str =
-    "table_bits = 100000000\nstages = 32\nwriteback = 16\ntransfer_bytes = 64\n";
+const LIMITS: &str = "table_bits = 100000000\nstages = 32\nwriteback = 16\ntransfer_bytes = 64\n";
 
 // A packet of a flow from within, and that packet again.
 const ONE: &str = "0 \
@@ -84,7 +84,8 @@ fn one_flow(rt: HostRuntime) -> Result<(), Fail> {
             "a\nu 0\nh 0\nc\nw\nk\nc\nw\nk\nc\nw\nk\nh 0\nd 0\n",
             "report 1\npackets 1 admitted 1 decided 1 released 1\nevents 14 idle 1\nversion 1 visible 1\n\
             drained no\npacket 0 slow admitted 1 decided 2 version 1 released 14 send 1 \
-            0200000000010200000000020800450000280001400040064e93c0000201c6336407040000500000000000000000500220009f560000\n\
+            0200000000010200000000020800450000280001400040064e93c0000201\
+            c6336407040000500000000000000000500220009f560000\n\
             order 0\nobject out 1\n167772161 5000 -> 1024\nobject back 1\n1024 -> 167772161 5000\nobject next 1\n\
             -> 1025\nswitch out 1\n167772161 5000 -> 1024\nswitch back 1\n1024 -> 167772161 5000\nend\n",
         ),
@@ -93,9 +94,11 @@ fn one_flow(rt: HostRuntime) -> Result<(), Fail> {
             "a\na\nu 0\nu 0\ndrain\n",
             "report 1\npackets 2 admitted 2 decided 2 released 2\nevents 32 idle 0\nversion 1 visible 1\n\
             drained yes\npacket 0 slow admitted 1 decided 3 version 1 released 30 send 1 \
-            0200000000010200000000020800450000280001400040064e93c0000201c6336407040000500000000000000000500220009f560000\n\
+            0200000000010200000000020800450000280001400040064e93c0000201\
+            c6336407040000500000000000000000500220009f560000\n\
             packet 1 slow admitted 2 decided 4 version 1 released 32 send 1 \
-            0200000000010200000000020800450000280001400040064e93c0000201c6336407040000500000000000000000500220009f560000\n\
+            0200000000010200000000020800450000280001400040064e93c0000201\
+            c6336407040000500000000000000000500220009f560000\n\
             order 0 1\nobject out 1\n167772161 5000 -> 1024\nobject back 1\n1024 -> 167772161 5000\nobject next 1\n\
             -> 1025\nswitch out 1\n167772161 5000 -> 1024\nswitch back 1\n1024 -> 167772161 5000\nend\n",
         ),
@@ -104,9 +107,11 @@ fn one_flow(rt: HostRuntime) -> Result<(), Fail> {
             "a\nu 0\nh 0\nc\nw\nk\nc\nw\nk\nc\nw\nk\nh 0\nd 0\na\n",
             "report 1\npackets 2 admitted 2 decided 2 released 2\nevents 15 idle 1\nversion 1 visible 1\n\
             drained no\npacket 0 slow admitted 1 decided 2 version 1 released 14 send 1 \
-            0200000000010200000000020800450000280001400040064e93c0000201c6336407040000500000000000000000500220009f560000\n\
+            0200000000010200000000020800450000280001400040064e93c0000201\
+            c6336407040000500000000000000000500220009f560000\n\
             packet 1 fast admitted 15 decided 15 version 1 released 15 send 1 \
-            0200000000010200000000020800450000280001400040064e93c0000201c6336407040000500000000000000000500220009f560000\n\
+            0200000000010200000000020800450000280001400040064e93c0000201\
+            c6336407040000500000000000000000500220009f560000\n\
             order 0 1\nobject out 1\n167772161 5000 -> 1024\nobject back 1\n1024 -> 167772161 5000\nobject next 1\n\
             -> 1025\nswitch out 1\n167772161 5000 -> 1024\nswitch back 1\n1024 -> 167772161 5000\nend\n",
         ),
@@ -119,7 +124,8 @@ fn one_flow(rt: HostRuntime) -> Result<(), Fail> {
             object back 1\n1024 -> 167772161 5000\nobject next 1\n-> 1025\nswitch out 0\nswitch back 0\nend\n",
         ),
         (
-            "0 02000000000102000000000208004500002800014000400606940a000001c63364071388005000000000000000005002200047cf0000\n\
+            "0 02000000000102000000000208004500002800014000400606940a000001\
+            c63364071388005000000000000000005002200047cf0000\n\
             1 -\n",
             "a\nu 0\na\n",
             "report 1\npackets 2 admitted 2 decided 2 released 1\nevents 3 idle 0\nversion 1 visible 0\n\
@@ -133,15 +139,7 @@ fn one_flow(rt: HostRuntime) -> Result<(), Fail> {
         let alloc = rt.alloc();
         let mut port = ModelSwitch::new(alloc);
         let texts = [trace, schedule];
-        expect(
-            &rt,
-            alloc,
-            &mut port,
-            texts,
-            Status::Done,
-            report,
-            "",
-        )?;
+        expect(&rt, alloc, &mut port, texts, Status::Done, report, "")?;
     }
     Ok(())
 }

@@ -50,9 +50,7 @@ fn expect(
     let mut out = MemSink::new(alloc);
     let mut err = MemSink::new(alloc);
     let mut port = ModelSwitch::new(alloc);
-    let found = gallium(
-        alloc, &words, &mut files, &mut port, &mut out, &mut err,
-    );
+    let found = gallium(alloc, &words, &mut files, &mut port, &mut out, &mut err);
     assert_eq!(rt; found, status);
     assert_eq!(rt; out.bytes(), written.as_bytes());
     assert_eq!(rt; err.bytes(), line.as_bytes());
@@ -145,9 +143,7 @@ fn words_of_no_form(rt: HostRuntime) {
     let mut out = MemSink::new(alloc);
     let mut err = MemSink::new(alloc);
     let mut port = ModelSwitch::new(alloc);
-    let status = gallium(
-        alloc, &none, &mut files, &mut port, &mut out, &mut err,
-    );
+    let status = gallium(alloc, &none, &mut files, &mut port, &mut out, &mut err);
     assert_eq!(rt; status, Status::Usage);
     assert_eq!(rt; status.code(), 2);
 }
@@ -164,9 +160,7 @@ fn a_refused_run(rt: HostRuntime) -> Result<(), Fail> {
     let mut out = MemSink::new(alloc);
     let mut err = MemSink::new(alloc);
     let mut port = ModelSwitch::new(alloc);
-    let status = gallium(
-        alloc, &words, &mut files, &mut port, &mut out, &mut err,
-    );
+    let status = gallium(alloc, &words, &mut files, &mut port, &mut out, &mut err);
     assert!(rt; ending(status) == ExitCode::from(10));
     assert_eq!(rt; out.bytes(), b"".as_slice());
     assert_eq!(rt; err.bytes(), b"read fault: no such source\n".as_slice());
@@ -183,9 +177,7 @@ fn one_byte_too_many(rt: HostRuntime) -> Result<(), Fail> {
     let mut out = MemSink::new(alloc);
     let mut err = MemSink::new(alloc);
     let mut port = ModelSwitch::new(alloc);
-    let status = gallium(
-        alloc, &words, &mut files, &mut port, &mut out, &mut err,
-    );
+    let status = gallium(alloc, &words, &mut files, &mut port, &mut out, &mut err);
     assert_eq!(rt; status, Status::TooLong);
     assert_eq!(rt; err.bytes(), b"too long: source\n".as_slice());
     Ok(())
@@ -202,9 +194,7 @@ fn a_failing_sink(rt: HostRuntime) -> Result<(), Fail> {
     assert!(rt; out.fail_at(1, 3).is_ok());
     let mut err = MemSink::new(alloc);
     let mut port = ModelSwitch::new(alloc);
-    let status = gallium(
-        alloc, &words, &mut files, &mut port, &mut out, &mut err,
-    );
+    let status = gallium(alloc, &words, &mut files, &mut port, &mut out, &mut err);
     assert_eq!(rt; status, Status::WriteFault);
     assert_eq!(rt; out.bytes(), b"rep".as_slice());
     assert_eq!(rt; err.bytes(), b"write fault\n".as_slice());

@@ -1,8 +1,10 @@
 //! The whole program.
-ghost use Rattle.std.specs.Prelude.{◌≡◌, ◌≤◌, ◌<◌, ◌^◌, Some, All, IsTrue, IfOk, IfErr, OnOk};
+ghost use Rattle.std.specs.Prelude.{◌≡◌, ◌≤◌, ◌<◌, ◌^◌, Some, IsTrue, IfOk, IfErr, OnOk};
 ghost use Rattle.std.specs.Prelude.{map, length, string_bytes};
+ghost use Rattle.packet_fields.specs.Sizes.{AreShort};
 ghost use Rattle.element_lang.specs.View.{tree};
 ghost use Rattle.element_lang.specs.Rules.{is_good};
+ghost use Rattle.run_text.specs.Sizes.{most_packets};
 ghost use Rattle.gallium_cli.specs.Words.{request_of, Run};
 ghost use Rattle.gallium_cli.specs.Roles.{gates_of};
 ghost use Rattle.gallium_cli.specs.Answers.{IsInput, serial_answer};
@@ -40,8 +42,8 @@ fn load_input<'a, F: Files>(
     ensures ok { IfOk result (λ x. IsInput (F.seen files.old).told source.now trace.now (tree x.0) x.1) }
     ensures good { IfOk result (λ x. IsTrue (is_good (tree x.0))) }
     ensures few_objects { IfOk result (λ x. length x.0.objects < 2 ^ 32) }
-    ensures few_packets { IfOk result (λ x. length x.1 ≤ 16384) }
-    ensures short_packets { IfOk result (λ x. All (λ p. length p.bytes ≤ 9216) x.1) }
+    ensures few_packets { IfOk result (λ x. length x.1 ≤ most_packets) }
+    ensures short_packets { IfOk result (λ x. AreShort x.1) }
     ensures err { IfErr result (λ refusal. IsFirstRefused refusal (gates_of (Run source.now trace.now))
         (F.seen files.old) (F.seen files.new)) }
     ensures stays { GoesOn (F.seen files.old) (F.seen files.new) }
@@ -59,7 +61,7 @@ fn load_input<'a, F: Files>(
 fn answer(alloc: Global, m: &Middlebox, packets: &[Packet]) -> Result<Text, NoMemory>
     requires good { IsTrue (is_good (tree m.now)) }
     requires few_objects { length m.now.objects < 2 ^ 32 }
-    requires short_packets { All (λ p. length p.bytes ≤ 9216) packets.now }
+    requires short_packets { AreShort packets.now }
     ensures { IfOk result (λ text. text ≡ serial_answer (tree m.now) packets.now) }
 {
     let served = run_all(alloc, m, packets)?;

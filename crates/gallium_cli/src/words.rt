@@ -10,8 +10,8 @@ pub enum Form<'a> {
         source: &'a str,
         trace: &'a str,
     },
-    /// Prints the flat program of a middlebox and its split within these limits. The greatest split has to keep them, or else
-    /// may shrink until it does.
+    /// Prints the flat program of a middlebox and its split within these limits. The greatest split has to keep them,
+    /// or else may shrink until it does.
     Compile {
         source: &'a str,
         limits: &'a str,
