@@ -8,9 +8,16 @@ ghost use Rattle.run_text.specs.Sizes.{most_events, most_packets};
 ghost use Rattle.schedule_replay.specs.Setup.{setup_of};
 ghost use Rattle.schedule_replay.specs.Replayed.{IsReported, IsRunOf};
 
+use crate::course::Course;
 use crate::job::{Job, ReplayError, Replayed};
+use split_program::split_programs_have_their_laws;
+use split_world::{
+    a_quiet_switch_has_the_newest_tables, a_tied_replay_reports_the_run, every_run_serialises,
+    lookups_see_one_version,
+};
 use std::alloc::Global;
 use switch_ir::SwitchPort;
+use told_switch::{quiet_tables_are_the_stores, told_rows_are_the_visible_stores};
 
 /// Loads a switch with the code of a job, performs the job's events, and then, where it is asked for, those that end the
 /// run. After an error the switch is as the calls so far left it.
@@ -31,8 +38,15 @@ pub fn replay<S: SwitchPort>(
     ensures fault { IfErr result (λ e. e ≡ ReplayError.PortFault
         → Rose (S.seen port.old).faults (S.seen port.new).faults) }
 {
-    let _ = alloc;
-    let _ = job;
-    let _ = port;
-    Err(ReplayError::NoMemory)
+    split_programs_have_their_laws();
+    lookups_see_one_version();
+    every_run_serialises();
+    a_tied_replay_reports_the_run();
+    a_quiet_switch_has_the_newest_tables();
+    quiet_tables_are_the_stores();
+    told_rows_are_the_visible_stores();
+    let mut course = Course::start(alloc, job, port)?;
+    course.perform(alloc, job, port)?;
+    course.conclude(alloc, job, port)?;
+    course.report(alloc, job, port)
 }

@@ -1,0 +1,83 @@
+//! The start of a replay.
+ghost use Rattle.std.specs.Prelude.{◌≡◌, ◌≤◌, [], length, IfErr, IfOk, OnOk};
+ghost use Rattle.std.specs.List.{AllByRecursion as Each};
+ghost use Rattle.gal_io.specs.Count.{Rose};
+ghost use Rattle.packet_fields.specs.Sizes.{AreShort};
+ghost use Rattle.packet_fields.specs.declared.packet.TheConstants.{MAX_PACKET_BYTES};
+ghost use Rattle.flat_ir.specs.Arrivals.{IsArrival};
+ghost use Rattle.flat_ir.specs.Program.{program_of};
+ghost use Rattle.run_text.specs.Sizes.{most_packets};
+ghost use Rattle.switch_ir.specs.Code.{code_of};
+ghost use Rattle.switch_ir.specs.Emitted.{HasFewStages, IsEmitted};
+ghost use Rattle.switch_ir.specs.Port.{Loads};
+ghost use Rattle.split_program.specs.Whole.{IsSplit};
+ghost use Rattle.schedule_replay.specs.Setup.{setup_of};
+ghost use Rattle.schedule_replay.specs.Replaying.{HasGone};
+
+use crate::course::Course;
+use crate::job::{Job, ReplayError};
+use packet_fields::Packet;
+use server_runtime::Server;
+use split_world::{a_replay_is_answered_by_its_calls, a_told_step_keeps_the_tie};
+use state_store::Store;
+use std::alloc::Global;
+use switch_ir::{PortEnd, SwitchCode, SwitchPort, emit};
+use told_switch::told_tables_start;
+
+// The port and the bytes of a packet have 8 bits.
+fn arrives(port: u8, bytes: &[u8])
+    requires { length bytes.now ≤ MAX_PACKET_BYTES }
+    ensures { IsArrival (record { port = port; bytes = bytes.now }) }
+{}
+
+// So it is for all packets of a trace.
+fn all_arrive(packets: &[Packet])
+    requires { AreShort packets.now }
+    ensures { Each IsArrival packets.now }
+{
+    for packet in packets {
+        arrives(packet.port, packet.bytes.as_slice());
+    }
+}
+
+// Loads the switch.
+fn load<S: SwitchPort>(alloc: Global, port: &mut S, code: &SwitchCode) -> Result<(), ReplayError>
+    requires { IsEmitted (code_of code.now) }
+    ensures loads { OnOk result (Loads PortEnd.Done (code_of code.now) (S.seen port.old) (S.seen port.new)) }
+    ensures fault { IfErr result (λ e. e ≡ ReplayError.PortFault
+        → Rose (S.seen port.old).faults (S.seen port.new).faults) }
+{
+    match port.load(alloc, code) {
+        PortEnd::Done => Ok(()),
+        PortEnd::Failed => Err(ReplayError::PortFault),
+        PortEnd::NoMemory => Err(ReplayError::NoMemory),
+    }
+}
+
+impl Course {
+    /// Loads the switch with the code of a job. No event has happened yet.
+    pub(crate) fn start<S: SwitchPort>(
+        alloc: Global,
+        job: &Job,
+        port: &mut S,
+    ) -> Result<Course, ReplayError>
+        requires split { IsSplit (program_of job.now.flat) job.now.split job.now.writeback }
+        requires stages { HasFewStages job.now.split }
+        requires writeback { job.now.writeback ≤ 65536 }
+        requires few_packets { length job.now.packets ≤ most_packets }
+        ensures started { IfOk result (λ course.
+            HasGone (setup_of job.now) [] course (S.seen port.old) (S.seen port.new)) }
+        ensures fault { IfErr result (λ e. e ≡ ReplayError.PortFault
+            → Rose (S.seen port.old).faults (S.seen port.new).faults) }
+    {
+        told_tables_start();
+        a_told_step_keeps_the_tie();
+        a_replay_is_answered_by_its_calls();
+        all_arrive(job.packets.as_slice());
+        let code = emit(alloc, &job.flat, &job.split, job.writeback)?;
+        load(alloc, port, &code)?;
+        let store = Store::new(alloc, &job.flat.objects)?;
+        let server = Server::new(alloc, &job.flat, &job.split, store)?;
+        Ok(Course::new(alloc, server))
+    }
+}
