@@ -1,13 +1,13 @@
 -- Programs with legal splits, which tests serve.
-use Rattle.std.proofs.Common.{◌≡◌, ◌<◌, ◌++◌, ◌&&◌, IsTrue, ℕ, zero, suc, Bool, true, false, not, List, [], ◌∷◌, length, map, Option, Some, None, slice_get, refl, arith, sym, ◌∙◌, subst, ⊎_elim, if◌then◌else◌}
+use Rattle.std.proofs.Common.{◌≡◌, ◌<◌, ℕ, zero, suc, Bool, true, false, not, List, [], ◌∷◌, length, Option, Some, None, slice_get, refl, arith, sym, ◌∙◌, subst, ⊎_elim, if◌then◌else◌}
 use Rattle.std.proofs.lemmas.Bool.{and_parts, not-true}
 use Rattle.std.proofs.Math.Nat.{eq-or-lt_of_le}
-use Rattle.std.specs.FinMap.{empty, get-empty, len-empty}
+use Rattle.std.specs.FinMap.{get-empty, len-empty}
 use Rattle.gal_bits.specs.declared.op.Op.TheVariants.{Add, Cast}
 use Rattle.packet_fields.specs.declared.field.Field.TheVariants.{MetaLen, MetaPort}
 use Rattle.state_store.specs.declared.object.Kind.TheVariants.{Map, Table}
 use Rattle.state_store.specs.declared.object.ObjectDecl.{ObjectDecl}
-use Rattle.state_store.specs.Kept.{have_widths, IsKept, IsKeptObject}
+use Rattle.state_store.specs.Kept.{IsKept, IsKeptObject}
 use Rattle.state_store.specs.Store.{key_cmp, start_object, start_store}
 use Rattle.state_store.specs.Store as store
 use Rattle.flat_ir.specs.declared.program.ValueId.{ValueId}

@@ -34,7 +34,7 @@ found_behind p (x ∷ xs) (suc n) none =
 no_value : (v : ValueId) (c : Crossing) (b : Bool) → holds_value v c ≡ b → (c.value.instruction ≡ v.instruction → ⊥) → b ≡ false
 no_value v c true e other =
     absurd (other (eqb-true c.value.instruction v.instruction
-        (and_parts (c.value.instruction == v.instruction) (c.value.result == v.result) e).0))
+    (and_parts (c.value.instruction == v.instruction) (c.value.result == v.result) e).0))
 no_value v c false e other = refl
 
 pub none_before : (layout : List Crossing) (places : List ℕ) (v : ValueId) (n : ℕ) → IsIndexOf layout places
@@ -116,8 +116,8 @@ pub down_same : (code : Code) (values others : Crossing → ℕ) (tables : Store
 down_same code values others tables packet agree =
     ap (λ (given : Reading). leaves code.post (pass_values code.post given tables packet) packet)
     (same_reading (down_given code values packet) (down_given code others packet)
-        (λ v. agreed (crosses code.down v) (handed code.down values v) (handed code.down others v) (inputs code packet v) (inputs code packet v)
-            (handed_same code.down values others v agree) refl))
+    (λ v. agreed (crosses code.down v) (handed code.down values v) (handed code.down others v) (inputs code packet v) (inputs code packet v)
+    (handed_same code.down values others v agree) refl))
 
 -- ## Registers that are filled
 
@@ -135,14 +135,14 @@ held_more layout registers reads i c rising lt is there held k d le =
     let here : get_or layout i d ≡ c = any_default layout i d c lt ∙ sym is in
     ⊎_elim
     (λ below.
-        let less : (get_or layout k d).number < c.number = subst (λ (x : Crossing). (get_or layout k d).number < x.number) here (rising k i d below lt) in
-        get_or-set_other registers c.number (get_or layout k d).number (reads c.value) 0 (λ same. omega (arith, less, same)) ∙ held k d below)
+    let less : (get_or layout k d).number < c.number = subst (λ (x : Crossing). (get_or layout k d).number < x.number) here (rising k i d below lt) in
+    get_or-set_other registers c.number (get_or layout k d).number (reads c.value) 0 (λ same. omega (arith, less, same)) ∙ held k d below)
     (λ above.
-        let last : k ≡ i = omega (arith, above, le) in
-        let this : get_or layout k d ≡ c = ap (λ n. get_or layout n d) last ∙ here in
-        ap (λ (x : Crossing). get_or (slice_set registers c.number (reads c.value)) x.number 0) this
-        ∙ get_or-set_same registers c.number (reads c.value) 0 there
-        ∙ ap (λ (x : Crossing). reads x.value) (sym this))
+    let last : k ≡ i = omega (arith, above, le) in
+    let this : get_or layout k d ≡ c = ap (λ n. get_or layout n d) last ∙ here in
+    ap (λ (x : Crossing). get_or (slice_set registers c.number (reads c.value)) x.number 0) this
+    ∙ get_or-set_same registers c.number (reads c.value) 0 there
+    ∙ ap (λ (x : Crossing). reads x.value) (sym this))
     (cases_lt k i)
 
 pub number_there : (layout : List Crossing) (n i : ℕ) (c : Crossing) → i < length layout → c ≡ get_or layout i c

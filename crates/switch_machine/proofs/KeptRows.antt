@@ -90,7 +90,7 @@ put_keeps d o key values true full e f free key_fits values_fit kept = rw e kept
 put_keeps d o key values false true e f free key_fits values_fit kept = rw (e, f) kept
 put_keeps d o key values false false e f free key_fits values_fit kept =
     let room : (not (contains_key o.contents key) && nat_le d.size (len o.contents)) ≡ false =
-        subst (λ n. (not (contains_key o.contents key) && nat_le n (len o.contents)) ≡ false) kept.size f in
+    subst (λ n. (not (contains_key o.contents key) && nat_le n (len o.contents)) ≡ false) kept.size f in
     let after : Object = record o { contents = insert o.contents key values } in
     let goes_on : IsKeptObject d after = record {
       kind = kept.kind;

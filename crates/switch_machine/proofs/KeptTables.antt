@@ -28,8 +28,8 @@ module _ (code : Code) (told : Told) (safe : KeepsTables code told) where
   named k e c here keeps o d there =
       at_pair (KeepsRows d) told.pairs k o (applied (pair_at told.pairs k) c) (safe o d there)
       (λ same.
-          let one : e ≡ d = the_some e d (sym here ∙ ap (declared_at code.tables) same ∙ there) in
-          subst (λ (x : ObjectDecl). KeepsRows x (applied (pair_at told.pairs k) c)) one (keeps (safe k e here)))
+      let one : e ≡ d = the_some e d (sym here ∙ ap (declared_at code.tables) same ∙ there) in
+      subst (λ (x : ObjectDecl). KeepsRows x (applied (pair_at told.pairs k) c)) one (keeps (safe k e here)))
 
   pub command_keeps : (c : Command) → IsCommandOf code c → KeepsTables code (told_after c told)
   command_keeps (Stage u) h = named u.object h.0 (Stage u) h.1.declared (staging h.0 (pair_at told.pairs u.object) u h.2)
@@ -46,8 +46,8 @@ safe_of code told safe other is = subst (λ (c : Code). KeepsTables c told) (the
 pub start_safe : (code : Code) (told : Told) → CanBeRun code → IsStart code told → AreSafe (Some code) told
 start_safe code told can start =
     safe_of code told (λ o d here.
-        subst (KeepsRows d) (sym (start.pairs o ∙ ap (start_pair code.writeback) here))
-        (starting d code.writeback (can.tables o d here).start can.writeback))
+    subst (KeepsRows d) (sym (start.pairs o ∙ ap (start_pair code.writeback) here))
+    (starting d code.writeback (can.tables o d here).start can.writeback))
 
 pub nothing_safe : (told : Told) → AreSafe None told
 nothing_safe told code is = absurd (none_some code is)

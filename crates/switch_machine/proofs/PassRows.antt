@@ -31,12 +31,12 @@ pub over_done : (given : Reading) (rows : List Row) (i : ℕ) (r : Results) → 
 over_done given rows i r lt =
     same_reading (over given (slice_set rows i (Done r))) (with_gives (gives_of (i, r) ∷ []) (over given rows))
     (λ v. ⊎_elim
-        (λ e. ap (λ k. value_by_row (get_or (slice_set rows i (Done r)) k Open) given v) (sym e)
-            ∙ ap (λ row. value_by_row row given v) (get_or-set_same rows i (Done r) Open lt)
-            ∙ sym (cond-true (i == v.instruction) (slice_index (results_of r) v.result) (over given rows v) (eq-eqb i v.instruction e)))
-        (λ ne. ap (λ row. value_by_row row given v) (get_or-set_other rows i v.instruction (Done r) Open (λ e. ne (sym e)))
-            ∙ sym (cond-false (i == v.instruction) (slice_index (results_of r) v.result) (over given rows v) (ne_eqb i v.instruction ne)))
-        (cases_eq i v.instruction))
+    (λ e. ap (λ k. value_by_row (get_or (slice_set rows i (Done r)) k Open) given v) (sym e)
+    ∙ ap (λ row. value_by_row row given v) (get_or-set_same rows i (Done r) Open lt)
+    ∙ sym (cond-true (i == v.instruction) (slice_index (results_of r) v.result) (over given rows v) (eq-eqb i v.instruction e)))
+    (λ ne. ap (λ row. value_by_row row given v) (get_or-set_other rows i v.instruction (Done r) Open (λ e. ne (sym e)))
+    ∙ sym (cond-false (i == v.instruction) (slice_index (results_of r) v.result) (over given rows v) (ne_eqb i v.instruction ne)))
+    (cases_eq i v.instruction))
 
 -- what was given last is covered by all that was given before it
 last_at : (gs : List Gives) (g : Gives) (reads : Reading) (v : ValueId)

@@ -57,7 +57,7 @@ are_stages steps highest stages count all = record {
   rows = λ n have t le.
       subst (λ ss. HaveRows n (instructions_of ss)) (sym (all t le))
       (map_each (λ k. k < n) (λ (s : Step). s.instruction) (of_stage t steps)
-          (each_of_stage (λ (s : Step). s.instruction < n) t steps (each_map (λ k. k < n) (λ (s : Step). s.instruction) steps have)));
+      (each_of_stage (λ (s : Step). s.instruction < n) t steps (each_map (λ k. k < n) (λ (s : Step). s.instruction) steps have)));
   exact = λ t le reads tables packet v.
       ap (λ ss. after_stage ss t reads tables packet v) (all t le) ∙ stage_same t reads tables packet v steps;
 }

@@ -56,8 +56,8 @@ pub row_at : (steps : List PassStep) (rows i : ℕ) (s : PassStep) → HaveRows 
 row_at steps rows i s have lt is =
     subst (λ (one : PassStep). one.instruction < rows) (sym is)
     (each_at (λ (one : PassStep). one.instruction < rows) steps i s
-        (each_map (λ (one : Step). one.instruction < rows) step_of steps
-            (each_map (λ k. k < rows) (λ (one : Step). one.instruction) (map step_of steps) have)) lt)
+    (each_map (λ (one : Step). one.instruction < rows) step_of steps
+    (each_map (λ k. k < rows) (λ (one : Step). one.instruction) (map step_of steps) have)) lt)
 
 -- one instruction more is read
 pub stage_more : (reads : Reading) (tables : Store) (packet : Packet) (t : ℕ) (steps : List PassStep) (i : ℕ) (s : PassStep)

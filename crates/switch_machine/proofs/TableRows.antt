@@ -73,11 +73,11 @@ pub one_more_start : (writeback : ℕ) (tables : List Table) (n m : ℕ) (pairs 
 one_more_start writeback tables n m pairs after p more count next is so o lt =
     ap (λ ps. pair_at ps o) more
     ∙ ⊎_elim
-      (λ below. at_front pairs p o (omega (arith, below, count)) ∙ so o below)
-      (λ above.
-          let last : o ≡ n = omega (arith, above, lt, next) in
-          at_end pairs p o (omega (arith, last, count)) ∙ is ∙ ap (λ k. start_pair writeback (declared_at tables k)) (sym last))
-      (cases_lt o n)
+    (λ below. at_front pairs p o (omega (arith, below, count)) ∙ so o below)
+    (λ above.
+    let last : o ≡ n = omega (arith, above, lt, next) in
+    at_end pairs p o (omega (arith, last, count)) ∙ is ∙ ap (λ k. start_pair writeback (declared_at tables k)) (sym last))
+    (cases_lt o n)
 
 some_is_there : (n o : ℕ) (found : Option ObjectDecl) (d : ObjectDecl) → (n ≤ o → found ≡ None) → found ≡ Some d → o < n
 some_is_there n o found d none is = ⊎_elim (λ lt. lt) (λ le. absurd (some_none d (sym is ∙ none le))) (cases_lt o n)

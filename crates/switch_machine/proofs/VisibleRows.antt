@@ -64,11 +64,12 @@ pub each_entry : (P : List ℕ → List ℕ → Type 0) (es : Rows) → T (is_so
     → ((key values : List ℕ) → find key_cmp key es ≡ Some values → P key values) → Each (λ (r : Row). P r.keys r.values) (rows_from es)
 each_entry P [] sorted all = tt
 each_entry P (e ∷ es) sorted all =
-    let below = first (below_all key_cmp e.0 es) (is_sorted key_cmp es) sorted in
-    (all e.0 e.1 (ap (λ b. cond b (Some e.1) (find key_cmp e.0 es)) (itself e.0)),
-     each_entry P es (second (below_all key_cmp e.0 es) (is_sorted key_cmp es) sorted)
-     (λ key values found.
-         all key values (ap (λ b. cond b (Some e.1) (find key_cmp key es)) refl ∙ found_too key values e es (eq_by_cmp key_cmp key e.0) refl below found)))
+    let below = first (below_all key_cmp e.0 es) (is_sorted key_cmp es) sorted in (
+      all e.0 e.1 (ap (λ b. cond b (Some e.1) (find key_cmp e.0 es)) (itself e.0)),
+      each_entry P es (second (below_all key_cmp e.0 es) (is_sorted key_cmp es) sorted)
+          (λ key values found.
+          all key values (ap (λ b. cond b (Some e.1) (find key_cmp key es)) refl ∙ found_too key values e es (eq_by_cmp key_cmp key e.0) refl below found)),
+    )
   where
     itself : (key : List ℕ) → eq_by_cmp key_cmp key key ≡ true
     itself key = ap is_eq (tied_itself nat_list_cmp_total key)

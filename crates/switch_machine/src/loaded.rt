@@ -17,10 +17,8 @@ pub(crate) struct Loaded {
     pub pre: Stages,
     pub post: Stages,
     ghost can: { CanBeRun (code_of code) } by { can_be_run_prop (code_of code) },
-    ghost pre_stages: { AreStages (pass_of code.pre).steps code.pre.highest pre }
-        by { stages_prop (pass_of code.pre).steps code.pre.highest pre },
-    ghost post_stages: { AreStages (pass_of code.post).steps code.post.highest post }
-        by { stages_prop (pass_of code.post).steps code.post.highest post },
+    ghost pre_stages: { AreStages (pass_of code.pre).steps code.pre.highest pre } by { stages_prop (pass_of code.pre).steps code.pre.highest pre },
+    ghost post_stages: { AreStages (pass_of code.post).steps code.post.highest post } by { stages_prop (pass_of code.post).steps code.post.highest post },
 }
 
 impl Loaded {

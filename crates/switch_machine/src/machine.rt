@@ -163,10 +163,12 @@ impl ModelSwitch {
 
     fn try_room(&mut self, commands: usize) -> Result<(), NoMemory>
         ensures ok { let old = machine_of self.old in
-            OnOk result (machine_of self.new ≡ record old { journal = record {
-              entries = old.journal.entries ++ entry.Room commands ∷ [];
-              spare = max old.journal.spare commands;
-            } }) }
+            OnOk result (machine_of self.new ≡ record old {
+              journal = record {
+                entries = old.journal.entries ++ entry.Room commands ∷ [];
+                spare = max old.journal.spare commands;
+              };
+            }) }
         ensures err { let old = machine_of self.old in
             OnErr result ((spare : ℕ) × (old.journal.spare ≤ spare)
             × (machine_of self.new ≡ record old { journal = record old.journal { spare = spare } })) }
@@ -249,12 +251,7 @@ impl ModelSwitch {
         let Some(loaded) = &self.loaded else {
             unreachable!()
         };
-        Ok(DownEnd::Verdict(go_down(
-            alloc,
-            loaded,
-            &self.tables,
-            frame,
-        )?))
+        Ok(DownEnd::Verdict(go_down(alloc, loaded, &self.tables, frame)?))
     }
 
     fn try_down(&mut self, alloc: Global, frame: &[u8], fails: bool) -> Result<DownEnd, NoMemory>
@@ -290,10 +287,12 @@ impl ModelSwitch {
     fn note_command(&mut self, command: &Command, end: CommandEnd)
         requires { 0 < (machine_of self.old).journal.spare }
         ensures { let old = machine_of self.old in
-            machine_of self.new ≡ record old { journal = record {
-              entries = old.journal.entries ++ entry.Command command.now end ∷ [];
-              spare = old.journal.spare - 1;
-            } } }
+            machine_of self.new ≡ record old {
+              journal = record {
+                entries = old.journal.entries ++ entry.Command command.now end ∷ [];
+                spare = old.journal.spare - 1;
+              };
+            } }
     {
         self.journal.push_spare(Entry::Command(*command, end));
     }

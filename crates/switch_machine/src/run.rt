@@ -171,7 +171,15 @@ pub(crate) fn run_pass<L: Lookup, G: Numbers>(
     let count = pass.highest as usize + 1;
     for stage in 0..count {
         let own = stages.stage(stage);
-        run_stage(own, stage as u32, given, tables, arrival, &mut computed, &mut rows)?;
+        run_stage(
+            own,
+            stage as u32,
+            given,
+            tables,
+            arrival,
+            &mut computed,
+            &mut rows,
+        )?;
     }
     Ok(rows)
 }
@@ -192,6 +200,14 @@ pub(crate) fn given_rows(
     let mut rows = open_rows(alloc, steps)?;
     let mut computed = Vec::with_capacity(alloc, steps.len())?;
     let tables = SwitchTables::none(alloc);
-    run_stage(steps, 0, &Nothing, &tables, arrival, &mut computed, &mut rows)?;
+    run_stage(
+        steps,
+        0,
+        &Nothing,
+        &tables,
+        arrival,
+        &mut computed,
+        &mut rows,
+    )?;
     Ok(rows)
 }

@@ -28,7 +28,7 @@ pack_down_in-down-requires-clause-enough c =
     let f = program_of c.args.whole.now.flat in
     let sent = c.deref.ensures.value ∙ c.set_fields-packet.ensures in
     let same : length c.deref.result.now ≡ length c.args.arrival.now.bytes.now =
-        ap length sent ∙ length_with_writes (server_fields f c.args.whole.now.split) (register_reads f c.take_turns-evaluated.new.values) c.args.arrival.now.bytes.now
+    ap length sent ∙ length_with_writes (server_fields f c.args.whole.now.split) (register_reads f c.take_turns-evaluated.new.values) c.args.arrival.now.bytes.now
     in
     subst (λ n. HasRoom c.args.whole.now.down n c.args.room.frame) (sym same) c.requires.frame
 

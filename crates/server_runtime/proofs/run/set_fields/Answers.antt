@@ -9,4 +9,3 @@ pub write_fields-requires-clause-writable : goal.write_fields-requires-clause-wr
 write_fields-requires-clause-writable c =
     let f = program_of c.args.whole.now.flat in
     subst (Each IsWritable) (sym (c.deref.ensures.value ∙ c.requires.prepared.fields)) (are_writable f c.args.whole.now.split f.fields c.requires.prepared.bounded.formed.fields)
-

@@ -20,4 +20,4 @@ returns c =
     c.leave.ensures
     ∙ ap (λ (r : Reading). leaves code.post r packet) same
     ∙ ap (λ (g : Reading). leaves code.post (pass_values code.post g (seen_tables c.args.tables.now) packet) packet)
-      (handed_is_given code c.args.registers.now packet c.deref-2.result.now inputs_are)
+    (handed_is_given code c.args.registers.now packet c.deref-2.result.now inputs_are)

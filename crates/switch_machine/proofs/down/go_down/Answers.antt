@@ -21,9 +21,9 @@ returns c =
     let arrived : Packet = record { port = c.in-Ok.head.port; bytes = rest } in
     ok_weaker (λ verdict. verdict ≡ down_end code told tables arrived) (λ verdict. EndsDown code c.args.tables.now frame (Ended verdict)) c.finish.result
     (λ verdict is number port values packet frame_is.
-        let same = c.in-Ok.ensures.read_back number port values packet frame_is in
-        is
-        ∙ down_same code told values tables arrived same.same_values
-        ∙ ap (λ p. down_end code values tables (record { port = p; bytes = rest })) same.same_port
-        ∙ ap (λ bytes. down_end code values tables (record { port = port; bytes = bytes })) (whole_rest at frame ∙ same.same_packet))
+    let same = c.in-Ok.ensures.read_back number port values packet frame_is in
+    is
+    ∙ down_same code told values tables arrived same.same_values
+    ∙ ap (λ p. down_end code values tables (record { port = p; bytes = rest })) same.same_port
+    ∙ ap (λ bytes. down_end code values tables (record { port = port; bytes = bytes })) (whole_rest at frame ∙ same.same_packet))
     c.finish.ensures

@@ -24,7 +24,7 @@ loop-step-preserved g c =
     let all = stage_gives (map step_of steps) c.args.stage reads tables packet in
     let rows = length c.args.run.now.rows.now in
     elim c.if-step-stage.branch [
-      then-step-stage+in_ok-push w ↦
+      | then-step-stage+in_ok-push w ↦
           let more = ap (λ (v : _). v.items) w.computed-is ∙ w.in_ok-push.ensures.items in
           record {
             gives = stage_more reads tables packet c.args.stage steps i s (map gives_of before) (map gives_of after) all c.loop-step-test.true c.step-item.is
@@ -40,4 +40,5 @@ loop-step-preserved g c =
                 (read_else reads tables packet c.args.stage s before after same w.if-step-stage.false)
                 c.loop-step.invariant.gives;
             rows = subst (λ xs. HaveRows rows (map (λ (g' : Gives). g'.0) (map gives_of xs))) (sym same) c.loop-step.invariant.rows;
-          } ]
+          }
+    ]

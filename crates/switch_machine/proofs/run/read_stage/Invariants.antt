@@ -11,5 +11,5 @@ invariant-loop-step g l =
     record {
       gives : map gives_of l.computed.items ++ stage_gives (map step_of (drop l.step-index l.steps)) l.stage reads tables (packet_of l.arrival)
           ≡ stage_gives (map step_of l.steps) l.stage reads tables (packet_of l.arrival);
-      rows : HaveRows (length l.run.rows.now) (map (λ (g : Gives). g.0) (map gives_of l.computed.items))
+      rows : HaveRows (length l.run.rows.now) (map (λ (g : Gives). g.0) (map gives_of l.computed.items));
     }

@@ -10,4 +10,4 @@ returns c =
     let steps = c.args.steps.now in
     map_each (λ i. i < n) (λ (s : Step). s.instruction) (map step_of steps)
     (map_each (λ (s : Step). s.instruction < n) step_of steps
-        (from_places (λ (s : PassStep). s.instruction < n) steps (λ i d lt. c.loop-step.invariant i d (omega (arith, lt)))))
+    (from_places (λ (s : PassStep). s.instruction < n) steps (λ i d lt. c.loop-step.invariant i d (omega (arith, lt)))))

@@ -34,9 +34,9 @@ loop-stage-preserved g c =
     let le : t ≤ c.args.pass.now.highest = omega (arith, c.loop-stage-test.true) in
     let before = over reads c.loop-stage.rows.items in
     let one = c.in_ok-run_stage.ensures.stage
-        ∙ ap (λ own. after_stage (map step_of own) t before tables packet) c.stage-own.ensures
-        ∙ same_reading (after_stage (stage_at stages t) t before tables packet) (after_stage steps t before tables packet)
-          (c.requires.stages.exact t le before tables packet) in
+    ∙ ap (λ own. after_stage (map step_of own) t before tables packet) c.stage-own.ensures
+    ∙ same_reading (after_stage (stage_at stages t) t before tables packet) (after_stage steps t before tables packet)
+    (c.requires.stages.exact t le before tables packet) in
     record {
       values = stage_done steps reads tables packet t (t + 1) before (over reads c.run_stage.new.rows.items) (add-one t) one c.loop-stage.invariant.values;
       rows = subst (λ n. HaveRows n (instructions_of steps)) (sym c.in_ok-run_stage.ensures.rows) c.loop-stage.invariant.rows;

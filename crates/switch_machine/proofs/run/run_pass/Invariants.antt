@@ -12,5 +12,5 @@ invariant-loop-stage g l =
       values : over reads l.rows.items
           ≡ after_stages (map step_of l.pass.steps) reads (g.L.Lookup.seen l.tables) (packet_of l.arrival) l.stage;
       rows : HaveRows (length l.rows.items) (instructions_of (map step_of l.pass.steps));
-      empty : l.computed.items ≡ []
+      empty : l.computed.items ≡ [];
     }

@@ -14,5 +14,5 @@ returns-clause-stage g c =
     let before = over reads c.args.rows.now.items in
     c.write_stage.ensures.gives reads
     ∙ ap (λ gs. with_gives gs before)
-      (c.in_ok-read_stage.ensures.gives ∙ ap (λ (rows : _). stage_gives steps c.args.stage (over reads rows) tables packet) c.deref.ensures.value)
+    (c.in_ok-read_stage.ensures.gives ∙ ap (λ (rows : _). stage_gives steps c.args.stage (over reads rows) tables packet) c.deref.ensures.value)
     ∙ sym (stage_is before tables packet c.args.stage steps)

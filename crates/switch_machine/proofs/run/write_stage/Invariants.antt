@@ -8,7 +8,7 @@ invariant-loop-instruction l = record {
   within : HaveRows (length l.rows.items) (map (λ (g : Gives). g.0) (map gives_of l.computed.items));
   count : length l.rows.items ≡ length l.fn.rows.items;
   same : (reads : Reading) → with_gives (map gives_of l.computed.items) (over reads l.rows.items)
-      ≡ with_gives (map gives_of l.fn.computed.items) (over reads l.fn.rows.items)
+      ≡ with_gives (map gives_of l.fn.computed.items) (over reads l.fn.rows.items);
 }
 
 abbrev pub decreases-loop-instruction : goal.decreases-loop-instruction

@@ -12,9 +12,10 @@ pub returns-then-leaves_work-clause-told : goal.returns-then-leaves_work-clause-
 returns-then-leaves_work-clause-told c =
     let code = code_of c.args.loaded.now.code in
     let packet : Packet = record { port = c.args.port; bytes = c.args.packet.now } in
-    let same = ap (over nothing) c.deref.ensures.value ∙ c.in_ok-rows.ensures in
-    (ap (goes_up code) (sym same) ∙ sym c.leaves_work.ensures ∙ c.if-leaves_work.true,
-     c.in_ok-frame.ensures.bytes ∙ ap (λ (reads : Reading). up_frame code.up c.args.number c.args.port reads c.args.packet.now) same)
+    let same = ap (over nothing) c.deref.ensures.value ∙ c.in_ok-rows.ensures in (
+      ap (goes_up code) (sym same) ∙ sym c.leaves_work.ensures ∙ c.if-leaves_work.true,
+      c.in_ok-frame.ensures.bytes ∙ ap (λ (reads : Reading). up_frame code.up c.args.number c.args.port reads c.args.packet.now) same,
+    )
 
 pub returns-clause-told : goal.returns-clause-told
 returns-clause-told c =

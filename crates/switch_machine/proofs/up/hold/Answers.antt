@@ -15,7 +15,7 @@ loop-crossing-preserved g c =
     let lt : i < length layout = subst (λ (l : List Crossing). i < length l) c.as_slice-crossing-items.ensures c.loop-crossing-test.true in
     let is : one ≡ get_or layout i one = c.crossing-item.is ∙ ap (λ (l : List Crossing). get_or l i one) c.as_slice-crossing-items.ensures in
     let there : one.number < length registers = subst (λ n. one.number < n) (sym c.loop-crossing.invariant.count)
-        (number_there layout (length c.args.registers.now) i one lt is c.requires.among) in
+    (number_there layout (length c.args.registers.now) i one lt is c.requires.among) in
     let set = c.set.ensures ∙ ap (slice_set registers one.number) c.number.ensures in
     record {
       count = ap length set ∙ length-set registers one.number (reads one.value) ∙ c.loop-crossing.invariant.count;

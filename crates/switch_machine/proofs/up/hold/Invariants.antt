@@ -6,5 +6,5 @@ abbrev pub invariant-loop-crossing : goal.invariant-loop-crossing
 invariant-loop-crossing g l = record {
   count : length l.registers ≡ length l.fn.registers;
   held : (k : ℕ) (d : Crossing) → k < l.crossing-index
-      → get_or l.registers (get_or l.layout k d).number 0 ≡ g.R.Numbers.reads l.numbers (get_or l.layout k d).value
+      → get_or l.registers (get_or l.layout k d).number 0 ≡ g.R.Numbers.reads l.numbers (get_or l.layout k d).value;
 }

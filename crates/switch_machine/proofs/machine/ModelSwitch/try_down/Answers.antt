@@ -16,6 +16,6 @@ returns-clause-ok c =
     (entry.Down copy answer ∷ []) (down_entry frame end) c.args.fails (down_failed end)
     c.in_ok-note.ensures.ok c.count_fault.ensures.counted
     (is.1
-        ∙ ap (λ bytes. entry.Down bytes end ∷ []) (sym c.in_ok-frame.ensures)
-        ∙ ap (λ told. entry.Down copy told ∷ []) (sym c.in_ok-answer.ensures))
+    ∙ ap (λ bytes. entry.Down bytes end ∷ []) (sym c.in_ok-frame.ensures)
+    ∙ ap (λ told. entry.Down copy told ∷ []) (sym c.in_ok-answer.ensures))
     is.0

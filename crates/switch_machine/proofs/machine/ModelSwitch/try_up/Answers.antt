@@ -18,6 +18,6 @@ returns-clause-ok c =
     (entry.Up number port copy answer ∷ []) (up_entry number port packet end) c.args.fails (up_failed end)
     c.in_ok-note.ensures.ok c.count_fault.ensures.counted
     (is.1
-        ∙ ap (λ bytes. entry.Up number port bytes end ∷ []) (sym c.in_ok-packet.ensures)
-        ∙ ap (λ told. entry.Up number port copy told ∷ []) (sym c.in_ok-answer.ensures))
+    ∙ ap (λ bytes. entry.Up number port bytes end ∷ []) (sym c.in_ok-packet.ensures)
+    ∙ ap (λ told. entry.Up number port copy told ∷ []) (sym c.in_ok-answer.ensures))
     is.0

@@ -17,6 +17,6 @@ returns c =
     let over_all : length steps ≤ c.loop-step.step-index = omega (arith, c.loop-step-test.false, ap length c.as_slice-step-items.ensures) in
     are_stages (map step_of steps) c.args.pass.now.highest stages (c.loop-step.invariant.count ∙ add-one c.args.pass.now.highest)
     (λ t le.
-        sym (append-nil (stage_at stages t))
-        ∙ ap (λ ss. stage_at stages t ++ of_stage t (map step_of ss)) (sym (none_ahead steps c.loop-step.step-index over_all))
-        ∙ c.loop-step.invariant.placed t (omega (arith, le)))
+    sym (append-nil (stage_at stages t))
+    ∙ ap (λ ss. stage_at stages t ++ of_stage t (map step_of ss)) (sym (none_ahead steps c.loop-step.step-index over_all))
+    ∙ c.loop-step.invariant.placed t (omega (arith, le)))

@@ -8,5 +8,5 @@ abbrev pub invariant-loop-step : goal.invariant-loop-step
 invariant-loop-step l = record {
   count : length l.stages.items ≡ l.pass.highest + 1;
   placed : (t : ℕ) → t < l.pass.highest + 1 → stage_at l.stages.items t ++ of_stage t (map step_of (drop l.step-index l.pass.steps))
-      ≡ of_stage t (map step_of l.pass.steps)
+      ≡ of_stage t (map step_of l.pass.steps);
 }
