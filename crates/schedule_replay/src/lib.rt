@@ -17,6 +17,3 @@ pub use course::Stepped;
 pub use job::{Job, ReplayError, Replayed};
 pub use perform::replay;
 pub use replayer::{Refused, Replayer};
-
-#[cfg(test)]
-mod tests;
