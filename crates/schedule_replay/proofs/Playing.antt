@@ -25,6 +25,7 @@ use Rattle.schedule_replay.specs.Views.{replay_of}
 use Rattle.schedule_replay.proofs.Ongoing.{GoesOn, FindsRoom, SplitLaws, SeenLaw}
 use Rattle.schedule_replay.proofs.Draining.{picks_count}
 use Rattle.schedule_replay.proofs.Ending.{SameTurn, DrainGoes, DrainRests, drained}
+use Rattle.schedule_replay.proofs.Performing.{called_stays}
 use Rattle.schedule_replay.proofs.Reported.{RunLaw, RowsLaw, run_told}
 use Rattle.schedule_replay.proofs.Serves.{few_writes}
 
@@ -148,6 +149,7 @@ turned law x event stepped c after old new steps failed events calls is step = r
   applied = step.does.stepped_so;
   more = step.does.calls;
   answers = step.does.happens;
+  tells = called_stays x step.does.calls old new step.does.called;
   replayer = record {
     replaying = law x events event stepped calls (replay_of c) (replay_of after) old new is.replaying step.does;
     program = step.going.program;
@@ -191,6 +193,7 @@ emptied law turn goes rests x count c after old new steps failed events calls is
       counted = done.counted;
       drains = whole_drain.drains;
       ends = done.ends;
+      tells = done.stays;
       replayer = record {
         replaying = whole_drain.replaying;
         program = done.going.program;
@@ -237,6 +240,7 @@ reported split seen run rows_law x replayed c old new steps failed events calls 
   run = reports.run;
   commands = reports.commands;
   told = λ tells. run_told split seen run rows_law x events calls (replay_of c) old new replayed is.replaying reports tells;
+  tells = record { told = ap is_some reports.switch.kept.told; faults = reports.switch.kept.faults };
   replayer = record {
     replaying = kept_replaying x events calls (replay_of c) old new is.replaying reports.switch.kept;
     program = is.program;

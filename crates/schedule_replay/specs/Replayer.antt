@@ -18,7 +18,7 @@ use Rattle.schedule_replay.specs.declared.replayer.Replayer.{Replayer}
 use Rattle.schedule_replay.specs.Setup.{Setup, setup_of, whole}
 use Rattle.schedule_replay.specs.Sound.{events_left, unapplied}
 use Rattle.schedule_replay.specs.Steps.{stepped_by}
-use Rattle.schedule_replay.specs.Replaying.{IsReplaying}
+use Rattle.schedule_replay.specs.Replaying.{IsReplaying, StaysTold}
 use Rattle.schedule_replay.specs.Views.{replay_of}
 
 pub record State : Type 0 where
@@ -65,6 +65,7 @@ pub record HasTurned (old : State) (event : Event) (stepped : Stepped) (events :
   pub applied : stepped ≡ stepped_by (applies old.setup.packets old.replay event)
   pub more : List Call
   pub answers : AnswersOne (whole old.setup) old.setup.packets event old.replay more new.replay
+  pub tells : StaysTold old.port new.port
   pub replayer : IsReplayer new (events ++ event ∷ []) (calls ++ more)
 
 -- so many events more, which are those that drain picks
@@ -76,6 +77,7 @@ pub record HasEmptied (old : State) (count : ℕ) (events : List Event) (calls :
   pub drains : Drains (whole old.setup) old.setup.packets
       (drain_bound (length old.setup.packets) (whole old.setup).writes) old.replay more others new.replay
   pub ends : next_event (length old.setup.packets) new.replay ≡ None
+  pub tells : StaysTold old.port new.port
   pub replayer : IsReplayer new (events ++ more) (calls ++ others)
 
 -- what is reported: the replay, and over a port that tells its tables the run of the world
@@ -86,6 +88,7 @@ pub record HasReported (old : State) (replayed : Replayed) (events : List Event)
   pub run : replayed.run ≡ run_of (whole old.setup) (length old.setup.packets) replayed.run.switch old.replay
   pub commands : replayed.commands ≡ length old.replay.commit.commands
   pub told : IsSome old.port.told → replayed.run ≡ job_run (whole old.setup) old.setup.packets events
+  pub tells : StaysTold old.port new.port
   pub replayer : IsReplayer new events calls
 
 -- a replayer without any event yet, of this setup
