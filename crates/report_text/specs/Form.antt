@@ -1,7 +1,8 @@
 -- What a report may say of a run of a middlebox whose objects are declared so. Nothing here says that it is true.
-use Rattle.std.specs.Prelude.{◌≡◌, ◌<◌, ◌≤◌, ◌^◌, ℕ, suc, Bool, false, ◌∷◌, List, [], map, length, Some, slice_get}
-use Rattle.std.specs.Prelude.{if◌then◌else◌, IsTrue, nat_lt}
-use Rattle.std.specs.List.{AllByRecursion, list_all}
+use Rattle.std.specs.Prelude.{◌≡◌, ◌<◌, ◌≤◌, ◌^◌, ℕ, suc, Bool, true, false, not, ◌&&◌, List, [], ◌∷◌, map, length, Some}
+use Rattle.std.specs.Prelude.{if◌then◌else◌, IsTrue, nat_le, nat_lt, slice_get}
+use Rattle.std.specs.Str.{bytes_eq}
+use Rattle.std.specs.List.{AllByRecursion, list_all, list_any}
 use Rattle.std.specs.declared.cmp.Ordering.TheVariants.{Less}
 use Rattle.hex.specs.Hex.{IsBytes}
 use Rattle.packet_fields.specs.declared.verdict.Verdict.{Verdict}
@@ -21,17 +22,21 @@ abbrev pub is_plain : List ℕ → Bool
 is_plain name = list_all (nat_lt 32) name
 
 -- each width is from 1 to 64
-abbrev pub AreWidths : List ℕ → Type 0
-AreWidths = AllByRecursion (λ w. (1 ≤ w) × (w ≤ 64))
+abbrev pub are_widths : List ℕ → Bool
+are_widths = list_all (λ w. nat_le 1 w && nat_le w 64)
 
--- what can be told of the objects: their names are plain and differ
-pub record AreDeclared (declared : List ObjectDecl) : Type 0 where
-  pub few : length declared < 2 ^ 32
-  pub names : (i : ℕ) (o : ObjectDecl) → slice_get declared i ≡ Some o → IsTrue (is_plain o.name)
-  pub apart : (i j : ℕ) (o p : ObjectDecl) → slice_get declared i ≡ Some o → slice_get declared j ≡ Some p
-      → o.name ≡ p.name → i ≡ j
-  pub keys : (i : ℕ) (o : ObjectDecl) → slice_get declared i ≡ Some o → AreWidths o.keys
-  pub values : (i : ℕ) (o : ObjectDecl) → slice_get declared i ≡ Some o → AreWidths o.values
+-- the name, and the widths of its numbers
+abbrev pub is_declared : ObjectDecl → Bool
+is_declared object = is_plain object.name && are_widths object.keys && are_widths object.values
+
+-- no two have one name
+abbrev pub are_apart : List ObjectDecl → Bool
+are_apart [] = true
+are_apart (object ∷ objects) = not (list_any (λ other. bytes_eq object.name other.name) objects) && are_apart objects
+
+-- objects that a source can declare, as far as a report tells of them
+abbrev pub are_declared : List ObjectDecl → Bool
+are_declared objects = nat_lt (length objects) (2 ^ 32) && list_all is_declared objects && are_apart objects
 
 -- a number of a report, outside its rows
 abbrev pub IsSmall : ℕ → Type 0

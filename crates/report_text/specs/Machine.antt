@@ -38,8 +38,17 @@ no_counts = record { total = 0; admitted = 0; decided = 0; released = 0 }
 -- before the first line
 abbrev pub at_start : State
 at_start = record {
-  counts = no_counts; events = record { events = 0; idle = 0 }; versions = record { version = 0; visible = 0 };
-  drained = false; fates = []; order = []; server = []; switch = []; rows = []; stage = Title }
+  counts = no_counts;
+  events = record { events = 0; idle = 0 };
+  versions = record { version = 0; visible = 0 };
+  drained = false;
+  fates = [];
+  order = [];
+  server = [];
+  switch = [];
+  rows = [];
+  stage = Title;
+}
 
 -- How many keys are greater than this one, where so many are by the numbers in front. Numbers that are missing are 0.
 abbrev pub keys_above : ℕ → List ℕ → List ℕ → ℕ
@@ -171,10 +180,19 @@ step declared s line = step_at declared s line s.stage
 -- the run that was told
 abbrev pub run_of : State → Run
 run_of s = record {
-  total = s.counts.total; decided = s.counts.decided; released = s.counts.released;
-  events = s.events.events; idle = s.events.idle;
-  version = s.versions.version; visible = s.versions.visible;
-  drained = s.drained; fates = s.fates; order = s.order; objects = s.server; switch = s.switch }
+  total = s.counts.total;
+  decided = s.counts.decided;
+  released = s.counts.released;
+  events = s.events.events;
+  idle = s.events.idle;
+  version = s.versions.version;
+  visible = s.versions.visible;
+  drained = s.drained;
+  fates = s.fates;
+  order = s.order;
+  objects = s.server;
+  switch = s.switch;
+}
 
 abbrev pub ended_by : State → Stage → Option Run
 ended_by s Ended = Some (run_of s)

@@ -9,7 +9,11 @@ use std::alloc::Global;
 // A number below a bound behind a space.
 fn read_number(bound: u32, line: &[u8]) -> Option<(u32, &[u8])> {
     let (number, rest) = labelled(b" ", line)?;
-    if number < bound { Some((number, rest)) } else { None }
+    if number < bound {
+        Some((number, rest))
+    } else {
+        None
+    }
 }
 
 // So many numbers below a bound, with nothing behind them.

@@ -145,8 +145,7 @@ impl Reading {
     }
 
     fn take_order(&mut self, alloc: Global, line: &[u8]) -> Result<bool, NoMemory> {
-        let Some(order) = read_order(alloc, self.counts.decided, self.counts.admitted, line)?
-        else {
+        let Some(order) = read_order(alloc, self.counts.decided, self.counts.admitted, line)? else {
             return Ok(false);
         };
         self.order = order;
@@ -181,7 +180,13 @@ impl Reading {
     }
 
     // Awaits so many rows of this object.
-    fn await_rows(&mut self, alloc: Global, side: Side, object: u32, left: u32) -> Result<(), NoMemory> {
+    fn await_rows(
+        &mut self,
+        alloc: Global,
+        side: Side,
+        object: u32,
+        left: u32,
+    ) -> Result<(), NoMemory> {
         if left == 0 {
             return self.close(alloc, side, object);
         }
@@ -204,7 +209,13 @@ impl Reading {
         Ok(true)
     }
 
-    fn take_switch(&mut self, alloc: Global, objects: &[ObjectDecl], from: usize, line: &[u8]) -> Result<bool, NoMemory> {
+    fn take_switch(
+        &mut self,
+        alloc: Global,
+        objects: &[ObjectDecl],
+        from: usize,
+        line: &[u8],
+    ) -> Result<bool, NoMemory> {
         if line == b"end".as_slice() {
             self.stage = Stage::Ended;
             return Ok(true);
@@ -212,10 +223,22 @@ impl Reading {
         let Some((number, count)) = shown_object(objects, from, line) else {
             return Ok(false);
         };
-        self.open(alloc, Side::OnSwitch, number, &objects[number as usize], count)
+        self.open(
+            alloc,
+            Side::OnSwitch,
+            number,
+            &objects[number as usize],
+            count,
+        )
     }
 
-    fn take_server(&mut self, alloc: Global, objects: &[ObjectDecl], from: usize, line: &[u8]) -> Result<bool, NoMemory> {
+    fn take_server(
+        &mut self,
+        alloc: Global,
+        objects: &[ObjectDecl],
+        from: usize,
+        line: &[u8],
+    ) -> Result<bool, NoMemory> {
         let Some(number) = next_object(objects, from) else {
             return self.take_switch(alloc, objects, 0, line);
         };
@@ -252,7 +275,12 @@ impl Reading {
     }
 
     /// Takes a line. Where no report can have it here, the answer is no, and nothing is known of what was read.
-    pub(crate) fn take(&mut self, alloc: Global, objects: &[ObjectDecl], line: &[u8]) -> Result<bool, NoMemory> {
+    pub(crate) fn take(
+        &mut self,
+        alloc: Global,
+        objects: &[ObjectDecl],
+        line: &[u8],
+    ) -> Result<bool, NoMemory> {
         match self.stage {
             Stage::Title => Ok(self.take_title(line)),
             Stage::Packets => Ok(self.take_counts(line)),

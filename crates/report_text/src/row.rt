@@ -18,7 +18,7 @@ fn most_of(width: u64) -> u64
 }
 
 // The numbers of a key, each before a space.
-fn read_keys(widths: &[u64], line: &[u8]) -> Option<(Values, &[u8])> {
+fn read_keys<'a>(widths: &[u64], line: &'a [u8]) -> Option<(Values, &'a [u8])> {
     let mut keys = Values::new();
     let mut ahead = line;
     for width in widths {
@@ -30,7 +30,7 @@ fn read_keys(widths: &[u64], line: &[u8]) -> Option<(Values, &[u8])> {
 }
 
 // The numbers of a value, each behind a space.
-fn read_values(widths: &[u64], line: &[u8]) -> Option<(Values, &[u8])> {
+fn read_values<'a>(widths: &[u64], line: &'a [u8]) -> Option<(Values, &'a [u8])> {
     let mut values = Values::new();
     let mut ahead = line;
     for width in widths {
@@ -60,7 +60,11 @@ pub(crate) fn read_count(word: &[u8], name: &[u8], line: &[u8]) -> Option<u32> {
 // How many keys are greater by the first numbers, where so many are by those in front. Past 32 bits it may be less.
 fn with_number(above: u64, width: u64, number: u64) -> u64 {
     let gap = most_of(width) - number;
-    if above == 0 { gap } else { (above << width) + gap }
+    if above == 0 {
+        gap
+    } else {
+        (above << width) + gap
+    }
 }
 
 /// Whether so many keys are greater than this one. Numbers that are missing from it are 0.
