@@ -1,8 +1,8 @@
 -- What is known of a report when so many of its lines were read, and what one line more tells.
-use Rattle.std.specs.Prelude.{ℕ, zero, suc, ◌+◌, ◌*◌, ◌-◌, ◌^◌, Bool, true, false, ◌||◌, ◌&&◌, List, [], ◌∷◌, ◌++◌}
-use Rattle.std.specs.Prelude.{length, nat_lt, nat_le, ◌==◌, codes, if◌then◌else◌, Option, Some, None, slice_get, drop}
+use Rattle.std.specs.Prelude.{◌≡◌, ℕ, zero, suc, ◌+◌, ◌*◌, ◌-◌, ◌^◌, Bool, true, false, ◌||◌, ◌&&◌, List, [], ◌∷◌, ◌++◌}
+use Rattle.std.specs.Prelude.{length, nat_lt, nat_le, ◌==◌, codes, if◌then◌else◌, Option, Some, None, slice_get, slice_index, drop}
 use Rattle.std.specs.Str.{bytes_eq}
-use Rattle.std.specs.Ordering.{is_less}
+use Rattle.std.specs.Ordering.{is_lt}
 use Rattle.state_store.specs.declared.object.ObjectDecl.{ObjectDecl}
 use Rattle.state_store.specs.declared.object.Row.{Row}
 use Rattle.state_store.specs.Kinds.{is_table}
@@ -17,7 +17,7 @@ use Rattle.report_text.specs.declared.stage.Side.{Side}
 use Rattle.report_text.specs.declared.stage.Side.TheVariants.{OnServer, OnSwitch}
 use Rattle.report_text.specs.declared.stage.Stage.{Stage}
 use Rattle.report_text.specs.declared.stage.Stage.TheVariants.{Title, Packets, Events, Version, Drained, Fates, Server, Switch, Table, Ended}
-use Rattle.report_text.specs.Parse.{◌>>=◌, counts_of, events_of, versions_of, fate_of, order_of, row_of, count_of}
+use Rattle.report_text.specs.Parse.{◌>>=◌, counts_of, events_of, versions_of, fate_of, order_of, row_of, count_of, most_of}
 
 -- the parts that were read, the rows of the part that is being read, and what is awaited
 pub record State : Type 0 where
@@ -53,14 +53,15 @@ at_start = record {
 -- How many keys are greater than this one, where so many are by the numbers in front. Numbers that are missing are 0.
 abbrev pub keys_above : ℕ → List ℕ → List ℕ → ℕ
 keys_above above [] key = above
-keys_above above (w ∷ ws) [] = keys_above (above * 2 ^ w + (2 ^ w - 1)) ws []
-keys_above above (w ∷ ws) (k ∷ ks) = keys_above (above * 2 ^ w + (2 ^ w - 1 - k)) ws ks
+keys_above above (w ∷ ws) key = keys_above (above * 2 ^ w + (most_of w - slice_index key 0)) ws (drop 1 key)
+
+abbrev pub is_behind : Option Row → List ℕ → Bool
+is_behind None key = true
+is_behind (Some row) key = is_lt (key_cmp row.keys key)
 
 -- the key of the last of these rows is less
 abbrev pub is_after : List Row → List ℕ → Bool
-is_after [] key = true
-is_after (row ∷ []) key = is_less (key_cmp row.keys key)
-is_after (row ∷ (next ∷ rows)) key = is_after (next ∷ rows) key
+is_after rows key = is_behind (slice_get rows (length rows - 1)) key
 
 -- the part that was read is put behind the others
 abbrev pub closed_by : Side → Part → State → State
@@ -78,6 +79,11 @@ abbrev pub then_put : {X : Type 0} → (X → State) → Option X → Option Sta
 then_put put None = None
 then_put put (Some x) = Some (put x)
 
+-- the answer to a line, and what is known then, are what it tells
+abbrev pub taken : Bool → State → Option State → Type 0
+taken true now told = told ≡ Some now
+taken false now told = told ≡ None
+
 abbrev pub title_read : State → List ℕ → Option State
 title_read s line = if bytes_eq line (codes "report 1") then Some (record s { stage = Packets }) else None
 
@@ -86,6 +92,12 @@ abbrev pub counts_read : State → Option Counts → Option State
 counts_read s None = None
 counts_read s (Some c) =
     if c.decided == 0 || nat_lt 0 c.admitted then Some (record s { counts = c; stage = Events }) else None
+
+abbrev pub events_read : State → Option EventCounts → Option State
+events_read s events = then_put (λ e. record s { events = e; stage = Version }) events
+
+abbrev pub versions_read : State → Option Versions → Option State
+versions_read s versions = then_put (λ v. record s { versions = v; stage = Drained }) versions
 
 abbrev pub drained_read : State → List ℕ → Option State
 drained_read s line =
@@ -105,45 +117,53 @@ packet_read s line =
     if nat_lt (length s.fates) s.counts.admitted then fate_read s (fate_of (length s.fates) line)
     else order_read s (order_of s.counts.decided s.counts.admitted line)
 
--- the line that begins a part, where there are keys for so many rows
-abbrev pub part_opened : Side → State → ℕ → ObjectDecl → Option ℕ → Option State
-part_opened side s number object None = None
-part_opened side s number object (Some count) =
-    if nat_le count (keys_above 0 object.keys [] + 1) then Some (with_left side number count s) else None
+abbrev pub has_keys : ℕ → List ℕ → Bool
+has_keys count widths = count == 0 || nat_le (count - 1) (keys_above 0 widths [])
 
--- an object with its number, and how many rows it has
-abbrev pub Shown : Type 0
-Shown = ℕ × (ObjectDecl × ℕ)
+-- the line that begins the part of an object, where there are keys for so many rows
+abbrev pub part_opened : Side → ℕ → ℕ → State → Option ObjectDecl → Option State
+part_opened side number count s None = None
+part_opened side number count s (Some object) =
+    if has_keys count object.keys then Some (with_left side number count s) else None
 
-abbrev pub shown_or : ℕ → ObjectDecl → Option ℕ → Option Shown → Option Shown
-shown_or n object (Some count) other = Some (n, (object, count))
-shown_or n object None other = other
+-- the first object that is no table and has this switch line, of those from number n on, and its number of rows
+abbrev pub shown_or : ℕ → Option ℕ → Option (ℕ × ℕ) → Option (ℕ × ℕ)
+shown_or n (Some count) other = Some (n, count)
+shown_or n None other = other
 
--- the first object that is no table and has this switch line, of those from number n on
-abbrev pub shown_from : ℕ → List ObjectDecl → List ℕ → Option Shown
+abbrev pub shown_count : ObjectDecl → List ℕ → Option ℕ
+shown_count object line = if is_table object.kind then None else count_of (codes "switch ") object.name line
+
+abbrev pub shown_from : ℕ → List ObjectDecl → List ℕ → Option (ℕ × ℕ)
 shown_from n [] line = None
-shown_from n (object ∷ objects) line =
-    if is_table object.kind then shown_from (suc n) objects line
-    else shown_or n object (count_of (codes "switch ") object.name line) (shown_from (suc n) objects line)
+shown_from n (object ∷ objects) line = shown_or n (shown_count object line) (shown_from (suc n) objects line)
 
-abbrev pub shown_opened : State → Option Shown → Option State
-shown_opened s None = None
-shown_opened s (Some x) = part_opened OnSwitch s x.0 x.1.0 (Some x.1.1)
+abbrev pub shown_opened : List ObjectDecl → State → Option (ℕ × ℕ) → Option State
+shown_opened declared s None = None
+shown_opened declared s (Some x) = part_opened OnSwitch x.0 x.1 s (slice_get declared x.0)
 
 -- the last line, or the part of an object from this number on
 abbrev pub switch_read : List ObjectDecl → State → ℕ → List ℕ → Option State
 switch_read declared s n line =
     if bytes_eq line (codes "end") then Some (record s { stage = Ended })
-    else shown_opened s (shown_from n (drop n declared) line)
+    else shown_opened declared s (shown_from n (drop n declared) line)
 
 -- the first object that is no table, of those from number n on
-abbrev pub next_from : ℕ → List ObjectDecl → Option (ℕ × ObjectDecl)
+abbrev pub next_from : ℕ → List ObjectDecl → Option ℕ
 next_from n [] = None
-next_from n (object ∷ objects) = if is_table object.kind then next_from (suc n) objects else Some (n, object)
+next_from n (object ∷ objects) = if is_table object.kind then next_from (suc n) objects else Some n
 
-abbrev pub server_by : List ObjectDecl → State → List ℕ → Option (ℕ × ObjectDecl) → Option State
+abbrev pub count_by : List ℕ → Option ObjectDecl → Option ℕ
+count_by line None = None
+count_by line (Some object) = count_of (codes "object ") object.name line
+
+abbrev pub server_opened : List ObjectDecl → State → ℕ → Option ℕ → Option State
+server_opened declared s number None = None
+server_opened declared s number (Some count) = part_opened OnServer number count s (slice_get declared number)
+
+abbrev pub server_by : List ObjectDecl → State → List ℕ → Option ℕ → Option State
 server_by declared s line None = switch_read declared s 0 line
-server_by declared s line (Some x) = part_opened OnServer s x.0 x.1 (count_of (codes "object ") x.1.name line)
+server_by declared s line (Some number) = server_opened declared s number (count_by line (slice_get declared number))
 
 abbrev pub server_read : List ObjectDecl → State → ℕ → List ℕ → Option State
 server_read declared s n line = server_by declared s line (next_from n (drop n declared))
@@ -163,8 +183,8 @@ row_read side number behind s line (Some object) =
 abbrev pub step_at : List ObjectDecl → State → List ℕ → Stage → Option State
 step_at declared s line Title = title_read s line
 step_at declared s line Packets = counts_read s (counts_of line)
-step_at declared s line Events = then_put (λ e. record s { events = e; stage = Version }) (events_of line)
-step_at declared s line Version = then_put (λ v. record s { versions = v; stage = Drained }) (versions_of line)
+step_at declared s line Events = events_read s (events_of line)
+step_at declared s line Version = versions_read s (versions_of line)
 step_at declared s line Drained = drained_read s line
 step_at declared s line Fates = packet_read s line
 step_at declared s line (Server n) = server_read declared s n line

@@ -1,5 +1,5 @@
 -- What the lines of a report spell, one by one.
-use Rattle.std.specs.Prelude.{ℕ, zero, suc, ◌-◌, ◌^◌, Bool, List, [], ◌∷◌, length, take, drop, nat_lt, ◌==◌, codes}
+use Rattle.std.specs.Prelude.{ℕ, zero, suc, ◌-◌, ◌^◌, Bool, List, [], ◌∷◌, ◌++◌, length, take, drop, nat_lt, ◌==◌, codes}
 use Rattle.std.specs.Prelude.{if◌then◌else◌, Option, Some, None, Result, Ok, Err}
 use Rattle.std.specs.Str.{bytes_eq}
 use Rattle.std.specs.List.{position_or_len}
@@ -76,14 +76,15 @@ body_at [] = None
 body_at (b ∷ bs) =
     if bytes_eq (b ∷ bs) (codes "-") then Some [] else encoded_by (b ∷ bs) (decode_of (b ∷ bs))
 
+abbrev pub send_at : List ℕ → Option Verdict
+send_at line = do
+  port ← labelled 255 (codes " send ") line
+  body ← after (codes " ") port.1
+  bytes ← body_at body
+  Some (Send port.0 bytes)
+
 unfoldable pub verdict_at : List ℕ → Option Verdict
-verdict_at line =
-    if bytes_eq line (codes " drop") then Some Drop
-    else do
-      port ← labelled 255 (codes " send ") line
-      body ← after (codes " ") port.1
-      bytes ← body_at body
-      Some (Send port.0 bytes)
+verdict_at line = if bytes_eq line (codes " drop") then Some Drop else send_at line
 
 unfoldable pub released_at : List ℕ → Option (ℕ × Verdict)
 released_at line = do
@@ -109,11 +110,14 @@ slow_by s o = Slow s.admitted s.decided s.version o.0 o.1
 abbrev pub fast_by : Stamps → ℕ × Verdict → Fate
 fast_by s o = Fast s.admitted s.decided s.version o.0 o.1
 
+-- what follows the stamps of a packet that the server ran
+abbrev pub held_or : Stamps → List ℕ → Option Fate
+held_or s line =
+    if bytes_eq line (codes " held") then Some (Held s.admitted s.decided s.version)
+    else (released_at line >>= (λ o. Some (slow_by s o)))
+
 unfoldable pub slow_at : List ℕ → Option Fate
-slow_at line = do
-  s ← stamps_at line
-  if bytes_eq s.1 (codes " held") then Some (Held s.0.admitted s.0.decided s.0.version)
-  else (released_at s.1 >>= (λ o. Some (slow_by s.0 o)))
+slow_at line = stamps_at line >>= (λ s. held_or s.0 s.1)
 
 unfoldable pub fast_at : List ℕ → Option Fate
 fast_at line = do
@@ -136,41 +140,60 @@ path_at line =
 unfoldable pub fate_of : ℕ → List ℕ → Option Fate
 fate_of number line = do
   packet ← labelled largest (codes "packet ") line
-  if packet.0 == number then path_at packet.1 else None
+  (if packet.0 == number then path_at packet.1 else None)
 
-abbrev pub in_front : {A B : Type 0} → A → Option (List A × B) → Option (List A × B)
-in_front a None = None
-in_front a (Some more) = Some (a ∷ more.0, more.1)
+-- a number below a bound, behind a space
+abbrev pub below : ℕ → ℕ × List ℕ → Option (ℕ × List ℕ)
+below bound x = if nat_lt x.0 bound then Some x else None
 
--- so many numbers below a bound, each behind a space
-abbrev pub numbers_at : ℕ → ℕ → List ℕ → Option (List ℕ × List ℕ)
-numbers_at zero bound line = Some ([], line)
-numbers_at (suc n) bound line =
-    labelled largest (codes " ") line >>= (λ x. if nat_lt x.0 bound then in_front x.0 (numbers_at n bound x.1) else None)
+unfoldable pub number_below : ℕ → List ℕ → Option (ℕ × List ℕ)
+number_below bound line = labelled largest (codes " ") line >>= below bound
+
+-- so many such numbers, behind those that were read
+abbrev pub numbers_at : List ℕ → ℕ → ℕ → List ℕ → Option (List ℕ × List ℕ)
+numbers_at before zero bound line = Some (before, line)
+numbers_at before (suc n) bound line =
+    number_below bound line >>= (λ x. numbers_at (before ++ x.0 ∷ []) n bound x.1)
+
+-- so many, and nothing behind them
+abbrev pub all_numbers : ℕ → ℕ → List ℕ → Option (List ℕ)
+all_numbers n bound line = numbers_at [] n bound line >>= (λ all. whole all.0 all.1)
 
 abbrev pub order_at : ℕ → ℕ → List ℕ → Option (List ℕ)
-order_at zero bound line = if bytes_eq line (codes " -") then Some [] else None
-order_at (suc n) bound line = numbers_at (suc n) bound line >>= (λ all. whole all.0 all.1)
+order_at count bound line =
+    if nat_lt 0 count then all_numbers count bound line
+    else (if bytes_eq line (codes " -") then Some [] else None)
 
 unfoldable pub order_of : ℕ → ℕ → List ℕ → Option (List ℕ)
 order_of count bound line = after (codes "order") line >>= order_at count bound
 
--- the numbers of a key, each before a space
-abbrev pub keys_at : List ℕ → List ℕ → Option (List ℕ × List ℕ)
-keys_at [] line = Some ([], line)
-keys_at (w ∷ ws) line =
-    number_at (2 ^ w - 1) line >>= (λ x. after (codes " ") x.1 >>= (λ rest. in_front x.0 (keys_at ws rest)))
+-- the greatest number of a width, at most 64 bits
+abbrev pub most_of : ℕ → ℕ
+most_of w = if nat_lt w 64 then 2 ^ w - 1 else 2 ^ 64 - 1
 
--- the numbers of a value, each behind a space
-abbrev pub values_at : List ℕ → List ℕ → Option (List ℕ × List ℕ)
-values_at [] line = Some ([], line)
-values_at (w ∷ ws) line = labelled (2 ^ w - 1) (codes " ") line >>= (λ x. in_front x.0 (values_at ws x.1))
+-- a number of a width before a space
+unfoldable pub key_number : ℕ → List ℕ → Option (ℕ × List ℕ)
+key_number w line = do
+  number ← number_at (most_of w) line
+  rest ← after (codes " ") number.1
+  Some (number.0, rest)
+
+-- the numbers of a key, behind those that were read
+abbrev pub keys_at : List ℕ → List ℕ → List ℕ → Option (List ℕ × List ℕ)
+keys_at before [] line = Some (before, line)
+keys_at before (w ∷ ws) line = key_number w line >>= (λ x. keys_at (before ++ x.0 ∷ []) ws x.1)
+
+-- the numbers of a value, each behind a space, behind those that were read
+abbrev pub values_at : List ℕ → List ℕ → List ℕ → Option (List ℕ × List ℕ)
+values_at before [] line = Some (before, line)
+values_at before (w ∷ ws) line =
+    labelled (most_of w) (codes " ") line >>= (λ x. values_at (before ++ x.0 ∷ []) ws x.1)
 
 unfoldable pub row_of : List ℕ → List ℕ → List ℕ → Option Row
 row_of keys values line = do
-  key ← keys_at keys line
+  key ← keys_at [] keys line
   rest ← after (codes "->") key.1
-  value ← values_at values rest
+  value ← values_at [] values rest
   whole (record { keys = key.0; values = value.0 }) value.1
 
 -- the number of rows of the object of this name
