@@ -17,7 +17,7 @@ use Rattle.run_text.specs.Trace.{largest}
 use Rattle.report_text.specs.declared.fate.Stamps.{Stamps}
 use Rattle.report_text.specs.Form.{IsFate, IsVerdict}
 use Rattle.report_text.specs.Parse.{◌>>=◌, after, body_at, encoded_by, fast_at, fate_of, held_or, labelled, or_else, path_at, released_at, send_at, slow_at, stamps_at, up_at, verdict_at, whole, slow_by, fast_by}
-use Rattle.report_text.proofs.Pieces.{after_back, after_is, are_same, bound, is_cut, labelled_back, labelled_is, same_bytes, some_is, whole_is}
+use Rattle.report_text.proofs.Pieces.{after_back, after_is, after_other, are_same, bound, is_cut, labelled_back, labelled_is, same_bytes, some_is, whole_is}
 
 -- ---- bytes
 
@@ -46,9 +46,9 @@ encoded_is (Err e) b bs bytes d h = cc
 encoded_is (Ok found) b bs bytes d h =
     elim (bytes_eq (encode_lower found) (b ∷ bs)) as (λ t. bytes_eq (encode_lower found) (b ∷ bs) ≡ t → cond t (Some found) None ≡ Some bytes → HasBytes (b ∷ bs) bytes) [
       | true ↦ λ t e. subst (HasBytes (b ∷ bs)) (some_is found bytes e) (record {
-          are = (decode_of-ok (b ∷ bs) found d).3;
-          is = body_of_some found b bs (are_same (encode_lower found) (b ∷ bs) t);
-        })
+        are = (decode_of-ok (b ∷ bs) found d).3;
+        is = body_of_some found b bs (are_same (encode_lower found) (b ∷ bs) t);
+      })
       | false ↦ λ t e. cc e
     ] refl h
 
@@ -73,8 +73,11 @@ pub verdict_back : (v : Verdict) → IsVerdict v → verdict_at (verdict_with v)
 unfolding verdict_at
 verdict_back Drop h = refl
 verdict_back (Send port bytes) h =
-    rw (labelled_back 255 port (codes " send ") (codes " " ++ body_text bytes) h.0 (omega arith) refl,
-      after_back (codes " ") (body_text bytes), body_back bytes h.1) refl
+    rw (
+      labelled_back 255 port (codes " send ") (codes " " ++ body_text bytes) h.0 (omega arith) refl,
+      after_back (codes " ") (body_text bytes),
+      body_back bytes h.1,
+    ) refl
 
 pub record HasVerdict (line : List ℕ) (v : Verdict) : Type 0 where
   pub are : IsVerdict v
@@ -85,12 +88,12 @@ send_is line v h =
     bound (labelled 255 (codes " send ") line) _ v h (λ p ep hp.
     bound (after (codes " ") p.1) _ v hp (λ b eb hb.
     bound (body_at b) _ v hb (λ bytes ey hy.
-      let lp = labelled_is 255 p (codes " send ") line (omega arith) ep in
-      let y = body_is b bytes ey in
-      subst (HasVerdict line) (some_is (Send p.0 bytes) v hy) (record {
-        are = (lp.0, y.are);
-        is = rw (lp.1, after_is (codes " ") p.1 b eb, y.is) refl;
-      }))))
+    let lp = labelled_is 255 p (codes " send ") line (omega arith) ep in
+    let y = body_is b bytes ey in
+    subst (HasVerdict line) (some_is (Send p.0 bytes) v hy) (record {
+      are = (lp.0, y.are);
+      is = rw (lp.1, after_is (codes " ") p.1 b eb, y.is) refl;
+    }))))
 
 verdict_by : (t : Bool) (line : List ℕ) (v : Verdict) → bytes_eq line (codes " drop") ≡ t → cond t (Some Drop) (send_at line) ≡ Some v → HasVerdict line v
 verdict_by true line v t h = subst (HasVerdict line) (some_is Drop v h) (record { are = tt; is = are_same line (codes " drop") t })
@@ -123,13 +126,13 @@ unfolding released_at
 released_is line x h =
     bound (labelled largest (codes " released ") line) _ x h (λ r er hr.
     bound (verdict_at r.1) _ x hr (λ v ev hv.
-      let lr = labelled_is largest r (codes " released ") line (omega arith) er in
-      let y = verdict_is r.1 v ev in
-      subst (λ (z : ℕ × Verdict). HasRelease line z.0 z.1) (some_is (r.0, v) x hv) (record {
-        small = lr.0;
-        are = y.are;
-        is = rw (lr.1, y.is) refl;
-      })))
+    let lr = labelled_is largest r (codes " released ") line (omega arith) er in
+    let y = verdict_is r.1 v ev in
+    subst (λ (z : ℕ × Verdict). HasRelease line z.0 z.1) (some_is (r.0, v) x hv) (record {
+      small = lr.0;
+      are = y.are;
+      is = rw (lr.1, y.is) refl;
+    })))
 
 -- ---- stamps
 
@@ -164,13 +167,13 @@ stamps_is line x h =
     bound (labelled largest (codes " admitted ") line) _ x h (λ a ea ha.
     bound (labelled largest (codes " decided ") a.1) _ x ha (λ d ed hd.
     bound (labelled largest (codes " version ") d.1) _ x hd (λ v ev hv.
-      let la = labelled_is largest a (codes " admitted ") line (omega arith) ea in
-      let ld = labelled_is largest d (codes " decided ") a.1 (omega arith) ed in
-      let lv = labelled_is largest v (codes " version ") d.1 (omega arith) ev in
-      subst (λ (z : Stamps × List ℕ). HasStamps line z.0 z.1) (some_is _ x hv) (record {
-        are = record { admitted = la.0; decided = ld.0; version = lv.0 };
-        is = rw (la.1, ld.1, lv.1) refl;
-      }))))
+    let la = labelled_is largest a (codes " admitted ") line (omega arith) ea in
+    let ld = labelled_is largest d (codes " decided ") a.1 (omega arith) ed in
+    let lv = labelled_is largest v (codes " version ") d.1 (omega arith) ev in
+    subst (λ (z : Stamps × List ℕ). HasStamps line z.0 z.1) (some_is _ x hv) (record {
+      are = record { admitted = la.0; decided = ld.0; version = lv.0 };
+      is = rw (la.1, ld.1, lv.1) refl;
+    }))))
 
 -- ---- fates
 
@@ -206,14 +209,21 @@ fast_back : (a d v r : ℕ) (y : Verdict) → AreStamps (stamps_of a d v) → r 
 unfolding fast_at
 fast_back a d v r y h small hy = rw (stamps_back (stamps_of a d v) (released_with r y) h refl, released_back r y small hy) refl
 
+slow_path : (rest : List ℕ) (f : Fate) → slow_at rest ≡ Some f → path_at (codes " slow" ++ rest) ≡ Some f
+slow_path rest f h = rw (after_other (codes " up") (codes " slow" ++ rest) refl, after_back (codes " slow") rest) h
+
+fast_path : (rest : List ℕ) (f : Fate) → fast_at rest ≡ Some f → path_at (codes " fast" ++ rest) ≡ Some f
+fast_path rest f h =
+    rw (after_other (codes " up") (codes " fast" ++ rest) refl, after_other (codes " slow") (codes " fast" ++ rest) refl, after_back (codes " fast") rest) h
+
 path_back : (f : Fate) → IsFate f → path_at (path_with f) ≡ Some f
 path_back (Up a) h = rw (after_back (codes " up") (codes " admitted " ++ (decimal a ++ []))) (up_back a h)
 path_back (Held a d v) h =
-    rw (after_back (codes " slow") (stamps_with (stamps_of a d v) (codes " held"))) (held_back a d v (stamps_small a d v h.0 h.1 h.2))
+    slow_path (stamps_with (stamps_of a d v) (codes " held")) (Held a d v) (held_back a d v (stamps_small a d v h.0 h.1 h.2))
 path_back (Slow a d v r y) h =
-    rw (after_back (codes " slow") (stamps_with (stamps_of a d v) (released_with r y))) (slow_back a d v r y (stamps_small a d v h.0 h.1 h.2) (omega (arith, h.3)) h.4)
+    slow_path (stamps_with (stamps_of a d v) (released_with r y)) (Slow a d v r y) (slow_back a d v r y (stamps_small a d v h.0 h.1 h.2) (omega (arith, h.3)) h.4)
 path_back (Fast a d v r y) h =
-    rw (after_back (codes " fast") (stamps_with (stamps_of a d v) (released_with r y))) (fast_back a d v r y (stamps_small a d v h.0 h.1 h.2) (omega (arith, h.3)) h.4)
+    fast_path (stamps_with (stamps_of a d v) (released_with r y)) (Fast a d v r y) (fast_back a d v r y (stamps_small a d v h.0 h.1 h.2) (omega (arith, h.3)) h.4)
 
 path_cut : (f : Fate) → is_cut (path_with f) ≡ true
 path_cut (Up a) = refl
@@ -237,9 +247,9 @@ up_is : (line rest : List ℕ) (f : Fate) → line ≡ codes " up" ++ rest → u
 unfolding up_at
 up_is line rest f e h =
     bound (labelled largest (codes " admitted ") rest) _ f h (λ a ea ha.
-      let w = whole_is _ f a.1 ha in
-      let la = labelled_is largest a (codes " admitted ") rest (omega arith) ea in
-      subst (HasPath line) w.1 (record { are = omega (arith, la.0); is = rw (e, la.1, w.0) refl }))
+    let w = whole_is _ f a.1 ha in
+    let la = labelled_is largest a (codes " admitted ") rest (omega arith) ea in
+    subst (HasPath line) w.1 (record { are = omega (arith, la.0); is = rw (e, la.1, w.0) refl }))
 
 held_by : (t : Bool) (line rest : List ℕ) (s : Stamps) (f : Fate) → AreStamps s → line ≡ codes " slow" ++ stamps_with s rest
     → bytes_eq rest (codes " held") ≡ t → cond t (Some (Held s.admitted s.decided s.version)) (released_at rest >>= (λ o. Some (slow_by s o))) ≡ Some f → HasPath line f
@@ -250,30 +260,30 @@ held_by true line rest s f h e t k =
     })
 held_by false line rest s f h e t k =
     bound (released_at rest) _ f k (λ o eo ho.
-      let l = released_is rest o eo in
-      subst (HasPath line) (some_is _ f ho) (record {
-        are = (omega (arith, h.admitted), omega (arith, h.decided), omega (arith, h.version), omega (arith, l.small), l.are);
-        is = rw (e, l.is) refl;
-      }))
+    let l = released_is rest o eo in
+    subst (HasPath line) (some_is _ f ho) (record {
+      are = (omega (arith, h.admitted), omega (arith, h.decided), omega (arith, h.version), omega (arith, l.small), l.are);
+      is = rw (e, l.is) refl;
+    }))
 
 slow_is : (line rest : List ℕ) (f : Fate) → line ≡ codes " slow" ++ rest → slow_at rest ≡ Some f → HasPath line f
 unfolding slow_at
 slow_is line rest f e h =
     bound (stamps_at rest) _ f h (λ s es hs.
-      let l = stamps_is rest s es in
-      held_by (bytes_eq s.1 (codes " held")) line s.1 s.0 f l.are (e ∙ ap (λ r. codes " slow" ++ r) l.is) refl hs)
+    let l = stamps_is rest s es in
+    held_by (bytes_eq s.1 (codes " held")) line s.1 s.0 f l.are (e ∙ ap (λ r. codes " slow" ++ r) l.is) refl hs)
 
 fast_is : (line rest : List ℕ) (f : Fate) → line ≡ codes " fast" ++ rest → fast_at rest ≡ Some f → HasPath line f
 unfolding fast_at
 fast_is line rest f e h =
     bound (stamps_at rest) _ f h (λ s es hs.
     bound (released_at s.1) _ f hs (λ o eo ho.
-      let l = stamps_is rest s es in
-      let k = released_is s.1 o eo in
-      subst (HasPath line) (some_is _ f ho) (record {
-        are = (omega (arith, l.are.admitted), omega (arith, l.are.decided), omega (arith, l.are.version), omega (arith, k.small), k.are);
-        is = rw (e, l.is, k.is) refl;
-      })))
+    let l = stamps_is rest s es in
+    let k = released_is s.1 o eo in
+    subst (HasPath line) (some_is _ f ho) (record {
+      are = (omega (arith, l.are.admitted), omega (arith, l.are.decided), omega (arith, l.are.version), omega (arith, k.small), k.are);
+      is = rw (e, l.is, k.is) refl;
+    })))
 
 slow_or : (o : Option (List ℕ)) (line : List ℕ) (f : Fate) → after (codes " slow") line ≡ o → or_else o slow_at (after (codes " fast") line >>= fast_at) ≡ Some f → HasPath line f
 slow_or (Some rest) line f e h = slow_is line rest f (after_is (codes " slow") line rest e) h
@@ -298,5 +308,5 @@ pub fate_is : (n : ℕ) (line : List ℕ) (f : Fate) → fate_of n line ≡ Some
 unfolding fate_of
 fate_is n line f h =
     bound (labelled largest (codes "packet ") line) _ f h (λ p ep hp.
-      let l = labelled_is largest p (codes "packet ") line (omega arith) ep in
-      number_by (eqb p.0 n) n line p.1 p.0 f refl l.1 hp)
+    let l = labelled_is largest p (codes "packet ") line (omega arith) ep in
+    number_by (eqb p.0 n) n line p.1 p.0 f refl l.1 hp)

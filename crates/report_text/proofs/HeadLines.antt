@@ -45,15 +45,15 @@ counts_is line c h =
     bound (labelled largest (codes " admitted ") t.1) _ c ht (λ a ea ha.
     bound (labelled largest (codes " decided ") a.1) _ c ha (λ d ed hd.
     bound (labelled largest (codes " released ") d.1) _ c hd (λ r er hr.
-      let e = whole_is _ c r.1 hr in
-      let lt = labelled_is largest t (codes "packets ") line (omega arith) et in
-      let la = labelled_is largest a (codes " admitted ") t.1 (omega arith) ea in
-      let ld = labelled_is largest d (codes " decided ") a.1 (omega arith) ed in
-      let lr = labelled_is largest r (codes " released ") d.1 (omega arith) er in
-      subst (HasCounts line) e.1 (record {
-        are = record { total = lt.0; admitted = la.0; decided = ld.0; released = lr.0 };
-        is = rw (lt.1, la.1, ld.1, lr.1, e.0) refl;
-      })))))
+    let e = whole_is _ c r.1 hr in
+    let lt = labelled_is largest t (codes "packets ") line (omega arith) et in
+    let la = labelled_is largest a (codes " admitted ") t.1 (omega arith) ea in
+    let ld = labelled_is largest d (codes " decided ") a.1 (omega arith) ed in
+    let lr = labelled_is largest r (codes " released ") d.1 (omega arith) er in
+    subst (HasCounts line) e.1 (record {
+      are = record { total = lt.0; admitted = la.0; decided = ld.0; released = lr.0 };
+      is = rw (lt.1, la.1, ld.1, lr.1, e.0) refl;
+    })))))
 
 abbrev pub events_text : EventCounts → List ℕ
 events_text e = codes "events " ++ (decimal e.events ++ (codes " idle " ++ (decimal e.idle ++ [])))
@@ -79,13 +79,13 @@ unfolding events_of
 events_is line e h =
     bound (labelled largest (codes "events ") line) _ e h (λ t et ht.
     bound (labelled largest (codes " idle ") t.1) _ e ht (λ a ea ha.
-      let w = whole_is _ e a.1 ha in
-      let lt = labelled_is largest t (codes "events ") line (omega arith) et in
-      let la = labelled_is largest a (codes " idle ") t.1 (omega arith) ea in
-      subst (HasEvents line) w.1 (record {
-        are = record { events = lt.0; idle = la.0 };
-        is = rw (lt.1, la.1, w.0) refl;
-      })))
+    let w = whole_is _ e a.1 ha in
+    let lt = labelled_is largest t (codes "events ") line (omega arith) et in
+    let la = labelled_is largest a (codes " idle ") t.1 (omega arith) ea in
+    subst (HasEvents line) w.1 (record {
+      are = record { events = lt.0; idle = la.0 };
+      is = rw (lt.1, la.1, w.0) refl;
+    })))
 
 abbrev pub versions_text : Versions → List ℕ
 versions_text v = codes "version " ++ (decimal v.version ++ (codes " visible " ++ (decimal v.visible ++ [])))
@@ -111,10 +111,10 @@ unfolding versions_of
 versions_is line v h =
     bound (labelled largest (codes "version ") line) _ v h (λ t et ht.
     bound (labelled largest (codes " visible ") t.1) _ v ht (λ a ea ha.
-      let w = whole_is _ v a.1 ha in
-      let lt = labelled_is largest t (codes "version ") line (omega arith) et in
-      let la = labelled_is largest a (codes " visible ") t.1 (omega arith) ea in
-      subst (HasVersions line) w.1 (record {
-        are = record { version = lt.0; visible = la.0 };
-        is = rw (lt.1, la.1, w.0) refl;
-      })))
+    let w = whole_is _ v a.1 ha in
+    let lt = labelled_is largest t (codes "version ") line (omega arith) et in
+    let la = labelled_is largest a (codes " visible ") t.1 (omega arith) ea in
+    subst (HasVersions line) w.1 (record {
+      are = record { version = lt.0; visible = la.0 };
+      is = rw (lt.1, la.1, w.0) refl;
+    })))

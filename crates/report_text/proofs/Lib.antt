@@ -5,3 +5,7 @@ pub mod FateLines
 pub mod PartLines
 pub mod RowLines
 pub mod Told
+pub mod Loops
+pub mod Plain
+pub mod Keys
+pub mod Walked

@@ -53,23 +53,23 @@ number_is : (limit : ℕ) (line : List ℕ) (x : ℕ × List ℕ) → number_bel
 unfolding number_below
 number_is limit line x h =
     bound (labelled largest (codes " ") line) (below limit) x h (λ y ey hy.
-      let l = labelled_is largest y (codes " ") line (omega arith) ey in
-      below_by (ltb y.0 limit) limit line y x refl l.1 hy)
+    let l = labelled_is largest y (codes " ") line (omega arith) ey in
+    below_by (ltb y.0 limit) limit line y x refl l.1 hy)
 
 numbers_are : (before : List ℕ) (count limit : ℕ) (line : List ℕ) (x : List ℕ × List ℕ) → numbers_at before count limit line ≡ Some x → AreNumbers before count limit line x
 numbers_are before zero limit line x h =
     subst (AreNumbers before zero limit line) (some_is (before, line) x h) (record { read = []; many = refl; below = tt; all = sym (append-nil before); is = refl })
 numbers_are before (suc count) limit line x h =
     bound (number_below limit line) (λ y. numbers_at (before ++ y.0 ∷ []) count limit y.1) x h (λ y ey hy.
-      let one = number_is limit line y ey in
-      let more = numbers_are (before ++ y.0 ∷ []) count limit y.1 x hy in
-      record {
-        read = y.0 ∷ more.read;
-        many = ap suc more.many;
-        below = (one.below, more.below);
-        all = more.all ∙ append_assoc before (y.0 ∷ []) more.read;
-        is = one.is ∙ ap (λ l. codes " " ++ (decimal y.0 ++ l)) more.is ∙ ap (λ l. codes " " ++ l) (sym (append_assoc (decimal y.0) (spaced more.read) x.1));
-      })
+    let one = number_is limit line y ey in
+    let more = numbers_are (before ++ y.0 ∷ []) count limit y.1 x hy in
+    record {
+      read = y.0 ∷ more.read;
+      many = ap suc more.many;
+      below = (one.below, more.below);
+      all = more.all ∙ append_assoc before (y.0 ∷ []) more.read;
+      is = one.is ∙ ap (λ l. codes " " ++ (decimal y.0 ++ l)) more.is ∙ ap (λ l. codes " " ++ l) (sym (append_assoc (decimal y.0) (spaced more.read) x.1));
+    })
 
 -- the order line, without its end
 abbrev pub order_told : List ℕ → List ℕ
@@ -83,7 +83,7 @@ order_at_back (n ∷ ns) limit most h =
 
 pub order_back : (order : List ℕ) (limit : ℕ) → limit ≤ 2 ^ 32 → AreBelow limit order → order_of (length order) limit (order_told order) ≡ Some order
 unfolding order_of
-order_back order limit most h = rw after_back (codes "order") (order_text order) (order_at_back order limit most h)
+order_back order limit most h = rw (after_back (codes "order") (order_text order)) (order_at_back order limit most h)
 
 pub record HasOrder (count limit : ℕ) (line order : List ℕ) : Type 0 where
   pub many : length order ≡ count
@@ -98,16 +98,19 @@ order_by : (t : Bool) (count limit : ℕ) (line rest order : List ℕ) → ltb 0
     → cond t (all_numbers count limit rest) (cond (bytes_eq rest (codes " -")) (Some []) None) ≡ Some order → HasOrder count limit line order
 order_by true count limit line rest order t e h =
     bound (numbers_at [] count limit rest) (λ all. whole all.0 all.1) order h (λ x ex hx.
-      let w = whole_is x.0 order x.1 hx in
-      let l = numbers_are [] count limit rest x ex in
-      let same : l.read ≡ order = sym l.all ∙ w.1 in
-      let positive : 0 < count = grind (arith, nat_tests) in
-      let is : rest ≡ order_text l.read = l.is ∙ ap (λ r. spaced l.read ++ r) w.0 ∙ append-nil (spaced l.read) ∙ sym (some_text l.read (omega (arith, l.many))) in
-      subst (HasOrder count limit line) same (record { many = l.many; below = l.below; is = e ∙ ap (λ r. codes "order" ++ r) is }))
+    let w = whole_is x.0 order x.1 hx in
+    let l = numbers_are [] count limit rest x ex in
+    let same : l.read ≡ order = sym l.all ∙ w.1 in
+    let positive : 0 < count = grind (arith, nat_tests) in
+    let is : rest ≡ order_text l.read = l.is ∙ ap (λ r. spaced l.read ++ r) w.0 ∙ append-nil (spaced l.read) ∙ sym (some_text l.read (omega (arith, l.many))) in
+    subst (HasOrder count limit line) same (record { many = l.many; below = l.below; is = e ∙ ap (λ r. codes "order" ++ r) is }))
 order_by false count limit line rest order t e h =
     elim (bytes_eq rest (codes " -")) as (λ b. bytes_eq rest (codes " -") ≡ b → cond b (Some []) None ≡ Some order → HasOrder count limit line order) [
       | true ↦ λ b k. subst (HasOrder count limit line) (some_is [] order k) (record {
-          many = grind (arith, nat_tests); below = tt; is = e ∙ ap (λ r. codes "order" ++ r) (are_same rest (codes " -") b) })
+        many = grind (arith, nat_tests);
+        below = tt;
+        is = e ∙ ap (λ r. codes "order" ++ r) (are_same rest (codes " -") b);
+      })
       | false ↦ λ b k. cc k
     ] refl h
 
@@ -115,7 +118,7 @@ pub order_is : (count limit : ℕ) (line order : List ℕ) → order_of count li
 unfolding order_of
 order_is count limit line order h =
     bound (after (codes "order") line) (order_at count limit) order h (λ rest er hr.
-      order_by (ltb 0 count) count limit line rest order refl (after_is (codes "order") line rest er) hr)
+    order_by (ltb 0 count) count limit line rest order refl (after_is (codes "order") line rest er) hr)
 
 -- ---- counts
 
@@ -126,8 +129,11 @@ part_told word name count = word ++ (name ++ (codes " " ++ (decimal count ++ [])
 pub count_back : (word name : List ℕ) (count : ℕ) → count ≤ largest → count_of word name (part_told word name count) ≡ Some count
 unfolding count_of
 count_back word name count small =
-    rw (after_back word (name ++ (codes " " ++ (decimal count ++ []))), after_back name (codes " " ++ (decimal count ++ [])),
-      labelled_back largest count (codes " ") [] small (omega arith) refl) refl
+    rw (
+      after_back word (name ++ (codes " " ++ (decimal count ++ []))),
+      after_back name (codes " " ++ (decimal count ++ [])),
+      labelled_back largest count (codes " ") [] small (omega arith) refl,
+    ) refl
 
 pub record HasCount (word name line : List ℕ) (count : ℕ) : Type 0 where
   pub small : count ≤ largest
@@ -139,9 +145,9 @@ count_is word name line count h =
     bound (after word line) _ count h (λ r er hr.
     bound (after name r) _ count hr (λ s es hs.
     bound (labelled largest (codes " ") s) _ count hs (λ c ec hc.
-      let w = whole_is c.0 count c.1 hc in
-      let l = labelled_is largest c (codes " ") s (omega arith) ec in
-      subst (HasCount word name line) w.1 (record {
-        small = l.0;
-        is = rw (after_is word line r er, after_is name r s es, l.1, w.0) refl;
-      }))))
+    let w = whole_is c.0 count c.1 hc in
+    let l = labelled_is largest c (codes " ") s (omega arith) ec in
+    subst (HasCount word name line) w.1 (record {
+      small = l.0;
+      is = rw (after_is word line r er, after_is name r s es, l.1, w.0) refl;
+    }))))

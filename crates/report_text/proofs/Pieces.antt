@@ -1,5 +1,5 @@
 -- Pieces of lines, printed and read.
-use Rattle.std.proofs.Common.{◌≡◌, ℕ, zero, suc, ◌+◌, ◌<◌, ◌≤◌, ◌^◌, Bool, true, false, not, cond, eqb, ltb, List, [], ◌∷◌, ◌++◌, length, take, drop, Option, Some, None, refl, sym, ap, ◌∙◌, arith, append_assoc}
+use Rattle.std.proofs.Common.{◌≡◌, ℕ, zero, suc, ◌+◌, ◌<◌, ◌≤◌, ◌^◌, Bool, true, false, not, cond, eqb, ltb, List, [], ◌∷◌, ◌++◌, length, take, drop, Option, Some, None, refl, sym, ap, ◌∙◌, arith, append_assoc, length-append}
 use Rattle.std.specs.Fmt.{decimal}
 use Rattle.std.specs.Str.{all_ascii_digits, bytes_eq}
 use Rattle.std.specs.List.{list_all, position_or_len}
@@ -40,8 +40,13 @@ whole_is a b (byte ∷ rest) h = cc
 
 pub after_back : (word rest : List ℕ) → after word (word ++ rest) ≡ Some rest
 after_back word rest =
-    let shorter : ltb (length (word ++ rest)) (length word) ≡ false = grind (arith, nat_tests) in
+    let long = length-append word rest in
+    let shorter : ltb (length (word ++ rest)) (length word) ≡ false = grind (arith, nat_tests, long) in
     rw (shorter, take-append_seam word rest, same_bytes word, drop-append_seam word rest) refl
+
+-- another word stands there
+pub after_other : (word line : List ℕ) → bytes_eq (take (length word) line) word ≡ false → after word line ≡ None
+after_other word line h = rw h (elim (ltb (length line) (length word)) as (λ t. cond t None (cond false (Some (drop (length word) line)) None) ≡ None) [ true ↦ refl | false ↦ refl ])
 
 after_by : (shorter same : Bool) (rest found : List ℕ) → cond shorter None (cond same (Some rest) None) ≡ Some found → (same ≡ true) × (rest ≡ found)
 after_by true same rest found h = cc
@@ -100,11 +105,11 @@ number_at_is most n line rest fits h =
 
 pub labelled_back : (most n : ℕ) (word rest : List ℕ) → n ≤ most → most < 2 ^ 64 → is_cut rest ≡ true → labelled most word (word ++ (decimal n ++ rest)) ≡ Some (n, rest)
 unfolding labelled
-labelled_back most n word rest small fits cut = rw after_back word (decimal n ++ rest) (number_at_back most n rest small fits cut)
+labelled_back most n word rest small fits cut = rw (after_back word (decimal n ++ rest)) (number_at_back most n rest small fits cut)
 
 pub labelled_is : (most : ℕ) (x : ℕ × List ℕ) (word line : List ℕ) → most < 2 ^ 64 → labelled most word line ≡ Some x → (x.0 ≤ most) × (line ≡ word ++ (decimal x.0 ++ x.1))
 unfolding labelled
 labelled_is most x word line fits h =
     bound (after word line) (number_at most) x h (λ rest e f.
-      let found = number_at_is most x.0 rest x.1 fits f in
-      (found.small, after_is word line rest e ∙ ap (λ l. word ++ l) found.is))
+    let found = number_at_is most x.0 rest x.1 fits f in
+    (found.small, after_is word line rest e ∙ ap (λ l. word ++ l) found.is))

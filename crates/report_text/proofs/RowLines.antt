@@ -5,7 +5,8 @@ use Rattle.std.specs.Fmt.{decimal}
 use Rattle.std.specs.List.{list_all}
 use Rattle.std.proofs.lemmas.Bool.{and_parts, cases_lt}
 use Rattle.std.proofs.lemmas.List.{append-nil}
-use Rattle.std.proofs.lemmas.Nat.{pow_mono, pow_pos}
+use Rattle.std.proofs.lemmas.Nat.{pow_pos}
+use Rattle.std.proofs.Math.Pow.{pow_mono}
 use Rattle.std.proofs.lemmas.Bool.Decides.{nat_tests}
 use Rattle.gal_io.specs.Number.{spaced}
 use Rattle.state_store.specs.declared.object.Row.{Row}
@@ -17,11 +18,11 @@ use Rattle.report_text.proofs.Pieces.{after_back, after_is, bound, is_cut, label
 
 -- ---- widths
 
-abbrev is_width : ℕ → Bool
+abbrev pub is_width : ℕ → Bool
 is_width w = leb 1 w && leb w 64
 
-width_small : (w : ℕ) → is_width w ≡ true → w ≤ 64
-width_small w h = let p = and_parts (leb 1 w) (leb w 64) h in grind (arith, nat_tests, p.1)
+pub width_small : (w : ℕ) → is_width w ≡ true → w ≤ 64
+pub width_small w h = let p = and_parts (leb 1 w) (leb w 64) h in grind (arith, nat_tests, p.1)
 
 -- for a width of at most 64 bits it is the greatest number
 pub most_is : (w : ℕ) → w ≤ 64 → most_of w + 1 ≡ 2 ^ w
@@ -71,12 +72,12 @@ unfolding key_number
 key_is w line x wide h =
     bound (number_at (most_of w) line) _ x h (λ n en hn.
     bound (after (codes " ") n.1) _ x hn (λ r er hr.
-      let l = number_at_is (most_of w) n.0 line n.1 (most_fits w wide) en in
-      let inside : n.0 < 2 ^ w = omega (arith, l.small, most_is w wide) in
-      subst (IsKey w line) (some_is (n.0, r) x hr) (record {
-        inside = grind (arith, nat_tests);
-        is = l.is ∙ ap (λ t. decimal n.0 ++ t) (after_is (codes " ") n.1 r er);
-      })))
+    let l = number_at_is (most_of w) n.0 line n.1 (most_fits w wide) en in
+    let inside : n.0 < 2 ^ w = omega (arith, l.small, most_is w wide) in
+    subst (IsKey w line) (some_is (n.0, r) x hr) (record {
+      inside = grind (arith, nat_tests);
+      is = l.is ∙ ap (λ t. decimal n.0 ++ t) (after_is (codes " ") n.1 r er);
+    })))
 
 keys_are : (before ws line : List ℕ) (x : List ℕ × List ℕ) → are_widths ws ≡ true → keys_at before ws line ≡ Some x → AreKeys before ws line x
 keys_are before [] line x wide h =
@@ -84,14 +85,14 @@ keys_are before [] line x wide h =
 keys_are before (w ∷ ws) line x wide h =
     let wp = and_parts (is_width w) (are_widths ws) wide in
     bound (key_number w line) (λ y. keys_at (before ++ y.0 ∷ []) ws y.1) x h (λ y ey hy.
-      let one = key_is w line y (width_small w wp.0) ey in
-      let more = keys_are (before ++ y.0 ∷ []) ws y.1 x wp.1 hy in
-      record {
-        read = y.0 ∷ more.read;
-        fit = rw (one.inside, more.fit) refl;
-        all = more.all ∙ append_assoc before (y.0 ∷ []) more.read;
-        is = one.is ∙ ap (λ l. decimal y.0 ++ (codes " " ++ l)) more.is ∙ sym (append_assoc (decimal y.0) (codes " " ++ key_text more.read) x.1);
-      })
+    let one = key_is w line y (width_small w wp.0) ey in
+    let more = keys_are (before ++ y.0 ∷ []) ws y.1 x wp.1 hy in
+    record {
+      read = y.0 ∷ more.read;
+      fit = rw (one.inside, more.fit) refl;
+      all = more.all ∙ append_assoc before (y.0 ∷ []) more.read;
+      is = one.is ∙ ap (λ l. decimal y.0 ++ (codes " " ++ l)) more.is ∙ sym (append_assoc (decimal y.0) (codes " " ++ key_text more.read) x.1);
+    })
 
 -- ---- values
 
@@ -120,16 +121,16 @@ values_are before (w ∷ ws) line x wide h =
     let wp = and_parts (is_width w) (are_widths ws) wide in
     let small = width_small w wp.0 in
     bound (labelled (most_of w) (codes " ") line) (λ y. values_at (before ++ y.0 ∷ []) ws y.1) x h (λ y ey hy.
-      let one = labelled_is (most_of w) y (codes " ") line (most_fits w small) ey in
-      let more = values_are (before ++ y.0 ∷ []) ws y.1 x wp.1 hy in
-      let inside : y.0 < 2 ^ w = omega (arith, one.0, most_is w small) in
-      let tested : ltb y.0 (2 ^ w) ≡ true = grind (arith, nat_tests) in
-      record {
-        read = y.0 ∷ more.read;
-        fit = rw (tested, more.fit) refl;
-        all = more.all ∙ append_assoc before (y.0 ∷ []) more.read;
-        is = one.1 ∙ ap (λ l. codes " " ++ (decimal y.0 ++ l)) more.is ∙ ap (λ l. codes " " ++ l) (sym (append_assoc (decimal y.0) (spaced more.read) x.1));
-      })
+    let one = labelled_is (most_of w) y (codes " ") line (most_fits w small) ey in
+    let more = values_are (before ++ y.0 ∷ []) ws y.1 x wp.1 hy in
+    let inside : y.0 < 2 ^ w = omega (arith, one.0, most_is w small) in
+    let tested : ltb y.0 (2 ^ w) ≡ true = grind (arith, nat_tests) in
+    record {
+      read = y.0 ∷ more.read;
+      fit = rw (tested, more.fit) refl;
+      all = more.all ∙ append_assoc before (y.0 ∷ []) more.read;
+      is = one.1 ∙ ap (λ l. codes " " ++ (decimal y.0 ++ l)) more.is ∙ ap (λ l. codes " " ++ l) (sym (append_assoc (decimal y.0) (spaced more.read) x.1));
+    })
 
 -- ---- rows
 
@@ -153,9 +154,9 @@ row_is ks vs line row wk wv h =
     bound (keys_at [] ks line) _ row h (λ k ek hk.
     bound (after (codes "->") k.1) _ row hk (λ r er hr.
     bound (values_at [] vs r) _ row hr (λ v ev hv.
-      let w = whole_is _ row v.1 hv in
-      let kl = keys_are [] ks line k wk ek in
-      let vl = values_are [] vs r v wv ev in
-      let is : line ≡ key_text k.0 ++ (codes "->" ++ spaced v.0) =
-      kl.is ∙ rw (after_is (codes "->") k.1 r er, vl.is, w.0, kl.all, vl.all, append-nil (spaced vl.read)) refl in
-      subst (HasRow ks vs line) w.1 (record { keys = rw kl.all kl.fit; values = rw vl.all vl.fit; is = is }))))
+    let w = whole_is _ row v.1 hv in
+    let kl = keys_are [] ks line k wk ek in
+    let vl = values_are [] vs r v wv ev in
+    let is : line ≡ key_text k.0 ++ (codes "->" ++ spaced v.0) =
+    kl.is ∙ rw (after_is (codes "->") k.1 r er, vl.is, w.0, kl.all, vl.all, append-nil (spaced vl.read)) refl in
+    subst (HasRow ks vs line) w.1 (record { keys = rw kl.all kl.fit; values = rw vl.all vl.fit; is = is }))))

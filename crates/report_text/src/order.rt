@@ -22,6 +22,7 @@ fn read_number(bound: u32, line: &[u8]) -> Option<(u32, &[u8])>
 }
 
 // So many numbers below a bound, with nothing behind them.
+#[tactic(auto, using(crate::proofs::Loops::numbers_on, crate::proofs::Loops::numbers_stop))]
 fn read_numbers(
     alloc: Global,
     count: u32,

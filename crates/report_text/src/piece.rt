@@ -1,5 +1,5 @@
 //! Pieces of a line, from its front on.
-ghost use Rattle.std.specs.Prelude.{◌≡◌, ◌≤◌, length, MatchOption, None, Some};
+ghost use Rattle.std.specs.Prelude.{◌≡◌, ◌≤◌, length, IfSome, MatchOption, None, Some};
 ghost use Rattle.std.specs.List.{position_or_len};
 ghost use Rattle.run_text.specs.Trace.{is_space, largest};
 ghost use Rattle.report_text.specs.Parse.{after, labelled, number_at, whole};
@@ -26,9 +26,10 @@ fn space_at(line: &[u8]) -> usize
 }
 
 /// The number up to the first space, where it is at most `most`, and what follows from that space on.
-#[tactic(auto, unfolding(crate::specs::Parse::number_at))]
+#[tactic(auto, unfolding(crate::specs::Parse::number_at), using(crate::proofs::Numbers::number_small))]
 pub(crate) fn number_at(most: u64, line: &[u8]) -> Option<(u64, &[u8])>
-    ensures { MatchOption result (number_at most line.now ≡ None)
+    ensures small { IfSome result (λ found. found.0 ≤ most) }
+    ensures found { MatchOption result (number_at most line.now ≡ None)
         (λ found. number_at most line.now ≡ Some (found.0, found.1.now)) }
 {
     let (digits, rest) = line.split_at(space_at(line));
@@ -39,7 +40,8 @@ pub(crate) fn number_at(most: u64, line: &[u8]) -> Option<(u64, &[u8])>
 /// The number behind a word, and what follows it.
 #[tactic(auto, unfolding(crate::specs::Parse::labelled))]
 pub(crate) fn labelled_up_to<'a>(most: u64, word: &[u8], line: &'a [u8]) -> Option<(u64, &'a [u8])>
-    ensures { MatchOption result (labelled most word.now line.now ≡ None)
+    ensures small { IfSome result (λ found. found.0 ≤ most) }
+    ensures found { MatchOption result (labelled most word.now line.now ≡ None)
         (λ found. labelled most word.now line.now ≡ Some (found.0, found.1.now)) }
 {
     let rest = after(word, line)?;

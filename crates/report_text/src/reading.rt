@@ -1,6 +1,7 @@
 //! A report that is read line by line.
 ghost use Rattle.std.specs.Prelude.{◌≡◌, ◌<◌, ◌^◌, length, IfOk, IfSome, OnOk, MatchOption, true, false, None, Some, drop};
 ghost use Rattle.std.specs.Prelude.{slice_get, if◌then◌else◌, Option};
+ghost use Rattle.state_store.specs.Kinds.{is_table};
 ghost use Rattle.report_text.specs.Parse.{count_of, fate_of, order_of, counts_of, events_of, versions_of};
 ghost use Rattle.report_text.specs.Machine.{State, at_start, closed_by, count_by, counts_read, drained_read, ended};
 ghost use Rattle.report_text.specs.Machine.{fate_read, has_keys, is_after, next_from, order_read, packet_read};
@@ -54,13 +55,20 @@ impl Model for Reading {
     } };
 }
 
+fn is_table(object: &ObjectDecl) -> bool
+    ensures { result ≡ is_table object.now.kind }
+{
+    object.kind == Kind::Table
+}
+
 // The first object from this number on that is no table.
+#[tactic(auto, using(crate::proofs::Loops::next_on, crate::proofs::Loops::next_stop))]
 fn next_object(objects: &[ObjectDecl], from: usize) -> Option<u32>
     requires { length objects.now < 2 ^ 32 }
     ensures { result ≡ next_from from (drop from objects.now) }
 {
     for number in from..objects.len() {
-        if objects[number].kind != Kind::Table {
+        if !is_table(&objects[number]) {
             return Some(number as u32);
         }
     }
@@ -71,13 +79,14 @@ fn next_object(objects: &[ObjectDecl], from: usize) -> Option<u32>
 fn shown_count(object: &ObjectDecl, line: &[u8]) -> Option<u32>
     ensures { result ≡ shown_count object.now line.now }
 {
-    if object.kind == Kind::Table {
+    if is_table(object) {
         return None;
     }
     read_count(b"switch ", object.name.as_slice(), line)
 }
 
 // The first object from this number on that is no table and has this switch line, and its number of rows.
+#[tactic(auto, using(crate::proofs::Loops::shown_on, crate::proofs::Loops::shown_stop))]
 fn shown_object(objects: &[ObjectDecl], from: usize, line: &[u8]) -> Option<(u32, u32)>
     requires { length objects.now < 2 ^ 32 }
     ensures { result ≡ shown_from from (drop from objects.now) line.now }

@@ -30,6 +30,7 @@ fn read_number(width: u64, line: &[u8]) -> Option<(u64, &[u8])>
 }
 
 // The numbers of a key, each before a space.
+#[tactic(auto, using(crate::proofs::Loops::keys_on, crate::proofs::Loops::keys_stop))]
 fn read_keys<'a>(widths: &Widths, line: &'a [u8]) -> Option<(Values, &'a [u8])>
     ensures { MatchOption result (keys_at [] widths.now line.now ≡ None)
         (λ found. keys_at [] widths.now line.now ≡ Some (found.0, found.1.now)) }
@@ -37,7 +38,9 @@ fn read_keys<'a>(widths: &Widths, line: &'a [u8]) -> Option<(Values, &'a [u8])>
     let mut keys = Values::new();
     let mut ahead = line;
     for at in 0..widths.len() {
-        let (number, rest) = read_number(widths.at(at), ahead)?;
+        let Some((number, rest)) = read_number(widths.at(at), ahead) else {
+            return None;
+        };
         keys.push(number);
         ahead = rest;
     }
@@ -45,6 +48,7 @@ fn read_keys<'a>(widths: &Widths, line: &'a [u8]) -> Option<(Values, &'a [u8])>
 }
 
 // The numbers of a value, each behind a space.
+#[tactic(auto, using(crate::proofs::Loops::values_on, crate::proofs::Loops::values_stop))]
 fn read_values<'a>(widths: &Widths, line: &'a [u8]) -> Option<(Values, &'a [u8])>
     ensures { MatchOption result (values_at [] widths.now line.now ≡ None)
         (λ found. values_at [] widths.now line.now ≡ Some (found.0, found.1.now)) }
@@ -52,7 +56,9 @@ fn read_values<'a>(widths: &Widths, line: &'a [u8]) -> Option<(Values, &'a [u8])
     let mut values = Values::new();
     let mut ahead = line;
     for at in 0..widths.len() {
-        let (number, rest) = labelled_up_to(most_of(widths.at(at)), b" ", ahead)?;
+        let Some((number, rest)) = labelled_up_to(most_of(widths.at(at)), b" ", ahead) else {
+            return None;
+        };
         values.push(number);
         ahead = rest;
     }
@@ -111,6 +117,7 @@ fn number_of(key: &Values, at: usize) -> u64
 }
 
 /// Whether so many keys are greater than this one. Numbers that are missing from it are 0.
+#[tactic(auto, using(crate::proofs::Loops::leaves_on, crate::proofs::Loops::leaves_many, crate::proofs::Loops::leaves_wide))]
 pub(crate) fn leaves(rows: u32, widths: &Widths, key: &Values) -> bool
     ensures { result ≡ nat_le rows (keys_above 0 widths.now key.now) }
 {
