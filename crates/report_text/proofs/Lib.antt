@@ -9,3 +9,8 @@ pub mod Loops
 pub mod Plain
 pub mod Keys
 pub mod Walked
+pub mod Declared
+pub mod Sound
+pub mod Steps
+pub mod Complete
+pub mod Live

@@ -22,7 +22,7 @@ abbrev pub is_width : ℕ → Bool
 is_width w = leb 1 w && leb w 64
 
 pub width_small : (w : ℕ) → is_width w ≡ true → w ≤ 64
-pub width_small w h = let p = and_parts (leb 1 w) (leb w 64) h in grind (arith, nat_tests, p.1)
+width_small w h = let p = and_parts (leb 1 w) (leb w 64) h in grind (arith, nat_tests, p.1)
 
 -- for a width of at most 64 bits it is the greatest number
 pub most_is : (w : ℕ) → w ≤ 64 → most_of w + 1 ≡ 2 ^ w
@@ -157,6 +157,12 @@ row_is ks vs line row wk wv h =
     let w = whole_is _ row v.1 hv in
     let kl = keys_are [] ks line k wk ek in
     let vl = values_are [] vs r v wv ev in
+    let keys : key_text kl.read ≡ key_text k.0 = ap key_text (sym kl.all) in
+    let values : r ≡ spaced v.0 = vl.is ∙ ap (λ t. spaced vl.read ++ t) w.0 ∙ append-nil (spaced vl.read) ∙ ap spaced (sym vl.all) in
     let is : line ≡ key_text k.0 ++ (codes "->" ++ spaced v.0) =
-    kl.is ∙ rw (after_is (codes "->") k.1 r er, vl.is, w.0, kl.all, vl.all, append-nil (spaced vl.read)) refl in
-    subst (HasRow ks vs line) w.1 (record { keys = rw kl.all kl.fit; values = rw vl.all vl.fit; is = is }))))
+    kl.is ∙ ap (λ t. t ++ k.1) keys ∙ ap (λ t. key_text k.0 ++ t) (after_is (codes "->") k.1 r er ∙ ap (λ t. codes "->" ++ t) values) in
+    subst (HasRow ks vs line) w.1 (record {
+      keys = subst (λ t. have_widths ks t ≡ true) (sym kl.all) kl.fit;
+      values = subst (λ t. have_widths vs t ≡ true) (sym vl.all) vl.fit;
+      is = is;
+    }))))
