@@ -35,11 +35,10 @@ use Rattle.report_text.proofs.RowLines.{row_back, row_told}
 use Rattle.report_text.proofs.Told.{counts_in, drained_text, events_in, fates_told, head_told, name_of, parts_told, report_told, versions_in}
 use Rattle.report_text.proofs.Declared.{AreKnown, IsKnown, drop_got, drop_next, got_drop, next_gone, next_is, next_kept, shown_back}
 use Rattle.report_text.proofs.Keys.{fewer_above, first_most}
-use Rattle.report_text.proofs.Sound.{last_more, last_of, numbers_of}
+use Rattle.report_text.proofs.Sound.{keys_suc, last_more, last_of, numbers_of}
 
 pub truth : (b : Bool) → IsTrue b → b ≡ true
-truth true h = refl
-truth false h = absurd h
+truth b h = h
 
 -- ---- the first lines
 
@@ -143,7 +142,7 @@ rows_read declared s side m (suc behind) object (row ∷ (next ∷ rows)) ls st 
 has_room : (object : ObjectDecl) (rows : List Row) → are_widths object.keys ≡ true → AllByRecursion (IsRowOf object) rows → AreRising rows → has_keys (length rows) object.keys ≡ true
 has_room object [] wide fit rising = refl
 has_room object (row ∷ rows) wide fit rising =
-    le-leb (length rows) (keys_above 0 object.keys []) (omega (arith, rows_fit object row rows wide fit rising, first_most object.keys row.keys 0 0 (omega arith)))
+    keys_suc (length rows) object.keys ∙ le-leb (length rows) (keys_above 0 object.keys []) (omega (arith, rows_fit object row rows wide fit rising, first_most object.keys row.keys 0 0 (omega arith)))
 
 -- behind the line that begins it
 opened_read : (declared : List ObjectDecl) (s : State) (side : Side) (m : ℕ) (object : ObjectDecl) (rows : List Row) (ls : List (List ℕ)) → s.rows ≡ [] → slice_get declared m ≡ Some object → IsKnown object

@@ -116,12 +116,12 @@ next_gone n (o ∷ objects) h = gone_by (is_table o.kind) n o objects (next_gone
 
 -- ---- the object of a switch line
 
-pub record IsShown (n : ℕ) (declared : List ObjectDecl) (line : List ℕ) (m count : ℕ) : Type 0 where
+pub record IsShown (n : ℕ) (declared : List ObjectDecl) (said : List ℕ) (m count : ℕ) : Type 0 where
   pub object : ObjectDecl
   pub is : slice_get declared m ≡ Some object
   pub kind : is_table object.kind ≡ false
   pub later : n ≤ m
-  pub line : HasCount (codes "switch ") object.name line count
+  pub line : HasCount (codes "switch ") object.name said count
 
 shown_here : (t : Bool) (n : ℕ) (o : ObjectDecl) (objects declared : List ObjectDecl) (l : List ℕ) (count : ℕ) → is_table o.kind ≡ t → drop n declared ≡ o ∷ objects
     → cond t None (count_of (codes "switch ") o.name l) ≡ Some count → IsShown n declared l n count

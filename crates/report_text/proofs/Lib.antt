@@ -14,3 +14,4 @@ pub mod Sound
 pub mod Steps
 pub mod Complete
 pub mod Live
+pub mod Reports

@@ -131,7 +131,7 @@ live_table declared k side (suc behind) s m o is e room fit =
 
 -- ---- packets
 
-zeros : ℕ → List ℕ
+abbrev zeros : ℕ → List ℕ
 zeros zero = []
 zeros (suc n) = 0 ∷ zeros n
 

@@ -43,7 +43,7 @@ pub all_more : {X : Type 0} (P : X → Type 0) (xs : List X) (x : X) → AllByRe
 all_more P [] x h p = (p, tt)
 all_more P (y ∷ ys) x h p = (h.0, all_more P ys x h.1 p)
 
-fates_more : (n : ℕ) (fs : List Fate) (f : Fate) → fates_told n (fs ++ f ∷ []) ≡ fates_told n fs ++ fate_told (n + length fs) f ∷ []
+pub fates_more : (n : ℕ) (fs : List Fate) (f : Fate) → fates_told n (fs ++ f ∷ []) ≡ fates_told n fs ++ fate_told (n + length fs) f ∷ []
 fates_more n [] f = let e : n ≡ n + 0 = omega arith in ap (λ m. fate_told m f ∷ []) e
 fates_more n (g ∷ fs) f =
     let e : suc n + length fs ≡ n + suc (length fs) = omega arith in
@@ -56,7 +56,7 @@ parts_more word declared (q ∷ ps) p =
       (ap (λ l. map row_told q.rows ++ l) (parts_more word declared ps p)
       ∙ sym (append_assoc (map row_told q.rows) (parts_told word declared ps) (part_told word (name_of declared p.object) (length p.rows) ∷ map row_told p.rows)))
 
-rows_more : (rows : List Row) (row : Row) → map row_told (rows ++ row ∷ []) ≡ map row_told rows ++ row_told row ∷ []
+pub rows_more : (rows : List Row) (row : Row) → map row_told (rows ++ row ∷ []) ≡ map row_told rows ++ row_told row ∷ []
 rows_more [] row = refl
 rows_more (r ∷ rows) row = ap (λ l. row_told r ∷ l) (rows_more rows row)
 
@@ -72,9 +72,14 @@ is_behind_by Less h = refl
 is_behind_by Equal h = cc h
 is_behind_by Greater h = cc h
 
+after_tail : (row x : Row) (xs : List Row) (key : List ℕ) → is_after (row ∷ (x ∷ xs)) key ≡ is_after (x ∷ xs) key
+after_tail row x xs key =
+    let e : length (row ∷ (x ∷ xs)) - 1 ≡ suc (length (x ∷ xs) - 1) = omega arith in
+    ap (λ i. is_behind (slice_get (row ∷ (x ∷ xs)) i) key) e
+
 below_more : (rows : List Row) (row next : Row) → is_after (row ∷ rows) next.keys ≡ true → AreRising (row ∷ rows) → AreRising ((row ∷ rows) ++ next ∷ [])
 below_more [] row next h r = (is_behind_by (key_cmp row.keys next.keys) h, (tt, tt))
-below_more (x ∷ xs) row next h r = (r.0, below_more xs x next h r.1)
+below_more (x ∷ xs) row next h r = (r.0, below_more xs x next (sym (after_tail row x xs next.keys) ∙ h) r.1)
 
 pub rising_more : (rows : List Row) (next : Row) → is_after rows next.keys ≡ true → AreRising rows → AreRising (rows ++ next ∷ [])
 rising_more [] next h r = (tt, tt)
@@ -95,7 +100,7 @@ pub in_order : (low : ℕ) (ps : List Part) (high : ℕ) → AreWithin low ps hi
 in_order low [] high h = tt
 in_order low (p ∷ ps) high h = (h.0, in_order (suc p.object) ps high h.1)
 
-within_later : (low : ℕ) (ps : List Part) (high later : ℕ) → AreWithin low ps high → high ≤ later → AreWithin low ps later
+pub within_later : (low : ℕ) (ps : List Part) (high later : ℕ) → AreWithin low ps high → high ≤ later → AreWithin low ps later
 within_later low [] high later h k = omega arith
 within_later low (p ∷ ps) high later h k = (h.0, within_later (suc p.object) ps high later h.1 k)
 
@@ -140,6 +145,12 @@ pub record IsPartly (declared : List ObjectDecl) (rows : List Row) (number behin
   pub few : length rows + suc behind < 2 ^ 32
   pub fit : AllByRecursion (IsRowOf object) rows
   pub rising : AreRising rows
+
+pub keys_suc : (n : ℕ) (ws : List ℕ) → has_keys (suc n) ws ≡ leb n (keys_above 0 ws [])
+keys_suc n ws =
+    let less : suc n - 1 ≡ n = omega arith in
+    let some : eqb (suc n) 0 ≡ false = grind (arith, nat_tests) in
+    rw (some, less) refl
 
 -- the last of these rows leaves keys for so many behind the next one
 abbrev pub HasRoom : ObjectDecl → ℕ → Option Row → Type 0
@@ -284,15 +295,26 @@ closed_switch declared s m o r b =
       ∙ ap (λ k. front s ((objects ++ shown) ++ (part_told (codes "switch ") (name_of declared m) k ∷ map row_told s.rows))) (sym same);
     }
 
-abbrev IsLeft : ObjectDecl → State → ℕ → Type 0
+abbrev pub IsLeft : ObjectDecl → State → ℕ → Type 0
 IsLeft o s zero = Unit {0}
 IsLeft o s (suc behind) = HasRoom o behind (last_of s.rows)
+
+-- what is awaited is no matter
+at_stage : (declared : List ObjectDecl) (s : State) (st : Stage) → IsOrdered declared s → IsOrdered declared (record s { stage = st })
+at_stage declared s st o = record {
+  counts = o.counts; events = o.events; versions = o.versions; fates = o.fates; admitted = o.admitted; decided = o.decided;
+  order = o.order; server = o.server; switch = o.switch;
+}
 
 pub left_read : (declared : List ObjectDecl) (side : Side) (s : State) (m left : ℕ) (o : ObjectDecl) → IsRead declared s m left o → Before declared s m side → IsLeft o s left
     → Goes declared (with_part declared s side m (length s.rows + left)) (with_left side m left s)
 left_read declared OnServer s m zero o r b h = closed_server declared s m o r b
 left_read declared OnSwitch s m zero o r b h = closed_switch declared s m o r b
-left_read declared side s m (suc behind) o r b h = record {
-  stands = (r.ordered, b, (record { object = o; is = r.is; kind = r.kind; few = r.few; fit = r.fit; rising = r.rising }, h));
+left_read declared OnServer s m (suc behind) o r b h = record {
+  stands = (at_stage declared s (Table OnServer m behind) r.ordered, b, (record { object = o; is = r.is; kind = r.kind; few = r.few; fit = r.fit; rising = r.rising }, h));
+  told = refl;
+}
+left_read declared OnSwitch s m (suc behind) o r b h = record {
+  stands = (at_stage declared s (Table OnSwitch m behind) r.ordered, b, (record { object = o; is = r.is; kind = r.kind; few = r.few; fit = r.fit; rising = r.rising }, h));
   told = refl;
 }

@@ -31,7 +31,7 @@ use Rattle.report_text.proofs.PartLines.{AreBelow, count_is, order_is, order_tol
 use Rattle.report_text.proofs.RowLines.{row_is, row_told}
 use Rattle.report_text.proofs.Told.{drained_text, fates_told, head_told, name_of, parts_told, report_told}
 use Rattle.report_text.proofs.Declared.{AreKnown, IsKnown, IsNext, next_is, next_none, shown_is}
-use Rattle.report_text.proofs.Sound.{AreWithin, Before, CanOrder, Goes, HasRoom, IsFresh, IsHead, IsLeft, IsNew, IsOrdered, IsPartly, IsRead, Stands, all_more, base, fates_more, front, front_on, in_order, last_more, last_of, left_read, numbers_of, rising_more, rows_more, told, with_part, within_later, word_of}
+use Rattle.report_text.proofs.Sound.{AreWithin, Before, CanOrder, Goes, HasRoom, IsFresh, IsHead, IsLeft, IsNew, IsOrdered, IsPartly, IsRead, Stands, all_more, base, fates_more, front, front_on, in_order, keys_suc, last_more, last_of, left_read, numbers_of, rising_more, rows_more, told, with_part, within_later, word_of}
 
 fresh : (s : State) (c : Counts) (e : EventCounts) (v : Versions) (d : Bool) (st : Stage) → IsFresh s → IsFresh (record s { counts = c; events = e; versions = v; drained = d; stage = st })
 fresh s c e v d st f = record { fates = f.fates; server = f.server; switch = f.switch; rows = f.rows }
@@ -42,8 +42,7 @@ then_is put (Some x) t h k = k x refl (some_is (put x) t h)
 
 -- a test that passed
 fits : (b : Bool) → b ≡ true → IsTrue b
-fits true h = tt
-fits false h = cc h
+fits b h = h
 
 -- ---- the first lines
 
@@ -164,7 +163,7 @@ named declared m o e = ap name_in e
 has_room : (o : ObjectDecl) (s : State) (count : ℕ) → s.rows ≡ [] → has_keys count o.keys ≡ true → IsLeft o s count
 has_room o s zero r h = tt
 has_room o s (suc behind) r h =
-    let room : behind ≤ keys_above 0 o.keys [] = leb-true behind (keys_above 0 o.keys []) h in
+    let room : behind ≤ keys_above 0 o.keys [] = leb-true behind (keys_above 0 o.keys []) (sym (keys_suc behind o.keys) ∙ h) in
     subst (λ rows. HasRoom o behind (last_of rows)) (sym r) room
 
 open_goes : (declared : List ObjectDecl) (side : Side) (s t : State) (m count : ℕ) (o : ObjectDecl) (l : List ℕ) → IsOrdered declared s → s.rows ≡ [] → Before declared s m side

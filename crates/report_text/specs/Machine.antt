@@ -3,6 +3,7 @@ use Rattle.std.specs.Prelude.{◌≡◌, ℕ, zero, suc, ◌+◌, ◌*◌, ◌-�
 use Rattle.std.specs.Prelude.{length, nat_lt, nat_le, ◌==◌, codes, if◌then◌else◌, Option, Some, None, slice_get, slice_index, drop}
 use Rattle.std.specs.Str.{bytes_eq}
 use Rattle.std.specs.Ordering.{is_lt}
+use Rattle.gal_io.specs.Lines.{is_skipped}
 use Rattle.state_store.specs.declared.object.ObjectDecl.{ObjectDecl}
 use Rattle.state_store.specs.declared.object.Row.{Row}
 use Rattle.state_store.specs.Kinds.{is_table}
@@ -196,6 +197,10 @@ step_at declared s line Ended = None
 -- what one line more tells, if a report can have it there
 abbrev pub step : List ObjectDecl → State → List ℕ → Option State
 step declared s line = step_at declared s line s.stage
+
+-- the same of any line
+abbrev pub line_read : List ObjectDecl → State → List ℕ → Option State
+line_read declared s line = if is_skipped line then Some s else step declared s line
 
 -- the run that was told
 abbrev pub run_of : State → Run

@@ -4,7 +4,7 @@ ghost use Rattle.std.specs.Prelude.{slice_get, if◌then◌else◌, Option};
 ghost use Rattle.state_store.specs.Kinds.{is_table};
 ghost use Rattle.report_text.specs.Parse.{count_of, fate_of, order_of, counts_of, events_of, versions_of};
 ghost use Rattle.report_text.specs.Machine.{State, at_start, closed_by, count_by, counts_read, drained_read, ended};
-ghost use Rattle.report_text.specs.Machine.{fate_read, has_keys, is_after, next_from, order_read, packet_read};
+ghost use Rattle.report_text.specs.Machine.{fate_read, has_keys, is_after, line_read, next_from, order_read, packet_read};
 ghost use Rattle.report_text.specs.Machine.{part_opened, row_read, server_read, shown_from, step, switch_read};
 ghost use Rattle.report_text.specs.Machine.{events_read, row_put, server_opened, shown_count, title_read, taken, versions_read, with_left};
 
@@ -14,7 +14,7 @@ use crate::order::read_order;
 use crate::row::{leaves, read_count, read_row};
 use crate::stage::{Side, Stage};
 use gal_bits::{Values, Widths};
-use gal_io::NoMemory;
+use gal_io::{NoMemory, is_skipped};
 use run_text::{Fate, Fates, Order, Part, Parts, Run};
 use state_store::{Kind, ObjectDecl, Row, Rows};
 use std::alloc::Global;
@@ -419,6 +419,22 @@ impl Reading {
             }
             Stage::Ended => Ok(false),
         }
+    }
+
+    /// Takes a line, which may be one that is skipped.
+    pub(crate) fn take_line(
+        &mut self,
+        alloc: Global,
+        objects: &[ObjectDecl],
+        line: &[u8],
+    ) -> Result<bool, NoMemory>
+        requires { length objects.now < 2 ^ 32 }
+        ensures { IfOk result (λ ok. taken ok self.new (line_read objects.now self.old line.now)) }
+    {
+        if is_skipped(line) {
+            return Ok(true);
+        }
+        self.take(alloc, objects, line)
     }
 
     /// The run, where no line is awaited.

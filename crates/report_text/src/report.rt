@@ -6,7 +6,7 @@ ghost use Rattle.run_text.specs.declared.run.Run.{Run};
 
 use crate::error::RunTextError;
 use crate::reading::Reading;
-use gal_io::{is_skipped, split_line};
+use gal_io::split_line;
 use run_text::Run;
 use state_store::Objects;
 use std::alloc::Global;
@@ -25,7 +25,8 @@ pub fn read_run(alloc: Global, objects: &Objects, text: &[u8]) -> Result<Run, Ru
     while let Some((line, behind)) = split_line(ahead) {
         number += 1;
         ahead = behind;
-        if !is_skipped(line) && !reading.take(alloc, objects.as_slice(), line)? {
+        let taken = reading.take_line(alloc, objects.as_slice(), line)?;
+        if !taken {
             return Err(RunTextError::Line(number));
         }
     }
