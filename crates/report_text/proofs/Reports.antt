@@ -22,7 +22,7 @@ use Rattle.report_text.specs.Form.{InForm, IsFate, IsPart, IsRowOf, are_widths}
 use Rattle.report_text.specs.Lines.{AreLinesOf, Begins, IsFirstWrong, IsRefused, IsReport, told_of}
 use Rattle.report_text.specs.declared.error.RunTextError.TheVariants.{Line}
 use Rattle.report_text.specs.Parse.{◌>>=◌}
-use Rattle.report_text.specs.Machine.{State, at_start, ended, ended_by, line_read, resume, run_of, step}
+use Rattle.report_text.specs.Machine.{State, at_start, ended, ended_by, line_read, resume, run_of, step, taken}
 use Rattle.report_text.proofs.Pieces.{bound, some_is}
 use Rattle.report_text.proofs.FateLines.{fate_told}
 use Rattle.report_text.proofs.PartLines.{order_told, part_told}
@@ -222,21 +222,21 @@ can_begin declared k ls s w =
 
 refused_line : (declared : List ObjectDecl) (k : AreKnown declared) (n : ℕ) (ls rest : List (List ℕ)) (l : List ℕ) (s : State) → drop n ls ≡ l ∷ rest → is_skipped l ≡ false → walked declared at_start (told_of (take n ls)) ≡ Some s → step declared s l ≡ None
     → Begins declared (take (suc n) ls) → ⊥
-refused_line declared k n ls rest l s e told w no b =
+refused_line declared k n ls rest l s e told w stops b =
     let more = b.0 in
     let one : told_of (l ∷ more) ≡ l ∷ told_of more = rw told refl in
     let split : told_of (take (suc n) ls ++ more) ≡ told_of (take n ls) ++ (l ∷ told_of more) =
     ap (λ m. told_of (m ++ more)) (take_next n l ls rest e) ∙ ap told_of (append_assoc (take n ls) (l ∷ []) more) ∙ told_append (take n ls) (l ∷ more) ∙ ap (λ m. told_of (take n ls) ++ m) one in
     let nothing : resume declared at_start (told_of (take (suc n) ls ++ more)) ≡ None =
     ap (resume declared at_start) split ∙ resumed_both declared at_start (told_of (take n ls)) (l ∷ told_of more) ∙ ap (λ o. o >>= (λ t. resume declared t (l ∷ told_of more))) w
-    ∙ ap (λ o. o >>= (λ t. resume declared t (told_of more))) no in
+    ∙ ap (λ o. o >>= (λ t. resume declared t (told_of more))) stops in
     let wrong : Some b.1 ≡ None = sym (lines_read declared k (take (suc n) ls ++ more) b.1 b.2) ∙ nothing in
     cc wrong
 
 pub wrong_line : (declared : List ObjectDecl) (k : AreKnown declared) (n : ℕ) (ls rest : List (List ℕ)) (l : List ℕ) (s : State) → drop n ls ≡ l ∷ rest → is_skipped l ≡ false → walked declared at_start (told_of (take n ls)) ≡ Some s → step declared s l ≡ None
     → IsFirstWrong declared ls n
-wrong_line declared k n ls rest l s e told w no =
-    let bad = refused_line declared k n ls rest l s e told w no in
+wrong_line declared k n ls rest l s e told w stops =
+    let bad = refused_line declared k n ls rest l s e told w stops in
     let inside = drop_inside n l ls rest e in
     record {
       within = omega (arith, inside);
@@ -250,12 +250,12 @@ take_whole [] = refl
 take_whole (l ∷ ls) = ap (λ m. l ∷ m) (take_whole ls)
 
 pub ends_early : (declared : List ObjectDecl) (k : AreKnown declared) (ls : List (List ℕ)) (s : State) → walked declared at_start (told_of ls) ≡ Some s → ended s ≡ None → IsFirstWrong declared ls (length ls)
-ends_early declared k ls s w no = record {
+ends_early declared k ls s w stops = record {
   within = omega arith;
   begins = subst (Begins declared) (sym (take_whole ls)) (can_begin declared k ls s w);
   wrong = λ less b. absurd (omega (arith, less));
   none = λ run h.
-      let wrong : Some run ≡ None = sym (lines_read declared k ls run h) ∙ resumed_end declared at_start (told_of ls) ∙ ap (λ o. o >>= ended) w ∙ no in
+      let wrong : Some run ≡ None = sym (lines_read declared k ls run h) ∙ resumed_end declared at_start (told_of ls) ∙ ap (λ o. o >>= ended) w ∙ stops in
       absurd (cc wrong);
 }
 
@@ -310,7 +310,15 @@ whole_walked declared n ls o h e w =
 
 pub text_stop : (declared : List ObjectDecl) (k : AreKnown declared) (n : ℕ) (text : List ℕ) (s : State) → n ≤ length (lines text) → drop n (lines text) ≡ [] → walked declared at_start (told_of (take n (lines text))) ≡ Some s → ended s ≡ None
     → IsRefused declared text (Line (n + 1))
-text_stop declared k n text s h e w no =
+text_stop declared k n text s h e w stops =
     let all = all_passed n (lines text) h e in
     let up : n + 1 ≡ suc (length (lines text)) = omega (arith, all) in
-    (length (lines text), ap Line up, ends_early declared k (lines text) s (whole_walked declared n (lines text) (Some s) h e w) no)
+    (length (lines text), ap Line up, ends_early declared k (lines text) s (whole_walked declared n (lines text) (Some s) h e w) stops)
+
+pub taken_yes : (b : Bool) (now : State) (o : Option State) → taken b now o → b ≡ true → o ≡ Some now
+taken_yes true now o h e = h
+taken_yes false now o h e = cc e
+
+pub taken_no : (b : Bool) (now : State) (o : Option State) → taken b now o → b ≡ false → o ≡ None
+taken_no true now o h e = cc e
+taken_no false now o h e = h

@@ -117,11 +117,12 @@ fate_goes declared s t l st f less h =
     then_is (λ x. record s { fates = s.fates ++ x ∷ [] }) (fate_of (length s.fates) l) t h (λ x e k.
       let r = fate_is (length s.fates) l x e in
       let u = record s { fates = s.fates ++ x ∷ [] } in
+      let start : 0 + length s.fates ≡ length s.fates = omega arith in
       let long : length (s.fates ++ x ∷ []) ≤ s.counts.admitted = omega (arith, less, length-append s.fates (x ∷ [])) in
       let stands : Stands declared u Fates =
       (record { server = f.0.server; switch = f.0.switch; rows = f.0.rows }, f.1, f.2, f.3, f.4, all_more IsFate s.fates x f.5 r.are, long) in
       let is : told declared u Fates ≡ told declared s Fates ++ l ∷ [] =
-      ap (λ m. head ++ m) (fates_more 0 s.fates x) ∙ ap (λ y. head ++ (fates_told 0 s.fates ++ y ∷ [])) (sym r.is) ∙ sym (append_assoc head (fates_told 0 s.fates) (l ∷ [])) in
+      ap (λ m. head ++ m) (fates_more 0 s.fates x) ∙ ap (λ n. head ++ (fates_told 0 s.fates ++ fate_told n x ∷ [])) start ∙ ap (λ y. head ++ (fates_told 0 s.fates ++ y ∷ [])) (sym r.is) ∙ sym (append_assoc head (fates_told 0 s.fates) (l ∷ [])) in
       subst (Goes declared (told declared s Fates ++ l ∷ [])) k (record {
         stands = subst (Stands declared u) (sym st) stands;
         told = ap (told declared u) st ∙ is;

@@ -4,6 +4,7 @@
 mod error;
 mod fate;
 mod head;
+mod laws;
 mod order;
 mod piece;
 mod reading;
@@ -12,6 +13,7 @@ mod row;
 mod stage;
 
 pub use error::RunTextError;
+pub use laws::printed_runs_are_read;
 pub use report::read_run;
 
 #[cfg(test)]
