@@ -108,7 +108,7 @@ row_step declared s side m behind object row st is k fit follows room =
     ∙ ap (row_read side m behind s (row_told row)) is
     ∙ ap (row_put side m behind s object) (row_back object.keys object.values row k.keys k.values (truth _ fit.0) (truth _ fit.1))
     ∙ ap (λ b. cond b (Some (with_left side m behind (record s { rows = s.rows ++ row ∷ [] }))) None)
-      (both_true (is_after s.rows row.keys) (leb behind (keys_above 0 object.keys row.keys)) follows (le-leb behind (keys_above 0 object.keys row.keys) room))
+    (both_true (is_after s.rows row.keys) (leb behind (keys_above 0 object.keys row.keys)) follows (le-leb behind (keys_above 0 object.keys row.keys) room))
 
 -- the part of an object whose rows are these
 abbrev part_with : ℕ → List Row → Part
@@ -262,7 +262,7 @@ all_read declared k run h =
     let hc = counts_small declared run h in
     let tail = parts_told (codes "object ") declared run.objects ++ (parts_told (codes "switch ") declared run.switch ++ (codes "end" ∷ [])) in
     head_read declared c e v d (fates_told 0 run.fates ++ (order_told run.order ∷ tail)) hc (can_order run.order (length run.fates) run.decided h.ordered h.order)
-      (record { events = omega (arith, h.events); idle = omega (arith, h.idle) }) (record { version = omega (arith, h.version); visible = omega (arith, h.visible) })
+    (record { events = omega (arith, h.events); idle = omega (arith, h.idle) }) (record { version = omega (arith, h.version); visible = omega (arith, h.visible) })
     ∙ fates_read declared c e v d [] run.fates (order_told run.order ∷ tail) hc h.fates (omega arith)
     ∙ order_read declared c e v d run.fates run.order tail hc refl h.ordered h.order
     ∙ server_parts declared k c e v d run.fates run.order [] run.objects 0 (parts_told (codes "switch ") declared run.switch ++ (codes "end" ∷ [])) h.server h.numbers

@@ -77,7 +77,10 @@ next_by true n o objects declared m t e more h =
     record { object = x.object; is = x.is; kind = x.kind; later = omega (arith, x.later); kept = rw t x.kept }
 next_by false n o objects declared m t e more h =
     subst (IsNext n (o ∷ objects) declared) (some_is n m h) (record {
-      object = o; is = drop_got declared n o objects e; kind = t; later = omega arith;
+      object = o;
+      is = drop_got declared n o objects e;
+      kind = t;
+      later = omega arith;
       kept = rw t (ap (λ l. n ∷ kept_from (suc n) l) (sym (drop_next declared n o objects e)));
     })
 

@@ -69,7 +69,7 @@ nat_more x y h =
 three : (x y : ℕ) → (x < y) ⊎ ((x ≡ y) ⊎ (y < x))
 three x y = elim (cases_lt x y) [
   | inl h ↦ inl h
-  | inr h ↦ elim (cases_eq x y) [ | inl e ↦ inr (inl e) | inr n ↦ inr (inr (omega (arith, h, n))) ]
+  | inr h ↦ elim (cases_eq x y) [ inl e ↦ inr (inl e) | inr n ↦ inr (inr (omega (arith, h, n))) ]
 ]
 
 pub fewer_above : (ws a b : List ℕ) (g : ℕ) → are_widths ws ≡ true → have_widths ws a ≡ true → have_widths ws b ≡ true → key_cmp a b ≡ Less → keys_above g ws b < keys_above g ws a

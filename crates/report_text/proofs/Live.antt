@@ -72,7 +72,7 @@ live_next declared k (Some m) s n e next ih =
     let x = next_is n (drop n declared) declared m refl next in
     let l = part_told (codes "object ") x.object.name 0 in
     live_by declared s (with_left OnServer m 0 s) l (Server n) e (ap (server_by declared s l) next ∙ no_part declared k s m x.object x.is)
-      (ih (with_left OnServer m 0 s) m x.later (got_inside declared m x.object x.is) refl)
+    (ih (with_left OnServer m 0 s) m x.later (got_inside declared m x.object x.is) refl)
 
 live_server : (declared : List ObjectDecl) (k : AreKnown declared) (fuel : ℕ) (s : State) (n : ℕ) → length declared ≤ n + fuel → s.stage ≡ Server n → IsLive declared s
 live_server declared k zero s n h e = live_next declared k (next_from n (drop n declared)) s n e refl (λ t m later inside st. absurd (omega (arith, h, later, inside)))
@@ -113,7 +113,7 @@ row_on declared s side m behind o k is room fit =
     ap (row_read side m behind s (row_told row)) is
     ∙ ap (row_put side m behind s o) (row_back o.keys o.values row k.keys k.values (key_fits o.keys behind k.keys) (key_fits o.values 0 k.values))
     ∙ ap (λ b. cond b (Some (with_left side m behind (record s { rows = s.rows ++ row ∷ [] }))) None)
-      (both_true (is_after s.rows row.keys) (leb behind (keys_above 0 o.keys row.keys)) (comes_after o k behind (last_of s.rows) room fit) (le-leb behind (keys_above 0 o.keys row.keys) (omega (arith, at))))
+    (both_true (is_after s.rows row.keys) (leb behind (keys_above 0 o.keys row.keys)) (comes_after o k behind (last_of s.rows) room fit) (le-leb behind (keys_above 0 o.keys row.keys) (omega (arith, at))))
 
 live_table : (declared : List ObjectDecl) (k : AreKnown declared) (side : Side) (behind : ℕ) (s : State) (m : ℕ) (o : ObjectDecl) → slice_get declared m ≡ Some o → s.stage ≡ Table side m behind → HasRoom o behind (last_of s.rows) → Fits o (last_of s.rows) → IsLive declared s
 live_table declared k side zero s m o is e room fit =
@@ -127,7 +127,7 @@ live_table declared k side (suc behind) s m o is e room fit =
     let left : HasRoom o behind (Some row) = omega (arith, at) in
     let last = sym (last_more s.rows row) in
     live_by declared s u (row_told row) (Table side m (suc behind)) e (row_on declared s side m (suc behind) o facts is room fit)
-      (live_table declared k side behind u m o is refl (subst (HasRoom o behind) last left) (subst (Fits o) last (key_fits o.keys (suc behind) facts.keys)))
+    (live_table declared k side behind u m o is refl (subst (HasRoom o behind) last left) (subst (Fits o) last (key_fits o.keys (suc behind) facts.keys)))
 
 -- ---- packets
 
@@ -151,8 +151,8 @@ live_order declared k s e hc can all =
     let found : order_of s.counts.decided s.counts.admitted (order_told o) ≡ Some o =
     subst (λ n. order_of n s.counts.admitted (order_told o) ≡ Some o) (zeros_long s.counts.decided) (order_back o s.counts.admitted (omega (arith, hc.admitted)) (zeros_below s.counts.decided s.counts.admitted can)) in
     live_by declared s u (order_told o) Fates e
-      (ap (λ b. cond b (fate_read s (fate_of (length s.fates) (order_told o))) (order_read s (order_of s.counts.decided s.counts.admitted (order_told o)))) done ∙ ap (order_read s) found)
-      (live_server declared k (length declared) u 0 (omega arith) refl)
+    (ap (λ b. cond b (fate_read s (fate_of (length s.fates) (order_told o))) (order_read s (order_of s.counts.decided s.counts.admitted (order_told o)))) done ∙ ap (order_read s) found)
+    (live_server declared k (length declared) u 0 (omega arith) refl)
 
 live_fates : (declared : List ObjectDecl) (k : AreKnown declared) (fuel : ℕ) (s : State) → s.stage ≡ Fates → AreCounts s.counts → CanOrder s.counts → s.counts.admitted ≤ length s.fates + fuel → IsLive declared s
 live_fates declared k zero s e hc can h = live_order declared k s e hc can (omega (arith, h))
@@ -165,35 +165,35 @@ live_fates declared k (suc fuel) s e hc can h =
           let line = fate_told (length s.fates) f in
           let long = length-append s.fates (f ∷ []) in
           live_by declared s u line Fates e
-            (ap (λ b. cond b (fate_read s (fate_of (length s.fates) line)) (order_read s (order_of s.counts.decided s.counts.admitted line))) go
-            ∙ ap (fate_read s) (fate_back (length s.fates) f (omega (arith, less, hc.admitted)) (omega arith)))
-            (live_fates declared k fuel u e hc can (omega (arith, h, long)))
+          (ap (λ b. cond b (fate_read s (fate_of (length s.fates) line)) (order_read s (order_of s.counts.decided s.counts.admitted line))) go
+          ∙ ap (fate_read s) (fate_back (length s.fates) f (omega (arith, less, hc.admitted)) (omega arith)))
+          (live_fates declared k fuel u e hc can (omega (arith, h, long)))
       | inr more ↦ live_order declared k s e hc can more
     ]
 
 live_drained : (declared : List ObjectDecl) (k : AreKnown declared) (s : State) → s.stage ≡ Drained → AreCounts s.counts → CanOrder s.counts → IsLive declared s
 live_drained declared k s e hc can =
     live_by declared s (record s { drained = true; stage = Fates }) (codes "drained yes") Drained e refl
-      (live_fates declared k s.counts.admitted (record s { drained = true; stage = Fates }) refl hc can (omega arith))
+    (live_fates declared k s.counts.admitted (record s { drained = true; stage = Fates }) refl hc can (omega arith))
 
 live_version : (declared : List ObjectDecl) (k : AreKnown declared) (s : State) → s.stage ≡ Version → AreCounts s.counts → CanOrder s.counts → IsLive declared s
 live_version declared k s e hc can =
     let v : Versions = record { version = 0; visible = 0 } in
     live_by declared s (record s { versions = v; stage = Drained }) (versions_text v) Version e (ap (versions_read s) (versions_back v (record { version = omega arith; visible = omega arith })))
-      (live_drained declared k (record s { versions = v; stage = Drained }) refl hc can)
+    (live_drained declared k (record s { versions = v; stage = Drained }) refl hc can)
 
 live_events : (declared : List ObjectDecl) (k : AreKnown declared) (s : State) → s.stage ≡ Events → AreCounts s.counts → CanOrder s.counts → IsLive declared s
 live_events declared k s e hc can =
     let v : EventCounts = record { events = 0; idle = 0 } in
     live_by declared s (record s { events = v; stage = Version }) (events_text v) Events e (ap (events_read s) (events_back v (record { events = omega arith; idle = omega arith })))
-      (live_version declared k (record s { events = v; stage = Version }) refl hc can)
+    (live_version declared k (record s { events = v; stage = Version }) refl hc can)
 
 live_packets : (declared : List ObjectDecl) (k : AreKnown declared) (s : State) → s.stage ≡ Packets → IsLive declared s
 live_packets declared k s e =
     let c : Counts = record { total = 0; admitted = 0; decided = 0; released = 0 } in
     let hc : AreCounts c = record { total = omega arith; admitted = omega arith; decided = omega arith; released = omega arith } in
     live_by declared s (record s { counts = c; stage = Events }) (counts_text c) Packets e (ap (counts_read s) (counts_back c hc))
-      (live_events declared k (record s { counts = c; stage = Events }) refl hc (λ some. some))
+    (live_events declared k (record s { counts = c; stage = Events }) refl hc (λ some. some))
 
 live_title : (declared : List ObjectDecl) (k : AreKnown declared) (s : State) → s.stage ≡ Title → IsLive declared s
 live_title declared k s e = live_by declared s (record s { stage = Packets }) (codes "report 1") Title e refl (live_packets declared k (record s { stage = Packets }) refl)

@@ -2,7 +2,7 @@
 use Rattle.std.proofs.Common.{◌≡◌, ℕ, zero, suc, ◌+◌, ◌*◌, ◌-◌, ◌^◌, ◌≤◌, ◌<◌, inl, inr, Bool, true, false, not, ◌&&◌, cond, eqb, leb, ltb, List, [], ◌∷◌, ◌++◌, length, take, drop, map, Option, Some, None, refl, sym, ap, ◌∙◌, subst, arith, append_assoc}
 use Rattle.std.specs.Prelude.{IsTrue, codes, slice_get}
 use Rattle.std.specs.List.{AllByRecursion}
-use Rattle.std.proofs.lemmas.Bool.{and_parts}
+use Rattle.std.proofs.lemmas.Bool.{and_parts, cases_lt}
 use Rattle.std.proofs.lemmas.List.{append-nil, take-append-drop}
 use Rattle.std.proofs.lemmas.Bool.Decides.{nat_tests}
 use Rattle.std.proofs.Math.Pow.{pow_mono}
@@ -87,9 +87,22 @@ form_told declared k run h =
     let server = parts_plain declared k (codes "object ") run.objects (λ o count known small. object_plain o.name count known.name small) h.server in
     let switch = parts_plain declared k (codes "switch ") run.switch (λ o count known small. switch_plain o.name count known.name small) h.switch in
     let tables = told_both (parts_told (codes "object ") declared run.objects) (parts_told (codes "switch ") declared run.switch ++ (codes "end" ∷ [])) server
-      (told_both (parts_told (codes "switch ") declared run.switch) (codes "end" ∷ []) switch (last, tt)) in
-    (title, (counts, (events, (versions, (drained_plain run.drained,
-      told_both (fates_told 0 run.fates) (order_told run.order ∷ (parts_told (codes "object ") declared run.objects ++ (parts_told (codes "switch ") declared run.switch ++ (codes "end" ∷ [])))) fates (order, tables))))))
+    (told_both (parts_told (codes "switch ") declared run.switch) (codes "end" ∷ []) switch (last, tt)) in (
+      title,
+      (
+        counts,
+        (
+          events,
+          (
+            versions,
+            (
+              drained_plain run.drained,
+              told_both (fates_told 0 run.fates) (order_told run.order ∷ (parts_told (codes "object ") declared run.objects ++ (parts_told (codes "switch ") declared run.switch ++ (codes "end" ∷ [])))) fates (order, tables),
+            ),
+          ),
+        ),
+      ),
+    )
 
 pub form_lines : (declared : List ObjectDecl) (k : AreKnown declared) (run : Run) → InForm declared run → lines (report_of declared run) ≡ report_told declared run
 form_lines declared k run h = ap lines (sym (report_both declared run)) ∙ lines_lined (report_told declared run) (form_told declared k run h)
@@ -110,8 +123,8 @@ walked_goes : (declared : List ObjectDecl) (k : AreKnown declared) (ls before : 
 walked_goes declared k [] before s t g h = subst (Goes declared (before ++ [])) (some_is s t h) (subst (λ l. Goes declared l s) (sym (append-nil before)) g)
 walked_goes declared k (l ∷ ls) before s t g h =
     bound (step declared s l) (λ u. walked declared u ls) t h (λ u e f.
-      let one : Goes declared (before ++ l ∷ []) u = subst (λ b. Goes declared (b ++ l ∷ []) u) g.told (step_goes declared k s.stage s u l refl g.stands e) in
-      subst (λ m. Goes declared m t) (append_assoc before (l ∷ []) ls) (walked_goes declared k ls (before ++ l ∷ []) u t one f))
+    let one : Goes declared (before ++ l ∷ []) u = subst (λ b. Goes declared (b ++ l ∷ []) u) g.told (step_goes declared k s.stage s u l refl g.stands e) in
+    subst (λ m. Goes declared m t) (append_assoc before (l ∷ []) ls) (walked_goes declared k ls (before ++ l ∷ []) u t one f))
 
 ended_is : (s : State) (st : Stage) (run : Run) → ended_by s st ≡ Some run → (st ≡ Ended) × (run_of s ≡ run)
 ended_is s Title run h = cc h
@@ -133,10 +146,21 @@ ended_form : (declared : List ObjectDecl) (s : State) → Stands declared s Ende
 ended_form declared s f =
     let o = f.0 in
     record {
-      total = omega (arith, o.counts.total); admitted = omega (arith, o.admitted, o.counts.admitted); decided = omega (arith, o.counts.decided); released = omega (arith, o.counts.released);
-      events = omega (arith, o.events.events); idle = omega (arith, o.events.idle); version = omega (arith, o.versions.version); visible = omega (arith, o.versions.visible);
-      fates = o.fates; ordered = o.decided; order = subst (λ n. AllByRecursion (λ m. m < n) s.order) (sym o.admitted) o.order;
-      numbers = f.1; server = o.server; shown = f.2; switch = o.switch;
+      total = omega (arith, o.counts.total);
+      admitted = omega (arith, o.admitted, o.counts.admitted);
+      decided = omega (arith, o.counts.decided);
+      released = omega (arith, o.counts.released);
+      events = omega (arith, o.events.events);
+      idle = omega (arith, o.events.idle);
+      version = omega (arith, o.versions.version);
+      visible = omega (arith, o.versions.visible);
+      fates = o.fates;
+      ordered = o.decided;
+      order = subst (λ n. AllByRecursion (λ m. m < n) s.order) (sym o.admitted) o.order;
+      numbers = f.1;
+      server = o.server;
+      shown = f.2;
+      switch = o.switch;
     }
 
 ended_told : (declared : List ObjectDecl) (s : State) → Stands declared s Ended → told declared s Ended ≡ report_told declared (run_of s)
@@ -214,11 +238,14 @@ can_begin declared k ls s w =
     let whole : resume declared at_start (told_of ls ++ live.more) ≡ Some live.run =
     resumed_both declared at_start (told_of ls) live.more ∙ ap (λ o. o >>= (λ t. resume declared t live.more)) w ∙ live.is in
     let t = resumed_tells declared k (told_of ls ++ live.more) live.run whole in
-    let more_told = all_behind (told_of ls) live.more (subst (AllByRecursion IsTold) (sym t.is) (form_told declared k live.run t.form)) in
-    (live.more, live.run, record {
-      form = t.form;
-      told = told_append ls live.more ∙ ap (λ m. told_of ls ++ m) (all_told live.more more_told) ∙ t.is ∙ sym (form_lines declared k live.run t.form);
-    })
+    let more_told = all_behind (told_of ls) live.more (subst (AllByRecursion IsTold) (sym t.is) (form_told declared k live.run t.form)) in (
+      live.more,
+      live.run,
+      record {
+        form = t.form;
+        told = told_append ls live.more ∙ ap (λ m. told_of ls ++ m) (all_told live.more more_told) ∙ t.is ∙ sym (form_lines declared k live.run t.form);
+      },
+    )
 
 refused_line : (declared : List ObjectDecl) (k : AreKnown declared) (n : ℕ) (ls rest : List (List ℕ)) (l : List ℕ) (s : State) → drop n ls ≡ l ∷ rest → is_skipped l ≡ false → walked declared at_start (told_of (take n ls)) ≡ Some s → step declared s l ≡ None
     → Begins declared (take (suc n) ls) → ⊥
@@ -322,3 +349,29 @@ taken_yes false now o h e = cc e
 pub taken_no : (b : Bool) (now : State) (o : Option State) → taken b now o → b ≡ false → o ≡ None
 taken_no true now o h e = cc e
 taken_no false now o h e = h
+
+-- ---- one line is the first wrong one
+
+fewer : (j k : ℕ) (ls : List (List ℕ)) → j ≤ k → take k ls ≡ take j ls ++ drop j (take k ls)
+fewer zero k ls h = refl
+fewer (suc j) zero ls h = absurd (omega (arith, h))
+fewer (suc j) (suc k) [] h = refl
+fewer (suc j) (suc k) (l ∷ ls) h = ap (λ m. l ∷ m) (fewer j k ls (omega (arith, h)))
+
+begins_sooner : (declared : List ObjectDecl) (j k : ℕ) (ls : List (List ℕ)) → j ≤ k → Begins declared (take k ls) → Begins declared (take j ls)
+begins_sooner declared j k ls h b =
+    let between = drop j (take k ls) in
+    (between ++ b.0, b.1, subst (λ m. AreLinesOf declared m b.1) (ap (λ m. m ++ b.0) (fewer j k ls h) ∙ append_assoc (take j ls) between b.0) b.2)
+
+not_later : (declared : List ObjectDecl) (ls : List (List ℕ)) (j k : ℕ) → IsFirstWrong declared ls j → IsFirstWrong declared ls k → j < k → ⊥
+not_later declared ls j k f g less = f.wrong (omega (arith, less, g.within)) (begins_sooner declared (suc j) k ls (omega (arith, less)) g.begins)
+
+pub first_wrong_once : (declared : List ObjectDecl) (ls : List (List ℕ)) (j k : ℕ) → IsFirstWrong declared ls j → IsFirstWrong declared ls k → j ≡ k
+first_wrong_once declared ls j k f g =
+    elim (cases_lt j k) [
+      | inl less ↦ absurd (not_later declared ls j k f g less)
+      | inr some ↦ elim (cases_lt k j) [
+        | inl less ↦ absurd (not_later declared ls k j g f less)
+        | inr more ↦ omega (arith, some, more)
+      ]
+    ]

@@ -53,8 +53,8 @@ parts_more : (word : List ℕ) (declared : List ObjectDecl) (ps : List Part) (p 
 parts_more word declared [] p = ap (λ l. part_told word (name_of declared p.object) (length p.rows) ∷ l) (append-nil (map row_told p.rows))
 parts_more word declared (q ∷ ps) p =
     ap (λ l. part_told word (name_of declared q.object) (length q.rows) ∷ l)
-      (ap (λ l. map row_told q.rows ++ l) (parts_more word declared ps p)
-      ∙ sym (append_assoc (map row_told q.rows) (parts_told word declared ps) (part_told word (name_of declared p.object) (length p.rows) ∷ map row_told p.rows)))
+    (ap (λ l. map row_told q.rows ++ l) (parts_more word declared ps p)
+    ∙ sym (append_assoc (map row_told q.rows) (parts_told word declared ps) (part_told word (name_of declared p.object) (length p.rows) ∷ map row_told p.rows)))
 
 pub rows_more : (rows : List Row) (row : Row) → map row_told (rows ++ row ∷ []) ≡ map row_told rows ++ row_told row ∷ []
 rows_more [] row = refl
@@ -259,18 +259,24 @@ closed_server declared s m o r b =
     record {
       stands = (
         record {
-          counts = r.ordered.counts; events = r.ordered.events; versions = r.ordered.versions; fates = r.ordered.fates;
-          admitted = r.ordered.admitted; decided = r.ordered.decided; order = r.ordered.order; switch = r.ordered.switch;
+          counts = r.ordered.counts;
+          events = r.ordered.events;
+          versions = r.ordered.versions;
+          fates = r.ordered.fates;
+          admitted = r.ordered.admitted;
+          decided = r.ordered.decided;
+          order = r.ordered.order;
+          switch = r.ordered.switch;
           server = all_more (IsPart declared) s.server (part_of s m) r.ordered.server (part_made declared s m o r);
         },
         refl,
         b.0,
         ap (λ l. l ++ kept_from (m + 1) (drop (m + 1) declared)) (numbers_more s.server (part_of s m))
-        ∙ append_assoc (numbers_of s.server) (m ∷ []) (kept_from (m + 1) (drop (m + 1) declared))
-        ∙ ap (λ k. numbers_of s.server ++ (m ∷ kept_from k (drop k declared))) next ∙ b.1,
+            ∙ append_assoc (numbers_of s.server) (m ∷ []) (kept_from (m + 1) (drop (m + 1) declared))
+            ∙ ap (λ k. numbers_of s.server ++ (m ∷ kept_from k (drop k declared))) next ∙ b.1,
       );
       told = ap (front s) (parts_more (codes "object ") declared s.server (part_of s m))
-      ∙ ap (λ k. front s (parts_told (codes "object ") declared s.server ++ (part_told (codes "object ") (name_of declared m) k ∷ map row_told s.rows))) (sym same);
+          ∙ ap (λ k. front s (parts_told (codes "object ") declared s.server ++ (part_told (codes "object ") (name_of declared m) k ∷ map row_told s.rows))) (sym same);
     }
 
 closed_switch : (declared : List ObjectDecl) (s : State) (m : ℕ) (o : ObjectDecl) → IsRead declared s m 0 o → Before declared s m OnSwitch
@@ -282,8 +288,14 @@ closed_switch declared s m o r b =
     record {
       stands = (
         record {
-          counts = r.ordered.counts; events = r.ordered.events; versions = r.ordered.versions; fates = r.ordered.fates;
-          admitted = r.ordered.admitted; decided = r.ordered.decided; order = r.ordered.order; server = r.ordered.server;
+          counts = r.ordered.counts;
+          events = r.ordered.events;
+          versions = r.ordered.versions;
+          fates = r.ordered.fates;
+          admitted = r.ordered.admitted;
+          decided = r.ordered.decided;
+          order = r.ordered.order;
+          server = r.ordered.server;
           switch = all_more (IsPart declared) s.switch (part_of s m) r.ordered.switch (part_made declared s m o r);
         },
         refl,
@@ -291,8 +303,8 @@ closed_switch declared s m o r b =
         within_more 0 s.switch m (part_of s m) b.1 (omega arith),
       );
       told = ap (λ l. front s (objects ++ l)) (parts_more (codes "switch ") declared s.switch (part_of s m))
-      ∙ ap (front s) (sym (append_assoc objects shown (part_told (codes "switch ") (name_of declared m) (length s.rows) ∷ map row_told s.rows)))
-      ∙ ap (λ k. front s ((objects ++ shown) ++ (part_told (codes "switch ") (name_of declared m) k ∷ map row_told s.rows))) (sym same);
+          ∙ ap (front s) (sym (append_assoc objects shown (part_told (codes "switch ") (name_of declared m) (length s.rows) ∷ map row_told s.rows)))
+          ∙ ap (λ k. front s ((objects ++ shown) ++ (part_told (codes "switch ") (name_of declared m) k ∷ map row_told s.rows))) (sym same);
     }
 
 abbrev pub IsLeft : ObjectDecl → State → ℕ → Type 0
@@ -302,8 +314,15 @@ IsLeft o s (suc behind) = HasRoom o behind (last_of s.rows)
 -- what is awaited is no matter
 at_stage : (declared : List ObjectDecl) (s : State) (st : Stage) → IsOrdered declared s → IsOrdered declared (record s { stage = st })
 at_stage declared s st o = record {
-  counts = o.counts; events = o.events; versions = o.versions; fates = o.fates; admitted = o.admitted; decided = o.decided;
-  order = o.order; server = o.server; switch = o.switch;
+  counts = o.counts;
+  events = o.events;
+  versions = o.versions;
+  fates = o.fates;
+  admitted = o.admitted;
+  decided = o.decided;
+  order = o.order;
+  server = o.server;
+  switch = o.switch;
 }
 
 pub left_read : (declared : List ObjectDecl) (side : Side) (s : State) (m left : ℕ) (o : ObjectDecl) → IsRead declared s m left o → Before declared s m side → IsLeft o s left

@@ -49,10 +49,10 @@ fits b h = h
 title_goes : (declared : List ObjectDecl) (s t : State) (l : List ℕ) → IsFresh s → title_read s l ≡ Some t → Goes declared (l ∷ []) t
 title_goes declared s t l f h =
     chosen (bytes_eq l (codes "report 1")) t (Some (record s { stage = Packets })) h (λ same e.
-      subst (Goes declared (l ∷ [])) (some_is (record s { stage = Packets }) t e) (record {
-        stands = fresh s s.counts s.events s.versions s.drained Packets f;
-        told = ap (λ x. x ∷ []) (sym (are_same l (codes "report 1") same));
-      }))
+    subst (Goes declared (l ∷ [])) (some_is (record s { stage = Packets }) t e) (record {
+      stands = fresh s s.counts s.events s.versions s.drained Packets f;
+      told = ap (λ x. x ∷ []) (sym (are_same l (codes "report 1") same));
+    }))
 
 can_order : (c : Counts) → (eqb c.decided 0 || ltb 0 c.admitted) ≡ true → CanOrder c
 can_order c h some = grind (arith, nat_tests, h, some)
@@ -62,31 +62,31 @@ counts_goes : (declared : List ObjectDecl) (o : Option Counts) (s t : State) (l 
 counts_goes declared None s t l f e h = cc h
 counts_goes declared (Some c) s t l f e h =
     chosen (eqb c.decided 0 || ltb 0 c.admitted) t (Some (record s { counts = c; stage = Events })) h (λ can k.
-      let r = counts_is l c e in
-      subst (Goes declared (codes "report 1" ∷ (l ∷ []))) (some_is (record s { counts = c; stage = Events }) t k) (record {
-        stands = record { fresh = fresh s c s.events s.versions s.drained Events f; counts = r.are; can = can_order c can };
-        told = ap (λ x. codes "report 1" ∷ (x ∷ [])) (sym r.is);
-      }))
+    let r = counts_is l c e in
+    subst (Goes declared (codes "report 1" ∷ (l ∷ []))) (some_is (record s { counts = c; stage = Events }) t k) (record {
+      stands = record { fresh = fresh s c s.events s.versions s.drained Events f; counts = r.are; can = can_order c can };
+      told = ap (λ x. codes "report 1" ∷ (x ∷ [])) (sym r.is);
+    }))
 
 events_goes : (declared : List ObjectDecl) (s t : State) (l : List ℕ) → IsHead declared s → events_read s (events_of l) ≡ Some t
     → Goes declared (codes "report 1" ∷ (counts_text s.counts ∷ (l ∷ []))) t
 events_goes declared s t l f h =
     then_is (λ e. record s { events = e; stage = Version }) (events_of l) t h (λ x e k.
-      let r = events_is l x e in
-      subst (Goes declared (codes "report 1" ∷ (counts_text s.counts ∷ (l ∷ [])))) k (record {
-        stands = (record { fresh = fresh s s.counts x s.versions s.drained Version f.fresh; counts = f.counts; can = f.can }, r.are);
-        told = ap (λ y. codes "report 1" ∷ (counts_text s.counts ∷ (y ∷ []))) (sym r.is);
-      }))
+    let r = events_is l x e in
+    subst (Goes declared (codes "report 1" ∷ (counts_text s.counts ∷ (l ∷ [])))) k (record {
+      stands = (record { fresh = fresh s s.counts x s.versions s.drained Version f.fresh; counts = f.counts; can = f.can }, r.are);
+      told = ap (λ y. codes "report 1" ∷ (counts_text s.counts ∷ (y ∷ []))) (sym r.is);
+    }))
 
 versions_goes : (declared : List ObjectDecl) (s t : State) (l : List ℕ) → IsHead declared s → AreEvents s.events → versions_read s (versions_of l) ≡ Some t
     → Goes declared (codes "report 1" ∷ (counts_text s.counts ∷ (events_text s.events ∷ (l ∷ [])))) t
 versions_goes declared s t l f g h =
     then_is (λ e. record s { versions = e; stage = Drained }) (versions_of l) t h (λ x e k.
-      let r = versions_is l x e in
-      subst (Goes declared (codes "report 1" ∷ (counts_text s.counts ∷ (events_text s.events ∷ (l ∷ []))))) k (record {
-        stands = (record { fresh = fresh s s.counts s.events x s.drained Drained f.fresh; counts = f.counts; can = f.can }, g, r.are);
-        told = ap (λ y. codes "report 1" ∷ (counts_text s.counts ∷ (events_text s.events ∷ (y ∷ [])))) (sym r.is);
-      }))
+    let r = versions_is l x e in
+    subst (Goes declared (codes "report 1" ∷ (counts_text s.counts ∷ (events_text s.events ∷ (l ∷ []))))) k (record {
+      stands = (record { fresh = fresh s s.counts s.events x s.drained Drained f.fresh; counts = f.counts; can = f.can }, g, r.are);
+      told = ap (λ y. codes "report 1" ∷ (counts_text s.counts ∷ (events_text s.events ∷ (y ∷ [])))) (sym r.is);
+    }))
 
 drained_to : (declared : List ObjectDecl) (s : State) (d : Bool) (l : List ℕ) → Stands declared s Drained → l ≡ drained_text d
     → Goes declared (codes "report 1" ∷ (counts_text s.counts ∷ (events_text s.events ∷ (versions_text s.versions ∷ (l ∷ []))))) (record s { drained = d; stage = Fates })
@@ -115,41 +115,47 @@ fate_goes : (declared : List ObjectDecl) (s t : State) (l : List ℕ) → s.stag
 fate_goes declared s t l st f less h =
     let head = head_told s.counts s.events s.versions s.drained in
     then_is (λ x. record s { fates = s.fates ++ x ∷ [] }) (fate_of (length s.fates) l) t h (λ x e k.
-      let r = fate_is (length s.fates) l x e in
-      let u = record s { fates = s.fates ++ x ∷ [] } in
-      let start : 0 + length s.fates ≡ length s.fates = omega arith in
-      let long : length (s.fates ++ x ∷ []) ≤ s.counts.admitted = omega (arith, less, length-append s.fates (x ∷ [])) in
-      let stands : Stands declared u Fates =
-      (record { server = f.0.server; switch = f.0.switch; rows = f.0.rows }, f.1, f.2, f.3, f.4, all_more IsFate s.fates x f.5 r.are, long) in
-      let is : told declared u Fates ≡ told declared s Fates ++ l ∷ [] =
-      ap (λ m. head ++ m) (fates_more 0 s.fates x) ∙ ap (λ n. head ++ (fates_told 0 s.fates ++ fate_told n x ∷ [])) start ∙ ap (λ y. head ++ (fates_told 0 s.fates ++ y ∷ [])) (sym r.is) ∙ sym (append_assoc head (fates_told 0 s.fates) (l ∷ [])) in
-      subst (Goes declared (told declared s Fates ++ l ∷ [])) k (record {
-        stands = subst (Stands declared u) (sym st) stands;
-        told = ap (told declared u) st ∙ is;
-      }))
+    let r = fate_is (length s.fates) l x e in
+    let u = record s { fates = s.fates ++ x ∷ [] } in
+    let start : 0 + length s.fates ≡ length s.fates = omega arith in
+    let long : length (s.fates ++ x ∷ []) ≤ s.counts.admitted = omega (arith, less, length-append s.fates (x ∷ [])) in
+    let stands : Stands declared u Fates =
+    (record { server = f.0.server; switch = f.0.switch; rows = f.0.rows }, f.1, f.2, f.3, f.4, all_more IsFate s.fates x f.5 r.are, long) in
+    let is : told declared u Fates ≡ told declared s Fates ++ l ∷ [] =
+    ap (λ m. head ++ m) (fates_more 0 s.fates x) ∙ ap (λ n. head ++ (fates_told 0 s.fates ++ fate_told n x ∷ [])) start ∙ ap (λ y. head ++ (fates_told 0 s.fates ++ y ∷ [])) (sym r.is) ∙ sym (append_assoc head (fates_told 0 s.fates) (l ∷ [])) in
+    subst (Goes declared (told declared s Fates ++ l ∷ [])) k (record {
+      stands = subst (Stands declared u) (sym st) stands;
+      told = ap (told declared u) st ∙ is;
+    }))
 
 order_goes : (declared : List ObjectDecl) (s t : State) (l : List ℕ) → Stands declared s Fates → s.counts.admitted ≤ length s.fates
     → order_read s (order_of s.counts.decided s.counts.admitted l) ≡ Some t → Goes declared (told declared s Fates ++ l ∷ []) t
 order_goes declared s t l f many h =
     let head = head_told s.counts s.events s.versions s.drained in
     then_is (λ x. record s { order = x; stage = Server 0 }) (order_of s.counts.decided s.counts.admitted l) t h (λ x e k.
-      let r = order_is s.counts.decided s.counts.admitted l x e in
-      let u = record s { order = x; stage = Server 0 } in
-      let all : length s.fates ≡ s.counts.admitted = omega (arith, many, f.6) in
-      subst (Goes declared (told declared s Fates ++ l ∷ [])) k (record {
-        stands = (
-          record {
-            counts = f.1; events = f.3; versions = f.4; fates = f.5; admitted = all; decided = r.many; order = r.below;
-            server = subst (AllByRecursion (IsPart declared)) (sym f.0.server) tt;
-            switch = subst (AllByRecursion (IsPart declared)) (sym f.0.switch) tt;
-          },
-          f.0.rows,
-          f.0.switch,
-          ap (λ ps. numbers_of ps ++ kept_from 0 declared) f.0.server,
-        );
-        told = ap (λ ps. front u (parts_told (codes "object ") declared ps)) f.0.server
-        ∙ ap (λ y. head ++ (fates_told 0 s.fates ++ (y ∷ []))) (sym r.is) ∙ sym (append_assoc head (fates_told 0 s.fates) (l ∷ []));
-      }))
+    let r = order_is s.counts.decided s.counts.admitted l x e in
+    let u = record s { order = x; stage = Server 0 } in
+    let all : length s.fates ≡ s.counts.admitted = omega (arith, many, f.6) in
+    subst (Goes declared (told declared s Fates ++ l ∷ [])) k (record {
+      stands = (
+        record {
+          counts = f.1;
+          events = f.3;
+          versions = f.4;
+          fates = f.5;
+          admitted = all;
+          decided = r.many;
+          order = r.below;
+          server = subst (AllByRecursion (IsPart declared)) (sym f.0.server) tt;
+          switch = subst (AllByRecursion (IsPart declared)) (sym f.0.switch) tt;
+        },
+        f.0.rows,
+        f.0.switch,
+        ap (λ ps. numbers_of ps ++ kept_from 0 declared) f.0.server,
+      );
+      told = ap (λ ps. front u (parts_told (codes "object ") declared ps)) f.0.server
+          ∙ ap (λ y. head ++ (fates_told 0 s.fates ++ (y ∷ []))) (sym r.is) ∙ sym (append_assoc head (fates_told 0 s.fates) (l ∷ []));
+    }))
 
 packet_by : (declared : List ObjectDecl) (b : Bool) (s t : State) (l : List ℕ) → s.stage ≡ Fates → Stands declared s Fates → ltb (length s.fates) s.counts.admitted ≡ b
     → cond b (fate_read s (fate_of (length s.fates) l)) (order_read s (order_of s.counts.decided s.counts.admitted l)) ≡ Some t → Goes declared (told declared s Fates ++ l ∷ []) t
@@ -172,19 +178,24 @@ open_goes : (declared : List ObjectDecl) (side : Side) (s t : State) (m count : 
     → part_opened side m count s (Some o) ≡ Some t → Goes declared (front s (base declared s side) ++ l ∷ []) t
 open_goes declared side s t m count o l f r b is kind small line h =
     chosen (has_keys count o.keys) t (Some (with_left side m count s)) h (λ keys k.
-      let none : length s.rows ≡ 0 = ap length r in
-      let read : IsRead declared s m count o = record {
-        ordered = f; is = is; kind = kind; few = omega (arith, none, small);
-        fit = subst (AllByRecursion (IsRowOf o)) (sym r) tt; rising = subst AreRising (sym r) tt } in
-      let g = left_read declared side s m count o read b (has_room o s count r keys) in
-      let total : length s.rows + count ≡ count = omega (arith, none) in
-      let lines : with_part declared s side m (length s.rows + count) ≡ front s (base declared s side) ++ l ∷ [] =
-      ap (λ n. front s (base declared s side ++ (part_told (word_of side) (name_of declared m) n ∷ map row_told s.rows))) total
-      ∙ ap (λ rows. front s (base declared s side ++ (part_told (word_of side) (name_of declared m) count ∷ map row_told rows))) r
-      ∙ ap (λ name. front s (base declared s side ++ (part_told (word_of side) name count ∷ []))) (named declared m o is)
-      ∙ ap (λ y. front s (base declared s side ++ (y ∷ []))) (sym line)
-      ∙ front_on s (base declared s side) (l ∷ []) in
-      subst (Goes declared (front s (base declared s side) ++ l ∷ [])) (some_is (with_left side m count s) t k) (subst (λ ls. Goes declared ls (with_left side m count s)) lines g))
+    let none : length s.rows ≡ 0 = ap length r in
+    let read : IsRead declared s m count o = record {
+      ordered = f;
+      is = is;
+      kind = kind;
+      few = omega (arith, none, small);
+      fit = subst (AllByRecursion (IsRowOf o)) (sym r) tt;
+      rising = subst AreRising (sym r) tt;
+    } in
+    let g = left_read declared side s m count o read b (has_room o s count r keys) in
+    let total : length s.rows + count ≡ count = omega (arith, none) in
+    let lines : with_part declared s side m (length s.rows + count) ≡ front s (base declared s side) ++ l ∷ [] =
+    ap (λ n. front s (base declared s side ++ (part_told (word_of side) (name_of declared m) n ∷ map row_told s.rows))) total
+    ∙ ap (λ rows. front s (base declared s side ++ (part_told (word_of side) (name_of declared m) count ∷ map row_told rows))) r
+    ∙ ap (λ name. front s (base declared s side ++ (part_told (word_of side) name count ∷ []))) (named declared m o is)
+    ∙ ap (λ y. front s (base declared s side ++ (y ∷ []))) (sym line)
+    ∙ front_on s (base declared s side) (l ∷ []) in
+    subst (Goes declared (front s (base declared s side) ++ l ∷ [])) (some_is (with_left side m count s) t k) (subst (λ ls. Goes declared ls (with_left side m count s)) lines g))
 
 end_goes : (declared : List ObjectDecl) (s t : State) (l : List ℕ) (n : ℕ) → Stands declared s (Switch n) → l ≡ codes "end" → Some (record s { stage = Ended }) ≡ Some t
     → Goes declared (front s (base declared s OnSwitch) ++ l ∷ []) t
@@ -192,9 +203,19 @@ end_goes declared s t l n f e h =
     subst (Goes declared (front s (base declared s OnSwitch) ++ l ∷ [])) (some_is (record s { stage = Ended }) t h) (record {
       stands = (
         record {
-          counts = f.0.counts; events = f.0.events; versions = f.0.versions; fates = f.0.fates; admitted = f.0.admitted; decided = f.0.decided;
-          order = f.0.order; server = f.0.server; switch = f.0.switch;
-        }, f.2, in_order 0 s.switch n f.3);
+          counts = f.0.counts;
+          events = f.0.events;
+          versions = f.0.versions;
+          fates = f.0.fates;
+          admitted = f.0.admitted;
+          decided = f.0.decided;
+          order = f.0.order;
+          server = f.0.server;
+          switch = f.0.switch;
+        },
+        f.2,
+        in_order 0 s.switch n f.3,
+      );
       told = ap (λ y. front s (base declared s OnSwitch ++ (y ∷ []))) (sym e) ∙ front_on s (base declared s OnSwitch) (l ∷ []);
     })
 
@@ -259,29 +280,40 @@ row_goes : (declared : List ObjectDecl) (k : AreKnown declared) (side : Side) (s
     → Goes declared (with_part declared s side m (length s.rows + suc behind) ++ l ∷ []) t
 row_goes declared k side s t l m behind p row f b e h =
     chosen (is_after s.rows row.keys && leb behind (keys_above 0 p.object.keys row.keys)) t (Some (with_left side m behind (record s { rows = s.rows ++ row ∷ [] }))) h (λ ok q.
-      let both = and_parts (is_after s.rows row.keys) (leb behind (keys_above 0 p.object.keys row.keys)) ok in
-      let o = p.object in
-      let facts = k.each m o p.is in
-      let r = row_is o.keys o.values l row facts.keys facts.values e in
-      let u = record s { rows = s.rows ++ row ∷ [] } in
-      let long = length-append s.rows (row ∷ []) in
-      let read : IsRead declared u m behind o = record {
-        ordered = record {
-          counts = f.counts; events = f.events; versions = f.versions; fates = f.fates; admitted = f.admitted; decided = f.decided;
-          order = f.order; server = f.server; switch = f.switch };
-        is = p.is; kind = p.kind; few = omega (arith, long, p.few);
-        fit = all_more (IsRowOf o) s.rows row p.fit (fits _ r.keys, fits _ r.values);
-        rising = rising_more s.rows row both.0 p.rising } in
-      let g = left_read declared side u m behind o read (before declared side s u m refl refl b) (goes_on o u behind row (last_more s.rows row) (leb-true behind (keys_above 0 o.keys row.keys) both.1)) in
-      let total : length (s.rows ++ row ∷ []) + behind ≡ length s.rows + suc behind = omega (arith, long) in
-      let begin = part_told (word_of side) (name_of declared m) (length s.rows + suc behind) in
-      let lines : with_part declared u side m (length (s.rows ++ row ∷ []) + behind) ≡ with_part declared s side m (length s.rows + suc behind) ++ l ∷ [] =
-      ap (λ n. with_part declared u side m n) total
-      ∙ same_base declared side s row (length s.rows + suc behind) m
-      ∙ ap (λ y. front s (base declared s side ++ (begin ∷ (map row_told s.rows ++ y ∷ [])))) (sym r.is)
-      ∙ ap (front s) (sym (append_assoc (base declared s side) (begin ∷ map row_told s.rows) (l ∷ [])))
-      ∙ front_on s (base declared s side ++ (begin ∷ map row_told s.rows)) (l ∷ []) in
-      subst (Goes declared (with_part declared s side m (length s.rows + suc behind) ++ l ∷ [])) (some_is (with_left side m behind u) t q) (subst (λ ls. Goes declared ls (with_left side m behind u)) lines g))
+    let both = and_parts (is_after s.rows row.keys) (leb behind (keys_above 0 p.object.keys row.keys)) ok in
+    let o = p.object in
+    let facts = k.each m o p.is in
+    let r = row_is o.keys o.values l row facts.keys facts.values e in
+    let u = record s { rows = s.rows ++ row ∷ [] } in
+    let long = length-append s.rows (row ∷ []) in
+    let read : IsRead declared u m behind o = record {
+      ordered = record {
+        counts = f.counts;
+        events = f.events;
+        versions = f.versions;
+        fates = f.fates;
+        admitted = f.admitted;
+        decided = f.decided;
+        order = f.order;
+        server = f.server;
+        switch = f.switch;
+      };
+      is = p.is;
+      kind = p.kind;
+      few = omega (arith, long, p.few);
+      fit = all_more (IsRowOf o) s.rows row p.fit (fits _ r.keys, fits _ r.values);
+      rising = rising_more s.rows row both.0 p.rising;
+    } in
+    let g = left_read declared side u m behind o read (before declared side s u m refl refl b) (goes_on o u behind row (last_more s.rows row) (leb-true behind (keys_above 0 o.keys row.keys) both.1)) in
+    let total : length (s.rows ++ row ∷ []) + behind ≡ length s.rows + suc behind = omega (arith, long) in
+    let begin = part_told (word_of side) (name_of declared m) (length s.rows + suc behind) in
+    let lines : with_part declared u side m (length (s.rows ++ row ∷ []) + behind) ≡ with_part declared s side m (length s.rows + suc behind) ++ l ∷ [] =
+    ap (λ n. with_part declared u side m n) total
+    ∙ same_base declared side s row (length s.rows + suc behind) m
+    ∙ ap (λ y. front s (base declared s side ++ (begin ∷ (map row_told s.rows ++ y ∷ [])))) (sym r.is)
+    ∙ ap (front s) (sym (append_assoc (base declared s side) (begin ∷ map row_told s.rows) (l ∷ [])))
+    ∙ front_on s (base declared s side ++ (begin ∷ map row_told s.rows)) (l ∷ []) in
+    subst (Goes declared (with_part declared s side m (length s.rows + suc behind) ++ l ∷ [])) (some_is (with_left side m behind u) t q) (subst (λ ls. Goes declared ls (with_left side m behind u)) lines g))
 
 row_put_by : (declared : List ObjectDecl) (k : AreKnown declared) (side : Side) (r : Option Row) (s t : State) (l : List ℕ) (m behind : ℕ) (p : IsPartly declared s.rows m behind) → IsOrdered declared s → Before declared s m side
     → row_of p.object.keys p.object.values l ≡ r → row_put side m behind s p.object r ≡ Some t

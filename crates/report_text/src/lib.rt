@@ -13,7 +13,7 @@ mod row;
 mod stage;
 
 pub use error::RunTextError;
-pub use laws::printed_runs_are_read;
+pub use laws::{one_line_is_first_wrong, printed_runs_are_read};
 pub use report::read_run;
 
 #[cfg(test)]

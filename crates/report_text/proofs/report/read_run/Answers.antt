@@ -1,4 +1,4 @@
-use Rattle.std.proofs.Common.{◌≡◌, Some, None, true, false, ◌∷◌, [], drop, sym, ap, ◌∙◌, inr, arith}
+use Rattle.std.proofs.Common.{◌≡◌, suc, ◌+◌, Some, None, true, false, ◌∷◌, [], drop, sym, ap, ◌∙◌, inr, arith}
 use Rattle.std.proofs.lemmas.Bool.Decides.{nat_tests}
 use Rattle.gal_io.specs.Lines.{lines}
 use Rattle.report_text.specs.Machine.{ended, line_read}
@@ -16,10 +16,11 @@ loop-line-preserved c =
     let yes_it_is : c.in_ok-taken.taken ≡ true = grind (arith, nat_tests, c.if-not-taken.false) in
     let told : line_read c.args.objects.now c.loop-line.reading l ≡ Some c.take_line.new.self =
     ap (λ o. line_read o c.loop-line.reading l) (sym c.as_slice.ensures) ∙ taken_yes c.in_ok-taken.taken c.take_line.new.self _ c.in_ok-taken.ensures yes_it_is in
+    let up : suc n ≡ n + 1 = omega arith in
     record {
       within = omega (arith, drop_inside n l ls rest next);
       bytes = omega (arith, c.in-Some.ensures.shorter, c.loop-line.invariant.bytes);
-      ahead = sym (drop_on n l ls rest next) ∙ ap (λ m. drop m ls) (omega arith);
+      ahead = sym (drop_on n l ls rest next) ∙ ap (λ m. drop m ls) up;
       read = line_on c.args.objects.now n ls rest l c.loop-line.reading c.take_line.new.self next c.loop-line.invariant.read told;
     }
 
