@@ -1,6 +1,6 @@
 //! Reports that are read back, and lines at which they are none.
 
-ghost use Rattle.std.specs.Prelude.{IfOk, IsTrue};
+ghost use Rattle.std.specs.Prelude.{◌≡◌, ◌∷◌, [], IfOk, IsTrue};
 ghost use Rattle.report_text.specs.Form.{are_declared};
 
 use super::*;
@@ -11,13 +11,17 @@ use state_store::{Kind, ObjectDecl, Objects, Rows};
 use std::alloc::Global;
 use std::test::Fail;
 
-fn one(first: u64) -> Widths {
+fn one(first: u64) -> Widths
+    ensures { result ≡ first ∷ [] }
+{
     let mut widths = Widths::new();
     widths.push(first);
     widths
 }
 
-fn two(first: u64, second: u64) -> Widths {
+fn two(first: u64, second: u64) -> Widths
+    ensures { result ≡ first ∷ second ∷ [] }
+{
     let mut widths = one(first);
     widths.push(second);
     widths
@@ -29,7 +33,17 @@ fn object(
     kind: Kind,
     keys: Widths,
     values: Widths,
-) -> Result<ObjectDecl, NoMemory> {
+) -> Result<ObjectDecl, NoMemory>
+    ensures { IfOk result (λ o. o ≡ record {
+      name = name.now;
+      kind = kind;
+      keys = keys;
+      values = values;
+      size = 1;
+      start = 0;
+      rows = [];
+    }) }
+{
     Ok(ObjectDecl {
         name: Bytes::from_slice(alloc, name)?,
         kind,
@@ -42,7 +56,9 @@ fn object(
 }
 
 // The state of an address translator.
-fn translator(alloc: Global) -> Result<Objects, NoMemory> {
+fn translator(alloc: Global) -> Result<Objects, NoMemory>
+    ensures { IfOk result (λ objects. IsTrue (are_declared objects)) }
+{
     let mut objects = Objects::new(alloc);
     objects.push(object(alloc, b"out", Kind::Map, two(32, 16), one(16))?)?;
     objects.push(object(alloc, b"back", Kind::Map, one(16), two(32, 16))?)?;
@@ -92,7 +108,9 @@ fn a_report_of_a_replay_is_printed_again(rt: HostRuntime) -> Result<(), Fail> {
 }
 
 // Keys of one bit, a table, a number, and a map whose name begins as another's.
-fn small(alloc: Global) -> Result<Objects, NoMemory> {
+fn small(alloc: Global) -> Result<Objects, NoMemory>
+    ensures { IfOk result (λ objects. IsTrue (are_declared objects)) }
+{
     let mut objects = Objects::new(alloc);
     objects.push(object(alloc, b"bit", Kind::Map, one(1), one(1))?)?;
     objects.push(object(alloc, b"rules", Kind::Table, one(8), one(8))?)?;
