@@ -1,6 +1,7 @@
 -- What is known of a report when so many of its lines were read, and what one line more tells.
 use Rattle.std.specs.Prelude.{◌≡◌, ℕ, zero, suc, ◌+◌, ◌*◌, ◌-◌, ◌^◌, Bool, true, false, ◌||◌, ◌&&◌, List, [], ◌∷◌, ◌++◌}
-use Rattle.std.specs.Prelude.{length, nat_lt, nat_le, ◌==◌, codes, if◌then◌else◌, Option, Some, None, slice_get, slice_index, drop}
+use Rattle.std.specs.Prelude.{length, nat_lt, nat_le, ◌==◌, codes, if◌then◌else◌, Option, Some, None, slice_get}
+use Rattle.std.specs.Prelude.{slice_index, drop}
 use Rattle.std.specs.Str.{bytes_eq}
 use Rattle.std.specs.Ordering.{is_lt}
 use Rattle.gal_io.specs.Lines.{is_skipped}
@@ -17,8 +18,10 @@ use Rattle.report_text.specs.declared.head.Versions.{Versions}
 use Rattle.report_text.specs.declared.stage.Side.{Side}
 use Rattle.report_text.specs.declared.stage.Side.TheVariants.{OnServer, OnSwitch}
 use Rattle.report_text.specs.declared.stage.Stage.{Stage}
-use Rattle.report_text.specs.declared.stage.Stage.TheVariants.{Title, Packets, Events, Version, Drained, Fates, Server, Switch, Table, Ended}
-use Rattle.report_text.specs.Parse.{◌>>=◌, counts_of, events_of, versions_of, fate_of, order_of, row_of, count_of, most_of}
+use Rattle.report_text.specs.declared.stage.Stage.TheVariants.{Title, Packets, Events, Version, Drained, Fates}
+use Rattle.report_text.specs.declared.stage.Stage.TheVariants.{Server, Switch, Table, Ended}
+use Rattle.report_text.specs.Parse.{◌>>=◌, counts_of, events_of, versions_of, fate_of, order_of, row_of, count_of}
+use Rattle.report_text.specs.Parse.{most_of}
 
 -- the parts that were read, the rows of the part that is being read, and what is awaited
 pub record State : Type 0 where

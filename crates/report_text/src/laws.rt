@@ -8,10 +8,12 @@ ghost use Rattle.report_text.specs.Lines.{IsFirstWrong, IsReport};
 
 /// What is printed of a run in the form is a report of it, so that it is read back as that run.
 pub fn printed_runs_are_read()
-    ensures { (declared : List ObjectDecl) → (run : Run) → IsTrue (are_declared declared) → InForm declared run → IsReport declared (report_of declared run) run }
+    ensures { (declared : List ObjectDecl) → (run : Run) → IsTrue (are_declared declared) → InForm declared run
+        → IsReport declared (report_of declared run) run }
 {}
 
 /// No two lines of a text are the first wrong one.
 pub fn one_line_is_first_wrong()
-    ensures { (declared : List ObjectDecl) → (ls : List (List ℕ)) → (j k : ℕ) → IsFirstWrong declared ls j → IsFirstWrong declared ls k → j ≡ k }
+    ensures { (declared : List ObjectDecl) → (ls : List (List ℕ)) → (j k : ℕ)
+        → IsFirstWrong declared ls j → IsFirstWrong declared ls k → j ≡ k }
 {}

@@ -1,12 +1,15 @@
 //! A report that is read line by line.
-ghost use Rattle.std.specs.Prelude.{◌≡◌, ◌<◌, ◌^◌, length, IfOk, IfSome, OnOk, MatchOption, true, false, None, Some, drop};
+ghost use Rattle.std.specs.Prelude.{◌≡◌, ◌<◌, ◌^◌, length, IfOk, IfSome, OnOk, MatchOption, true, false, None, Some};
+ghost use Rattle.std.specs.Prelude.{drop};
 ghost use Rattle.std.specs.Prelude.{slice_get, if◌then◌else◌, Option};
 ghost use Rattle.state_store.specs.Kinds.{is_table};
 ghost use Rattle.report_text.specs.Parse.{count_of, fate_of, order_of, counts_of, events_of, versions_of};
 ghost use Rattle.report_text.specs.Machine.{State, at_start, closed_by, count_by, counts_read, drained_read, ended};
-ghost use Rattle.report_text.specs.Machine.{fate_read, has_keys, is_after, line_read, next_from, order_read, packet_read};
+ghost use Rattle.report_text.specs.Machine.{fate_read, has_keys, is_after, line_read, next_from, order_read};
+ghost use Rattle.report_text.specs.Machine.{packet_read};
 ghost use Rattle.report_text.specs.Machine.{part_opened, row_read, server_read, shown_from, step, switch_read};
-ghost use Rattle.report_text.specs.Machine.{events_read, row_put, server_opened, shown_count, title_read, taken, versions_read, with_left};
+ghost use Rattle.report_text.specs.Machine.{events_read, row_put, server_opened, shown_count, title_read, taken};
+ghost use Rattle.report_text.specs.Machine.{versions_read, with_left};
 
 use crate::fate::read_fate;
 use crate::head::{Counts, EventCounts, Versions, read_counts, read_events, read_versions};
@@ -214,7 +217,8 @@ impl Reading {
     }
 
     fn take_fate(&mut self, alloc: Global, line: &[u8]) -> Result<bool, NoMemory>
-        ensures { IfOk result (λ ok. taken ok self.new (fate_read self.old (fate_of (length self.old.fates) line.now))) }
+        ensures { IfOk result (λ ok. taken ok self.new
+            (fate_read self.old (fate_of (length self.old.fates) line.now))) }
     {
         let Some(fate) = read_fate(alloc, self.fates.len(), line)? else {
             return Ok(false);
@@ -247,7 +251,8 @@ impl Reading {
 
     // Puts the part of this object behind the others.
     fn close(&mut self, alloc: Global, side: Side, object: u32) -> Result<(), NoMemory>
-        ensures { OnOk result (self.new ≡ closed_by side (record { object = object; rows = self.old.rows }) self.old) }
+        ensures { OnOk result (self.new
+            ≡ closed_by side (record { object = object; rows = self.old.rows }) self.old) }
     {
         let rows = mem::replace(&mut self.rows, Rows::new(alloc));
         let part = Part { object, rows };

@@ -147,8 +147,8 @@ fn texts_are_refused_at_their_first_wrong_line(rt: HostRuntime) -> Result<(), Fa
     let Ok(objects) = small(alloc) else {
         return Err(Fail::from("no memory"));
     };
-    let none =
-        "report 1\npackets 0 admitted 0 decided 0 released 0\nevents 0 idle 0\nversion 0 visible 0\ndrained yes\norder -\n";
+    let none = "report 1\npackets 0 admitted 0 decided 0 released 0\nevents 0 idle 0\n\
+        version 0 visible 0\ndrained yes\norder -\n";
     for (text, want) in [
         (["", "", "", "", ""], Err(RunTextError::Line(1))),
         ([HEAD, FATES, ORDER, PARTS, "end\n"], Ok(())),
