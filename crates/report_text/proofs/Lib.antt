@@ -1,0 +1,17 @@
+pub mod Numbers
+pub mod Pieces
+pub mod HeadLines
+pub mod FateLines
+pub mod PartLines
+pub mod RowLines
+pub mod Told
+pub mod Loops
+pub mod Plain
+pub mod Keys
+pub mod Walked
+pub mod Declared
+pub mod Sound
+pub mod Steps
+pub mod Complete
+pub mod Live
+pub mod Reports

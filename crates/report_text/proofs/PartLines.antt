@@ -1,0 +1,153 @@
+-- The order line and the lines of parts, printed and read.
+use Rattle.std.proofs.Common.{◌≡◌, ℕ, zero, suc, ◌+◌, ◌-◌, ◌^◌, ◌≤◌, ◌<◌, Bool, true, false, ◌&&◌, cond, eqb, ltb, List, [], ◌∷◌, ◌++◌, length, Option, Some, None, refl, sym, ap, ◌∙◌, subst, arith, append_assoc}
+use Rattle.std.specs.Prelude.{codes}
+use Rattle.std.specs.Fmt.{decimal}
+use Rattle.std.specs.Str.{bytes_eq}
+use Rattle.std.specs.List.{AllByRecursion, list_all}
+use Rattle.std.proofs.lemmas.Bool.{and_parts}
+use Rattle.std.proofs.lemmas.List.{append-nil}
+use Rattle.std.proofs.lemmas.Bool.Decides.{nat_tests}
+use Rattle.gal_io.specs.Number.{spaced}
+use Rattle.state_store.specs.declared.object.Row.{Row}
+use Rattle.state_store.specs.Kept.{have_widths}
+use Rattle.run_text.specs.Report.{key_text, order_text}
+use Rattle.run_text.specs.Trace.{largest}
+use Rattle.report_text.specs.Form.{are_widths}
+use Rattle.report_text.specs.Parse.{◌>>=◌, after, all_numbers, below, count_of, key_number, keys_at, labelled, most_of, number_at, number_below, numbers_at, order_at, order_of, row_of, values_at, whole}
+use Rattle.report_text.proofs.Pieces.{after_back, after_is, are_same, bound, is_cut, labelled_back, labelled_is, number_at_back, number_at_is, some_is, whole_is}
+
+spaced_cut : (ns : List ℕ) → is_cut (spaced ns) ≡ true
+spaced_cut [] = refl
+spaced_cut (n ∷ ns) = refl
+
+-- ---- the order
+
+abbrev pub AreBelow : ℕ → List ℕ → Type 0
+AreBelow bound = AllByRecursion (λ n. n < bound)
+
+numbers_back : (before ns : List ℕ) (bound : ℕ) → bound ≤ 2 ^ 32 → AreBelow bound ns → numbers_at before (length ns) bound (spaced ns) ≡ Some (before ++ ns, [])
+unfolding number_below
+numbers_back before [] bound most h = ap (λ l. Some (l, [])) (sym (append-nil before))
+numbers_back before (n ∷ ns) bound most h =
+    let inside : n < bound = h.0 in
+    let small : ltb n bound ≡ true = grind (arith, nat_tests) in
+    rw (labelled_back largest n (codes " ") (spaced ns) (omega arith) (omega arith) (spaced_cut ns), small)
+    (numbers_back (before ++ n ∷ []) ns bound most h.1 ∙ ap (λ l. Some (l, [])) (append_assoc before (n ∷ []) ns))
+
+record AreNumbers (before : List ℕ) (count bound : ℕ) (line : List ℕ) (x : List ℕ × List ℕ) : Type 0 where
+  read : List ℕ
+  many : length read ≡ count
+  below : AreBelow bound read
+  all : x.0 ≡ before ++ read
+  is : line ≡ spaced read ++ x.1
+
+record IsBelow (bound : ℕ) (line : List ℕ) (x : ℕ × List ℕ) : Type 0 where
+  below : x.0 < bound
+  is : line ≡ codes " " ++ (decimal x.0 ++ x.1)
+
+below_by : (t : Bool) (bound : ℕ) (line : List ℕ) (y x : ℕ × List ℕ) → ltb y.0 bound ≡ t → line ≡ codes " " ++ (decimal y.0 ++ y.1) → cond t (Some y) None ≡ Some x → IsBelow bound line x
+below_by true bound line y x t e h = subst (IsBelow bound line) (some_is y x h) (record { below = grind (arith, nat_tests); is = e })
+below_by false bound line y x t e h = cc h
+
+number_is : (limit : ℕ) (line : List ℕ) (x : ℕ × List ℕ) → number_below limit line ≡ Some x → IsBelow limit line x
+unfolding number_below
+number_is limit line x h =
+    bound (labelled largest (codes " ") line) (below limit) x h (λ y ey hy.
+    let l = labelled_is largest y (codes " ") line (omega arith) ey in
+    below_by (ltb y.0 limit) limit line y x refl l.1 hy)
+
+numbers_are : (before : List ℕ) (count limit : ℕ) (line : List ℕ) (x : List ℕ × List ℕ) → numbers_at before count limit line ≡ Some x → AreNumbers before count limit line x
+numbers_are before zero limit line x h =
+    subst (AreNumbers before zero limit line) (some_is (before, line) x h) (record { read = []; many = refl; below = tt; all = sym (append-nil before); is = refl })
+numbers_are before (suc count) limit line x h =
+    bound (number_below limit line) (λ y. numbers_at (before ++ y.0 ∷ []) count limit y.1) x h (λ y ey hy.
+    let one = number_is limit line y ey in
+    let more = numbers_are (before ++ y.0 ∷ []) count limit y.1 x hy in
+    record {
+      read = y.0 ∷ more.read;
+      many = ap suc more.many;
+      below = (one.below, more.below);
+      all = more.all ∙ append_assoc before (y.0 ∷ []) more.read;
+      is = one.is ∙ ap (λ l. codes " " ++ (decimal y.0 ++ l)) more.is ∙ ap (λ l. codes " " ++ l) (sym (append_assoc (decimal y.0) (spaced more.read) x.1));
+    })
+
+-- the order line, without its end
+abbrev pub order_told : List ℕ → List ℕ
+order_told order = codes "order" ++ order_text order
+
+order_at_back : (order : List ℕ) (limit : ℕ) → limit ≤ 2 ^ 32 → AreBelow limit order → order_at (length order) limit (order_text order) ≡ Some order
+order_at_back [] limit most h = refl
+order_at_back (n ∷ ns) limit most h =
+    let positive : ltb 0 (length (n ∷ ns)) ≡ true = grind (arith, nat_tests) in
+    rw (positive, numbers_back [] (n ∷ ns) limit most h) refl
+
+pub order_back : (order : List ℕ) (limit : ℕ) → limit ≤ 2 ^ 32 → AreBelow limit order → order_of (length order) limit (order_told order) ≡ Some order
+unfolding order_of
+order_back order limit most h = rw (after_back (codes "order") (order_text order)) (order_at_back order limit most h)
+
+pub record HasOrder (count limit : ℕ) (line order : List ℕ) : Type 0 where
+  pub many : length order ≡ count
+  pub below : AreBelow limit order
+  pub is : line ≡ order_told order
+
+some_text : (ns : List ℕ) → 0 < length ns → order_text ns ≡ spaced ns
+some_text [] h = absurd (omega arith)
+some_text (n ∷ ns) h = refl
+
+order_by : (t : Bool) (count limit : ℕ) (line rest order : List ℕ) → ltb 0 count ≡ t → line ≡ codes "order" ++ rest
+    → cond t (all_numbers count limit rest) (cond (bytes_eq rest (codes " -")) (Some []) None) ≡ Some order → HasOrder count limit line order
+order_by true count limit line rest order t e h =
+    bound (numbers_at [] count limit rest) (λ all. whole all.0 all.1) order h (λ x ex hx.
+    let w = whole_is x.0 order x.1 hx in
+    let l = numbers_are [] count limit rest x ex in
+    let same : l.read ≡ order = sym l.all ∙ w.1 in
+    let positive : 0 < count = grind (arith, nat_tests) in
+    let is : rest ≡ order_text l.read = l.is ∙ ap (λ r. spaced l.read ++ r) w.0 ∙ append-nil (spaced l.read) ∙ sym (some_text l.read (omega (arith, l.many))) in
+    subst (HasOrder count limit line) same (record { many = l.many; below = l.below; is = e ∙ ap (λ r. codes "order" ++ r) is }))
+order_by false count limit line rest order t e h =
+    elim (bytes_eq rest (codes " -")) as (λ b. bytes_eq rest (codes " -") ≡ b → cond b (Some []) None ≡ Some order → HasOrder count limit line order) [
+      | true ↦ λ b k. subst (HasOrder count limit line) (some_is [] order k) (record {
+        many = grind (arith, nat_tests);
+        below = tt;
+        is = e ∙ ap (λ r. codes "order" ++ r) (are_same rest (codes " -") b);
+      })
+      | false ↦ λ b k. cc k
+    ] refl h
+
+pub order_is : (count limit : ℕ) (line order : List ℕ) → order_of count limit line ≡ Some order → HasOrder count limit line order
+unfolding order_of
+order_is count limit line order h =
+    bound (after (codes "order") line) (order_at count limit) order h (λ rest er hr.
+    order_by (ltb 0 count) count limit line rest order refl (after_is (codes "order") line rest er) hr)
+
+-- ---- counts
+
+-- the line that begins a part, without its end
+abbrev pub part_told : List ℕ → List ℕ → ℕ → List ℕ
+part_told word name count = word ++ (name ++ (codes " " ++ (decimal count ++ [])))
+
+pub count_back : (word name : List ℕ) (count : ℕ) → count ≤ largest → count_of word name (part_told word name count) ≡ Some count
+unfolding count_of
+count_back word name count small =
+    rw (
+      after_back word (name ++ (codes " " ++ (decimal count ++ []))),
+      after_back name (codes " " ++ (decimal count ++ [])),
+      labelled_back largest count (codes " ") [] small (omega arith) refl,
+    ) refl
+
+pub record HasCount (word name line : List ℕ) (count : ℕ) : Type 0 where
+  pub small : count ≤ largest
+  pub is : line ≡ part_told word name count
+
+pub count_is : (word name line : List ℕ) (count : ℕ) → count_of word name line ≡ Some count → HasCount word name line count
+unfolding count_of
+count_is word name line count h =
+    bound (after word line) _ count h (λ r er hr.
+    bound (after name r) _ count hr (λ s es hs.
+    bound (labelled largest (codes " ") s) _ count hs (λ c ec hc.
+    let w = whole_is c.0 count c.1 hc in
+    let l = labelled_is largest c (codes " ") s (omega arith) ec in
+    subst (HasCount word name line) w.1 (record {
+      small = l.0;
+      is = rw (after_is word line r er, after_is name r s es, l.1, w.0) refl;
+    }))))

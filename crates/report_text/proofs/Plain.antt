@@ -1,0 +1,199 @@
+-- Each line of a printed report is one line, and isn't skipped.
+use Rattle.std.proofs.Common.{◌≡◌, ℕ, zero, suc, ◌+◌, ◌-◌, ◌^◌, ◌≤◌, ◌<◌, Bool, true, false, not, ◌&&◌, cond, eqb, leb, ltb, List, [], ◌∷◌, ◌++◌, length, take, map, get_or, Option, Some, None, refl, sym, ap, ◌∙◌, subst, arith, append_assoc, inl, inr}
+use Rattle.std.specs.Prelude.{IsTrue, codes, slice_get, slice_index, ◌/◌, ◌%◌}
+use Rattle.std.specs.Fmt.{decimal}
+use Rattle.std.specs.Str.{all_ascii_digits}
+use Rattle.std.specs.List.{AllByRecursion, list_all, onto_first}
+use Rattle.std.proofs.lemmas.Bool.{and_parts, cases_lt, le-leb, leb-true}
+use Rattle.std.proofs.lemmas.Bool.Decides.{nat_tests}
+use Rattle.std.proofs.lemmas.Option.{none-some}
+use Rattle.std.proofs.lemmas.Fmt.{decimal_nonempty}
+use Rattle.hex.specs.Hex.{IsBytes, encode_lower, encode_with, hex_digit_value, lower_digits}
+use Rattle.hex.proofs.HexLemmas.{IsDigits-lower_digits}
+use Rattle.gal_io.specs.Lines.{fed_lines, lines, without_return, is_skipped}
+use Rattle.gal_io.specs.Number.{spaced}
+use Rattle.packet_fields.specs.declared.verdict.Verdict.{Verdict}
+use Rattle.packet_fields.specs.declared.verdict.Verdict.TheVariants.{Drop, Send}
+use Rattle.state_store.specs.declared.object.Row.{Row}
+use Rattle.run_text.specs.declared.fate.Fate.{Fate}
+use Rattle.run_text.specs.declared.fate.Fate.TheVariants.{Up, Held, Slow, Fast}
+use Rattle.run_text.specs.Printed.{lined}
+use Rattle.run_text.specs.Report.{body_text, key_text, order_text}
+use Rattle.report_text.specs.declared.head.Counts.{Counts}
+use Rattle.report_text.specs.declared.head.EventCounts.{EventCounts}
+use Rattle.report_text.specs.declared.head.Versions.{Versions}
+use Rattle.report_text.specs.Form.{IsFate, IsVerdict, is_plain}
+use Rattle.report_text.specs.Lines.{told_of}
+use Rattle.report_text.proofs.Numbers.{decimal_digits}
+use Rattle.report_text.proofs.HeadLines.{AreCounts, AreEvents, AreVersions, counts_text, events_text, versions_text}
+use Rattle.report_text.proofs.FateLines.{fate_told, path_with, released_with, stamps_of, stamps_with, verdict_with}
+use Rattle.report_text.proofs.PartLines.{order_told, part_told}
+use Rattle.report_text.proofs.RowLines.{row_told}
+
+abbrev pub plain : ℕ → Bool
+plain byte = leb 32 byte
+
+-- a line that a text can hold, and that is told
+pub record IsTold (line : List ℕ) : Type 0 where
+  pub whole : list_all plain line ≡ true
+  pub told : is_skipped line ≡ false
+
+-- ---- such lines, each with its end, are the lines of a text
+
+fed_plain : (line rest : List ℕ) → list_all plain line ≡ true → fed_lines (line ++ (10 ∷ rest)) ≡ line ∷ fed_lines rest
+fed_plain [] rest h = refl
+fed_plain (byte ∷ line) rest h =
+    let parts = and_parts (plain byte) (list_all plain line) h in
+    let other : eqb byte 10 ≡ false = grind (arith, nat_tests, parts.0) in
+    rw other (ap (onto_first byte) (fed_plain line rest parts.1))
+
+plain_at : (line : List ℕ) (k : ℕ) → k < length line → list_all plain line ≡ true → 32 ≤ get_or line k 0
+plain_at [] k inside h = absurd (omega arith)
+plain_at (byte ∷ line) zero inside h = leb-true 32 byte (and_parts (plain byte) (list_all plain line) h).0
+plain_at (byte ∷ line) (suc k) inside h = plain_at line k (omega arith) (and_parts (plain byte) (list_all plain line) h).1
+
+returns_none : (line : List ℕ) → list_all plain line ≡ true → without_return line ≡ line
+returns_none [] h = refl
+returns_none (byte ∷ line) h =
+    let last = plain_at (byte ∷ line) (length (byte ∷ line) - 1) (omega arith) h in
+    let other : eqb (get_or (byte ∷ line) (length (byte ∷ line) - 1) 0) 13 ≡ false = grind (arith, nat_tests, last) in
+    rw other refl
+
+line_plain : (line rest : List ℕ) → list_all plain line ≡ true → lines (line ++ (10 ∷ rest)) ≡ line ∷ lines rest
+line_plain line rest h = ap (map without_return) (fed_plain line rest h) ∙ ap (λ l. l ∷ lines rest) (returns_none line h)
+
+pub lines_lined : (ls : List (List ℕ)) → AllByRecursion IsTold ls → lines (lined ls) ≡ ls
+lines_lined [] h = refl
+lines_lined (l ∷ ls) h = line_plain l (lined ls) h.0.whole ∙ ap (λ m. l ∷ m) (lines_lined ls h.1)
+
+pub all_told : (ls : List (List ℕ)) → AllByRecursion IsTold ls → told_of ls ≡ ls
+all_told [] h = refl
+all_told (l ∷ ls) h = rw h.0.told (ap (λ m. l ∷ m) (all_told ls h.1))
+
+pub told_both : (xs ys : List (List ℕ)) → AllByRecursion IsTold xs → AllByRecursion IsTold ys → AllByRecursion IsTold (xs ++ ys)
+told_both [] ys h k = k
+told_both (x ∷ xs) ys h k = (h.0, told_both xs ys h.1 k)
+
+-- ---- bytes of lines
+
+both : (p : ℕ → Bool) (xs ys : List ℕ) → list_all p xs ≡ true → list_all p ys ≡ true → list_all p (xs ++ ys) ≡ true
+both p [] ys h k = k
+both p (x ∷ xs) ys h k = let hp = and_parts (p x) (list_all p xs) h in rw hp.0 (both p xs ys hp.1 k)
+
+digits_plain : (ds : List ℕ) → all_ascii_digits ds ≡ true → list_all plain ds ≡ true
+digits_plain [] h = refl
+digits_plain (d ∷ ds) h = let rest = digits_plain ds in grind (arith, nat_tests, rest, h)
+
+number_plain : (n : ℕ) (rest : List ℕ) → n < 2 ^ 64 → list_all plain rest ≡ true → list_all plain (decimal n ++ rest) ≡ true
+number_plain n rest h k = both plain (decimal n) rest (digits_plain (decimal n) (decimal_digits n h)) k
+
+digits_told : (ds rest : List ℕ) → 0 < length ds → all_ascii_digits ds ≡ true → is_skipped (ds ++ rest) ≡ false
+digits_told [] rest some h = absurd (omega arith)
+digits_told (d ∷ ds) rest some h = grind (arith, nat_tests, h)
+
+-- ---- the first lines
+
+pub counts_plain : (c : Counts) → AreCounts c → IsTold (counts_text c)
+counts_plain c h = record {
+  whole = number_plain c.total _ (omega (arith, h.total)) (number_plain c.admitted _ (omega (arith, h.admitted)) (number_plain c.decided _ (omega (arith, h.decided)) (number_plain c.released [] (omega (arith, h.released)) refl)));
+  told = refl;
+}
+
+pub events_plain : (e : EventCounts) → AreEvents e → IsTold (events_text e)
+events_plain e h = record {
+  whole = number_plain e.events _ (omega (arith, h.events)) (number_plain e.idle [] (omega (arith, h.idle)) refl);
+  told = refl;
+}
+
+pub versions_plain : (v : Versions) → AreVersions v → IsTold (versions_text v)
+versions_plain v h = record {
+  whole = number_plain v.version _ (omega (arith, h.version)) (number_plain v.visible [] (omega (arith, h.visible)) refl);
+  told = refl;
+}
+
+-- ---- packets
+
+digit_plain : (c v : ℕ) → hex_digit_value c ≡ Some v → plain c ≡ true
+digit_plain c v h = elim (cases_lt c 32) [
+  | inl low ↦
+      let f : leb 65 c ≡ false = grind (arith, nat_tests, low) in
+      let g : leb 97 c ≡ false = grind (arith, nat_tests, low) in
+      let k : leb 48 c ≡ false = grind (arith, nat_tests, low) in
+      absurd (none-some v (rw (f, g, k) at h))
+  | inr high ↦ le-leb 32 c high
+]
+
+encoded_plain : (bytes : List ℕ) → IsBytes bytes → list_all plain (encode_lower bytes) ≡ true
+unfolding encode_with
+encoded_plain [] h = refl
+encoded_plain (b ∷ bytes) h =
+    let small = h 0 in
+    let first = digit_plain (slice_index lower_digits (b / 16)) (b / 16) (IsDigits-lower_digits (b / 16) (omega arith)) in
+    let second = digit_plain (slice_index lower_digits (b % 16)) (b % 16) (IsDigits-lower_digits (b % 16) (omega arith)) in
+    let rest = encoded_plain bytes (λ i. h (suc i)) in
+    rw (first, second) rest
+
+body_plain : (bytes : List ℕ) → IsBytes bytes → list_all plain (body_text bytes) ≡ true
+body_plain [] h = refl
+body_plain (b ∷ bytes) h = encoded_plain (b ∷ bytes) h
+
+verdict_plain : (v : Verdict) → IsVerdict v → list_all plain (verdict_with v) ≡ true
+verdict_plain Drop h = refl
+verdict_plain (Send port bytes) h = number_plain port (codes " " ++ body_text bytes) (omega (arith, h.0)) (body_plain bytes h.1)
+
+released_plain : (r : ℕ) (v : Verdict) → r < 2 ^ 32 → IsVerdict v → list_all plain (released_with r v) ≡ true
+released_plain r v small h = number_plain r (verdict_with v) (omega arith) (verdict_plain v h)
+
+stamps_plain : (a d v : ℕ) (rest : List ℕ) → a < 2 ^ 32 → d < 2 ^ 32 → v < 2 ^ 32 → list_all plain rest ≡ true → list_all plain (stamps_with (stamps_of a d v) rest) ≡ true
+stamps_plain a d v rest ha hd hv h =
+    number_plain a _ (omega arith) (number_plain d _ (omega arith) (number_plain v rest (omega arith) h))
+
+path_plain : (f : Fate) → IsFate f → list_all plain (path_with f) ≡ true
+path_plain (Up a) h = number_plain a [] (omega arith) refl
+path_plain (Held a d v) h = stamps_plain a d v (codes " held") h.0 h.1 h.2 refl
+path_plain (Slow a d v r y) h = stamps_plain a d v (released_with r y) h.0 h.1 h.2 (released_plain r y h.3 h.4)
+path_plain (Fast a d v r y) h = stamps_plain a d v (released_with r y) h.0 h.1 h.2 (released_plain r y h.3 h.4)
+
+pub fate_plain : (n : ℕ) (f : Fate) → n < 2 ^ 32 → IsFate f → IsTold (fate_told n f)
+fate_plain n f small h = record { whole = number_plain n (path_with f) (omega arith) (path_plain f h); told = refl }
+
+-- ---- the order, parts and rows
+
+spaced_plain : (ns : List ℕ) → AllByRecursion (λ n. n < 2 ^ 64) ns → list_all plain (spaced ns) ≡ true
+spaced_plain [] h = refl
+spaced_plain (n ∷ ns) h = number_plain n (spaced ns) h.0 (spaced_plain ns h.1)
+
+pub order_plain : (order : List ℕ) → AllByRecursion (λ n. n < 2 ^ 64) order → IsTold (order_told order)
+order_plain [] h = record { whole = refl; told = refl }
+order_plain (n ∷ ns) h = record { whole = spaced_plain (n ∷ ns) h; told = refl }
+
+name_plain : (name : List ℕ) → is_plain name ≡ true → list_all plain name ≡ true
+name_plain [] h = refl
+name_plain (b ∷ bs) h = let hp = and_parts (ltb 32 b) (is_plain bs) h in let rest = name_plain bs hp.1 in grind (arith, nat_tests, rest, hp.0)
+
+pub object_plain : (name : List ℕ) (count : ℕ) → is_plain name ≡ true → count < 2 ^ 32 → IsTold (part_told (codes "object ") name count)
+object_plain name count h small = record {
+  whole = both plain name _ (name_plain name h) (number_plain count [] (omega arith) refl);
+  told = refl;
+}
+
+pub switch_plain : (name : List ℕ) (count : ℕ) → is_plain name ≡ true → count < 2 ^ 32 → IsTold (part_told (codes "switch ") name count)
+switch_plain name count h small = record {
+  whole = both plain name _ (name_plain name h) (number_plain count [] (omega arith) refl);
+  told = refl;
+}
+
+keys_plain : (ns rest : List ℕ) → AllByRecursion (λ n. n < 2 ^ 64) ns → list_all plain rest ≡ true → list_all plain (key_text ns ++ rest) ≡ true
+keys_plain [] rest h k = k
+keys_plain (n ∷ ns) rest h k = rw (append_assoc (decimal n) (codes " " ++ key_text ns) rest) (number_plain n (codes " " ++ (key_text ns ++ rest)) h.0 (keys_plain ns rest h.1 k))
+
+keys_said : (ns rest : List ℕ) → AllByRecursion (λ n. n < 2 ^ 64) ns → is_skipped (key_text ns ++ (codes "->" ++ rest)) ≡ false
+keys_said [] rest h = refl
+keys_said (n ∷ ns) rest h =
+    rw (append_assoc (decimal n) (codes " " ++ key_text ns) (codes "->" ++ rest)) (digits_told (decimal n) (codes " " ++ (key_text ns ++ (codes "->" ++ rest))) (decimal_nonempty n h.0) (decimal_digits n h.0))
+
+pub row_plain : (row : Row) → AllByRecursion (λ n. n < 2 ^ 64) row.keys → AllByRecursion (λ n. n < 2 ^ 64) row.values → IsTold (row_told row)
+row_plain row hk hv = record {
+  whole = keys_plain row.keys (codes "->" ++ spaced row.values) hk (spaced_plain row.values hv);
+  told = keys_said row.keys (spaced row.values) hk;
+}

@@ -1,0 +1,339 @@
+-- What was read is in the form, and prints as the lines that were read.
+use Rattle.std.proofs.Common.{◌≡◌, ℕ, zero, suc, ◌+◌, ◌*◌, ◌-◌, ◌^◌, ◌≤◌, ◌<◌, ◌⊎◌, inl, inr, Bool, true, false, not, ◌&&◌, ◌||◌, cond, eqb, leb, ltb, List, [], ◌∷◌, ◌++◌, length, take, drop, map, Option, Some, None, refl, sym, ap, ◌∙◌, subst, arith, append_assoc, length-append}
+use Rattle.std.specs.Prelude.{IsTrue, codes, slice_get, slice_index}
+use Rattle.std.specs.Str.{bytes_eq}
+use Rattle.std.specs.List.{AllByRecursion, list_all}
+use Rattle.std.specs.Ordering.{is_lt}
+use Rattle.std.specs.declared.cmp.Ordering.{Ordering}
+use Rattle.std.specs.declared.cmp.Ordering.TheVariants.{Less, Equal, Greater}
+use Rattle.std.proofs.lemmas.Bool.{and_parts}
+use Rattle.std.proofs.lemmas.List.{append-nil}
+use Rattle.std.proofs.lemmas.Bool.Decides.{nat_tests}
+use Rattle.state_store.specs.declared.object.ObjectDecl.{ObjectDecl}
+use Rattle.state_store.specs.declared.object.Row.{Row}
+use Rattle.state_store.specs.Kinds.{is_table}
+use Rattle.state_store.specs.Kept.{have_widths}
+use Rattle.state_store.specs.Store.{key_cmp}
+use Rattle.run_text.specs.declared.fate.Fate.{Fate}
+use Rattle.run_text.specs.declared.run.Part.{Part}
+use Rattle.run_text.specs.declared.run.Run.{Run}
+use Rattle.run_text.specs.Report.{name_in}
+use Rattle.run_text.specs.Trace.{largest}
+use Rattle.report_text.specs.declared.head.Counts.{Counts}
+use Rattle.report_text.specs.declared.head.EventCounts.{EventCounts}
+use Rattle.report_text.specs.declared.head.Versions.{Versions}
+use Rattle.report_text.specs.declared.stage.Side.{Side}
+use Rattle.report_text.specs.declared.stage.Side.TheVariants.{OnServer, OnSwitch}
+use Rattle.report_text.specs.declared.stage.Stage.{Stage}
+use Rattle.report_text.specs.declared.stage.Stage.TheVariants.{Title, Packets, Events, Version, Drained, Fates, Server, Switch, Table, Ended}
+use Rattle.report_text.specs.Form.{AreInOrder, AreRising, InForm, IsBelow, IsFate, IsPart, IsRowOf, IsSmall, are_widths, kept_from}
+use Rattle.report_text.specs.Parse.{◌>>=◌, counts_of, events_of, versions_of, fate_of, order_of, row_of, count_of}
+use Rattle.report_text.specs.Machine.{State, at_start, closed_by, count_by, counts_read, drained_read, ended, events_read, fate_read, has_keys, is_after, is_behind, keys_above, next_from, order_read, packet_read, part_opened, row_put, row_read, run_of, server_by, server_opened, server_read, shown_from, shown_opened, step, step_at, switch_read, then_put, title_read, versions_read, with_left}
+use Rattle.report_text.proofs.Pieces.{are_same, bound, some_is}
+use Rattle.report_text.proofs.HeadLines.{AreCounts, AreEvents, AreVersions, counts_is, counts_text, events_is, events_text, versions_is, versions_text}
+use Rattle.report_text.proofs.FateLines.{fate_is, fate_told}
+use Rattle.report_text.proofs.PartLines.{AreBelow, count_is, order_is, order_told, part_told}
+use Rattle.report_text.proofs.RowLines.{row_is, row_told}
+use Rattle.report_text.proofs.Told.{drained_text, fates_told, head_told, name_of, parts_told, report_told}
+use Rattle.report_text.proofs.Declared.{AreKnown, IsKnown, IsNext, next_is, next_none, drop_got, drop_next}
+
+-- ---- one more at the end
+
+pub all_more : {X : Type 0} (P : X → Type 0) (xs : List X) (x : X) → AllByRecursion P xs → P x → AllByRecursion P (xs ++ x ∷ [])
+all_more P [] x h p = (p, tt)
+all_more P (y ∷ ys) x h p = (h.0, all_more P ys x h.1 p)
+
+pub fates_more : (n : ℕ) (fs : List Fate) (f : Fate) → fates_told n (fs ++ f ∷ []) ≡ fates_told n fs ++ fate_told (n + length fs) f ∷ []
+fates_more n [] f = let e : n ≡ n + 0 = omega arith in ap (λ m. fate_told m f ∷ []) e
+fates_more n (g ∷ fs) f =
+    let e : suc n + length fs ≡ n + suc (length fs) = omega arith in
+    ap (λ l. fate_told n g ∷ l) (fates_more (suc n) fs f ∙ ap (λ m. fates_told (suc n) fs ++ fate_told m f ∷ []) e)
+
+parts_more : (word : List ℕ) (declared : List ObjectDecl) (ps : List Part) (p : Part) → parts_told word declared (ps ++ p ∷ []) ≡ parts_told word declared ps ++ (part_told word (name_of declared p.object) (length p.rows) ∷ map row_told p.rows)
+parts_more word declared [] p = ap (λ l. part_told word (name_of declared p.object) (length p.rows) ∷ l) (append-nil (map row_told p.rows))
+parts_more word declared (q ∷ ps) p =
+    ap (λ l. part_told word (name_of declared q.object) (length q.rows) ∷ l)
+    (ap (λ l. map row_told q.rows ++ l) (parts_more word declared ps p)
+    ∙ sym (append_assoc (map row_told q.rows) (parts_told word declared ps) (part_told word (name_of declared p.object) (length p.rows) ∷ map row_told p.rows)))
+
+pub rows_more : (rows : List Row) (row : Row) → map row_told (rows ++ row ∷ []) ≡ map row_told rows ++ row_told row ∷ []
+rows_more [] row = refl
+rows_more (r ∷ rows) row = ap (λ l. row_told r ∷ l) (rows_more rows row)
+
+pub numbers_more : (ps : List Part) (p : Part) → map (λ (q : Part). q.object) (ps ++ p ∷ []) ≡ map (λ (q : Part). q.object) ps ++ p.object ∷ []
+numbers_more [] p = refl
+numbers_more (q ∷ ps) p = ap (λ l. q.object ∷ l) (numbers_more ps p)
+
+-- ---- rising rows
+
+-- the last of these has a lower key
+is_behind_by : (o : Ordering) → is_lt o ≡ true → o ≡ Less
+is_behind_by Less h = refl
+is_behind_by Equal h = cc h
+is_behind_by Greater h = cc h
+
+after_tail : (row x : Row) (xs : List Row) (key : List ℕ) → is_after (row ∷ (x ∷ xs)) key ≡ is_after (x ∷ xs) key
+after_tail row x xs key =
+    let e : length (row ∷ (x ∷ xs)) - 1 ≡ suc (length (x ∷ xs) - 1) = omega arith in
+    ap (λ i. is_behind (slice_get (row ∷ (x ∷ xs)) i) key) e
+
+below_more : (rows : List Row) (row next : Row) → is_after (row ∷ rows) next.keys ≡ true → AreRising (row ∷ rows) → AreRising ((row ∷ rows) ++ next ∷ [])
+below_more [] row next h r = (is_behind_by (key_cmp row.keys next.keys) h, (tt, tt))
+below_more (x ∷ xs) row next h r = (r.0, below_more xs x next (sym (after_tail row x xs next.keys) ∙ h) r.1)
+
+pub rising_more : (rows : List Row) (next : Row) → is_after rows next.keys ≡ true → AreRising rows → AreRising (rows ++ next ∷ [])
+rising_more [] next h r = (tt, tt)
+rising_more (row ∷ rows) next h r = below_more rows row next h r
+
+-- ---- parts in order
+
+-- the numbers of their objects rise, from one on and up to another
+abbrev pub AreWithin : ℕ → List Part → ℕ → Type 0
+AreWithin low [] high = low ≤ high
+AreWithin low (p ∷ ps) high = (low ≤ p.object) × AreWithin (suc p.object) ps high
+
+within_more : (low : ℕ) (ps : List Part) (high : ℕ) (p : Part) → AreWithin low ps high → high ≤ p.object → AreWithin low (ps ++ p ∷ []) (p.object + 1)
+within_more low [] high p h later = (omega arith, omega arith)
+within_more low (q ∷ ps) high p h later = (h.0, within_more (suc q.object) ps high p h.1 later)
+
+pub in_order : (low : ℕ) (ps : List Part) (high : ℕ) → AreWithin low ps high → AreInOrder low ps
+in_order low [] high h = tt
+in_order low (p ∷ ps) high h = (h.0, in_order (suc p.object) ps high h.1)
+
+pub within_later : (low : ℕ) (ps : List Part) (high later : ℕ) → AreWithin low ps high → high ≤ later → AreWithin low ps later
+within_later low [] high later h k = omega arith
+within_later low (p ∷ ps) high later h k = (h.0, within_later (suc p.object) ps high later h.1 k)
+
+-- ---- what holds at a stage
+
+abbrev pub numbers_of : List Part → List ℕ
+numbers_of ps = map (λ (p : Part). p.object) ps
+
+-- nothing of the lines behind the first ones was read
+pub record IsFresh (s : State) : Type 0 where
+  pub fates : s.fates ≡ []
+  pub server : s.server ≡ []
+  pub switch : s.switch ≡ []
+  pub rows : s.rows ≡ []
+
+pub record IsNew (s : State) : Type 0 where
+  pub server : s.server ≡ []
+  pub switch : s.switch ≡ []
+  pub rows : s.rows ≡ []
+
+-- packets can be named on the order line, if any are to be
+abbrev pub CanOrder : Counts → Type 0
+CanOrder c = 0 < c.decided → 0 < c.admitted
+
+-- the lines up to the order line were read
+pub record IsOrdered (declared : List ObjectDecl) (s : State) : Type 0 where
+  pub counts : AreCounts s.counts
+  pub events : AreEvents s.events
+  pub versions : AreVersions s.versions
+  pub fates : AllByRecursion IsFate s.fates
+  pub admitted : length s.fates ≡ s.counts.admitted
+  pub decided : length s.order ≡ s.counts.decided
+  pub order : AreBelow s.counts.admitted s.order
+  pub server : AllByRecursion (IsPart declared) s.server
+  pub switch : AllByRecursion (IsPart declared) s.switch
+
+-- the rows of a part so far, of an object, where so many are to come behind the next one
+pub record IsPartly (declared : List ObjectDecl) (rows : List Row) (number behind : ℕ) : Type 0 where
+  pub object : ObjectDecl
+  pub is : slice_get declared number ≡ Some object
+  pub kind : is_table object.kind ≡ false
+  pub few : length rows + suc behind < 2 ^ 32
+  pub fit : AllByRecursion (IsRowOf object) rows
+  pub rising : AreRising rows
+
+pub keys_suc : (n : ℕ) (ws : List ℕ) → has_keys (suc n) ws ≡ leb n (keys_above 0 ws [])
+keys_suc n ws =
+    let less : suc n - 1 ≡ n = omega arith in
+    let some : eqb (suc n) 0 ≡ false = grind (arith, nat_tests) in
+    rw (some, less) refl
+
+-- the last of these rows leaves keys for so many behind the next one
+abbrev pub HasRoom : ObjectDecl → ℕ → Option Row → Type 0
+HasRoom object behind None = behind ≤ keys_above 0 object.keys []
+HasRoom object behind (Some row) = suc behind ≤ keys_above 0 object.keys row.keys
+
+abbrev pub last_of : List Row → Option Row
+last_of rows = slice_get rows (length rows - 1)
+
+got_last : (rows : List Row) (row : Row) → slice_get (rows ++ row ∷ []) (length rows) ≡ Some row
+got_last [] row = refl
+got_last (r ∷ rows) row = got_last rows row
+
+pub last_more : (rows : List Row) (row : Row) → last_of (rows ++ row ∷ []) ≡ Some row
+last_more rows row =
+    let e : length (rows ++ row ∷ []) - 1 ≡ length rows = omega (arith, length-append rows (row ∷ [])) in
+    ap (slice_get (rows ++ row ∷ [])) e ∙ got_last rows row
+
+abbrev pub Before : List ObjectDecl → State → ℕ → Side → Type 0
+Before declared s m OnServer = (s.switch ≡ []) × (numbers_of s.server ++ (m ∷ kept_from (suc m) (drop (suc m) declared)) ≡ kept_from 0 declared)
+Before declared s m OnSwitch = (numbers_of s.server ≡ kept_from 0 declared) × AreWithin 0 s.switch m
+
+pub record IsHead (declared : List ObjectDecl) (s : State) : Type 0 where
+  pub fresh : IsFresh s
+  pub counts : AreCounts s.counts
+  pub can : CanOrder s.counts
+
+abbrev pub Stands : List ObjectDecl → State → Stage → Type 0
+Stands declared s Title = IsFresh s
+Stands declared s Packets = IsFresh s
+Stands declared s Events = IsHead declared s
+Stands declared s Version = IsHead declared s × AreEvents s.events
+Stands declared s Drained = IsHead declared s × AreEvents s.events × AreVersions s.versions
+Stands declared s Fates =
+    IsNew s × AreCounts s.counts × CanOrder s.counts × AreEvents s.events × AreVersions s.versions
+    × AllByRecursion IsFate s.fates × (length s.fates ≤ s.counts.admitted)
+Stands declared s (Server n) =
+    IsOrdered declared s × (s.rows ≡ []) × (s.switch ≡ []) × (numbers_of s.server ++ kept_from n (drop n declared) ≡ kept_from 0 declared)
+Stands declared s (Switch n) =
+    IsOrdered declared s × (s.rows ≡ []) × (numbers_of s.server ≡ kept_from 0 declared) × AreWithin 0 s.switch n
+Stands declared s (Table side m behind) =
+    IsOrdered declared s × Before declared s m side × ((p : IsPartly declared s.rows m behind) × HasRoom p.object behind (last_of s.rows))
+Stands declared s Ended =
+    IsOrdered declared s × (numbers_of s.server ≡ kept_from 0 declared) × AreInOrder 0 s.switch
+
+-- ---- the lines that were read
+
+-- the lines up to the order line, and these
+abbrev pub front : State → List (List ℕ) → List (List ℕ)
+front s ls = head_told s.counts s.events s.versions s.drained ++ (fates_told 0 s.fates ++ (order_told s.order ∷ ls))
+
+pub front_on : (s : State) (xs ys : List (List ℕ)) → front s (xs ++ ys) ≡ front s xs ++ ys
+front_on s xs ys =
+    let head = head_told s.counts s.events s.versions s.drained in
+    ap (λ l. head ++ l) (sym (append_assoc (fates_told 0 s.fates) (order_told s.order ∷ xs) ys)) ∙ sym (append_assoc head (fates_told 0 s.fates ++ (order_told s.order ∷ xs)) ys)
+
+abbrev pub word_of : Side → List ℕ
+word_of OnServer = codes "object "
+word_of OnSwitch = codes "switch "
+
+abbrev pub base : List ObjectDecl → State → Side → List (List ℕ)
+base declared s OnServer = parts_told (codes "object ") declared s.server
+base declared s OnSwitch = parts_told (codes "object ") declared s.server ++ parts_told (codes "switch ") declared s.switch
+
+-- with a part that is to have so many rows
+abbrev pub with_part : List ObjectDecl → State → Side → ℕ → ℕ → List (List ℕ)
+with_part declared s side m total = front s (base declared s side ++ (part_told (word_of side) (name_of declared m) total ∷ map row_told s.rows))
+
+abbrev pub told : List ObjectDecl → State → Stage → List (List ℕ)
+told declared s Title = []
+told declared s Packets = codes "report 1" ∷ []
+told declared s Events = codes "report 1" ∷ (counts_text s.counts ∷ [])
+told declared s Version = codes "report 1" ∷ (counts_text s.counts ∷ (events_text s.events ∷ []))
+told declared s Drained = codes "report 1" ∷ (counts_text s.counts ∷ (events_text s.events ∷ (versions_text s.versions ∷ [])))
+told declared s Fates = head_told s.counts s.events s.versions s.drained ++ fates_told 0 s.fates
+told declared s (Server n) = front s (base declared s OnServer)
+told declared s (Switch n) = front s (base declared s OnSwitch)
+told declared s (Table side m behind) = with_part declared s side m (length s.rows + suc behind)
+told declared s Ended = front s (base declared s OnSwitch ++ (codes "end" ∷ []))
+
+pub record Goes (declared : List ObjectDecl) (lines : List (List ℕ)) (t : State) : Type 0 where
+  pub stands : Stands declared t t.stage
+  pub told : told declared t t.stage ≡ lines
+
+-- ---- a part is closed, or its rows go on
+
+pub record IsRead (declared : List ObjectDecl) (s : State) (m left : ℕ) (object : ObjectDecl) : Type 0 where
+  pub ordered : IsOrdered declared s
+  pub is : slice_get declared m ≡ Some object
+  pub kind : is_table object.kind ≡ false
+  pub few : length s.rows + left < 2 ^ 32
+  pub fit : AllByRecursion (IsRowOf object) s.rows
+  pub rising : AreRising s.rows
+
+abbrev part_of : State → ℕ → Part
+part_of s m = record { object = m; rows = s.rows }
+
+part_made : (declared : List ObjectDecl) (s : State) (m : ℕ) (o : ObjectDecl) → IsRead declared s m 0 o → IsPart declared (part_of s m)
+part_made declared s m o r = record { object = o; is = r.is; kind = r.kind; few = omega (arith, r.few); rows = r.fit; rising = r.rising }
+
+closed_server : (declared : List ObjectDecl) (s : State) (m : ℕ) (o : ObjectDecl) → IsRead declared s m 0 o → Before declared s m OnServer
+    → Goes declared (with_part declared s OnServer m (length s.rows + 0)) (closed_by OnServer (part_of s m) s)
+closed_server declared s m o r b =
+    let same : length s.rows + 0 ≡ length s.rows = omega arith in
+    let next : m + 1 ≡ suc m = omega arith in
+    record {
+      stands = (
+        record {
+          counts = r.ordered.counts;
+          events = r.ordered.events;
+          versions = r.ordered.versions;
+          fates = r.ordered.fates;
+          admitted = r.ordered.admitted;
+          decided = r.ordered.decided;
+          order = r.ordered.order;
+          switch = r.ordered.switch;
+          server = all_more (IsPart declared) s.server (part_of s m) r.ordered.server (part_made declared s m o r);
+        },
+        refl,
+        b.0,
+        ap (λ l. l ++ kept_from (m + 1) (drop (m + 1) declared)) (numbers_more s.server (part_of s m))
+            ∙ append_assoc (numbers_of s.server) (m ∷ []) (kept_from (m + 1) (drop (m + 1) declared))
+            ∙ ap (λ k. numbers_of s.server ++ (m ∷ kept_from k (drop k declared))) next ∙ b.1,
+      );
+      told = ap (front s) (parts_more (codes "object ") declared s.server (part_of s m))
+          ∙ ap (λ k. front s (parts_told (codes "object ") declared s.server ++ (part_told (codes "object ") (name_of declared m) k ∷ map row_told s.rows))) (sym same);
+    }
+
+closed_switch : (declared : List ObjectDecl) (s : State) (m : ℕ) (o : ObjectDecl) → IsRead declared s m 0 o → Before declared s m OnSwitch
+    → Goes declared (with_part declared s OnSwitch m (length s.rows + 0)) (closed_by OnSwitch (part_of s m) s)
+closed_switch declared s m o r b =
+    let same : length s.rows + 0 ≡ length s.rows = omega arith in
+    let objects = parts_told (codes "object ") declared s.server in
+    let shown = parts_told (codes "switch ") declared s.switch in
+    record {
+      stands = (
+        record {
+          counts = r.ordered.counts;
+          events = r.ordered.events;
+          versions = r.ordered.versions;
+          fates = r.ordered.fates;
+          admitted = r.ordered.admitted;
+          decided = r.ordered.decided;
+          order = r.ordered.order;
+          server = r.ordered.server;
+          switch = all_more (IsPart declared) s.switch (part_of s m) r.ordered.switch (part_made declared s m o r);
+        },
+        refl,
+        b.0,
+        within_more 0 s.switch m (part_of s m) b.1 (omega arith),
+      );
+      told = ap (λ l. front s (objects ++ l)) (parts_more (codes "switch ") declared s.switch (part_of s m))
+          ∙ ap (front s) (sym (append_assoc objects shown (part_told (codes "switch ") (name_of declared m) (length s.rows) ∷ map row_told s.rows)))
+          ∙ ap (λ k. front s ((objects ++ shown) ++ (part_told (codes "switch ") (name_of declared m) k ∷ map row_told s.rows))) (sym same);
+    }
+
+abbrev pub IsLeft : ObjectDecl → State → ℕ → Type 0
+IsLeft o s zero = Unit {0}
+IsLeft o s (suc behind) = HasRoom o behind (last_of s.rows)
+
+-- what is awaited is no matter
+at_stage : (declared : List ObjectDecl) (s : State) (st : Stage) → IsOrdered declared s → IsOrdered declared (record s { stage = st })
+at_stage declared s st o = record {
+  counts = o.counts;
+  events = o.events;
+  versions = o.versions;
+  fates = o.fates;
+  admitted = o.admitted;
+  decided = o.decided;
+  order = o.order;
+  server = o.server;
+  switch = o.switch;
+}
+
+pub left_read : (declared : List ObjectDecl) (side : Side) (s : State) (m left : ℕ) (o : ObjectDecl) → IsRead declared s m left o → Before declared s m side → IsLeft o s left
+    → Goes declared (with_part declared s side m (length s.rows + left)) (with_left side m left s)
+left_read declared OnServer s m zero o r b h = closed_server declared s m o r b
+left_read declared OnSwitch s m zero o r b h = closed_switch declared s m o r b
+left_read declared OnServer s m (suc behind) o r b h = record {
+  stands = (at_stage declared s (Table OnServer m behind) r.ordered, b, (record { object = o; is = r.is; kind = r.kind; few = r.few; fit = r.fit; rising = r.rising }, h));
+  told = refl;
+}
+left_read declared OnSwitch s m (suc behind) o r b h = record {
+  stands = (at_stage declared s (Table OnSwitch m behind) r.ordered, b, (record { object = o; is = r.is; kind = r.kind; few = r.few; fit = r.fit; rising = r.rising }, h));
+  told = refl;
+}

@@ -1,0 +1,141 @@
+-- The lines of a printed report.
+use Rattle.std.proofs.Common.{◌≡◌, ℕ, zero, suc, ◌+◌, ◌-◌, ◌^◌, ◌≤◌, ◌<◌, Bool, true, false, not, ◌&&◌, cond, eqb, leb, ltb, List, [], ◌∷◌, ◌++◌, length, take, map, get_or, Option, Some, None, refl, sym, ap, ◌∙◌, subst, arith, append_assoc, inl, inr}
+use Rattle.std.specs.Prelude.{codes, slice_get, slice_index, ◌/◌, ◌%◌}
+use Rattle.std.specs.Fmt.{decimal}
+use Rattle.std.specs.Str.{all_ascii_digits}
+use Rattle.std.specs.List.{AllByRecursion, list_all, onto_first}
+use Rattle.std.proofs.lemmas.Bool.{and_parts, cases_lt, le-leb, leb-true}
+use Rattle.std.proofs.lemmas.Bool.Decides.{nat_tests}
+use Rattle.std.proofs.lemmas.Option.{none-some}
+use Rattle.std.proofs.lemmas.Fmt.{decimal_nonempty}
+use Rattle.hex.specs.Hex.{IsBytes, encode_lower, encode_with, hex_digit_value, lower_digits}
+use Rattle.hex.proofs.HexLemmas.{IsDigits-lower_digits}
+use Rattle.gal_io.specs.Lines.{fed_lines, lines, without_return, is_skipped}
+use Rattle.gal_io.specs.Number.{spaced}
+use Rattle.packet_fields.specs.declared.verdict.Verdict.{Verdict}
+use Rattle.packet_fields.specs.declared.verdict.Verdict.TheVariants.{Drop, Send}
+use Rattle.state_store.specs.declared.object.ObjectDecl.{ObjectDecl}
+use Rattle.state_store.specs.declared.object.Row.{Row}
+use Rattle.run_text.specs.declared.fate.Fate.{Fate}
+use Rattle.run_text.specs.declared.fate.Fate.TheVariants.{Up, Held, Slow, Fast}
+use Rattle.run_text.specs.declared.run.Part.{Part}
+use Rattle.run_text.specs.declared.run.Run.{Run}
+use Rattle.run_text.specs.Printed.{lined}
+use Rattle.run_text.specs.Report.{body_text, drained_line, events_line, fate_line, fate_lines, fate_text, key_text, line_end, name_in, order_line, order_text, packets_line, part_line, part_lines, report_of, row_line, row_lines, tables_text, version_line}
+use Rattle.report_text.specs.declared.head.Counts.{Counts}
+use Rattle.report_text.specs.declared.head.EventCounts.{EventCounts}
+use Rattle.report_text.specs.declared.head.Versions.{Versions}
+use Rattle.report_text.proofs.HeadLines.{counts_text, events_text, versions_text}
+use Rattle.report_text.proofs.FateLines.{fate_told, path_with, released_with, stamps_of, stamps_with, verdict_with}
+use Rattle.report_text.proofs.PartLines.{order_told, part_told}
+use Rattle.report_text.proofs.RowLines.{row_told}
+
+abbrev pub drained_text : Bool → List ℕ
+drained_text true = codes "drained yes"
+drained_text false = codes "drained no"
+
+abbrev pub fates_told : ℕ → List Fate → List (List ℕ)
+fates_told n [] = []
+fates_told n (f ∷ fs) = fate_told n f ∷ fates_told (suc n) fs
+
+abbrev pub name_of : List ObjectDecl → ℕ → List ℕ
+name_of declared n = name_in (slice_get declared n)
+
+abbrev pub parts_told : List ℕ → List ObjectDecl → List Part → List (List ℕ)
+parts_told word declared [] = []
+parts_told word declared (p ∷ ps) = part_told word (name_of declared p.object) (length p.rows) ∷ (map row_told p.rows ++ parts_told word declared ps)
+
+abbrev pub head_told : Counts → EventCounts → Versions → Bool → List (List ℕ)
+head_told c e v d = codes "report 1" ∷ (counts_text c ∷ (events_text e ∷ (versions_text v ∷ (drained_text d ∷ []))))
+
+abbrev pub counts_in : Run → Counts
+counts_in run = record { total = run.total; admitted = length run.fates; decided = run.decided; released = run.released }
+
+abbrev pub events_in : Run → EventCounts
+events_in run = record { events = run.events; idle = run.idle }
+
+abbrev pub versions_in : Run → Versions
+versions_in run = record { version = run.version; visible = run.visible }
+
+-- the lines of a report
+abbrev pub report_told : List ObjectDecl → Run → List (List ℕ)
+report_told declared run =
+    head_told (counts_in run) (events_in run) (versions_in run) run.drained
+    ++ (fates_told 0 run.fates ++ (order_told run.order ∷ (parts_told (codes "object ") declared run.objects
+    ++ (parts_told (codes "switch ") declared run.switch ++ (codes "end" ∷ [])))))
+
+-- ---- the printed text is these lines, each with its end
+
+lined_both : (xs ys : List (List ℕ)) → lined (xs ++ ys) ≡ lined xs ++ lined ys
+lined_both [] ys = refl
+lined_both (x ∷ xs) ys = ap (λ l. x ++ (10 ∷ l)) (lined_both xs ys) ∙ sym (append_assoc x (10 ∷ lined xs) (lined ys))
+
+path_line : (f : Fate) (rest : List ℕ) → path_with f ++ (10 ∷ rest) ≡ codes " " ++ ((fate_text f ++ line_end) ++ rest)
+path_line (Up a) rest = simp append_assoc refl
+path_line (Held a d v) rest = simp append_assoc refl
+path_line (Slow a d v r Drop) rest = simp append_assoc refl
+path_line (Slow a d v r (Send p b)) rest = simp append_assoc refl
+path_line (Fast a d v r Drop) rest = simp append_assoc refl
+path_line (Fast a d v r (Send p b)) rest = simp append_assoc refl
+
+fate_both : (n : ℕ) (f : Fate) (rest : List ℕ) → fate_told n f ++ (10 ∷ rest) ≡ fate_line n f ++ rest
+fate_both n f rest = simp append_assoc (ap (λ l. codes "packet " ++ (decimal n ++ l)) (path_line f rest ∙ simp append_assoc refl))
+
+fates_both : (n : ℕ) (fs : List Fate) → lined (fates_told n fs) ≡ fate_lines n fs
+fates_both n [] = refl
+fates_both n (f ∷ fs) = ap (λ l. fate_told n f ++ (10 ∷ l)) (fates_both (suc n) fs) ∙ fate_both n f (fate_lines (suc n) fs)
+
+rows_both : (rows : List Row) → lined (map row_told rows) ≡ row_lines rows
+rows_both [] = refl
+rows_both (row ∷ rows) = ap (λ l. row_told row ++ (10 ∷ l)) (rows_both rows) ∙ simp append_assoc refl
+
+parts_both : (word said : List ℕ) (declared : List ObjectDecl) (ps : List Part) → ((x : List ℕ) → said ++ x ≡ word ++ (codes " " ++ x)) → lined (parts_told said declared ps) ≡ part_lines word declared ps
+parts_both word said declared [] h = refl
+parts_both word said declared (p ∷ ps) h =
+    let name = name_of declared p.object in
+    let more = parts_both word said declared ps h in
+    let inner : lined (map row_told p.rows ++ parts_told said declared ps) ≡ row_lines p.rows ++ part_lines word declared ps =
+    lined_both (map row_told p.rows) (parts_told said declared ps) ∙ ap (λ l. l ++ lined (parts_told said declared ps)) (rows_both p.rows) ∙ ap (λ l. row_lines p.rows ++ l) more in
+    ap (λ l. part_told said name (length p.rows) ++ (10 ∷ l)) inner
+    ∙ append_assoc said (name ++ (codes " " ++ (decimal (length p.rows) ++ []))) (10 ∷ (row_lines p.rows ++ part_lines word declared ps))
+    ∙ h ((name ++ (codes " " ++ (decimal (length p.rows) ++ []))) ++ (10 ∷ (row_lines p.rows ++ part_lines word declared ps)))
+    ∙ simp append_assoc refl
+
+drained_both : (d : Bool) (rest : List ℕ) → drained_text d ++ (10 ∷ rest) ≡ drained_line d ++ rest
+drained_both true rest = refl
+drained_both false rest = refl
+
+order_both : (order rest : List ℕ) → order_told order ++ (10 ∷ rest) ≡ order_line order ++ rest
+order_both order rest = simp append_assoc refl
+
+tail_both : (declared : List ObjectDecl) (run : Run) → lined (parts_told (codes "object ") declared run.objects ++ (parts_told (codes "switch ") declared run.switch ++ (codes "end" ∷ []))) ≡ tables_text declared run ++ (codes "end" ++ line_end)
+tail_both declared run =
+    let objects = parts_told (codes "object ") declared run.objects in
+    let shown = parts_told (codes "switch ") declared run.switch in
+    lined_both objects (shown ++ (codes "end" ∷ []))
+    ∙ ap (λ l. lined objects ++ l) (lined_both shown (codes "end" ∷ []))
+    ∙ ap (λ l. l ++ (lined shown ++ (codes "end" ++ line_end))) (parts_both (codes "object") (codes "object ") declared run.objects (λ x. refl))
+    ∙ ap (λ l. part_lines (codes "object") declared run.objects ++ (l ++ (codes "end" ++ line_end))) (parts_both (codes "switch") (codes "switch ") declared run.switch (λ x. refl))
+    ∙ sym (append_assoc (part_lines (codes "object") declared run.objects) (part_lines (codes "switch") declared run.switch) (codes "end" ++ line_end))
+
+pub report_both : (declared : List ObjectDecl) (run : Run) → lined (report_told declared run) ≡ report_of declared run
+report_both declared run =
+    let c = counts_in run in
+    let e = events_in run in
+    let v = versions_in run in
+    let parts = parts_told (codes "object ") declared run.objects ++ (parts_told (codes "switch ") declared run.switch ++ (codes "end" ∷ [])) in
+    let t1 = tables_text declared run ++ (codes "end" ++ line_end) in
+    let t2 = order_line run.order ++ t1 in
+    let t3 = fate_lines 0 run.fates ++ t2 in
+    let t4 = drained_line run.drained ++ t3 in
+    let e1 : lined (order_told run.order ∷ parts) ≡ t2 = ap (λ l. order_told run.order ++ (10 ∷ l)) (tail_both declared run) ∙ order_both run.order t1 in
+    let e2 : lined (fates_told 0 run.fates ++ (order_told run.order ∷ parts)) ≡ t3 =
+    lined_both (fates_told 0 run.fates) (order_told run.order ∷ parts) ∙ ap (λ l. l ++ lined (order_told run.order ∷ parts)) (fates_both 0 run.fates) ∙ ap (λ l. fate_lines 0 run.fates ++ l) e1 in
+    let e3 : lined (drained_text run.drained ∷ (fates_told 0 run.fates ++ (order_told run.order ∷ parts))) ≡ t4 = ap (λ l. drained_text run.drained ++ (10 ∷ l)) e2 ∙ drained_both run.drained t3 in
+    let f1 : versions_text v ++ (10 ∷ t4) ≡ version_line run ++ t4 = simp append_assoc refl in
+    let f2 : events_text e ++ (10 ∷ (version_line run ++ t4)) ≡ events_line run ++ (version_line run ++ t4) = simp append_assoc refl in
+    let f3 : counts_text c ++ (10 ∷ (events_line run ++ (version_line run ++ t4))) ≡ packets_line run ++ (events_line run ++ (version_line run ++ t4)) = simp append_assoc refl in
+    ap (λ l. codes "report 1" ++ (10 ∷ (counts_text c ++ (10 ∷ (events_text e ++ (10 ∷ (versions_text v ++ (10 ∷ l)))))))) e3
+    ∙ ap (λ l. codes "report 1" ++ (10 ∷ (counts_text c ++ (10 ∷ (events_text e ++ (10 ∷ l)))))) f1
+    ∙ ap (λ l. codes "report 1" ++ (10 ∷ (counts_text c ++ (10 ∷ l)))) f2
+    ∙ ap (λ l. codes "report 1" ++ (10 ∷ l)) f3

@@ -1,0 +1,422 @@
+//! Reports that are read back, and lines at which they are none.
+
+ghost use Rattle.std.specs.Prelude.{◌≡◌, ◌∷◌, [], IfOk, IsTrue};
+ghost use Rattle.report_text.specs.Form.{are_declared};
+
+use super::*;
+use gal_bits::Widths;
+use gal_io::{Bytes, NoMemory};
+use run_text::{Run, print_run};
+use state_store::{Kind, ObjectDecl, Objects, Rows};
+use std::alloc::Global;
+use std::test::Fail;
+
+fn one(first: u64) -> Widths
+    ensures { result ≡ first ∷ [] }
+{
+    let mut widths = Widths::new();
+    widths.push(first);
+    widths
+}
+
+fn two(first: u64, second: u64) -> Widths
+    ensures { result ≡ first ∷ second ∷ [] }
+{
+    let mut widths = one(first);
+    widths.push(second);
+    widths
+}
+
+fn object(
+    alloc: Global,
+    name: &[u8],
+    kind: Kind,
+    keys: Widths,
+    values: Widths,
+) -> Result<ObjectDecl, NoMemory>
+    ensures { IfOk result (λ o. o ≡ record {
+      name = name.now;
+      kind = kind;
+      keys = keys;
+      values = values;
+      size = 1;
+      start = 0;
+      rows = [];
+    }) }
+{
+    Ok(ObjectDecl {
+        name: Bytes::from_slice(alloc, name)?,
+        kind,
+        keys,
+        values,
+        size: 1,
+        start: 0,
+        rows: Rows::new(alloc),
+    })
+}
+
+// The state of an address translator.
+fn translator(alloc: Global) -> Result<Objects, NoMemory>
+    ensures { IfOk result (λ objects. IsTrue (are_declared objects)) }
+{
+    let mut objects = Objects::new(alloc);
+    objects.push(object(alloc, b"out", Kind::Map, two(32, 16), one(16))?)?;
+    objects.push(object(alloc, b"back", Kind::Map, one(16), two(32, 16))?)?;
+    objects.push(object(alloc, b"next", Kind::Int, Widths::new(), one(16))?)?;
+    Ok(objects)
+}
+
+const TRANSLATED: &[u8] = b"report 1\n\
+    packets 2 admitted 2 decided 2 released 2\n\
+    events 32 idle 0\n\
+    version 1 visible 1\n\
+    drained yes\n\
+    packet 0 slow admitted 1 decided 3 version 1 released 30 send 1 \
+    0200000000010200000000020800450000280001400040064e93c0000201c63364070400005000000000000000005002\
+    20009f560000\n\
+    packet 1 slow admitted 2 decided 4 version 1 released 32 send 1 \
+    0200000000010200000000020800450000280001400040064e93c0000201c63364070400005000000000000000005002\
+    20009f560000\n\
+    order 0 1\n\
+    object out 1\n\
+    167772161 5000 -> 1024\n\
+    object back 1\n\
+    1024 -> 167772161 5000\n\
+    object next 1\n\
+    -> 1025\n\
+    switch out 1\n\
+    167772161 5000 -> 1024\n\
+    switch back 1\n\
+    1024 -> 167772161 5000\n\
+    end\n";
+
+#[test]
+fn a_report_of_a_replay_is_printed_again(rt: HostRuntime) -> Result<(), Fail> {
+    let alloc = rt.alloc();
+    let Ok(objects) = translator(alloc) else {
+        return Err(Fail::from("no memory"));
+    };
+    let run = match read_run(alloc, &objects, TRANSLATED) {
+        Ok(run) => run,
+        Err(_) => return Err(Fail::from("refused")),
+    };
+    let Ok(text) = print_run(alloc, &objects, &run) else {
+        return Err(Fail::from("no memory"));
+    };
+    assert_eq!(rt; text.as_slice(), TRANSLATED);
+    Ok(())
+}
+
+// Keys of one bit, a table, a number, and a map whose name begins as another's.
+fn small(alloc: Global) -> Result<Objects, NoMemory>
+    ensures { IfOk result (λ objects. IsTrue (are_declared objects)) }
+{
+    let mut objects = Objects::new(alloc);
+    objects.push(object(alloc, b"bit", Kind::Map, one(1), one(1))?)?;
+    objects.push(object(alloc, b"rules", Kind::Table, one(8), one(8))?)?;
+    objects.push(object(alloc, b"n", Kind::Int, Widths::new(), one(64))?)?;
+    objects.push(object(alloc, b"pair", Kind::Map, two(1, 1), Widths::new())?)?;
+    Ok(objects)
+}
+
+// What a text is answered.
+fn answered(read: Result<Run, RunTextError>) -> Result<(), RunTextError> {
+    match read {
+        Ok(_) => Ok(()),
+        Err(e) => Err(e),
+    }
+}
+
+const HEAD: &str =
+    "report 1\npackets 4 admitted 2 decided 2 released 1\nevents 9 idle 1\nversion 1 visible 0\n\
+    drained no\n";
+
+const FATES: &str =
+    "packet 0 up admitted 1\npacket 1 fast admitted 2 decided 2 version 0 released 2 drop\n";
+
+const ORDER: &str = "order 1 1\n";
+
+const PARTS: &str =
+    "object bit 2\n0 -> 1\n1 -> 0\nobject n 1\n-> 18446744073709551615\nobject pair 2\n0 1 ->\n1 0 ->\n";
+
+const SHOWN: &str = "switch n 0\nswitch pair 1\n1 1 ->\n";
+
+#[test]
+fn texts_are_refused_at_their_first_wrong_line(rt: HostRuntime) -> Result<(), Fail> {
+    let alloc = rt.alloc();
+    let Ok(objects) = small(alloc) else {
+        return Err(Fail::from("no memory"));
+    };
+    let none = "report 1\npackets 0 admitted 0 decided 0 released 0\nevents 0 idle 0\n\
+        version 0 visible 0\ndrained yes\norder -\n";
+    for (text, want) in [
+        (["", "", "", "", ""], Err(RunTextError::Line(1))),
+        ([HEAD, FATES, ORDER, PARTS, "end\n"], Ok(())),
+        ([HEAD, FATES, ORDER, PARTS, "end"], Ok(())),
+        (
+            [
+                none,
+                "object bit 0\nobject n 0\nobject pair 4\n0 0 ->\n",
+                "0 1 ->\n1 0 ->\n1 1 ->\n",
+                SHOWN,
+                "end\n",
+            ],
+            Ok(()),
+        ),
+        ([HEAD, FATES, ORDER, PARTS, "end\r\n\n# more\n"], Ok(())),
+        (
+            ["# a report\n\n", HEAD, FATES, ORDER, PARTS],
+            Err(RunTextError::Line(19)),
+        ),
+        (
+            [HEAD, FATES, ORDER, PARTS, SHOWN],
+            Err(RunTextError::Line(20)),
+        ),
+        (
+            [HEAD, FATES, ORDER, PARTS, "end\nend\n"],
+            Err(RunTextError::Line(18)),
+        ),
+        (
+            [
+                HEAD,
+                FATES,
+                ORDER,
+                PARTS,
+                "switch pair 0\nswitch n 0\nend\n",
+            ],
+            Err(RunTextError::Line(18)),
+        ),
+        (
+            [HEAD, FATES, ORDER, PARTS, "switch n 0\nswitch n 0\nend\n"],
+            Err(RunTextError::Line(18)),
+        ),
+        (
+            [HEAD, FATES, ORDER, PARTS, "switch rules 0\nend\n"],
+            Err(RunTextError::Line(17)),
+        ),
+        (
+            [HEAD, FATES, ORDER, PARTS, "switch n 2\nend\n"],
+            Err(RunTextError::Line(17)),
+        ),
+        (
+            [HEAD, FATES, ORDER, "object n 0\n", ""],
+            Err(RunTextError::Line(9)),
+        ),
+        (
+            [HEAD, FATES, ORDER, "object bit 3\n", ""],
+            Err(RunTextError::Line(9)),
+        ),
+        (
+            [HEAD, FATES, ORDER, "object bit 2\n1 -> 0\n", ""],
+            Err(RunTextError::Line(10)),
+        ),
+        (
+            [HEAD, FATES, ORDER, "object bit 2\n0 -> 0\n0 -> 0\n", ""],
+            Err(RunTextError::Line(11)),
+        ),
+        (
+            [HEAD, FATES, ORDER, "object bit 1\n2 -> 0\n", ""],
+            Err(RunTextError::Line(10)),
+        ),
+        (
+            [HEAD, FATES, ORDER, "object bit 1\n1 -> 2\n", ""],
+            Err(RunTextError::Line(10)),
+        ),
+        (
+            [HEAD, FATES, ORDER, "object bit 1\n1 ->\n", ""],
+            Err(RunTextError::Line(10)),
+        ),
+        (
+            [HEAD, FATES, ORDER, "object bit 01\n", ""],
+            Err(RunTextError::Line(9)),
+        ),
+        (
+            [HEAD, FATES, ORDER, "object bit 0\nobject n 1\n -> 1\n", ""],
+            Err(RunTextError::Line(11)),
+        ),
+        (
+            [
+                HEAD,
+                FATES,
+                ORDER,
+                "object bit 0\nobject n 1\n-> 18446744073709551616\n",
+                "",
+            ],
+            Err(RunTextError::Line(11)),
+        ),
+        (
+            [
+                HEAD,
+                FATES,
+                ORDER,
+                "object bit 0\nobject n 0\nobject pair 3\n0 1 ->\n1 1 ->",
+                "",
+            ],
+            Err(RunTextError::Line(13)),
+        ),
+        (
+            [HEAD, FATES, "order 1 2\n", PARTS, "end"],
+            Err(RunTextError::Line(8)),
+        ),
+        (
+            [HEAD, FATES, "order 1\n", PARTS, "end"],
+            Err(RunTextError::Line(8)),
+        ),
+        (
+            [HEAD, FATES, "order 1 1 0\n", PARTS, "end"],
+            Err(RunTextError::Line(8)),
+        ),
+        (
+            [HEAD, FATES, "order -\n", PARTS, "end"],
+            Err(RunTextError::Line(8)),
+        ),
+        (
+            [HEAD, "packet 1 up admitted 1\n", "", "", ""],
+            Err(RunTextError::Line(6)),
+        ),
+        (
+            [HEAD, "packet 0 up admitted 4294967296\n", "", "", ""],
+            Err(RunTextError::Line(6)),
+        ),
+        (
+            [HEAD, "packet 0 up admitted 4294967295 \n", "", "", ""],
+            Err(RunTextError::Line(6)),
+        ),
+        (
+            [
+                HEAD,
+                "packet 0 fast admitted 1 decided 1 version 0 held\n",
+                "",
+                "",
+                "",
+            ],
+            Err(RunTextError::Line(6)),
+        ),
+        (
+            [
+                HEAD,
+                "packet 0 slow admitted 1 decided 1 version 0 held\n",
+                "",
+                "",
+                "",
+            ],
+            Err(RunTextError::Line(7)),
+        ),
+        (
+            [
+                HEAD,
+                "packet 0 slow admitted 1 decided 1 version 0 released 1 send 256 -\n",
+                "",
+                "",
+                "",
+            ],
+            Err(RunTextError::Line(6)),
+        ),
+        (
+            [
+                HEAD,
+                "packet 0 slow admitted 1 decided 1 version 0 released 1 send 255 0A\n",
+                "",
+                "",
+                "",
+            ],
+            Err(RunTextError::Line(6)),
+        ),
+        (
+            [
+                HEAD,
+                "packet 0 slow admitted 1 decided 1 version 0 released 1 send 255 0\n",
+                "",
+                "",
+                "",
+            ],
+            Err(RunTextError::Line(6)),
+        ),
+        (
+            [
+                HEAD,
+                "packet 0 slow admitted 1 decided 1 version 0 released 1 send 255 \n",
+                "",
+                "",
+                "",
+            ],
+            Err(RunTextError::Line(6)),
+        ),
+        (
+            [
+                HEAD,
+                "packet 0 slow admitted 1 decided 1 version 0 released 1 send 255 0a\r\n",
+                FATES,
+                "",
+                "",
+            ],
+            Err(RunTextError::Line(7)),
+        ),
+        (
+            [
+                "report 1\npackets 1 admitted 0 decided 1 released 0\n",
+                "",
+                "",
+                "",
+                "",
+            ],
+            Err(RunTextError::Line(2)),
+        ),
+        (
+            [
+                "report 1\npackets 0 admitted 1 decided 2 released 0\n",
+                "",
+                "",
+                "",
+                "",
+            ],
+            Err(RunTextError::Line(3)),
+        ),
+        (
+            [
+                "report 1\npackets 00 admitted 1 decided 2 released 0\n",
+                "",
+                "",
+                "",
+                "",
+            ],
+            Err(RunTextError::Line(2)),
+        ),
+        (
+            [
+                "report 1\npackets 1 admitted 1 decided 1 released 0\nevents 1  idle 0\n",
+                "",
+                "",
+                "",
+                "",
+            ],
+            Err(RunTextError::Line(3)),
+        ),
+        (["report 2\n", "", "", "", ""], Err(RunTextError::Line(1))),
+        (
+            ["report 1\r\r\n", "", "", "", ""],
+            Err(RunTextError::Line(1)),
+        ),
+        (
+            ["report 1\n \n", "", "", "", ""],
+            Err(RunTextError::Line(2)),
+        ),
+        (
+            [
+                "report 1\npackets 1 admitted 1 decided 1 released 0\nevents 1 idle 0\nversion 1 visible 1\n",
+                "drained maybe\n",
+                "",
+                "",
+                "",
+            ],
+            Err(RunTextError::Line(5)),
+        ),
+    ] {
+        let [a, b, c, d, e] = text;
+        let Ok(whole) = format!(in alloc; "{a}{b}{c}{d}{e}") else {
+            return Err(Fail::from("no memory"));
+        };
+        assert_eq!(rt; answered(read_run(alloc, &objects, whole.as_bytes())), want);
+    }
+    Ok(())
+}
