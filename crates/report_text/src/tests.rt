@@ -127,6 +127,15 @@ fn answered(read: Result<Run, RunTextError>) -> Result<(), RunTextError> {
     }
 }
 
+// These pieces, one behind the other.
+fn joined(alloc: Global, pieces: [&str; 5]) -> Result<Vec<u8>, NoMemory> {
+    let mut whole = Vec::new(alloc);
+    for piece in &pieces {
+        whole.extend_from_slice(piece.as_bytes())?;
+    }
+    Ok(whole)
+}
+
 const HEAD: &str =
     "report 1\npackets 4 admitted 2 decided 2 released 1\nevents 9 idle 1\nversion 1 visible 0\n\
     drained no\n";
@@ -412,11 +421,8 @@ fn texts_are_refused_at_their_first_wrong_line(rt: HostRuntime) -> Result<(), Fa
             Err(RunTextError::Line(5)),
         ),
     ] {
-        let [a, b, c, d, e] = text;
-        let Ok(whole) = format!(in alloc; "{a}{b}{c}{d}{e}") else {
-            return Err(Fail::from("no memory"));
-        };
-        assert_eq!(rt; answered(read_run(alloc, &objects, whole.as_bytes())), want);
+        let whole = joined(alloc, text)?;
+        assert_eq!(rt; answered(read_run(alloc, &objects, &whole)), want);
     }
     Ok(())
 }
