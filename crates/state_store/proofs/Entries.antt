@@ -5,7 +5,7 @@ use Rattle.std.specs.declared.cmp.Ordering.TheVariants.{Less, Equal, Greater}
 use Rattle.std.specs.List.{insert as insert_at, remove as remove_at}
 use Rattle.std.specs.Ordering.{eq_by_cmp, is_eq, is_lt}
 use Rattle.std.specs.Cmp.{eq_by_cmp_equiv, alike_right}
-use Rattle.std.specs.FinMap.{find, put, get, len, empty, insert, remove, from_sorted, same_entries_map, entries-from_sorted, entries-insert, get-from_sorted, len-entries, get-remove, same_map, empty_of_len}
+use Rattle.std.specs.FinMap.{find, put, get, len, empty, entries, insert, remove, from_sorted, same_entries_map, entries-from_sorted, entries-insert, get-from_sorted, len-entries, get-remove, same_map, empty_of_len}
 use Rattle.std.specs.FinMap.Entries.{where_key, below_all, is_sorted-put, is_sorted-where_key, find-where_key, length-put}
 use Rattle.std.proofs.lemmas.Cmp.{nat_list_cmp_total}
 use Rattle.std.proofs.lemmas.Map.Lookups.{exact_bytes}
@@ -61,7 +61,7 @@ pub find_gap : (es : Entries) (k : List ℕ) (i : ℕ) → IsSorted es → IsGap
 find_gap es k i sorted p =
     none_from _ (length es) (sym (length-put key_cmp nat_list_cmp_total k [] es sorted) ∙ ap length (sym (with_entry_new es k [] i p)) ∙ length-insert es i (k, []) p.in_range)
 
-abbrev others : List ℕ → Entries → Entries
+abbrev pub others : List ℕ → Entries → Entries
 others k es = where_key key_cmp (λ x. not (eq_by_cmp key_cmp k x)) es
 
 all_others : (k x : List ℕ) (es : Entries) → key_cmp k x ≡ Equal → T (below_all key_cmp x es) → others k es ≡ es
@@ -121,3 +121,23 @@ map_absent m k none = same_map nat_list_cmp_total exact_bytes (remove m k) m (λ
     at : (q : List ℕ) (b : Bool) → eq_by_cmp key_cmp q k ≡ b → cond b None (get m q) ≡ get m q
     at q true e = sym (ap (get m) (exact_bytes q k (is_equal (key_cmp q k) e)) ∙ none)
     at q false e = refl
+
+pub no_entries : entries (empty {X = List ℕ} {R = key_cmp}) ≡ []
+no_entries = ap entries (sym (map_empty (from_sorted []) refl)) ∙ entries-from_sorted key_cmp [] tt
+
+-- entries without a key that they don't have are themselves
+pub others_none : (es : Entries) (k : List ℕ) → find key_cmp k es ≡ None → others k es ≡ es
+others_none [] k none = refl
+others_none (e ∷ es) k none = go (eq_by_cmp key_cmp k e.0) refl none (others_none es k)
+  where
+    go : (b : Bool) → eq_by_cmp key_cmp k e.0 ≡ b → cond b (Some e.1) (find key_cmp k es) ≡ None → (find key_cmp k es ≡ None → others k es ≡ es) → others k (e ∷ es) ≡ e ∷ es
+    go true is h rest = absurd (cc)
+    go false is h rest = ap (λ b. cond (not b) (e ∷ others k es) (others k es)) is ∙ ap (λ l. e ∷ l) (rest h)
+
+-- and so is a map
+pub map_lacks : (m : Contents) (k : List ℕ) → is_some (get m k) ≡ false → remove m k ≡ m
+map_lacks m k lacks = map_absent m k (go (get m k) lacks)
+  where
+    go : (o : Option (List ℕ)) → is_some o ≡ false → o ≡ None
+    go None e = refl
+    go (Some v) e = absurd (true≢false e)

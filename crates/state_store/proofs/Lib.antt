@@ -1,4 +1,12 @@
 mod AtWork
 mod Entries
+mod FittedLaws
 mod Halves
+mod KeptLaws
 mod LawLemmas
+mod PackLaws
+mod PackSteps
+mod PourLaws
+mod RowLaws
+mod SlotRows
+mod SortLaws

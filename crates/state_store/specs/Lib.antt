@@ -1,7 +1,11 @@
+pub mod Bounded
 pub mod Codes
+pub mod Fitted
 pub mod Kinds
 pub mod Kept
 pub mod Laws
+pub mod Packing
 pub mod Places
+pub mod Sizes
 pub mod Store
 pub mod Fitting

@@ -1,8 +1,12 @@
 //! The state of a middlebox: objects that are finite maps from key lists to value lists.
 #![tactic(auto)]
 
+mod any_table;
+mod kept_rows;
 mod laws;
 mod object;
+mod packed_rows;
+mod packing;
 mod sorted_rows;
 mod store;
 mod stored;

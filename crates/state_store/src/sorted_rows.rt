@@ -1,6 +1,8 @@
 //! Rows in the order of their keys.
-ghost use Rattle.std.specs.Prelude.{◌≡◌, ◌≤◌, ◌<◌, is_ok, vec_len, vec_capacity, IfOk, IfErr, IsOk, if◌then◌else◌};
-ghost use Rattle.state_store.specs.Places.{IsPlaceOf, IsGapFor, IsSorted, with_entry};
+ghost use Rattle.std.specs.Prelude.{◌≡◌, ◌≤◌, ◌<◌, ◌&&◌, not, nat_le, is_ok, vec_len, vec_capacity, IfOk, IfErr, IsOk, if◌then◌else◌};
+ghost use Rattle.std.specs.FinMap as map;
+ghost use Rattle.state_store.specs.Fitted.{is_full_at};
+ghost use Rattle.state_store.specs.Places.{IsPlaceOf, IsGapFor, IsSorted, map_of, with_entry, without_entry};
 ghost use Rattle.state_store.specs.Store.{rows_from};
 
 use crate::object::{Row, Rows};
@@ -36,6 +38,61 @@ pub fn store_at(
         Err(i) => rows.insert(i, (*key, *values))?,
     }
     Ok(())
+}
+
+/// The values under a key.
+pub fn get_sorted(rows: &[(Values, Values)], key: &Values) -> Option<Values>
+    requires { IsSorted rows.now }
+    ensures { result ≡ map.get (map_of rows.now) key.now }
+{
+    match place(rows, key) {
+        Ok(i) => Some(rows[i].1),
+        Err(_) => None,
+    }
+}
+
+/// Sets one row, where there are no more than so many then, and answers whether that is so. This takes no memory.
+pub fn put_sorted(
+    rows: &mut Vec<(Values, Values)>,
+    size: usize,
+    key: &Values,
+    values: &Values,
+) -> bool
+    requires sorted { IsSorted rows.old.items }
+    requires room { size ≤ vec_capacity rows.old }
+    ensures stored { result ≡ not (is_full_at size (map_of rows.old.items) key.now) }
+    ensures after { rows.new.items ≡ (if is_full_at size (map_of rows.old.items) key.now then rows.old.items else with_entry rows.old.items key.now values.now) }
+    ensures capacity { vec_capacity rows.old ≤ vec_capacity rows.new }
+{
+    let found = place(rows, key);
+    if has_no_room(found, size, rows.len()) {
+        return false;
+    }
+    let _ = store_at(rows, found, key, values);
+    true
+}
+
+/// Removes one row. It answers whether there was one.
+pub fn del_sorted(rows: &mut Vec<(Values, Values)>, key: &Values) -> bool
+    requires { IsSorted rows.old.items }
+    ensures was { result ≡ map.contains_key (map_of rows.old.items) key.now }
+    ensures after { rows.new.items ≡ without_entry rows.old.items key.now }
+    ensures capacity { vec_capacity rows.old ≤ vec_capacity rows.new }
+{
+    match place(rows, key) {
+        Ok(i) => {
+            rows.remove(i);
+            true
+        }
+        Err(_) => false,
+    }
+}
+
+// Whether a key without a place is one too many beside so many rows.
+fn has_no_room(place: Result<usize, usize>, size: usize, rows: usize) -> bool
+    ensures { result ≡ (not (is_ok place) && nat_le size rows) }
+{
+    place.is_err() && size <= rows
 }
 
 /// The rows one by one.

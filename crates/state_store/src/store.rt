@@ -1,5 +1,5 @@
 //! Stores.
-ghost use Rattle.std.specs.Prelude.{◌≡◌, ◌≢◌, is_some, IfOk};
+ghost use Rattle.std.specs.Prelude.{◌≡◌, ◌≢◌, false, is_some, IfOk};
 ghost use Rattle.state_store.specs.declared.store.Put.TheVariants.{Stored};
 ghost use Rattle.state_store.specs.Store.{object_at, with_object, start_store, look, looked_up, put_answer, put_row, del_row, rows_of};
 
@@ -94,6 +94,7 @@ impl Store {
     pub fn del(&mut self, object: u32, key: &Values) -> bool
         ensures was { result ≡ is_some (look (object_at self.old object) key.now) }
         ensures after { self.new ≡ with_object self.old object (del_row (object_at self.old object) key.now) }
+        ensures unchanged { result ≡ false → self.new ≡ self.old }
     {
         let number = object as usize;
         if number < self.objects.len() {

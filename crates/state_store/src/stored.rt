@@ -1,52 +1,50 @@
 //! One object at work.
-ghost use Rattle.std.specs.Prelude.{◌≡◌, ◌≤◌, ◌<◌, [], ◌∷◌, slice_index, is_some, is_ok, not, ◌&&◌, nat_le, length, replicate, vec_len, vec_capacity, IfOk, IfErr, IsOk, if◌then◌else◌};
+ghost use Rattle.std.specs.Prelude.{◌≡◌, ◌≤◌, [], ◌∷◌, slice_index, is_some, false, length, replicate, IfOk};
 ghost use Rattle.std.specs.FinMap as map;
 ghost use Rattle.state_store.specs.Store.{Object, start_object, look, looked_up, put_answer, put_row, del_row, rows_of, with_rows, zeros_from, is_out};
 
+use crate::kept_rows::KeptRows;
 use crate::object::{Kind, ObjectDecl, Row, Rows};
-use crate::sorted_rows::{list_rows, place, store_at};
 use crate::store::{Found, Put};
 use gal_bits::Values;
 use gal_io::NoMemory;
 use std::alloc::Global;
 use std::marker::Model;
 
-/// An object at work. Its rows lie in the order of their keys, in memory that is enough for its size.
+/// An object at work, with memory that is enough for its size.
 #[derive(Debug, Drop)]
 pub struct StoredObject {
     kind: Kind,
     size: u32,
     count: usize,
-    rows: Vec<(Values, Values)>,
+    rows: KeptRows,
 }
 
 impl Model for StoredObject {
-    ghost use Rattle.std.specs.Prelude.{◌≤◌, T, vec_capacity};
-    ghost use Rattle.std.specs.FinMap.{from_sorted};
+    ghost use Rattle.std.specs.Prelude.{◌≡◌, ◌≤◌};
     ghost use Rattle.state_store.specs.Codes.{object_code};
     ghost use Rattle.state_store.specs.Store.{Object};
-    ghost use Rattle.state_store.specs.Places.{IsSorted};
 
     ghost Value = { Object };
 
     ghost coded = { object_code };
 
-    ghost view = { λ object. record { kind = object.kind; size = object.size; count = object.count; contents = from_sorted object.rows.items } };
+    ghost view = { λ object. record { kind = object.kind; size = object.size; count = object.count; contents = object.rows.contents } };
 
-    ghost invariant = { λ object. IsSorted object.rows.items × (object.size ≤ vec_capacity object.rows) × (object.count ≤ 8) };
+    ghost invariant = { λ object. (object.rows.size ≡ object.size) × (object.count ≤ 8) };
 }
 
 impl StoredObject {
     /// An object without rows, with the memory for its size.
-    pub fn new(alloc: Global, kind: Kind, size: u32, count: usize) -> Result<StoredObject, NoMemory>
-        requires { count ≤ 8 }
-        ensures { IfOk result (λ made. made ≡ record { kind = kind; size = size; count = count; contents = map.empty }) }
+    pub fn new(alloc: Global, object: &ObjectDecl) -> Result<StoredObject, NoMemory>
+        ensures { IfOk result (λ made. made ≡ record { kind = object.now.kind; size = object.now.size; count = length object.now.values; contents = map.empty }) }
     {
-        let rows = Vec::with_capacity(alloc, size as usize)?;
+        let slots = in_slots(object.kind);
+        let rows = KeptRows::new(alloc, &object.keys, &object.values, object.size as usize, slots)?;
         Ok(StoredObject {
-            kind,
-            size,
-            count,
+            kind: object.kind,
+            size: object.size,
+            count: object.values.len(),
             rows,
         })
     }
@@ -55,7 +53,7 @@ impl StoredObject {
     pub fn start(alloc: Global, object: &ObjectDecl) -> Result<StoredObject, NoMemory>
         ensures { IfOk result (λ made. made ≡ start_object object.now) }
     {
-        let mut made = StoredObject::new(alloc, object.kind, object.size, object.values.len())?;
+        let mut made = StoredObject::new(alloc, object)?;
         match object.kind {
             Kind::Table => made.set_rows(object.rows.as_slice())?,
             Kind::Map => {}
@@ -70,12 +68,12 @@ impl StoredObject {
         ensures found { result.found ≡ is_some (look self.now key.now) }
         ensures values { result.values ≡ looked_up self.now key.now }
     {
-        match place(&self.rows, key) {
-            Ok(i) => Found {
+        match self.rows.get(key) {
+            Some(values) => Found {
                 found: true,
-                values: self.rows[i].1,
+                values,
             },
-            Err(_) => Found {
+            None => Found {
                 found: false,
                 values: zeros(self.count),
             },
@@ -90,46 +88,38 @@ impl StoredObject {
         if is_outside(self.kind, self.size, key) {
             return Put::OutOfRange;
         }
-        let found = place(&self.rows, key);
-        if has_no_room(found, self.size, self.rows.len()) {
-            return Put::Full;
+        if self.rows.put(key, values) {
+            Put::Stored
+        } else {
+            Put::Full
         }
-        let _ = store_at(&mut self.rows, found, key, values);
-        Put::Stored
     }
 
     /// Removes one row. It answers whether there was one.
     pub fn del(&mut self, key: &Values) -> bool
         ensures was { result ≡ is_some (look self.old key.now) }
         ensures after { self.new ≡ del_row self.old key.now }
+        ensures unchanged { result ≡ false → self.new ≡ self.old }
     {
-        match place(&self.rows, key) {
-            Ok(i) => {
-                self.rows.remove(i);
-                true
-            }
-            Err(_) => false,
-        }
+        self.rows.del(key)
     }
 
     /// The rows, in rising order of their keys.
     pub fn rows(&self, alloc: Global) -> Result<Rows, NoMemory>
         ensures { IfOk result (λ rows. rows ≡ rows_of self.now) }
     {
-        list_rows(alloc, &self.rows)
+        self.rows.rows(alloc)
     }
 
     /// The same object again, with memory of its own for its size.
     pub fn copy(&self, alloc: Global) -> Result<StoredObject, NoMemory>
         ensures { IfOk result (λ made. made ≡ self.now) }
     {
-        let mut rows = Vec::with_capacity(alloc, self.rows.capacity())?;
-        rows.extend_from_slice(&self.rows)?;
         Ok(StoredObject {
             kind: self.kind,
             size: self.size,
             count: self.count,
-            rows,
+            rows: self.rows.copy(alloc)?,
         })
     }
 
@@ -158,8 +148,7 @@ impl StoredObject {
     fn set(&mut self, key: &Values, values: &Values) -> Result<(), NoMemory>
         ensures { IfOk result (λ _. self.new ≡ record self.old { contents = map.insert self.old.contents key.now values.now }) }
     {
-        let found = place(&self.rows, key);
-        store_at(&mut self.rows, found, key, values)
+        self.rows.set(key, values)
     }
 }
 
@@ -173,11 +162,12 @@ fn is_outside(kind: Kind, size: u32, key: &Values) -> bool
     }
 }
 
-// Whether a key without a place is one too many beside so many rows.
-fn has_no_room(place: Result<usize, usize>, size: u32, rows: usize) -> bool
-    ensures { result ≡ (not (is_ok place) && nat_le size rows) }
-{
-    place.is_err() && size as usize <= rows
+// Whether rows of such an object may lie in a slot table.
+fn in_slots(kind: Kind) -> bool {
+    match kind {
+        Kind::Table | Kind::Map => true,
+        Kind::Vector | Kind::Int => false,
+    }
 }
 
 // The first number, 0 where there is none.

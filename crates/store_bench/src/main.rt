@@ -1,10 +1,12 @@
-//! Makes the largest map, fills it and lists it. `bench/store` times this program.
+//! Makes the largest map, fills it and lists it, with keys in the order that a word names. `bench/store` times this
+//! program.
 #![tactic(auto)]
 
 use gal_bits::{Values, Widths};
 use gal_io::{Bytes, NoMemory};
 use state_store::{Kind, ObjectDecl, Objects, Put, Rows, Store};
 use std::alloc::Global;
+use std::env;
 use std::process::ExitCode;
 
 // The most rows that an object may have.
@@ -12,6 +14,32 @@ const ROWS: u32 = 1_048_576;
 
 // The only object.
 const MAP: u32 = 0;
+
+/// The order in which keys are stored.
+#[derive(Clone, Copy)]
+enum Order {
+    Rising,
+    Falling,
+    /// In no order.
+    Scattered,
+    /// Rising, and each is a multiple of a high power of two: all but its first two numbers are 0.
+    High,
+}
+
+impl Order {
+    // The order of a name.
+    fn of(name: &str) -> Order {
+        if name == "falling" {
+            Order::Falling
+        } else if name == "scattered" {
+            Order::Scattered
+        } else if name == "high" {
+            Order::High
+        } else {
+            Order::Rising
+        }
+    }
+}
 
 fn widths() -> Widths {
     let mut widths = Widths::new();
@@ -23,12 +51,27 @@ fn widths() -> Widths {
     widths
 }
 
-// A key or a value of 8 numbers, which rise with this one.
-fn values(number: u32) -> Values {
+// The key with this place in the order, of 8 numbers of 16 bits.
+fn key(order: Order, place: u32) -> Values {
+    let number = match order {
+        Order::Rising | Order::High => u64::from(place),
+        Order::Falling => u64::from(u32::MAX - place),
+        Order::Scattered => u64::from(place) * 649_657 % u64::from(ROWS),
+    };
+    let high = number / 65_536;
+    let low = number % 65_536;
+    match order {
+        Order::High => values(&[high, low, 0, 0, 0, 0, 0, 0]),
+        Order::Rising | Order::Falling | Order::Scattered => values(&[0, 0, 0, 0, 0, 0, high, low]),
+    }
+}
+
+// At most the first 8 numbers.
+fn values(numbers: &[u64]) -> Values {
     let mut values = Values::new();
-    for _ in 0..8 {
+    for number in numbers {
         if values.len() < 8 {
-            values.push(u64::from(number));
+            values.push(*number);
         }
     }
     values
@@ -50,9 +93,10 @@ fn objects(alloc: Global) -> Result<Objects, NoMemory> {
 }
 
 // Stores so many rows, each of which has a place.
-fn fill(store: &mut Store) -> bool {
-    for number in 0..ROWS {
-        if store.put(MAP, &values(number), &values(number)) != Put::Stored {
+fn fill(store: &mut Store, order: Order) -> bool {
+    for place in 0..ROWS {
+        let key = key(order, place);
+        if store.put(MAP, &key, &key) != Put::Stored {
             return false;
         }
     }
@@ -60,9 +104,9 @@ fn fill(store: &mut Store) -> bool {
 }
 
 // Whether each row is found again.
-fn finds_all(store: &Store) -> bool {
-    for number in 0..ROWS {
-        if !store.get(MAP, &values(number)).found {
+fn finds_all(store: &Store, order: Order) -> bool {
+    for place in 0..ROWS {
+        if !store.get(MAP, &key(order, place)).found {
             return false;
         }
     }
@@ -70,18 +114,26 @@ fn finds_all(store: &Store) -> bool {
 }
 
 // How many rows are listed, where all could be stored, one more couldn't, and all are found.
-fn list(alloc: Global) -> Result<Option<usize>, NoMemory> {
+fn list(alloc: Global, order: Order) -> Result<Option<usize>, NoMemory> {
     let mut store = Store::new(alloc, &objects(alloc)?)?;
-    let filled = fill(&mut store);
-    let full = store.put(MAP, &values(ROWS), &values(ROWS)) == Put::Full;
-    if !filled || !full || !finds_all(&store) {
+    let filled = fill(&mut store, order);
+    let other = values(&[1, 1, 1, 1, 1, 1, 1, 1]);
+    let full = store.put(MAP, &other, &other) == Put::Full;
+    if !filled || !full || !finds_all(&store, order) {
         return Ok(None);
     }
     Ok(Some(store.rows(alloc, MAP)?.len()))
 }
 
 fn main(rt: HostRuntime) -> ExitCode {
-    let Ok(Some(listed)) = list(rt.alloc()) else {
+    let alloc = rt.alloc();
+    let mut order = Order::Rising;
+    if let Ok(words) = env::args(&rt) {
+        for word in words.skip(1) {
+            order = Order::of(word.as_str());
+        }
+    }
+    let Ok(Some(listed)) = list(alloc, order) else {
         return ExitCode::FAILURE;
     };
     match println!(rt; "{listed} rows were stored, found and listed") {

@@ -1,0 +1,11 @@
+use Rattle.std.proofs.Common.{◌≡◌, IfOk, sym, ap, subst, ◌∙◌}
+use Rattle.std.specs.FinMap.{entries, entries-from_sorted}
+use Rattle.state_store.specs.Bounded.{contents_in}
+use Rattle.state_store.specs.Store.{key_cmp, rows_from}
+use Rattle.state_store.proofs.kept_rows.KeptRows.rows.Goals as goal
+
+pub returns-in-None : goal.returns-in-None
+returns-in-None c =
+    let es = c.self.inside.sorted.items in
+    let same = ap rows_from (c.deref-in-None.ensures.value ∙ sym (entries-from_sorted key_cmp es c.self.invariant.sorted)) ∙ ap (λ q. rows_from (entries (contents_in q es))) (sym c.in-None.is) ∙ ap (λ b. rows_from (entries b.contents)) c.self.view_is in
+    subst (λ l. IfOk c.list_rows-in-None.result (λ rows. rows ≡ l)) same c.list_rows-in-None.ensures
