@@ -4,7 +4,7 @@ ghost use Rattle.packet_fields.specs.Table.{row, all_fields, field_index};
 ghost use Rattle.packet_fields.specs.Fields.{field_value};
 ghost use Rattle.packet_fields.specs.Shape.{shape_of};
 ghost use Rattle.element_lang.specs.Meaning.{with_fields};
-ghost use Rattle.packet_fields.specs.declared.packet.TheConstants.{MAX_PACKET_BYTES};
+ghost use Rattle.packet_fields.specs.Sizes.{largest_packet};
 
 use gal_bits::{Op, eval};
 use gal_io::{Bytes, NoMemory};
@@ -50,7 +50,7 @@ impl FieldValues {
 
     /// The fields of a packet as it arrives.
     pub fn of(packet: &[u8], port: u8, shape: &Shape) -> FieldValues
-        requires size { length packet.now ≤ MAX_PACKET_BYTES }
+        requires size { length packet.now ≤ largest_packet }
         requires shape { shape.now ≡ shape_of packet.now }
         ensures { result ≡ map (field_value packet.now port) all_fields }
     {
@@ -63,7 +63,7 @@ impl FieldValues {
 
     /// Writes each field that can be written into a packet of this shape.
     pub fn write(&self, packet: &mut [u8], shape: &Shape)
-        requires size { length packet.old ≤ MAX_PACKET_BYTES }
+        requires size { length packet.old ≤ largest_packet }
         requires shape { shape.now ≡ shape_of packet.old }
         ensures { packet.new ≡ with_fields all_fields self.now packet.old }
     {

@@ -8,7 +8,7 @@ ghost use Rattle.element_lang.specs.Meaning.{turns, do_stmt, do_body, source_sto
 ghost use Rattle.element_interp.specs.Runs.{packet_of, widths_of, state_of};
 ghost use Rattle.element_interp.specs.Flows.{outcome_of};
 ghost use Rattle.element_interp.specs.Runnable.{IsRunnableStmt, IsRunnableBody};
-ghost use Rattle.packet_fields.specs.declared.packet.TheConstants.{MAX_PACKET_BYTES};
+ghost use Rattle.packet_fields.specs.Sizes.{largest_packet};
 
 use crate::fields::FieldValues;
 use crate::value::{Frame, Variables, value, values};
@@ -145,7 +145,7 @@ pub fn run(
     packet: &[u8],
 ) -> Result<Verdict, NoMemory>
     requires good { IsTrue (is_good (tree m.now)) }
-    requires size { length packet.now ≤ MAX_PACKET_BYTES }
+    requires size { length packet.now ≤ largest_packet }
     ensures verdict { IfOk result (λ verdict. verdict ≡ source_verdict (tree m.now) store.old (record { port = port; bytes = packet.now })) }
     ensures store { OnOk result (store.new ≡ source_store (tree m.now) store.old (record { port = port; bytes = packet.now })) }
     ensures err { OnErr result (store.new ≡ store.old) }

@@ -4,7 +4,7 @@ ghost use Rattle.state_store.specs.Store.{start_store};
 ghost use Rattle.element_lang.specs.View.{tree};
 ghost use Rattle.element_lang.specs.Rules.{is_good};
 ghost use Rattle.element_lang.specs.Meaning.{serial_store, serial_verdicts};
-ghost use Rattle.packet_fields.specs.declared.packet.TheConstants.{MAX_PACKET_BYTES};
+ghost use Rattle.packet_fields.specs.Sizes.{largest_packet};
 
 use crate::interp::run;
 use element_lang::Middlebox;
@@ -26,7 +26,7 @@ pub struct Served {
 /// each other one from what the one before has left.
 pub fn run_all(alloc: Global, m: &Middlebox, packets: &[Packet]) -> Result<Served, NoMemory>
     requires good { IsTrue (is_good (tree m.now)) }
-    requires short { All (λ p. length p.bytes ≤ MAX_PACKET_BYTES) packets.now }
+    requires short { All (λ p. length p.bytes ≤ largest_packet) packets.now }
     ensures verdicts { IfOk result (λ served. served.verdicts.items ≡ serial_verdicts (tree m.now) (start_store m.now.objects) packets.now) }
     ensures store { IfOk result (λ served. served.store ≡ serial_store (tree m.now) (start_store m.now.objects) packets.now) }
 {

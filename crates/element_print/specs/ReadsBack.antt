@@ -1,6 +1,7 @@
 -- What a printed text is read back as.
 use Rattle.std.specs.Prelude.{◌≡◌, ◌≤◌, ℕ, List, length}
-use Rattle.element_lang.specs.declared.sizes.TheConstants.{MAX_DEPTH, MAX_OBJECTS, MAX_ENTRIES, MAX_WRITES}
+use Rattle.element_lang.specs.declared.sizes.What.TheVariants.{Depth, Objects, Entries, Writes}
+use Rattle.element_lang.specs.Bounds.{bound}
 use Rattle.element_lang.specs.Token.{Token, Placed, AreTokens}
 use Rattle.element_lang.specs.Tree.{Tree}
 use Rattle.element_lang.specs.Surface.{Surface, unplaced, named}
@@ -23,7 +24,7 @@ pub record IsSpelled (ts : List Token) (m : Tree) : Type 0 where
 
 -- the middlebox keeps the sizes of a source, and so does its text as to open brackets
 pub record IsWithinSizes (m : Tree) : Type 0 where
-  pub depth : deepest 0 (print_tokens (named m)) ≤ MAX_DEPTH
-  pub objects : length m.objects ≤ MAX_OBJECTS
-  pub entries : entries m ≤ MAX_ENTRIES
-  pub writes : writes m ≤ MAX_WRITES
+  pub depth : deepest 0 (print_tokens (named m)) ≤ bound Depth
+  pub objects : length m.objects ≤ bound Objects
+  pub entries : entries m ≤ bound Entries
+  pub writes : writes m ≤ bound Writes

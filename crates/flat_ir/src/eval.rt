@@ -4,7 +4,7 @@ ghost use Rattle.std.specs.List.{AllByRecursion as Each};
 ghost use Rattle.packet_fields.specs.Fields.{with_field};
 ghost use Rattle.packet_fields.specs.Shape.{shape_of};
 ghost use Rattle.packet_fields.specs.Table.{row};
-ghost use Rattle.packet_fields.specs.declared.packet.TheConstants.{MAX_PACKET_BYTES};
+ghost use Rattle.packet_fields.specs.Sizes.{largest_packet};
 ghost use Rattle.state_store.specs.Kept.{IsKept};
 ghost use Rattle.flat_ir.specs.Program.{program_of};
 ghost use Rattle.flat_ir.specs.Run.{after, flat_store, flat_verdict, sent, with_writes};
@@ -29,7 +29,7 @@ fn take_turn(f: &Flat, arrival: &Arrival<'_>, i: usize, rows: &mut [Results], st
     requires well { IsWellFormed (program_of f.now) }
     requires within { i < length f.now.code }
     requires row { i < length rows.old }
-    requires size { length arrival.now.bytes.now ≤ MAX_PACKET_BYTES }
+    requires size { length arrival.now.bytes.now ≤ largest_packet }
     requires shape { arrival.now.shape ≡ shape_of arrival.now.bytes.now }
     ensures turn { StandAs (turn (program_of f.now) (packet_of arrival.now) i (reads_of rows.old) store.old) (reads_of rows.new) store.new }
     ensures count { length rows.new ≡ length rows.old }
@@ -44,7 +44,7 @@ fn take_turn(f: &Flat, arrival: &Arrival<'_>, i: usize, rows: &mut [Results], st
 fn take_turns(f: &Flat, arrival: &Arrival<'_>, rows: &mut [Results], store: &mut Store)
     requires well { IsWellFormed (program_of f.now) }
     requires rows { length rows.old ≡ length f.now.code }
-    requires size { length arrival.now.bytes.now ≤ MAX_PACKET_BYTES }
+    requires size { length arrival.now.bytes.now ≤ largest_packet }
     requires shape { arrival.now.shape ≡ shape_of arrival.now.bytes.now }
     requires start { StandAs (after (program_of f.now) store.old (packet_of arrival.now) 0) (reads_of rows.old) store.old }
     ensures { StandAs (after (program_of f.now) store.old (packet_of arrival.now) (length f.now.code)) (reads_of rows.new) store.new }
@@ -69,7 +69,7 @@ fn low_bits(number: u64, width: Width) -> u64
 // Sets a field of a packet of this shape to the lowest bits of a number.
 #[tactic(auto, using(crate::proofs::LowBits::low_is_set))]
 fn set_low(packet: &mut [u8], shape: &Shape, field: Field, number: u64)
-    requires size { length packet.old ≤ MAX_PACKET_BYTES }
+    requires size { length packet.old ≤ largest_packet }
     requires shape { shape.now ≡ shape_of packet.old }
     requires writable { IsTrue (row field).writable }
     ensures after { packet.new ≡ with_field packet.old field number }
@@ -81,7 +81,7 @@ fn set_low(packet: &mut [u8], shape: &Shape, field: Field, number: u64)
 /// Sets fields of a packet of this shape, each to the lowest bits of its number.
 pub fn write_fields<R: Numbers>(fields: &[FieldValue], numbers: &R, shape: &Shape, bytes: &mut [u8])
     requires writable { Each IsWritable fields.now }
-    requires size { length bytes.old ≤ MAX_PACKET_BYTES }
+    requires size { length bytes.old ≤ largest_packet }
     requires shape { shape.now ≡ shape_of bytes.old }
     ensures { bytes.new ≡ with_writes fields.now (R.reads numbers.now) bytes.old }
 {
@@ -102,7 +102,7 @@ fn low_byte(value: u64) -> u8
 pub fn leave<R: Numbers>(out: &Out, arrival: &Arrival<'_>, numbers: &R, copy: Vec<u8>) -> Verdict
     requires copy { copy.items ≡ arrival.now.bytes.now }
     requires writable { Each IsWritable out.now.fields.items }
-    requires size { length arrival.now.bytes.now ≤ MAX_PACKET_BYTES }
+    requires size { length arrival.now.bytes.now ≤ largest_packet }
     requires shape { arrival.now.shape ≡ shape_of arrival.now.bytes.now }
     ensures { result ≡ sent out.now.send out.now.port out.now.fields.items (R.reads numbers.now) (packet_of arrival.now) }
 {
@@ -125,7 +125,7 @@ pub fn eval_flat(
 ) -> Result<Verdict, NoMemory>
     requires well { IsWellFormed (program_of f.now) }
     requires kept { IsKept f.now.objects store.old }
-    requires size { length packet.now ≤ MAX_PACKET_BYTES }
+    requires size { length packet.now ≤ largest_packet }
     ensures verdict { IfOk result (λ verdict. verdict ≡ flat_verdict (program_of f.now) store.old (record { port = port; bytes = packet.now })) }
     ensures store { OnOk result (store.new ≡ flat_store (program_of f.now) store.old (record { port = port; bytes = packet.now })) }
     ensures err { OnErr result (store.new ≡ store.old) }

@@ -1,7 +1,7 @@
 //! What an instruction gives, and what it changes.
 ghost use Rattle.std.specs.Prelude.{◌≡◌, ◌≤◌, ◌∷◌, true, false, length, map, slice_get, slice_index, is_some, IsTrue};
 ghost use Rattle.packet_fields.specs.Shape.{shape_of};
-ghost use Rattle.packet_fields.specs.declared.packet.TheConstants.{MAX_PACKET_BYTES};
+ghost use Rattle.packet_fields.specs.Sizes.{largest_packet};
 ghost use Rattle.state_store.specs.Store.{object_at, look, looked_up, put_answer};
 ghost use Rattle.flat_ir.specs.Program.{work_of, program_of};
 ghost use Rattle.flat_ir.specs.Program.Work.{put, del};
@@ -57,7 +57,7 @@ pub fn given<L: Lookup, R: Numbers>(
     kind: &InstrKind,
 ) -> Results
     requires can { CanRun (work_of kind.now) }
-    requires size { length arrival.now.bytes.now ≤ MAX_PACKET_BYTES }
+    requires size { length arrival.now.bytes.now ≤ largest_packet }
     requires shape { arrival.now.shape ≡ shape_of arrival.now.bytes.now }
     ensures { results_of result
         ≡ results (R.reads numbers.now) false (L.seen tables.now) (packet_of arrival.now) (work_of kind.now) }
@@ -204,7 +204,7 @@ pub fn compute<R: Numbers>(
     live: bool,
 ) -> Results
     requires fits { IsTrue (fits (program_of f.now) (work_of kind.now)) }
-    requires size { length arrival.now.bytes.now ≤ MAX_PACKET_BYTES }
+    requires size { length arrival.now.bytes.now ≤ largest_packet }
     requires shape { arrival.now.shape ≡ shape_of arrival.now.bytes.now }
     ensures results { results_of result ≡ results (R.reads numbers.now) live store.old (packet_of arrival.now) (work_of kind.now) }
     ensures after { store.new ≡ with_changes store.old (made live (change_of (R.reads numbers.now) store.old (work_of kind.now))) }

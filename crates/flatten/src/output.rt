@@ -4,7 +4,6 @@ ghost use Rattle.flat_ir.specs.Program.{work_of};
 ghost use Rattle.flatten.specs.Flatten as pure;
 ghost use Rattle.flatten.specs.Over.{IsOver};
 ghost use Rattle.flatten.specs.Pending.{valued};
-ghost use Rattle.flatten.specs.declared.sizes.TheConstants.{MAX_INSTRUCTIONS};
 
 use crate::error::FlatError;
 use crate::place::Place;
@@ -54,7 +53,7 @@ impl Output {
 
     /// Fails where there are more instructions than a flat program may have.
     pub fn keeps_size(&self) -> Result<(), FlatError>
-        ensures ok { OnOk result (length self.now.code ≤ MAX_INSTRUCTIONS) }
+        ensures ok { OnOk result (length self.now.code ≤ 4096) }
         ensures large { IfErr result (λ error. IsOver self.now error) }
     {
         if self.code.len() > MAX_INSTRUCTIONS {

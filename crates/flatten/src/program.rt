@@ -11,7 +11,6 @@ ghost use Rattle.flatten.specs.Flatten as pure;
 ghost use Rattle.flatten.specs.Occurs.{is_in_body};
 ghost use Rattle.flatten.specs.Pending.{scoped};
 ghost use Rattle.flatten.specs.Same.{MeansTheSame};
-ghost use Rattle.flatten.specs.declared.sizes.TheConstants.{MAX_INSTRUCTIONS};
 ghost use Rattle.flatten.specs.declared.error.FlatError.TheVariants.{TooLarge};
 
 use crate::error::FlatError;
@@ -124,9 +123,9 @@ fn push_all(
 fn built(alloc: Global, m: &Middlebox) -> Result<Flat, FlatError>
     requires good { IsTrue (is_good (tree m.now)) }
     ensures program { IfOk result (λ f. program_of f ≡ pure.flat_of (tree m.now)) }
-    ensures few { IfOk result (λ f. length (program_of f).code ≤ MAX_INSTRUCTIONS) }
+    ensures few { IfOk result (λ f. length (program_of f).code ≤ 4096) }
     ensures large { IfErr result (λ error.
-        error ≡ TooLarge → MAX_INSTRUCTIONS < length (pure.flat_of (tree m.now)).code) }
+        error ≡ TooLarge → 4096 < length (pure.flat_of (tree m.now)).code) }
 {
     let frame = Frame::of(alloc, m.locals.as_slice())?;
     let mut seen = Seen::new();

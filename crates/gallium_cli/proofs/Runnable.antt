@@ -22,14 +22,12 @@ use Rattle.split_model.specs.declared.split.Slow.TheVariants.{Server}
 use Rattle.split_model.specs.Split.{part_at, pre_stage, post_stage, stage_after}
 use Rattle.split_model.specs.Shown.{writes_to, is_shown, is_replicated}
 use Rattle.split_model.specs.Counts.{count_below, count_steps, writes}
-use Rattle.split_model.specs.Bounds.{IsBounded}
+use Rattle.split_model.specs.Bounds.{IsBounded, HasFewStages}
 use Rattle.split_model.specs.Legal.{IsLegal}
 use Rattle.resource_limits.specs.declared.limits.Limits.{Limits}
 use Rattle.resource_limits.specs.Counts.{first_numbers}
 use Rattle.resource_limits.specs.Kept.{KeepsLimits}
 use Rattle.resource_limits.specs.Limits.{AreInRange}
-use Rattle.partition.specs.Choice.{HasLowStages}
-use Rattle.switch_ir.specs.Emitted.{HasFewStages}
 use Rattle.gallium_cli.specs.Runnable.{IsRunnable}
 
 -- ## Few writes, within limits
@@ -157,7 +155,7 @@ no_stages split n is = record {
 -- a chosen split can
 pub chosen_runs : (m : Tree) (f : Program) (split : List Part) (allowed : Limits) (writeback : ℕ) → IsTrue (is_good m)
     → f ≡ flat_of m → IsBounded (flat_of m) → IsKept m.objects (start_store m.objects) → IsLegal f split
-    → KeepsLimits f split allowed → HasLowStages split → AreInRange allowed → writeback ≡ allowed.writeback
+    → KeepsLimits f split allowed → HasFewStages split → AreInRange allowed → writeback ≡ allowed.writeback
     → IsRunnable m f split writeback
 chosen_runs m f split allowed writeback good same bounded kept legal keeps low in_range rows =
     let bounds : IsBounded f = subst IsBounded (sym same) bounded in

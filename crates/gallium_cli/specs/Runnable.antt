@@ -5,7 +5,7 @@ use Rattle.element_lang.specs.Rules.{is_good}
 use Rattle.flat_ir.specs.Program.{Program}
 use Rattle.flatten.specs.Flatten.{flat_of}
 use Rattle.split_model.specs.declared.split.Part.{Part}
-use Rattle.switch_ir.specs.Emitted.{HasFewStages}
+use Rattle.split_model.specs.Bounds.{HasFewStages}
 use Rattle.split_program.specs.Whole.{IsSplit}
 
 -- the flat program of a middlebox, and a split of it for write-back tables of so many rows, as a replay asks for them

@@ -9,8 +9,8 @@ ghost use Rattle.flatten.specs.Flatten.{flat_of};
 ghost use Rattle.resource_limits.specs.Limits.{AreInRange};
 ghost use Rattle.resource_limits.specs.Kept.{KeepsLimits};
 ghost use Rattle.resource_limits.specs.declared.limits.Limits.{Limits as Allowed};
-ghost use Rattle.partition.specs.Choice.{HasLowStages, IsChosen};
-ghost use Rattle.split_model.specs.Bounds.{IsBounded};
+ghost use Rattle.partition.specs.Choice.{IsChosen};
+ghost use Rattle.split_model.specs.Bounds.{HasFewStages, IsBounded};
 ghost use Rattle.split_model.specs.Legal.{IsLegal};
 ghost use Rattle.gallium_cli.specs.Words.{Compile};
 ghost use Rattle.gallium_cli.specs.Call.{work_of};
@@ -104,7 +104,7 @@ fn choose(
     ensures chosen { IfOk result (λ split. IsChosen (program_of f.now) allowed.now shrink split) }
     ensures legal { IfOk result (λ split. IsLegal (program_of f.now) split) }
     ensures keeps { IfOk result (λ split. KeepsLimits (program_of f.now) split allowed.now) }
-    ensures low { IfOk result HasLowStages }
+    ensures low { IfOk result HasFewStages }
     ensures err { IfErr result (λ refusal. IsUnchosen refusal (program_of f.now) allowed.now shrink) }
 {
     match partition(alloc, f, allowed, shrink) {

@@ -13,7 +13,8 @@ use Rattle.resource_limits.specs.declared.exceeding.Over.{Over}
 use Rattle.resource_limits.specs.Limits.{AreInRange}
 use Rattle.resource_limits.specs.Counts.{counts_of}
 use Rattle.resource_limits.specs.Kept.{KeepsLimits, first_over}
-use Rattle.partition.specs.Choice.{IsKept, IsExceeded, IsFirstKept, IsChosen, HasLowStages, shrinking}
+use Rattle.partition.specs.Choice.{IsKept, IsExceeded, IsFirstKept, IsChosen, shrinking}
+use Rattle.split_model.specs.Bounds.{HasFewStages}
 use Rattle.partition.specs.Tried.{IsTriedKept, IsTriedExceeded}
 use Rattle.partition.proofs.Lawful.{as_many}
 use Rattle.partition.proofs.Server.{left}
@@ -54,7 +55,7 @@ past [] i le = refl
 past (x ∷ xs) zero le = absurd (omega (arith, le))
 past (x ∷ xs) (suc i) le = past xs i (omega (arith, le))
 
-pub low_stages : (f : Program) (limits : Limits) (split : List Part) → length split ≡ length f.code → AreInRange limits → KeepsLimits f split limits → HasLowStages split
+pub low_stages : (f : Program) (limits : Limits) (split : List Part) → length split ≡ length f.code → AreInRange limits → KeepsLimits f split limits → HasFewStages split
 low_stages f limits split count ranges keeps = record {
   pre = λ i stage is. elim (cases_lt i (length f.code)) [
     | inl lt ↦ (let h = pre_low split (length f.code) i lt in let s = ap stage_or_zero is in let k = keeps.stages in let r = ranges.1 in omega (arith, h, s, k, r))
@@ -70,7 +71,7 @@ low_stages f limits split count ranges keeps = record {
 pub record IsSound (f : Program) (limits : Limits) (split : List Part) : Type 0 where
   pub legal : IsLegal f split
   pub keeps : KeepsLimits f split limits
-  pub low : HasLowStages split
+  pub low : HasFewStages split
 
 pub sound : ((f : Program) (k : ℕ) (all : Bool) (split : List Part) → IsWellFormed f → IsGreatestSplit f k all split → IsLegal f split)
     → (f : Program) (limits : Limits) (shrink : Bool) (split : List Part) → IsWellFormed f → AreInRange limits → IsChosen f limits shrink split → IsSound f limits split

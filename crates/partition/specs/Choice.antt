@@ -1,8 +1,7 @@
 -- Which split is chosen, and when none is.
-use Rattle.std.specs.Prelude.{◌≡◌, ◌⊎◌, ℕ, zero, suc, ◌≤◌, Bool, true, false, List, [], ◌∷◌, Some, length}
+use Rattle.std.specs.Prelude.{◌≡◌, ◌⊎◌, ℕ, zero, suc, Bool, true, false, List, [], ◌∷◌, Some, length}
 use Rattle.flat_ir.specs.Program.{Program}
 use Rattle.split_model.specs.declared.split.Part.{Part}
-use Rattle.split_model.specs.Split.{pre_stage, post_stage}
 use Rattle.split_model.specs.Greatest.{IsGreatestSplit}
 use Rattle.resource_limits.specs.declared.limits.Limits.{Limits}
 use Rattle.resource_limits.specs.declared.exceeding.Over.{Over}
@@ -41,8 +40,3 @@ IsChosen f limits true split = IsFirstKept f limits (shrinking (length f.code)) 
 abbrev pub IsRefused : Program → Limits → Bool → Over → Type 0
 IsRefused f limits false over = IsExceeded f limits (length f.code) true over
 IsRefused f limits true over = ⊥
-
--- no stage of either pass is above 4,096
-pub record HasLowStages (split : List Part) : Type 0 where
-  pub pre : (i stage : ℕ) → pre_stage split i ≡ Some stage → stage ≤ 4096
-  pub post : (i stage : ℕ) → post_stage split i ≡ Some stage → stage ≤ 4096

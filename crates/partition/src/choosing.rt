@@ -2,12 +2,12 @@
 ghost use Rattle.std.specs.Prelude.{◌≡◌, ◌↔◌, ℕ, ◌<◌, ◌-◌, length, IfOk, IfErr, true, false, List};
 ghost use Rattle.flat_ir.specs.Program.{program_of};
 ghost use Rattle.split_model.specs.declared.split.Part.{Part};
-ghost use Rattle.split_model.specs.Bounds.{IsBounded};
+ghost use Rattle.split_model.specs.Bounds.{IsBounded, HasFewStages};
 ghost use Rattle.split_model.specs.Legal.{IsLegal};
 ghost use Rattle.resource_limits.specs.Limits.{AreInRange};
 ghost use Rattle.resource_limits.specs.Kept.{KeepsLimits};
 ghost use Rattle.resource_limits.specs.declared.exceeding.Over.{Over};
-ghost use Rattle.partition.specs.Choice.{IsChosen, IsRefused, HasLowStages};
+ghost use Rattle.partition.specs.Choice.{IsChosen, IsRefused};
 ghost use Rattle.partition.specs.declared.choosing.PartError.TheVariants.{NoMemory as without_memory};
 ghost use Rattle.partition.specs.Causes.{IsCause};
 ghost use Rattle.partition.specs.Tried.{IsTried, IsFound, IsFoundOfTwo, IsStep};
@@ -201,7 +201,7 @@ pub fn partition(alloc: Global, f: &Flat, limits: &Limits, shrink: bool) -> Resu
     ensures refused { IfErr result (λ error. IsCause (program_of f.now) limits.now shrink error) }
     ensures legal { IfOk result (λ split. IsLegal (program_of f.now) split) }
     ensures keeps { IfOk result (λ split. KeepsLimits (program_of f.now) split limits.now) }
-    ensures low { IfOk result HasLowStages }
+    ensures low { IfOk result HasFewStages }
     ensures not_refused { (split : List Part) → IsChosen (program_of f.now) limits.now shrink split
         → IfErr result (λ error. error ≡ without_memory) }
     ensures not_chosen { (over : Over) → IsRefused (program_of f.now) limits.now shrink over

@@ -2,7 +2,7 @@
 ghost use Rattle.std.specs.Prelude.{◌≡◌, ◌≤◌, length, IfErr, IfOk, IsSome};
 ghost use Rattle.gal_io.specs.Count.{Rose};
 ghost use Rattle.flat_ir.specs.Program.{program_of};
-ghost use Rattle.switch_ir.specs.Emitted.{HasFewStages};
+ghost use Rattle.split_model.specs.Bounds.{HasFewStages};
 ghost use Rattle.split_program.specs.Whole.{IsSplit};
 ghost use Rattle.run_text.specs.Sizes.{most_events, most_packets};
 ghost use Rattle.schedule_replay.specs.Setup.{setup_of};

@@ -2,7 +2,7 @@
 ghost use Rattle.std.specs.Prelude.{◌≡◌, ◌≤◌, ◌<◌, ◌+◌, List, [], Some, None, Err, is_some, length, IfErr, IfOk, OnErr, OnOk};
 ghost use Rattle.gal_io.specs.Count.{Rose};
 ghost use Rattle.flat_ir.specs.Program.{program_of};
-ghost use Rattle.switch_ir.specs.Emitted.{HasFewStages};
+ghost use Rattle.split_model.specs.Bounds.{HasFewStages};
 ghost use Rattle.split_program.specs.Whole.{IsSplit};
 ghost use Rattle.run_text.specs.Sizes.{most_events, most_packets};
 ghost use Rattle.run_text.specs.declared.event.Event.{Event};

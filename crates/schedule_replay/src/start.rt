@@ -2,13 +2,13 @@
 ghost use Rattle.std.specs.Prelude.{◌≡◌, ◌≤◌, [], length, IfErr, IfOk, OnOk};
 ghost use Rattle.std.specs.List.{AllByRecursion as Each};
 ghost use Rattle.gal_io.specs.Count.{Rose};
-ghost use Rattle.packet_fields.specs.Sizes.{AreShort};
-ghost use Rattle.packet_fields.specs.declared.packet.TheConstants.{MAX_PACKET_BYTES};
+ghost use Rattle.packet_fields.specs.Sizes.{AreShort, largest_packet};
 ghost use Rattle.flat_ir.specs.Arrivals.{IsArrival};
 ghost use Rattle.flat_ir.specs.Program.{program_of};
 ghost use Rattle.run_text.specs.Sizes.{most_packets};
 ghost use Rattle.switch_ir.specs.Code.{code_of};
-ghost use Rattle.switch_ir.specs.Emitted.{HasFewStages, IsEmitted};
+ghost use Rattle.switch_ir.specs.Emitted.{IsEmitted};
+ghost use Rattle.split_model.specs.Bounds.{HasFewStages};
 ghost use Rattle.switch_ir.specs.Port.{Loads};
 ghost use Rattle.split_program.specs.Whole.{IsSplit};
 ghost use Rattle.schedule_replay.specs.Setup.{setup_of};
@@ -26,7 +26,7 @@ use told_switch::told_tables_start;
 
 // The port and the bytes of a packet have 8 bits.
 fn arrives(port: u8, bytes: &[u8])
-    requires { length bytes.now ≤ MAX_PACKET_BYTES }
+    requires { length bytes.now ≤ largest_packet }
     ensures { IsArrival (record { port = port; bytes = bytes.now }) }
 {}
 

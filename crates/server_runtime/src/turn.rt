@@ -2,7 +2,7 @@
 ghost use Rattle.std.specs.Prelude.{◌≡◌, ◌<◌, ◌≤◌, ◌==◌, ◌||◌, ◌∷◌, [], true, false};
 ghost use Rattle.std.specs.Prelude.{length, IsTrue, if◌then◌else◌};
 ghost use Rattle.packet_fields.specs.Shape.{shape_of};
-ghost use Rattle.packet_fields.specs.declared.packet.TheConstants.{MAX_PACKET_BYTES};
+ghost use Rattle.packet_fields.specs.Sizes.{largest_packet};
 ghost use Rattle.state_store.specs.Kept.{IsKept};
 ghost use Rattle.flat_ir.specs.Blocks.{is_live};
 ghost use Rattle.flat_ir.specs.Fits.{fits};
@@ -93,7 +93,7 @@ fn work_and_tell(
     requires prepared { IsPrepared numbers.now.whole.now }
     requires fits { IsTrue (fits (program_of numbers.now.whole.now.flat) (work_of instr.now.kind)) }
     requires there { instr.now.block ≤ length numbers.now.whole.now.flat.blocks }
-    requires size { length arrival.now.bytes.now ≤ MAX_PACKET_BYTES }
+    requires size { length arrival.now.bytes.now ≤ largest_packet }
     requires shape { arrival.now.shape ≡ shape_of arrival.now.bytes.now }
     ensures results { let f = program_of numbers.now.whole.now.flat in
         let reads = register_reads f numbers.now.values.now in
@@ -136,7 +136,7 @@ pub(crate) fn take_turn(
     requires within { instruction < length whole.now.flat.code }
     requires all { AreAll (program_of whole.now.flat) values.old }
     requires kept { IsKept whole.now.flat.objects store.old }
-    requires size { length arrival.now.bytes.now ≤ MAX_PACKET_BYTES }
+    requires size { length arrival.now.bytes.now ≤ largest_packet }
     requires shape { arrival.now.shape ≡ shape_of arrival.now.bytes.now }
     ensures turn { let f = program_of whole.now.flat in
         IsRunning f whole.now.split

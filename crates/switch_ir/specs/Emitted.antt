@@ -12,7 +12,7 @@ use Rattle.flat_ir.specs.Operands.{CanRun}
 use Rattle.flat_ir.specs.Blocks.{Reading}
 use Rattle.split_model.specs.declared.split.Part.{Part}
 use Rattle.split_model.specs.Split.{pre_stage, post_stage, is_pre}
-use Rattle.split_model.specs.Bounds.{IsBounded}
+use Rattle.split_model.specs.Bounds.{IsBounded, HasFewStages}
 use Rattle.split_model.specs.Counts.{is_post_shown, stage_or_zero}
 use Rattle.split_model.specs.Crossing.{is_at_hand}
 use Rattle.split_model.specs.Layouts.{values_of, values_below, up_layout, down_layout}
@@ -120,11 +120,6 @@ pub record Computes (f : Program) (split : List Part) (code : Code) : Type 0 whe
       → down_values code (value_by down) tables packet v ≡ post_values f split down tables packet v
   pub verdict : (down : Reading) (tables : Store) (packet : Packet)
       → down_end code (value_by down) tables packet ≡ down_verdict f split down tables packet
-
--- no stage is above 4,096
-pub record HasFewStages (split : List Part) : Type 0 where
-  pub pre : (i t : ℕ) → pre_stage split i ≡ Some t → t ≤ 4096
-  pub post : (i t : ℕ) → post_stage split i ≡ Some t → t ≤ 4096
 
 -- each instruction of a program can be computed from numbers and tables
 abbrev pub AllRun : Program → Type 0

@@ -4,11 +4,11 @@ ghost use Rattle.state_store.specs.Kept.{IsKept};
 ghost use Rattle.state_store.specs.Store.{start_store};
 ghost use Rattle.flat_ir.specs.Program.{program_of};
 ghost use Rattle.flat_ir.specs.WellFormed.{IsWellFormed};
-ghost use Rattle.split_model.specs.Bounds.{IsBounded};
+ghost use Rattle.split_model.specs.Bounds.{IsBounded, HasFewStages};
 ghost use Rattle.split_model.specs.Legal.{IsLegal};
 ghost use Rattle.split_model.specs.Passes.{post_fields};
 ghost use Rattle.switch_ir.specs.Code.{code_of, pass_of};
-ghost use Rattle.switch_ir.specs.Emitted.{emitted, pre_code, post_code, AllRun, Computes, HasFewStages, IsEmitted};
+ghost use Rattle.switch_ir.specs.Emitted.{emitted, pre_code, post_code, AllRun, Computes, IsEmitted};
 
 use crate::code::{Pass, Steps, SwitchCode};
 use crate::laws::what_is_emitted_computes_the_split;

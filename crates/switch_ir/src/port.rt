@@ -1,6 +1,6 @@
 //! The switch as the rest of the program calls it.
 ghost use Rattle.std.specs.Prelude.{◌≡◌, ◌≤◌, ◌<◌, length, IfOk};
-ghost use Rattle.packet_fields.specs.declared.packet.TheConstants.{MAX_PACKET_BYTES};
+ghost use Rattle.packet_fields.specs.Sizes.{largest_packet};
 ghost use Rattle.switch_ir.specs.Code.{code_of};
 ghost use Rattle.switch_ir.specs.Emitted.{IsEmitted};
 ghost use Rattle.switch_ir.specs.Port.{PortState, Loads, MakesRoom, PassesUp, PassesDown, Commands, ShowsRows};
@@ -121,7 +121,7 @@ pub trait SwitchPort {
     /// A packet arrives, which is known by its number.
     fn pass_up(&mut self, alloc: Global, number: u32, port: u8, packet: &[u8]) -> UpEnd
         requires loaded { IsLoaded (seen self.old) }
-        requires size { length packet.now ≤ MAX_PACKET_BYTES }
+        requires size { length packet.now ≤ largest_packet }
         ensures { PassesUp result number port packet.now (seen self.old) (seen self.new) };
 
     /// A frame comes down from the server.

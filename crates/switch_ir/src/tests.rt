@@ -10,7 +10,7 @@ ghost use Rattle.flat_ir.specs.Program.Work.{const, field, apply};
 ghost use Rattle.split_model.specs.declared.split.Slow.TheVariants.{Carried, Post};
 ghost use Rattle.split_model.specs.Legal.{IsLegal};
 ghost use Rattle.switch_ir.specs.Code.{code_of};
-ghost use Rattle.switch_ir.specs.Emitted.{HasFewStages};
+ghost use Rattle.split_model.specs.Bounds.{HasFewStages};
 ghost use Rattle.switch_ir.specs.declared.journal.Entry.TheVariants as entry;
 ghost use Rattle.switch_ir.specs.declared.port.UpEnd.TheVariants as up;
 ghost use Rattle.switch_ir.specs.declared.port.DownEnd.TheVariants as down;

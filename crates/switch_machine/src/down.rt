@@ -1,7 +1,7 @@
 //! The pass over a packet that comes down from the server.
 ghost use Rattle.std.specs.Prelude.{◌≡◌, ◌≤◌, length, IfOk};
 ghost use Rattle.packet_fields.specs.Shape.{shape_of};
-ghost use Rattle.packet_fields.specs.declared.packet.TheConstants.{MAX_PACKET_BYTES};
+ghost use Rattle.packet_fields.specs.Sizes.{largest_packet};
 ghost use Rattle.flat_ir.specs.Registers.{packet_of};
 ghost use Rattle.transfer_header.specs.Frames.{IsFrame};
 ghost use Rattle.transfer_header.specs.Registers.{value_in};
@@ -54,7 +54,7 @@ fn finish(
     registers: &Regs,
     arrival: &Arrival<'_>,
 ) -> Result<Verdict, NoMemory>
-    requires size { length arrival.now.bytes.now ≤ MAX_PACKET_BYTES }
+    requires size { length arrival.now.bytes.now ≤ largest_packet }
     requires shape { arrival.now.shape ≡ shape_of arrival.now.bytes.now }
     requires registers { HaveRegisters loaded.now.code.down registers.now }
     ensures { IfOk result (λ verdict. verdict

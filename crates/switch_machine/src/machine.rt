@@ -2,7 +2,7 @@
 ghost use Rattle.std.specs.Prelude.{◌≡◌, ◌≤◌, ◌<◌, ◌-◌, ◌++◌, ◌∷◌, [], ℕ, false, max, None, Some};
 ghost use Rattle.std.specs.Prelude.{length, OnOk, OnErr, IfOk, IsSome, if◌then◌else◌};
 ghost use Rattle.gal_io.specs.Count.{one_more, Counts};
-ghost use Rattle.packet_fields.specs.declared.packet.TheConstants.{MAX_PACKET_BYTES};
+ghost use Rattle.packet_fields.specs.Sizes.{largest_packet};
 ghost use Rattle.state_store.specs.declared.object.ObjectDecl.{ObjectDecl};
 ghost use Rattle.writeback_table.specs.Pair.{visible_rows};
 ghost use Rattle.switch_ir.specs.Code.{code_of, Code};
@@ -187,7 +187,7 @@ impl ModelSwitch {
         fails: bool,
     ) -> Result<UpEnd, NoMemory>
         requires loaded { IsSome (machine_of self.now).code }
-        requires size { length packet.now ≤ MAX_PACKET_BYTES }
+        requires size { length packet.now ≤ largest_packet }
         ensures passes { IfOk result (UpPasses fails) }
         ensures frame { (code : Code) → (machine_of self.now).code ≡ Some code
             → IfOk result (IsUpFrame code number port packet.now) }
@@ -212,7 +212,7 @@ impl ModelSwitch {
         fails: bool,
     ) -> Result<UpEnd, NoMemory>
         requires loaded { IsSome (machine_of self.old).code }
-        requires size { length packet.now ≤ MAX_PACKET_BYTES }
+        requires size { length packet.now ≤ largest_packet }
         ensures passes { IfOk result (UpPasses fails) }
         ensures frame { (code : Code) → (machine_of self.old).code ≡ Some code
             → IfOk result (IsUpFrame code number port packet.now) }
@@ -352,7 +352,7 @@ impl SwitchPort for ModelSwitch {
 
     fn pass_up(&mut self, alloc: Global, number: u32, port: u8, packet: &[u8]) -> UpEnd
         requires loaded { IsLoaded (seen_of (machine_of self.old)) }
-        requires size { length packet.now ≤ MAX_PACKET_BYTES }
+        requires size { length packet.now ≤ largest_packet }
         ensures passes { PassesUp result number port packet.now
             (seen_of (machine_of self.old)) (seen_of (machine_of self.new)) }
         ensures plan { UpEndsAsPlanned (fails_next (machine_of self.old) call.Up) result }

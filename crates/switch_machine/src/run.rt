@@ -2,7 +2,7 @@
 ghost use Rattle.std.specs.Prelude.{◌≡◌, ℕ, ◌≤◌, ◌<◌, ◌∷◌, [], length, map, replicate, IfOk, OnOk};
 ghost use Rattle.std.specs.List.{AllByRecursion as Each};
 ghost use Rattle.packet_fields.specs.Shape.{shape_of};
-ghost use Rattle.packet_fields.specs.declared.packet.TheConstants.{MAX_PACKET_BYTES};
+ghost use Rattle.packet_fields.specs.Sizes.{largest_packet};
 ghost use Rattle.flat_ir.specs.Blocks.{nothing, Reading};
 ghost use Rattle.flat_ir.specs.Registers.{packet_of};
 ghost use Rattle.switch_ir.specs.Code.{step_of, pass_of};
@@ -72,7 +72,7 @@ fn read_stage<L: Lookup, G: Numbers>(
     computed: &mut Vec<(u32, Results)>,
 ) -> Result<(), NoMemory>
     requires can { Each CanStep (map step_of steps.now) }
-    requires size { length arrival.now.bytes.now ≤ MAX_PACKET_BYTES }
+    requires size { length arrival.now.bytes.now ≤ largest_packet }
     requires shape { arrival.now.shape ≡ shape_of arrival.now.bytes.now }
     requires rows { HaveRows (length run.now.rows.now) (instructions_of (map step_of steps.now)) }
     requires empty { computed.old.items ≡ [] }
@@ -113,7 +113,7 @@ fn run_stage<L: Lookup, G: Numbers>(
     rows: &mut Vec<Row>,
 ) -> Result<(), NoMemory>
     requires can { Each CanStep (map step_of steps.now) }
-    requires size { length arrival.now.bytes.now ≤ MAX_PACKET_BYTES }
+    requires size { length arrival.now.bytes.now ≤ largest_packet }
     requires shape { arrival.now.shape ≡ shape_of arrival.now.bytes.now }
     requires rows { HaveRows (length rows.old.items) (instructions_of (map step_of steps.now)) }
     requires empty { computed.old.items ≡ [] }
@@ -160,7 +160,7 @@ pub(crate) fn run_pass<L: Lookup, G: Numbers>(
 ) -> Result<Vec<Row>, NoMemory>
     requires can { Each CanStep (pass_of pass.now).steps }
     requires stages { AreStages (pass_of pass.now).steps pass.now.highest stages.now }
-    requires size { length arrival.now.bytes.now ≤ MAX_PACKET_BYTES }
+    requires size { length arrival.now.bytes.now ≤ largest_packet }
     requires shape { arrival.now.shape ≡ shape_of arrival.now.bytes.now }
     ensures { IfOk result (λ rows. over (G.reads given.now) rows.items
         ≡ pass_values (pass_of pass.now) (G.reads given.now) (L.seen tables.now) (packet_of arrival.now)) }
@@ -191,7 +191,7 @@ pub(crate) fn given_rows(
     arrival: &Arrival<'_>,
 ) -> Result<Vec<Row>, NoMemory>
     requires can { Each CanStep (pass_of pass.now).given }
-    requires size { length arrival.now.bytes.now ≤ MAX_PACKET_BYTES }
+    requires size { length arrival.now.bytes.now ≤ largest_packet }
     requires shape { arrival.now.shape ≡ shape_of arrival.now.bytes.now }
     ensures { IfOk result (λ rows. over nothing rows.items
         ≡ after_stage (pass_of pass.now).given 0 nothing [] (packet_of arrival.now)) }

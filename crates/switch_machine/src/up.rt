@@ -1,7 +1,7 @@
 //! The pass over a packet that arrives.
 ghost use Rattle.std.specs.Prelude.{◌≡◌, ◌≤◌, false, length, replicate, IfOk};
 ghost use Rattle.std.specs.List.{list_any, AllByRecursion as Each};
-ghost use Rattle.packet_fields.specs.declared.packet.TheConstants.{MAX_PACKET_BYTES};
+ghost use Rattle.packet_fields.specs.Sizes.{largest_packet};
 ghost use Rattle.flat_ir.specs.Blocks.{is_live, HasLowParents};
 ghost use Rattle.transfer_header.specs.Frames.{up_frame};
 ghost use Rattle.transfer_header.specs.Registers.{FitsLayout, Holds};
@@ -56,7 +56,7 @@ fn frame_of<R: Numbers>(
     packet: &[u8],
 ) -> Result<Bytes, NoMemory>
     requires fits { FitsLayout code.now.up (replicate code.now.values 0) }
-    requires size { length packet.now ≤ MAX_PACKET_BYTES }
+    requires size { length packet.now ≤ largest_packet }
     ensures bytes { IfOk result (λ frame. frame ≡ up_frame code.now.up number port (R.reads numbers.now) packet.now) }
     ensures frame { IfOk result (λ frame. IsUpFrame (code_of code.now) number port packet.now (Up frame)) }
 {
@@ -75,7 +75,7 @@ pub(crate) fn go_up(
     port: u8,
     packet: &[u8],
 ) -> Result<UpEnd, NoMemory>
-    requires { length packet.now ≤ MAX_PACKET_BYTES }
+    requires { length packet.now ≤ largest_packet }
     ensures passes { IfOk result (UpPasses false) }
     ensures frame { IfOk result (λ end. IsUpFrame (code_of loaded.now.code) number port packet.now end) }
     ensures told { IfOk result (λ end.

@@ -9,7 +9,7 @@ put_slot-requires g c =
     let lt : c.loop-i.i < length t.slots = omega arith in
     let within : len t.rows ≤ c.loop-i.made.capacity = omega arith in
     let room = slot_fits t.rows c.loop-i.made.rows t.slots c.loop-i.i c.loop-i.made.capacity c.slot-row.result c.slot-row.ensures.rows lt c.slot-row.ensures.held c.loop-i.invariant.rows within in
-    record { keys = c.requires.keys; values = c.requires.values; room = room }
+    (omega arith, (omega (arith, c.requires.keys), (omega (arith, c.requires.values), (c.requires.keys, (c.requires.values, room)))))
 
 pub loop-i-preserved : goal.loop-i-preserved
 loop-i-preserved g c =
