@@ -1,5 +1,5 @@
 -- Puts and dels change the row of their key alone.
-use Rattle.std.proofs.Common.{◌≡◌, ◌≢◌, ◌≤◌, ℕ, zero, suc, ◌+◌, Bool, true, false, cond, not, ◌&&◌, nat_le, List, [], ◌∷◌, Some, None, refl, sym, ap, subst, ◌∙◌, arith}
+use Rattle.std.proofs.Common.{◌≡◌, ◌≢◌, ◌<◌, ◌≤◌, ℕ, zero, suc, ◌+◌, Bool, true, false, cond, not, ◌&&◌, nat_le, List, [], ◌∷◌, Some, None, slice_get, refl, sym, ap, subst, ◌∙◌, arith, true≢false}
 use Rattle.std.specs.Cmp.{tied_itself}
 use Rattle.std.specs.FinMap.{get, insert, len, contains_key, get-insert, get-remove, len-insert}
 use Rattle.std.specs.Ordering.{eq_by_cmp, is_eq}
@@ -7,8 +7,10 @@ use Rattle.std.proofs.lemmas.Bool.Decides.{nat_tests}
 use Rattle.std.proofs.lemmas.Cmp.{nat_list_cmp_total}
 use Rattle.std.proofs.lemmas.Map.Lookups.{exact_bytes}
 use Rattle.state_store.specs.declared.store.Put.TheVariants.{Stored, Full, OutOfRange}
-use Rattle.state_store.specs.Laws.{IsStoredAlone, IsRemovedAlone, IsChangedAlone}
-use Rattle.state_store.specs.Store.{key_cmp, Contents, Object, Store, look, is_out, is_full, put_answer, put_row}
+use Rattle.state_store.specs.declared.object.ObjectDecl.{ObjectDecl}
+use Rattle.state_store.specs.Kept.{IsWhole, IsKeptObject, IsKept}
+use Rattle.state_store.specs.Laws.{IsStoredAlone, IsRemovedAlone, IsChangedAlone, IsNeverFull}
+use Rattle.state_store.specs.Store.{key_cmp, Contents, Object, Store, look, is_out, is_full, put_answer, put_row, object_at}
 use Rattle.state_store.proofs.Entries.{is_equal}
 
 apart : (q k : List ℕ) (b : Bool) → eq_by_cmp key_cmp q k ≡ b → q ≢ k → b ≡ false
@@ -60,3 +62,34 @@ change_alone (x ∷ store) zero o zero differs = absurd (differs refl)
 change_alone (x ∷ store) zero o (suc other) differs = refl
 change_alone (x ∷ store) (suc number) o zero differs = refl
 change_alone (x ∷ store) (suc number) o (suc other) differs = change_alone store number o other (λ same. differs (ap suc same))
+
+-- a row that is there is never refused
+no_room_wanted : (there : Bool) (full : Bool) → there ≡ true → (not there && full) ≡ false
+no_room_wanted true full is = refl
+no_room_wanted false full is = absurd (true≢false (sym is))
+
+never_refused : (d : ObjectDecl) (o : Object) → IsKeptObject d o → IsWhole d o → IsNeverFull d o
+never_refused d o kept whole = record {
+  vector = λ is index lt.
+      let inside : is_out o.kind o.size (index ∷ []) ≡ false = ap (λ k. is_out k o.size (index ∷ [])) (kept.kind ∙ is) ∙ not_out index d.size o.size kept.size lt in
+      stored_if o (index ∷ []) inside (no_room_wanted _ (nat_le o.size (len o.contents)) (whole.vector is index lt));
+  outside = λ is index le.
+      let outside : is_out o.kind o.size (index ∷ []) ≡ true = ap (λ k. is_out k o.size (index ∷ [])) (kept.kind ∙ is) ∙ out_of index d.size o.size kept.size le in
+      rw outside refl;
+  int = λ is.
+      let inside : is_out o.kind o.size [] ≡ false = ap (λ k. is_out k o.size []) (kept.kind ∙ is) in
+      stored_if o [] inside (no_room_wanted _ (nat_le o.size (len o.contents)) (whole.int is));
+}
+  where
+    stored_if : (x : Object) (key : List ℕ) → is_out x.kind x.size key ≡ false → is_full x key ≡ false → put_answer x key ≡ Stored
+    stored_if x key e f = rw (e, f) refl
+
+    not_out : (i n size : ℕ) → size ≡ n → i < n → nat_le size i ≡ false
+    not_out i n size is lt = grind (arith, nat_tests)
+
+    out_of : (i n size : ℕ) → size ≡ n → n ≤ i → nat_le size i ≡ true
+    out_of i n size is le = grind (arith, nat_tests)
+
+pub never_full : (objects : List ObjectDecl) (store : Store) (number : ℕ) (d : ObjectDecl) → IsKept objects store → slice_get objects number ≡ Some d
+    → IsNeverFull d (object_at store number)
+never_full objects store number d kept is = never_refused d (object_at store number) (kept.each number d is) (kept.whole number d is)

@@ -1,7 +1,9 @@
 -- What a put and a del do to the rows of an object, and to those of the others.
-use Rattle.std.specs.Prelude.{◌≡◌, ◌≢◌, ◌≤◌, ℕ, List, Some, None}
+use Rattle.std.specs.Prelude.{◌≡◌, ◌≢◌, ◌<◌, ◌≤◌, ℕ, List, [], ◌∷◌, Some, None}
 use Rattle.std.specs.FinMap as map
-use Rattle.state_store.specs.declared.store.Put.TheVariants.{Stored}
+use Rattle.state_store.specs.declared.object.Kind.TheVariants.{Vector, Int}
+use Rattle.state_store.specs.declared.object.ObjectDecl.{ObjectDecl}
+use Rattle.state_store.specs.declared.store.Put.TheVariants.{Stored, OutOfRange}
 use Rattle.state_store.specs.Store.{Object, Store, look, put_answer, put_row, del_row, object_at, with_object}
 
 -- what is stored is found, every other key has what it had, and there are never more rows than the size
@@ -18,3 +20,9 @@ pub record IsRemovedAlone (object : Object) (key : List ℕ) : Type 0 where
 -- to change an object leaves every other one
 abbrev pub IsChangedAlone : Store → ℕ → Object → Type 0
 IsChangedAlone store number object = (other : ℕ) → other ≢ number → object_at (with_object store number object) other ≡ object_at store other
+
+-- A vector stores at each index below its length and nowhere else, and an integer always: neither is ever full.
+pub record IsNeverFull (declaration : ObjectDecl) (object : Object) : Type 0 where
+  pub vector : declaration.kind ≡ Vector → (index : ℕ) → index < declaration.size → put_answer object (index ∷ []) ≡ Stored
+  pub outside : declaration.kind ≡ Vector → (index : ℕ) → declaration.size ≤ index → put_answer object (index ∷ []) ≡ OutOfRange
+  pub int : declaration.kind ≡ Int → put_answer object [] ≡ Stored

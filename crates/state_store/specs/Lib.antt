@@ -3,6 +3,8 @@ pub mod Codes
 pub mod Fitted
 pub mod Kinds
 pub mod Kept
+pub mod Keeping
+pub mod Once
 pub mod Laws
 pub mod Packing
 pub mod Places

@@ -13,6 +13,6 @@ mod stored;
 #[cfg(test)]
 mod tests;
 
-pub use laws::rows_change_alone;
+pub use laws::{rows_change_alone, rows_that_stay_are_never_full};
 pub use object::{Kind, ObjectDecl, Objects, Row, Rows};
 pub use store::{Found, Put, Store};
