@@ -19,7 +19,8 @@ use Rattle.element_lang.specs.Rules.{widths_of, same_widths, is_good_expr, are_g
 use Rattle.element_lang.specs.Meaning.{State, Outcome, Running, Ended, then_do, bit, bind_from, value_of, values_of, looked, stored, bound, deleted, turns, do_stmt, do_body, start_state, store_after, source_store, serial_store}
 use Rattle.element_interp.specs.Arrivals.{IsArrival}
 use Rattle.element_interp.specs.Fields.{AllFit}
-use Rattle.element_interp.proofs.KeptObjects.{start_is_kept, put_is_kept, del_is_kept}
+use Rattle.element_interp.proofs.KeptObjects.{start_is_kept}
+use Rattle.state_store.specs.Keeping.{put_is_kept, del_is_kept}
 use Rattle.element_interp.proofs.Tests.{left, right}
 use Rattle.element_interp.proofs.Values.{AtWidths, at_widths, one_width, same_list, at_place, zero_at, operator_fits, fields_fit, field_assigned}
 use Rattle.packet_fields.specs.declared.packet.TheConstants.{MAX_PACKET_BYTES}

@@ -28,7 +28,7 @@ use Rattle.flat_ir.proofs.Fitting.{same_list}
 use Rattle.flat_ir.proofs.Readings.{each_weaker}
 use Rattle.flat_ir.proofs.Runs.{set_own, set_other}
 use Rattle.flat_ir.proofs.Widths.{at_widths, one_width, zeros_have_widths, operator_fits, field_fits}
-use Rattle.flat_ir.proofs.KeptRows.{put_is_kept, del_is_kept}
+use Rattle.state_store.specs.Keeping.{put_is_kept, del_is_kept}
 
 mapped : (f : Program) (reads : Reading) → AllFit f reads → (vs : List ValueId) → have_widths (widths_of f vs) (map reads vs) ≡ true
 mapped f reads fit [] = refl

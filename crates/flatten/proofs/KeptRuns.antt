@@ -20,7 +20,7 @@ use Rattle.element_lang.specs.Rules.{widths_of, same_widths, is_good_expr, are_g
 use Rattle.element_lang.specs.Meaning.{State, Outcome, Running, Ended, then_do, bit, bind_from, value_of, values_of, looked, stored, bound, deleted, turns, do_stmt, do_body, start_state, store_after}
 use Rattle.flat_ir.specs.Arrivals.{IsArrival}
 use Rattle.flatten.specs.Flatten.{field_widths}
-use Rattle.flatten.proofs.KeptObjects.{put_is_kept, del_is_kept}
+use Rattle.state_store.specs.Keeping.{put_is_kept, del_is_kept}
 use Rattle.flatten.proofs.BothParts.{left, right}
 use Rattle.flatten.proofs.Fitting.{AtWidths, at_widths, one_width, same_list, at_place, zero_at, operator_fits, fields_fit, field_assigned, field_width_at}
 

@@ -7,7 +7,6 @@ pub mod Branches
 pub mod BothParts
 pub mod FieldOrder
 pub mod Fitting
-pub mod KeptObjects
 pub mod KeptRuns
 pub mod Views
 pub mod Meanings

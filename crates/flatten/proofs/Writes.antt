@@ -9,7 +9,7 @@ use Rattle.state_store.specs.Store as store
 use Rattle.element_lang.specs.Meaning as source
 use Rattle.flat_ir.specs.Run as flat
 use Rattle.flat_ir.specs.Run.{made, put_change, del_change, with_changes}
-use Rattle.flatten.proofs.KeptObjects.{is_equal}
+use Rattle.state_store.specs.Keeping.{is_equal}
 
 pub bit_same : (b : Bool) → flat.bit b ≡ source.bit b
 bit_same true = refl

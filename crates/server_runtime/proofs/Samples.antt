@@ -7,7 +7,8 @@ use Rattle.gal_bits.specs.declared.op.Op.TheVariants.{Add, Cast}
 use Rattle.packet_fields.specs.declared.field.Field.TheVariants.{MetaLen, MetaPort}
 use Rattle.state_store.specs.declared.object.Kind.TheVariants.{Map, Table}
 use Rattle.state_store.specs.declared.object.ObjectDecl.{ObjectDecl}
-use Rattle.state_store.specs.Kept.{IsKept, IsKeptObject}
+use Rattle.state_store.specs.Keeping.{start_whole}
+use Rattle.state_store.specs.Kept.{IsKept, IsKeptObject, IsWhole}
 use Rattle.state_store.specs.Store.{key_cmp, start_object, start_store}
 use Rattle.state_store.specs.Store as store
 use Rattle.flat_ir.specs.declared.program.ValueId.{ValueId}
@@ -148,6 +149,12 @@ none_some x e = cc
 map_table : Map ≡ Table → ⊥
 map_table e = cc
 
+the_some : (x y : ObjectDecl) → Some x ≡ Some y → x ≡ y
+the_some x y e = cc
+
+mark_whole : (name : List ℕ) (d : ObjectDecl) → Some (mark name) ≡ Some d → IsWhole d (start_object (mark name))
+mark_whole name d e = subst (λ o. IsWhole o (start_object (mark name))) (the_some (mark name) d e) (start_whole (mark name))
+
 mark_kept : (name : List ℕ) (d : ObjectDecl) → Some (mark name) ≡ Some d → IsKeptObject d (start_object (mark name))
 mark_kept name d e = subst (λ o. IsKeptObject o (start_object (mark name))) (the_some (mark name) d e) (record {
   kind = refl;
@@ -157,18 +164,20 @@ mark_kept name d e = subst (λ o. IsKeptObject o (start_object (mark name))) (th
   rows = λ key values is. absurd (none_some values (sym (get-empty key_cmp key) ∙ is));
   table = λ is. absurd (map_table is);
 })
-  where
-    the_some : (x y : ObjectDecl) → Some x ≡ Some y → x ≡ y
-    the_some x y e = cc
 
 -- a store that has just begun keeps what was declared
 pub marks_kept : (first second : List ℕ) → IsKept (mark first ∷ mark second ∷ []) (start_store (mark first ∷ mark second ∷ []))
-marks_kept first second = record { count = refl; each = each }
+marks_kept first second = record { count = refl; each = each; whole = whole }
   where
     each : (number : ℕ) (d : ObjectDecl) → slice_get (mark first ∷ mark second ∷ []) number ≡ Some d → IsKeptObject d (store.object_at (start_store (mark first ∷ mark second ∷ [])) number)
     each zero d e = mark_kept first d e
     each (suc zero) d e = mark_kept second d e
     each (suc (suc number)) d e = absurd (none_some d e)
 
+    whole : (number : ℕ) (d : ObjectDecl) → slice_get (mark first ∷ mark second ∷ []) number ≡ Some d → IsWhole d (store.object_at (start_store (mark first ∷ mark second ∷ [])) number)
+    whole zero d e = mark_whole first d e
+    whole (suc zero) d e = mark_whole second d e
+    whole (suc (suc number)) d e = absurd (none_some d e)
+
 pub nothing_kept : IsKept [] (start_store [])
-nothing_kept = record { count = refl; each = λ number d e. absurd (none_some d e) }
+nothing_kept = record { count = refl; each = λ number d e. absurd (none_some d e); whole = λ number d e. absurd (none_some d e) }

@@ -1,4 +1,3 @@
-pub mod Kept
 pub mod Plans
 pub mod Registers
 pub mod Serving

@@ -6,7 +6,7 @@ ghost use Rattle.split_model.specs.Bounds.{IsBounded};
 ghost use Rattle.split_model.specs.Layouts.{up_layout};
 ghost use Rattle.split_model.specs.Legal.{IsLegal};
 ghost use Rattle.transfer_header.specs.Frames.{IsFrame};
-ghost use Rattle.server_runtime.specs.Kept.{kept_prop};
+ghost use Rattle.state_store.specs.Once.{kept_prop};
 ghost use Rattle.server_runtime.specs.Registers.{AreAll};
 ghost use Rattle.server_runtime.specs.Serving.{version_after};
 

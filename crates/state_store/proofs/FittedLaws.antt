@@ -1,7 +1,7 @@
 -- What the calls of a table say of the rows that are packed in it.
 use Rattle.std.proofs.Common.{◌≡◌, ℕ, ◌+◌, ◌*◌, ◌^◌, ◌<◌, Bool, true, false, cond, not, ◌&&◌, nat_le, List, [], ◌∷◌, Option, Some, None, is_some, option_map, refl, sym, ap, ap₂, subst, ◌∙◌, true≢false}
 use Rattle.std.specs.FinMap.{get, len, empty, insert, remove, entries, contains_key}
-use Rattle.slot_table.specs.Table.{Row, Rows, Table, is_full}
+use Rattle.slot_table.specs.Table.{Rows, Table, is_full}
 use Rattle.slot_table.specs.declared.table.Slot.{Slot}
 use Rattle.slot_table.specs.declared.table.Slot.TheVariants as slot
 use Rattle.state_store.specs.Fitted.{IsRoomy, ArePacked, HoldsPacked, contents_of, packing_of, Fitted, is_full_at, fits_row, keep_answer, kept_by, kept_row}

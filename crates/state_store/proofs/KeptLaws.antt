@@ -1,13 +1,13 @@
 -- Rows that are packed or lie in order: what is done to them is done to their contents.
-use Rattle.std.proofs.Common.{◌≡◌, ◌⊎◌, inl, inr, ℕ, ◌≤◌, ◌<◌, Bool, true, false, cond, not, ◌&&◌, List, [], ◌∷◌, length, Option, Some, None, IfSome, is_some, refl, sym, ap, ap₂, subst, ◌∙◌, arith, true≢false, Result, Ok, Err, IfOk, is_ok}
-use Rattle.std.specs.FinMap.{get, empty, insert, remove, entries, from_sorted, entries_sorted, same_entries_map, entries-from_sorted}
-use Rattle.state_store.specs.Bounded.{Bounded, IsKeptIn, CanUnpack, HasSize, contents_in, unpacked_entries, packed_answer, packed_after, is_full_in, stored_row}
-use Rattle.state_store.specs.Fitted.{Fitted, fits_row, is_full_at, keep_answer, kept_row}
+use Rattle.std.proofs.Common.{◌≡◌, ◌⊎◌, inl, inr, ℕ, ◌≤◌, Bool, true, false, cond, not, List, [], Option, Some, None, IfSome, refl, sym, ap, ap₂, subst, ◌∙◌, Result, Ok, Err, IfOk, is_ok}
+use Rattle.std.specs.FinMap.{empty, insert, remove, entries, from_sorted, entries_sorted, same_entries_map, entries-from_sorted}
+use Rattle.state_store.specs.Bounded.{Bounded, IsKeptIn, HasSize, contents_in, unpacked_entries, packed_answer, packed_after, is_full_in, stored_row}
+use Rattle.state_store.specs.Fitted.{Fitted, fits_row, is_full_at, kept_row}
 use Rattle.state_store.specs.Places.{Entries, IsSorted, with_entry, without_entry}
 use Rattle.state_store.specs.Store.{key_cmp, Contents}
 use Rattle.state_store.specs.declared.packed_rows.Kept.{Kept}
 use Rattle.state_store.specs.declared.packed_rows.Kept.TheVariants.{Stored, Full, Misfit}
-use Rattle.state_store.proofs.Entries.{map_empty, map_with, map_without, sorted_with, others_sorted}
+use Rattle.state_store.proofs.Entries.{map_empty, map_with, map_without, sorted_with}
 
 abbrev pub bounded_of : ℕ → Option Fitted → Entries → Bounded
 bounded_of size o es = record { size = size; contents = contents_in o es }

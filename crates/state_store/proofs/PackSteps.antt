@@ -1,15 +1,15 @@
 -- One number more, while numbers are packed or unpacked.
-use Rattle.std.proofs.Common.{◌≡◌, ◌≢◌, inl, inr, ℕ, suc, ◌+◌, ◌-◌, ◌*◌, ◌/◌, ◌%◌, ◌^◌, ◌<◌, ◌≤◌, Bool, true, false, cond, ◌&&◌, List, [], ◌∷◌, ◌++◌, length, drop, get_or, replicate, Option, Some, None, refl, sym, ap, ap₂, subst, ◌∙◌, arith, pow_mono, add-one, append-nil}
-use Rattle.std.specs.Prelude.{nat_eq, nat_le, nat_lt, slice_set}
+use Rattle.std.proofs.Common.{◌≡◌, ◌≢◌, inl, inr, ℕ, suc, ◌+◌, ◌-◌, ◌*◌, ◌/◌, ◌%◌, ◌^◌, ◌<◌, ◌≤◌, Bool, true, false, cond, List, [], ◌∷◌, ◌++◌, length, drop, get_or, replicate, Some, None, refl, sym, ap, ap₂, subst, ◌∙◌, arith, pow_mono, add-one, append-nil}
+use Rattle.std.specs.Prelude.{nat_eq, nat_lt, slice_set}
 use Rattle.std.proofs.Math.Nat.{div-lt_iff_lt-mul}
 use Rattle.std.proofs.Math.Seq.{drop-cons}
 use Rattle.std.proofs.lemmas.Bool.{ltb_from_iff, lt-ltb, eqb-true, eq-eqb}
 use Rattle.std.proofs.lemmas.List.{drop_all}
-use Rattle.std.proofs.lemmas.Nat.{pow_pos, pow-add, shl_whole, shr_below, mod_below, mul-add-lt, one_shl, mul-mod_first}
+use Rattle.std.proofs.lemmas.Nat.{pow_pos, pow-add, shl_whole, shr_below, mod_below, mul-add-lt, one_shl}
 use Rattle.slot_table.specs.Table.{IsWords}
 use Rattle.state_store.specs.Kept.{have_widths}
 use Rattle.state_store.specs.Packing.{have_room, packed, parts, words, number}
-use Rattle.state_store.proofs.PackLaws.{HasRoom, with_room, with_width}
+use Rattle.state_store.proofs.PackLaws.{with_room, with_width}
 
 -- nothing is left behind a division exactly where the number is below the divisor
 pub quotient_zero : (v n : ℕ) → 0 < n → nat_eq (v / n) 0 ≡ nat_lt v n

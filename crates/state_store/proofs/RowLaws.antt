@@ -1,18 +1,17 @@
 -- What is done to rows of words is done to the rows that were packed into them.
-use Rattle.std.proofs.Common.{◌≡◌, ℕ, suc, Bool, true, false, cond, not, ◌&&◌, T, List, [], ◌∷◌, map, length, filter, Option, Some, None, is_some, option_map, refl, sym, ap, ap₂, subst, ◌∙◌, arith, true≢false}
-use Rattle.std.specs.declared.cmp.Ordering.{Ordering}
+use Rattle.std.proofs.Common.{◌≡◌, ℕ, suc, Bool, true, false, cond, not, ◌&&◌, T, List, [], ◌∷◌, map, length, Some, None, option_map, refl, sym, ap, ap₂, subst, ◌∙◌, true≢false}
 use Rattle.std.specs.declared.cmp.Ordering.TheVariants.{Less, Equal, Greater}
 use Rattle.std.specs.Ordering.{eq_by_cmp, is_eq, is_lt}
-use Rattle.std.specs.FinMap.{find, put, is_sorted, get, len, empty, insert, remove, entries, from_sorted, entries_sorted, same_entries_map, entries-from_sorted, entries-insert, get-entries, len-entries, same_map, get-remove, get-from_sorted}
-use Rattle.std.specs.FinMap.Entries.{by_order, where_key, below_all, is_sorted-put, is_sorted-where_key}
+use Rattle.std.specs.FinMap.{find, is_sorted, get, len, insert, remove, entries, from_sorted, entries_sorted, same_entries_map, entries-from_sorted, entries-insert, get-entries, len-entries}
+use Rattle.std.specs.FinMap.Entries.{by_order, below_all}
 use Rattle.std.proofs.lemmas.Cmp.{nat_list_cmp_total}
 use Rattle.slot_table.specs.Table.{Row, Rows}
-use Rattle.state_store.specs.Fitted.{IsRoomy, IsPackedRow, ArePacked, packed_row, unpacked_row, contents_of}
+use Rattle.state_store.specs.Fitted.{IsRoomy, IsPackedRow, ArePacked, unpacked_row, contents_of}
 use Rattle.state_store.specs.Kept.{have_widths}
 use Rattle.state_store.specs.Packing.{Packing, packed_list, unpacked_list}
 use Rattle.state_store.specs.Places.{Entries, IsSorted, with_entry}
-use Rattle.state_store.specs.Store.{key_cmp, Contents}
-use Rattle.state_store.proofs.Entries.{map_with, map_without, map_get, map_len, map_empty, others, is_equal, sorted_with, others_sorted}
+use Rattle.state_store.specs.Store.{key_cmp}
+use Rattle.state_store.proofs.Entries.{map_with, map_without, map_get, others, is_equal, others_sorted}
 use Rattle.state_store.proofs.PackLaws.{unpacked_packed, packed_list_cmp}
 use Rattle.std.proofs.lemmas.Map.Lookups.{exact_bytes}
 

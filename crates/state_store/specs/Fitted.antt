@@ -2,8 +2,8 @@
 use Rattle.std.specs.Prelude.{◌≡◌, ⊤, ℕ, Bool, true, ◌&&◌, ◌*◌, List, [], ◌∷◌, map, refl, if◌then◌else◌}
 use Rattle.std.specs.Coded.{Coded, code_by, coded×, coded_ℕ, coded_list}
 use Rattle.std.specs.FinMap as map
-use Rattle.std.specs.FinMap.{FinMap, entries, from_sorted}
-use Rattle.slot_table.specs.Table.{Rows, Row, is_full, Table}
+use Rattle.std.specs.FinMap.{entries, from_sorted}
+use Rattle.slot_table.specs.Table.{Rows, Row, is_full}
 use Rattle.slot_table.specs.declared.table.Slot.{Slot}
 use Rattle.slot_table.specs.declared.table.Slot.TheVariants as slot
 use Rattle.state_store.specs.Codes.{contents_code}

@@ -1,5 +1,5 @@
 -- Which numbers go with a declared object.
-use Rattle.std.specs.Prelude.{ℕ, Bool, true, false, not, List, Option, Some, None}
+use Rattle.std.specs.Prelude.{ℕ, Bool, false, not, List, Option, Some, None}
 use Rattle.gal_bits.specs.Fitting.{same_widths}
 use Rattle.state_store.specs.declared.object.ObjectDecl.{ObjectDecl}
 use Rattle.state_store.specs.Kinds.{is_table, is_map}

@@ -16,7 +16,7 @@ use Rattle.state_store.specs.declared.object.Kind.TheVariants.{Table, Map, Vecto
 use Rattle.state_store.specs.declared.object.ObjectDecl.{ObjectDecl}
 use Rattle.state_store.specs.Kept.{have_widths, IsWhole, IsKeptObject, IsKept}
 use Rattle.state_store.specs.Kinds.{is_table, is_map}
-use Rattle.state_store.specs.Store.{key_cmp, Contents, Object, Store, is_out, is_full, put_row, del_row, object_at, zeros_from, start_contents, start_object, start_store, with_object}
+use Rattle.state_store.specs.Store.{key_cmp, Contents, Object, Store, is_out, is_full, put_row, del_row, object_at, zeros_from, start_contents, start_object, with_object}
 
 the_some : {X : Type 0} (a b : X) → Some a ≡ Some b → a ≡ b
 the_some a b e = cc
@@ -29,7 +29,7 @@ none_some a e = cc
 abbrev pub AreRows : List ℕ → List ℕ → Contents → Type 0
 AreRows keys values contents = (key there : List ℕ) → get contents key ≡ Some there → (have_widths keys key && have_widths values there) ≡ true
 
-is_equal : (o : Ordering) → is_eq o ≡ true → o ≡ Equal
+pub is_equal : (o : Ordering) → is_eq o ≡ true → o ≡ Equal
 is_equal Less e = absurd (true≢false (sym e))
 is_equal Equal e = refl
 is_equal Greater e = absurd (true≢false (sym e))
@@ -89,22 +89,15 @@ new_row key row contents =
 new_there : (i index : ℕ) (row : List ℕ) (contents : Contents) → i ≡ index → contains_key (insert contents (i ∷ []) row) (index ∷ []) ≡ true
 new_there i index row contents same = subst (λ n. contains_key (insert contents (i ∷ []) row) (n ∷ []) ≡ true) same (new_row (i ∷ []) row contents)
 
-pub stays : (key row found : List ℕ) (contents : Contents) → contains_key contents found ≡ true → contains_key (insert contents key row) found ≡ true
+stays : (key row found : List ℕ) (contents : Contents) → contains_key contents found ≡ true → contains_key (insert contents key row) found ≡ true
 stays key row found contents there =
     ap is_some (get-insert nat_list_cmp_total contents key row found) ∙ there_still (eq_by_cmp key_cmp found key) row (get contents found) there
 
 -- a map may lose each of its rows
-pub map_whole : (d : ObjectDecl) (o : Object) → is_map d.kind ≡ true → IsWhole d o
+map_whole : (d : ObjectDecl) (o : Object) → is_map d.kind ≡ true → IsWhole d o
 map_whole d o h = record {
   vector = λ is index lt. absurd (true≢false (sym h ∙ ap is_map is));
   int = λ is. absurd (true≢false (sym h ∙ ap is_map is));
-}
-
--- the rows of a table are those that were declared
-pub table_whole : (d : ObjectDecl) (o : Object) → is_table d.kind ≡ true → IsWhole d o
-table_whole d o h = record {
-  vector = λ is index lt. absurd (true≢false (sym h ∙ ap is_table is));
-  int = λ is. absurd (true≢false (sym h ∙ ap is_table is));
 }
 
 -- ## a put
@@ -152,18 +145,21 @@ put_whole : (d : ObjectDecl) (o : Object) (key values : List ℕ) → IsWhole d 
 put_whole d o key values = put_whole_by d o key values (is_out o.kind o.size key) (is_full o key) refl refl
 
 -- ## a del
-no_map : (d : ObjectDecl) → is_map d.kind ≡ true → d.kind ≡ Table → ⊥
-no_map d h is = true≢false (sym h ∙ ap is_map is)
-
-pub del_keeps : (d : ObjectDecl) (o : Object) (key : List ℕ) → is_map d.kind ≡ true → IsKeptObject d o → IsKeptObject d (del_row o key)
+pub del_keeps : (d : ObjectDecl) (o : Object) (key : List ℕ) → is_table d.kind ≡ false → IsKeptObject d o → IsKeptObject d (del_row o key)
 del_keeps d o key free kept = record {
   kind = kept.kind;
   size = kept.size;
   count = kept.count;
   few = omega (arith, none_more key o.contents, kept.few);
   rows = without_row d.keys d.values key o.contents kept.rows;
-  table = λ is. absurd (no_map d free is);
+  table = λ is. absurd (no_table d free is);
 }
+
+map_is_free : (kind : Kind) → is_map kind ≡ true → is_table kind ≡ false
+map_is_free Table h = sym h
+map_is_free Map h = refl
+map_is_free Vector h = refl
+map_is_free Int h = refl
 
 -- ## an object of a store in which one is another
 at_number : (P : Object → Type 0) (store : Store) (n : ℕ) (o : Object) (number : ℕ) → P (object_at store number) → (n ≡ number → P o) → P (object_at (with_object store n o) number)
@@ -191,13 +187,8 @@ put_is_kept os store n d key values is free key_fits values_fit kept =
 
 pub del_is_kept : (os : List ObjectDecl) (store : Store) (n : ℕ) (d : ObjectDecl) (key : List ℕ) → slice_get os n ≡ Some d
     → is_map d.kind ≡ true → IsKept os store → IsKept os (with_object store n (del_row (object_at store n) key))
-del_is_kept os store n d key is free kept = change_is_kept os store n d (del_row (object_at store n) key) is (del_keeps d (object_at store n) key free (kept.each n d is))
+del_is_kept os store n d key is free kept = change_is_kept os store n d (del_row (object_at store n) key) is (del_keeps d (object_at store n) key (map_is_free d.kind free) (kept.each n d is))
     (map_whole d (del_row (object_at store n) key) free) kept
-
--- where nothing is declared there is nothing to keep
-pub nothing_to_keep : (os : List ObjectDecl) (store : Store) → os ≡ [] → store ≡ start_store os → IsKept os store
-nothing_to_keep [] store e is = record { count = ap length is; each = λ number d got. absurd (none_some d got); whole = λ number d got. absurd (none_some d got) }
-nothing_to_keep (o ∷ os) store e is = absurd (omega (arith, ap length e))
 
 -- ## at the start
 -- each index from i on, n of them, has a row of zeros

@@ -2,10 +2,9 @@
 use Rattle.std.specs.Prelude.{◌≤◌, ℕ, List, length, replicate}
 use Rattle.std.specs.List.{AllByRecursion, AllByRecursion-prop}
 use Rattle.std.specs.Coded.{Coded-set, coded_bool, coded_ℕ, le_prop, ×_prop, Unit-prop}
-use Rattle.state_store.specs.Codes.{contents_code, kind_code}
 use Rattle.state_store.specs.declared.object.ObjectDecl.{ObjectDecl}
-use Rattle.state_store.specs.Kept.{IsKeptObject}
-use Rattle.state_store.specs.Store.{Object, start_object}
+use Rattle.state_store.specs.Once.{kept_object_prop}
+use Rattle.state_store.specs.Store.{start_object}
 use Rattle.flat_ir.specs.declared.program.FieldValue.{FieldValue}
 use Rattle.flat_ir.specs.Operands.{CanRun}
 use Rattle.flat_ir.specs.Program.{Work}
@@ -32,19 +31,9 @@ can_step_prop = AllByRecursion-prop CanStep (λ s. can_run_prop s.work)
 writable_prop : (fields : List FieldValue) → IsProp (AllByRecursion IsWritable fields)
 writable_prop = AllByRecursion-prop IsWritable (λ w. Coded-set coded_bool _ _)
 
-pub kept_prop : (d : ObjectDecl) (object : Object) → IsProp (IsKeptObject d object)
-kept_prop d object a b = λ i. record {
-  kind = Coded-set kind_code _ _ a.kind b.kind i;
-  size = Coded-set coded_ℕ _ _ a.size b.size i;
-  count = Coded-set coded_ℕ _ _ a.count b.count i;
-  few = le_prop a.few b.few i;
-  rows = λ key values is. Coded-set coded_bool _ _ (a.rows key values is) (b.rows key values is) i;
-  table = λ is. Coded-set contents_code _ _ (a.table is) (b.table is) i;
-}
-
 sound_prop : (d : ObjectDecl) → IsProp (IsSound d)
 sound_prop d a b = λ i. record {
-  start = kept_prop d (start_object d) a.start b.start i;
+  start = kept_object_prop d (start_object d) a.start b.start i;
   size = le_prop a.size b.size i;
 }
 

@@ -10,6 +10,7 @@ use Rattle.std.proofs.lemmas.Cmp.{nat_list_cmp_total}
 use Rattle.std.proofs.lemmas.Map.Lookups.{exact_bytes}
 use Rattle.state_store.specs.declared.object.Kind.TheVariants.{Table}
 use Rattle.state_store.specs.declared.object.ObjectDecl.{ObjectDecl}
+use Rattle.state_store.specs.Keeping.{put_keeps, del_keeps}
 use Rattle.state_store.specs.Kept.{have_widths, IsKeptObject}
 use Rattle.state_store.specs.Kinds.{is_table}
 use Rattle.state_store.specs.Store.{key_cmp, Contents, Object, is_out, is_full, look, put_row, del_row, start_object}
@@ -69,13 +70,6 @@ module _ {X : Type 0} (P : List ℕ → X → Type 0) where
 
 -- ## The main table
 
-more : (known : Bool) (n size : ℕ) → (not known && nat_le size n) ≡ false → n ≤ size → cond known n (n + 1) ≤ size
-more true n size room le = le
-more false n size room le = grind (arith, nat_tests)
-
-no_table : (d : ObjectDecl) → is_table d.kind ≡ false → d.kind ≡ Table → ⊥
-no_table d h is = true≢false (sym (ap is_table is) ∙ h)
-
 both : (a b : Bool) → a ≡ true → b ≡ true → (a && b) ≡ true
 both true b e f = f
 both false b e f = e
@@ -83,41 +77,10 @@ both false b e f = e
 abbrev IsRow : ObjectDecl → List ℕ → List ℕ → Type 0
 IsRow d key values = (have_widths d.keys key && have_widths d.values values) ≡ true
 
-put_keeps : (d : ObjectDecl) (o : Object) (key values : List ℕ) (out full : Bool) → is_out o.kind o.size key ≡ out → is_full o key ≡ full
-    → is_table d.kind ≡ false → have_widths d.keys key ≡ true → have_widths d.values values ≡ true → IsKeptObject d o
-    → IsKeptObject d (put_row o key values)
-put_keeps d o key values true full e f free key_fits values_fit kept = rw e kept
-put_keeps d o key values false true e f free key_fits values_fit kept = rw (e, f) kept
-put_keeps d o key values false false e f free key_fits values_fit kept =
-    let room : (not (contains_key o.contents key) && nat_le d.size (len o.contents)) ≡ false =
-    subst (λ n. (not (contains_key o.contents key) && nat_le n (len o.contents)) ≡ false) kept.size f in
-    let after : Object = record o { contents = insert o.contents key values } in
-    let goes_on : IsKeptObject d after = record {
-      kind = kept.kind;
-      size = kept.size;
-      count = kept.count;
-      few = subst (λ n. n ≤ d.size) (sym (len-insert nat_list_cmp_total o.contents key values))
-          (more (contains_key o.contents key) (len o.contents) d.size room kept.few);
-      rows = row_more (IsRow d) o.contents key values
-          (both (have_widths d.keys key) (have_widths d.values values) key_fits values_fit) kept.rows;
-      table = λ is. absurd (no_table d free is);
-    } in
-    rw (e, f) goes_on
-
-del_keeps : (d : ObjectDecl) (o : Object) (key : List ℕ) → is_table d.kind ≡ false → IsKeptObject d o → IsKeptObject d (del_row o key)
-del_keeps d o key free kept = record {
-  kind = kept.kind;
-  size = kept.size;
-  count = kept.count;
-  few = omega (arith, none_more (IsRow d) o.contents key, kept.few);
-  rows = row_less (IsRow d) o.contents key kept.rows;
-  table = λ is. absurd (no_table d free is);
-}
-
 change_keeps : (d : ObjectDecl) (o : Object) (key : List ℕ) (to : To) → is_table d.kind ≡ false → have_widths d.keys key ≡ true
     → has_value_widths d to ≡ true → IsKeptObject d o → IsKeptObject d (change_to o key to)
 change_keeps d o key (Value values) free key_fits values_fit kept =
-    put_keeps d o key values (is_out o.kind o.size key) (is_full o key) refl refl free key_fits values_fit kept
+    put_keeps d o key values free key_fits values_fit kept
 change_keeps d o key Gone free key_fits values_fit kept = del_keeps d o key free kept
 
 -- ## The write-back table

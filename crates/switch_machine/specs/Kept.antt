@@ -6,7 +6,7 @@ use Rattle.state_store.specs.declared.object.ObjectDecl.{ObjectDecl}
 use Rattle.state_store.specs.Kept.{have_widths, IsKeptObject}
 use Rattle.writeback_table.specs.Pair.{Pair}
 use Rattle.switch_ir.specs.Code.{Code}
-use Rattle.switch_ir.specs.Once.{kept_prop}
+use Rattle.state_store.specs.Once.{kept_object_prop}
 use Rattle.switch_ir.specs.Tables.{Told, pair_at, declared_at}
 
 -- a staged row has the declared widths, where it isn't gone
@@ -33,7 +33,7 @@ AreSafe loaded told = (code : Code) → loaded ≡ Some code → KeepsTables cod
 -- this has at most one proof
 rows_prop : (d : ObjectDecl) (pair : Pair) → IsProp (KeepsRows d pair)
 rows_prop d pair a b = λ i. record {
-  main = kept_prop d pair.main a.main b.main i;
+  main = kept_object_prop d pair.main a.main b.main i;
   staged = λ key row is. Coded-set coded_bool _ _ (a.staged key row is) (b.staged key row is) i;
   few = le_prop a.few b.few i;
   room = le_prop a.room b.room i;

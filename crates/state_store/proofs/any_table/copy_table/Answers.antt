@@ -1,6 +1,6 @@
-use Rattle.std.proofs.Common.{◌≡◌, ◌<◌, ◌≤◌, length, sym, ap, subst, ◌∙◌, arith}
+use Rattle.std.proofs.Common.{◌<◌, ◌≤◌, length, ◌∙◌, arith}
 use Rattle.std.specs.FinMap.{len}
-use Rattle.state_store.proofs.SlotRows.{none_copied, slot_copied, slot_fits, copied_all}
+use Rattle.state_store.proofs.SlotRows.{slot_copied, slot_fits, copied_all}
 use Rattle.state_store.proofs.any_table.copy_table.Goals as goal
 
 pub put_slot-requires : goal.put_slot-requires

@@ -1,7 +1,7 @@
-use Rattle.std.proofs.Common.{◌≡◌, ◌<◌, ◌≤◌, length, None, Some, sym, ap, subst, ◌∙◌, arith}
+use Rattle.std.proofs.Common.{◌<◌, length, arith}
 use Rattle.state_store.specs.Fitted.{packing_of}
 use Rattle.state_store.specs.Sizes.{table_of}
-use Rattle.state_store.proofs.PourLaws.{slot_listed, slots_listed, one_left}
+use Rattle.state_store.proofs.PourLaws.{slot_listed}
 use Rattle.state_store.proofs.packed_rows.list_slots.Goals as goal
 
 pub loop-i-preserved : goal.loop-i-preserved

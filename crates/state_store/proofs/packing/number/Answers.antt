@@ -1,4 +1,4 @@
-use Rattle.std.proofs.Common.{◌≡◌, ◌*◌, ◌+◌, ◌%◌, ◌^◌, refl, sym, ap₂, ◌∙◌, arith}
+use Rattle.std.proofs.Common.{◌≡◌, ◌*◌, ◌+◌, ◌%◌, ◌^◌, refl, ap₂, ◌∙◌, arith}
 use Rattle.state_store.proofs.PackSteps.{of_one, of_two, one_of}
 use Rattle.state_store.proofs.packing.number.Goals as goal
 

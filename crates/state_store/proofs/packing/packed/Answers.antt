@@ -1,10 +1,10 @@
-use Rattle.std.proofs.Common.{◌≡◌, ◌+◌, ◌-◌, ◌*◌, ◌%◌, ◌^◌, ◌<◌, ◌≤◌, ℕ, List, true, false, ◌&&◌, [], length, drop, get_or, refl, sym, ap, ap₂, subst, ◌∙◌, arith, true≢false}
+use Rattle.std.proofs.Common.{◌≡◌, ◌+◌, ◌-◌, ◌*◌, ◌%◌, ◌^◌, ◌<◌, ◌≤◌, true, false, ◌&&◌, length, drop, get_or, sym, ap, ap₂, subst, ◌∙◌, arith, true≢false}
 use Rattle.std.specs.Prelude.{nat_lt}
 use Rattle.std.proofs.lemmas.Bool.{ltb-true}
 use Rattle.std.proofs.lemmas.Nat.{pow_pos}
 use Rattle.std.proofs.lemmas.List.{drop_all}
 use Rattle.state_store.specs.Kept.{have_widths}
-use Rattle.state_store.specs.Packing.{have_room, packed}
+use Rattle.state_store.specs.Packing.{have_room}
 use Rattle.state_store.proofs.PackSteps.{next_of, same_count, by_false, by_true, packed_on, packed_next, packed_end, regrouped}
 use Rattle.state_store.proofs.packing.packed.Goals as goal
 

@@ -1,4 +1,4 @@
-use Rattle.std.proofs.Common.{◌≡◌, ◌≤◌, cond, not, vec_capacity, sym, ap, subst, ◌∙◌, arith}
+use Rattle.std.proofs.Common.{◌≤◌, cond, not, vec_capacity, sym, ap, subst, ◌∙◌, arith}
 use Rattle.state_store.specs.Bounded.{IsKeptIn, contents_in, is_full_in, stored_row}
 use Rattle.state_store.proofs.KeptLaws.{bounded_of, sorted_now, now_sorted, was_misfit, none_kept, sorted_either, late_answer, late_after}
 use Rattle.state_store.proofs.kept_rows.KeptRows.put.Goals as goal

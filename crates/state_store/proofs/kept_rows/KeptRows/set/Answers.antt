@@ -1,4 +1,4 @@
-use Rattle.std.proofs.Common.{◌≡◌, ◌≤◌, is_ok, vec_capacity, sym, ap, subst, ◌∙◌, arith}
+use Rattle.std.proofs.Common.{◌≤◌, is_ok, vec_capacity, sym, subst, ◌∙◌, arith}
 use Rattle.state_store.specs.Bounded.{IsKeptIn}
 use Rattle.state_store.specs.Places.{IsSorted}
 use Rattle.state_store.proofs.AtWork.{sorted_either}

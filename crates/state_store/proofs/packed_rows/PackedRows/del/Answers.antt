@@ -1,5 +1,5 @@
-use Rattle.std.proofs.Common.{◌≡◌, refl, sym, ap, ap₂, subst, ◌∙◌, None, Some, is_some}
-use Rattle.std.specs.FinMap.{get, remove, contains_key}
+use Rattle.std.proofs.Common.{sym, ap, ap₂, ◌∙◌, is_some}
+use Rattle.std.specs.FinMap.{remove, contains_key}
 use Rattle.state_store.specs.Fitted.{Fitted, packing_of}
 use Rattle.state_store.specs.Kept.{have_widths}
 use Rattle.state_store.specs.Packing.{packed}

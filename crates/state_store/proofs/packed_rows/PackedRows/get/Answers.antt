@@ -1,9 +1,9 @@
-use Rattle.std.proofs.Common.{◌≡◌, refl, sym, ap, ap₂, subst, ◌∙◌, None, Some, option_map}
+use Rattle.std.proofs.Common.{sym, ap, ap₂, ◌∙◌, option_map}
 use Rattle.std.specs.FinMap.{get}
 use Rattle.state_store.specs.Fitted.{packing_of}
 use Rattle.state_store.specs.Kept.{have_widths}
 use Rattle.state_store.specs.Packing.{number}
-use Rattle.state_store.specs.Sizes.{table_of, key_words}
+use Rattle.state_store.specs.Sizes.{table_of}
 use Rattle.state_store.proofs.FittedLaws.{some_packed, none_packed, as_words, look_some, look_none, look_misfit}
 use Rattle.state_store.proofs.packed_rows.PackedRows.get.Goals as goal
 

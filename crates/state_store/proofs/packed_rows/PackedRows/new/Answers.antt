@@ -1,5 +1,5 @@
-use Rattle.std.proofs.Common.{◌≡◌, List, ℕ, sym, ap, ap₂, ◌∙◌}
-use Rattle.state_store.specs.Fitted.{Fitted, packing_of}
+use Rattle.std.proofs.Common.{ℕ, ap₂}
+use Rattle.state_store.specs.Fitted.{packing_of}
 use Rattle.state_store.specs.Sizes.{table_of}
 use Rattle.state_store.specs.Store.{Contents}
 use Rattle.state_store.proofs.FittedLaws.{new_roomy, none_hold, none_contents}

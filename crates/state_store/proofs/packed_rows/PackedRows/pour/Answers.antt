@@ -1,4 +1,4 @@
-use Rattle.std.proofs.Common.{◌≡◌, ◌≤◌, is_ok, vec_capacity, sym, ap, subst, ◌∙◌, true≢false}
+use Rattle.std.proofs.Common.{◌≤◌, is_ok, vec_capacity, sym, ap, subst, ◌∙◌, true≢false}
 use Rattle.std.specs.FinMap.{entries, len}
 use Rattle.state_store.specs.Fitted.{packing_of}
 use Rattle.state_store.specs.Sizes.{table_of}

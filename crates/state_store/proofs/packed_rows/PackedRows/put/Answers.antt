@@ -1,8 +1,8 @@
-use Rattle.std.proofs.Common.{◌≡◌, cond, refl, sym, ap, ap₂, subst, ◌∙◌, None, Some}
+use Rattle.std.proofs.Common.{cond, sym, ap, ap₂, ◌∙◌}
 use Rattle.std.specs.FinMap.{insert}
 use Rattle.slot_table.specs.Table.{is_full}
 use Rattle.slot_table.specs.declared.table.Slot.TheVariants as slot
-use Rattle.state_store.specs.Fitted.{Fitted, packing_of, keep_answer, kept_row}
+use Rattle.state_store.specs.Fitted.{packing_of, keep_answer, kept_row}
 use Rattle.state_store.specs.Kept.{have_widths}
 use Rattle.state_store.specs.Packing.{packed}
 use Rattle.state_store.specs.Sizes.{table_of, key_words, value_words}
