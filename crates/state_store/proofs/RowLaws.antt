@@ -88,14 +88,14 @@ module _ (p : Packing) (roomy : IsRoomy p) where
       elim (key_cmp (key_of k) e.0) as (λ o. ArePacked p (by_order o ((key_of k, values_of v) ∷ e ∷ es) ((e.0, values_of v) ∷ es) (e ∷ with_entry es (key_of k) (values_of v)))) [
         | Less ↦ (is_packed k v key value, all)
         | Equal ↦ (
-            record {
-              key_fits = all.0.key_fits;
-              values_fit = (is_packed k v key value).values_fit;
-              same_key = all.0.same_key;
-              same_values = (is_packed k v key value).same_values;
-            },
-            all.1,
-          )
+          record {
+            key_fits = all.0.key_fits;
+            values_fit = (is_packed k v key value).values_fit;
+            same_key = all.0.same_key;
+            same_values = (is_packed k v key value).same_values;
+          },
+          all.1,
+        )
         | Greater ↦ (all.0, put_packed k v es key value all.1)
       ]
 

@@ -92,7 +92,11 @@ impl PackedRows {
         let Some(whole) = packed(key_bits(&self.table), self.keys.as_slice(), key.as_slice()) else {
             return Kept::Misfit;
         };
-        let Some(value) = packed(value_bits(&self.table), self.values.as_slice(), values.as_slice()) else {
+        let Some(value) = packed(
+            value_bits(&self.table),
+            self.values.as_slice(),
+            values.as_slice(),
+        ) else {
             return Kept::Misfit;
         };
         answer_to(any_table::insert(&mut self.table, whole, value))

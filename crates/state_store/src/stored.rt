@@ -40,7 +40,13 @@ impl StoredObject {
         ensures { IfOk result (λ made. made ≡ record { kind = object.now.kind; size = object.now.size; count = length object.now.values; contents = map.empty }) }
     {
         let slots = in_slots(object.kind);
-        let rows = KeptRows::new(alloc, &object.keys, &object.values, object.size as usize, slots)?;
+        let rows = KeptRows::new(
+            alloc,
+            &object.keys,
+            &object.values,
+            object.size as usize,
+            slots,
+        )?;
         Ok(StoredObject {
             kind: object.kind,
             size: object.size,

@@ -18,7 +18,7 @@ invariant_of-self-in-Misfit c =
     let gs = c.put_sorted.new.rows.items in
     let room : o.size ≤ vec_capacity c.put_sorted.new.rows = omega (arith, c.self.invariant.room, c.unpack.ensures.capacity, c.put_sorted.ensures.capacity) in
     subst (λ q. IsKeptIn q gs o.size (vec_capacity c.put_sorted.new.rows)) (sym c.unpack.ensures.none)
-        (none_kept gs o.size (vec_capacity c.put_sorted.new.rows) (sorted_either fs gs k v _ sorted c.put_sorted.ensures.after) room)
+    (none_kept gs o.size (vec_capacity c.put_sorted.new.rows) (sorted_either fs gs k v _ sorted c.put_sorted.ensures.after) room)
 
 pub returns-in-Misfit-clause-stored : goal.returns-in-Misfit-clause-stored
 returns-in-Misfit-clause-stored c =

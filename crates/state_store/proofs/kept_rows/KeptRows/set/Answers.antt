@@ -20,7 +20,7 @@ invariant_of-self-in-Full c =
     let gs = c.store_at.new.rows.items in
     let room : o.size ≤ vec_capacity c.store_at.new.rows = omega (arith, c.self.invariant.room, c.unpack.ensures.capacity, c.store_at.ensures.capacity) in
     subst (λ q. IsKeptIn q gs o.size (vec_capacity c.store_at.new.rows)) (sym c.unpack.ensures.none)
-        (none_kept gs o.size (vec_capacity c.store_at.new.rows) (sorted_either fs gs k v (is_ok c.store_at.result) sorted c.store_at.ensures.after) room)
+    (none_kept gs o.size (vec_capacity c.store_at.new.rows) (sorted_either fs gs k v (is_ok c.store_at.result) sorted c.store_at.ensures.after) room)
 
 pub returns-in-Full-clause-row : goal.returns-in-Full-clause-row
 returns-in-Full-clause-row c =

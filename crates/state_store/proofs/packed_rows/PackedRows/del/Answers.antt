@@ -49,5 +49,5 @@ returns-clause-after c =
     let whole = fit.1 ∙ ap₂ (λ ws ns. packed c.key_bits.result ws ns) c.as_slice.ensures c.as_slice-2.ensures in
     let word = as_words (key_words t) c.key_bits.result o.keys c.args.key.now c.in-Some.whole c.key_bits.ensures.value whole in
     del_after (p t) (p c.remove.new.any) (table_of t).capacity (table_of c.remove.new.any).capacity (table_of t).rows (table_of c.remove.new.any).rows c.args.key.now c.self.invariant (sym lists ∙ fit.0)
-        (same_packing o.keys o.values t c.remove.new.any c.remove.ensures.keys c.remove.ensures.values) c.remove.ensures.capacity (c.remove.ensures.rows ∙ ap (remove (table_of t).rows) word)
+    (same_packing o.keys o.values t c.remove.new.any c.remove.ensures.keys c.remove.ensures.values) c.remove.ensures.capacity (c.remove.ensures.rows ∙ ap (remove (table_of t).rows) word)
     ∙ ap (λ (f : Fitted). record f { contents = remove f.contents c.args.key.now }) c.self.view_is
