@@ -22,5 +22,7 @@ pub record IsPostFrom (f : Program) (carried : List Bool) (i : ℕ) (post barred
   pub guards : (j : ℕ) → IsGuard f j → IsMarked barred j
   pub readers : (u j : ℕ) (one : Step) → i ≤ u → IsAt f u one → Reads (operands one.work) j
       → slice_index_or carried u false ≡ false → IsMarked post u ⊎ IsMarked barred j
-  pub greatest : (others : List Bool) → IsPostClosed f carried others → (j : ℕ) → i ≤ j → IsMarked others j → IsMarked post j
-  pub free : (others : List Bool) → IsPostClosed f carried others → (j : ℕ) → IsMarked others j → slice_index_or barred j false ≡ false
+  pub greatest : (others : List Bool) → IsPostClosed f carried others → (j : ℕ) → i ≤ j → IsMarked others j
+      → IsMarked post j
+  pub free : (others : List Bool) → IsPostClosed f carried others → (j : ℕ) → IsMarked others j
+      → slice_index_or barred j false ≡ false

@@ -16,7 +16,9 @@ use std::alloc::Global;
 // Whether postprocessing has instruction `i`, of those beside what is carried.
 fn enters_post(i: usize, f: &Flat, one: &Instr, barred: &Marks) -> bool
     ensures { result ≡ (not (slice_index_or barred.now i false)
-        && (fits_switch (step_of one.now) && (not (is_mutable_look (program_of f.now) (work_of one.now.kind)) && not (is_field (work_of one.now.kind))))) }
+        && (fits_switch (step_of one.now)
+        && (not (is_mutable_look (program_of f.now) (work_of one.now.kind))
+        && not (is_field (work_of one.now.kind))))) }
 {
     !barred.at(i) && (fits_switch(one) && (!is_mutable_look(f, &one.kind) && !is_field(&one.kind)))
 }

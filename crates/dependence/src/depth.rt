@@ -1,5 +1,6 @@
 //! Stages as depths.
-ghost use Rattle.std.specs.Prelude.{◌≡◌, ℕ, ◌<◌, ◌-◌, ◌^◌, ◌≤◌, ◌++◌, max, length, IfOk, slice_index, slice_index_or, false, if◌then◌else◌};
+ghost use Rattle.std.specs.Prelude.{◌≡◌, ℕ, ◌<◌, ◌-◌, ◌^◌, ◌≤◌, ◌++◌, max, length, IfOk, slice_index, slice_index_or};
+ghost use Rattle.std.specs.Prelude.{false, if◌then◌else◌};
 ghost use Rattle.flat_ir.specs.Program.{program_of, work_of, step_of, operands};
 ghost use Rattle.flat_ir.specs.WellFormed.{IsWellFormed};
 ghost use Rattle.flat_ir.specs.Stages.{deepest, depth_of, IsDepths};
@@ -12,7 +13,8 @@ use std::alloc::Global;
 
 // The depth of this value's instruction where it is a member, else 0.
 fn depth_at(members: &Marks, depths: &Depths, value: ValueId) -> u32
-    ensures { result ≡ (if slice_index_or members.now value.instruction false then slice_index depths.now value.instruction else 0) }
+    ensures { result ≡ (if slice_index_or members.now value.instruction false
+        then slice_index depths.now value.instruction else 0) }
 {
     let i = value.instruction as usize;
     if members.at(i) { depths.at(i) } else { 0 }
@@ -75,7 +77,8 @@ fn depth_of(one: &Instr, members: &Marks, depths: &Depths) -> u32
 // The depth of instruction `i`, and 0 where it is no member.
 fn next_depth(i: usize, one: &Instr, members: &Marks, depths: &Depths) -> u32
     requires { (j : ℕ) → slice_index depths.now j < 2 ^ 32 - 1 }
-    ensures { result ≡ (if slice_index_or members.now i false then depth_of members.now depths.now (step_of one.now) else 0) }
+    ensures { result ≡ (if slice_index_or members.now i false then depth_of members.now depths.now (step_of one.now)
+        else 0) }
 {
     if members.at(i) {
         depth_of(one, members, depths)

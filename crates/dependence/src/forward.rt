@@ -14,7 +14,8 @@ use std::alloc::Global;
 
 // Whether preprocessing has the next instruction, by what it has so far.
 fn enters_pre(i: usize, k: usize, one: &Instr, pre: &Marks) -> bool
-    ensures { result ≡ (nat_lt i k && (fits_switch (step_of one.now) && are_marked pre.now (needed (work_of one.now.kind)))) }
+    ensures { result ≡ (nat_lt i k
+        && (fits_switch (step_of one.now) && are_marked pre.now (needed (work_of one.now.kind)))) }
 {
     i < k && (fits_switch(one) && has_needs(pre, &one.kind))
 }
@@ -22,7 +23,8 @@ fn enters_pre(i: usize, k: usize, one: &Instr, pre: &Marks) -> bool
 // Whether the next instruction is carried, by what is carried so far.
 fn enters_carried(i: usize, f: &Flat, one: &Instr, pre: &Marks, carried: &Marks) -> bool
     ensures { result ≡ (slice_index_or pre.now i false
-        && (not (is_mutable_look (program_of f.now) (work_of one.now.kind)) && are_marked carried.now (operands (work_of one.now.kind)))) }
+        && (not (is_mutable_look (program_of f.now) (work_of one.now.kind))
+        && are_marked carried.now (operands (work_of one.now.kind)))) }
 {
     pre.at(i) && (!is_mutable_look(f, &one.kind) && has_operands(carried, &one.kind))
 }
@@ -44,7 +46,8 @@ pub fn pre_closure(alloc: Global, f: &Flat, k: usize) -> Result<Marks, NoMemory>
 /// The greatest set within `pre` that is closed for what preprocessing hands up. It takes one step an operand.
 pub fn carried_closure(alloc: Global, f: &Flat, pre: &Marks) -> Result<Marks, NoMemory>
     requires { IsWellFormed (program_of f.now) }
-    ensures { IfOk result (λ carried. IsGreatest (program_of f.now) (IsCarriedClosed (program_of f.now) pre.now) carried) }
+    ensures { IfOk result (λ carried.
+        IsGreatest (program_of f.now) (IsCarriedClosed (program_of f.now) pre.now) carried) }
 {
     let code = f.code.as_slice();
     let mut carried = Marks::new(alloc);

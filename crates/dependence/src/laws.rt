@@ -7,7 +7,9 @@ ghost use Rattle.flat_ir.specs.Stages.{IsDepths, IsStaged};
 /// Depths are stages that a pass may have, and no such stages are lower anywhere. This does nothing: its contract is
 /// the law.
 pub fn depths_are_least()
-    ensures staged { (f : Program) (members : List Bool) (depths : List ℕ) → IsWellFormed f → IsDepths f members depths → IsStaged f members depths }
-    ensures least { (f : Program) (members : List Bool) (depths stages : List ℕ) → IsWellFormed f → IsDepths f members depths
+    ensures staged { (f : Program) (members : List Bool) (depths : List ℕ) → IsWellFormed f → IsDepths f members depths
+        → IsStaged f members depths }
+    ensures least { (f : Program) (members : List Bool) (depths stages : List ℕ) → IsWellFormed f
+        → IsDepths f members depths
         → IsStaged f members stages → (i : ℕ) → slice_index depths i ≤ slice_index stages i }
 {}

@@ -1,5 +1,6 @@
 //! Lists with one entry for each instruction.
-ghost use Rattle.std.specs.Prelude.{◌≡◌, ◌++◌, ◌∷◌, [], length, IfOk, OnOk, OnErr, slice_set, replicate, slice_index_or, slice_index, false, ◌<◌};
+ghost use Rattle.std.specs.Prelude.{◌≡◌, ◌++◌, ◌∷◌, [], length, IfOk, OnOk, OnErr, slice_set, replicate};
+ghost use Rattle.std.specs.Prelude.{slice_index_or, slice_index, false, ◌<◌};
 
 use gal_io::NoMemory;
 use std::alloc::Global;

@@ -127,9 +127,12 @@ prim_after (name word) = Some []
 prim_after (field f) = Some []
 prim_after (fixed marks.LeftParen) = Some (expr ∷ mark marks.RightParen ∷ [])
 prim_after (fixed marks.Byte) = Some (mark marks.LeftParen ∷ expr ∷ mark marks.RightParen ∷ [])
-prim_after (fixed marks.Cast) = Some (mark marks.LeftParen ∷ some_number ∷ mark marks.Comma ∷ expr ∷ mark marks.RightParen ∷ [])
-prim_after (fixed marks.Select) = Some (mark marks.LeftParen ∷ expr ∷ mark marks.Comma ∷ expr ∷ mark marks.Comma ∷ expr ∷ mark marks.RightParen ∷ [])
-prim_after (fixed marks.Adjust) = Some (mark marks.LeftParen ∷ expr ∷ mark marks.Comma ∷ expr ∷ mark marks.Comma ∷ expr ∷ mark marks.RightParen ∷ [])
+prim_after (fixed marks.Cast) =
+    Some (mark marks.LeftParen ∷ some_number ∷ mark marks.Comma ∷ expr ∷ mark marks.RightParen ∷ [])
+prim_after (fixed marks.Select) =
+    Some (mark marks.LeftParen ∷ expr ∷ mark marks.Comma ∷ expr ∷ mark marks.Comma ∷ expr ∷ mark marks.RightParen ∷ [])
+prim_after (fixed marks.Adjust) =
+    Some (mark marks.LeftParen ∷ expr ∷ mark marks.Comma ∷ expr ∷ mark marks.Comma ∷ expr ∷ mark marks.RightParen ∷ [])
 prim_after _ = None
 
 abbrev pub unary_after : Token → Option (List Awaited)
@@ -157,9 +160,13 @@ abbrev pub stmt_after : Token → Option (List Awaited)
 stmt_after (fixed marks.Let) = Some (some_name ∷ mark marks.Assign ∷ expr ∷ mark marks.Semicolon ∷ [])
 stmt_after (name word) = Some (mark marks.Assign ∷ expr ∷ mark marks.Semicolon ∷ [])
 stmt_after (field f) = Some (mark marks.Assign ∷ expr ∷ mark marks.Semicolon ∷ [])
-stmt_after (fixed marks.Look) = Some (some_name ∷ names ∷ some_name ∷ mark marks.LeftBracket ∷ keys ∷ mark marks.Semicolon ∷ [])
-stmt_after (fixed marks.Put) = Some (some_name ∷ mark marks.Assign ∷ some_name ∷ mark marks.LeftBracket ∷ keys ∷ mark marks.Arrow ∷ exprs marks.Semicolon ∷ [])
-stmt_after (fixed marks.Del) = Some (some_name ∷ mark marks.Assign ∷ some_name ∷ mark marks.LeftBracket ∷ keys ∷ mark marks.Semicolon ∷ [])
+stmt_after (fixed marks.Look) =
+    Some (some_name ∷ names ∷ some_name ∷ mark marks.LeftBracket ∷ keys ∷ mark marks.Semicolon ∷ [])
+stmt_after (fixed marks.Put) =
+    Some (some_name ∷ mark marks.Assign ∷ some_name ∷ mark marks.LeftBracket ∷ keys ∷ mark marks.Arrow
+    ∷ exprs marks.Semicolon ∷ [])
+stmt_after (fixed marks.Del) =
+    Some (some_name ∷ mark marks.Assign ∷ some_name ∷ mark marks.LeftBracket ∷ keys ∷ mark marks.Semicolon ∷ [])
 stmt_after (fixed marks.If) = Some (expr ∷ mark marks.LeftBrace ∷ body ∷ otherwise ∷ [])
 stmt_after (fixed marks.Repeat) = Some (some_name ∷ some_number ∷ mark marks.LeftBrace ∷ body ∷ [])
 stmt_after (fixed marks.Send) = Some (expr ∷ mark marks.Semicolon ∷ [])
@@ -194,17 +201,22 @@ more_literals_move _ = refuse
 
 abbrev pub rows_move : Token → Move
 rows_move (fixed marks.RightBrace) = push []
-rows_move (fixed marks.LeftParen) = push (literals ∷ mark marks.Arrow ∷ mark marks.LeftParen ∷ literals ∷ mark marks.Semicolon ∷ rows ∷ [])
+rows_move (fixed marks.LeftParen) =
+    push (literals ∷ mark marks.Arrow ∷ mark marks.LeftParen ∷ literals ∷ mark marks.Semicolon ∷ rows ∷ [])
 rows_move _ = refuse
 
 abbrev pub decl_after : Token → Option (List Awaited)
 decl_after (fixed marks.Table) =
-    Some (some_name ∷ mark marks.LeftParen ∷ widths ∷ mark marks.Arrow ∷ mark marks.LeftParen ∷ widths ∷ mark marks.LeftBrace ∷ rows ∷ [])
+    Some (some_name ∷ mark marks.LeftParen ∷ widths ∷ mark marks.Arrow ∷ mark marks.LeftParen ∷ widths
+    ∷ mark marks.LeftBrace ∷ rows ∷ [])
 decl_after (fixed marks.Map) =
-    Some (some_name ∷ mark marks.LeftParen ∷ widths ∷ mark marks.Arrow ∷ mark marks.LeftParen ∷ widths ∷ mark marks.Capacity ∷ some_number ∷ mark marks.Semicolon ∷ [])
+    Some (some_name ∷ mark marks.LeftParen ∷ widths ∷ mark marks.Arrow ∷ mark marks.LeftParen ∷ widths
+    ∷ mark marks.Capacity ∷ some_number ∷ mark marks.Semicolon ∷ [])
 decl_after (fixed marks.Vector) =
-    Some (some_name ∷ mark marks.Length ∷ some_number ∷ mark marks.Arrow ∷ mark marks.LeftParen ∷ widths ∷ mark marks.Semicolon ∷ [])
-decl_after (fixed marks.Int) = Some (some_name ∷ mark marks.Colon ∷ some_number ∷ mark marks.Assign ∷ some_number ∷ mark marks.Semicolon ∷ [])
+    Some (some_name ∷ mark marks.Length ∷ some_number ∷ mark marks.Arrow ∷ mark marks.LeftParen ∷ widths
+    ∷ mark marks.Semicolon ∷ [])
+decl_after (fixed marks.Int) =
+    Some (some_name ∷ mark marks.Colon ∷ some_number ∷ mark marks.Assign ∷ some_number ∷ mark marks.Semicolon ∷ [])
 decl_after _ = None
 
 abbrev pub middlebox_move : Token → Move

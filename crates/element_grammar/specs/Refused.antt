@@ -65,7 +65,8 @@ pub record FoundBetween (before behind : Mark) (e : SurfaceExpr) (ts rest : List
 
 -- what is awaited of three expressions in brackets
 abbrev pub three_parts : List Awaited
-three_parts = mark marks.LeftParen ∷ expr ∷ mark marks.Comma ∷ expr ∷ mark marks.Comma ∷ expr ∷ mark marks.RightParen ∷ []
+three_parts = mark marks.LeftParen ∷ expr ∷ mark marks.Comma ∷ expr ∷ mark marks.Comma ∷ expr ∷ mark marks.RightParen
+    ∷ []
 
 -- an operator of three expressions, which stand in front in brackets
 pub record FoundThree (op : Op) (e : SurfaceExpr) (ts rest : List Token) : Type 0 where
@@ -129,7 +130,8 @@ pub record FoundHeader (word keys values : List ℕ) (ts rest : List Token) : Ty
 
 -- these declarations stand in front, and then the rest, which is awaited to go on as a middlebox does
 pub record FoundObjects (objects : List Declared) (ts rest : List Token) : Type 0 where
-  pub spelled : (more : List Declared) (b : SurfaceBody) (end : List Token) → IsMiddlebox more b rest end → IsMiddlebox (objects ++ more) b ts end
+  pub spelled : (more : List Declared) (b : SurfaceBody) (end : List Token) → IsMiddlebox more b rest end
+      → IsMiddlebox (objects ++ more) b ts end
   pub reads : (below : List Awaited) → left_at (middlebox ∷ below) ts ≡ left_at (middlebox ∷ below) rest
 
 -- the tokens spell no source, and the error tells how many are left at the first that doesn't fit

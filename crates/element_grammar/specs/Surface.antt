@@ -41,11 +41,15 @@ stmt_step text (SurfaceStmt-F.Let local value) = surface.let_local (spelled text
 stmt_step text (SurfaceStmt-F.Assign local value) = surface.assign (spelled text local) (surface_expr text value)
 stmt_step text (SurfaceStmt-F.SetField f value) = surface.set_field f (surface_expr text value)
 stmt_step text (SurfaceStmt-F.Look found into object keys) =
-    surface.look (spelled text found) (map (spelled text) into.items) (spelled text object) (surface_exprs text keys.items)
+    surface.look (spelled text found) (map (spelled text) into.items) (spelled text object)
+    (surface_exprs text keys.items)
 stmt_step text (SurfaceStmt-F.Put ok object keys values) =
-    surface.put (spelled text ok) (spelled text object) (surface_exprs text keys.items) (surface_exprs text values.items)
-stmt_step text (SurfaceStmt-F.Del was object keys) = surface.del (spelled text was) (spelled text object) (surface_exprs text keys.items)
-stmt_step text (SurfaceStmt-F.If cond first second) = surface.choose (surface_expr text cond) (body_of first.items) (body_of second.items)
+    surface.put (spelled text ok) (spelled text object) (surface_exprs text keys.items)
+    (surface_exprs text values.items)
+stmt_step text (SurfaceStmt-F.Del was object keys) =
+    surface.del (spelled text was) (spelled text object) (surface_exprs text keys.items)
+stmt_step text (SurfaceStmt-F.If cond first second) =
+    surface.choose (surface_expr text cond) (body_of first.items) (body_of second.items)
 stmt_step text (SurfaceStmt-F.Repeat index count body) = surface.repeat (spelled text index) count (body_of body.items)
 stmt_step text (SurfaceStmt-F.Send port) = surface.send (surface_expr text port)
 stmt_step text SurfaceStmt-F.Drop = surface.drop
@@ -66,8 +70,10 @@ abbrev pub surface_row : SurfaceRow → surface.SurfaceRow
 surface_row row = record { keys = map surface_literal row.keys.items; values = map surface_literal row.values.items }
 
 abbrev pub surface_decl : List ℕ → SurfaceDecl → surface.SurfaceDecl
-surface_decl text (SurfaceDecl.Table name keys values rows) = surface.table_decl (spelled text name) keys.items values.items (map surface_row rows.items)
-surface_decl text (SurfaceDecl.Map name keys values capacity) = surface.map_decl (spelled text name) keys.items values.items capacity
+surface_decl text (SurfaceDecl.Table name keys values rows) =
+    surface.table_decl (spelled text name) keys.items values.items (map surface_row rows.items)
+surface_decl text (SurfaceDecl.Map name keys values capacity) =
+    surface.map_decl (spelled text name) keys.items values.items capacity
 surface_decl text (SurfaceDecl.Vector name length values) = surface.vector_decl (spelled text name) length values.items
 surface_decl text (SurfaceDecl.Int name width start) = surface.int_decl (spelled text name) width start
 
@@ -75,4 +81,7 @@ abbrev pub surface_object : List ℕ → At SurfaceDecl → surface.Declared
 surface_object text d = record { at = d.at; decl = surface_decl text d.item }
 
 abbrev pub surface_tree : List ℕ → SurfaceTree → surface.Surface
-surface_tree text m = record { objects = map (surface_object text) m.objects.items; body = surface_body text m.body.items }
+surface_tree text m = record {
+  objects = map (surface_object text) m.objects.items;
+  body = surface_body text m.body.items;
+}

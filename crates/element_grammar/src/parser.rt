@@ -39,7 +39,8 @@ fn whole(alloc: Global, text: &[u8], tokens: &[Placed]) -> Result<SurfaceTree, P
 pub fn parse(alloc: Global, text: &[u8], tokens: &[Placed]) -> Result<SurfaceTree, ParseError>
     requires shallow { deepest 0 (tokens_of text.now tokens.now) ≤ bound Depth }
     ensures spelled { IfOk result (λ s. Spells (tokens_of text.now tokens.now) (surface_tree text.now s)) }
-    ensures only { IfOk result (λ s. (other : Surface) → Spells (tokens_of text.now tokens.now) other → other ≡ surface_tree text.now s) }
+    ensures only { IfOk result
+        (λ s. (other : Surface) → Spells (tokens_of text.now tokens.now) other → other ≡ surface_tree text.now s) }
     ensures wrong { (left : ℕ) → result ≡ Err (ParseError.Left left)
         → (left ≤ length tokens.now) × IsFirstWrong (tokens_of text.now tokens.now) (length tokens.now - left) }
     ensures found { (s : Surface) → Spells (tokens_of text.now tokens.now) s

@@ -15,7 +15,8 @@ abbrev mutual
   IsRunnableExpr (field f) = Unit {0}
   IsRunnableExpr (byte index) = IsRunnableExpr index
   IsRunnableExpr (shift op by arg) = ((row_of op).arity ≡ 2) × IsRunnableExpr arg
-  IsRunnableExpr (apply op width args) = (count_of args ≡ (row_of op).arity) × (count_of args ≤ 8) × AreRunnableExprs args
+  IsRunnableExpr (apply op width args) =
+      (count_of args ≡ (row_of op).arity) × (count_of args ≤ 8) × AreRunnableExprs args
 
   pub AreRunnableExprs : Exprs → Type 0
   AreRunnableExprs no_expr = Unit {0}
@@ -27,7 +28,8 @@ abbrev mutual
   IsRunnableStmt (assign x value) = IsRunnableExpr value
   IsRunnableStmt (set_field f value) = IsRunnableExpr value
   IsRunnableStmt (look found into object keys) = (count_of keys ≤ 8) × AreRunnableExprs keys
-  IsRunnableStmt (put ok object keys values) = (count_of keys ≤ 8) × AreRunnableExprs keys × (count_of values ≤ 8) × AreRunnableExprs values
+  IsRunnableStmt (put ok object keys values) =
+      (count_of keys ≤ 8) × AreRunnableExprs keys × (count_of values ≤ 8) × AreRunnableExprs values
   IsRunnableStmt (del was object keys) = (count_of keys ≤ 8) × AreRunnableExprs keys
   IsRunnableStmt (choose cond first second) = IsRunnableExpr cond × IsRunnableBody first × IsRunnableBody second
   IsRunnableStmt (repeat index count body) = IsRunnableBody body

@@ -39,7 +39,8 @@ fn low_byte(value: u64) -> u8
 #[cycle(run)]
 fn run_stmt(frame: &Frame<'_>, s: &Stmt, vars: &mut Variables, store: &mut Store) -> Flow
     requires { IsRunnableStmt (stmt_tree s.now) }
-    ensures { outcome_of result (packet_of frame.now) (state_of vars.new store.new) ≡ do_stmt (widths_of frame.now) (packet_of frame.now) (stmt_tree s.now) (state_of vars.old store.old) }
+    ensures { outcome_of result (packet_of frame.now) (state_of vars.new store.new)
+        ≡ do_stmt (widths_of frame.now) (packet_of frame.now) (stmt_tree s.now) (state_of vars.old store.old) }
 {
     match s {
         Stmt::Let { local, value: e } | Stmt::Assign { local, value: e } => {
@@ -109,7 +110,8 @@ fn run_turns(
 ) -> Flow
     requires { IsRunnableBody (body_tree body.now) }
     ensures { outcome_of result (packet_of frame.now) (state_of vars.new store.new)
-        ≡ turns count 0 index (do_body (widths_of frame.now) (packet_of frame.now) (body_tree body.now)) (state_of vars.old store.old) }
+        ≡ turns count 0 index (do_body (widths_of frame.now) (packet_of frame.now) (body_tree body.now))
+        (state_of vars.old store.old) }
 {
     for turn in 0..count {
         vars.set_local(index, u64::from(turn));
@@ -124,7 +126,8 @@ fn run_turns(
 #[cycle(run)]
 fn run_body(frame: &Frame<'_>, body: &[Stmt], vars: &mut Variables, store: &mut Store) -> Flow
     requires { IsRunnableBody (body_tree body.now) }
-    ensures { outcome_of result (packet_of frame.now) (state_of vars.new store.new) ≡ do_body (widths_of frame.now) (packet_of frame.now) (body_tree body.now) (state_of vars.old store.old) }
+    ensures { outcome_of result (packet_of frame.now) (state_of vars.new store.new)
+        ≡ do_body (widths_of frame.now) (packet_of frame.now) (body_tree body.now) (state_of vars.old store.old) }
 {
     for s in body {
         match run_stmt(frame, s, vars, store) {
@@ -135,8 +138,9 @@ fn run_body(frame: &Frame<'_>, body: &[Stmt], vars: &mut Variables, store: &mut 
     Flow::Goes
 }
 
-/// What becomes of a packet of at most 9,216 bytes that arrives by this port, and what it leaves of the store. The memory is
-/// taken first: where there is none, the store is as before. A store that keeps what was declared still does after the run.
+/// What becomes of a packet of at most 9,216 bytes that arrives by this port, and what it leaves of the store. The
+/// memory is taken first: where there is none, the store is as before. A store that keeps what was declared still does
+/// after the run.
 pub fn run(
     alloc: Global,
     m: &Middlebox,
@@ -146,8 +150,10 @@ pub fn run(
 ) -> Result<Verdict, NoMemory>
     requires good { IsTrue (is_good (tree m.now)) }
     requires size { length packet.now ≤ largest_packet }
-    ensures verdict { IfOk result (λ verdict. verdict ≡ source_verdict (tree m.now) store.old (record { port = port; bytes = packet.now })) }
-    ensures store { OnOk result (store.new ≡ source_store (tree m.now) store.old (record { port = port; bytes = packet.now })) }
+    ensures verdict { IfOk result
+        (λ verdict. verdict ≡ source_verdict (tree m.now) store.old (record { port = port; bytes = packet.now })) }
+    ensures store { OnOk result
+        (store.new ≡ source_store (tree m.now) store.old (record { port = port; bytes = packet.now })) }
     ensures err { OnErr result (store.new ≡ store.old) }
     ensures kept { IsKept (tree m.now).objects store.old → IsKept (tree m.now).objects store.new }
 {

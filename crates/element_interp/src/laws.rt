@@ -13,6 +13,8 @@ ghost use Rattle.element_interp.specs.Arrivals.{IsArrival};
 /// packets. This does nothing: its contract is the law.
 pub fn stores_are_kept()
     ensures start { (m : Tree) → IsTrue (is_good m) → IsKept m.objects (start_store m.objects) }
-    ensures runs { (m : Tree) (store : Store) (packet : Packet) → IsTrue (is_good m) → IsArrival packet → IsKept m.objects store → IsKept m.objects (source_store m store packet) }
-    ensures serial { (m : Tree) (packets : List Packet) → IsTrue (is_good m) → All IsArrival packets → IsKept m.objects (serial_store m (start_store m.objects) packets) }
+    ensures runs { (m : Tree) (store : Store) (packet : Packet) → IsTrue (is_good m) → IsArrival packet
+        → IsKept m.objects store → IsKept m.objects (source_store m store packet) }
+    ensures serial { (m : Tree) (packets : List Packet) → IsTrue (is_good m) → All IsArrival packets
+        → IsKept m.objects (serial_store m (start_store m.objects) packets) }
 {}

@@ -22,13 +22,15 @@ pub struct Served {
     pub store: Store,
 }
 
-/// Runs a middlebox on packets of at most 9,216 bytes, one after the other: the first from the store that runs start with,
-/// each other one from what the one before has left.
+/// Runs a middlebox on packets of at most 9,216 bytes, one after the other: the first from the store that runs start
+/// with, each other one from what the one before has left.
 pub fn run_all(alloc: Global, m: &Middlebox, packets: &[Packet]) -> Result<Served, NoMemory>
     requires good { IsTrue (is_good (tree m.now)) }
     requires short { All (λ p. length p.bytes ≤ largest_packet) packets.now }
-    ensures verdicts { IfOk result (λ served. served.verdicts.items ≡ serial_verdicts (tree m.now) (start_store m.now.objects) packets.now) }
-    ensures store { IfOk result (λ served. served.store ≡ serial_store (tree m.now) (start_store m.now.objects) packets.now) }
+    ensures verdicts { IfOk result
+        (λ served. served.verdicts.items ≡ serial_verdicts (tree m.now) (start_store m.now.objects) packets.now) }
+    ensures store { IfOk result
+        (λ served. served.store ≡ serial_store (tree m.now) (start_store m.now.objects) packets.now) }
 {
     let mut store = Store::new(alloc, &m.objects)?;
     let mut verdicts = Vec::with_capacity(alloc, packets.len())?;

@@ -86,7 +86,8 @@ fn byte_at(bytes: &[u8], place: u64) -> u64
 #[cycle(value)]
 pub(crate) fn value(frame: &Frame<'_>, e: &Expr, vars: &Variables) -> u64
     requires { IsRunnableExpr (expr_tree e.now) }
-    ensures { (store : Store) → result ≡ value_of (widths_of frame.now) (packet_of frame.now) (expr_tree e.now) (state_of vars.now store) }
+    ensures { (store : Store)
+        → result ≡ value_of (widths_of frame.now) (packet_of frame.now) (expr_tree e.now) (state_of vars.now store) }
 {
     match e {
         Expr::Lit(value, _) => *value,
@@ -109,7 +110,9 @@ pub(crate) fn value(frame: &Frame<'_>, e: &Expr, vars: &Variables) -> u64
 pub(crate) fn values(frame: &Frame<'_>, all: &[Expr], vars: &Variables) -> Values
     requires few { count_of (expr_trees all.now) ≤ 8 }
     requires good { AreRunnableExprs (expr_trees all.now) }
-    ensures told { (store : Store) → result ≡ values_of (widths_of frame.now) (packet_of frame.now) (expr_trees all.now) (state_of vars.now store) }
+    ensures told { (store : Store)
+        → result ≡ values_of (widths_of frame.now) (packet_of frame.now) (expr_trees all.now)
+        (state_of vars.now store) }
     ensures count { length result ≡ count_of (expr_trees all.now) }
 {
     let mut values = Values::new();

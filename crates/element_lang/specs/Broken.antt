@@ -101,7 +101,8 @@ is_unknown locals _ = false
 -- widths don't fit the operator, or an index isn't of 16 bits
 abbrev pub is_misfit : List Local → SurfaceExpr → Bool
 is_misfit locals (byte index) = not (width_in locals index == 16)
-is_misfit locals (apply op written args) = not (fits_operator op (result_width op written (widths_in locals args)) (widths_in locals args))
+is_misfit locals (apply op written args) =
+    not (fits_operator op (result_width op written (widths_in locals args)) (widths_in locals args))
 is_misfit locals _ = false
 
 -- a shift is above 63
@@ -159,7 +160,8 @@ locals_of (word ∷ words) (w ∷ widths) = record { name = word; width = w } �
 
 abbrev pub declares : Sight → SurfaceStmt → List Local
 declares sight (let_local word value) = record { name = word; width = width_in sight.locals value } ∷ []
-declares sight (look found into object keys) = locals_of (found ∷ into) (1 ∷ value_widths (object_named sight.objects object))
+declares sight (look found into object keys) =
+    locals_of (found ∷ into) (1 ∷ value_widths (object_named sight.objects object))
 declares sight (put ok object keys values) = record { name = ok; width = 1 } ∷ []
 declares sight (del was object keys) = record { name = was; width = 1 } ∷ []
 declares sight (repeat index count body) = record { name = index; width = 32 } ∷ []
@@ -168,7 +170,9 @@ declares sight _ = []
 -- each of these names is that of no object, of no local in scope and of none of those before it
 abbrev pub are_free : List ObjectDecl → List Local → List Local → Bool
 are_free objects locals [] = true
-are_free objects locals (l ∷ ls) = is_none (object_named objects l.name) && is_none (local_named locals l.name) && are_free objects (locals ++ l ∷ []) ls
+are_free objects locals (l ∷ ls) =
+    is_none (object_named objects l.name) && is_none (local_named locals l.name)
+    && are_free objects (locals ++ l ∷ []) ls
 
 -- the names that it uses are those of locals in scope and of declared objects
 abbrev pub uses_unknown : Sight → SurfaceStmt → Bool
@@ -180,7 +184,8 @@ uses_unknown sight _ = false
 
 -- the width of what it takes isn't the one that is wanted there
 abbrev pub takes_misfit : Sight → SurfaceStmt → Bool
-takes_misfit sight (assign word value) = not (width_of_local (local_named sight.locals word) == width_in sight.locals value)
+takes_misfit sight (assign word value) =
+    not (width_of_local (local_named sight.locals word) == width_in sight.locals value)
 takes_misfit sight (set_field f value) = not ((row f).width == width_in sight.locals value)
 takes_misfit sight (choose cond first second) = not (width_in sight.locals cond == 1)
 takes_misfit sight (send port) = not (width_in sight.locals port == 8)
@@ -198,7 +203,8 @@ misfits_object sight (look found into object keys) =
 misfits_object sight (put ok object keys values) =
     not (fits_keys (object_named sight.objects object) (widths_in sight.locals keys))
     || not (fits_values (object_named sight.objects object) (widths_in sight.locals values))
-misfits_object sight (del was object keys) = not (fits_keys (object_named sight.objects object) (widths_in sight.locals keys))
+misfits_object sight (del was object keys) =
+    not (fits_keys (object_named sight.objects object) (widths_in sight.locals keys))
 misfits_object sight _ = false
 
 -- it puts to a table, or deletes from anything but a map
@@ -278,7 +284,8 @@ abbrev pub has_bad_rows : List ℕ → List ℕ → List (List ℕ) → List Sur
 has_bad_rows keys values seen [] = false
 has_bad_rows keys values seen (row ∷ rows) =
     not (same_widths (map (λ l. l.width) row.keys) keys) || not (same_widths (map (λ l. l.width) row.values) values)
-    || list_any (same_widths (map (λ l. l.value) row.keys)) seen || has_bad_rows keys values (map (λ l. l.value) row.keys ∷ seen) rows
+    || list_any (same_widths (map (λ l. l.value) row.keys)) seen
+    || has_bad_rows keys values (map (λ l. l.value) row.keys ∷ seen) rows
 
 abbrev pub has_bad_row : SurfaceDecl → Bool
 has_bad_row (table_decl word keys values rows) = has_bad_rows keys values [] rows
@@ -312,7 +319,12 @@ abbrev pub inside : Sight → Sight
 inside sight = record { objects = sight.objects; locals = sight.locals; repeated = sight.repeated; ended = false }
 
 abbrev pub in_repeat : Sight → SurfaceStmt → Sight
-in_repeat sight s = record { objects = sight.objects; locals = sight.locals ++ declares sight s; repeated = true; ended = false }
+in_repeat sight s = record {
+  objects = sight.objects;
+  locals = sight.locals ++ declares sight s;
+  repeated = true;
+  ended = false;
+}
 
 -- the locals that are in scope behind it: the one that counts the turns of a `repeat` is in scope in its body alone
 abbrev pub binds : Sight → SurfaceStmt → List Local
@@ -321,25 +333,38 @@ binds sight s = declares sight s
 
 -- what is seen behind a statement
 abbrev pub behind : Sight → SurfaceStmt → Sight
-behind sight s = record { objects = sight.objects; locals = sight.locals ++ binds sight s; repeated = sight.repeated; ended = sight.ended || always_ends s }
+behind sight s = record {
+  objects = sight.objects;
+  locals = sight.locals ++ binds sight s;
+  repeated = sight.repeated;
+  ended = sight.ended || always_ends s;
+}
 
 abbrev mutual
   -- in the statements inside a statement
   pub broken_within : Sight → SurfaceStmt → Option Broken
-  broken_within sight (choose cond first second) = broken_in (inside sight) first or_else broken_in (inside sight) second
+  broken_within sight (choose cond first second) =
+      broken_in (inside sight) first or_else broken_in (inside sight) second
   broken_within sight (repeat index count body) = broken_in (in_repeat sight (repeat index count body)) body
   broken_within sight _ = None
 
   pub broken_in : Sight → SurfaceBody → Option Broken
   broken_in sight done = None
-  broken_in sight (stmt at s b) = lowest_broken at (stmt_tests sight s) or_else (broken_within sight s or_else broken_in (behind sight s) b)
+  broken_in sight (stmt at s b) =
+      lowest_broken at (stmt_tests sight s) or_else (broken_within sight s or_else broken_in (behind sight s) b)
 
 abbrev pub broken_decl : List ObjectDecl → List Declared → Option Broken
 broken_decl objects [] = None
-broken_decl objects (d ∷ ds) = lowest_broken d.at (decl_tests objects d.decl) or_else broken_decl (objects ++ object_of d.decl ∷ []) ds
+broken_decl objects (d ∷ ds) =
+    lowest_broken d.at (decl_tests objects d.decl) or_else broken_decl (objects ++ object_of d.decl ∷ []) ds
 
 -- of all declarations and statements that break a rule the first, and the lowest rule that it breaks
 abbrev pub first_broken : Surface → Option Broken
 first_broken surface =
     broken_decl [] surface.objects
-    or_else broken_in (record { objects = map (λ d. object_of d.decl) surface.objects; locals = []; repeated = false; ended = false }) surface.body
+    or_else broken_in (record {
+      objects = map (λ d. object_of d.decl) surface.objects;
+      locals = [];
+      repeated = false;
+      ended = false;
+    }) surface.body

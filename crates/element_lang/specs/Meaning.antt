@@ -32,7 +32,8 @@ abbrev mutual
   value_of widths packet (local x) s = slice_index s.locals x
   value_of widths packet (field f) s = slice_index s.fields (field_index f)
   value_of widths packet (byte index) s = slice_index packet.bytes (value_of widths packet index s)
-  value_of widths packet (shift op by arg) s = operator_value op (width_of widths arg) (value_of widths packet arg s ∷ by ∷ [])
+  value_of widths packet (shift op by arg) s =
+      operator_value op (width_of widths arg) (value_of widths packet arg s ∷ by ∷ [])
   value_of widths packet (apply op width args) s = operator_value op width (values_of widths packet args s)
 
   pub values_of : List ℕ → Packet → Exprs → State → List ℕ
@@ -62,7 +63,10 @@ bind_from i (x ∷ xs) values locals = bind_from (i + 1) xs values (slice_set lo
 abbrev pub looked : ℕ → List ℕ → ℕ → List ℕ → State → State
 looked found into object key s =
     let o = object_at s.store object in
-    record s { locals = bind_from 0 into (looked_up o key) (slice_set s.locals found (bit (is_some (store.look o key)))) }
+    record s {
+      locals = bind_from 0 into (looked_up o key)
+          (slice_set s.locals found (bit (is_some (store.look o key))));
+    }
 
 abbrev pub is_stored : Put → Bool
 is_stored Stored = true
@@ -103,15 +107,18 @@ assigned f value s = record s { fields = slice_set s.fields (field_index f) (val
 -- the bytes of a packet in which each of these fields that can be written has its value
 abbrev pub with_fields : List Field → List ℕ → List ℕ → List ℕ
 with_fields [] values bytes = bytes
-with_fields (f ∷ fs) values bytes = with_fields fs values (if (row f).writable then with_field bytes f (slice_index values (field_index f)) else bytes)
+with_fields (f ∷ fs) values bytes =
+    with_fields fs values (if (row f).writable then with_field bytes f (slice_index values (field_index f)) else bytes)
 
 abbrev mutual
   pub do_stmt : List ℕ → Packet → StmtTree → State → Outcome
   do_stmt widths packet (let_local x value) s = Running (bound x (value_of widths packet value s) s)
   do_stmt widths packet (assign x value) s = Running (bound x (value_of widths packet value s) s)
   do_stmt widths packet (set_field f value) s = Running (assigned f (value_of widths packet value s) s)
-  do_stmt widths packet (look found into object keys) s = Running (looked found into object (values_of widths packet keys s) s)
-  do_stmt widths packet (put ok object keys values) s = Running (stored ok object (values_of widths packet keys s) (values_of widths packet values s) s)
+  do_stmt widths packet (look found into object keys) s =
+      Running (looked found into object (values_of widths packet keys s) s)
+  do_stmt widths packet (put ok object keys values) s =
+      Running (stored ok object (values_of widths packet keys s) (values_of widths packet values s) s)
   do_stmt widths packet (del was object keys) s = Running (deleted was object (values_of widths packet keys s) s)
   do_stmt widths packet (choose cond first second) s =
       if value_of widths packet cond s == 0 then do_body widths packet second s else do_body widths packet first s
@@ -158,4 +165,5 @@ serial_store m st (packet ∷ packets) = serial_store m (source_store m st packe
 
 abbrev pub serial_verdicts : Tree → Store → List Packet → List Verdict
 serial_verdicts m st [] = []
-serial_verdicts m st (packet ∷ packets) = source_verdict m st packet ∷ serial_verdicts m (source_store m st packet) packets
+serial_verdicts m st (packet ∷ packets) =
+    source_verdict m st packet ∷ serial_verdicts m (source_store m st packet) packets

@@ -36,7 +36,8 @@ abbrev mutual
   is_good_expr widths scope (field f) = true
   is_good_expr widths scope (byte index) = is_good_expr widths scope index && width_of widths index == 16
   is_good_expr widths scope (shift op by arg) = is_shift op && nat_le by 63 && is_good_expr widths scope arg
-  is_good_expr widths scope (apply op width args) = are_good_exprs widths scope args && fits_operator op width (widths_of widths args)
+  is_good_expr widths scope (apply op width args) =
+      are_good_exprs widths scope args && fits_operator op width (widths_of widths args)
 
   pub are_good_exprs : List ℕ → List ℕ → Exprs → Bool
   are_good_exprs widths scope no_expr = true
@@ -56,7 +57,8 @@ counted_from n (x ∷ xs) = x == n && counted_from (n + 1) xs
 abbrev pub are_fresh : Tree → List ℕ → List ℕ → Bool
 are_fresh m scope [] = true
 are_fresh m scope (x ∷ xs) =
-    not (list_any (bytes_eq (local_name m x)) (object_names m)) && not (list_any (λ y. bytes_eq (local_name m x) (local_name m y)) scope) && are_fresh m (x ∷ scope) xs
+    not (list_any (bytes_eq (local_name m x)) (object_names m))
+    && not (list_any (λ y. bytes_eq (local_name m x) (local_name m y)) scope) && are_fresh m (x ∷ scope) xs
 
 -- the locals that a statement declares, in order
 abbrev pub binds : StmtTree → List ℕ
@@ -167,14 +169,16 @@ abbrev mutual
       is_count count && not (any_repeats body) && not (ends_always body)
       && slice_index (local_widths m) index == 32 && counted_from next (index ∷ []) && are_fresh m scope (index ∷ [])
       && is_good_body m (index ∷ scope) (next + 1) body
-  is_good_stmt m scope next (send port) = let widths = local_widths m in is_good_expr widths scope port && width_of widths port == 8
+  is_good_stmt m scope next (send port) =
+      let widths = local_widths m in is_good_expr widths scope port && width_of widths port == 8
   is_good_stmt m scope next drop = true
 
   -- and none follows one that always ends
   pub is_good_body : Tree → List ℕ → ℕ → BodyTree → Bool
   is_good_body m scope next done = true
   is_good_body m scope next (stmt s b) =
-      is_good_stmt m scope next s && (not (always_ends s) || is_empty b) && is_good_body m (binds s ++ scope) (next + declared_in s) b
+      is_good_stmt m scope next s && (not (always_ends s) || is_empty b)
+      && is_good_body m (binds s ++ scope) (next + declared_in s) b
 
 -- a key or a value has 1 to 8 numbers, each of 1 to 64 bits and of 128 bits together
 abbrev pub sum_of : List ℕ → ℕ
@@ -197,9 +201,11 @@ are_good_rows keys values seen (row ∷ rows) =
 
 -- Each kind's own rules, where what it doesn't have stands at 0 or is empty.
 abbrev pub is_good_object : Kind → ObjectDecl → Bool
-is_good_object Table o = are_widths o.keys && are_widths o.values && o.size == length o.rows && o.start == 0 && are_good_rows o.keys o.values [] o.rows
+is_good_object Table o = are_widths o.keys && are_widths o.values && o.size == length o.rows && o.start == 0
+    && are_good_rows o.keys o.values [] o.rows
 is_good_object Map o = are_widths o.keys && are_widths o.values && is_size o.size && o.start == 0 && length o.rows == 0
-is_good_object Vector o = same_widths o.keys (32 ∷ []) && are_widths o.values && is_size o.size && o.start == 0 && length o.rows == 0
+is_good_object Vector o =
+    same_widths o.keys (32 ∷ []) && are_widths o.values && is_size o.size && o.start == 0 && length o.rows == 0
 is_good_object Int o =
     length o.keys == 0 && same_widths o.values (slice_index o.values 0 ∷ []) && is_width (slice_index o.values 0)
     && o.size == 1 && nat_lt o.start (2 ^ slice_index o.values 0) && length o.rows == 0
@@ -207,7 +213,8 @@ is_good_object Int o =
 -- each object keeps its rules, and has a name of its own
 abbrev pub are_good_objects : List (List ℕ) → List ObjectDecl → Bool
 are_good_objects names [] = true
-are_good_objects names (o ∷ os) = is_good_object o.kind o && not (list_any (bytes_eq o.name) names) && are_good_objects (o.name ∷ names) os
+are_good_objects names (o ∷ os) =
+    is_good_object o.kind o && not (list_any (bytes_eq o.name) names) && are_good_objects (o.name ∷ names) os
 
 -- the whole middlebox: its locals are those that its statements declare, in order
 abbrev pub is_good : Tree → Bool

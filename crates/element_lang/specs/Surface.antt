@@ -76,7 +76,15 @@ row_of row = record { keys = map (λ l. l.value) row.keys; values = map (λ l. l
 
 abbrev pub object_of : SurfaceDecl → ObjectDecl
 object_of (table_decl word keys values rows) =
-    record { name = word; kind = Table; keys = keys; values = values; size = length rows; start = 0; rows = map row_of rows }
+    record {
+      name = word;
+      kind = Table;
+      keys = keys;
+      values = values;
+      size = length rows;
+      start = 0;
+      rows = map row_of rows;
+    }
 object_of (map_decl word keys values capacity) =
     record { name = word; kind = Map; keys = keys; values = values; size = capacity; start = 0; rows = [] }
 object_of (vector_decl word size values) =
@@ -147,8 +155,10 @@ abbrev mutual
   named_stmt m (trees.let_local x value) = let_local (local_name m x) (named_expr m value)
   named_stmt m (trees.assign x value) = assign (local_name m x) (named_expr m value)
   named_stmt m (trees.set_field f value) = set_field f (named_expr m value)
-  named_stmt m (trees.look found into object keys) = look (local_name m found) (map (local_name m) into) (object_name m object) (named_exprs m keys)
-  named_stmt m (trees.put ok object keys values) = put (local_name m ok) (object_name m object) (named_exprs m keys) (named_exprs m values)
+  named_stmt m (trees.look found into object keys) =
+      look (local_name m found) (map (local_name m) into) (object_name m object) (named_exprs m keys)
+  named_stmt m (trees.put ok object keys values) =
+      put (local_name m ok) (object_name m object) (named_exprs m keys) (named_exprs m values)
   named_stmt m (trees.del was object keys) = del (local_name m was) (object_name m object) (named_exprs m keys)
   named_stmt m (trees.choose cond first second) = choose (named_expr m cond) (named_body m first) (named_body m second)
   named_stmt m (trees.repeat index count body) = repeat (local_name m index) count (named_body m body)

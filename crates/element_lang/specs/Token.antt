@@ -42,7 +42,8 @@ starts_comment bs = starts_with nat_eq bs (codes "//")
 abbrev pub gap : Bool → List ℕ → ℕ
 gap inside [] = 0
 gap true (b ∷ bs) = suc (gap (not (b == 10)) bs)
-gap false (b ∷ bs) = if is_blank b then suc (gap false bs) else (if starts_comment (b ∷ bs) then suc (gap true bs) else 0)
+gap false (b ∷ bs) = if is_blank b then suc (gap false bs)
+    else (if starts_comment (b ∷ bs) then suc (gap true bs) else 0)
 
 -- a word with a dot is the name of a field, and any other a keyword or a name
 abbrev pub field_token : Option Field → Option Token
@@ -147,4 +148,5 @@ AreTokens text ts = HasTokens 0 text ts (length text) []
 
 -- behind some tokens stands a byte at which no token starts
 abbrev pub IsNoToken : List ℕ → ℕ → Type 0
-IsNoToken text offset = (ts : List Placed) × (b : ℕ) × (rest : List ℕ) × HasTokens 0 text ts offset (b ∷ rest) × (lexeme (b ∷ rest) ≡ None)
+IsNoToken text offset = (ts : List Placed) × (b : ℕ) × (rest : List ℕ) × HasTokens 0 text ts offset (b ∷ rest)
+    × (lexeme (b ∷ rest) ≡ None)

@@ -8,7 +8,10 @@ use Rattle.element_lang.specs.declared.mark.Mark.TheVariants as marks
 use Rattle.element_lang.specs.Mark.{spelling}
 use Rattle.element_lang.specs.Token.{Token, fixed, number}
 use Rattle.element_lang.specs.Token as tokens
-use Rattle.element_lang.specs.Surface.{SurfaceExpr, SurfaceExprs, SurfaceStmt, SurfaceBody, Literal, SurfaceRow, SurfaceDecl, Declared, Surface, lit, name, field, byte, shift, apply, no_expr, expr, let_local, assign, set_field, look, put, del, choose, repeat, send, drop, done, stmt, table_decl, map_decl, vector_decl, int_decl}
+use Rattle.element_lang.specs.Surface.{SurfaceExpr, SurfaceExprs, SurfaceStmt, SurfaceBody, Literal, SurfaceRow}
+use Rattle.element_lang.specs.Surface.{SurfaceDecl, Declared, Surface, lit, name, field, byte, shift, apply, no_expr}
+use Rattle.element_lang.specs.Surface.{expr, let_local, assign, set_field, look, put, del, choose, repeat, send, drop}
+use Rattle.element_lang.specs.Surface.{done, stmt, table_decl, map_decl, vector_decl, int_decl}
 use Rattle.element_print.specs.declared.place.Place.{Place}
 use Rattle.element_print.specs.declared.place.Place.TheVariants.{Whole, Operand, Turned}
 
@@ -84,8 +87,8 @@ abbrev pub is_turned : SurfaceExpr → Bool
 is_turned (apply op width args) = is_not op
 is_turned _ = false
 
--- The grammar takes it there only in brackets: an operand has no symbol between its parts, and what `~` turns isn't turned
--- by another `~` either.
+-- The grammar takes it there only in brackets: an operand has no symbol between its parts, and what `~` turns isn't
+-- turned by another `~` either.
 abbrev pub needs_brackets : Place → SurfaceExpr → Bool
 needs_brackets Whole e = false
 needs_brackets Operand e = has_infix e
@@ -101,9 +104,11 @@ abbrev mutual
   expr_tokens (name word) = tokens.name word ∷ []
   expr_tokens (field f) = tokens.field f ∷ []
   expr_tokens (byte index) = fixed marks.Byte ∷ in_brackets (expr_tokens index)
-  expr_tokens (shift op by arg) = in_brackets_if (needs_brackets Operand arg) (expr_tokens arg) ++ fixed (mark_of op) ∷ number by ∷ []
+  expr_tokens (shift op by arg) =
+      in_brackets_if (needs_brackets Operand arg) (expr_tokens arg) ++ fixed (mark_of op) ∷ number by ∷ []
   expr_tokens (apply ops.Not width args) = fixed marks.Tilde ∷ joined marks.Comma (parts Turned args)
-  expr_tokens (apply ops.Cast width args) = fixed marks.Cast ∷ in_brackets (joined marks.Comma ((number width ∷ []) ∷ parts Whole args))
+  expr_tokens (apply ops.Cast width args) =
+      fixed marks.Cast ∷ in_brackets (joined marks.Comma ((number width ∷ []) ∷ parts Whole args))
   expr_tokens (apply ops.Select width args) = fixed marks.Select ∷ in_brackets (joined marks.Comma (parts Whole args))
   expr_tokens (apply ops.Adjust width args) = fixed marks.Adjust ∷ in_brackets (joined marks.Comma (parts Whole args))
   expr_tokens (apply op width args) = joined (mark_of op) (parts Operand args)
@@ -131,18 +136,22 @@ else_tokens (stmt at s b) ts = fixed marks.Else ∷ in_braces ts
 
 abbrev mutual
   pub stmt_tokens : SurfaceStmt → List Token
-  stmt_tokens (let_local word e) = fixed marks.Let ∷ tokens.name word ∷ fixed marks.Assign ∷ (expr_tokens e ++ fixed marks.Semicolon ∷ [])
+  stmt_tokens (let_local word e) =
+      fixed marks.Let ∷ tokens.name word ∷ fixed marks.Assign ∷ (expr_tokens e ++ fixed marks.Semicolon ∷ [])
   stmt_tokens (assign word e) = tokens.name word ∷ fixed marks.Assign ∷ (expr_tokens e ++ fixed marks.Semicolon ∷ [])
   stmt_tokens (set_field f e) = tokens.field f ∷ fixed marks.Assign ∷ (expr_tokens e ++ fixed marks.Semicolon ∷ [])
   stmt_tokens (look found into object keys) =
       let names = joined marks.Comma (map (λ word. tokens.name word ∷ []) (found ∷ into)) in
       fixed marks.Look ∷ (names ++ fixed marks.Assign ∷ (keyed object keys ++ fixed marks.Semicolon ∷ []))
   stmt_tokens (put ok object keys values) =
-      fixed marks.Put ∷ tokens.name ok ∷ fixed marks.Assign ∷ (keyed object keys ++ fixed marks.Arrow ∷ (exprs_tokens values ++ fixed marks.Semicolon ∷ []))
-  stmt_tokens (del was object keys) = fixed marks.Del ∷ tokens.name was ∷ fixed marks.Assign ∷ (keyed object keys ++ fixed marks.Semicolon ∷ [])
+      fixed marks.Put ∷ tokens.name ok ∷ fixed marks.Assign
+      ∷ (keyed object keys ++ fixed marks.Arrow ∷ (exprs_tokens values ++ fixed marks.Semicolon ∷ []))
+  stmt_tokens (del was object keys) =
+      fixed marks.Del ∷ tokens.name was ∷ fixed marks.Assign ∷ (keyed object keys ++ fixed marks.Semicolon ∷ [])
   stmt_tokens (choose cond first second) =
       fixed marks.If ∷ (expr_tokens cond ++ (in_braces (body_tokens first) ++ else_tokens second (body_tokens second)))
-  stmt_tokens (repeat index count body) = fixed marks.Repeat ∷ tokens.name index ∷ number count ∷ in_braces (body_tokens body)
+  stmt_tokens (repeat index count body) =
+      fixed marks.Repeat ∷ tokens.name index ∷ number count ∷ in_braces (body_tokens body)
   stmt_tokens (send port) = fixed marks.Send ∷ (expr_tokens port ++ fixed marks.Semicolon ∷ [])
   stmt_tokens drop = fixed marks.Drop ∷ fixed marks.Semicolon ∷ []
 
@@ -163,18 +172,23 @@ literals_tokens ls = in_brackets (joined marks.Comma (map literal_tokens ls))
 -- the rows of a table
 abbrev pub rows_tokens : List SurfaceRow → List Token
 rows_tokens [] = []
-rows_tokens (row ∷ rows) = literals_tokens row.keys ++ fixed marks.Arrow ∷ (literals_tokens row.values ++ fixed marks.Semicolon ∷ rows_tokens rows)
+rows_tokens (row ∷ rows) =
+    literals_tokens row.keys ++ fixed marks.Arrow
+    ∷ (literals_tokens row.values ++ fixed marks.Semicolon ∷ rows_tokens rows)
 
 abbrev pub decl_tokens : SurfaceDecl → List Token
 decl_tokens (table_decl word keys values rows) =
-    fixed marks.Table ∷ tokens.name word ∷ (widths_tokens keys ++ fixed marks.Arrow ∷ (widths_tokens values ++ in_braces (rows_tokens rows)))
+    fixed marks.Table ∷ tokens.name word
+    ∷ (widths_tokens keys ++ fixed marks.Arrow ∷ (widths_tokens values ++ in_braces (rows_tokens rows)))
 decl_tokens (map_decl word keys values capacity) =
     let room = fixed marks.Capacity ∷ number capacity ∷ fixed marks.Semicolon ∷ [] in
     fixed marks.Map ∷ tokens.name word ∷ (widths_tokens keys ++ fixed marks.Arrow ∷ (widths_tokens values ++ room))
 decl_tokens (vector_decl word size values) =
-    fixed marks.Vector ∷ tokens.name word ∷ fixed marks.Length ∷ number size ∷ fixed marks.Arrow ∷ (widths_tokens values ++ fixed marks.Semicolon ∷ [])
+    fixed marks.Vector ∷ tokens.name word ∷ fixed marks.Length ∷ number size ∷ fixed marks.Arrow
+    ∷ (widths_tokens values ++ fixed marks.Semicolon ∷ [])
 decl_tokens (int_decl word width start) =
-    fixed marks.Int ∷ tokens.name word ∷ fixed marks.Colon ∷ number width ∷ fixed marks.Assign ∷ number start ∷ fixed marks.Semicolon ∷ []
+    fixed marks.Int ∷ tokens.name word ∷ fixed marks.Colon ∷ number width ∷ fixed marks.Assign ∷ number start
+    ∷ fixed marks.Semicolon ∷ []
 
 abbrev pub decls_tokens : List Declared → List Token
 decls_tokens [] = []

@@ -2,7 +2,8 @@
 ghost use Rattle.std.specs.Prelude.{◌≡◌, ◌++◌, ◌∷◌, [], map, slice_index, OnOk};
 ghost use Rattle.element_lang.specs.Surface.{literals, named_row, named_as, named_decl};
 ghost use Rattle.element_lang.specs.Token.{fixed, number, name};
-ghost use Rattle.element_print.specs.Printed.{joined, widths_tokens, literal_tokens, literals_tokens, rows_tokens, decl_tokens, decls_tokens};
+ghost use Rattle.element_print.specs.Printed.{joined, widths_tokens, literal_tokens, literals_tokens, rows_tokens};
+ghost use Rattle.element_print.specs.Printed.{decl_tokens, decls_tokens};
 ghost use Rattle.element_print.specs.Spaced.{spaced};
 
 use crate::tokens::Tokens;
@@ -50,7 +51,8 @@ fn width_at(widths: &[u64], place: usize) -> u64
 // Adds numbers and their widths, with commas between them.
 #[tactic(auto, using(crate::proofs::Spaces::spaces, crate::proofs::Spaces::listed_more, crate::proofs::Literals::literals_more, std::proofs::lemmas::Grind::common_steps))]
 fn put_joined(widths: &[u64], numbers: &[u64], out: &mut Tokens) -> Result<(), NoMemory>
-    ensures { OnOk result (out.new ≡ out.old ++ spaced (joined Mark.Comma (map literal_tokens (literals widths.now numbers.now)))) }
+    ensures { OnOk result (out.new
+        ≡ out.old ++ spaced (joined Mark.Comma (map literal_tokens (literals widths.now numbers.now)))) }
 {
     let mut behind = false;
     for i in 0..numbers.len() {
@@ -74,7 +76,9 @@ fn put_literals(widths: &[u64], numbers: &[u64], out: &mut Tokens) -> Result<(),
 
 #[tactic(auto, using(crate::proofs::Spaces::spaces))]
 fn put_row(keys: &Widths, values: &Widths, row: &Row, out: &mut Tokens) -> Result<(), NoMemory>
-    ensures { OnOk result (out.new ≡ out.old ++ spaced (literals_tokens (literals keys.now row.now.keys) ++ fixed Mark.Arrow ∷ (literals_tokens (literals values.now row.now.values) ++ fixed Mark.Semicolon ∷ []))) }
+    ensures { OnOk result (out.new
+        ≡ out.old ++ spaced (literals_tokens (literals keys.now row.now.keys) ++ fixed Mark.Arrow
+        ∷ (literals_tokens (literals values.now row.now.values) ++ fixed Mark.Semicolon ∷ []))) }
 {
     put_literals(keys.as_slice(), row.keys.as_slice(), out)?;
     out.mark(Mark::Arrow)?;
@@ -96,7 +100,9 @@ fn put_rows(keys: &Widths, values: &Widths, rows: &[Row], out: &mut Tokens) -> R
 // Adds a name, and the widths of keys and values.
 #[tactic(auto, using(crate::proofs::Spaces::spaces))]
 fn put_widths_of(o: &ObjectDecl, out: &mut Tokens) -> Result<(), NoMemory>
-    ensures { OnOk result (out.new ≡ out.old ++ spaced (name o.now.name ∷ (widths_tokens o.now.keys ++ fixed Mark.Arrow ∷ widths_tokens o.now.values))) }
+    ensures { OnOk result (out.new
+        ≡ out.old ++ spaced (name o.now.name
+        ∷ (widths_tokens o.now.keys ++ fixed Mark.Arrow ∷ widths_tokens o.now.values))) }
 {
     out.name(o.name.as_slice())?;
     put_widths(&o.keys, out)?;
@@ -120,7 +126,8 @@ fn put_table(o: &ObjectDecl, out: &mut Tokens) -> Result<(), NoMemory>
 // Adds what the declaration of a map ends with.
 #[tactic(auto, using(crate::proofs::Spaces::spaces))]
 fn put_capacity(capacity: u32, out: &mut Tokens) -> Result<(), NoMemory>
-    ensures { OnOk result (out.new ≡ out.old ++ spaced (fixed Mark.Capacity ∷ number capacity ∷ fixed Mark.Semicolon ∷ [])) }
+    ensures { OnOk result (out.new
+        ≡ out.old ++ spaced (fixed Mark.Capacity ∷ number capacity ∷ fixed Mark.Semicolon ∷ [])) }
 {
     out.mark(Mark::Capacity)?;
     out.number(u64::from(capacity))?;
@@ -141,7 +148,8 @@ fn put_map(o: &ObjectDecl, out: &mut Tokens) -> Result<(), NoMemory>
 // Adds what the declaration of a vector ends with.
 #[tactic(auto, using(crate::proofs::Spaces::spaces))]
 fn put_values(values: &Widths, out: &mut Tokens) -> Result<(), NoMemory>
-    ensures { OnOk result (out.new ≡ out.old ++ spaced (fixed Mark.Arrow ∷ (widths_tokens values.now ++ fixed Mark.Semicolon ∷ []))) }
+    ensures { OnOk result (out.new
+        ≡ out.old ++ spaced (fixed Mark.Arrow ∷ (widths_tokens values.now ++ fixed Mark.Semicolon ∷ []))) }
 {
     out.mark(Mark::Arrow)?;
     put_widths(values, out)?;
@@ -198,7 +206,8 @@ fn put_decl(o: &ObjectDecl, out: &mut Tokens) -> Result<(), NoMemory>
 /// Adds the declarations of these objects.
 #[tactic(auto, using(crate::proofs::Spaces::spaces, std::proofs::lemmas::Grind::common_steps))]
 pub(crate) fn put_decls(objects: &[ObjectDecl], out: &mut Tokens) -> Result<(), NoMemory>
-    ensures { OnOk result (out.new ≡ out.old ++ spaced (decls_tokens (map (λ o. record { at = 0; decl = named_decl o }) objects.now))) }
+    ensures { OnOk result (out.new
+        ≡ out.old ++ spaced (decls_tokens (map (λ o. record { at = 0; decl = named_decl o }) objects.now))) }
 {
     for o in objects {
         put_decl(o, out)?;

@@ -47,7 +47,8 @@ fn put_listed(
     all: &[Expr],
     out: &mut Tokens,
 ) -> Result<(), NoMemory>
-    ensures { OnOk result (out.new ≡ out.old ++ spaced (listed before mark (parts place (named_exprs (tree m.now) (expr_trees all.now))))) }
+    ensures { OnOk result (out.new
+        ≡ out.old ++ spaced (listed before mark (parts place (named_exprs (tree m.now) (expr_trees all.now))))) }
 {
     let mut behind = before;
     for e in all {
@@ -61,7 +62,9 @@ fn put_listed(
 #[cycle(expr)]
 #[tactic(auto, using(crate::proofs::Spaces::spaces))]
 fn put_byte(m: &Middlebox, index: &Expr, out: &mut Tokens) -> Result<(), NoMemory>
-    ensures { OnOk result (out.new ≡ out.old ++ spaced (fixed Mark.Byte ∷ in_brackets (expr_tokens (named_expr (tree m.now) (expr_tree index.now))))) }
+    ensures { OnOk result (out.new
+        ≡ out.old ++ spaced (fixed Mark.Byte
+        ∷ in_brackets (expr_tokens (named_expr (tree m.now) (expr_tree index.now))))) }
 {
     out.mark(Mark::Byte)?;
     out.mark(Mark::LeftParen)?;
@@ -73,7 +76,8 @@ fn put_byte(m: &Middlebox, index: &Expr, out: &mut Tokens) -> Result<(), NoMemor
 #[cycle(expr)]
 #[tactic(auto, using(crate::proofs::Spaces::spaces))]
 fn put_shift(m: &Middlebox, op: Op, by: u8, arg: &Expr, out: &mut Tokens) -> Result<(), NoMemory>
-    ensures { OnOk result (out.new ≡ out.old ++ spaced (expr_tokens (shift op by (named_expr (tree m.now) (expr_tree arg.now))))) }
+    ensures { OnOk result (out.new
+        ≡ out.old ++ spaced (expr_tokens (shift op by (named_expr (tree m.now) (expr_tree arg.now))))) }
 {
     put_part(m, Place::Operand, arg, out)?;
     out.mark(mark_of(op))?;
@@ -85,7 +89,9 @@ fn put_shift(m: &Middlebox, op: Op, by: u8, arg: &Expr, out: &mut Tokens) -> Res
 #[cycle(expr)]
 #[tactic(auto, using(crate::proofs::Spaces::spaces))]
 fn put_call(m: &Middlebox, mark: Mark, args: &[Expr], out: &mut Tokens) -> Result<(), NoMemory>
-    ensures { OnOk result (out.new ≡ out.old ++ spaced (fixed mark ∷ in_brackets (exprs_tokens (named_exprs (tree m.now) (expr_trees args.now))))) }
+    ensures { OnOk result (out.new
+        ≡ out.old ++ spaced (fixed mark
+        ∷ in_brackets (exprs_tokens (named_exprs (tree m.now) (expr_trees args.now))))) }
 {
     out.mark(mark)?;
     out.mark(Mark::LeftParen)?;
@@ -97,7 +103,8 @@ fn put_call(m: &Middlebox, mark: Mark, args: &[Expr], out: &mut Tokens) -> Resul
 #[cycle(expr)]
 #[tactic(auto, using(crate::proofs::Spaces::spaces))]
 fn put_cast(m: &Middlebox, width: Width, args: &[Expr], out: &mut Tokens) -> Result<(), NoMemory>
-    ensures { OnOk result (out.new ≡ out.old ++ spaced (expr_tokens (apply Op.Cast width (named_exprs (tree m.now) (expr_trees args.now))))) }
+    ensures { OnOk result (out.new
+        ≡ out.old ++ spaced (expr_tokens (apply Op.Cast width (named_exprs (tree m.now) (expr_trees args.now))))) }
 {
     out.mark(Mark::Cast)?;
     out.mark(Mark::LeftParen)?;
@@ -110,7 +117,8 @@ fn put_cast(m: &Middlebox, width: Width, args: &[Expr], out: &mut Tokens) -> Res
 #[cycle(expr)]
 #[tactic(auto, using(crate::proofs::Spaces::spaces))]
 fn put_not(m: &Middlebox, args: &[Expr], out: &mut Tokens) -> Result<(), NoMemory>
-    ensures { OnOk result (out.new ≡ out.old ++ spaced (expr_tokens (apply Op.Not 0 (named_exprs (tree m.now) (expr_trees args.now))))) }
+    ensures { OnOk result (out.new
+        ≡ out.old ++ spaced (expr_tokens (apply Op.Not 0 (named_exprs (tree m.now) (expr_trees args.now))))) }
 {
     out.mark(Mark::Tilde)?;
     put_listed(m, Place::Turned, Mark::Comma, false, args, out)?;

@@ -28,8 +28,9 @@ pub(crate) fn written(alloc: Global, m: &Middlebox) -> Result<Text, NoMemory>
     Ok(text)
 }
 
-/// The text of a middlebox: its tokens with one space between two of them, and an LF at the end. No spelling of it has fewer
-/// tokens. Where the middlebox and the open brackets of the text keep the sizes of sources, it is a source of this middlebox.
+/// The text of a middlebox: its tokens with one space between two of them, and an LF at the end. No spelling of it has
+/// fewer tokens. Where the middlebox and the open brackets of the text keep the sizes of sources, it is a source of
+/// this middlebox.
 pub fn print(alloc: Global, m: &Middlebox) -> Result<Text, NoMemory>
     requires good { IsTrue (is_good (tree m.now)) }
     requires names { HasNames (tree m.now) }
@@ -37,7 +38,8 @@ pub fn print(alloc: Global, m: &Middlebox) -> Result<Text, NoMemory>
     ensures tokens { IfOk result (λ text. HasExactly text (print_tokens (named (tree m.now)))) }
     ensures spells { IsSpelled (print_tokens (named (tree m.now))) (tree m.now) }
     ensures source { IsWithinSizes (tree m.now) → IfOk result (λ text. IsSource text (tree m.now)) }
-    ensures shortest { (others : List Token) → IsSpelled others (tree m.now) → length (print_tokens (named (tree m.now))) ≤ length others }
+    ensures shortest { (others : List Token) → IsSpelled others (tree m.now)
+        → length (print_tokens (named (tree m.now))) ≤ length others }
 {
     written(alloc, m)
 }

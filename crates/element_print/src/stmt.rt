@@ -1,9 +1,11 @@
 //! The tokens of statements.
 ghost use Rattle.std.specs.Prelude.{◌≡◌, ◌++◌, ◌∷◌, [], map, OnOk};
-ghost use Rattle.element_lang.specs.Surface.{named_exprs, named_stmt, named_body, named_expr, local_name, object_name, let_local, assign, set_field, look, put, del, repeat};
+ghost use Rattle.element_lang.specs.Surface.{named_exprs, named_stmt, named_body, named_expr, local_name, object_name};
+ghost use Rattle.element_lang.specs.Surface.{let_local, assign, set_field, look, put, del, repeat};
 ghost use Rattle.element_lang.specs.Token.{fixed, name};
 ghost use Rattle.element_lang.specs.View.{tree, expr_tree, expr_trees, stmt_tree, body_tree};
-ghost use Rattle.element_print.specs.Printed.{expr_tokens, exprs_tokens, behind_each, keyed, else_tokens, in_braces, stmt_tokens, body_tokens};
+ghost use Rattle.element_print.specs.Printed.{expr_tokens, exprs_tokens, behind_each, keyed, else_tokens, in_braces};
+ghost use Rattle.element_print.specs.Printed.{stmt_tokens, body_tokens};
 ghost use Rattle.element_print.specs.Spaced.{spaced};
 
 use crate::expr::{local_name, put_expr, put_exprs};
@@ -25,7 +27,8 @@ fn object_name(m: &Middlebox, x: u32) -> &[u8]
 // Adds what a statement with a value ends with.
 #[tactic(auto, using(crate::proofs::Spaces::spaces))]
 fn put_value(m: &Middlebox, e: &Expr, out: &mut Tokens) -> Result<(), NoMemory>
-    ensures { OnOk result (out.new ≡ out.old ++ spaced (expr_tokens (named_expr (tree m.now) (expr_tree e.now)) ++ fixed Mark.Semicolon ∷ [])) }
+    ensures { OnOk result (out.new
+        ≡ out.old ++ spaced (expr_tokens (named_expr (tree m.now) (expr_tree e.now)) ++ fixed Mark.Semicolon ∷ [])) }
 {
     put_expr(m, e, out)?;
     out.mark(Mark::Semicolon)?;
@@ -34,7 +37,9 @@ fn put_value(m: &Middlebox, e: &Expr, out: &mut Tokens) -> Result<(), NoMemory>
 
 #[tactic(auto, using(crate::proofs::Spaces::spaces))]
 fn put_let(m: &Middlebox, local: u32, value: &Expr, out: &mut Tokens) -> Result<(), NoMemory>
-    ensures { OnOk result (out.new ≡ out.old ++ spaced (stmt_tokens (let_local (local_name (tree m.now) local) (named_expr (tree m.now) (expr_tree value.now))))) }
+    ensures { OnOk result (out.new
+        ≡ out.old ++ spaced (stmt_tokens
+        (let_local (local_name (tree m.now) local) (named_expr (tree m.now) (expr_tree value.now))))) }
 {
     out.mark(Mark::Let)?;
     out.name(local_name(m, local))?;
@@ -45,7 +50,9 @@ fn put_let(m: &Middlebox, local: u32, value: &Expr, out: &mut Tokens) -> Result<
 
 #[tactic(auto, using(crate::proofs::Spaces::spaces))]
 fn put_assign(m: &Middlebox, local: u32, value: &Expr, out: &mut Tokens) -> Result<(), NoMemory>
-    ensures { OnOk result (out.new ≡ out.old ++ spaced (stmt_tokens (assign (local_name (tree m.now) local) (named_expr (tree m.now) (expr_tree value.now))))) }
+    ensures { OnOk result (out.new
+        ≡ out.old ++ spaced (stmt_tokens
+        (assign (local_name (tree m.now) local) (named_expr (tree m.now) (expr_tree value.now))))) }
 {
     out.name(local_name(m, local))?;
     out.mark(Mark::Assign)?;
@@ -60,7 +67,8 @@ fn put_set_field(
     value: &Expr,
     out: &mut Tokens,
 ) -> Result<(), NoMemory>
-    ensures { OnOk result (out.new ≡ out.old ++ spaced (stmt_tokens (set_field field (named_expr (tree m.now) (expr_tree value.now))))) }
+    ensures { OnOk result (out.new
+        ≡ out.old ++ spaced (stmt_tokens (set_field field (named_expr (tree m.now) (expr_tree value.now))))) }
 {
     out.field(field)?;
     out.mark(Mark::Assign)?;
@@ -71,7 +79,9 @@ fn put_set_field(
 // Adds an object and a key.
 #[tactic(auto, using(crate::proofs::Spaces::spaces))]
 fn put_keyed(m: &Middlebox, object: u32, keys: &[Expr], out: &mut Tokens) -> Result<(), NoMemory>
-    ensures { OnOk result (out.new ≡ out.old ++ spaced (keyed (object_name (tree m.now) object) (named_exprs (tree m.now) (expr_trees keys.now)))) }
+    ensures { OnOk result (out.new
+        ≡ out.old ++ spaced (keyed (object_name (tree m.now) object)
+        (named_exprs (tree m.now) (expr_trees keys.now)))) }
 {
     out.name(object_name(m, object))?;
     out.mark(Mark::LeftBracket)?;
@@ -83,7 +93,9 @@ fn put_keyed(m: &Middlebox, object: u32, keys: &[Expr], out: &mut Tokens) -> Res
 // Adds the names of locals, with a comma before each.
 #[tactic(auto, using(crate::proofs::Spaces::spaces, std::proofs::lemmas::Grind::common_steps))]
 fn put_names(m: &Middlebox, locals: &[u32], out: &mut Tokens) -> Result<(), NoMemory>
-    ensures { OnOk result (out.new ≡ out.old ++ spaced (behind_each Mark.Comma (map (λ word. name word ∷ []) (map (local_name (tree m.now)) locals.now)))) }
+    ensures { OnOk result (out.new
+        ≡ out.old ++ spaced (behind_each Mark.Comma
+        (map (λ word. name word ∷ []) (map (local_name (tree m.now)) locals.now)))) }
 {
     for local in locals {
         out.mark(Mark::Comma)?;
@@ -95,7 +107,10 @@ fn put_names(m: &Middlebox, locals: &[u32], out: &mut Tokens) -> Result<(), NoMe
 // Adds what a statement ends with that reads an object or removes a row of one.
 #[tactic(auto, using(crate::proofs::Spaces::spaces))]
 fn put_from(m: &Middlebox, object: u32, keys: &[Expr], out: &mut Tokens) -> Result<(), NoMemory>
-    ensures { OnOk result (out.new ≡ out.old ++ spaced (fixed Mark.Assign ∷ (keyed (object_name (tree m.now) object) (named_exprs (tree m.now) (expr_trees keys.now)) ++ fixed Mark.Semicolon ∷ []))) }
+    ensures { OnOk result (out.new
+        ≡ out.old ++ spaced (fixed Mark.Assign
+        ∷ (keyed (object_name (tree m.now) object) (named_exprs (tree m.now) (expr_trees keys.now))
+        ++ fixed Mark.Semicolon ∷ []))) }
 {
     out.mark(Mark::Assign)?;
     put_keyed(m, object, keys, out)?;
@@ -106,7 +121,9 @@ fn put_from(m: &Middlebox, object: u32, keys: &[Expr], out: &mut Tokens) -> Resu
 // Adds what a statement ends with that stores a row.
 #[tactic(auto, using(crate::proofs::Spaces::spaces))]
 fn put_stored(m: &Middlebox, values: &[Expr], out: &mut Tokens) -> Result<(), NoMemory>
-    ensures { OnOk result (out.new ≡ out.old ++ spaced (fixed Mark.Arrow ∷ (exprs_tokens (named_exprs (tree m.now) (expr_trees values.now)) ++ fixed Mark.Semicolon ∷ []))) }
+    ensures { OnOk result (out.new
+        ≡ out.old ++ spaced (fixed Mark.Arrow
+        ∷ (exprs_tokens (named_exprs (tree m.now) (expr_trees values.now)) ++ fixed Mark.Semicolon ∷ []))) }
 {
     out.mark(Mark::Arrow)?;
     put_exprs(m, values, out)?;
@@ -123,7 +140,10 @@ fn put_look(
     keys: &[Expr],
     out: &mut Tokens,
 ) -> Result<(), NoMemory>
-    ensures { OnOk result (out.new ≡ out.old ++ spaced (stmt_tokens (look (local_name (tree m.now) found) (map (local_name (tree m.now)) into.now) (object_name (tree m.now) object) (named_exprs (tree m.now) (expr_trees keys.now))))) }
+    ensures { OnOk result (out.new
+        ≡ out.old ++ spaced (stmt_tokens
+        (look (local_name (tree m.now) found) (map (local_name (tree m.now)) into.now) (object_name (tree m.now) object)
+        (named_exprs (tree m.now) (expr_trees keys.now))))) }
 {
     out.mark(Mark::Look)?;
     out.name(local_name(m, found))?;
@@ -141,7 +161,10 @@ fn put_put(
     values: &[Expr],
     out: &mut Tokens,
 ) -> Result<(), NoMemory>
-    ensures { OnOk result (out.new ≡ out.old ++ spaced (stmt_tokens (put (local_name (tree m.now) ok) (object_name (tree m.now) object) (named_exprs (tree m.now) (expr_trees keys.now)) (named_exprs (tree m.now) (expr_trees values.now))))) }
+    ensures { OnOk result (out.new
+        ≡ out.old ++ spaced (stmt_tokens
+        (put (local_name (tree m.now) ok) (object_name (tree m.now) object)
+        (named_exprs (tree m.now) (expr_trees keys.now)) (named_exprs (tree m.now) (expr_trees values.now))))) }
 {
     out.mark(Mark::Put)?;
     out.name(local_name(m, ok))?;
@@ -159,7 +182,10 @@ fn put_del(
     keys: &[Expr],
     out: &mut Tokens,
 ) -> Result<(), NoMemory>
-    ensures { OnOk result (out.new ≡ out.old ++ spaced (stmt_tokens (del (local_name (tree m.now) was) (object_name (tree m.now) object) (named_exprs (tree m.now) (expr_trees keys.now))))) }
+    ensures { OnOk result (out.new
+        ≡ out.old ++ spaced (stmt_tokens
+        (del (local_name (tree m.now) was) (object_name (tree m.now) object)
+        (named_exprs (tree m.now) (expr_trees keys.now))))) }
 {
     out.mark(Mark::Del)?;
     out.name(local_name(m, was))?;
@@ -178,7 +204,9 @@ fn put_drop(out: &mut Tokens) -> Result<(), NoMemory>
 
 #[tactic(auto, using(crate::proofs::Spaces::spaces))]
 fn put_send(m: &Middlebox, port: &Expr, out: &mut Tokens) -> Result<(), NoMemory>
-    ensures { OnOk result (out.new ≡ out.old ++ spaced (fixed Mark.Send ∷ (expr_tokens (named_expr (tree m.now) (expr_tree port.now)) ++ fixed Mark.Semicolon ∷ []))) }
+    ensures { OnOk result (out.new
+        ≡ out.old ++ spaced (fixed Mark.Send
+        ∷ (expr_tokens (named_expr (tree m.now) (expr_tree port.now)) ++ fixed Mark.Semicolon ∷ []))) }
 {
     out.mark(Mark::Send)?;
     put_value(m, port, out)?;
@@ -188,7 +216,8 @@ fn put_send(m: &Middlebox, port: &Expr, out: &mut Tokens) -> Result<(), NoMemory
 #[cycle(stmt)]
 #[tactic(auto, using(crate::proofs::Spaces::spaces))]
 fn put_block(m: &Middlebox, body: &[Stmt], out: &mut Tokens) -> Result<(), NoMemory>
-    ensures { OnOk result (out.new ≡ out.old ++ spaced (in_braces (body_tokens (named_body (tree m.now) (body_tree body.now))))) }
+    ensures { OnOk result (out.new
+        ≡ out.old ++ spaced (in_braces (body_tokens (named_body (tree m.now) (body_tree body.now))))) }
 {
     out.mark(Mark::LeftBrace)?;
     put_body(m, body, out)?;
@@ -200,7 +229,9 @@ fn put_block(m: &Middlebox, body: &[Stmt], out: &mut Tokens) -> Result<(), NoMem
 #[cycle(stmt)]
 #[tactic(auto, using(crate::proofs::Spaces::spaces))]
 fn put_else(m: &Middlebox, body: &[Stmt], out: &mut Tokens) -> Result<(), NoMemory>
-    ensures { OnOk result (out.new ≡ out.old ++ spaced (else_tokens (named_body (tree m.now) (body_tree body.now)) (body_tokens (named_body (tree m.now) (body_tree body.now))))) }
+    ensures { OnOk result (out.new
+        ≡ out.old ++ spaced (else_tokens (named_body (tree m.now) (body_tree body.now))
+        (body_tokens (named_body (tree m.now) (body_tree body.now))))) }
 {
     if body.is_empty() {
         return Ok(());
@@ -219,7 +250,9 @@ fn put_repeat(
     body: &[Stmt],
     out: &mut Tokens,
 ) -> Result<(), NoMemory>
-    ensures { OnOk result (out.new ≡ out.old ++ spaced (stmt_tokens (repeat (local_name (tree m.now) index) count (named_body (tree m.now) (body_tree body.now))))) }
+    ensures { OnOk result (out.new
+        ≡ out.old ++ spaced (stmt_tokens
+        (repeat (local_name (tree m.now) index) count (named_body (tree m.now) (body_tree body.now))))) }
 {
     out.mark(Mark::Repeat)?;
     out.name(local_name(m, index))?;

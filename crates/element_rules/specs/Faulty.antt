@@ -1,7 +1,9 @@
 -- Which rules a statement breaks by its own parts, all at once.
 use Rattle.std.specs.Prelude.{ℕ, Bool, true, false, not, ◌&&◌, ◌||◌, List, [], ◌∷◌, ◌++◌, is_none}
 use Rattle.element_lang.specs.Surface.{SurfaceExpr, SurfaceExprs, SurfaceStmt, no_expr, expr, repeat}
-use Rattle.element_lang.specs.Broken.{Sight, local_named, own_exprs, are_free, declares, binds, uses_unknown, takes_misfit, writes_fixed, misfits_object, changes_fixed, repeats_badly, repeats_an_end}
+use Rattle.element_lang.specs.Broken.{Sight, local_named, own_exprs, are_free, declares, binds, uses_unknown}
+use Rattle.element_lang.specs.Broken.{takes_misfit, writes_fixed, misfits_object, changes_fixed, repeats_badly}
+use Rattle.element_lang.specs.Broken.{repeats_an_end}
 use Rattle.element_rules.specs.declared.expressions.Faults.{Faults}
 use Rattle.element_rules.specs.declared.statements.StmtFaults.{StmtFaults}
 use Rattle.element_rules.specs.Tested.{list_faults}
@@ -50,7 +52,12 @@ tests_of ended f =
 
 -- what is seen behind a statement, apart from whether it ends the block
 abbrev pub bound : Sight → SurfaceStmt → Sight
-bound sight s = record { objects = sight.objects; locals = sight.locals ++ binds sight s; repeated = sight.repeated; ended = sight.ended }
+bound sight s = record {
+  objects = sight.objects;
+  locals = sight.locals ++ binds sight s;
+  repeated = sight.repeated;
+  ended = sight.ended;
+}
 
 -- the local that counts the turns has the name of none in scope
 abbrev pub counts_apart : Sight → SurfaceStmt → Bool
@@ -72,4 +79,9 @@ within_repeat sight index = record {
 
 -- what is seen where a statement before may have ended the block
 abbrev pub with_ended : Bool → Sight → Sight
-with_ended ended sight = record { objects = sight.objects; locals = sight.locals; repeated = sight.repeated; ended = ended }
+with_ended ended sight = record {
+  objects = sight.objects;
+  locals = sight.locals;
+  repeated = sight.repeated;
+  ended = ended;
+}

@@ -2,7 +2,8 @@
 use Rattle.std.specs.Prelude.{ℕ, false, ◌||◌, List}
 use Rattle.element_lang.specs.declared.tree.Local.{Local}
 use Rattle.element_lang.specs.Surface.{SurfaceExpr, SurfaceExprs}
-use Rattle.element_lang.specs.Broken.{width_in, widths_in, in_expr, in_exprs, is_bad_width, is_too_large, is_unknown, is_misfit, is_far_shift}
+use Rattle.element_lang.specs.Broken.{width_in, widths_in, in_expr, in_exprs, is_bad_width, is_too_large, is_unknown}
+use Rattle.element_lang.specs.Broken.{is_misfit, is_far_shift}
 use Rattle.element_rules.specs.declared.expressions.Faults.{Faults}
 use Rattle.element_rules.specs.declared.expressions.Tested.{Tested}
 use Rattle.element_rules.specs.declared.expressions.TestedList.{TestedList}

@@ -31,7 +31,8 @@ pub(crate) fn lowest(at: usize, tests: &[(u8, bool)]) -> Option<Broken>
     None
 }
 
-// The lowest rule that a statement breaks by its own parts. Where it uses a name that isn't known, widths and objects aren't tested.
+// The lowest rule that a statement breaks by its own parts. Where it uses a name that isn't known, widths and objects
+// aren't tested.
 fn broken_by(at: usize, ended: bool, faults: &StmtFaults) -> Option<Broken>
     ensures { result ≡ lowest_broken at (tests_of ended faults.now) }
 {
@@ -102,7 +103,8 @@ fn broken_in_repeat(
 ) -> Result<Option<Broken>, NoMemory>
     requires { is_none (broken.local_named (map local_of sight.old.locals.entries) (spelled text.now index)) ≡ true }
     ensures found { IfOk result (λ found. found
-        ≡ broken.broken_in (within_repeat (sight_of text.now objects.now sight.old) (spelled text.now index)) (surface_body text.now source.now)) }
+        ≡ broken.broken_in (within_repeat (sight_of text.now objects.now sight.old) (spelled text.now index))
+        (surface_body text.now source.now)) }
     ensures sight { IfOk result (λ found. found ≡ None
         → sight_of text.now objects.now sight.new ≡ sight_of text.now objects.now sight.old) }
 {

@@ -218,7 +218,8 @@ pub(crate) fn expressions(
     locals: &IndexMap<Vec<u8>, u64>,
     source: &[SurfaceExpr],
 ) -> Result<TestedList, NoMemory>
-    ensures { IfOk result (λ made. list_of made ≡ tested_list (map local_of locals.now.entries) (surface_exprs text.now source.now)) }
+    ensures { IfOk result (λ made.
+        list_of made ≡ tested_list (map local_of locals.now.entries) (surface_exprs text.now source.now)) }
 {
     let mut widths = Vec::new(alloc);
     let mut faults = Faults::none();

@@ -1,4 +1,5 @@
-//! The rules of sources: which one a source breaks first, and where. Also how much a middlebox holds, and how often it writes.
+//! The rules of sources: which one a source breaks first, and where. Also how much a middlebox holds, and how often it
+//! writes.
 #![tactic(auto)]
 
 mod blocks;

@@ -29,7 +29,8 @@ pub fn entries(m: &Middlebox) -> u64
     total
 }
 
-// The statements that store or remove a row in a statement, itself among them, those in a repeat counted as often as it runs.
+// The statements that store or remove a row in a statement, itself among them, those in a repeat counted as often as it
+// runs.
 #[cycle(writes)]
 fn writes_of(source: &Stmt) -> u64
     ensures { result ≡ min (writes_of (stmt_tree source.now)) (2 ^ 64 - 1) }
@@ -59,8 +60,8 @@ fn writes_in(source: &[Stmt]) -> u64
     total
 }
 
-/// The statements that store or remove a row, at any depth, those in a repeat counted as often as it runs, or 2^64 - 1 where they
-/// are more.
+/// The statements that store or remove a row, at any depth, those in a repeat counted as often as it runs, or 2^64 - 1
+/// where they are more.
 pub fn writes(m: &Middlebox) -> u64
     ensures { result ≡ min (sizes.writes (tree m.now)) (2 ^ 64 - 1) }
 {

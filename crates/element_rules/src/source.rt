@@ -12,8 +12,8 @@ use gal_io::NoMemory;
 use indexmap::IndexMap;
 use std::alloc::Global;
 
-/// Of all declarations and statements that break a rule the first, and the lowest rule that it breaks. There is none where the
-/// source keeps every rule.
+/// Of all declarations and statements that break a rule the first, and the lowest rule that it breaks. There is none
+/// where the source keeps every rule.
 pub fn first_broken(
     alloc: Global,
     text: &[u8],

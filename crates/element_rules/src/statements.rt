@@ -95,7 +95,9 @@ fn let_local(
 ) -> Result<StmtFaults, NoMemory>
     ensures faults { IfOk result (λ faults. faults ≡ stmt_faults (sight_of text.now objects.now sight.old)
         (surface.let_local (spelled text.now local) (surface_expr text.now value.now))) }
-    ensures sight { IfOk result (λ faults. faults.taken ≡ false → sight_of text.now objects.now sight.new ≡ bound (sight_of text.now objects.now sight.old)
+    ensures sight { IfOk result
+        (λ faults. faults.taken ≡ false
+        → sight_of text.now objects.now sight.new ≡ bound (sight_of text.now objects.now sight.old)
         (surface.let_local (spelled text.now local) (surface_expr text.now value.now))) }
 {
     let value = only_expression(alloc, text, sight, value)?;
@@ -158,7 +160,8 @@ fn choose(
     no: &[At<SurfaceStmt>],
 ) -> Result<StmtFaults, NoMemory>
     ensures { IfOk result (λ faults. faults ≡ stmt_faults (sight_of text.now objects.now sight.now)
-        (surface.choose (surface_expr text.now cond.now) (surface_body text.now yes.now) (surface_body text.now no.now))) }
+        (surface.choose (surface_expr text.now cond.now) (surface_body text.now yes.now)
+        (surface_body text.now no.now))) }
 {
     let cond = only_expression(alloc, text, sight, cond)?;
     Ok(StmtFaults {
@@ -246,9 +249,13 @@ fn look(
     keys: &[SurfaceExpr],
 ) -> Result<StmtFaults, NoMemory>
     ensures faults { IfOk result (λ faults. faults ≡ stmt_faults (sight_of text.now objects.now sight.old)
-        (surface.look (spelled text.now found) (map (spelled text.now) into.now) (spelled text.now object) (surface_exprs text.now keys.now))) }
-    ensures sight { IfOk result (λ faults. faults.taken ≡ false → sight_of text.now objects.now sight.new ≡ bound (sight_of text.now objects.now sight.old)
-        (surface.look (spelled text.now found) (map (spelled text.now) into.now) (spelled text.now object) (surface_exprs text.now keys.now))) }
+        (surface.look (spelled text.now found) (map (spelled text.now) into.now) (spelled text.now object)
+        (surface_exprs text.now keys.now))) }
+    ensures sight { IfOk result
+        (λ faults. faults.taken ≡ false
+        → sight_of text.now objects.now sight.new ≡ bound (sight_of text.now objects.now sight.old)
+        (surface.look (spelled text.now found) (map (spelled text.now) into.now) (spelled text.now object)
+        (surface_exprs text.now keys.now))) }
 {
     let keys = own_expressions(alloc, text, sight, keys)?;
     let Some(object) = object_named(text, objects, object) else {
@@ -282,9 +289,13 @@ fn put(
     values: &[SurfaceExpr],
 ) -> Result<StmtFaults, NoMemory>
     ensures faults { IfOk result (λ faults. faults ≡ stmt_faults (sight_of text.now objects.now sight.old)
-        (surface.put (spelled text.now ok) (spelled text.now object) (surface_exprs text.now keys.now) (surface_exprs text.now values.now))) }
-    ensures sight { IfOk result (λ faults. faults.taken ≡ false → sight_of text.now objects.now sight.new ≡ bound (sight_of text.now objects.now sight.old)
-        (surface.put (spelled text.now ok) (spelled text.now object) (surface_exprs text.now keys.now) (surface_exprs text.now values.now))) }
+        (surface.put (spelled text.now ok) (spelled text.now object) (surface_exprs text.now keys.now)
+        (surface_exprs text.now values.now))) }
+    ensures sight { IfOk result
+        (λ faults. faults.taken ≡ false
+        → sight_of text.now objects.now sight.new ≡ bound (sight_of text.now objects.now sight.old)
+        (surface.put (spelled text.now ok) (spelled text.now object) (surface_exprs text.now keys.now)
+        (surface_exprs text.now values.now))) }
 {
     let row = own_row(alloc, text, sight, keys, values)?;
     let free = declare(alloc, text, objects, &mut sight.locals, ok, 1)?;
@@ -319,7 +330,9 @@ fn del(
 ) -> Result<StmtFaults, NoMemory>
     ensures faults { IfOk result (λ faults. faults ≡ stmt_faults (sight_of text.now objects.now sight.old)
         (surface.del (spelled text.now was) (spelled text.now object) (surface_exprs text.now keys.now))) }
-    ensures sight { IfOk result (λ faults. faults.taken ≡ false → sight_of text.now objects.now sight.new ≡ bound (sight_of text.now objects.now sight.old)
+    ensures sight { IfOk result
+        (λ faults. faults.taken ≡ false
+        → sight_of text.now objects.now sight.new ≡ bound (sight_of text.now objects.now sight.old)
         (surface.del (spelled text.now was) (spelled text.now object) (surface_exprs text.now keys.now))) }
 {
     let keys = own_expressions(alloc, text, sight, keys)?;
@@ -370,8 +383,8 @@ fn repeat(
     }
 }
 
-/// What is wrong in a statement. The locals that it declares come into scope where their names are free, but for the one
-/// that counts the turns of a repeat.
+/// What is wrong in a statement. The locals that it declares come into scope where their names are free, but for the
+/// one that counts the turns of a repeat.
 pub(crate) fn statement(
     alloc: Global,
     text: &[u8],

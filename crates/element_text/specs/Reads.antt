@@ -75,5 +75,6 @@ pub record IsUnbroken (surface : Surface) : Type 0 where
 
 -- this is the one middlebox of the surface tree, where that keeps the sizes
 abbrev pub IsMiddlebox : Surface → Result Middlebox TextError → Type 0
-IsMiddlebox surface (Ok m) = Keeps surface (tree m) × (HasSurfaceNames surface → HasNames (tree m)) × KeepsSizes (tree m)
+IsMiddlebox surface (Ok m) =
+    Keeps surface (tree m) × (HasSurfaceNames surface → HasNames (tree m)) × KeepsSizes (tree m)
 IsMiddlebox surface (Err e) = (e ≡ NoMemory) ⊎ ((m : Tree) × Keeps surface m × IsTooLarge m e)

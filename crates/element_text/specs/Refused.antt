@@ -1,7 +1,8 @@
 -- Why a text is refused.
 use Rattle.std.specs.Prelude.{ℕ, List}
 use Rattle.element_lang.specs.declared.sizes.What.TheVariants.{Depth, Objects, Entries, Writes}
-use Rattle.element_lang.specs.Accepted.{IsNotUtf8, HasNoToken, IsTooDeep, IsOutsideGrammar, HasManyObjects, BreaksRule, HasManyEntries, HasManyWrites}
+use Rattle.element_lang.specs.Accepted.{IsNotUtf8, HasNoToken, IsTooDeep, IsOutsideGrammar, HasManyObjects, BreaksRule}
+use Rattle.element_lang.specs.Accepted.{HasManyEntries, HasManyWrites}
 use Rattle.element_text.specs.declared.error.TextError.{TextError}
 use Rattle.element_text.specs.declared.error.TextError.TheVariants.{NotUtf8, Token, TooLarge, Syntax, Rule, NoMemory}
 

@@ -1,18 +1,25 @@
 -- The middlebox of a surface tree: names become numbers, and a piece that breaks a rule has none.
-use Rattle.std.specs.Prelude.{ℕ, ◌+◌, ◌^◌, Bool, true, false, not, ◌&&◌, ◌||◌, List, [], ◌∷◌, ◌++◌, map, length, nat_le, nat_lt, ◌==◌, if◌then◌else◌, Option, Some, None, is_none, slice_get, option_and_then}
+use Rattle.std.specs.Prelude.{ℕ, ◌+◌, ◌^◌, Bool, true, false, not, ◌&&◌, ◌||◌, List, [], ◌∷◌, ◌++◌, map, length, nat_le}
+use Rattle.std.specs.Prelude.{nat_lt, ◌==◌, if◌then◌else◌, Option, Some, None, is_none, slice_get, option_and_then}
 use Rattle.std.specs.Option.{option_map}
 use Rattle.std.specs.List.{list_any, list_all}
 use Rattle.std.specs.Str.{bytes_eq}
 use Rattle.gal_bits.specs.declared.op.Op.{Op}
-use Rattle.gal_bits.specs.declared.op.Op.TheVariants.{Add, Sub, Mul, Div, Rem, And, Or, Xor, Not, Shl, Shr, Eq, Ne, Lt, Le, Cast, Select, Adjust}
+use Rattle.gal_bits.specs.declared.op.Op.TheVariants.{Add, Sub, Mul, Div, Rem, And, Or, Xor, Not, Shl, Shr, Eq, Ne, Lt}
+use Rattle.gal_bits.specs.declared.op.Op.TheVariants.{Le, Cast, Select, Adjust}
 use Rattle.packet_fields.specs.Table.{row}
 use Rattle.state_store.specs.declared.object.ObjectDecl.{ObjectDecl}
 use Rattle.state_store.specs.Kept.{have_widths}
 use Rattle.element_lang.specs.declared.tree.Local.{Local}
 use Rattle.element_lang.specs.Tree as trees
 use Rattle.element_lang.specs.Tree.{ExprTree, Exprs, StmtTree, BodyTree, Tree}
-use Rattle.element_lang.specs.Rules.{is_width, is_shift, same_widths, is_count, fits_keys, fits_values, can_put, can_del, always_ends, ends_always, any_repeats, are_good_rows, is_good_object, are_good_objects}
-use Rattle.element_lang.specs.Surface.{SurfaceExpr, SurfaceExprs, SurfaceStmt, SurfaceBody, Literal, SurfaceRow, SurfaceDecl, Declared, Surface, lit, name, field, byte, shift, apply, no_expr, expr, let_local, assign, set_field, look, put, del, choose, repeat, send, drop, done, stmt, table_decl, map_decl, vector_decl, int_decl, row_of, object_of}
+use Rattle.element_lang.specs.Rules.{is_width, is_shift, same_widths, is_count, fits_keys, fits_values, can_put}
+use Rattle.element_lang.specs.Rules.{can_del, always_ends, ends_always, any_repeats, are_good_rows, is_good_object}
+use Rattle.element_lang.specs.Rules.{are_good_objects}
+use Rattle.element_lang.specs.Surface.{SurfaceExpr, SurfaceExprs, SurfaceStmt, SurfaceBody, Literal, SurfaceRow}
+use Rattle.element_lang.specs.Surface.{SurfaceDecl, Declared, Surface, lit, name, field, byte, shift, apply, no_expr}
+use Rattle.element_lang.specs.Surface.{expr, let_local, assign, set_field, look, put, del, choose, repeat, send, drop}
+use Rattle.element_lang.specs.Surface.{done, stmt, table_decl, map_decl, vector_decl, int_decl, row_of, object_of}
 
 infixl 10 ◌>>=◌
 abbrev pub ◌>>=◌ : {A B : Type 0} → Option A → (A → Option B) → Option B
@@ -106,12 +113,14 @@ abbrev pub typed_byte : Typed → Option Typed
 typed_byte i = when (i.width == 16) (Some (record { tree = trees.byte i.tree; width = 8 }))
 
 abbrev pub typed_shift : Op → ℕ → Typed → Option Typed
-typed_shift op by a = when (is_shift op && nat_le by 63) (Some (record { tree = trees.shift op by a.tree; width = a.width }))
+typed_shift op by a = when (is_shift op && nat_le by 63)
+    (Some (record { tree = trees.shift op by a.tree; width = a.width }))
 
 -- an expression, and a list of them, over the locals in scope
 abbrev mutual
   pub typed_expr : List Known → SurfaceExpr → Option Typed
-  typed_expr scope (lit value width) = when (is_width width && nat_lt value (2 ^ width)) (Some (record { tree = trees.lit value width; width = width }))
+  typed_expr scope (lit value width) =
+      when (is_width width && nat_lt value (2 ^ width)) (Some (record { tree = trees.lit value width; width = width }))
   typed_expr scope (name word) = option_map typed_local (local_in scope word)
   typed_expr scope (field f) = Some (record { tree = trees.field f; width = (row f).width })
   typed_expr scope (byte index) = typed_expr scope index >>= typed_byte
@@ -138,7 +147,8 @@ with_local env l = record {
 }
 
 abbrev pub declared : Env → List ℕ → ℕ → Option Env
-declared env word width = when (is_free env word && is_width width) (Some (with_local env (record { name = word; width = width })))
+declared env word width =
+    when (is_free env word && is_width width) (Some (with_local env (record { name = word; width = width })))
 
 -- one local for each name, with the width at its place
 abbrev pub all_declared : Env → List (List ℕ) → List ℕ → Option Env
@@ -198,14 +208,18 @@ abbrev mutual
     ks ← typed_exprs env.scope keys
     when (fits_keys (slice_get env.objects o) ks.widths) (do
       next ← all_declared env (found ∷ into) (1 ∷ values_of (slice_get env.objects o))
-      Some (record { tree = trees.look (length env.locals) (numbers_from (length env.locals + 1) into) o ks.trees; env = next }))
+      Some (record {
+        tree = trees.look (length env.locals) (numbers_from (length env.locals + 1) into) o ks.trees;
+        env = next;
+      }))
   made_stmt env (put ok object keys values) = do
     o ← object_from 0 env.objects object
     ks ← typed_exprs env.scope keys
     vs ← typed_exprs env.scope values
-    when (can_put (slice_get env.objects o) && fits_keys (slice_get env.objects o) ks.widths && fits_values (slice_get env.objects o) vs.widths) (do
-      next ← declared env ok 1
-      Some (record { tree = trees.put (length env.locals) o ks.trees vs.trees; env = next }))
+    when (can_put (slice_get env.objects o) && fits_keys (slice_get env.objects o) ks.widths
+        && fits_values (slice_get env.objects o) vs.widths) (do
+          next ← declared env ok 1
+          Some (record { tree = trees.put (length env.locals) o ks.trees vs.trees; env = next }))
   made_stmt env (del was object keys) = do
     o ← object_from 0 env.objects object
     ks ← typed_exprs env.scope keys
@@ -238,7 +252,8 @@ abbrev mutual
 
 -- the literals of a row are written with the declared widths
 abbrev pub is_written_row : List ℕ → List ℕ → SurfaceRow → Bool
-is_written_row keys values row = same_widths (map (λ l. l.width) row.keys) keys && same_widths (map (λ l. l.width) row.values) values
+is_written_row keys values row =
+    same_widths (map (λ l. l.width) row.keys) keys && same_widths (map (λ l. l.width) row.values) values
 
 abbrev pub are_written : List ℕ → List ℕ → List SurfaceRow → Bool
 are_written keys values rows = list_all (is_written_row keys values) rows

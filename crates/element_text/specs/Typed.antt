@@ -15,4 +15,5 @@ typed_list_of ts = record { trees = expr_trees ts.exprs.items; widths = ts.width
 
 -- a literal, where its value fits its width
 abbrev pub literal_of : ℕ → ℕ → Option Typed
-literal_of value width = when (is_width width && nat_lt value (2 ^ width)) (Some (record { tree = lit value width; width = width }))
+literal_of value width = when (is_width width && nat_lt value (2 ^ width))
+    (Some (record { tree = lit value width; width = width }))

@@ -23,8 +23,8 @@ pub enum TextError {
     /// No source begins with the tokens up to the one at this offset. At the length of the text, tokens are missing.
     #[error("wrong syntax at byte {0}")]
     Syntax(usize),
-    /// Of the declarations and statements that break a rule, the first begins at this offset. The rule, from 1 to 14, is the
-    /// lowest that it breaks.
+    /// Of the declarations and statements that break a rule, the first begins at this offset. The rule, from 1 to 14,
+    /// is the lowest that it breaks.
     #[error("rule {rule} is broken at byte {offset}")]
     Rule { rule: u8, offset: usize },
     /// No memory was found.

@@ -3,7 +3,8 @@ ghost use Rattle.std.specs.Prelude.{◌≡◌, ◌<◌, IfOk, IsSome, map, lengt
 ghost use Rattle.element_lang.specs.Rules as rules;
 ghost use Rattle.element_lang.specs.Broken as broken;
 ghost use Rattle.element_grammar.specs.Surface.{surface_expr, surface_exprs};
-ghost use Rattle.element_text.specs.Resolve.{result_width, typed_expr, typed_exprs, typed_apply, typed_byte, typed_shift};
+ghost use Rattle.element_text.specs.Resolve.{result_width, typed_expr, typed_exprs, typed_apply, typed_byte};
+ghost use Rattle.element_text.specs.Resolve.{typed_shift};
 ghost use Rattle.element_text.specs.Scopes.{known_of};
 ghost use Rattle.element_text.specs.Typed.{typed_of, typed_list_of, literal_of};
 

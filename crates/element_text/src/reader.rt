@@ -8,7 +8,8 @@ ghost use Rattle.element_tokens.specs.Tokens.{placed_of};
 ghost use Rattle.element_grammar.specs.Surface.{surface_tree};
 ghost use Rattle.element_text.specs.declared.error.TextError.{TextError};
 ghost use Rattle.element_text.specs.Refused.{IsRefused};
-ghost use Rattle.element_text.specs.Reads.{IsAnswer, IsMiddlebox, KeepsSizes, IsTooLarge, IsUnbroken, HasOnlyTokens, HasOnlySurface};
+ghost use Rattle.element_text.specs.Reads.{IsAnswer, IsMiddlebox, KeepsSizes, IsTooLarge, IsUnbroken, HasOnlyTokens};
+ghost use Rattle.element_text.specs.Reads.{HasOnlySurface};
 
 use crate::error::TextError;
 use crate::rules::resolve;
@@ -20,7 +21,8 @@ use gal_io::NoMemory;
 use std::alloc::Global;
 use std::str;
 
-// The offset of the token behind which so many are left, itself among them. Behind the last one it is the length of the text.
+// The offset of the token behind which so many are left, itself among them. Behind the last one it is the length of the
+// text.
 fn offset_at(text: &[u8], found: &[Placed], left: usize) -> usize
     ensures { result ≡ accepted.offset_at text.now (map (placed_of text.now) found.now) (length found.now - left) }
 {

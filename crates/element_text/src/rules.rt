@@ -11,7 +11,8 @@ ghost use Rattle.element_tokens.specs.Tokens.{spelled};
 ghost use Rattle.element_grammar.specs.Surface.{surface_expr, surface_exprs, surface_stmt, surface_body, surface_tree};
 ghost use Rattle.element_text.specs.Names.{HasSurfaceNames};
 ghost use Rattle.element_text.specs.Reads.{IsUnbroken};
-ghost use Rattle.element_text.specs.Resolve.{all_declared, numbers_from, made_condition, made_stmt, made_body, with_locals};
+ghost use Rattle.element_text.specs.Resolve.{all_declared, numbers_from, made_condition, made_stmt, made_body};
+ghost use Rattle.element_text.specs.Resolve.{with_locals};
 ghost use Rattle.element_text.specs.Scopes.{env_of};
 ghost use Rattle.element_text.specs.Statements.{some_stmt, some_body};
 

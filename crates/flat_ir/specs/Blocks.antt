@@ -22,7 +22,8 @@ same false false = true
 
 -- the block at place k of the list, which is block k + 1; past the end, one below the root
 abbrev pub block_at : List Block → ℕ → Block
-block_at blocks k = slice_index_or blocks k (record { parent = 0; cond = record { instruction = 0; result = 0 }; polarity = true })
+block_at blocks k = slice_index_or blocks k
+    (record { parent = 0; cond = record { instruction = 0; result = 0 }; polarity = true })
 
 -- a block and those above it, at most n of these
 abbrev pub line_up : ℕ → List Block → ℕ → List ℕ

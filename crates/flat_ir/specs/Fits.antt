@@ -22,7 +22,8 @@ fits f (const width number) = nat_lt number (2 ^ width)
 fits f (field name) = true
 fits f (apply op width args) = not (is_select op) && fits_operator op width (widths_of f args)
 fits f (shift op width arg by) = is_shift op && nat_le by 63 && width_of_value f arg == width
-fits f (select width cond first second) = same_widths (widths_of f (cond ∷ first ∷ second ∷ [])) (1 ∷ width ∷ width ∷ [])
+fits f (select width cond first second) =
+    same_widths (widths_of f (cond ∷ first ∷ second ∷ [])) (1 ∷ width ∷ width ∷ [])
 fits f (byte index) = width_of_value f index == 16
 fits f (look object keys) = fits_keys (slice_get f.objects object) (widths_of f keys)
 fits f (put object keys values) =

@@ -11,16 +11,21 @@ use Rattle.flat_ir.specs.Blocks.{Reading, is_live, is_on}
 use Rattle.flat_ir.specs.Run.{Machine, after, flat_run, flat_store, flat_changes, with_changes, results}
 use Rattle.flat_ir.specs.WellFormed.{is_constant}
 
--- Each value of a run is its instruction's result of the run's own values, in the store at its turn; and the block is live at
--- its turn just where it is live by the run's values.
+-- Each value of a run is its instruction's result of the run's own values, in the store at its turn; and the block is
+-- live at its turn just where it is live by the run's values.
 pub record IsItsValues (f : Program) (st : Store) (packet : Packet) (i : ℕ) : Type 0 where
-  pub live : is_live f.blocks (after f st packet i).reads (step_at f i).block ≡ is_live f.blocks (flat_run f st packet).reads (step_at f i).block
+  pub live : is_live f.blocks (after f st packet i).reads (step_at f i).block
+      ≡ is_live f.blocks (flat_run f st packet).reads (step_at f i).block
   pub value : (place : ℕ) → (flat_run f st packet).reads (record { instruction = i; result = place })
-      ≡ slice_index (results (flat_run f st packet).reads (is_live f.blocks (flat_run f st packet).reads (step_at f i).block) (after f st packet i).store packet (step_at f i).work) place
+      ≡ slice_index (results (flat_run f st packet).reads
+      (is_live f.blocks (flat_run f st packet).reads (step_at f i).block) (after f st packet i).store packet
+      (step_at f i).work) place
 
 -- a run leaves the constant tables
 abbrev pub KeepsTables : Program → Store → Packet → Type 0
-KeepsTables f st packet = (o n : ℕ) → is_constant f.objects o ≡ true → n ≤ length f.code → object_at (after f st packet n).store o ≡ object_at st o
+KeepsTables f st packet =
+    (o n : ℕ) → is_constant f.objects o ≡ true → n ≤ length f.code
+    → object_at (after f st packet n).store o ≡ object_at st o
 
 -- the store that a run leaves is the one that it began with and its changes
 abbrev pub IsItsChanges : Program → Store → Packet → Type 0
@@ -39,8 +44,8 @@ pub record KeepsWidths (f : Program) (m : Machine) : Type 0 where
 abbrev pub Same : Reading → Reading → ValueId → Type 0
 Same r r' v = r v ≡ r' v
 
--- What two readings have to agree on for an instruction to give the same: its operands, of a select the condition and the side
--- that is taken.
+-- What two readings have to agree on for an instruction to give the same: its operands, of a select the condition and
+-- the side that is taken.
 abbrev pub SameFor : Reading → Reading → Work → Type 0
 SameFor r r' (const width number) = Unit {0}
 SameFor r r' (field name) = Unit {0}

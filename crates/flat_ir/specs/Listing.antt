@@ -55,7 +55,8 @@ loop_mark false = []
 -- instruction i
 abbrev pub step_line : List ObjectDecl → ℕ → Step → List ℕ
 step_line objects i s =
-    codes "# " ++ (decimal i ++ (codes " b" ++ (decimal s.block ++ (codes " " ++ (work_text objects s.work ++ (loop_mark s.looped ++ line_end))))))
+    codes "# " ++ (decimal i ++ (codes " b"
+    ++ (decimal s.block ++ (codes " " ++ (work_text objects s.work ++ (loop_mark s.looped ++ line_end))))))
 
 -- the instructions from number i on
 abbrev pub step_lines : List ObjectDecl → ℕ → List Step → List ℕ
@@ -89,4 +90,5 @@ write_lines (w ∷ ws) = write_line w ++ write_lines ws
 
 -- the whole listing
 abbrev pub listing : Program → List ℕ
-listing f = block_lines 1 f.blocks ++ (step_lines f.objects 0 f.code ++ (send_line f.send f.port ++ write_lines f.fields))
+listing f = block_lines 1 f.blocks
+    ++ (step_lines f.objects 0 f.code ++ (send_line f.send f.port ++ write_lines f.fields))

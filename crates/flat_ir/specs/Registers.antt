@@ -10,7 +10,8 @@ results_of r = r.first ∷ r.others
 
 -- the numbers that the results of some instructions stand for
 abbrev pub reads_of : List Results → Reading
-reads_of rows v = slice_index (results_of (slice_index_or rows v.instruction (record { first = 0; others = [] }))) v.result
+reads_of rows v = slice_index (results_of (slice_index_or rows v.instruction (record { first = 0; others = [] })))
+    v.result
 
 abbrev pub packet_of : Arrival → Packet
 packet_of arrival = record { port = arrival.port; bytes = arrival.bytes.now }

@@ -1,5 +1,6 @@
 -- What a flat program means.
-use Rattle.std.specs.Prelude.{ℕ, zero, suc, ◌==◌, ◌%◌, ◌^◌, Bool, true, false, List, [], ◌∷◌, ◌++◌, map, length, Option, Some, None, is_some, if◌then◌else◌, slice_index}
+use Rattle.std.specs.Prelude.{ℕ, zero, suc, ◌==◌, ◌%◌, ◌^◌, Bool, true, false, List, [], ◌∷◌, ◌++◌, map, length, Option}
+use Rattle.std.specs.Prelude.{Some, None, is_some, if◌then◌else◌, slice_index}
 use Rattle.gal_bits.specs.Operators.{value_of as operator_value}
 use Rattle.gal_bits.specs.declared.op.Op.TheVariants.{Select}
 use Rattle.packet_fields.specs.declared.packet.Packet.{Packet}
@@ -34,11 +35,13 @@ pub record Change : Type 0 where
 -- what a put of a row, and a del of a key, change in a store, where they change it
 abbrev pub put_change : Store → ℕ → List ℕ → List ℕ → Option Change
 put_change st object key values =
-    if is_stored (put_answer (object_at st object) key) then Some (record { object = object; key = key; values = Some values }) else None
+    if is_stored (put_answer (object_at st object) key)
+    then Some (record { object = object; key = key; values = Some values }) else None
 
 abbrev pub del_change : Store → ℕ → List ℕ → Option Change
 del_change st object key =
-    if is_some (store.look (object_at st object) key) then Some (record { object = object; key = key; values = None }) else None
+    if is_some (store.look (object_at st object) key) then Some (record { object = object; key = key; values = None })
+    else None
 
 -- what an instruction changes in a store, where it changes it
 abbrev pub change_of : Reading → Store → Work → Option Change
@@ -78,7 +81,8 @@ results reads live st packet (select width cond first second) =
 results reads live st packet (byte index) = slice_index packet.bytes (reads index) ∷ []
 results reads live st packet (look object keys) =
     bit (is_some (store.look (object_at st object) (map reads keys))) ∷ looked_up (object_at st object) (map reads keys)
-results reads live st packet (put object keys values) = length (made live (change_of reads st (put object keys values))) ∷ []
+results reads live st packet (put object keys values) =
+    length (made live (change_of reads st (put object keys values))) ∷ []
 results reads live st packet (del object keys) = length (made live (change_of reads st (del object keys))) ∷ []
 
 -- instruction i has these results, and all else is as before

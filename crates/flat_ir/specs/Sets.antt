@@ -1,5 +1,6 @@
 -- Sets of instructions, as one mark an instruction, that the parts of a split may take.
-use Rattle.std.specs.Prelude.{◌≡◌, ◌⊎◌, ℕ, zero, suc, ◌==◌, ◌<◌, Bool, true, false, List, [], ◌∷◌, slice_get, Some, slice_index_or, length, IsTrue}
+use Rattle.std.specs.Prelude.{◌≡◌, ◌⊎◌, ℕ, zero, suc, ◌==◌, ◌<◌, Bool, true, false, List, [], ◌∷◌, slice_get, Some}
+use Rattle.std.specs.Prelude.{slice_index_or, length, IsTrue}
 use Rattle.std.specs.List.{list_any}
 use Rattle.flat_ir.specs.declared.program.ValueId.{ValueId}
 use Rattle.flat_ir.specs.Program.{Program, Step, operands}
@@ -58,7 +59,8 @@ HasNoMutableLook f marks = EachIs f marks (λ one. is_mutable_look f one.work �
 
 -- each operand of what is carried is carried
 abbrev pub HasOperands : Program → List Bool → Type 0
-HasOperands f carried = (i j : ℕ) (one : Step) → IsMarked carried i → IsAt f i one → Reads (operands one.work) j → IsMarked carried j
+HasOperands f carried = (i j : ℕ) (one : Step) → IsMarked carried i → IsAt f i one → Reads (operands one.work) j
+    → IsMarked carried j
 
 -- postprocessing computes only what the switch can, and neither a field nor a look of rows that can change
 abbrev pub IsOfPost : Program → List Bool → Type 0

@@ -45,7 +45,8 @@ may_read f i k v = nat_lt v.instruction i && (is_named f v && is_seen f k v)
 -- and a select there, as one of its sides
 abbrev pub may_take : Program → ℕ → ℕ → ValueId → Bool → ValueId → Bool
 may_take f i k cond polarity v =
-    nat_lt v.instruction i && (is_named f v && (is_seen f k v || is_in_arm f.blocks (step_at f v.instruction).block k cond polarity))
+    nat_lt v.instruction i && (is_named f v
+    && (is_seen f k v || is_in_arm f.blocks (step_at f v.instruction).block k cond polarity))
 
 abbrev pub reads_well : Program → ℕ → ℕ → Work → Bool
 reads_well f i k (const width number) = true
@@ -70,7 +71,8 @@ are_before blocks i k = list_all (is_before blocks i) (line blocks k)
 abbrev pub is_good_instr : Program → ℕ → Bool
 is_good_instr f i =
     let s = step_at f i in
-    nat_le s.block (length f.blocks) && (are_before f.blocks i s.block && (reads_well f i s.block s.work && fits f s.work))
+    nat_le s.block (length f.blocks)
+    && (are_before f.blocks i s.block && (reads_well f i s.block s.work && fits f s.work))
 
 abbrev pub is_output : Program → ℕ → ValueId → Bool
 is_output f width v = is_named f v && ((step_at f v.instruction).block == 0 && width_of_value f v == width)
@@ -84,7 +86,8 @@ rise_from least [] = true
 rise_from least (w ∷ ws) = nat_le least (field_index w.field) && rise_from (suc (field_index w.field)) ws
 
 abbrev pub is_good_out : Program → Bool
-is_good_out f = is_output f 1 f.send && (is_output f 8 f.port && (list_all (is_written f) f.fields && rise_from 0 f.fields))
+is_good_out f = is_output f 1 f.send
+    && (is_output f 8 f.port && (list_all (is_written f) f.fields && rise_from 0 f.fields))
 
 abbrev pub well_formed : Program → Bool
 well_formed f =

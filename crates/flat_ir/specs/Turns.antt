@@ -15,4 +15,5 @@ pub record StandAs (m : Machine) (reads : Reading) (st : Store) : Type 0 where
 -- the turn of instruction i, from these registers and this store
 abbrev pub turn : Program → Packet → ℕ → Reading → Store → Machine
 turn f packet i reads st =
-    do_step (is_live f.blocks reads (step_at f i).block) packet i (step_at f i).work (record { reads = reads; store = st; changes = [] })
+    do_step (is_live f.blocks reads (step_at f i).block) packet i (step_at f i).work
+    (record { reads = reads; store = st; changes = [] })

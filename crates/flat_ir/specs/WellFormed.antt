@@ -1,5 +1,6 @@
 -- Which flat programs are well formed.
-use Rattle.std.specs.Prelude.{◌≡◌, ◌⊎◌, ℕ, zero, suc, ◌<◌, ◌≤◌, Bool, true, false, List, [], ◌∷◌, length, Some, slice_get, IsTrue}
+use Rattle.std.specs.Prelude.{◌≡◌, ◌⊎◌, ℕ, zero, suc, ◌<◌, ◌≤◌, Bool, true, false, List, [], ◌∷◌, length, Some}
+use Rattle.std.specs.Prelude.{slice_get, IsTrue}
 use Rattle.std.specs.List.{AllByRecursion as Each}
 use Rattle.packet_fields.specs.Table.{row, field_index}
 use Rattle.state_store.specs.Kinds.{is_table}
@@ -70,7 +71,8 @@ pub record IsWellFormed (f : Program) : Type 0 where
   -- an instruction stands in a block that is there
   pub blocks : (i : ℕ) → i < length f.code → (step_at f i).block ≤ length f.blocks
   -- after the conditions of this block and of those above it
-  pub after_conditions : (i : ℕ) → i < length f.code → Each (EachCondition f (λ c. c.instruction < i)) (line f.blocks (step_at f i).block)
+  pub after_conditions : (i : ℕ) → i < length f.code
+      → Each (EachCondition f (λ c. c.instruction < i)) (line f.blocks (step_at f i).block)
   -- and after its operands, which are there, and which it sees
   pub after_operands : (i : ℕ) → i < length f.code → Each (λ v. v.instruction < i) (operands (step_at f i).work)
   pub names : (i : ℕ) → i < length f.code → Each (λ v. IsTrue (is_named f v)) (operands (step_at f i).work)
@@ -106,4 +108,5 @@ WritesNoTable f (look object keys) = Unit {0}
 
 -- a store in which the constant tables have their declared rows
 pub record HasTables (f : Program) (st : Store) : Type 0 where
-  pub tables : (o : ℕ) (d : ObjectDecl) → slice_get f.objects o ≡ Some d → is_table d.kind ≡ true → object_at st o ≡ start_object d
+  pub tables : (o : ℕ) (d : ObjectDecl) → slice_get f.objects o ≡ Some d → is_table d.kind ≡ true
+      → object_at st o ≡ start_object d

@@ -31,7 +31,8 @@ fn take_turn(f: &Flat, arrival: &Arrival<'_>, i: usize, rows: &mut [Results], st
     requires row { i < length rows.old }
     requires size { length arrival.now.bytes.now ≤ largest_packet }
     requires shape { arrival.now.shape ≡ shape_of arrival.now.bytes.now }
-    ensures turn { StandAs (turn (program_of f.now) (packet_of arrival.now) i (reads_of rows.old) store.old) (reads_of rows.new) store.new }
+    ensures turn { StandAs (turn (program_of f.now) (packet_of arrival.now) i (reads_of rows.old) store.old)
+        (reads_of rows.new) store.new }
     ensures count { length rows.new ≡ length rows.old }
 {
     let instr = &f.code.as_slice()[i];
@@ -46,8 +47,10 @@ fn take_turns(f: &Flat, arrival: &Arrival<'_>, rows: &mut [Results], store: &mut
     requires rows { length rows.old ≡ length f.now.code }
     requires size { length arrival.now.bytes.now ≤ largest_packet }
     requires shape { arrival.now.shape ≡ shape_of arrival.now.bytes.now }
-    requires start { StandAs (after (program_of f.now) store.old (packet_of arrival.now) 0) (reads_of rows.old) store.old }
-    ensures { StandAs (after (program_of f.now) store.old (packet_of arrival.now) (length f.now.code)) (reads_of rows.new) store.new }
+    requires start { StandAs (after (program_of f.now) store.old (packet_of arrival.now) 0) (reads_of rows.old)
+        store.old }
+    ensures { StandAs (after (program_of f.now) store.old (packet_of arrival.now) (length f.now.code))
+        (reads_of rows.new) store.new }
 {
     for i in 0..f.code.len() {
         take_turn(f, arrival, i, rows, store);
@@ -97,14 +100,15 @@ fn low_byte(value: u64) -> u8
     (value % 256) as u8
 }
 
-/// What becomes of a packet by these numbers: an output sends it or doesn't, by a port, with fields set in a copy of its
-/// bytes.
+/// What becomes of a packet by these numbers: an output sends it or doesn't, by a port, with fields set in a copy of
+/// its bytes.
 pub fn leave<R: Numbers>(out: &Out, arrival: &Arrival<'_>, numbers: &R, copy: Vec<u8>) -> Verdict
     requires copy { copy.items ≡ arrival.now.bytes.now }
     requires writable { Each IsWritable out.now.fields.items }
     requires size { length arrival.now.bytes.now ≤ largest_packet }
     requires shape { arrival.now.shape ≡ shape_of arrival.now.bytes.now }
-    ensures { result ≡ sent out.now.send out.now.port out.now.fields.items (R.reads numbers.now) (packet_of arrival.now) }
+    ensures { result ≡ sent out.now.send out.now.port out.now.fields.items (R.reads numbers.now)
+        (packet_of arrival.now) }
 {
     if numbers.number(out.send) == 0 {
         return Verdict::Drop;
@@ -114,8 +118,8 @@ pub fn leave<R: Numbers>(out: &Out, arrival: &Arrival<'_>, numbers: &R, copy: Ve
     Verdict::Send(low_byte(numbers.number(out.port)), Bytes::from(bytes))
 }
 
-/// What becomes of a packet of at most 9,216 bytes that arrives by this port, and what it leaves of the store. The memory is
-/// taken first: where there is none, the store is as before.
+/// What becomes of a packet of at most 9,216 bytes that arrives by this port, and what it leaves of the store. The
+/// memory is taken first: where there is none, the store is as before.
 pub fn eval_flat(
     alloc: Global,
     f: &Flat,
@@ -126,8 +130,10 @@ pub fn eval_flat(
     requires well { IsWellFormed (program_of f.now) }
     requires kept { IsKept f.now.objects store.old }
     requires size { length packet.now ≤ largest_packet }
-    ensures verdict { IfOk result (λ verdict. verdict ≡ flat_verdict (program_of f.now) store.old (record { port = port; bytes = packet.now })) }
-    ensures store { OnOk result (store.new ≡ flat_store (program_of f.now) store.old (record { port = port; bytes = packet.now })) }
+    ensures verdict { IfOk result
+        (λ verdict. verdict ≡ flat_verdict (program_of f.now) store.old (record { port = port; bytes = packet.now })) }
+    ensures store { OnOk result
+        (store.new ≡ flat_store (program_of f.now) store.old (record { port = port; bytes = packet.now })) }
     ensures err { OnErr result (store.new ≡ store.old) }
     ensures kept { IsKept f.now.objects store.new }
 {

@@ -1,9 +1,11 @@
 //! Whether counts, widths and kinds fit.
 ghost use Rattle.std.specs.Prelude.{◌≡◌, ◌^◌, List, length, nat_lt, slice_get, slice_index};
 ghost use Rattle.state_store.specs.declared.object.ObjectDecl.{ObjectDecl as Declared};
-ghost use Rattle.flat_ir.specs.Program.{work_of, program_of, step_at, value_widths, result_widths, result_count, is_named, width_of_value};
+ghost use Rattle.flat_ir.specs.Program.{work_of, program_of, step_at, value_widths, result_widths, result_count};
+ghost use Rattle.flat_ir.specs.Program.{is_named, width_of_value};
 ghost use Rattle.gal_bits.specs.Fitting.{is_width};
-ghost use Rattle.flat_ir.specs.Fits.{same_widths, fits_operator, is_shift, is_select, fits_keys, fits_values, can_put, can_del, widths_of, fits};
+ghost use Rattle.flat_ir.specs.Fits.{same_widths, fits_operator, is_shift, is_select, fits_keys, fits_values, can_put};
+ghost use Rattle.flat_ir.specs.Fits.{can_del, widths_of, fits};
 
 use crate::program::{Flat, InstrKind, ValueId};
 use gal_bits::{Op, Width, eval};

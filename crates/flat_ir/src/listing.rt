@@ -1,8 +1,10 @@
 //! The listing of a flat program.
 ghost use Rattle.std.specs.Prelude.{◌≡◌, ◌++◌, map, IfOk, OnOk, string_bytes};
 ghost use Rattle.flat_ir.specs.Program.{work_of, step_of, program_of};
-ghost use Rattle.flat_ir.specs.Listing.{block_line, block_lines, keyed_text, listing, loop_mark, name_of, operator_text, polarity_text};
-ghost use Rattle.flat_ir.specs.Listing.{send_line, step_line, step_lines, value_text, values_text, work_text, write_line, write_lines};
+ghost use Rattle.flat_ir.specs.Listing.{block_line, block_lines, keyed_text, listing, loop_mark, name_of};
+ghost use Rattle.flat_ir.specs.Listing.{operator_text, polarity_text};
+ghost use Rattle.flat_ir.specs.Listing.{send_line, step_line, step_lines, value_text, values_text, work_text};
+ghost use Rattle.flat_ir.specs.Listing.{write_line, write_lines};
 
 use crate::program::{Block, FieldValue, Flat, Instr, InstrKind, Out, ValueId};
 use gal_bits::{Op, Width, op_name};
@@ -201,8 +203,8 @@ fn send_line(alloc: Global, out: &Out) -> Result<String, NoMemory>
     Ok(format!(in alloc; "# send {send} port {port}\n")?)
 }
 
-/// The listing of a flat program: a line for each block from 1 on, one for each instruction, one for `send` and `port`, and one
-/// for each field that is set. All of them begin with `#`.
+/// The listing of a flat program: a line for each block from 1 on, one for each instruction, one for `send` and `port`,
+/// and one for each field that is set. All of them begin with `#`.
 pub fn print_flat(alloc: Global, f: &Flat) -> Result<Text, NoMemory>
     ensures { IfOk result (λ text. text ≡ listing (program_of f.now)) }
 {

@@ -4,7 +4,8 @@ ghost use Rattle.std.specs.List.{list_all};
 ghost use Rattle.flat_ir.specs.Program.{work_of, program_of, step_at};
 ghost use Rattle.flat_ir.specs.Blocks.{block_at, HasLowParents};
 ghost use Rattle.flat_ir.specs.WellFormed.{IsWellFormed};
-ghost use Rattle.flat_ir.specs.Tests.{all_below, low_parents, is_seen, is_good_block, is_in_arm, may_read, may_take, reads_well, are_before};
+ghost use Rattle.flat_ir.specs.Tests.{all_below, low_parents, is_seen, is_good_block, is_in_arm, may_read, may_take};
+ghost use Rattle.flat_ir.specs.Tests.{reads_well, are_before};
 ghost use Rattle.flat_ir.specs.Tests.{is_good_instr, is_output, is_written, rise_from, is_good_out, well_formed};
 
 use crate::blocks::is_above;
@@ -266,8 +267,9 @@ fn is_good(f: &Flat) -> bool
     has_good_blocks(f) && has_good_code(f) && has_good_out(f)
 }
 
-/// Whether a flat program, whatever its numbers, is well formed: all that it names is there and fits, an instruction stands
-/// behind those whose values it reads, in their block or below it, and the output stands in the root. This takes no memory.
+/// Whether a flat program, whatever its numbers, is well formed: all that it names is there and fits, an instruction
+/// stands behind those whose values it reads, in their block or below it, and the output stands in the root. This takes
+/// no memory.
 pub fn is_well_formed(f: &Flat) -> bool
     ensures { IsTrue result ↔ IsWellFormed (program_of f.now) }
 {

@@ -174,7 +174,8 @@ fn del_row(store: &mut Store, object: u32, key: &Values) -> bool
 fn write<R: Numbers>(f: &Flat, store: &mut Store, numbers: &R, kind: &InstrKind) -> bool
     requires fits { IsTrue (fits (program_of f.now) (work_of kind.now)) }
     ensures told { bit result ≡ length (made true (change_of (R.reads numbers.now) store.old (work_of kind.now))) }
-    ensures after { store.new ≡ with_changes store.old (made true (change_of (R.reads numbers.now) store.old (work_of kind.now))) }
+    ensures after { store.new
+        ≡ with_changes store.old (made true (change_of (R.reads numbers.now) store.old (work_of kind.now))) }
 {
     match kind {
         InstrKind::Put {
@@ -206,8 +207,10 @@ pub fn compute<R: Numbers>(
     requires fits { IsTrue (fits (program_of f.now) (work_of kind.now)) }
     requires size { length arrival.now.bytes.now ≤ largest_packet }
     requires shape { arrival.now.shape ≡ shape_of arrival.now.bytes.now }
-    ensures results { results_of result ≡ results (R.reads numbers.now) live store.old (packet_of arrival.now) (work_of kind.now) }
-    ensures after { store.new ≡ with_changes store.old (made live (change_of (R.reads numbers.now) store.old (work_of kind.now))) }
+    ensures results { results_of result
+        ≡ results (R.reads numbers.now) live store.old (packet_of arrival.now) (work_of kind.now) }
+    ensures after { store.new
+        ≡ with_changes store.old (made live (change_of (R.reads numbers.now) store.old (work_of kind.now))) }
 {
     what_fits_can_run(f, kind);
     let dead = given(store, arrival, numbers, kind);

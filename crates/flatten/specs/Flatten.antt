@@ -1,5 +1,6 @@
 -- How a middlebox becomes a flat program.
-use Rattle.std.specs.Prelude.{ℕ, zero, suc, ◌==◌, Bool, true, false, ◌&&◌, List, [], ◌∷◌, ◌++◌, map, length, replicate, get_or, slice_set, Option, Some, None, if◌then◌else◌}
+use Rattle.std.specs.Prelude.{ℕ, zero, suc, ◌==◌, Bool, true, false, ◌&&◌, List, [], ◌∷◌, ◌++◌, map, length, replicate}
+use Rattle.std.specs.Prelude.{get_or, slice_set, Option, Some, None, if◌then◌else◌}
 use Rattle.gal_bits.specs.declared.op.Op.{Op}
 use Rattle.gal_bits.specs.declared.op.Op.TheVariants.{Select}
 use Rattle.packet_fields.specs.declared.field.Field.{Field}
@@ -77,7 +78,10 @@ nought_port = result_of 2 0
 
 -- one more instruction, and the first of its results
 abbrev pub emit : Place → Work → Given → Given
-emit p work g = record { code = g.code ++ record { block = p.block; looped = p.looped; work = work } ∷ []; blocks = g.blocks }
+emit p work g = record {
+  code = g.code ++ record { block = p.block; looped = p.looped; work = work } ∷ [];
+  blocks = g.blocks;
+}
 
 abbrev pub give : Place → Work → Given → Valued
 give p work g = record { given = emit p work g; id = result_of (length g.code) 0 }
@@ -309,7 +313,8 @@ abbrev mutual
       let a = flat_body widths first (below p c.given) (opened p c.id true c.given) w in
       let b = second_side (is_empty second) p c.id (flat_body widths second) a.given w in
       join widths p c.id a.view b
-  flat_stmt widths (repeat index count body) p g w = flat_turns widths count 0 index (flat_body widths body) (looping p) g w
+  flat_stmt widths (repeat index count body) p g w =
+      flat_turns widths count 0 index (flat_body widths body) (looping p) g w
   flat_stmt widths (send port) p g w =
       let r = flat_expr widths p w port g in
       record { given = r.given; view = finished one r.id w }

@@ -9,8 +9,8 @@ use Rattle.flat_ir.specs.Arrivals.{IsArrival}
 use Rattle.flat_ir.specs.Program.{Program}
 use Rattle.flat_ir.specs.Run.{flat_store, flat_verdict}
 
--- From every store that keeps what was declared, and for every packet that may arrive, it leaves the same store, and does
--- the same with the packet.
+-- From every store that keeps what was declared, and for every packet that may arrive, it leaves the same store, and
+-- does the same with the packet.
 abbrev pub MeansTheSame : Program → Tree → Type 0
 MeansTheSame f m =
     (st : Store) (packet : Packet) → IsKept m.objects st → IsArrival packet

@@ -28,7 +28,8 @@ abbrev mutual
   IsSizedStmt widths (look found into object keys) = AreSizedExprs widths keys × (length into ≤ 8)
   IsSizedStmt widths (put ok object keys values) = AreSizedExprs widths keys × AreSizedExprs widths values
   IsSizedStmt widths (del was object keys) = AreSizedExprs widths keys
-  IsSizedStmt widths (choose cond first second) = IsSizedExpr widths cond × IsSizedBody widths first × IsSizedBody widths second
+  IsSizedStmt widths (choose cond first second) =
+      IsSizedExpr widths cond × IsSizedBody widths first × IsSizedBody widths second
   IsSizedStmt widths (repeat index count body) = IsSizedBody widths body
   IsSizedStmt widths (send port) = IsSizedExpr widths port
   IsSizedStmt widths drop = Unit {0}

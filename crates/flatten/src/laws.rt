@@ -13,8 +13,9 @@ ghost use Rattle.flatten.specs.Flatten.{flat_of};
 
 use packet_fields::fields_stand_alone;
 
-/// The flat program of a middlebox leaves the store that the middlebox leaves, and does with the packet what it does: from
-/// every store that keeps what was declared, for every packet that may arrive. This does nothing: its contract is the law.
+/// The flat program of a middlebox leaves the store that the middlebox leaves, and does with the packet what it does:
+/// from every store that keeps what was declared, for every packet that may arrive. This does nothing: its contract is
+/// the law.
 pub fn flattening_keeps_the_meaning()
     ensures store { (m : Tree) (st : Store) (packet : Packet)
         → IsTrue (is_good m) → IsKept m.objects st → IsArrival packet

@@ -85,7 +85,8 @@ impl Output {
         a: &[Option<ValueId>],
         b: &[Option<ValueId>],
     ) -> Result<Vec<Option<ValueId>>, NoMemory>
-        ensures { IfOk result (λ ids. scoped self.new ids.items ≡ pure.merge_ids place cond widths.now a.now b.now self.old) }
+        ensures { IfOk result (λ ids.
+            scoped self.new ids.items ≡ pure.merge_ids place cond widths.now a.now b.now self.old) }
     {
         let count = widths.len().min(a.len()).min(b.len());
         let mut ids = Vec::with_capacity(alloc, count)?;
@@ -106,7 +107,8 @@ impl Output {
         b: &State,
     ) -> Result<State, NoMemory>
         requires { frame.now.fields.items ≡ pure.field_widths }
-        ensures { IfOk result (λ w. placed self.new w ≡ pure.merge frame.now.locals.items place cond a.now b.now self.old) }
+        ensures { IfOk result (λ w.
+            placed self.new w ≡ pure.merge frame.now.locals.items place cond a.now b.now self.old) }
     {
         let locals = self.merge_ids(alloc, place, cond, &frame.locals, &a.locals, &b.locals)?;
         let fields = self.merge_ids(alloc, place, cond, &frame.fields, &a.fields, &b.fields)?;
@@ -158,7 +160,8 @@ impl Output {
         b: &State,
     ) -> Result<State, NoMemory>
         requires { frame.now.fields.items ≡ pure.field_widths }
-        ensures { IfOk result (λ w. placed self.new w ≡ pure.join frame.now.locals.items place cond a.now (placed self.old b.now)) }
+        ensures { IfOk result (λ w.
+            placed self.new w ≡ pure.join frame.now.locals.items place cond a.now (placed self.old b.now)) }
     {
         let both = self.merge(alloc, frame, place, cond, a, b)?;
         let ended = self.merge_ended(place, cond, a.ended, b.ended)?;

@@ -29,7 +29,8 @@ impl Seen {
     }
 
     fn field(&mut self, field: Field)
-        ensures { (f : Field) → get_or self.new.marks (field_index f) false ≡ (get_or self.old.marks (field_index f) false || same_field f field) }
+        ensures { (f : Field) → get_or self.new.marks (field_index f) false
+            ≡ (get_or self.old.marks (field_index f) false || same_field f field) }
     {
         self.marks[field_index(field)] = true;
     }
@@ -37,7 +38,8 @@ impl Seen {
     // The fields of an expression.
     #[cycle(seen)]
     fn expr(&mut self, e: &Expr)
-        ensures { (f : Field) → get_or self.new.marks (field_index f) false ≡ (get_or self.old.marks (field_index f) false || is_in_expr f (expr_tree e.now)) }
+        ensures { (f : Field) → get_or self.new.marks (field_index f) false
+            ≡ (get_or self.old.marks (field_index f) false || is_in_expr f (expr_tree e.now)) }
     {
         match e {
             Expr::Lit(_, _) | Expr::Local(_) => {}
@@ -50,7 +52,8 @@ impl Seen {
 
     #[cycle(seen)]
     fn exprs(&mut self, all: &[Expr])
-        ensures { (f : Field) → get_or self.new.marks (field_index f) false ≡ (get_or self.old.marks (field_index f) false || is_in_exprs f (expr_trees all.now)) }
+        ensures { (f : Field) → get_or self.new.marks (field_index f) false
+            ≡ (get_or self.old.marks (field_index f) false || is_in_exprs f (expr_trees all.now)) }
     {
         for e in all {
             self.expr(e);
@@ -60,7 +63,8 @@ impl Seen {
     // The fields of a statement.
     #[cycle(seen_in)]
     fn stmt(&mut self, s: &Stmt)
-        ensures { (f : Field) → get_or self.new.marks (field_index f) false ≡ (get_or self.old.marks (field_index f) false || is_in_stmt f (stmt_tree s.now)) }
+        ensures { (f : Field) → get_or self.new.marks (field_index f) false
+            ≡ (get_or self.old.marks (field_index f) false || is_in_stmt f (stmt_tree s.now)) }
     {
         match s {
             Stmt::Let { value, .. } | Stmt::Assign { value, .. } => self.expr(value),
@@ -87,7 +91,8 @@ impl Seen {
     /// Sees the fields of some statements, also of those that are never done.
     #[cycle(seen_in)]
     pub fn body(&mut self, all: &[Stmt])
-        ensures { (f : Field) → get_or self.new.marks (field_index f) false ≡ (get_or self.old.marks (field_index f) false || is_in_body f (body_tree all.now)) }
+        ensures { (f : Field) → get_or self.new.marks (field_index f) false
+            ≡ (get_or self.old.marks (field_index f) false || is_in_body f (body_tree all.now)) }
     {
         for s in all {
             self.stmt(s);

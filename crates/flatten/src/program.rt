@@ -63,7 +63,8 @@ impl Output {
         body: &[Stmt],
     ) -> Result<Vec<Option<ValueId>>, Want>
         requires { (f : Field) → get_or seen.now.marks (field_index f) false ≡ is_in_body f (body_tree body.now) }
-        ensures { IfOk result (λ ids. scoped self.new ids.items ≡ pure.give_fields (body_tree body.now) all_fields self.old) }
+        ensures { IfOk result (λ ids.
+            scoped self.new ids.items ≡ pure.give_fields (body_tree body.now) all_fields self.old) }
     {
         let root = Place {
             block: 0,

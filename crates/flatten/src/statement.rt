@@ -51,7 +51,9 @@ impl Output {
     ) -> Result<(), NoMemory>
         requires keys { AreSizedExprs frame.now.locals.items (expr_trees keys.now) }
         requires few { length into.now ≤ 8 }
-        ensures { OnOk result (placed self.new w.new ≡ pure.flat_stmt frame.now.locals.items (look found into.now object (expr_trees keys.now)) place self.old w.old) }
+        ensures { OnOk result (placed self.new w.new
+            ≡ pure.flat_stmt frame.now.locals.items (look found into.now object (expr_trees keys.now)) place self.old
+            w.old) }
     {
         let keys = self.values(alloc, frame, place, w, keys)?;
         let id = self.give(place, InstrKind::Look { object, keys })?;
@@ -73,7 +75,9 @@ impl Output {
     ) -> Result<(), NoMemory>
         requires keys { AreSizedExprs frame.now.locals.items (expr_trees keys.now) }
         requires values { AreSizedExprs frame.now.locals.items (expr_trees values.now) }
-        ensures { OnOk result (placed self.new w.new ≡ pure.flat_stmt frame.now.locals.items (put ok object (expr_trees keys.now) (expr_trees values.now)) place self.old w.old) }
+        ensures { OnOk result (placed self.new w.new
+            ≡ pure.flat_stmt frame.now.locals.items (put ok object (expr_trees keys.now) (expr_trees values.now)) place
+            self.old w.old) }
     {
         let keys = self.values(alloc, frame, place, w, keys)?;
         let values = self.values(alloc, frame, place, w, values)?;
@@ -99,7 +103,8 @@ impl Output {
         w: &mut State,
     ) -> Result<(), NoMemory>
         requires { AreSizedExprs frame.now.locals.items (expr_trees keys.now) }
-        ensures { OnOk result (placed self.new w.new ≡ pure.flat_stmt frame.now.locals.items (del was object (expr_trees keys.now)) place self.old w.old) }
+        ensures { OnOk result (placed self.new w.new
+            ≡ pure.flat_stmt frame.now.locals.items (del was object (expr_trees keys.now)) place self.old w.old) }
     {
         let keys = self.values(alloc, frame, place, w, keys)?;
         let id = self.give(place, InstrKind::Del { object, keys })?;
@@ -120,8 +125,11 @@ impl Output {
     ) -> Result<(), FlatError>
         requires fields { frame.now.fields.items ≡ pure.field_widths }
         requires sized { IsSizedStmt frame.now.locals.items (stmt_tree s.now) }
-        ensures ok { OnOk result (placed self.new w.new ≡ pure.flat_stmt frame.now.locals.items (stmt_tree s.now) place self.old w.old) }
-        ensures large { IfErr result (λ error. IsOver (pure.flat_stmt frame.now.locals.items (stmt_tree s.now) place self.old w.old).given error) }
+        ensures ok { OnOk result (placed self.new w.new
+            ≡ pure.flat_stmt frame.now.locals.items (stmt_tree s.now) place self.old w.old) }
+        ensures large { IfErr result
+            (λ error. IsOver (pure.flat_stmt frame.now.locals.items (stmt_tree s.now) place self.old w.old).given
+            error) }
     {
         self.keeps_size()?;
         match s {
@@ -187,9 +195,11 @@ impl Output {
         requires fields { frame.now.fields.items ≡ pure.field_widths }
         requires sized { IsSizedBody frame.now.locals.items (body_tree no.now) }
         ensures ok { let second = pure.flat_body frame.now.locals.items (body_tree no.now) in
-            IfOk result (λ made. placed self.new made ≡ pure.second_side (is_empty (body_tree no.now)) place cond second self.old w.now) }
+            IfOk result (λ made. placed self.new made
+            ≡ pure.second_side (is_empty (body_tree no.now)) place cond second self.old w.now) }
         ensures large { let second = pure.flat_body frame.now.locals.items (body_tree no.now) in
-            IfErr result (λ error. IsOver (pure.second_side (is_empty (body_tree no.now)) place cond second self.old w.now).given error) }
+            IfErr result (λ error. IsOver
+            (pure.second_side (is_empty (body_tree no.now)) place cond second self.old w.now).given error) }
     {
         let start = w.copy(alloc)?;
         if no.is_empty() {
@@ -214,9 +224,12 @@ impl Output {
         requires fields { frame.now.fields.items ≡ pure.field_widths }
         requires sized { IsSizedBody frame.now.locals.items (body_tree body.now) }
         ensures ok { let widths = frame.now.locals.items in
-            IfOk result (λ made. placed self.new made ≡ pure.flat_turns widths count 0 index (pure.flat_body widths (body_tree body.now)) place self.old w.now) }
+            IfOk result (λ made. placed self.new made
+            ≡ pure.flat_turns widths count 0 index (pure.flat_body widths (body_tree body.now)) place self.old w.now) }
         ensures large { let widths = frame.now.locals.items in
-            IfErr result (λ error. IsOver (pure.flat_turns widths count 0 index (pure.flat_body widths (body_tree body.now)) place self.old w.now).given error) }
+            IfErr result (λ error. IsOver
+            (pure.flat_turns widths count 0 index (pure.flat_body widths (body_tree body.now)) place self.old
+            w.now).given error) }
     {
         let mut stretch = Stretch::new(alloc, place, w.copy(alloc)?);
         for turn in 0..count {
@@ -251,8 +264,12 @@ impl Output {
     ) -> Result<(), FlatError>
         requires fields { frame.now.fields.items ≡ pure.field_widths }
         requires sized { IsSizedBody frame.now.locals.items (body_tree body.now) }
-        ensures ok { OnOk result (placed self.new w.new ≡ pure.flat_turn turn index (pure.flat_body frame.now.locals.items (body_tree body.now)) place self.old w.old) }
-        ensures large { IfErr result (λ error. IsOver (pure.flat_turn turn index (pure.flat_body frame.now.locals.items (body_tree body.now)) place self.old w.old).given error) }
+        ensures ok { OnOk result (placed self.new w.new
+            ≡ pure.flat_turn turn index (pure.flat_body frame.now.locals.items (body_tree body.now)) place self.old
+            w.old) }
+        ensures large { IfErr result
+            (λ error. IsOver (pure.flat_turn turn index (pure.flat_body frame.now.locals.items (body_tree body.now))
+            place self.old w.old).given error) }
     {
         let number = InstrKind::Const(Width::new(32).unwrap(), u64::from(turn));
         let id = self.give(place, number)?;
@@ -276,8 +293,11 @@ impl Output {
     ) -> Result<State, FlatError>
         requires fields { frame.now.fields.items ≡ pure.field_widths }
         requires sized { IsSizedBody frame.now.locals.items (body_tree body.now) }
-        ensures ok { IfOk result (λ made. placed self.new made ≡ pure.flat_body frame.now.locals.items (body_tree body.now) place self.old w) }
-        ensures large { IfErr result (λ error. IsOver (pure.flat_body frame.now.locals.items (body_tree body.now) place self.old w).given error) }
+        ensures ok { IfOk result (λ made.
+            placed self.new made ≡ pure.flat_body frame.now.locals.items (body_tree body.now) place self.old w) }
+        ensures large { IfErr result
+            (λ error. IsOver (pure.flat_body frame.now.locals.items (body_tree body.now) place self.old w).given
+            error) }
     {
         let mut stretch = Stretch::new(alloc, place, w);
         for s in body {

@@ -45,13 +45,15 @@ impl Stretch {
 }
 
 impl Output {
-    /// Whether another piece follows, which none does where the run has ended. Where it may have ended, a block is opened
-    /// for what follows.
+    /// Whether another piece follows, which none does where the run has ended. Where it may have ended, a block is
+    /// opened for what follows.
     #[tactic(auto, using(crate::proofs::Steps::closed_last))]
     pub fn goes_on(&mut self, alloc: Global, stretch: &mut Stretch) -> Result<bool, NoMemory>
         ensures { IfOk result (λ goes. (widths : List ℕ) (go : pure.Flattener) →
-            closed widths stretch.new.pending.items (if goes then go stretch.new.place self.new stretch.new.state else placed self.new stretch.new.state)
-            ≡ closed widths stretch.old.pending.items (pure.go_on widths stretch.old.state.ended stretch.old.place go self.old stretch.old.state)) }
+            closed widths stretch.new.pending.items
+            (if goes then go stretch.new.place self.new stretch.new.state else placed self.new stretch.new.state)
+            ≡ closed widths stretch.old.pending.items
+            (pure.go_on widths stretch.old.state.ended stretch.old.place go self.old stretch.old.state)) }
     {
         match stretch.state.ended {
             Ending::No => Ok(true),
@@ -81,7 +83,8 @@ impl Output {
         stretch: Stretch,
     ) -> Result<State, NoMemory>
         requires { frame.now.fields.items ≡ pure.field_widths }
-        ensures { IfOk result (λ w. placed self.new w ≡ closed frame.now.locals.items stretch.pending.items (placed self.old stretch.state)) }
+        ensures { IfOk result (λ w.
+            placed self.new w ≡ closed frame.now.locals.items stretch.pending.items (placed self.old stretch.state)) }
     {
         let mut state = stretch.state;
         let mut pending = stretch.pending;

@@ -43,7 +43,8 @@ impl Output {
         e: &Expr,
     ) -> Result<ValueId, NoMemory>
         requires { IsSizedExpr frame.now.locals.items (expr_tree e.now) }
-        ensures { IfOk result (λ id. valued self.new id ≡ pure.flat_expr frame.now.locals.items place w.now (expr_tree e.now) self.old) }
+        ensures { IfOk result (λ id.
+            valued self.new id ≡ pure.flat_expr frame.now.locals.items place w.now (expr_tree e.now) self.old) }
     {
         match e {
             Expr::Lit(number, width) => self.give(place, InstrKind::Const(*width, *number)),
@@ -81,7 +82,9 @@ impl Output {
         all: &[Expr],
     ) -> Result<Vec<ValueId>, NoMemory>
         requires { AreSizedExprs frame.now.locals.items (expr_trees all.now) }
-        ensures { IfOk result (λ ids. listed self.new ids.items ≡ pure.flat_exprs frame.now.locals.items place w.now (expr_trees all.now) self.old) }
+        ensures { IfOk result (λ ids.
+            listed self.new ids.items
+            ≡ pure.flat_exprs frame.now.locals.items place w.now (expr_trees all.now) self.old) }
     {
         let mut ids = Vec::new(alloc);
         for e in all {

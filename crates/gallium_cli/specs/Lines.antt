@@ -61,7 +61,8 @@ owner_text (Some name) = codes " " ++ name
 -- the line of a limit that is exceeded
 abbrev pub excess_line : Excess → List ℕ
 excess_line e =
-    codes "limit " ++ (limit_name e.limit ++ (owner_text e.object ++ (codes ": have " ++ numbers_text e.have e.allowed)))
+    codes "limit " ++ (limit_name e.limit
+    ++ (owner_text e.object ++ (codes ": have " ++ numbers_text e.have e.allowed)))
 
 -- what is wrong with a line
 abbrev pub kind_text : LineKind → List ℕ

@@ -14,7 +14,8 @@ use Rattle.element_text.specs.Refused.{IsRefused}
 use Rattle.element_text.specs.declared.error.TextError.TheVariants as errors
 use Rattle.gallium_cli.specs.declared.status.Status.{Status}
 use Rattle.gallium_cli.specs.declared.status.Status.TheVariants.{Done, Usage, Source, Limits as BadLimits, Exceeded}
-use Rattle.gallium_cli.specs.declared.status.Status.TheVariants.{Trace, Schedule, TooLong, ReadFault, WriteFault, SwitchFault}
+use Rattle.gallium_cli.specs.declared.status.Status.TheVariants.{Trace, Schedule, TooLong, ReadFault, WriteFault}
+use Rattle.gallium_cli.specs.declared.status.Status.TheVariants.{SwitchFault}
 use Rattle.gallium_cli.specs.declared.status.Status.TheVariants.{NoMemory}
 use Rattle.gallium_cli.specs.declared.refusal.Refusal.{Refusal}
 use Rattle.gallium_cli.specs.declared.refusal.Refusal.TheVariants as refusals

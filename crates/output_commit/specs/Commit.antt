@@ -1,5 +1,6 @@
 -- Held outputs, all commands, and how far these have come.
-use Rattle.std.specs.Prelude.{◌≡◌, ◌≤◌, ◌<◌, ◌^◌, ℕ, zero, suc, ◌+◌, ◌*◌, ◌==◌, Bool, ◌&&◌, List, [], ◌∷◌, ◌++◌, Option, Some, None, nat_lt, length, take, slice_get, remove, if◌then◌else◌}
+use Rattle.std.specs.Prelude.{◌≡◌, ◌≤◌, ◌<◌, ◌^◌, ℕ, zero, suc, ◌+◌, ◌*◌, ◌==◌, Bool, ◌&&◌, List, [], ◌∷◌, ◌++◌, Option}
+use Rattle.std.specs.Prelude.{Some, None, nat_lt, length, take, slice_get, remove, if◌then◌else◌}
 use Rattle.writeback_table.specs.declared.command.Update.{Update}
 use Rattle.writeback_table.specs.declared.command.Command.{Command}
 use Rattle.writeback_table.specs.Commands.{commands_of, ons}
@@ -57,7 +58,8 @@ after_acknowledge c = if nat_lt c.acked c.done then record c { acked = c.acked +
 abbrev pub answer : Commit → Option Output → Release
 answer c None = NoSuch (length c.held)
 answer c (Some output) =
-    if nat_lt (acknowledged c) output.need then NotYet output.need (acknowledged c) else Frame output.number output.frame
+    if nat_lt (acknowledged c) output.need then NotYet output.need (acknowledged c)
+    else Frame output.number output.frame
 
 -- the output at place j is let go where it need not wait
 abbrev pub after_release : Commit → ℕ → Option Output → Commit

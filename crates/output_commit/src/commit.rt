@@ -1,5 +1,6 @@
 //! Held outputs, and the list of commands.
-ghost use Rattle.std.specs.Prelude.{◌≡◌, ◌≤◌, ◌<◌, ◌+◌, ◌-◌, ◌^◌, ◌++◌, ◌∷◌, [], length, min, take, nat_lt, slice_get, OnOk, OnErr, IfNone, if◌then◌else◌};
+ghost use Rattle.std.specs.Prelude.{◌≡◌, ◌≤◌, ◌<◌, ◌+◌, ◌-◌, ◌^◌, ◌++◌, ◌∷◌, [], length, min, take, nat_lt, slice_get};
+ghost use Rattle.std.specs.Prelude.{OnOk, OnErr, IfNone, if◌then◌else◌};
 ghost use Rattle.writeback_table.specs.Commands as commands;
 ghost use Rattle.output_commit.specs.Commit as spec;
 
@@ -11,8 +12,8 @@ use std::collections::VecDeque;
 use std::marker::Model;
 use writeback_table::{Command, Updates};
 
-/// The outputs that wait, and all commands with the counts of those that were sent, applied and acknowledged. Each batch of
-/// commands makes one version, which lookups on the switch see once its command that sets the bit is applied.
+/// The outputs that wait, and all commands with the counts of those that were sent, applied and acknowledged. Each
+/// batch of commands makes one version, which lookups on the switch see once its command that sets the bit is applied.
 #[derive(Debug, Drop)]
 pub struct Commit {
     alloc: Global,
@@ -94,8 +95,8 @@ impl Commit {
         self.commands.len().saturating_add(batch) < 1 << 32
     }
 
-    /// Lets an output wait behind the others until the version `need` is acknowledged. Its changes, if there are any, become
-    /// one batch of commands behind all others. After want of memory all is as before.
+    /// Lets an output wait behind the others until the version `need` is acknowledged. Its changes, if there are any,
+    /// become one batch of commands behind all others. After want of memory all is as before.
     pub fn hold(
         &mut self,
         number: u32,
@@ -134,8 +135,8 @@ impl Commit {
         }
     }
 
-    /// The next command that the switch is to apply, which counts as applied from then on. It is `None` exactly where all
-    /// sent ones are applied.
+    /// The next command that the switch is to apply, which counts as applied from then on. It is `None` exactly where
+    /// all sent ones are applied.
     pub fn next_command(&mut self) -> Option<Command>
         ensures did { result ≡ spec.next self.old }
         ensures after { self.new ≡ spec.after_next self.old }
@@ -227,8 +228,8 @@ impl Commit {
         self.held.is_empty() && self.acked as usize == self.commands.len()
     }
 
-    /// Lets the output at place `j` go, counted from 0 in the order in which they came, where its version is acknowledged.
-    /// Those behind it close up.
+    /// Lets the output at place `j` go, counted from 0 in the order in which they came, where its version is
+    /// acknowledged. Those behind it close up.
     pub fn release(&mut self, j: usize) -> Release
         ensures answer { result ≡ spec.answer self.old (slice_get self.old.held j) }
         ensures after { self.new ≡ spec.after_release self.old j (slice_get self.old.held j) }

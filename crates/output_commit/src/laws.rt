@@ -1,10 +1,11 @@
-//! What holds of every list of calls, as the definitions give it. These functions do nothing: their contracts are the laws.
+//! What holds of every list of calls, as the definitions give it. These functions do nothing: their contracts are the
+//! laws.
 ghost use Rattle.std.specs.Prelude.{ℕ, List};
 ghost use Rattle.output_commit.specs.declared.output.Output.{Output};
 ghost use Rattle.output_commit.specs.Laws.{Call, IsKeptInOrder, IsSeenFromThenOn};
 
-/// Only sent commands are applied, only applied ones are acknowledged, and the version that is acknowledged is never above
-/// the one that lookups see. The commands are those of the batches, in order.
+/// Only sent commands are applied, only applied ones are acknowledged, and the version that is acknowledged is never
+/// above the one that lookups see. The commands are those of the batches, in order.
 pub fn counts_stay_in_order()
     ensures { (calls : List Call) → IsKeptInOrder calls }
 {}

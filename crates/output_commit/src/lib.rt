@@ -1,5 +1,5 @@
-//! Outputs that wait until the switch is known to see the changes that they came with, and the commands that carry these
-//! changes.
+//! Outputs that wait until the switch is known to see the changes that they came with, and the commands that carry
+//! these changes.
 #![tactic(auto)]
 
 mod batch;

@@ -1,8 +1,8 @@
 //! Outputs that wait, and what is answered for them.
 use gal_io::Bytes;
 
-/// An output of the server: the number of its packet, the version that lookups on the switch must be known to see before it
-/// may go, and the frame that goes then.
+/// An output of the server: the number of its packet, the version that lookups on the switch must be known to see
+/// before it may go, and the frame that goes then.
 #[derive(Debug, Drop)]
 pub struct Output {
     pub number: u32,

@@ -1,5 +1,6 @@
 //! The greatest split on some of the instructions.
-ghost use Rattle.std.specs.Prelude.{◌≡◌, ℕ, length, IfOk, slice_index, slice_index_or, true, false, is_some, replicate, None};
+ghost use Rattle.std.specs.Prelude.{◌≡◌, ℕ, length, IfOk, slice_index, slice_index_or, true, false, is_some, replicate};
+ghost use Rattle.std.specs.Prelude.{None};
 ghost use Rattle.flat_ir.specs.Program.{program_of};
 ghost use Rattle.flat_ir.specs.WellFormed.{IsWellFormed};
 ghost use Rattle.flat_ir.specs.Sets.{IsMarked};

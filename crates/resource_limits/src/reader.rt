@@ -3,7 +3,9 @@ ghost use Rattle.std.specs.Prelude.{◌≡◌, ◌≤◌, Some, None, option_map
 ghost use Rattle.std.specs.List.{find};
 ghost use Rattle.toml.specs.Data.{get_member};
 ghost use Rattle.toml.specs.View.{table_view, view};
-ghost use Rattle.resource_limits.specs.Limits.{AreInRange, HasLimits, TellsLimits, fault_of, has_other_key, highest, is_missing, is_name, keys, lowest, name_of, number_at, refusal_of, whole_in};
+ghost use Rattle.resource_limits.specs.Limits.{AreInRange, HasLimits, TellsLimits, fault_of, has_other_key, highest};
+ghost use Rattle.resource_limits.specs.Limits.{is_missing, is_name, keys, lowest, name_of, number_at, refusal_of};
+ghost use Rattle.resource_limits.specs.Limits.{whole_in};
 ghost use Rattle.resource_limits.specs.declared.limits.LimitsError.{LimitsError};
 
 use crate::limits::{Key, Limits, LimitsError};

@@ -24,17 +24,18 @@ Ends true x more r calls next =
     Drains (whole x) x.packets (drain_bound (length x.packets) (whole x).writes) r more calls next
 
 -- The replay of a schedule that these calls determine: its events, and then those that drain picks, if it is asked for.
-pub record IsReplayOf (x : Setup) (events : List Event) (drain : Bool) (calls : List Call) (last : Replay) : Type 0 where
-  -- the events behind the schedule's own
-  pub more : List Event
-  pub answered : IsAnswered (whole x) x.packets (events ++ more) calls last
-  -- the replay after the schedule's own events, and the calls up to there and behind it
-  pub between : Replay
-  pub scheduled : List Call
-  pub behind : List Call
-  pub joined : calls ≡ scheduled ++ behind
-  pub first : IsAnswered (whole x) x.packets events scheduled between
-  pub ends : Ends drain x more between behind last
+pub record IsReplayOf (x : Setup) (events : List Event) (drain : Bool) (calls : List Call) (last : Replay) : Type 0
+  where
+    -- the events behind the schedule's own
+    pub more : List Event
+    pub answered : IsAnswered (whole x) x.packets (events ++ more) calls last
+    -- the replay after the schedule's own events, and the calls up to there and behind it
+    pub between : Replay
+    pub scheduled : List Call
+    pub behind : List Call
+    pub joined : calls ≡ scheduled ++ behind
+    pub first : IsAnswered (whole x) x.packets events scheduled between
+    pub ends : Ends drain x more between behind last
 
 -- the port has the program's code, and its journal has a load and then these calls, beside calls for room and for rows
 pub record HasCalls (x : Setup) (calls : List Call) (port : PortState) : Type 0 where
@@ -43,13 +44,14 @@ pub record HasCalls (x : Setup) (calls : List Call) (port : PortState) : Type 0 
 
 -- What comes of a replay over any port: it reports the replay that the port's calls determine, with the rows that the
 -- port gave.
-pub record IsReported (x : Setup) (events : List Event) (drain : Bool) (replayed : Replayed) (port : PortState) : Type 0 where
-  pub calls : List Call
-  pub last : Replay
-  pub replay : IsReplayOf x events drain calls last
-  pub called : HasCalls x calls port
-  pub run : replayed.run ≡ run_of (whole x) (length x.packets) replayed.run.switch last
-  pub commands : replayed.commands ≡ length last.commit.commands
+pub record IsReported (x : Setup) (events : List Event) (drain : Bool) (replayed : Replayed) (port : PortState) : Type 0
+  where
+    pub calls : List Call
+    pub last : Replay
+    pub replay : IsReplayOf x events drain calls last
+    pub called : HasCalls x calls port
+    pub run : replayed.run ≡ run_of (whole x) (length x.packets) replayed.run.switch last
+    pub commands : replayed.commands ≡ length last.commit.commands
 
 -- the port tells tables, and they are those of the last world's store
 pub record HasNewestTables (x : Setup) (events : List Event) (drain : Bool) (port : PortState) : Type 0 where

@@ -31,13 +31,14 @@ pub record IsShown (x : Setup) (events : List Event) (r : Replay) (told : Told) 
   pub through : IsThrough (code_for x) (applied_in r) told
 
 -- A replay of these events, by these calls of its port.
-pub record IsReplaying (x : Setup) (events : List Event) (calls : List Call) (r : Replay) (port : PortState) : Type 0 where
-  pub ready : IsReady x
-  pub sound : IsSound x r
-  pub counted : r.events ≡ length events
-  pub answered : IsAnswered (whole x) x.packets events calls r
-  pub called : HasCalls x calls port
-  pub shown : (told : Told) → port.told ≡ Some told → IsShown x events r told
+pub record IsReplaying (x : Setup) (events : List Event) (calls : List Call) (r : Replay) (port : PortState) : Type 0
+  where
+    pub ready : IsReady x
+    pub sound : IsSound x r
+    pub counted : r.events ≡ length events
+    pub answered : IsAnswered (whole x) x.packets events calls r
+    pub called : HasCalls x calls port
+    pub shown : (told : Told) → port.told ≡ Some told → IsShown x events r told
 
 -- the same by some calls
 pub record IsUnderWay (x : Setup) (events : List Event) (c : Course) (port : PortState) : Type 0 where
@@ -70,24 +71,26 @@ Picks x (event ∷ events) r old next new =
     × Does x event Did (tick r) old between port × Picks x events between port next new
 
 -- by so many events, until drain picks none
-pub record HasDrained (x : Setup) (count : ℕ) (c : Course) (old : PortState) (after : Course) (new : PortState) : Type 0 where
-  pub more : List Event
-  pub counted : length more ≡ count
-  pub picks : Picks x more (replay_of c) old (replay_of after) new
-  pub ends : next_event (length x.packets) (replay_of after) ≡ None
-  pub going : IsGoing x after new
-  pub stays : StaysTold old new
+pub record HasDrained (x : Setup) (count : ℕ) (c : Course) (old : PortState) (after : Course) (new : PortState) : Type 0
+  where
+    pub more : List Event
+    pub counted : length more ≡ count
+    pub picks : Picks x more (replay_of c) old (replay_of after) new
+    pub ends : next_event (length x.packets) (replay_of after) ≡ None
+    pub going : IsGoing x after new
+    pub stays : StaysTold old new
 
 -- A replay of a whole schedule: its events, and then those that drain picks, if it is asked for.
-pub record HasEnded (x : Setup) (events : List Event) (drain : Bool) (c : Course) (first port : PortState) : Type 0 where
-  pub more : List Event
-  pub calls : List Call
-  pub replay : IsReplayOf x events drain calls (replay_of c)
-  pub replaying : IsReplaying x (events ++ more) calls (replay_of c) port
-  pub world : (told : Told) → port.told ≡ Some told
-      → world_of (whole x) x.packets (events ++ more) ≡ plan_world (whole x) x.packets events drain
-  pub going : IsGoing x c port
-  pub stays : StaysTold first port
+pub record HasEnded (x : Setup) (events : List Event) (drain : Bool) (c : Course) (first port : PortState) : Type 0
+  where
+    pub more : List Event
+    pub calls : List Call
+    pub replay : IsReplayOf x events drain calls (replay_of c)
+    pub replaying : IsReplaying x (events ++ more) calls (replay_of c) port
+    pub world : (told : Told) → port.told ≡ Some told
+        → world_of (whole x) x.packets (events ++ more) ≡ plan_world (whole x) x.packets events drain
+    pub going : IsGoing x c port
+    pub stays : StaysTold first port
 
 -- ## Report
 

@@ -1,5 +1,6 @@
 -- What an event does to a replay and to its port, whatever the port.
-use Rattle.std.specs.Prelude.{◌≡◌, ◌≤◌, ◌+◌, ℕ, Bool, true, false, List, [], ◌∷◌, ◌++◌, ⊤, Option, Some, length, map, take}
+use Rattle.std.specs.Prelude.{◌≡◌, ◌≤◌, ◌+◌, ℕ, Bool, true, false, List, [], ◌∷◌, ◌++◌, ⊤, Option, Some, length, map}
+use Rattle.std.specs.Prelude.{take}
 use Rattle.std.specs.Option.{option_map}
 use Rattle.flat_ir.specs.Arrivals.{IsArrival}
 use Rattle.split_model.specs.Layouts.{down_layout}

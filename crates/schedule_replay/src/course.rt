@@ -111,7 +111,8 @@ impl Course {
     }
 
     /// The event that ends a run next, of a trace with so many packets: the first that applies of those that let the
-    /// switch's answers come back, then of those that bring commands and outputs down, and last those that let packets in.
+    /// switch's answers come back, then of those that bring commands and outputs down, and last those that let packets
+    /// in.
     pub(crate) fn next_event(&self, packets: usize) -> Option<Event>
         ensures { result ≡ turns.next_event packets (replay_of self.now) }
     {

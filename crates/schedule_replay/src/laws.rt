@@ -1,5 +1,5 @@
-//! What the laws of the crates below come to for a replay over any port. These functions do nothing: their contracts are
-//! the laws.
+//! What the laws of the crates below come to for a replay over any port. These functions do nothing: their contracts
+//! are the laws.
 ghost use Rattle.std.specs.Prelude.{◌≡◌, ◌++◌, ◌∷◌, [], List, Some};
 ghost use Rattle.run_text.specs.declared.event.Event.{Event};
 ghost use Rattle.split_world.specs.Answered.{Call};

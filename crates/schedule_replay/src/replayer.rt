@@ -1,5 +1,6 @@
 //! A replay that goes on call by call.
-ghost use Rattle.std.specs.Prelude.{◌≡◌, ◌≤◌, ◌<◌, ◌+◌, List, [], Some, None, Err, is_some, length, IfErr, IfOk, OnErr, OnOk};
+ghost use Rattle.std.specs.Prelude.{◌≡◌, ◌≤◌, ◌<◌, ◌+◌, List, [], Some, None, Err, is_some, length, IfErr, IfOk, OnErr};
+ghost use Rattle.std.specs.Prelude.{OnOk};
 ghost use Rattle.gal_io.specs.Count.{Rose};
 ghost use Rattle.flat_ir.specs.Program.{program_of};
 ghost use Rattle.split_model.specs.Bounds.{HasFewStages};
@@ -153,8 +154,8 @@ impl<S: SwitchPort> Replayer<S> {
         }
     }
 
-    /// The events that end a run, one after the other, until every packet of the trace is released and nothing is on its
-    /// way. The answer is their number.
+    /// The events that end a run, one after the other, until every packet of the trace is released and nothing is on
+    /// its way. The answer is their number.
     pub fn drain(&mut self) -> Result<u64, ReplayError>
         requires alive { IsAlive (state_of S.seen self.old) }
         ensures emptied { (events : List Event) (calls : List Call)

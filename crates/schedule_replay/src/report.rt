@@ -59,7 +59,8 @@ fn switch_parts<S: SwitchPort>(alloc: Global, job: &Job, port: &mut S) -> Result
 }
 
 impl Course {
-    // Whether every packet of a trace of so many was admitted, nothing is on its way, and every command is acknowledged.
+    // Whether every packet of a trace of so many was admitted, nothing is on its way, and every command is
+    // acknowledged.
     fn is_drained(&self, packets: usize) -> bool
         ensures { result ≡ reported.is_drained packets (replay_of self.now) }
     {

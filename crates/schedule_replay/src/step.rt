@@ -67,8 +67,8 @@ impl Course {
         Ok(())
     }
 
-    /// The events that end a run, one after the other, until every packet of the trace is released and nothing is on its
-    /// way. The answer is their number.
+    /// The events that end a run, one after the other, until every packet of the trace is released and nothing is on
+    /// its way. The answer is their number.
     pub(crate) fn drain<S: SwitchPort>(
         &mut self,
         alloc: Global,

@@ -49,8 +49,8 @@ sum_of (n ∷ ns) = n + sum_of ns
 abbrev pub is_post_shown : Program → List Part → ℕ → Bool
 is_post_shown f split o = any_step f (λ i. is_post split i && looks_at o (step_at f i).work)
 
--- The bits of an object's tables on the switch: a constant table that is looked up has its rows, and a replicated object has room
--- for its size and for the rows of its write-back table, each with one bit more.
+-- The bits of an object's tables on the switch: a constant table that is looked up has its rows, and a replicated
+-- object has room for its size and for the rows of its write-back table, each with one bit more.
 abbrev pub object_bits : Program → List Part → ℕ → ℕ → ObjectDecl → ℕ
 object_bits f split writeback o d =
     let bits = sum_of d.keys + sum_of d.values in

@@ -29,7 +29,8 @@ is_condition f v (suc k) = is_value v (block_at f.blocks k).cond
 
 -- it decides whether a write takes effect
 abbrev pub guards_write : Program → ValueId → Bool
-guards_write f v = any_step f (λ i. is_write (step_at f i).work && list_any (is_condition f v) (line f.blocks (step_at f i).block))
+guards_write f v = any_step f
+    (λ i. is_write (step_at f i).work && list_any (is_condition f v) (line f.blocks (step_at f i).block))
 
 -- the server writes the field, with this value or with some value
 abbrev pub is_server_write : List Part → FieldValue → Bool
@@ -57,15 +58,18 @@ is_left_field f split (del object keys) = false
 abbrev pub is_at_hand : Program → List Part → Work → Bool
 is_at_hand f split work = is_const work || is_left_field f split work
 
--- A value is handed down where it isn't post, and is `send` or `port`, or is read by a post instruction that hasn't it at hand.
+-- A value is handed down where it isn't post, and is `send` or `port`, or is read by a post instruction that hasn't it
+-- at hand.
 abbrev pub crosses_down : Program → List Part → ValueId → Bool
 crosses_down f split v =
     (is_named f v && not (is_post split v.instruction))
-    && (is_among v (f.send ∷ f.port ∷ []) || (not (is_at_hand f split (step_at f v.instruction).work) && is_read_by f (is_post split) v))
+    && (is_among v (f.send ∷ f.port ∷ [])
+    || (not (is_at_hand f split (step_at f v.instruction).work) && is_read_by f (is_post split) v))
 
--- A carried value, not of a const or a field, is handed up where the server reads it, where it decides on a write, where it is handed down,
--- or where a field is set to it by the server.
+-- A carried value, not of a const or a field, is handed up where the server reads it, where it decides on a write,
+-- where it is handed down, or where a field is set to it by the server.
 abbrev pub crosses_up : Program → List Part → ValueId → Bool
 crosses_up f split v =
     (is_named f v && (is_carried split v.instruction && not (is_input (step_at f v.instruction).work)))
-    && (is_read_by f (is_server split) v || (guards_write f v || (crosses_down f split v || is_written_value f split v)))
+    && (is_read_by f (is_server split) v
+    || (guards_write f v || (crosses_down f split v || is_written_value f split v)))

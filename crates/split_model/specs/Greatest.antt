@@ -7,7 +7,8 @@ use Rattle.split_model.specs.declared.split.Part.{Part}
 use Rattle.split_model.specs.Split.{is_carried_up, stage_after}
 use Rattle.split_model.specs.Counts.{stage_or_zero}
 
--- the three sets of a split, as one mark an instruction: what preprocessing computes, what it hands up, and what postprocessing computes
+-- the three sets of a split, as one mark an instruction: what preprocessing computes, what it hands up, and what
+-- postprocessing computes
 abbrev pub pre_marks : List Part → List Bool
 pre_marks split = map (λ (part : Part). is_some part.pre) split
 
@@ -29,8 +30,9 @@ abbrev pub IsPostSet : Program → Bool → List Bool → List Bool → Type 0
 IsPostSet f true carried post = IsGreatest f (IsPostClosed f carried) post
 IsPostSet f false carried post = post ≡ replicate (length f.code) false
 
--- The greatest split on the first k instructions: the most that preprocessing can have of them, the most of that which it can hand up, and
--- the most that postprocessing can have beside that, or nothing. All else is the server's. Stages are depths.
+-- The greatest split on the first k instructions: the most that preprocessing can have of them, the most of that which
+-- it can hand up, and the most that postprocessing can have beside that, or nothing. All else is the server's. Stages
+-- are depths.
 pub record IsGreatestSplit (f : Program) (k : ℕ) (all : Bool) (split : List Part) : Type 0 where
   pub pre : IsGreatest f (IsPreClosed f k) (pre_marks split)
   pub carried : IsGreatest f (IsCarriedClosed f (pre_marks split)) (carried_marks split)

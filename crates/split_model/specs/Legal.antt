@@ -26,7 +26,8 @@ rule_4 f split i = is_carried split i && is_mutable_look f (step_at f i).work
 
 -- and has carried operands alone, the sides of a select too
 abbrev pub rule_5 : Program → List Part → ℕ → Bool
-rule_5 f split i = is_carried split i && not (list_all (λ v. is_carried split v.instruction) (operands (step_at f i).work))
+rule_5 f split i = is_carried split i
+    && not (list_all (λ v. is_carried split v.instruction) (operands (step_at f i).work))
 
 -- a condition of the block, or of one above it, is a value of postprocessing
 abbrev pub is_post_condition : Program → List Part → ℕ → Bool

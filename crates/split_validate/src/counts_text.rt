@@ -19,8 +19,8 @@ fn counts_text(alloc: Global, c: &Counts) -> Result<String, NoMemory>
     )?)
 }
 
-/// What a split takes, in words: each count behind its name, in the order of the limits. Of the counts that are for each
-/// object the greatest stands there. No line end follows.
+/// What a split takes, in words: each count behind its name, in the order of the limits. Of the counts that are for
+/// each object the greatest stands there. No line end follows.
 pub fn print_counts(alloc: Global, c: &Counts) -> Result<Text, NoMemory>
     ensures { IfOk result (λ text. text ≡ counts_text c.now) }
 {

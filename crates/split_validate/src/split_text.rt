@@ -46,9 +46,9 @@ fn put_parts(alloc: Global, parts: &[Part], text: &mut Text) -> Result<(), NoMem
     Ok(())
 }
 
-/// The text of a split: a line `split 1 N` with the number of its instructions, a line for each of them in order, and the
-/// line `end`. The line of an instruction has its number, its stage in preprocessing or `-`, and `carried`, `server`, or
-/// `post` and a stage. One space stands between words.
+/// The text of a split: a line `split 1 N` with the number of its instructions, a line for each of them in order, and
+/// the line `end`. The line of an instruction has its number, its stage in preprocessing or `-`, and `carried`,
+/// `server`, or `post` and a stage. One space stands between words.
 pub fn print_split(alloc: Global, s: &Split) -> Result<Text, NoMemory>
     ensures { IfOk result (λ text. text ≡ split_text s.now) }
 {

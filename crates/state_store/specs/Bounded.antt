@@ -16,7 +16,8 @@ pub record Bounded : Type 0 where
   pub contents : Contents
 
 abbrev pub bounded_code : Coded Bounded
-bounded_code = code_by (ℕ × Contents) (coded× coded_ℕ contents_code) (λ b. (b.size, b.contents)) (λ p. record { size = p.0; contents = p.1 }) (λ _. refl)
+bounded_code = code_by (ℕ × Contents) (coded× coded_ℕ contents_code) (λ b. (b.size, b.contents))
+    (λ p. record { size = p.0; contents = p.1 }) (λ _. refl)
 
 -- the key is new, and there is no room
 abbrev pub is_full_in : Bounded → List ℕ → Bool

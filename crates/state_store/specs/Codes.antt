@@ -35,7 +35,9 @@ contents_code = map.code (coded_list coded_ℕ) (coded_list coded_ℕ)
 -- an object as its fields
 abbrev pub object_code : Coded Object
 object_code =
-    code_by ((Kind × ℕ) × (ℕ × Contents)) (coded× (coded× kind_code coded_ℕ) (coded× coded_ℕ contents_code)) (λ o. ((o.kind, o.size), (o.count, o.contents))) (λ p. record { kind = p.0.0; size = p.0.1; count = p.1.0; contents = p.1.1 }) (λ _. refl)
+    code_by ((Kind × ℕ) × (ℕ × Contents)) (coded× (coded× kind_code coded_ℕ) (coded× coded_ℕ contents_code))
+    (λ o. ((o.kind, o.size), (o.count, o.contents)))
+    (λ p. record { kind = p.0.0; size = p.0.1; count = p.1.0; contents = p.1.1 }) (λ _. refl)
 
 abbrev pub store_code : Coded Store
 store_code = coded_list object_code

@@ -49,7 +49,8 @@ pub record HoldsPacked (p : Packing) (rows : Rows) : Type 0 where
 
 -- keys and values of these widths in a table's words
 abbrev pub packing_of : List ℕ → List ℕ → AnyTable → Packing
-packing_of keys values table = record { keys = keys; values = values; key_words = key_words table; value_words = value_words table }
+packing_of keys values table =
+    record { keys = keys; values = values; key_words = key_words table; value_words = value_words table }
 
 -- contents of declared widths, and how many rows there may be
 pub record Fitted : Type 0 where
@@ -60,8 +61,10 @@ pub record Fitted : Type 0 where
 
 abbrev pub fitted_code : Coded Fitted
 fitted_code =
-    code_by ((List ℕ × List ℕ) × (ℕ × Contents)) (coded× (coded× (coded_list coded_ℕ) (coded_list coded_ℕ)) (coded× coded_ℕ contents_code))
-    (λ f. ((f.keys, f.values), (f.capacity, f.contents))) (λ p. record { keys = p.0.0; values = p.0.1; capacity = p.1.0; contents = p.1.1 }) (λ _. refl)
+    code_by ((List ℕ × List ℕ) × (ℕ × Contents))
+    (coded× (coded× (coded_list coded_ℕ) (coded_list coded_ℕ)) (coded× coded_ℕ contents_code))
+    (λ f. ((f.keys, f.values), (f.capacity, f.contents)))
+    (λ p. record { keys = p.0.0; values = p.0.1; capacity = p.1.0; contents = p.1.1 }) (λ _. refl)
 
 -- the key is new, and there is no room for one more row
 abbrev pub is_full_at : ℕ → Contents → List ℕ → Bool
@@ -77,8 +80,10 @@ abbrev pub fits_row : Fitted → List ℕ → List ℕ → Bool
 fits_row f key values = have_widths f.keys key && have_widths f.values values
 
 abbrev pub keep_answer : Fitted → List ℕ → List ℕ → Kept
-keep_answer f key values = if fits_row f key values then (if is_full_at f.capacity f.contents key then Full else Stored) else Misfit
+keep_answer f key values =
+    if fits_row f key values then (if is_full_at f.capacity f.contents key then Full else Stored) else Misfit
 
 abbrev pub kept_row : Fitted → List ℕ → List ℕ → Fitted
 kept_row f key values =
-    if fits_row f key values then (if is_full_at f.capacity f.contents key then f else record f { contents = map.insert f.contents key values }) else f
+    if fits_row f key values then (if is_full_at f.capacity f.contents key then f
+    else record f { contents = map.insert f.contents key values }) else f

@@ -19,10 +19,13 @@ pub record IsRemovedAlone (object : Object) (key : List ℕ) : Type 0 where
 
 -- to change an object leaves every other one
 abbrev pub IsChangedAlone : Store → ℕ → Object → Type 0
-IsChangedAlone store number object = (other : ℕ) → other ≢ number → object_at (with_object store number object) other ≡ object_at store other
+IsChangedAlone store number object =
+    (other : ℕ) → other ≢ number → object_at (with_object store number object) other ≡ object_at store other
 
 -- A vector stores at each index below its length and nowhere else, and an integer always: neither is ever full.
 pub record IsNeverFull (declaration : ObjectDecl) (object : Object) : Type 0 where
-  pub vector : declaration.kind ≡ Vector → (index : ℕ) → index < declaration.size → put_answer object (index ∷ []) ≡ Stored
-  pub outside : declaration.kind ≡ Vector → (index : ℕ) → declaration.size ≤ index → put_answer object (index ∷ []) ≡ OutOfRange
+  pub vector : declaration.kind ≡ Vector → (index : ℕ) → index < declaration.size
+      → put_answer object (index ∷ []) ≡ Stored
+  pub outside : declaration.kind ≡ Vector → (index : ℕ) → declaration.size ≤ index
+      → put_answer object (index ∷ []) ≡ OutOfRange
   pub int : declaration.kind ≡ Int → put_answer object [] ≡ Stored

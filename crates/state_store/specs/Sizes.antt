@@ -45,4 +45,5 @@ with_slot rows (Some row) = map.insert rows row.0 row.1
 -- the lists that were packed into the two numbers of a slot
 abbrev pub listed : ℕ → ℕ → List ℕ → List ℕ → Option (ℕ × ℕ) → Entries
 listed key_words value_words keys values None = []
-listed key_words value_words keys values (Some row) = (parts (64 * key_words) keys row.0, parts (64 * value_words) values row.1) ∷ []
+listed key_words value_words keys values (Some row) =
+    (parts (64 * key_words) keys row.0, parts (64 * value_words) values row.1) ∷ []

@@ -1,5 +1,6 @@
 -- A store: for each object a finite map from key lists to value lists.
-use Rattle.std.specs.Prelude.{ℕ, zero, suc, Bool, false, not, ◌&&◌, List, [], ◌∷◌, length, slice_index, slice_get, slice_set, replicate, Option, unwrap_or, nat_le, if◌then◌else◌}
+use Rattle.std.specs.Prelude.{ℕ, zero, suc, Bool, false, not, ◌&&◌, List, [], ◌∷◌, length, slice_index, slice_get}
+use Rattle.std.specs.Prelude.{slice_set, replicate, Option, unwrap_or, nat_le, if◌then◌else◌}
 use Rattle.std.specs.Ordering.{nat_cmp}
 use Rattle.std.specs.declared.cmp.Ordering.{Ordering}
 use Rattle.std.specs.Cmp.Lexicographic.{slice_cmp}
@@ -50,7 +51,12 @@ start_contents Vector object = zeros_from object.size 0 (length object.values) m
 start_contents Int object = map.insert map.empty [] (object.start ∷ [])
 
 abbrev pub start_object : ObjectDecl → Object
-start_object object = record { kind = object.kind; size = object.size; count = length object.values; contents = start_contents object.kind object }
+start_object object = record {
+  kind = object.kind;
+  size = object.size;
+  count = length object.values;
+  contents = start_contents object.kind object;
+}
 
 -- the store that a run starts with
 abbrev pub start_store : List ObjectDecl → Store
@@ -78,7 +84,8 @@ is_full object key = not (map.contains_key object.contents key) && nat_le object
 
 -- what a put answers
 abbrev pub put_answer : Object → List ℕ → Put
-put_answer object key = if is_out object.kind object.size key then OutOfRange else (if is_full object key then Full else Stored)
+put_answer object key = if is_out object.kind object.size key then OutOfRange
+    else (if is_full object key then Full else Stored)
 
 -- a put sets one row, and changes nothing where the key has no place
 abbrev pub put_row : Object → List ℕ → List ℕ → Object

@@ -90,7 +90,8 @@ pub fn value_words(any: &AnyTable) -> usize
 /// The value under a key.
 pub fn look(any: &AnyTable, key: u128) -> Option<u128>
     requires { key < 2 ^ (64 * of.key_words any.now) }
-    ensures value { result ≡ option_map packing.number (map.get (of.table_of any.now).rows (packing.words (of.key_words any.now) key)) }
+    ensures value { result ≡ option_map packing.number
+        (map.get (of.table_of any.now).rows (packing.words (of.key_words any.now) key)) }
     ensures below { IfSome result (λ value. value < 2 ^ (64 * of.value_words any.now)) }
 {
     at_each!(any, table => match table.look(&words(key)) {
@@ -103,9 +104,12 @@ pub fn look(any: &AnyTable, key: u128) -> Option<u128>
 pub fn insert(any: &mut AnyTable, key: u128, value: u128) -> Slot
     requires key { key < 2 ^ (64 * of.key_words any.old) }
     requires value { value < 2 ^ (64 * of.value_words any.old) }
-    ensures answer { result ≡ (if is_full (of.table_of any.old) (packing.words (of.key_words any.old) key) then Full else Stored) }
-    ensures rows { (of.table_of any.new).rows ≡ (if is_full (of.table_of any.old) (packing.words (of.key_words any.old) key) then (of.table_of any.old).rows
-        else map.insert (of.table_of any.old).rows (packing.words (of.key_words any.old) key) (packing.words (of.value_words any.old) value)) }
+    ensures answer { result ≡ (if is_full (of.table_of any.old) (packing.words (of.key_words any.old) key) then Full
+        else Stored) }
+    ensures rows { (of.table_of any.new).rows
+        ≡ (if is_full (of.table_of any.old) (packing.words (of.key_words any.old) key) then (of.table_of any.old).rows
+        else map.insert (of.table_of any.old).rows (packing.words (of.key_words any.old) key)
+        (packing.words (of.value_words any.old) value)) }
     ensures capacity { (of.table_of any.new).capacity ≡ (of.table_of any.old).capacity }
     ensures keys { of.key_words any.new ≡ of.key_words any.old }
     ensures values { of.value_words any.new ≡ of.value_words any.old }
@@ -117,7 +121,8 @@ pub fn insert(any: &mut AnyTable, key: u128, value: u128) -> Slot
 pub fn remove(any: &mut AnyTable, key: u128) -> bool
     requires { key < 2 ^ (64 * of.key_words any.old) }
     ensures was { result ≡ map.contains_key (of.table_of any.old).rows (packing.words (of.key_words any.old) key) }
-    ensures rows { (of.table_of any.new).rows ≡ map.remove (of.table_of any.old).rows (packing.words (of.key_words any.old) key) }
+    ensures rows { (of.table_of any.new).rows
+        ≡ map.remove (of.table_of any.old).rows (packing.words (of.key_words any.old) key) }
     ensures capacity { (of.table_of any.new).capacity ≡ (of.table_of any.old).capacity }
     ensures keys { of.key_words any.new ≡ of.key_words any.old }
     ensures values { of.value_words any.new ≡ of.value_words any.old }

@@ -1,7 +1,8 @@
 //! The rows of an object: packed into a slot table while they fit in one, and else in the order of their keys.
 ghost use Rattle.std.specs.Prelude.{◌≡◌, ◌≤◌, not, None, vec_capacity, IfOk, IfSome, if◌then◌else◌};
 ghost use Rattle.std.specs.FinMap as map;
-ghost use Rattle.state_store.specs.Bounded.{CanUnpack, HasSize, is_full_in, packed_answer, packed_after, stored_row, unpacked_entries};
+ghost use Rattle.state_store.specs.Bounded.{CanUnpack, HasSize, is_full_in, packed_answer, packed_after, stored_row};
+ghost use Rattle.state_store.specs.Bounded.{unpacked_entries};
 ghost use Rattle.state_store.specs.Store.{rows_from};
 
 use crate::object::Rows;
@@ -67,7 +68,8 @@ impl KeptRows {
     /// Sets one row, and answers whether there was room for it. This takes no memory.
     pub fn put(&mut self, key: &Values, values: &Values) -> bool
         ensures stored { result ≡ not (is_full_in self.old key.now) }
-        ensures after { self.new ≡ (if is_full_in self.old key.now then self.old else stored_row self.old key.now values.now) }
+        ensures after { self.new ≡ (if is_full_in self.old key.now then self.old
+            else stored_row self.old key.now values.now) }
     {
         match put_packed(&mut self.packed, key, values) {
             Kept::Stored => true,
@@ -141,7 +143,9 @@ fn new_packed(
     size: usize,
     in_slots: bool,
 ) -> Result<Option<PackedRows>, NoMemory>
-    ensures { IfOk result (λ made. IfSome made (λ rows. rows ≡ record { keys = keys.now; values = values.now; capacity = size; contents = map.empty })) }
+    ensures { IfOk result (λ made.
+        IfSome made (λ rows. rows
+        ≡ record { keys = keys.now; values = values.now; capacity = size; contents = map.empty })) }
 {
     if in_slots {
         PackedRows::new(alloc, keys, values, size)

@@ -13,9 +13,10 @@ pub fn rows_change_alone()
     ensures others { (store : Objects) (number : ℕ) (object : Object) → IsChangedAlone store number object }
 {}
 
-/// A put in range on a vector or an integer of a store that keeps its declarations is never refused. This does nothing: its
-/// contract is the law.
+/// A put in range on a vector or an integer of a store that keeps its declarations is never refused. This does nothing:
+/// its contract is the law.
 pub fn rows_that_stay_are_never_full()
     ensures { (objects : List ObjectDecl) (store : Objects) (number : ℕ) (declaration : ObjectDecl)
-        → IsKept objects store → slice_get objects number ≡ Some declaration → IsNeverFull declaration (object_at store number) }
+        → IsKept objects store → slice_get objects number ≡ Some declaration
+        → IsNeverFull declaration (object_at store number) }
 {}

@@ -1,5 +1,6 @@
 //! Rows of declared widths, packed into the words of a slot table.
-ghost use Rattle.std.specs.Prelude.{◌≡◌, ◌≤◌, ◌<◌, ◌*◌, ◌^◌, ◌++◌, ℕ, [], None, length, vec_capacity, vec_len, IfOk, IfSome, IsOk};
+ghost use Rattle.std.specs.Prelude.{◌≡◌, ◌≤◌, ◌<◌, ◌*◌, ◌^◌, ◌++◌, ℕ, [], None, length, vec_capacity, vec_len, IfOk};
+ghost use Rattle.std.specs.Prelude.{IfSome, IsOk};
 ghost use Rattle.std.specs.FinMap as map;
 ghost use Rattle.std.specs.Prelude.{map as list_map};
 ghost use Rattle.state_store.specs.Fitted.{IsRoomy, keep_answer, kept_by, kept_row, packing_of, unpacked_row};
@@ -42,7 +43,13 @@ impl Model for PackedRows {
 
     ghost coded = { fitted_code };
 
-    ghost view = { λ a. let table = table_of a.table in record { keys = a.keys; values = a.values; capacity = table.capacity; contents = contents_of (packing_of a.keys a.values a.table) table.rows } };
+    ghost view = { λ a. let table = table_of a.table in
+        record {
+          keys = a.keys;
+          values = a.values;
+          capacity = table.capacity;
+          contents = contents_of (packing_of a.keys a.values a.table) table.rows;
+        } };
 
     ghost invariant = { λ a. HoldsPacked (packing_of a.keys a.values a.table) (table_of a.table).rows };
 }
@@ -55,7 +62,9 @@ impl PackedRows {
         values: &Widths,
         capacity: usize,
     ) -> Result<Option<PackedRows>, NoMemory>
-        ensures { IfOk result (λ made. IfSome made (λ rows. rows ≡ record { keys = keys.now; values = values.now; capacity = capacity; contents = map.empty })) }
+        ensures { IfOk result (λ made.
+            IfSome made (λ rows. rows
+            ≡ record { keys = keys.now; values = values.now; capacity = capacity; contents = map.empty })) }
     {
         let Some(key_words) = words_for(keys.as_slice()) else {
             return Ok(None);
@@ -156,7 +165,9 @@ fn list_slots(
 ) -> Result<(), NoMemory>
     requires roomy { IsRoomy (packing_of keys.now values.now table.now) }
     requires empty { rows.old.items ≡ [] }
-    ensures rows { IfOk result (λ _. rows.new.items ≡ list_map (unpacked_row (packing_of keys.now values.now table.now)) (slot_rows (table_of table.now).slots)) }
+    ensures rows { IfOk result
+        (λ _. rows.new.items ≡ list_map (unpacked_row (packing_of keys.now values.now table.now))
+        (slot_rows (table_of table.now).slots)) }
     ensures laid { IsLaidOut (table_of table.now).rows (table_of table.now).slots }
     ensures capacity { vec_capacity rows.old ≤ vec_capacity rows.new }
     ensures room { length (slot_rows (table_of table.now).slots) ≤ vec_capacity rows.old → IsOk result }
@@ -179,7 +190,9 @@ fn push_slot(
     requires roomy { IsRoomy (packing_of keys.now values.now table.now) }
     requires keys { IfSome slot (λ row. row.0 < 2 ^ (64 * key_words table.now)) }
     requires values { IfSome slot (λ row. row.1 < 2 ^ (64 * value_words table.now)) }
-    ensures rows { IfOk result (λ _. rows.new.items ≡ rows.old.items ++ listed (key_words table.now) (value_words table.now) keys.now values.now slot) }
+    ensures rows { IfOk result
+        (λ _. rows.new.items ≡ rows.old.items
+        ++ listed (key_words table.now) (value_words table.now) keys.now values.now slot) }
     ensures capacity { vec_capacity rows.old ≤ vec_capacity rows.new }
     ensures none { slot ≡ None → IsOk result }
     ensures room { vec_len rows.old < vec_capacity rows.old → IsOk result }

@@ -1,5 +1,6 @@
 //! Short lists of numbers as one number, from the highest bit down.
-ghost use Rattle.std.specs.Prelude.{◌≡◌, ℕ, ◌*◌, ◌<◌, ◌≤◌, ◌^◌, IfSome, IsTrue, length, nat_lt, Some, None, if◌then◌else◌};
+ghost use Rattle.std.specs.Prelude.{◌≡◌, ℕ, ◌*◌, ◌<◌, ◌≤◌, ◌^◌, IfSome, IsTrue, length, nat_lt, Some, None};
+ghost use Rattle.std.specs.Prelude.{if◌then◌else◌};
 ghost use Rattle.slot_table.specs.Table.{IsWords};
 ghost use Rattle.state_store.specs.Kept.{have_widths};
 ghost use Rattle.state_store.specs.Packing as rule;
@@ -31,7 +32,8 @@ pub fn have_room(bits: u64, widths: &[u64]) -> bool
 pub fn packed(bits: u64, widths: &[u64], numbers: &[u64]) -> Option<u128>
     requires bits { bits ≤ 128 }
     requires room { IsTrue (rule.have_room bits widths.now) }
-    ensures value { result ≡ (if have_widths widths.now numbers.now then Some (rule.packed bits widths.now numbers.now) else None) }
+    ensures value { result ≡ (if have_widths widths.now numbers.now then Some (rule.packed bits widths.now numbers.now)
+        else None) }
     ensures below { IfSome result (λ whole. whole < 2 ^ bits) }
 {
     if widths.len() != numbers.len() {

@@ -1,5 +1,6 @@
 //! Rows in the order of their keys.
-ghost use Rattle.std.specs.Prelude.{◌≡◌, ◌≤◌, ◌<◌, ◌&&◌, not, nat_le, is_ok, vec_len, vec_capacity, IfOk, IfErr, IsOk, if◌then◌else◌};
+ghost use Rattle.std.specs.Prelude.{◌≡◌, ◌≤◌, ◌<◌, ◌&&◌, not, nat_le, is_ok, vec_len, vec_capacity, IfOk, IfErr, IsOk};
+ghost use Rattle.std.specs.Prelude.{if◌then◌else◌};
 ghost use Rattle.std.specs.FinMap as map;
 ghost use Rattle.state_store.specs.Fitted.{is_full_at};
 ghost use Rattle.state_store.specs.Places.{IsPlaceOf, IsGapFor, IsSorted, map_of, with_entry, without_entry};
@@ -28,7 +29,8 @@ pub fn store_at(
 ) -> Result<(), NoMemory>
     requires found { IfOk place (IsPlaceOf rows.old.items key.now) }
     requires absent { IfErr place (IsGapFor rows.old.items key.now) }
-    ensures after { rows.new.items ≡ (if is_ok result then with_entry rows.old.items key.now values.now else rows.old.items) }
+    ensures after { rows.new.items
+        ≡ (if is_ok result then with_entry rows.old.items key.now values.now else rows.old.items) }
     ensures capacity { vec_capacity rows.old ≤ vec_capacity rows.new }
     ensures present { IsOk place → IsOk result }
     ensures room { vec_len rows.old < vec_capacity rows.old → IsOk result }
@@ -61,7 +63,9 @@ pub fn put_sorted(
     requires sorted { IsSorted rows.old.items }
     requires room { size ≤ vec_capacity rows.old }
     ensures stored { result ≡ not (is_full_at size (map_of rows.old.items) key.now) }
-    ensures after { rows.new.items ≡ (if is_full_at size (map_of rows.old.items) key.now then rows.old.items else with_entry rows.old.items key.now values.now) }
+    ensures after { rows.new.items
+        ≡ (if is_full_at size (map_of rows.old.items) key.now then rows.old.items
+        else with_entry rows.old.items key.now values.now) }
     ensures capacity { vec_capacity rows.old ≤ vec_capacity rows.new }
 {
     let found = place(rows, key);

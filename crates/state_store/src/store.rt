@@ -1,7 +1,8 @@
 //! Stores.
 ghost use Rattle.std.specs.Prelude.{◌≡◌, ◌≢◌, false, is_some, IfOk};
 ghost use Rattle.state_store.specs.declared.store.Put.TheVariants.{Stored};
-ghost use Rattle.state_store.specs.Store.{object_at, with_object, start_store, look, looked_up, put_answer, put_row, del_row, rows_of};
+ghost use Rattle.state_store.specs.Store.{object_at, with_object, start_store, look, looked_up, put_answer, put_row};
+ghost use Rattle.state_store.specs.Store.{del_row, rows_of};
 
 use crate::object::{Objects, Rows};
 use crate::stored::StoredObject;
@@ -78,7 +79,8 @@ impl Store {
     /// Sets one row. This takes no memory.
     pub fn put(&mut self, object: u32, key: &Values, values: &Values) -> Put
         ensures answer { result ≡ put_answer (object_at self.old object) key.now }
-        ensures after { self.new ≡ with_object self.old object (put_row (object_at self.old object) key.now values.now) }
+        ensures after { self.new ≡ with_object self.old object
+            (put_row (object_at self.old object) key.now values.now) }
         ensures unchanged { result ≢ Stored → self.new ≡ self.old }
     {
         let number = object as usize;

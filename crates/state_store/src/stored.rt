@@ -1,7 +1,8 @@
 //! One object at work.
 ghost use Rattle.std.specs.Prelude.{◌≡◌, ◌≤◌, [], ◌∷◌, slice_index, is_some, false, length, replicate, IfOk};
 ghost use Rattle.std.specs.FinMap as map;
-ghost use Rattle.state_store.specs.Store.{Object, start_object, look, looked_up, put_answer, put_row, del_row, rows_of, with_rows, zeros_from, is_out};
+ghost use Rattle.state_store.specs.Store.{Object, start_object, look, looked_up, put_answer, put_row, del_row, rows_of};
+ghost use Rattle.state_store.specs.Store.{with_rows, zeros_from, is_out};
 
 use crate::kept_rows::KeptRows;
 use crate::object::{Kind, ObjectDecl, Row, Rows};
@@ -29,7 +30,12 @@ impl Model for StoredObject {
 
     ghost coded = { object_code };
 
-    ghost view = { λ object. record { kind = object.kind; size = object.size; count = object.count; contents = object.rows.contents } };
+    ghost view = { λ object. record {
+      kind = object.kind;
+      size = object.size;
+      count = object.count;
+      contents = object.rows.contents;
+    } };
 
     ghost invariant = { λ object. (object.rows.size ≡ object.size) × (object.count ≤ 8) };
 }
@@ -37,7 +43,13 @@ impl Model for StoredObject {
 impl StoredObject {
     /// An object without rows, with the memory for its size.
     pub fn new(alloc: Global, object: &ObjectDecl) -> Result<StoredObject, NoMemory>
-        ensures { IfOk result (λ made. made ≡ record { kind = object.now.kind; size = object.now.size; count = length object.now.values; contents = map.empty }) }
+        ensures { IfOk result (λ made.
+            made ≡ record {
+              kind = object.now.kind;
+              size = object.now.size;
+              count = length object.now.values;
+              contents = map.empty;
+            }) }
     {
         let slots = in_slots(object.kind);
         let rows = KeptRows::new(
@@ -141,7 +153,8 @@ impl StoredObject {
 
     // Stores a row of zeros for each index below the size.
     fn set_zeros(&mut self) -> Result<(), NoMemory>
-        ensures { IfOk result (λ _. self.new ≡ record self.old { contents = zeros_from self.old.size 0 self.old.count self.old.contents }) }
+        ensures { IfOk result (λ _.
+            self.new ≡ record self.old { contents = zeros_from self.old.size 0 self.old.count self.old.contents }) }
     {
         let row = zeros(self.count);
         for i in 0..self.size {
@@ -152,7 +165,8 @@ impl StoredObject {
 
     // Stores a row, also beyond the object's size.
     fn set(&mut self, key: &Values, values: &Values) -> Result<(), NoMemory>
-        ensures { IfOk result (λ _. self.new ≡ record self.old { contents = map.insert self.old.contents key.now values.now }) }
+        ensures { IfOk result (λ _.
+            self.new ≡ record self.old { contents = map.insert self.old.contents key.now values.now }) }
     {
         self.rows.set(key, values)
     }

@@ -24,7 +24,8 @@ pub record KeepsRows (d : ObjectDecl) (pair : Pair) : Type 0 where
 
 -- the tables of each object that the code looks up
 abbrev pub KeepsTables : Code → Told → Type 0
-KeepsTables code told = (o : ℕ) (d : ObjectDecl) → declared_at code.tables o ≡ Some d → KeepsRows d (pair_at told.pairs o)
+KeepsTables code told = (o : ℕ) (d : ObjectDecl) → declared_at code.tables o ≡ Some d
+    → KeepsRows d (pair_at told.pairs o)
 
 -- those of the code that is loaded, if any is
 abbrev pub AreSafe : Option Code → Told → Type 0
@@ -40,4 +41,5 @@ rows_prop d pair a b = λ i. record {
 }
 
 pub safe_prop : (loaded : Option Code) (told : Told) → IsProp (AreSafe loaded told)
-safe_prop loaded told a b = λ i code here o d is. rows_prop d (pair_at told.pairs o) (a code here o d is) (b code here o d is) i
+safe_prop loaded told a b =
+    λ i code here o d is. rows_prop d (pair_at told.pairs o) (a code here o d is) (b code here o d is) i

@@ -27,11 +27,14 @@ pub record AreStages (steps : List Step) (highest : ℕ) (stages : List (List Pa
       → after_stage (stage_at stages t) t reads tables packet v ≡ after_stage steps t reads tables packet v
 
 -- this has at most one proof
-pub stages_prop : (steps : List Step) (highest : ℕ) (stages : List (List PassStep)) → IsProp (AreStages steps highest stages)
+pub stages_prop : (steps : List Step) (highest : ℕ) (stages : List (List PassStep))
+    → IsProp (AreStages steps highest stages)
 stages_prop steps highest stages a b = λ i. record {
   count = Coded-set coded_ℕ _ _ a.count b.count i;
   can = λ all t le. can_step_prop (stage_at stages t) (a.can all t le) (b.can all t le) i;
   rows = λ n all t le.
-      AllByRecursion-prop (λ k. suc k ≤ n) (λ k. le_prop) (instructions_of (stage_at stages t)) (a.rows n all t le) (b.rows n all t le) i;
-  exact = λ t le reads tables packet v. Coded-set coded_ℕ _ _ (a.exact t le reads tables packet v) (b.exact t le reads tables packet v) i;
+      AllByRecursion-prop (λ k. suc k ≤ n) (λ k. le_prop) (instructions_of (stage_at stages t)) (a.rows n all t le)
+      (b.rows n all t le) i;
+  exact = λ t le reads tables packet v.
+      Coded-set coded_ℕ _ _ (a.exact t le reads tables packet v) (b.exact t le reads tables packet v) i;
 }

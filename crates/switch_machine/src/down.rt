@@ -58,7 +58,8 @@ fn finish(
     requires shape { arrival.now.shape ≡ shape_of arrival.now.bytes.now }
     requires registers { HaveRegisters loaded.now.code.down registers.now }
     ensures { IfOk result (λ verdict. verdict
-        ≡ down_end (code_of loaded.now.code) (value_in registers.now) (seen_tables tables.now) (packet_of arrival.now)) }
+        ≡ down_end (code_of loaded.now.code) (value_in registers.now) (seen_tables tables.now)
+        (packet_of arrival.now)) }
 {
     let code = &loaded.code;
     let inputs = given_rows(alloc, &code.post, arrival)?;

@@ -73,8 +73,8 @@ impl ModelSwitch {
         }
     }
 
-    /// Makes the call of this kind and number fail. The calls of a kind are numbered from 1, from the making of the switch
-    /// on.
+    /// Makes the call of this kind and number fail. The calls of a kind are numbered from 1, from the making of the
+    /// switch on.
     pub fn fail_at(&mut self, call: CallKind, ordinal: u64) -> Result<(), NoMemory>
         ensures ok { let old = machine_of self.old in
             OnOk result (machine_of self.new ≡ record old { planned = old.planned ++ (call, ordinal) ∷ [] }) }
@@ -321,7 +321,8 @@ impl SwitchPort for ModelSwitch {
 
     fn load(&mut self, alloc: Global, code: &SwitchCode) -> PortEnd
         requires { IsEmitted (code_of code.now) }
-        ensures loads { Loads result (code_of code.now) (seen_of (machine_of self.old)) (seen_of (machine_of self.new)) }
+        ensures loads { Loads result (code_of code.now) (seen_of (machine_of self.old))
+            (seen_of (machine_of self.new)) }
         ensures plan { PortEndsAsPlanned (fails_next (machine_of self.old) call.Load) result }
         ensures counted { IsCountedAs call.Load (has_failed result) (machine_of self.old) (machine_of self.new) }
     {

@@ -79,7 +79,8 @@ fn read_stage<L: Lookup, G: Numbers>(
     ensures gives { OnOk result (map gives_of computed.new.items
         ≡ stage_gives (map step_of steps.now) stage (over (G.reads run.now.given.now) run.now.rows.now)
         (L.seen tables.now) (packet_of arrival.now)) }
-    ensures rows { OnOk result (HaveRows (length run.now.rows.now) (map (λ (g : Gives). g.0) (map gives_of computed.new.items))) }
+    ensures rows { OnOk result
+        (HaveRows (length run.now.rows.now) (map (λ (g : Gives). g.0) (map gives_of computed.new.items))) }
 {
     for step in steps {
         if step.stage == stage {

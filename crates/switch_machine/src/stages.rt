@@ -1,5 +1,6 @@
 //! The instructions of a pass, stage by stage.
-ghost use Rattle.std.specs.Prelude.{◌≡◌, ℕ, ◌+◌, ◌≤◌, ◌<◌, ◌==◌, ◌++◌, ◌∷◌, [], length, map, slice_index_or, IfOk, OnOk, if◌then◌else◌};
+ghost use Rattle.std.specs.Prelude.{◌≡◌, ℕ, ◌+◌, ◌≤◌, ◌<◌, ◌==◌, ◌++◌, ◌∷◌, [], length, map, slice_index_or, IfOk};
+ghost use Rattle.std.specs.Prelude.{OnOk, if◌then◌else◌};
 ghost use Rattle.switch_ir.specs.Code.{step_of, pass_of};
 ghost use Rattle.switch_machine.specs.Staged.{stage_at, AreStages};
 

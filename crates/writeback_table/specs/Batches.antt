@@ -1,5 +1,6 @@
 -- Batches of changes one after the other, and what is seen at each point between their commands.
-use Rattle.std.specs.Prelude.{◌≡◌, ◌≤◌, ◌<◌, ◌+◌, ◌==◌, ℕ, Bool, true, false, List, [], ◌∷◌, ◌++◌, ⊤, Some, length, take, slice_get, if◌then◌else◌}
+use Rattle.std.specs.Prelude.{◌≡◌, ◌≤◌, ◌<◌, ◌+◌, ◌==◌, ℕ, Bool, true, false, List, [], ◌∷◌, ◌++◌, ⊤, Some, length}
+use Rattle.std.specs.Prelude.{take, slice_get, if◌then◌else◌}
 use Rattle.std.specs.FinMap as map
 use Rattle.state_store.specs.Store.{Contents, Object}
 use Rattle.writeback_table.specs.declared.command.Update.{Update}

@@ -8,8 +8,8 @@ use Rattle.writeback_table.specs.Pair.{Pair, applied, has_room}
 abbrev pub clear_of : Update → Command
 clear_of update = Clear update.object update.key
 
--- the commands of a batch: all changes are staged, the bit is set, all are made, the bit is cleared, and all staged keys
--- are cleared, each group in the order of the changes
+-- the commands of a batch: all changes are staged, the bit is set, all are made, the bit is cleared, and all staged
+-- keys are cleared, each group in the order of the changes
 abbrev pub commands_of : List Update → List Command
 commands_of updates = map (λ u. Stage u) updates ++ (On ∷ (map (λ u. Main u) updates ++ (Off ∷ map clear_of updates)))
 

@@ -1,5 +1,6 @@
 -- The two tables of one object on the switch, what a lookup sees of them, and what a command does to them.
-use Rattle.std.specs.Prelude.{ℕ, Bool, true, false, ◌||◌, List, [], ◌∷◌, Option, Some, None, nat_lt, unwrap_or, replicate, if◌then◌else◌}
+use Rattle.std.specs.Prelude.{ℕ, Bool, true, false, ◌||◌, List, [], ◌∷◌, Option, Some, None, nat_lt, unwrap_or}
+use Rattle.std.specs.Prelude.{replicate, if◌then◌else◌}
 use Rattle.std.specs.FinMap as map
 use Rattle.std.specs.FinMap.{FinMap}
 use Rattle.state_store.specs.Store.{Contents, Object, key_cmp, put_answer, put_row, del_row, rows_from}
