@@ -20,7 +20,7 @@ use switch_ir::SwitchPort;
 use told_switch::{quiet_tables_are_the_stores, told_rows_are_the_visible_stores};
 
 /// Loads a switch with the code of a job, performs the job's events, and then, where it is asked for, those that end
-/// the run. After an error the switch is as the calls so far left it.
+/// the run. After an error it is told of the switch only that its count of faults rose, where it failed.
 pub fn replay<S: SwitchPort>(
     alloc: Global,
     job: &Job,
