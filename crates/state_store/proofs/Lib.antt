@@ -4,6 +4,7 @@ mod FittedLaws
 mod Halves
 mod KeptLaws
 mod LawLemmas
+mod NumberLaws
 mod PackLaws
 mod PackSteps
 mod PourLaws

@@ -17,7 +17,7 @@ use Rattle.state_store.specs.Places.{Entries}
 use Rattle.state_store.specs.Store.{key_cmp}
 use Rattle.state_store.proofs.Entries.{is_equal, is_less, left, right}
 
-abbrev Entry : Type 0
+abbrev pub Entry : Type 0
 Entry = List ℕ × List ℕ
 
 -- the order of pairs
@@ -25,13 +25,13 @@ abbrev pub entry_cmp : Entry → Entry → Ordering
 entry_cmp x y = ordering_then (key_cmp x.0 y.0) (key_cmp x.1 y.1)
 
 -- ---- how often a list has an entry
-abbrev same : Entry → Entry → Bool
+abbrev pub same : Entry → Entry → Bool
 same x y = eq_by_cmp key_cmp x.0 y.0 && eq_by_cmp key_cmp x.1 y.1
 
-abbrev once : Entry → Entry → ℕ
+abbrev pub once : Entry → Entry → ℕ
 once d x = cond (same d x) 1 0
 
-abbrev count : Entry → Entries → ℕ
+abbrev pub count : Entry → Entries → ℕ
 count d [] = 0
 count d (x ∷ xs) = once d x + count d xs
 
@@ -47,17 +47,17 @@ same_is x y h =
 once_self : (x : Entry) → once x x ≡ 1
 once_self x = ap₂ (λ a b. cond (is_eq a && is_eq b) 1 0) (tied_itself nat_list_cmp_total x.0) (tied_itself nat_list_cmp_total x.1)
 
-first_or_behind : (d x : Entry) (xs : Entries) → 0 < count d (x ∷ xs) → (d ≡ x) ⊎ (0 < count d xs)
+pub first_or_behind : (d x : Entry) (xs : Entries) → 0 < count d (x ∷ xs) → (d ≡ x) ⊎ (0 < count d xs)
 first_or_behind d x xs some = elim (cases_Bool (same d x)) [
   | inl equal ↦ inl (same_is d x equal)
   | inr other ↦ inr (let behind : 0 < cond false 1 0 + count d xs = subst (λ b. 0 < cond b 1 0 + count d xs) other some in omega arith)
 ]
 
 -- ---- lists that rise
-abbrev AtMost : Entry → Entry → Type 0
+abbrev pub AtMost : Entry → Entry → Type 0
 AtMost x y = is_gt (key_cmp x.0 y.0) ≡ false
 
-abbrev Ascends : Entries → Type 0
+abbrev pub Ascends : Entries → Type 0
 Ascends [] = ⊤
 Ascends (x ∷ xs) = ((d : Entry) → 0 < count d xs → AtMost x d) × Ascends xs
 
@@ -66,8 +66,12 @@ turned Less b h = absurd (true≢false h)
 turned Equal b h = refl
 turned Greater b h = refl
 
-neighbours : (x y : Entry) → is_lt (entry_cmp y x) ≡ false → AtMost x y
+pub neighbours : (x y : Entry) → is_lt (entry_cmp y x) ≡ false → AtMost x y
 neighbours x y h = ap is_gt (nat_list_cmp_total.antisymm x.0 y.0) ∙ turned (key_cmp y.0 x.0) (key_cmp y.1 x.1) h
+
+pub at_most : (x y : Entry) (ys : Entries) (d : Entry) → AtMost x y → ((d : Entry) → 0 < count d ys → AtMost y d) → ((d ≡ y) ⊎ (0 < count d ys)) → AtMost x d
+at_most x y ys d first rest (inl e) = subst (λ z. AtMost x z) (sym e) first
+at_most x y ys d first rest (inr some) = upto nat_list_cmp_total x.0 y.0 d.0 first (rest d some)
 
 ascends : (xs : Entries) → IsSorted entry_cmp xs → Ascends xs
 ascends [] sorted = tt
@@ -77,10 +81,6 @@ ascends (x ∷ y ∷ ys) sorted =
     let rest = ascends (y ∷ ys) tail in
     let first = neighbours x y (sorted 0 x (omega arith) (omega arith)) in
     (λ d some. at_most x y ys d first rest.0 (first_or_behind d y ys some), rest)
-  where
-    at_most : (x y : Entry) (ys : Entries) (d : Entry) → AtMost x y → ((d : Entry) → 0 < count d ys → AtMost y d) → ((d ≡ y) ⊎ (0 < count d ys)) → AtMost x d
-    at_most x y ys d first rest (inl e) = subst (λ z. AtMost x z) (sym e) first
-    at_most x y ys d first rest (inr some) = upto nat_list_cmp_total x.0 y.0 d.0 first (rest d some)
 
 -- an entry behind the first has a greater key
 above : (e d : Entry) (es : Entries) → T (below_all key_cmp e.0 es) → 0 < count d es → key_cmp e.0 d.0 ≡ Less
@@ -120,6 +120,9 @@ one_order (e ∷ es) (y ∷ ys) up rise alike =
     let tail : (d : Entry) → count d ys ≡ count d es = λ d. (let at = alike d in let same_once : once d y ≡ once d e = ap (once d) head in omega arith) in
     ap₂ (λ (z : Entry) zs. z ∷ zs) head (one_order es ys (right _ _ up) rise.1 tail)
 
+pub ascending_is : (es ys : Entries) → T (is_sorted key_cmp es) → IsPermutation ys es → Ascends ys → ys ≡ es
+ascending_is es ys up moved rise =
+    one_order es ys up rise (λ d. sym (count_sum d ys) ∙ sym (sum_by-IsPermutation (once d) ys es moved) ∙ count_sum d es)
+
 pub sorted_is : (es ys : Entries) → T (is_sorted key_cmp es) → IsPermutation ys es → IsSorted entry_cmp ys → ys ≡ es
-sorted_is es ys up moved sorted =
-    one_order es ys up (ascends ys sorted) (λ d. sym (count_sum d ys) ∙ sym (sum_by-IsPermutation (once d) ys es moved) ∙ count_sum d es)
+sorted_is es ys up moved sorted = ascending_is es ys up moved (ascends ys sorted)

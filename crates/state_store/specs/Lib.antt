@@ -6,6 +6,8 @@ pub mod Kept
 pub mod Keeping
 pub mod Once
 pub mod Laws
+pub mod Listing
+pub mod Listed
 pub mod Packing
 pub mod Places
 pub mod Sizes

@@ -42,6 +42,11 @@ abbrev pub with_slot : Rows → Option Row → Rows
 with_slot rows None = rows
 with_slot rows (Some row) = map.insert rows row.0 row.1
 
+-- what is there as a list
+abbrev pub option_list : Option (ℕ × ℕ) → List (ℕ × ℕ)
+option_list None = []
+option_list (Some row) = row ∷ []
+
 -- the lists that were packed into the two numbers of a slot
 abbrev pub listed : ℕ → ℕ → List ℕ → List ℕ → Option (ℕ × ℕ) → Entries
 listed key_words value_words keys values None = []

@@ -1,4 +1,5 @@
 //! A slot table with one word or two in a key and in a value. Keys and values go in and come out as numbers.
+ghost use Rattle.std.specs.Prelude.{map as list_map, ◌++◌};
 ghost use Rattle.std.specs.Prelude.{◌≡◌, ℕ, ◌*◌, ◌<◌, ◌≤◌, ◌^◌, false, length, if◌then◌else◌, IfOk, IfSome, option_map};
 ghost use Rattle.std.specs.FinMap as map;
 ghost use Rattle.slot_table.specs.Table.{IsWords, IsLaidOut, held, is_full};
@@ -158,6 +159,30 @@ pub fn slot(any: &AnyTable, i: usize) -> Option<(u128, u128)>
         Some(row) => Some((number(&row.0), number(&row.1))),
         None => None,
     })
+}
+
+/// The rows as numbers, from slot to slot.
+pub fn numbers(alloc: Global, any: &AnyTable) -> Result<Vec<(u128, u128)>, NoMemory>
+    ensures rows { IfOk result (λ made.
+        made.items ≡ list_map of.row_numbers (of.slot_rows (of.table_of any.now).slots)) }
+    ensures laid { IfOk result (λ _. IsLaidOut (of.table_of any.now).rows (of.table_of any.now).slots) }
+{
+    let mut made = Vec::with_capacity(alloc, len(any))?;
+    for i in 0..slots(any) {
+        let row = slot(any, i);
+        push_row(&mut made, row)?;
+    }
+    Ok(made)
+}
+
+// Pushes what a slot holds.
+fn push_row(made: &mut Vec<(u128, u128)>, slot: Option<(u128, u128)>) -> Result<(), NoMemory>
+    ensures { IfOk result (λ _. made.new.items ≡ made.old.items ++ of.option_list slot) }
+{
+    if let Some(row) = slot {
+        made.push(row)?;
+    }
+    Ok(())
 }
 
 /// The same table again, with memory of its own for as many rows.

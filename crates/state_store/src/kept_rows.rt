@@ -5,6 +5,7 @@ ghost use Rattle.state_store.specs.Bounded.{CanUnpack, HasSize, is_full_in, pack
 ghost use Rattle.state_store.specs.Bounded.{unpacked_entries};
 ghost use Rattle.state_store.specs.Store.{rows_from};
 
+use crate::listing::Listing;
 use crate::object::Rows;
 use crate::packed_rows::{Kept, PackedRows};
 use crate::sorted_rows::{del_sorted, get_sorted, list_rows, place, put_sorted, store_at};
@@ -107,16 +108,22 @@ impl KeptRows {
         }
     }
 
+    /// The rows, in rising order of their keys, as they lie in memory.
+    pub fn list(&self, alloc: Global) -> Result<Listing, NoMemory>
+        ensures { IfOk result (λ made. made ≡ rows_from (map.entries self.now.contents)) }
+    {
+        match &self.packed {
+            Some(rows) => Ok(Listing::packed(rows.list(alloc)?)),
+            None => Ok(Listing::plain(list_rows(alloc, &self.sorted)?)),
+        }
+    }
+
     /// The rows, in rising order of their keys.
     pub fn rows(&self, alloc: Global) -> Result<Rows, NoMemory>
         ensures { IfOk result (λ rows. rows ≡ rows_from (map.entries self.now.contents)) }
     {
         match &self.packed {
-            Some(rows) => {
-                let mut sorted = Vec::with_capacity(alloc, rows.len())?;
-                rows.pour(&mut sorted)?;
-                list_rows(alloc, &sorted)
-            }
+            Some(rows) => rows.list(alloc)?.to_rows(alloc),
             None => list_rows(alloc, &self.sorted),
         }
     }

@@ -4,7 +4,9 @@
 mod any_table;
 mod kept_rows;
 mod laws;
+mod listing;
 mod object;
+mod packed_list;
 mod packed_rows;
 mod packing;
 mod sorted_rows;
@@ -14,5 +16,6 @@ mod stored;
 mod tests;
 
 pub use laws::{rows_change_alone, rows_that_stay_are_never_full};
+pub use listing::Listing;
 pub use object::{Kind, ObjectDecl, Objects, Row, Rows};
 pub use store::{Found, Put, Store};

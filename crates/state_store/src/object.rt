@@ -50,6 +50,15 @@ impl Rows {
         }
     }
 
+    /// No rows yet, with the memory for so many.
+    pub fn with_capacity(alloc: Global, rows: usize) -> Result<Rows, NoMemory>
+        ensures { IfOk result (λ made. made ≡ []) }
+    {
+        Ok(Rows {
+            items: Vec::with_capacity(alloc, rows)?,
+        })
+    }
+
     pub fn as_slice(&self) -> &[Row]
         ensures { result.now ≡ self.now }
     {

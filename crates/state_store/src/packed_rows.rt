@@ -5,9 +5,11 @@ ghost use Rattle.std.specs.FinMap as map;
 ghost use Rattle.std.specs.Prelude.{map as list_map};
 ghost use Rattle.state_store.specs.Fitted.{IsRoomy, keep_answer, kept_by, kept_row, packing_of, unpacked_row};
 ghost use Rattle.state_store.specs.Sizes.{key_words, listed, slot_rows, table_of, value_words};
+ghost use Rattle.state_store.specs.Store.{rows_from};
 ghost use Rattle.slot_table.specs.Table.{IsLaidOut};
 
 use crate::any_table::{self, AnyTable};
+use crate::packed_list::PackedList;
 use crate::packing::{packed, parts, words_for};
 use gal_bits::{Values, Widths};
 use gal_io::NoMemory;
@@ -128,6 +130,21 @@ impl PackedRows {
         ensures within { map.len self.now.contents ≤ self.now.capacity }
     {
         any_table::len(&self.table)
+    }
+
+    /// The rows in rising order of their keys, still packed.
+    pub fn list(&self, alloc: Global) -> Result<PackedList, NoMemory>
+        ensures { IfOk result (λ made. made ≡ rows_from (map.entries self.now.contents)) }
+    {
+        let mut numbers = any_table::numbers(alloc, &self.table)?;
+        numbers.sort_unstable();
+        Ok(PackedList::new(
+            self.keys,
+            self.values,
+            key_bits(&self.table),
+            value_bits(&self.table),
+            numbers,
+        ))
     }
 
     /// Lists the rows in rising order of their keys.

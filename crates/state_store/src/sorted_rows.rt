@@ -103,7 +103,7 @@ fn has_no_room(place: Result<usize, usize>, size: usize, rows: usize) -> bool
 pub fn list_rows(alloc: Global, entries: &[(Values, Values)]) -> Result<Rows, NoMemory>
     ensures { IfOk result (λ rows. rows ≡ rows_from entries.now) }
 {
-    let mut rows = Rows::new(alloc);
+    let mut rows = Rows::with_capacity(alloc, entries.len())?;
     for (keys, values) in entries {
         rows.push(Row {
             keys: *keys,

@@ -4,6 +4,7 @@ ghost use Rattle.state_store.specs.declared.store.Put.TheVariants.{Stored};
 ghost use Rattle.state_store.specs.Store.{object_at, with_object, start_store, look, looked_up, put_answer, put_row};
 ghost use Rattle.state_store.specs.Store.{del_row, rows_of};
 
+use crate::listing::Listing;
 use crate::object::{Objects, Rows};
 use crate::stored::StoredObject;
 use gal_bits::Values;
@@ -104,6 +105,18 @@ impl Store {
             stored.del(key)
         } else {
             false
+        }
+    }
+
+    /// The rows of an object, in rising order of their keys, as they lie in memory.
+    pub fn list(&self, alloc: Global, object: u32) -> Result<Listing, NoMemory>
+        ensures { IfOk result (λ made. made ≡ rows_of (object_at self.now object)) }
+    {
+        let number = object as usize;
+        if number < self.objects.len() {
+            self.objects[number].list(alloc)
+        } else {
+            Ok(Listing::plain(Rows::new(alloc)))
         }
     }
 

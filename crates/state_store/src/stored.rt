@@ -5,6 +5,7 @@ ghost use Rattle.state_store.specs.Store.{Object, start_object, look, looked_up,
 ghost use Rattle.state_store.specs.Store.{with_rows, zeros_from, is_out};
 
 use crate::kept_rows::KeptRows;
+use crate::listing::Listing;
 use crate::object::{Kind, ObjectDecl, Row, Rows};
 use crate::store::{Found, Put};
 use gal_bits::Values;
@@ -120,6 +121,13 @@ impl StoredObject {
         ensures unchanged { result ≡ false → self.new ≡ self.old }
     {
         self.rows.del(key)
+    }
+
+    /// The rows, in rising order of their keys, as they lie in memory.
+    pub fn list(&self, alloc: Global) -> Result<Listing, NoMemory>
+        ensures { IfOk result (λ made. made ≡ rows_of self.now) }
+    {
+        self.rows.list(alloc)
     }
 
     /// The rows, in rising order of their keys.

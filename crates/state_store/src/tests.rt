@@ -1,5 +1,5 @@
 //! What no clause can say: that calls succeed with ample memory.
-use crate::{Kind, ObjectDecl, Objects, Put, Row, Rows, Store};
+use crate::{Kind, Listing, ObjectDecl, Objects, Put, Row, Rows, Store};
 use gal_bits::{Values, Widths};
 use gal_io::{Bytes, NoMemory};
 use std::alloc::Global;
@@ -104,6 +104,15 @@ fn lists(rt: &impl Abort, rows: &Rows, object: u32, wanted: &[(&[u64], &[u64])])
     }
 }
 
+fn walks(rt: &impl Abort, listing: &Listing, object: u32, wanted: &[(&[u64], &[u64])]) {
+    assert_eq!(rt; listing.len(), wanted.len(), "listed rows of {object}");
+    for (place, (keys, numbers)) in wanted.iter().enumerate() {
+        let row = listing.get(place).expect(rt, "a listed row");
+        assert_eq!(rt; row.keys, values(keys), "a listed key of {object}");
+        assert_eq!(rt; row.values, values(numbers), "listed values of {object}");
+    }
+}
+
 #[test]
 fn calls_answer(rt: HostRuntime) -> Result<(), Fail> {
     use Call::{Dels, Finds, Lacks, Lists, Puts};
@@ -165,7 +174,10 @@ fn calls_answer(rt: HostRuntime) -> Result<(), Fail> {
                     "del of {key:?} in {object}"
                 );
             }
-            Lists(object, wanted) => lists(&rt, &store.rows(alloc, *object)?, *object, wanted),
+            Lists(object, wanted) => {
+                lists(&rt, &store.rows(alloc, *object)?, *object, wanted);
+                walks(&rt, &store.list(alloc, *object)?, *object, wanted);
+            }
         }
     }
     Ok(())
@@ -183,5 +195,6 @@ fn copies_are_apart(rt: HostRuntime) -> Result<(), Fail> {
     finds(&rt, &store, INT, &[], true, &[9]);
     let rows = copy.rows(alloc, MAP)?.copy(alloc)?;
     assert!(rt; rows.is_empty());
+    assert!(rt; copy.list(alloc, MAP)?.is_empty());
     Ok(())
 }

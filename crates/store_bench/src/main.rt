@@ -4,7 +4,7 @@
 
 use gal_bits::{Values, Widths};
 use gal_io::{Bytes, NoMemory};
-use state_store::{Kind, ObjectDecl, Objects, Put, Rows, Store};
+use state_store::{Kind, Listing, ObjectDecl, Objects, Put, Rows, Store};
 use std::alloc::Global;
 use std::env;
 use std::process::ExitCode;
@@ -122,7 +122,18 @@ fn list(alloc: Global, order: Order) -> Result<Option<usize>, NoMemory> {
     if !filled || !full || !finds_all(&store, order) {
         return Ok(None);
     }
-    Ok(Some(store.rows(alloc, MAP)?.len()))
+    Ok(Some(walked(&store.list(alloc, MAP)?)))
+}
+
+// How many rows a listing has, gone through one by one.
+fn walked(listing: &Listing) -> usize {
+    let mut count = 0;
+    for place in 0..listing.len() {
+        if listing.get(place).is_some() && count < usize::MAX {
+            count += 1;
+        }
+    }
+    count
 }
 
 fn main(rt: HostRuntime) -> ExitCode {

@@ -7,5 +7,5 @@ use Rattle.state_store.proofs.kept_rows.KeptRows.rows.Goals as goal
 pub returns-in-None : goal.returns-in-None
 returns-in-None c =
     let es = c.self.inside.sorted.items in
-    let same = ap rows_from (c.deref-in-None.ensures.value ∙ sym (entries-from_sorted key_cmp es c.self.invariant.sorted)) ∙ ap (λ q. rows_from (entries (contents_in q es))) (sym c.in-None.is) ∙ ap (λ b. rows_from (entries b.contents)) c.self.view_is in
-    subst (λ l. IfOk c.list_rows-in-None.result (λ rows. rows ≡ l)) same c.list_rows-in-None.ensures
+    let same = ap rows_from (c.deref.ensures.value ∙ sym (entries-from_sorted key_cmp es c.self.invariant.sorted)) ∙ ap (λ q. rows_from (entries (contents_in q es))) (sym c.in-None.is) ∙ ap (λ b. rows_from (entries b.contents)) c.self.view_is in
+    subst (λ l. IfOk c.list_rows.result (λ rows. rows ≡ l)) same c.list_rows.ensures
