@@ -99,7 +99,7 @@ fn lists_a_chain_of_sums(rt: HostRuntime) -> Result<(), Fail> {
 }
 
 #[test]
-#[tactic(auto, using(crate::proofs::KeptRows::nothing_to_keep))]
+#[tactic(auto, using(crate::proofs::NothingKept::nothing_to_keep))]
 fn sends_by_the_length_and_3(rt: HostRuntime) -> Result<(), Fail> {
     let alloc = rt.alloc();
     let f = chain(alloc)?;
