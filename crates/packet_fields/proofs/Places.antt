@@ -10,8 +10,8 @@ use Rattle.packet_fields.specs.declared.field.Header.TheVariants.{Meta, Ethernet
 use Rattle.packet_fields.specs.declared.shape.Shape.{Shape}
 use Rattle.packet_fields.specs.Fields.{place, NoneOverlap}
 use Rattle.packet_fields.specs.Shape.{Outline, outline_of, network_start, after_ip, has_ip, carries, shape_from, shape_of, start_of}
-use Rattle.packet_fields.specs.Table.{row, all_fields, field_index as rank}
-use Rattle.packet_fields.proofs.FieldList.{same_rank, each_of, of_each, of_each_pair}
+use Rattle.packet_fields.specs.Table.{row, all_fields, field_index}
+use Rattle.packet_fields.specs.FieldOrder.{same_index, each_of, of_each, of_each_pair}
 
 -- ---- within a header
 abbrev pub header_rank : Header → ℕ
@@ -54,7 +54,7 @@ first_bit_near f = omega (arith, within_header f, header_bits-le (row f).header)
 
 -- two fields are one, or in different headers, or in none, or the first ends before the second, or the second before the first
 abbrev pub are_apart : Field → Field → Bool
-are_apart f g = rank f == rank g || not (header_rank (row f).header == header_rank (row g).header) || header_rank (row f).header == 0
+are_apart f g = field_index f == field_index g || not (header_rank (row f).header == header_rank (row g).header) || header_rank (row f).header == 0
     || nat_le ((row f).at + (row f).width) (row g).at || nat_le ((row g).at + (row g).width) (row f).at
 
 all_apart : each_of (λ f. each_of (are_apart f) all_fields) all_fields ≡ true
@@ -67,8 +67,8 @@ apart_by_test i j h k a b c d test other same some = grind (arith, nat_tests)
 apart_in_header : (f g : Field) → f ≢ g → header_rank (row f).header ≢ 0 → header_rank (row f).header ≡ header_rank (row g).header
     → ((row f).at + (row f).width ≤ (row g).at) ⊎ ((row g).at + (row g).width ≤ (row f).at)
 apart_in_header f g other some same =
-    apart_by_test (rank f) (rank g) (header_rank (row f).header) (header_rank (row g).header) ((row f).at + (row f).width) (row g).at ((row g).at + (row g).width) (row f).at
-    (of_each_pair are_apart all_apart f g) (λ e. other (same_rank f g e)) same some
+    apart_by_test (field_index f) (field_index g) (header_rank (row f).header) (header_rank (row g).header) ((row f).at + (row f).width) (row g).at ((row g).at + (row g).width) (row f).at
+    (of_each_pair are_apart all_apart f g) (λ e. other (same_index f g e)) same some
 
 -- ---- the headers of a packet
 -- where the network header starts, or would

@@ -24,18 +24,6 @@ pub place_within_packet : (shape : Shape) (bytes : List ℕ) (f : Field) (first 
 place_within_packet shape bytes f first width is at w =
     omega (arith, w, place_within (shape_of bytes) (length bytes) f first (stands_in bytes) (sym (at ∙ ap (λ (x : Shape). place x f) is)))
 
-one_bit : (b : Bool) → cond b 1 0 < 2 ^ 1
-one_bit true = lit< tt
-one_bit false = lit< tt
-
-pub meta_value_fits : (bytes : ℕ) (shape : Shape) (port : ℕ) (f : Field) → bytes ≤ largest_packet → port < 2 ^ 8 → meta_value bytes shape port f < 2 ^ (row f).width
-meta_value_fits bytes shape port MetaPort size fits = fits
-meta_value_fits bytes shape port MetaLen size fits = omega arith
-meta_value_fits bytes shape port HasIp size fits = one_bit (is_some shape.ip)
-meta_value_fits bytes shape port HasTcp size fits = one_bit (is_some shape.tcp)
-meta_value_fits bytes shape port HasUdp size fits = one_bit (is_some shape.udp)
-meta_value_fits bytes shape port f size fits = pow_pos (row f).width
-
 -- ---- a field set at its place
 pub value_there : (bytes : List ℕ) (port : ℕ) (f : Field) (first : ℕ) → place (shape_of bytes) f ≡ Some first → field_value bytes port f ≡ number_at bytes first (row f).width
 unfolding field_value

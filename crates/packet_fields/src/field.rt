@@ -203,7 +203,7 @@ fn find_named(name: &[u8]) -> Option<Field>
 }
 
 /// How wide the field's values are.
-#[tactic(auto, using(crate::proofs::FieldList::width_range))]
+#[tactic(auto, using(crate::specs::FieldOrder::width_range))]
 pub fn width(field: Field) -> Width
     ensures { result ≡ (row field).width }
 {
