@@ -20,7 +20,7 @@ use Rattle.state_store.specs.Kept.{have_widths}
 use Rattle.element_lang.specs.Rules.{same_widths}
 use Rattle.element_interp.specs.Arrivals.{IsArrival}
 use Rattle.element_interp.specs.Fields.{AllFit}
-use Rattle.element_interp.proofs.FieldOrder.{at_index, index-lt, length-all_fields}
+use Rattle.packet_fields.specs.FieldOrder.{at_index, index-lt, length-all_fields}
 use Rattle.element_interp.proofs.Tests.{left, right}
 use Rattle.packet_fields.specs.declared.packet.TheConstants.{MAX_PACKET_BYTES}
 

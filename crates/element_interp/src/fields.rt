@@ -8,14 +8,14 @@ ghost use Rattle.packet_fields.specs.Sizes.{largest_packet};
 
 use gal_bits::{Op, eval};
 use gal_io::{Bytes, NoMemory};
-use packet_fields::{Field, Shape, field_index, fields, get, set, width, writable};
+use packet_fields::{FIELD_COUNT, Field, Shape, field_index, fields, get, set, width, writable};
 use std::alloc::Global;
 use std::marker::Model;
 
 /// The value of each field, in field order. Each fits its field.
 #[derive(Clone, Copy, Debug)]
 pub(crate) struct FieldValues {
-    values: [u64; 34],
+    values: [u64; FIELD_COUNT],
 }
 
 impl Model for FieldValues {
@@ -54,7 +54,7 @@ impl FieldValues {
         requires shape { shape.now ≡ shape_of packet.now }
         ensures { result ≡ map (field_value packet.now port) all_fields }
     {
-        let mut values = [0; 34];
+        let mut values = [0; FIELD_COUNT];
         for (i, field) in fields().iter().enumerate() {
             values[i] = get(packet, port, shape, *field);
         }

@@ -13,7 +13,7 @@ use Rattle.packet_fields.specs.Table.{row, all_fields, field_index}
 use Rattle.state_store.specs.Kept.{have_widths}
 use Rattle.element_lang.specs.Rules.{same_widths}
 use Rattle.flatten.specs.Flatten.{field_widths}
-use Rattle.flatten.proofs.FieldOrder.{at_index, index-lt, length-all_fields}
+use Rattle.packet_fields.specs.FieldOrder.{at_index, index-lt, length-all_fields}
 use Rattle.flatten.proofs.BothParts.{left, right}
 
 -- the values at all places fit the widths there

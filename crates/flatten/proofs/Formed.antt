@@ -27,7 +27,7 @@ use Rattle.flatten.specs.Flatten.{Given, View, At, Valued, Listed, Flattener, re
 use Rattle.flatten.specs.Occurs.{same_field, is_in_expr, is_in_exprs, is_in_stmt, is_in_body}
 use Rattle.flatten.proofs.BothParts.{left, right}
 use Rattle.flatten.proofs.Fitting.{same_list, field_width_at}
-use Rattle.flatten.proofs.FieldOrder.{at_index}
+use Rattle.packet_fields.specs.FieldOrder.{at_index}
 use Rattle.flatten.proofs.GoodSizes.{Wide, wide_in, wide_both, field_wide, binds_wide}
 use Rattle.flatten.proofs.Growth.{Grows, grows, then_grows, emit_grows, open_grows, expr_grows, exprs_grow, merge_id_grows, merge_ids_grow, merge_ended_grows, join_grows, Growing, second_grows, turn_grows, turns_grow, stmt_grows, body_grows}
 use Rattle.flatten.proofs.Meanings.{or_left, or_right}

@@ -16,7 +16,7 @@ use Rattle.flat_ir.specs.WellFormed.{IsOutput, IsWritten, AreInOrder, IsWellForm
 use Rattle.flatten.specs.Flatten.{Given, Scoped, Merged, root, constants, emit, same_id, give_field, give_fields, arrived, start_view, end_of, flat_of, changed, all_changed}
 use Rattle.flatten.specs.Occurs.{is_in_body}
 use Rattle.flatten.proofs.BothParts.{left, right}
-use Rattle.flatten.proofs.FieldOrder.{at_index, index-lt, length-all_fields}
+use Rattle.packet_fields.specs.FieldOrder.{at_index, index-lt, length-all_fields}
 use Rattle.flatten.proofs.Growth.{Grows, grows, then_grows, emit_grows, body_grows}
 use Rattle.flatten.proofs.Meanings.{same_itself}
 use Rattle.flatten.proofs.Views.{HasId, IsThere}

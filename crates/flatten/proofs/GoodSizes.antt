@@ -5,7 +5,7 @@ use Rattle.std.specs.List.{list_any, list_all}
 use Rattle.gal_bits.specs.declared.op.Op.{Op}
 use Rattle.gal_bits.specs.declared.op.Op.TheVariants.{Add, Sub, Mul, Div, Rem, And, Or, Xor, Not, Shl, Shr, Eq, Ne, Lt, Le, Cast, Select, Adjust}
 use Rattle.packet_fields.specs.declared.field.Field.{Field}
-use Rattle.packet_fields.specs.declared.field.Field.TheVariants.{MetaPort, MetaLen, HasIp, HasTcp, HasUdp, EthDst, EthSrc, EthType, IpVersion, IpIhl, IpTos, IpLen, IpId, IpFlags, IpFrag, IpTtl, IpProto, IpSum, IpSrc, IpDst, TcpSport, TcpDport, TcpSeq, TcpAck, TcpOff, TcpRes, TcpFlags, TcpWin, TcpSum, TcpUrg, UdpSport, UdpDport, UdpLen, UdpSum}
+use Rattle.packet_fields.specs.FieldOrder.{width_range}
 use Rattle.packet_fields.specs.Table.{row}
 use Rattle.state_store.specs.declared.object.Kind.{Kind}
 use Rattle.state_store.specs.declared.object.Kind.TheVariants.{Table, Map, Vector, Int}
@@ -40,40 +40,7 @@ wide_both ws [] ys p q = q
 wide_both ws (x ∷ xs) ys p q = (p.0, wide_both ws xs ys p.1 q)
 
 pub field_wide : (f : Field) → 1 ≤ (row f).width
-field_wide MetaPort = omega arith
-field_wide MetaLen = omega arith
-field_wide HasIp = omega arith
-field_wide HasTcp = omega arith
-field_wide HasUdp = omega arith
-field_wide EthDst = omega arith
-field_wide EthSrc = omega arith
-field_wide EthType = omega arith
-field_wide IpVersion = omega arith
-field_wide IpIhl = omega arith
-field_wide IpTos = omega arith
-field_wide IpLen = omega arith
-field_wide IpId = omega arith
-field_wide IpFlags = omega arith
-field_wide IpFrag = omega arith
-field_wide IpTtl = omega arith
-field_wide IpProto = omega arith
-field_wide IpSum = omega arith
-field_wide IpSrc = omega arith
-field_wide IpDst = omega arith
-field_wide TcpSport = omega arith
-field_wide TcpDport = omega arith
-field_wide TcpSeq = omega arith
-field_wide TcpAck = omega arith
-field_wide TcpOff = omega arith
-field_wide TcpRes = omega arith
-field_wide TcpFlags = omega arith
-field_wide TcpWin = omega arith
-field_wide TcpSum = omega arith
-field_wide TcpUrg = omega arith
-field_wide UdpSport = omega arith
-field_wide UdpDport = omega arith
-field_wide UdpLen = omega arith
-field_wide UdpSum = omega arith
+field_wide f = (width_range f).0
 
 -- each of these widths is that of something
 abbrev AllWide : List ℕ → Type 0

@@ -5,7 +5,6 @@ pub mod Trees
 pub mod GoodSizes
 pub mod Branches
 pub mod BothParts
-pub mod FieldOrder
 pub mod Fitting
 pub mod KeptRuns
 pub mod Views

@@ -40,7 +40,7 @@ use Rattle.flatten.specs.Occurs.{same_field, is_in_expr, is_in_exprs, is_in_stmt
 use Rattle.flatten.proofs.BothParts.{left, right}
 use Rattle.flatten.proofs.Views.{Below, InRange, Meets, Agree, HasId, IsThere, range_more, range_at, range_set, meets_more, agree_more, agree_at, agree_set, there_set, there_new, Knows, known_at, knows_later, range_scope, agree_scope, there_scope}
 use Rattle.flatten.proofs.Fitting.{AtWidths, at_place}
-use Rattle.flatten.proofs.FieldOrder.{at_index}
+use Rattle.packet_fields.specs.FieldOrder.{at_index}
 use Rattle.flatten.proofs.Writes.{bit_same, put_tells, del_tells}
 use Rattle.std.proofs.lemmas.List.{get_or-set_other}
 use Rattle.packet_fields.specs.declared.field.Field.TheVariants.{MetaPort}

@@ -24,7 +24,7 @@ use Rattle.flat_ir.specs.Run.{with_writes, verdict, flat_store, flat_verdict}
 use Rattle.flatten.specs.Flatten.{Given, Scoped, Merged, nought, one, emit, root, constants, give_field, give_fields, arrived, start_view, end_of, flat_of, field_widths, all_changed}
 use Rattle.flatten.specs.Occurs.{is_in_body}
 use Rattle.flatten.proofs.BothParts.{right}
-use Rattle.flatten.proofs.FieldOrder.{at_index, index-lt, length-all_fields}
+use Rattle.packet_fields.specs.FieldOrder.{at_index, index-lt, length-all_fields}
 use Rattle.flatten.proofs.Views.{Below, InRange, Meets, Agree, HasId, IsThere, below_more, meets_more, agree_more, range_none, agree_none}
 use Rattle.flatten.proofs.KeptRuns.{start_fits}
 use Rattle.flatten.proofs.Meanings.{run, get, Grows, grows_refl, grows_trans, grows_emit, emit_length, emit_reads, emit_still, here_root, Based, based_later, Within, Shown, Going, Leaves, Stands, Sound, body_sound}

@@ -6,12 +6,12 @@ ghost use Rattle.element_lang.specs.View.{expr_tree, expr_trees, stmt_tree, body
 ghost use Rattle.flatten.specs.Occurs.{same_field, is_in_expr, is_in_exprs, is_in_stmt, is_in_body};
 
 use element_lang::{Expr, Stmt};
-use packet_fields::{Field, field_index};
+use packet_fields::{FIELD_COUNT, Field, field_index};
 
 /// For each field, in field order, whether it has been seen.
 #[derive(Clone, Copy, Debug)]
 pub(crate) struct Seen {
-    marks: [bool; 34],
+    marks: [bool; FIELD_COUNT],
 }
 
 impl Seen {
@@ -19,7 +19,7 @@ impl Seen {
     pub fn new() -> Seen
         ensures { (f : Field) → get_or result.marks (field_index f) false ≡ false }
     {
-        Seen { marks: [false; 34] }
+        Seen { marks: [false; FIELD_COUNT] }
     }
 
     pub fn has(&self, field: Field) -> bool

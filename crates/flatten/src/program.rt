@@ -24,7 +24,7 @@ use element_lang::{Middlebox, Stmt};
 use flat_ir::{Blocks, Code, FieldValue, Flat, Instr, InstrKind, Out, ValueId};
 use gal_bits::Width;
 use gal_io::NoMemory as Want;
-use packet_fields::{Field, fields};
+use packet_fields::{FIELD_COUNT, Field, fields};
 use std::alloc::{AllocFailed, Global};
 
 // A number in the root.
@@ -70,7 +70,7 @@ impl Output {
             block: 0,
             looped: false,
         };
-        let mut ids = Vec::with_capacity(alloc, 34)?;
+        let mut ids = Vec::with_capacity(alloc, FIELD_COUNT)?;
         for field in fields() {
             let id = if seen.has(field) {
                 Some(self.give(root, InstrKind::Field(field))?)

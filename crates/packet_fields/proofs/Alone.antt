@@ -1,4 +1,4 @@
--- A field set to its own value leaves the packet, and values fit their widths.
+-- A field set to its own value leaves the packet, and bytes stay bytes.
 use Rattle.std.proofs.Common.{◌≡◌, ℕ, ◌+◌, ◌-◌, ◌*◌, ◌^◌, ◌<◌, ◌≤◌, List, length, refl, sym, ap, ◌∙◌, subst, arith, lit<, Option, Some, None, unwrap_or, ⊎_elim}
 use Rattle.std.proofs.lemmas.Bool.{cases_lt}
 use Rattle.std.proofs.lemmas.List.{get_or_past}
@@ -11,8 +11,9 @@ use Rattle.packet_fields.specs.Several.{AreBytes}
 use Rattle.packet_fields.specs.Shape.{shape_of}
 use Rattle.packet_fields.specs.Sizes.{largest_packet}
 use Rattle.packet_fields.specs.Table.{row}
-use Rattle.packet_fields.proofs.BitRows.{AreBits, bit_of-lt, spelled-lt, spelled-middle, spelled-one, spelled-same, replaced_inside, replaced_before, replaced_behind, replaced-lt, byte_of, length-bytes_of, get_or-bytes_of, is_bytes_of}
-use Rattle.packet_fields.proofs.SetFields.{value_there, meta_value_fits, with_field_there, with_field_absent}
+use Rattle.packet_fields.specs.Fitting.{AreBits, bit_of-lt, spelled-lt}
+use Rattle.packet_fields.proofs.BitRows.{spelled-middle, spelled-one, spelled-same, replaced_inside, replaced_before, replaced_behind, replaced-lt, byte_of, length-bytes_of, get_or-bytes_of, is_bytes_of}
+use Rattle.packet_fields.proofs.SetFields.{value_there, with_field_there, with_field_absent}
 
 -- a bit of the number that a range spells
 own_bit : (row : ℕ → ℕ) (s w n : ℕ) → AreBits row → s ≤ n → n < s + w → bit_at (spelled row s w) (s + w - 1 - n) ≡ row n
@@ -66,13 +67,3 @@ small_by bytes f value are (Some first) at = subst AreBytes (sym (with_field_the
 
 pub small_after : (bytes : List ℕ) (f : Field) (value : ℕ) → AreBytes bytes → AreBytes (with_field bytes f value)
 small_after bytes f value are = small_by bytes f value are (place (shape_of bytes) f) refl
-
-either_fits : (number : ℕ → ℕ) (other bound : ℕ) (o : Option ℕ) → ((n : ℕ) → number n < bound) → other < bound → unwrap_or (option_map number o) other < bound
-either_fits number other bound None each rest = rest
-either_fits number other bound (Some n) each rest = each n
-
-pub value_fits : (bytes : List ℕ) (port : ℕ) (f : Field) → length bytes ≤ largest_packet → port < 2 ^ 8 → field_value bytes port f < 2 ^ (row f).width
-unfolding field_value
-value_fits bytes port f size fits =
-    either_fits (λ first. number_at bytes first (row f).width) (meta_value (length bytes) (shape_of bytes) port f) (2 ^ (row f).width) (place (shape_of bytes) f)
-    (λ first. spelled-lt (bit_of bytes) first (row f).width (bit_of-lt bytes)) (meta_value_fits (length bytes) (shape_of bytes) port f size fits)

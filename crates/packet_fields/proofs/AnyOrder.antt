@@ -7,9 +7,9 @@ use Rattle.packet_fields.specs.Bits.{with_number_at}
 use Rattle.packet_fields.specs.Fields.{place, field_value, with_field}
 use Rattle.packet_fields.specs.Several.{Setting, with_fields, CanBeSet, IsUnset, AreDistinct, IsSetTo, Choice, with_chosen, with_each, in_field_order, choice_of, or_else, both, MayBeWritten, AreApart, IsAsChosen}
 use Rattle.packet_fields.specs.Shape.{shape_of}
-use Rattle.packet_fields.specs.Table.{row, all_fields, field_index as rank}
+use Rattle.packet_fields.specs.Table.{row, all_fields, field_index}
 use Rattle.packet_fields.proofs.BitRows.{length-with_number_at, with_number_at_swapped}
-use Rattle.packet_fields.proofs.FieldList.{same_rank, each_of, of_each}
+use Rattle.packet_fields.specs.FieldOrder.{same_index, each_of, of_each}
 use Rattle.packet_fields.proofs.Places.{none_overlap}
 use Rattle.packet_fields.proofs.SetFields.{shape_stays, with_field_there, with_field_absent, other_value, IsSet, field_set}
 
@@ -132,17 +132,17 @@ NoneTwice (f ∷ fs) = (Has f fs → ⊥) × NoneTwice fs
 
 abbrev has : Field → List Field → Bool
 has f [] = false
-has f (g ∷ gs) = rank g == rank f || has f gs
+has f (g ∷ gs) = field_index g == field_index f || has f gs
 
 abbrev none_twice : List Field → Bool
 none_twice [] = true
 none_twice (f ∷ fs) = not (has f fs) && none_twice fs
 
-same_test : (f g : Field) → f ≡ g → (rank f == rank g) ≡ true
-same_test f g e = grind (arith, ap rank e)
+same_test : (f g : Field) → f ≡ g → (field_index f == field_index g) ≡ true
+same_test f g e = grind (arith, ap field_index e)
 
-other_test : (f g : Field) → f ≢ g → (rank f == rank g) ≡ false
-other_test f g other = elim (cases_Bool (rank f == rank g)) [ inl same ↦ absurd (other (same_rank f g (eqb-true (rank f) (rank g) same))) | inr not_same ↦ not_same ]
+other_test : (f g : Field) → f ≢ g → (field_index f == field_index g) ≡ false
+other_test f g other = elim (cases_Bool (field_index f == field_index g)) [ inl same ↦ absurd (other (same_index f g (eqb-true (field_index f) (field_index g) same))) | inr not_same ↦ not_same ]
 
 or_true : (b c : Bool) → b ≡ true → (b || c) ≡ true
 or_true b c e = cc
@@ -153,8 +153,8 @@ has_it f (g ∷ gs) h = elim h [ inl here ↦ rw (same_test g f here) refl | inr
 
 it_is_there : (f : Field) (fs : List Field) → has f fs ≡ true → Has f fs
 it_is_there f [] test = absurd (true≢false (sym test))
-it_is_there f (g ∷ gs) test = elim (cases_Bool (rank g == rank f)) [
-  | inl same ↦ inl (same_rank g f (eqb-true (rank g) (rank f) same))
+it_is_there f (g ∷ gs) test = elim (cases_Bool (field_index g == field_index f)) [
+  | inl same ↦ inl (same_index g f (eqb-true (field_index g) (field_index f) same))
   | inr other ↦ inr (it_is_there f gs (rw other at test))
 ]
 
@@ -213,8 +213,8 @@ set_past gs bytes c d f g value adds other rest (Some x) is =
 -- a field that is set before all others may be set in its place
 set_in_place : (fs : List Field) (bytes : List ℕ) (c d : Choice) (f : Field) (value : ℕ) → Adds c d f value → NoneTwice fs → Has f fs → with_each (with_field bytes f value) c fs ≡ with_each bytes d fs
 set_in_place [] bytes c d f value adds none has = absurd has
-set_in_place (g ∷ gs) bytes c d f value adds none has = elim (cases_Bool (rank f == rank g)) [
-  | inl same ↦ let is : f ≡ g = same_rank f g (eqb-true (rank f) (rank g) same) in
+set_in_place (g ∷ gs) bytes c d f value adds none has = elim (cases_Bool (field_index f == field_index g)) [
+  | inl same ↦ let is : f ≡ g = same_index f g (eqb-true (field_index f) (field_index g) same) in
       ap (λ o. with_each (with_chosen (with_field bytes f value) g o) c gs) (ap c (sym is) ∙ adds.free)
       ∙ same_choice gs (with_field bytes f value) c d (λ h there. sym (adds.else h (λ e. none.0 (subst (λ (x : Field). Has x gs) (sym (sym is ∙ e)) there))))
       ∙ ap (λ h. with_each (with_field bytes h value) d gs) is
@@ -226,13 +226,13 @@ set_in_place (g ∷ gs) bytes c d f value adds none has = elim (cases_Bool (rank
 
 unset_choice : (settings : List Setting) (f : Field) → IsUnset settings f → choice_of settings f ≡ None
 unset_choice [] f unset = refl
-unset_choice (s ∷ ss) f unset = cond-false (rank s.field == rank f) (Some s.value) (choice_of ss f) (other_test s.field f unset.0) ∙ unset_choice ss f unset.1
+unset_choice (s ∷ ss) f unset = cond-false (field_index s.field == field_index f) (Some s.value) (choice_of ss f) (other_test s.field f unset.0) ∙ unset_choice ss f unset.1
 
 chosen_may : (settings : List Setting) → CanBeSet settings → MayBeWritten (choice_of settings)
 chosen_may [] can f value is = cc
-chosen_may (s ∷ ss) can f value is = elim (cases_Bool (rank s.field == rank f)) [
-  | inl same ↦ ap (λ (g : Field). (row g).writable) (sym (same_rank s.field f (eqb-true (rank s.field) (rank f) same))) ∙ can.0
-  | inr other ↦ chosen_may ss can.2 f value (sym (cond-false (rank s.field == rank f) (Some s.value) (choice_of ss f) other) ∙ is)
+chosen_may (s ∷ ss) can f value is = elim (cases_Bool (field_index s.field == field_index f)) [
+  | inl same ↦ ap (λ (g : Field). (row g).writable) (sym (same_index s.field f (eqb-true (field_index s.field) (field_index f) same))) ∙ can.0
+  | inr other ↦ chosen_may ss can.2 f value (sym (cond-false (field_index s.field == field_index f) (Some s.value) (choice_of ss f) other) ∙ is)
 ]
 
 pub listed_in_order : (settings : List Setting) (bytes : List ℕ) → CanBeSet settings → AreDistinct settings → with_fields bytes settings ≡ in_field_order bytes (choice_of settings)
@@ -240,8 +240,8 @@ listed_in_order [] bytes can distinct = sym (nothing_chosen all_fields bytes)
 listed_in_order (s ∷ ss) bytes can distinct =
     let adds : Adds (choice_of ss) (choice_of (s ∷ ss)) s.field s.value = record {
       free = unset_choice ss s.field distinct.0;
-      now = cond-true (rank s.field == rank s.field) (Some s.value) (choice_of ss s.field) (same_test s.field s.field refl);
-      else = λ g other. cond-false (rank s.field == rank g) (Some s.value) (choice_of ss g) (other_test s.field g other);
+      now = cond-true (field_index s.field == field_index s.field) (Some s.value) (choice_of ss s.field) (same_test s.field s.field refl);
+      else = λ g other. cond-false (field_index s.field == field_index g) (Some s.value) (choice_of ss g) (other_test s.field g other);
       may = can.0;
       others = chosen_may ss can.2;
     } in
@@ -271,8 +271,8 @@ cond_none false o e = refl
 
 -- the field at the front adds nothing where the first choice leaves it
 nothing_added : (c d : Choice) (g : Field) (gs : List Field) (f : Field) → c g ≡ None → so_far c d gs f ≡ so_far c d (g ∷ gs) f
-nothing_added c d g gs f none = elim (cases_Bool (rank g == rank f)) [
-  | inl same ↦ let free : c f ≡ None = ap c (sym (same_rank g f (eqb-true (rank g) (rank f) same))) ∙ none in
+nothing_added c d g gs f none = elim (cases_Bool (field_index g == field_index f)) [
+  | inl same ↦ let free : c f ≡ None = ap c (sym (same_index g f (eqb-true (field_index g) (field_index f) same))) ∙ none in
       ap (λ o. or_else o (d f)) (cond_none (has f gs) (c f) free ∙ sym (cond_none (has f (g ∷ gs)) (c f) free))
   | inr other ↦ ap (λ (b : Bool). or_else (cond (b || has f gs) (c f) None) (d f)) (sym other)
 ]
@@ -345,8 +345,8 @@ stays-with_each (g ∷ gs) bytes c f port other =
 set-with_each : (fs : List Field) (bytes : List ℕ) (c : Choice) (f : Field) (value port : ℕ) → MayBeWritten c → NoneTwice fs → Has f fs → c f ≡ Some value → value < 2 ^ (row f).width → IsSome (place (shape_of bytes) f)
     → field_value (with_each bytes c fs) port f ≡ value
 set-with_each [] bytes c f value port may none has is fits there = absurd has
-set-with_each (g ∷ gs) bytes c f value port may none has is fits there = elim (cases_Bool (rank g == rank f)) [
-  | inl same ↦ let one : g ≡ f = same_rank g f (eqb-true (rank g) (rank f) same) in
+set-with_each (g ∷ gs) bytes c f value port may none has is fits there = elim (cases_Bool (field_index g == field_index f)) [
+  | inl same ↦ let one : g ≡ f = same_index g f (eqb-true (field_index g) (field_index f) same) in
       stays-with_each gs (with_chosen bytes g (c g)) c f port (λ h x later set. (may h x set, λ e. none.0 (subst (λ (x : Field). Has x gs) (e ∙ sym one) later)))
       ∙ ap (λ h. field_value (with_chosen bytes h (c h)) port f) one
       ∙ ap (λ o. field_value (with_chosen bytes f o) port f) is

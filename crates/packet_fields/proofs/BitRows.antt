@@ -7,29 +7,10 @@ use Rattle.std.proofs.lemmas.Nat.{shr_high, mod_low, shr-shr, mod-pow-add}
 use Rattle.std.proofs.lemmas.Nat.Bits.{bit_at-zero, bit_at-lt}
 use Rattle.std.proofs.lemmas.List.{get_or_past}
 use Rattle.std.specs.Int.{bit_at}
+use Rattle.packet_fields.specs.Fitting.{AreBits, bit_of-lt, spelled-zero, spelled-suc, spelled-lt}
 use Rattle.packet_fields.specs.Bits.{bit_of, spelled, replaced, bytes_of, number_at, with_number_at}
 
--- each place of the row has a bit
-abbrev pub AreBits : (ℕ → ℕ) → Type 0
-AreBits row = (n : ℕ) → row n < 2
-
-pub bit_of-lt : (bytes : List ℕ) → AreBits (bit_of bytes)
-unfolding bit_of
-bit_of-lt bytes n = bit_at-lt (get_or bytes (n / 8) 0) (7 - n % 8)
-
 -- ---- numbers in a row
-pub spelled-zero : (row : ℕ → ℕ) (start : ℕ) → spelled row start 0 ≡ 0
-unfolding spelled
-spelled-zero row start = refl
-
-pub spelled-suc : (row : ℕ → ℕ) (start width : ℕ) → spelled row start (suc width) ≡ spelled row start width * 2 + row (start + width)
-unfolding spelled
-spelled-suc row start width = refl
-
-pub spelled-lt : (row : ℕ → ℕ) (start width : ℕ) → AreBits row → spelled row start width < 2 ^ width
-spelled-lt row start zero bits = rw (spelled-zero row start) (omega arith)
-spelled-lt row start (suc width) bits = omega (arith, spelled-suc row start width, pow-suc 2 width, spelled-lt row start width bits, bits (start + width))
-
 -- a range of u bits, and one of w bits behind it
 pub spelled-add : (row : ℕ → ℕ) (start u w : ℕ) → spelled row start (u + w) ≡ spelled row start u * 2 ^ w + spelled row (start + u) w
 spelled-add row start u zero = rw (add-zero u, spelled-zero row (start + u)) (omega arith)

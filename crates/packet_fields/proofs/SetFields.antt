@@ -1,5 +1,5 @@
 -- What the fields of a packet say after one of them is set.
-use Rattle.std.proofs.Common.{◌≡◌, ◌≢◌, ℕ, ◌+◌, ◌*◌, ◌^◌, ◌<◌, ◌≤◌, ◌⊎◌, Bool, true, false, List, length, refl, sym, ap, ◌∙◌, inl, inr, arith, lit<, Option, Some, None, is_some, unwrap_or, cond}
+use Rattle.std.proofs.Common.{◌≡◌, ◌≢◌, ℕ, ◌+◌, ◌-◌, ◌*◌, ◌^◌, ◌<◌, ◌≤◌, ◌⊎◌, ◌&&◌, ◌==◌, nat_le, Bool, true, false, List, length, refl, sym, ap, ◌∙◌, inl, inr, arith, lit<, Option, Some, None, is_some, unwrap_or, cond}
 use Rattle.std.proofs.lemmas.Bool.{true≢false}
 use Rattle.std.proofs.lemmas.Nat.{pow_pos}
 use Rattle.std.specs.Option.{option_map}
@@ -8,10 +8,10 @@ use Rattle.packet_fields.specs.declared.field.Field.TheVariants.{MetaPort, MetaL
 use Rattle.packet_fields.specs.declared.shape.Shape.{Shape}
 use Rattle.packet_fields.specs.Bits.{number_at, with_number_at}
 use Rattle.packet_fields.specs.Fields.{place, meta_value, field_value, with_field}
-use Rattle.packet_fields.specs.Shape.{outline_of, in_header, shape_from, shape_of, start_of}
+use Rattle.packet_fields.specs.Shape.{outline_of, in_header, has_tag, network_start, network_type, shape_from, shape_of, start_of}
 use Rattle.packet_fields.specs.Table.{row}
 use Rattle.packet_fields.proofs.BitRows.{length-with_number_at, number_at-with_same, number_at-with_apart}
-use Rattle.packet_fields.proofs.Places.{Stands, stands_in, Spot, spot, is_at, fields_apart, header_ends, place_within, none_overlap}
+use Rattle.packet_fields.proofs.Places.{Stands, stands_in, network_of, network_in, Spot, spot, is_at, fields_apart, field_and_type, header_ends, place_within, none_overlap}
 use Rattle.packet_fields.specs.Sizes.{largest_packet}
 
 -- ---- in the packet
@@ -23,18 +23,6 @@ start_near shape bytes f start is there =
 pub place_within_packet : (shape : Shape) (bytes : List ℕ) (f : Field) (first width : ℕ) → shape ≡ shape_of bytes → Some first ≡ place shape f → width ≡ (row f).width → first + width ≤ 8 * length bytes
 place_within_packet shape bytes f first width is at w =
     omega (arith, w, place_within (shape_of bytes) (length bytes) f first (stands_in bytes) (sym (at ∙ ap (λ (x : Shape). place x f) is)))
-
-one_bit : (b : Bool) → cond b 1 0 < 2 ^ 1
-one_bit true = lit< tt
-one_bit false = lit< tt
-
-pub meta_value_fits : (bytes : ℕ) (shape : Shape) (port : ℕ) (f : Field) → bytes ≤ largest_packet → port < 2 ^ 8 → meta_value bytes shape port f < 2 ^ (row f).width
-meta_value_fits bytes shape port MetaPort size fits = fits
-meta_value_fits bytes shape port MetaLen size fits = omega arith
-meta_value_fits bytes shape port HasIp size fits = one_bit (is_some shape.ip)
-meta_value_fits bytes shape port HasTcp size fits = one_bit (is_some shape.tcp)
-meta_value_fits bytes shape port HasUdp size fits = one_bit (is_some shape.udp)
-meta_value_fits bytes shape port f size fits = pow_pos (row f).width
 
 -- ---- a field set at its place
 pub value_there : (bytes : List ℕ) (port : ℕ) (f : Field) (first : ℕ) → place (shape_of bytes) f ≡ Some first → field_value bytes port f ≡ number_at bytes first (row f).width
@@ -58,14 +46,32 @@ outline_field bytes f g first value start at other would =
 unlike : (f g : Field) → (row f).writable ≡ true → (row g).writable ≡ false → f ≢ g
 unlike f g may never e = true≢false (sym may ∙ ap (λ (h : Field). (row h).writable) e ∙ never)
 
+-- the network type, which stands in the Ethernet header or behind the VLAN tag
+type_stays : (bytes : List ℕ) (f : Field) (first value : ℕ) → place (shape_of bytes) f ≡ Some first → (row f).writable ≡ true → (tagged : Bool) → has_tag bytes ≡ tagged
+    → number_at (with_number_at bytes first (row f).width value) (8 * (cond tagged 18 14 - 2)) 16 ≡ number_at bytes (8 * (cond tagged 18 14 - 2)) 16
+type_stays bytes f first value at may false is = outline_field bytes f EthType first value 0 at (unlike f EthType may refl) refl
+type_stays bytes f first value at may true is =
+    let ok : Stands (shape_of bytes) (length bytes) = stands_in bytes in
+    let found = is_at (shape_of bytes) f first at in
+    let behind : network_of (shape_of bytes) ≡ 18 = network_in bytes ∙ ap (λ tagged. cond tagged 18 14) is in
+    let apart = field_and_type (shape_of bytes) (length bytes) ok behind f found.0 (spot (shape_of bytes) (length bytes) ok (row f).header found.0 found.1.there) in
+    let moved : (first + (row f).width ≤ 128) ⊎ (128 + 16 ≤ first) = elim apart [ inl x ↦ inl (omega (arith, found.1.is)) | inr x ↦ inr (omega (arith, found.1.is)) ] in
+    number_at-with_apart bytes first (row f).width value 128 16 moved
+
 outline_stays : (bytes : List ℕ) (f : Field) (first value : ℕ) → place (shape_of bytes) f ≡ Some first → (row f).writable ≡ true → outline_of (with_number_at bytes first (row f).width value) ≡ outline_of bytes
 outline_stays bytes f first value at may =
+    let next = with_number_at bytes first (row f).width value in
+    let start = sym (network_in bytes) in
     let a = length-with_number_at bytes first (row f).width value in
     let b = outline_field bytes f EthType first value 0 at (unlike f EthType may refl) refl in
-    let c = outline_field bytes f IpVersion first value 14 at (unlike f IpVersion may refl) refl in
-    let d = outline_field bytes f IpIhl first value 14 at (unlike f IpIhl may refl) refl in
-    let e = outline_field bytes f IpFrag first value 14 at (unlike f IpFrag may refl) refl in
-    let g = outline_field bytes f IpProto first value 14 at (unlike f IpProto may refl) refl in
+    let tagged : has_tag next ≡ has_tag bytes = ap (λ n. nat_le 18 n && in_header next 0 EthType == 0x8100) a ∙ ap (λ n. nat_le 18 (length bytes) && n == 0x8100) b in
+    let network : network_start next ≡ network_start bytes = ap (λ x. cond x 18 14) tagged in
+    let type : network_type next ≡ network_type bytes = ap (λ n. number_at next (8 * (n - 2)) 16) network ∙ type_stays bytes f first value at may (has_tag bytes) refl in
+    let field = λ (g : Field) (e : in_header next (network_start bytes) g ≡ in_header bytes (network_start bytes) g). let all : in_header next (network_start next) g ≡ in_header bytes (network_start bytes) g = ap (λ n. in_header next n g) network ∙ e in all in
+    let c = field IpVersion (outline_field bytes f IpVersion first value (network_start bytes) at (unlike f IpVersion may refl) start) in
+    let d = field IpIhl (outline_field bytes f IpIhl first value (network_start bytes) at (unlike f IpIhl may refl) start) in
+    let e = field IpFrag (outline_field bytes f IpFrag first value (network_start bytes) at (unlike f IpFrag may refl) start) in
+    let g = field IpProto (outline_field bytes f IpProto first value (network_start bytes) at (unlike f IpProto may refl) start) in
     cc
 
 pub shape_stays : (bytes : List ℕ) (f : Field) (first value : ℕ) → place (shape_of bytes) f ≡ Some first → (row f).writable ≡ true → shape_of (with_number_at bytes first (row f).width value) ≡ shape_of bytes

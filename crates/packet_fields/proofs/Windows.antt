@@ -5,7 +5,8 @@ use Rattle.std.proofs.lemmas.Nat.{one_shl}
 use Rattle.std.proofs.lemmas.Bool.{cases_lt}
 use Rattle.std.specs.Int.{bit_at}
 use Rattle.packet_fields.specs.Bits.{bit_of, spelled, replaced, number_at, with_number_at, Holds}
-use Rattle.packet_fields.proofs.BitRows.{bit_of-lt, spelled-lt, spelled-add, spelled-moved, spelled-middle, spelled-front, spelled-back, spelled-replaced, spelled_before-replaced, spelled_behind-replaced, replaced-lt, byte_of, is_bytes_of}
+use Rattle.packet_fields.specs.Fitting.{bit_of-lt, spelled-lt}
+use Rattle.packet_fields.proofs.BitRows.{spelled-add, spelled-moved, spelled-middle, spelled-front, spelled-back, spelled-replaced, spelled_before-replaced, spelled_behind-replaced, replaced-lt, byte_of, is_bytes_of}
 
 -- ---- some of the bytes
 bit_of-part : (bytes : List ℕ) (first count n : ℕ) → n < 8 * count → bit_of (take count (drop first bytes)) n ≡ bit_of bytes (8 * first + n)

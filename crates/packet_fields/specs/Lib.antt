@@ -1,5 +1,8 @@
+pub mod Arrivals
 pub mod Bits
+pub mod FieldOrder
 pub mod Fields
+pub mod Fitting
 pub mod Several
 pub mod Shape
 pub mod Sizes

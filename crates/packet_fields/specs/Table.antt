@@ -3,13 +3,14 @@ use Rattle.std.specs.Prelude.{ℕ, Bool, true, false, List, [], ◌∷◌, Optio
 use Rattle.std.specs.Str.{bytes_eq}
 use Rattle.packet_fields.specs.declared.field.Field.{Field}
 use Rattle.packet_fields.specs.declared.field.Field.TheVariants.{MetaPort, MetaLen, HasIp, HasTcp, HasUdp, EthDst}
-use Rattle.packet_fields.specs.declared.field.Field.TheVariants.{EthSrc, EthType, IpVersion, IpIhl, IpTos, IpLen, IpId}
-use Rattle.packet_fields.specs.declared.field.Field.TheVariants.{IpFlags, IpFrag, IpTtl, IpProto, IpSum, IpSrc, IpDst}
+use Rattle.packet_fields.specs.declared.field.Field.TheVariants.{EthSrc, EthType, VlanPcp, VlanDei, VlanId, IpVersion}
+use Rattle.packet_fields.specs.declared.field.Field.TheVariants.{IpIhl, IpTos, IpLen, IpId, IpFlags, IpFrag, IpTtl}
+use Rattle.packet_fields.specs.declared.field.Field.TheVariants.{IpProto, IpSum, IpSrc, IpDst}
 use Rattle.packet_fields.specs.declared.field.Field.TheVariants.{TcpSport, TcpDport, TcpSeq, TcpAck, TcpOff, TcpRes}
 use Rattle.packet_fields.specs.declared.field.Field.TheVariants.{TcpFlags, TcpWin, TcpSum, TcpUrg, UdpSport, UdpDport}
 use Rattle.packet_fields.specs.declared.field.Field.TheVariants.{UdpLen, UdpSum}
 use Rattle.packet_fields.specs.declared.field.Header.{Header}
-use Rattle.packet_fields.specs.declared.field.Header.TheVariants.{Meta, Ethernet, Ip, Tcp, Udp}
+use Rattle.packet_fields.specs.declared.field.Header.TheVariants.{Meta, Ethernet, Vlan, Ip, Tcp, Udp}
 
 -- a field's name, the header that it stands in, its first bit there, how many bits it has, and whether it may be
 -- written
@@ -30,6 +31,9 @@ row HasUdp = record { name = codes "has.udp"; header = Meta; at = 0; width = 1; 
 row EthDst = record { name = codes "eth.dst"; header = Ethernet; at = 0; width = 48; writable = true }
 row EthSrc = record { name = codes "eth.src"; header = Ethernet; at = 48; width = 48; writable = true }
 row EthType = record { name = codes "eth.type"; header = Ethernet; at = 96; width = 16; writable = false }
+row VlanPcp = record { name = codes "vlan.pcp"; header = Vlan; at = 0; width = 3; writable = true }
+row VlanDei = record { name = codes "vlan.dei"; header = Vlan; at = 3; width = 1; writable = true }
+row VlanId = record { name = codes "vlan.id"; header = Vlan; at = 4; width = 12; writable = true }
 row IpVersion = record { name = codes "ip.version"; header = Ip; at = 0; width = 4; writable = false }
 row IpIhl = record { name = codes "ip.ihl"; header = Ip; at = 4; width = 4; writable = false }
 row IpTos = record { name = codes "ip.tos"; header = Ip; at = 8; width = 8; writable = true }
@@ -60,9 +64,10 @@ row UdpSum = record { name = codes "udp.sum"; header = Udp; at = 48; width = 16;
 -- all fields, in field order
 unfoldable pub all_fields : List Field
 all_fields =
-    MetaPort ∷ MetaLen ∷ HasIp ∷ HasTcp ∷ HasUdp ∷ EthDst ∷ EthSrc ∷ EthType ∷ IpVersion ∷ IpIhl ∷ IpTos ∷ IpLen
-    ∷ IpId ∷ IpFlags ∷ IpFrag ∷ IpTtl ∷ IpProto ∷ IpSum ∷ IpSrc ∷ IpDst ∷ TcpSport ∷ TcpDport ∷ TcpSeq ∷ TcpAck
-    ∷ TcpOff ∷ TcpRes ∷ TcpFlags ∷ TcpWin ∷ TcpSum ∷ TcpUrg ∷ UdpSport ∷ UdpDport ∷ UdpLen ∷ UdpSum ∷ []
+    MetaPort ∷ MetaLen ∷ HasIp ∷ HasTcp ∷ HasUdp ∷ EthDst ∷ EthSrc ∷ EthType ∷ VlanPcp ∷ VlanDei ∷ VlanId
+    ∷ IpVersion ∷ IpIhl ∷ IpTos ∷ IpLen ∷ IpId ∷ IpFlags ∷ IpFrag ∷ IpTtl ∷ IpProto ∷ IpSum ∷ IpSrc ∷ IpDst
+    ∷ TcpSport ∷ TcpDport ∷ TcpSeq ∷ TcpAck ∷ TcpOff ∷ TcpRes ∷ TcpFlags ∷ TcpWin ∷ TcpSum ∷ TcpUrg ∷ UdpSport
+    ∷ UdpDport ∷ UdpLen ∷ UdpSum ∷ []
 
 -- the place of a field in field order, counted from 0
 abbrev pub field_index : Field → ℕ
@@ -74,32 +79,35 @@ field_index HasUdp = 4
 field_index EthDst = 5
 field_index EthSrc = 6
 field_index EthType = 7
-field_index IpVersion = 8
-field_index IpIhl = 9
-field_index IpTos = 10
-field_index IpLen = 11
-field_index IpId = 12
-field_index IpFlags = 13
-field_index IpFrag = 14
-field_index IpTtl = 15
-field_index IpProto = 16
-field_index IpSum = 17
-field_index IpSrc = 18
-field_index IpDst = 19
-field_index TcpSport = 20
-field_index TcpDport = 21
-field_index TcpSeq = 22
-field_index TcpAck = 23
-field_index TcpOff = 24
-field_index TcpRes = 25
-field_index TcpFlags = 26
-field_index TcpWin = 27
-field_index TcpSum = 28
-field_index TcpUrg = 29
-field_index UdpSport = 30
-field_index UdpDport = 31
-field_index UdpLen = 32
-field_index UdpSum = 33
+field_index VlanPcp = 8
+field_index VlanDei = 9
+field_index VlanId = 10
+field_index IpVersion = 11
+field_index IpIhl = 12
+field_index IpTos = 13
+field_index IpLen = 14
+field_index IpId = 15
+field_index IpFlags = 16
+field_index IpFrag = 17
+field_index IpTtl = 18
+field_index IpProto = 19
+field_index IpSum = 20
+field_index IpSrc = 21
+field_index IpDst = 22
+field_index TcpSport = 23
+field_index TcpDport = 24
+field_index TcpSeq = 25
+field_index TcpAck = 26
+field_index TcpOff = 27
+field_index TcpRes = 28
+field_index TcpFlags = 29
+field_index TcpWin = 30
+field_index TcpSum = 31
+field_index TcpUrg = 32
+field_index UdpSport = 33
+field_index UdpDport = 34
+field_index UdpLen = 35
+field_index UdpSum = 36
 
 -- the field whose name these bytes are
 abbrev pub field_named : List ℕ → Option Field

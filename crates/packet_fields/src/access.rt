@@ -11,7 +11,7 @@ use crate::field::{Field, bits_of, first_bit, header_of};
 use crate::shape::Shape;
 
 /// The value of a field of the packet, which arrived at this port. It is 0 where the field's header isn't there.
-#[tactic(auto, using(crate::proofs::SetFields::start_near, crate::proofs::SetFields::place_within_packet, crate::proofs::SetFields::meta_value_fits, crate::proofs::FieldList::width_range), unfolding(crate::specs::Fields::field_value))]
+#[tactic(auto, using(crate::proofs::SetFields::start_near, crate::proofs::SetFields::place_within_packet, crate::specs::Fitting::meta_value_fits, crate::specs::FieldOrder::width_range), unfolding(crate::specs::Fields::field_value))]
 pub fn get(packet: &[u8], port: u8, shape: &Shape, field: Field) -> u64
     requires size { length packet.now ≤ largest_packet }
     requires shape { shape.now ≡ shape_of packet.now }
@@ -25,7 +25,7 @@ pub fn get(packet: &[u8], port: u8, shape: &Shape, field: Field) -> u64
 }
 
 /// Sets a field of the packet. Nothing changes where the field's header isn't there.
-#[tactic(auto, using(crate::proofs::SetFields::start_near, crate::proofs::SetFields::place_within_packet, crate::proofs::SetFields::with_field_absent, crate::proofs::FieldList::width_range))]
+#[tactic(auto, using(crate::proofs::SetFields::start_near, crate::proofs::SetFields::place_within_packet, crate::proofs::SetFields::with_field_absent, crate::specs::FieldOrder::width_range))]
 pub fn set(packet: &mut [u8], shape: &Shape, field: Field, value: u64)
     requires size { length packet.old ≤ largest_packet }
     requires shape { shape.now ≡ shape_of packet.old }

@@ -1,6 +1,7 @@
 //! The fields of a packet, from one table.
 ghost use Rattle.std.specs.Prelude.{◌≡◌, ◌≢◌, ◌<◌, MatchOption, Some, slice_get};
 ghost use Rattle.packet_fields.specs.declared.field.Field.{Field};
+ghost use Rattle.packet_fields.specs.declared.field.TheConstants.{FIELD_COUNT};
 ghost use Rattle.packet_fields.specs.Table.{field_index, row, all_fields, field_named};
 
 use gal_bits::Width;
@@ -12,6 +13,8 @@ pub enum Header {
     Meta,
     /// The MAC addresses and the type of an Ethernet frame (IEEE 802.3).
     Ethernet,
+    /// A VLAN tag (IEEE 802.1Q), without the type in front of it.
+    Vlan,
     /// IPv4 (RFC 791).
     Ip,
     /// TCP (RFC 9293).
@@ -36,6 +39,12 @@ pub enum Field {
     EthDst,
     EthSrc,
     EthType,
+    /// The priority code point.
+    VlanPcp,
+    /// The drop eligible indicator.
+    VlanDei,
+    /// The VLAN identifier.
+    VlanId,
     IpVersion,
     /// The length of the IPv4 header, in words of 4 bytes.
     IpIhl,
@@ -84,6 +93,9 @@ macro_rules! field_table {
             EthDst "eth.dst" Ethernet 0 48 true,
             EthSrc "eth.src" Ethernet 48 48 true,
             EthType "eth.type" Ethernet 96 16 false,
+            VlanPcp "vlan.pcp" Vlan 0 3 true,
+            VlanDei "vlan.dei" Vlan 3 1 true,
+            VlanId "vlan.id" Vlan 4 12 true,
             IpVersion "ip.version" Ip 0 4 false,
             IpIhl "ip.ihl" Ip 4 4 false,
             IpTos "ip.tos" Ip 8 8 true,
@@ -141,9 +153,12 @@ macro_rules! cell {
     (writable $text:literal $header:ident $at:literal $width:literal $writable:literal) => { $writable };
 }
 
+/// How many fields there are.
+pub const FIELD_COUNT: usize = 37;
+
 /// All fields, in field order.
 #[tactic(auto, unfolding(crate::specs::Table::all_fields))]
-pub fn fields() -> [Field; 34]
+pub fn fields() -> [Field; FIELD_COUNT]
     ensures { result ≡ all_fields }
 {
     field_table!(listed)
@@ -153,7 +168,7 @@ pub fn fields() -> [Field; 34]
 pub fn field_index(field: Field) -> usize
     ensures value { result ≡ field_index field }
     ensures place { slice_get all_fields result ≡ Some field }
-    ensures within { result < 34 }
+    ensures within { result < FIELD_COUNT }
 {
     field as usize
 }
@@ -188,7 +203,7 @@ fn find_named(name: &[u8]) -> Option<Field>
 }
 
 /// How wide the field's values are.
-#[tactic(auto, using(crate::proofs::FieldList::width_range))]
+#[tactic(auto, using(crate::specs::FieldOrder::width_range))]
 pub fn width(field: Field) -> Width
     ensures { result ≡ (row field).width }
 {

@@ -1,4 +1,5 @@
-use Rattle.packet_fields.proofs.Alone.{value_fits, own_value, small_after}
+use Rattle.packet_fields.specs.Fitting.{value_fits}
+use Rattle.packet_fields.proofs.Alone.{own_value, small_after}
 use Rattle.packet_fields.proofs.AnyOrder.{other-with_field}
 use Rattle.packet_fields.proofs.laws.fields_stand_alone.Goals as goal
 
