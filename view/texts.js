@@ -13,7 +13,7 @@ class Refusal extends Error {
 // The fields of a packet with their bits, in field order.
 const FIELD_WIDTHS = new Map([
   ["meta.port", 8], ["meta.len", 16], ["has.ip", 1], ["has.tcp", 1], ["has.udp", 1],
-  ["eth.dst", 48], ["eth.src", 48], ["eth.type", 16],
+  ["eth.dst", 48], ["eth.src", 48], ["eth.type", 16], ["vlan.pcp", 3], ["vlan.dei", 1], ["vlan.id", 12],
   ["ip.version", 4], ["ip.ihl", 4], ["ip.tos", 8], ["ip.len", 16], ["ip.id", 16], ["ip.flags", 3], ["ip.frag", 13],
   ["ip.ttl", 8], ["ip.proto", 8], ["ip.sum", 16], ["ip.src", 32], ["ip.dst", 32],
   ["tcp.sport", 16], ["tcp.dport", 16], ["tcp.seq", 32], ["tcp.ack", 32], ["tcp.off", 4], ["tcp.res", 4],

@@ -10,7 +10,9 @@ mod shape;
 mod verdict;
 
 pub use access::{get, set};
-pub use field::{FIELD_COUNT, Field, Header, field_index, field_name, field_of, fields, width, writable};
+pub use field::{
+    FIELD_COUNT, Field, Header, field_index, field_name, field_of, fields, width, writable,
+};
 pub use laws::{fields_in_any_order, fields_read_as_set, fields_stand_alone};
 pub use packet::{MAX_PACKET_BYTES, Packet, Packets, is_short};
 pub use shape::Shape;

@@ -116,7 +116,11 @@ fn has_tag(packet: &[u8]) -> bool
 fn network_start(packet: &[u8]) -> usize
     ensures { result ≡ network_start packet.now }
 {
-    if has_tag(packet) { AFTER_TAG } else { AFTER_ETHERNET }
+    if has_tag(packet) {
+        AFTER_TAG
+    } else {
+        AFTER_ETHERNET
+    }
 }
 
 // Whether the packet has an IPv4 header, where the network header would start at this byte.
@@ -137,7 +141,13 @@ fn starts_ip(packet: &[u8], network: usize) -> bool
 
 // Where the header of that protocol starts, which has so many bytes, if it follows the IPv4 header.
 #[tactic(auto, using(crate::proofs::Places::ip_facts))]
-fn next_header(packet: &[u8], network: usize, start: usize, protocol: u64, bytes: usize) -> Option<usize>
+fn next_header(
+    packet: &[u8],
+    network: usize,
+    start: usize,
+    protocol: u64,
+    bytes: usize,
+) -> Option<usize>
     requires size { length packet.now ≤ largest_packet }
     requires network { network ≡ network_start packet.now }
     requires ip { has_ip (outline_of packet.now) ≡ true }
