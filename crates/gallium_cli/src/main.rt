@@ -9,7 +9,9 @@ ghost use Rattle.gallium_cli.specs.Status.{code_of};
 mod arrivals;
 mod compile;
 #[cfg(test)]
-mod compile_tests;
+mod drain_tests;
+#[cfg(test)]
+mod fault_tests;
 #[cfg(test)]
 mod flat_tests;
 mod formats;
@@ -19,13 +21,7 @@ mod output;
 mod print_tests;
 mod refusal;
 mod replay;
-#[cfg(test)]
-mod run_tests;
-#[cfg(test)]
-mod split_tests;
 mod status;
-#[cfg(test)]
-mod tests;
 mod top;
 mod words;
 
