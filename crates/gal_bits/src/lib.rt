@@ -3,8 +3,6 @@
 
 mod checksum;
 mod op;
-#[cfg(test)]
-mod tests;
 mod values;
 mod width;
 mod widths;

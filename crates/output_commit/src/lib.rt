@@ -6,8 +6,6 @@ mod batch;
 mod commit;
 mod laws;
 mod output;
-#[cfg(test)]
-mod tests;
 
 pub use commit::Commit;
 pub use laws::{a_held_output_waits, counts_stay_in_order};

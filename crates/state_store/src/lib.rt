@@ -12,8 +12,6 @@ mod packing;
 mod sorted_rows;
 mod store;
 mod stored;
-#[cfg(test)]
-mod tests;
 
 pub use laws::{rows_change_alone, rows_that_stay_are_never_full};
 pub use listing::Listing;

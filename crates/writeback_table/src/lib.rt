@@ -6,8 +6,6 @@ mod laws;
 mod one_object;
 mod pair;
 mod seen_rows;
-#[cfg(test)]
-mod tests;
 mod updates;
 mod write_back;
 

@@ -1,11 +1,11 @@
 //! What no clause can say: that calls succeed with ample memory.
-use crate::{Applied, Command, Pair, To, Update, Updates};
-use gal_bits::{Values, Widths};
-use gal_io::{Bytes, NoMemory};
-use state_store::{Kind, ObjectDecl, Row, Rows};
+use crate::samples::{declared, values, widths};
+use gal_io::NoMemory;
+use state_store::{Kind, ObjectDecl, Row};
 use std::alloc::Global;
 use std::process::Abort;
 use std::test::Fail;
+use writeback_table::{Applied, Command, Pair, To, Update, Updates};
 
 // The number of the object in every command.
 const OBJECT: u32 = 3;
@@ -13,38 +13,9 @@ const OBJECT: u32 = 3;
 // Keys with their values.
 type Wanted = &'static [(&'static [u64], &'static [u64])];
 
-// At most the first 8 numbers.
-fn values(numbers: &[u64]) -> Values {
-    let mut list = Values::new();
-    for number in numbers {
-        if list.len() < 8 {
-            list.push(*number);
-        }
-    }
-    list
-}
-
-// So many widths of 8 bits.
-fn widths(count: usize) -> Widths {
-    let mut list = Widths::new();
-    for _ in 0..count {
-        if list.len() < 8 {
-            list.push(8);
-        }
-    }
-    list
-}
-
-fn declared(alloc: Global, kind: Kind, keys: usize, size: u32) -> Result<ObjectDecl, NoMemory> {
-    Ok(ObjectDecl {
-        name: Bytes::from_slice(alloc, b"object")?,
-        kind,
-        keys: widths(keys),
-        values: widths(1),
-        size,
-        start: 0,
-        rows: Rows::new(alloc),
-    })
+// Of 8 bits each.
+fn of_bytes(alloc: Global, kind: Kind, keys: usize, size: u32) -> Result<ObjectDecl, NoMemory> {
+    declared(alloc, kind, widths(8, keys), widths(8, 1), size)
 }
 
 fn put(key: &[u64], value: u64) -> Update {
@@ -106,7 +77,7 @@ fn no_room(rt: &impl Abort, pair: &mut Pair, command: Command) {
 
 // A map of one row, which is 1 -> 9.
 fn full_map(rt: &impl Abort, alloc: Global, writeback: u32) -> Result<Pair, NoMemory> {
-    let mut pair = Pair::new(alloc, &declared(alloc, Kind::Map, 1, 1)?, writeback)?;
+    let mut pair = Pair::new(alloc, &of_bytes(alloc, Kind::Map, 1, 1)?, writeback)?;
     done(rt, &mut pair, Command::Main(put(&[1], 9)));
     Ok(pair)
 }
@@ -176,13 +147,13 @@ fn a_full_table_has_no_room(rt: HostRuntime) -> Result<(), Fail> {
 #[test]
 fn vectors_and_numbers_have_tables(rt: HostRuntime) -> Result<(), Fail> {
     let alloc = rt.alloc();
-    let mut vector = Pair::new(alloc, &declared(alloc, Kind::Vector, 1, 2)?, 1)?;
+    let mut vector = Pair::new(alloc, &of_bytes(alloc, Kind::Vector, 1, 2)?, 1)?;
     no_room(&rt, &mut vector, Command::Main(put(&[2], 5)));
     done(&rt, &mut vector, Command::Stage(put(&[1], 5)));
     sees(&rt, alloc, &vector, true, &[(&[0], &[0]), (&[1], &[5])])?;
     sees(&rt, alloc, &vector, false, &[(&[0], &[0]), (&[1], &[0])])?;
     // a number has the empty key, and a write-back table may have room for no row
-    let mut number = Pair::new(alloc, &declared(alloc, Kind::Int, 0, 1)?, 0)?;
+    let mut number = Pair::new(alloc, &of_bytes(alloc, Kind::Int, 0, 1)?, 0)?;
     no_room(&rt, &mut number, Command::Stage(put(&[], 5)));
     done(&rt, &mut number, Command::Main(put(&[], 6)));
     sees(&rt, alloc, &number, true, &[(&[], &[6])])?;
@@ -198,7 +169,7 @@ fn copies_are_equal(rt: HostRuntime) -> Result<(), Fail> {
     updates.push(put(&[2], 9))?;
     let copy = updates.copy(alloc)?;
     assert_eq!(rt; copy.len(), 2);
-    let mut pair = Pair::new(alloc, &declared(alloc, Kind::Map, 1, 1)?, 2)?;
+    let mut pair = Pair::new(alloc, &of_bytes(alloc, Kind::Map, 1, 1)?, 2)?;
     for update in copy.as_slice() {
         assert_eq!(rt; update.object, OBJECT);
         done(&rt, &mut pair, Command::Main(*update));

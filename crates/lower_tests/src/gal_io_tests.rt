@@ -1,5 +1,5 @@
 //! What no clause can say: that calls succeed with ample memory, and what the system's files and writers do.
-use crate::{
+use gal_io::{
     Bytes, Files, HostFiles, HostSink, MemFiles, MemSink, ReadEnd, Sink, SinkEnd, Text, is_skipped,
     number_up_to, split_line,
 };

@@ -1,7 +1,7 @@
 //! What no clause can say: that calls succeed with ample memory.
-use crate::{Commit, Release};
 use gal_bits::Values;
 use gal_io::{Bytes, NoMemory};
+use output_commit::{Commit, Release};
 use std::alloc::Global;
 use std::process::Abort;
 use std::test::Fail;

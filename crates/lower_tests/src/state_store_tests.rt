@@ -1,7 +1,7 @@
 //! What no clause can say: that calls succeed with ample memory.
-use crate::{Kind, Listing, ObjectDecl, Objects, Put, Row, Rows, Store};
-use gal_bits::{Values, Widths};
-use gal_io::{Bytes, NoMemory};
+use crate::samples::{declared, values, widths};
+use gal_io::NoMemory;
+use state_store::{Kind, Listing, ObjectDecl, Objects, Put, Row, Rows, Store};
 use std::alloc::Global;
 use std::process::Abort;
 use std::test::Fail;
@@ -18,49 +18,20 @@ const WIDE: u32 = 4;
 
 const NONE: u32 = 5;
 
-// At most the first 8 numbers.
-fn values(numbers: &[u64]) -> Values {
-    let mut list = Values::new();
-    for number in numbers {
-        if list.len() < 8 {
-            list.push(*number);
-        }
-    }
-    list
-}
-
-// So many widths of 32 bits.
-fn widths(count: usize) -> Widths {
-    let mut list = Widths::new();
-    for _ in 0..count {
-        if list.len() < 8 {
-            list.push(32);
-        }
-    }
-    list
-}
-
-fn declared(
+// Of 32 bits each.
+fn of_words(
     alloc: Global,
     kind: Kind,
     keys: usize,
     values: usize,
     size: u32,
 ) -> Result<ObjectDecl, NoMemory> {
-    Ok(ObjectDecl {
-        name: Bytes::from_slice(alloc, b"object")?,
-        kind,
-        keys: widths(keys),
-        values: widths(values),
-        size,
-        start: 0,
-        rows: Rows::new(alloc),
-    })
+    declared(alloc, kind, widths(32, keys), widths(32, values), size)
 }
 
 // A table of two rows, a map of two, a vector of three, an integer that starts at 7, and a map of 8 numbers a key.
 fn objects(alloc: Global) -> Result<Objects, NoMemory> {
-    let mut table = declared(alloc, Kind::Table, 1, 2, 2)?;
+    let mut table = of_words(alloc, Kind::Table, 1, 2, 2)?;
     table.rows.push(Row {
         keys: values(&[80]),
         values: values(&[1, 2]),
@@ -69,14 +40,14 @@ fn objects(alloc: Global) -> Result<Objects, NoMemory> {
         keys: values(&[22]),
         values: values(&[3, 4]),
     })?;
-    let mut int = declared(alloc, Kind::Int, 0, 1, 1)?;
+    let mut int = of_words(alloc, Kind::Int, 0, 1, 1)?;
     int.start = 7;
     let mut objects = Objects::new(alloc);
     objects.push(table)?;
-    objects.push(declared(alloc, Kind::Map, 2, 1, 2)?)?;
-    objects.push(declared(alloc, Kind::Vector, 1, 1, 3)?)?;
+    objects.push(of_words(alloc, Kind::Map, 2, 1, 2)?)?;
+    objects.push(of_words(alloc, Kind::Vector, 1, 1, 3)?)?;
     objects.push(int)?;
-    objects.push(declared(alloc, Kind::Map, 8, 1, 4)?)?;
+    objects.push(of_words(alloc, Kind::Map, 8, 1, 4)?)?;
     Ok(objects)
 }
 

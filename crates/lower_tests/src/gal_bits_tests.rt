@@ -1,7 +1,7 @@
 //! Worked values.
 ghost use Rattle.std.specs.Prelude.{◌<◌};
 
-use super::*;
+use gal_bits::{Op, Values, Width, Widths, adjust, arity, eval, on_switch, op_name};
 use std::process::Abort;
 use std::test::Fail;
 

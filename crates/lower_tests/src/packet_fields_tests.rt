@@ -1,0 +1,82 @@
+//! Fields of two packets.
+use gal_io::Bytes;
+use packet_fields::{Field, Packet, Packets, Shape, field_name, field_of, get, set};
+use std::test::Fail;
+
+// A TCP segment from 10.0.0.1 port 5000 to 198.51.100.7 port 80 that opens a connection.
+const SYN: [u8; 54] = [
+    0x02, 0, 0, 0, 0, 0x01, 0x02, 0, 0, 0, 0, 0x02, 0x08, 0, // Ethernet
+    0x45, 0, 0, 0x28, 0, 0x01, 0x40, 0, 0x40, 0x06, 0x06, 0x94, 10, 0, 0, 1, 198, 51, 100, 7, // IPv4
+    0x13, 0x88, 0, 0x50, 0, 0, 0, 0, 0, 0, 0, 0, 0x50, 0x02, 0x20, 0, 0x47, 0xcf, 0, 0, // TCP
+];
+
+// A UDP datagram of 8 bytes from 10.0.0.1 port 4096 to 10.0.0.2 port 69.
+const DATAGRAM: [u8; 42] = [
+    0x02, 0, 0, 0, 0, 0x01, 0x02, 0, 0, 0, 0, 0x02, 0x08, 0, // Ethernet
+    0x45, 0, 0, 0x1c, 0, 0, 0, 0, 0x40, 0x11, 0, 0, 10, 0, 0, 1, 10, 0, 0, 2, // IPv4
+    0x10, 0, 0, 0x45, 0, 0x08, 0xff, 0xef, // UDP
+];
+
+#[test]
+fn reads_fields(rt: HostRuntime) {
+    let shape = Shape::of(&SYN);
+    let rows = [
+        (Field::MetaLen, 54),
+        (Field::HasTcp, 1),
+        (Field::HasUdp, 0),
+        (Field::IpSrc, 167_772_161),
+        (Field::IpFlags, 2),
+        (Field::TcpSport, 5000),
+        (Field::TcpOff, 5),
+        (Field::TcpSum, 0x47cf),
+        (Field::UdpSum, 0),
+    ];
+    for (field, value) in rows {
+        assert_eq!(rt; get(&SYN, 0, &shape, field), value);
+    }
+    let shape = Shape::of(&DATAGRAM);
+    let rows = [
+        (Field::MetaPort, 9),
+        (Field::HasTcp, 0),
+        (Field::HasUdp, 1),
+        (Field::UdpDport, 69),
+        (Field::UdpSum, 0xffef),
+    ];
+    for (field, value) in rows {
+        assert_eq!(rt; get(&DATAGRAM, 9, &shape, field), value);
+    }
+}
+
+#[test]
+fn sets_a_field(rt: HostRuntime) {
+    let mut packet = SYN;
+    let shape = Shape::of(&packet);
+    set(&mut packet, &shape, Field::IpSrc, 0xc000_0201);
+    let mut expected = SYN;
+    expected[26] = 0xc0;
+    expected[27] = 0;
+    expected[28] = 2;
+    expected[29] = 1;
+    assert_eq!(rt; packet.as_slice(), expected.as_slice());
+}
+
+#[test]
+fn names(rt: HostRuntime) {
+    assert_eq!(rt; field_of(b"ip.src"), Some(Field::IpSrc));
+    assert_eq!(rt; field_of(b"ip.none"), None);
+    assert_eq!(rt; field_name(Field::TcpRes), "tcp.res");
+}
+
+#[test]
+fn copies(rt: HostRuntime) -> Result<(), Fail> {
+    let alloc = rt.alloc();
+    let mut packets = Packets::new(alloc);
+    assert!(rt; packets.is_empty());
+    let bytes = Bytes::from_slice(alloc, &DATAGRAM)?;
+    packets.push(Packet { port: 3, bytes })?;
+    let copy = packets.copy(alloc)?;
+    assert_eq!(rt; copy.len(), 1);
+    assert_eq!(rt; copy.as_slice()[0].port, 3);
+    assert_eq!(rt; copy.as_slice()[0].bytes.as_slice(), DATAGRAM.as_slice());
+    Ok(())
+}
