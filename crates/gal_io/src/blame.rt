@@ -1,5 +1,5 @@
 //! What went wrong with files, counted.
-ghost use Rattle.std.specs.Prelude.{◌≡◌, ◌≤◌, Some, None};
+ghost use Rattle.std.specs.Prelude.{◌≡◌, Some, None};
 ghost use Rattle.gal_io.specs.Count.{one_more};
 
 use crate::Bytes;
@@ -22,8 +22,7 @@ impl Blame {
     }
 
     pub fn add(&mut self, name: Bytes)
-        ensures blamed { self.new ≡ record { count = one_more self.old.count; name = Some name } }
-        ensures rose { self.old.count ≤ self.new.count }
+        ensures { self.new ≡ record { count = one_more self.old.count; name = Some name } }
     {
         self.count = self.count.saturating_add(1);
         self.name = Some(name);

@@ -192,16 +192,16 @@ first_shut told (gate ∷ gates) cause (inr why) = inr (why.0, first_shut told g
 pub cause_told : (request : Option Request) (result : Status) (call : Call) → IsGreatestOne → IsKeptUnexceeded
     → EndsFor request result call → IsCauseTold request result call
 cause_told None result call one kept end = tt
-cause_told (Some request) result call one kept (inl (is, (text, answer, taken, read, aside), silent)) = λ cause why.
+cause_told (Some request) result call one kept (inl (is, (text, answer, taken, read, aside), counts, silent)) = λ cause why.
     let work = call.work in
     let shut = first_shut work.files.told (gates_of request) cause why in
     let passed = answer_passed text request work.files work.port work.port_after answer in
     absurd (passed_unshut (gates_of request) (status_of cause) work.files one kept passed shut)
-cause_told (Some request) result call one kept (inr (refusal, (inl first, few, aside), told)) = λ cause why.
+cause_told (Some request) result call one kept (inr (refusal, (inl first, few, aside), counts, told)) = λ cause why.
     cause_gates refusal (gates_of request) cause result call.work.files call.work.files_after call.err call.err_after
     one kept why first.0 told
-cause_told (Some request) result call one kept (inr (refusal, (inr (inl faulty), few, aside), told)) = λ cause why.
+cause_told (Some request) result call one kept (inr (refusal, (inr (inl faulty), few, aside), counts, told)) = λ cause why.
     line_of_fault refusal cause result call.err call.err_after told
     (switch_is_fault refusal request call.work.port call.work.port_after faulty.0)
-cause_told (Some request) result call one kept (inr (refusal, (inr (inr unput), few, aside), told)) = λ cause why.
+cause_told (Some request) result call one kept (inr (refusal, (inr (inr unput), few, aside), counts, told)) = λ cause why.
     line_of_fault refusal cause result call.err call.err_after told (unwritten_fault refusal request call.work unput)

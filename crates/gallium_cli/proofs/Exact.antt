@@ -262,17 +262,17 @@ of_told status result refusal e e' told h =
 pub exact_ends : (request : Option Request) (result : Status) (call : Call) → IsGreatestOne → IsKeptUnexceeded
     → EndsFor request result call → IsExact request result call
 exact_ends None result call one kept end = tt
-exact_ends (Some request) result call one kept (inl (is, (text, answer, taken, read, aside), silent)) = λ status shut.
+exact_ends (Some request) result call one kept (inl (is, (text, answer, taken, read, aside), counts, silent)) = λ status shut.
     let work = call.work in
     let passed = answer_passed text request work.files work.port work.port_after answer in
     absurd (passed_unshut (gates_of request) status work.files one kept passed shut)
-exact_ends (Some request) result call one kept (inr (refusal, (inl first, few, aside), told)) = λ status shut.
+exact_ends (Some request) result call one kept (inr (refusal, (inl first, few, aside), counts, told)) = λ status shut.
     of_told status result refusal call.err call.err_after told
     (exact_gates refusal (gates_of request) status call.work.files call.work.files_after one kept shut first.0)
-exact_ends (Some request) result call one kept (inr (refusal, (inr (inl faulty), few, aside), told)) = λ status shut.
+exact_ends (Some request) result call one kept (inr (refusal, (inr (inl faulty), few, aside), counts, told)) = λ status shut.
     of_told status result refusal call.err call.err_after told
     (inr (switch_is_fault refusal request call.work.port call.work.port_after faulty.0))
-exact_ends (Some request) result call one kept (inr (refusal, (inr (inr unput), few, aside), told)) = λ status shut.
+exact_ends (Some request) result call one kept (inr (refusal, (inr (inr unput), few, aside), counts, told)) = λ status shut.
     of_told status result refusal call.err call.err_after told (inr (unwritten_fault refusal request call.work unput))
 
 -- where all gates are open, a request is done unless there is a fault
@@ -280,12 +280,12 @@ pub complete_ends : (request : Option Request) (result : Status) (call : Call) �
     → EndsFor request result call → IsComplete request result call
 complete_ends None result call one kept end = tt
 complete_ends (Some request) result call one kept (inl done) = λ free. inl done.0
-complete_ends (Some request) result call one kept (inr (refusal, (inl first, few, aside), told)) = λ free.
+complete_ends (Some request) result call one kept (inr (refusal, (inl first, few, aside), counts, told)) = λ free.
     of_told statuses.Done result refusal call.err call.err_after told
     (inr (open_gates refusal (gates_of request) call.work.files call.work.files_after one kept free first.0))
-complete_ends (Some request) result call one kept (inr (refusal, (inr (inl faulty), few, aside), told)) = λ free.
+complete_ends (Some request) result call one kept (inr (refusal, (inr (inl faulty), few, aside), counts, told)) = λ free.
     of_told statuses.Done result refusal call.err call.err_after told
     (inr (switch_is_fault refusal request call.work.port call.work.port_after faulty.0))
-complete_ends (Some request) result call one kept (inr (refusal, (inr (inr unput), few, aside), told)) = λ free.
+complete_ends (Some request) result call one kept (inr (refusal, (inr (inr unput), few, aside), counts, told)) = λ free.
     of_told statuses.Done result refusal call.err call.err_after told
     (inr (unwritten_fault refusal request call.work unput))

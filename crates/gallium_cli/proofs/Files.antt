@@ -1,6 +1,7 @@
 -- What the reading of one file shows, and what is passed and refused one after the other.
 use Rattle.std.proofs.Common.{◌≡◌, ◌≤◌, ◌<◌, ◌^◌, ℕ, Bool, List, [], ◌∷◌, ◌++◌, length, Option, Some, None, IfSome}
-use Rattle.std.proofs.Common.{subst, inl, inr, arith, Ok}
+use Rattle.std.proofs.Common.{subst, ap, ◌∙◌, inl, inr, arith, Ok}
+use Rattle.gal_io.specs.Count.{one_more}
 use Rattle.gal_io.specs.Files.{FilesState}
 use Rattle.packet_fields.specs.declared.packet.Packet.{Packet}
 use Rattle.element_lang.specs.Tree.{Tree}
@@ -10,6 +11,7 @@ use Rattle.split_model.specs.Bounds.{IsBounded}
 use Rattle.resource_limits.specs.declared.limits.Limits.{Limits as Allowed}
 use Rattle.run_text.specs.declared.plan.Plan.{Plan}
 use Rattle.run_text.specs.Trace.{trace_of, schedule_of}
+use Rattle.gallium_cli.specs.declared.status.Status.TheVariants as statuses
 use Rattle.gallium_cli.specs.declared.refusal.Refusal.{Refusal}
 use Rattle.gallium_cli.specs.declared.refusal.Refusal.TheVariants.{Source, LongProgram, Limits, Trace, Schedule}
 use Rattle.gallium_cli.specs.declared.refusal.Refusal.TheVariants.{TooLong, ReadFault, NoMemory}
@@ -103,12 +105,12 @@ passed_schedule c f plan spelled =
 
 -- what is told of a content is as before
 told_before : (P : List ℕ → Type 0) (f g : FilesState) (name : List ℕ)
-    → GoesOn f g → IfSome (g.told name) P → IfSome (f.told name) P
+    → GoesOn statuses.Done f g → IfSome (g.told name) P → IfSome (f.told name) P
 told_before P f g name goes h = subst (λ told. IfSome told P) (goes.told name) h
 
 -- a file that is refused after other reads is refused as if they hadn't been
 refused_later : (refusal : Refusal) (role : Role) (name : List ℕ) (f g h : FilesState)
-    → GoesOn f g → IsFileRefused refusal role name g h → IsFileRefused refusal role name f h
+    → GoesOn statuses.Done f g → IsFileRefused refusal role name g h → IsFileRefused refusal role name f h
 refused_later (Source fault) source name f g h goes refused = (refused.0, told_before _ f g name goes refused.1)
 refused_later (Source fault) program name f g h goes refused = (refused.0, told_before _ f g name goes refused.1)
 refused_later LongProgram program name f g h goes refused = told_before _ f g name goes refused
@@ -116,35 +118,33 @@ refused_later (Limits fault) limits name f g h goes refused = (refused.0, told_b
 refused_later (Trace fault) trace name f g h goes refused = (refused.0, told_before _ f g name goes refused.1)
 refused_later (Schedule fault) schedule name f g h goes refused = (refused.0, told_before _ f g name goes refused.1)
 refused_later (TooLong blamed) role name f g h goes refused =
-    let low = goes.overlong in
-    (refused.0, told_before _ f g name goes refused.1, refused.2, omega (arith, refused.3))
+    (refused.0, told_before _ f g name goes refused.1, refused.2, refused.3 ∙ ap one_more goes.overlong)
 refused_later (ReadFault blamed) role name f g h goes refused =
-    let low = goes.faults in
-    (refused.0, refused.1, omega (arith, refused.2))
+    (refused.0, refused.1, refused.2 ∙ ap one_more goes.faults)
 refused_later NoMemory role name f g h goes refused = tt
 refused_later _ role name f g h goes refused = absurd refused
 
-program_before : (s : List ℕ) (f g : FilesState) (m : Tree) → GoesOn f g → IsProgram g.told s m → IsProgram f.told s m
+program_before : (s : List ℕ) (f g : FilesState) (m : Tree) → GoesOn statuses.Done f g → IsProgram g.told s m → IsProgram f.told s m
 program_before s f g m goes is = record { source = told_before _ f g s goes is.source; bounded = is.bounded }
 
-plan_before : (s l : List ℕ) (f g : FilesState) (m : Tree) (allowed : Allowed) → GoesOn f g
+plan_before : (s l : List ℕ) (f g : FilesState) (m : Tree) (allowed : Allowed) → GoesOn statuses.Done f g
     → IsPlan g.told s l m allowed → IsPlan f.told s l m allowed
 plan_before s l f g m allowed goes is =
     record { program = program_before s f g m goes is.program; limits = told_before _ f g l goes is.limits }
 
 -- so is a gate that is passed, or that isn't
-gate_before : (gate : Gate) (f g : FilesState) → GoesOn f g → IsPassed gate g → IsPassed gate f
+gate_before : (gate : Gate) (f g : FilesState) → GoesOn statuses.Done f g → IsPassed gate g → IsPassed gate f
 gate_before (File name role) f g goes passed = told_before (IsGood role) f g name goes passed
 gate_before (Choice s l shrink) f g goes (m, allowed, split, found, chosen) =
     (m, allowed, split, plan_before s l f g m allowed goes found, chosen)
 
-refused_before : (refusal : Refusal) (gate : Gate) (f g h : FilesState) → GoesOn f g → IsRefusedAt refusal gate g h
+refused_before : (refusal : Refusal) (gate : Gate) (f g h : FilesState) → GoesOn statuses.Done f g → IsRefusedAt refusal gate g h
     → IsRefusedAt refusal gate f h
 refused_before refusal (File name role) f g h goes refused = refused_later refusal role name f g h goes refused
 refused_before refusal (Choice s l shrink) f g h goes (m, allowed, found, why) =
     (m, allowed, plan_before s l f g m allowed goes found, why)
 
-pub first_before : (refusal : Refusal) (gates : List Gate) (f g h : FilesState) → GoesOn f g
+pub first_before : (refusal : Refusal) (gates : List Gate) (f g h : FilesState) → GoesOn statuses.Done f g
     → IsFirstRefused refusal gates g h → IsFirstRefused refusal gates f h
 first_before refusal [] f g h goes refused = refused
 first_before refusal (gate ∷ gates) f g h goes (inl refused) = inl (refused_before refusal gate f g h goes refused)
@@ -170,7 +170,7 @@ refused_behind refusal (gate ∷ gates) more f f' passed refused =
 
 -- a trace is refused behind a good source
 pub second_refused : (refusal : Refusal) (s t : List ℕ) (f g h : FilesState) (m : Tree)
-    → IfSome (f.told s) (λ text. (length text ≤ size_of source) × IsSource text m) → GoesOn f g
+    → IfSome (f.told s) (λ text. (length text ≤ size_of source) × IsSource text m) → GoesOn statuses.Done f g
     → IsFileRefused refusal trace t g h → IsFirstRefused refusal (gates_of (Run s t)) f h
 second_refused refusal s t f g h m one goes refused =
     inr (passed_source s f m one, inl (refused_later refusal trace t f g h goes refused))
@@ -178,14 +178,14 @@ second_refused refusal s t f g h m one goes refused =
 -- limits are refused behind a good source
 pub limits_refused : (refusal : Refusal) (s l : List ℕ) (f g h : FilesState) (m : Tree)
     → IfSome (f.told s) (λ text. (length text ≤ size_of program) × IsOnlySource text m) → IsBounded (flat_of m)
-    → GoesOn f g → IsFileRefused refusal limits l g h
+    → GoesOn statuses.Done f g → IsFileRefused refusal limits l g h
     → IsFirstRefused refusal (File s program ∷ (File l limits ∷ [])) f h
 limits_refused refusal s l f g h m one bounded goes refused =
     inr (passed_program s f m one bounded.few, inl (refused_later refusal limits l f g h goes refused))
 
 -- a schedule is refused behind a good trace
 pub schedule_refused : (refusal : Refusal) (t c : List ℕ) (f g h : FilesState) (packets : List Packet)
-    → IfSome (f.told t) (λ text. (length text ≤ size_of trace) × (trace_of text ≡ Ok packets)) → GoesOn f g
+    → IfSome (f.told t) (λ text. (length text ≤ size_of trace) × (trace_of text ≡ Ok packets)) → GoesOn statuses.Done f g
     → IsFileRefused refusal schedule c g h → IsFirstRefused refusal (event_gates t c) f h
 schedule_refused refusal t c f g h packets one goes refused =
     inr (passed_trace t f packets one, inl (refused_later refusal schedule c f g h goes refused))
@@ -209,7 +209,7 @@ choice_refused refusal s l shrink f f' m allowed found why =
 -- ## What is told after other reads
 
 -- the told limits, as they were before other reads
-pub plan_told : (s l : List ℕ) (f g : FilesState) (m : Tree) (allowed : Allowed) → GoesOn f g
+pub plan_told : (s l : List ℕ) (f g : FilesState) (m : Tree) (allowed : Allowed) → GoesOn statuses.Done f g
     → IfSome (f.told s) (λ text. (length text ≤ size_of program) × IsOnlySource text m) → IsBounded (flat_of m)
     → IfSome (g.told l) (λ text. (length text ≤ size_of limits) × AreLimits text allowed)
     → IsPlan f.told s l m allowed
@@ -219,19 +219,19 @@ plan_told s l f g m allowed goes one bounded two = record {
 }
 
 -- the told trace, and the told schedule
-pub input_told : (s t : List ℕ) (f g : FilesState) (m : Tree) (packets : List Packet) → GoesOn f g
+pub input_told : (s t : List ℕ) (f g : FilesState) (m : Tree) (packets : List Packet) → GoesOn statuses.Done f g
     → IfSome (f.told s) (λ text. (length text ≤ size_of source) × IsSource text m)
     → IfSome (g.told t) (λ text. (length text ≤ size_of trace) × (trace_of text ≡ Ok packets))
     → IsInput f.told s t m packets
 input_told s t f g m packets goes one two = record { source = one; trace = told_before _ f g t goes two }
 
-pub traffic_told : (t c : List ℕ) (f g : FilesState) (packets : List Packet) (plan : Plan) → GoesOn f g
+pub traffic_told : (t c : List ℕ) (f g : FilesState) (packets : List Packet) (plan : Plan) → GoesOn statuses.Done f g
     → IfSome (f.told t) (λ text. (length text ≤ size_of trace) × (trace_of text ≡ Ok packets))
     → IfSome (g.told c) (λ text. (length text ≤ size_of schedule) × (schedule_of text ≡ Ok plan))
     → IsTraffic f.told t c packets plan
 traffic_told t c f g packets plan goes one two = record { trace = one; schedule = told_before _ f g c goes two }
 
-pub traffic_before : (t c : List ℕ) (f g : FilesState) (packets : List Packet) (plan : Plan) → GoesOn f g
+pub traffic_before : (t c : List ℕ) (f g : FilesState) (packets : List Packet) (plan : Plan) → GoesOn statuses.Done f g
     → IsTraffic g.told t c packets plan → IsTraffic f.told t c packets plan
 traffic_before t c f g packets plan goes two =
     record { trace = told_before _ f g t goes two.trace; schedule = told_before _ f g c goes two.schedule }

@@ -1,5 +1,6 @@
 pub mod Bounds
 pub mod Files
+pub mod Counted
 pub mod Written
 pub mod Reported
 pub mod Runnable

@@ -3,6 +3,7 @@ use Rattle.std.proofs.Common.{◌≡◌, ◌⊎◌, Bool, true, false, List, [],
 use Rattle.std.proofs.Common.{refl}
 use Rattle.gal_io.specs.Count.{Rose}
 use Rattle.gal_io.specs.Files.{FilesState}
+use Rattle.gal_io.specs.Sink.{SinkState}
 use Rattle.gal_io.specs.declared.sink.SinkEnd.{SinkEnd}
 use Rattle.gal_io.specs.declared.sink.SinkEnd.TheVariants as ends
 use Rattle.switch_ir.specs.Port.{PortState}
@@ -16,10 +17,12 @@ use Rattle.gallium_cli.specs.Lines.{status_of}
 use Rattle.gallium_cli.specs.Words.{Request, Run, Compile, Replay, ReplayWithin, is_replay, request_of}
 use Rattle.gallium_cli.specs.Roles.{Gate, File, Choice, gates_of, names_in}
 use Rattle.gallium_cli.specs.Causes.{IsFirstRefused, IsSwitchKept, IsSwitchFaulty, IsNotWritten, IsIdle, IsDone, HasCause}
-use Rattle.gallium_cli.specs.Causes.{after_line, EndsFor, Ends}
+use Rattle.gallium_cli.specs.Causes.{CountsFaults, after_line, EndsFor, Ends}
 use Rattle.gallium_cli.specs.Promises.{IsWriteFault, BlamesInput, IsReadOnce, IsUsage, IsOneOf, IsBlamed}
+use Rattle.gallium_cli.specs.Promises.{CountsOne}
 use Rattle.gallium_cli.specs.Promises.{MayExceed, IsReplay, Promises}
 use Rattle.gallium_cli.proofs.Written.{at_most}
+use Rattle.gallium_cli.proofs.Counted.{no_switch_fault}
 use Rattle.gallium_cli.proofs.Choices.{IsGreatestOne, IsKeptUnexceeded}
 use Rattle.gallium_cli.proofs.Exact.{exact_ends, complete_ends}
 use Rattle.gallium_cli.proofs.CauseTold.{cause_told}
@@ -41,8 +44,8 @@ told_not_done refusal ends.NoMemory = tt
 
 done_ends : (request : Option Request) (status : Status) (call : Call) → EndsFor request status call
     → status ≡ statuses.Done → IsDone request call.work × (call.err_after ≡ call.err)
-done_ends request status call (inl done) is = (done.1, done.2)
-done_ends request status call (inr (refusal, cause, (end, told, written))) is =
+done_ends request status call (inl done) is = (done.1, done.3)
+done_ends request status call (inr (refusal, cause, counts, (end, told, written))) is =
     absurd (subst IsNotDone (sym told ∙ is) (told_not_done refusal end))
 
 -- ## What a gate is to blame for
@@ -82,14 +85,14 @@ record IsShutOut (P : Status → Type 0) (request : Request) (work : Work) : Typ
 shut_out : (P : Status → Type 0) (request : Request) (status : Status) (call : Call) → IsOfGates P
     → EndsFor (Some request) status call → P status → IsShutOut P request call.work
 shut_out P request status call of (inl done) h = absurd (of.done (subst P done.0 h))
-shut_out P request status call of (inr (refusal, (inl first, few, aside), (end, is, written))) h =
+shut_out P request status call of (inr (refusal, (inl first, few, aside), counts, (end, is, written))) h =
     record { refusal = refusal; first = first.0; idle = first.1; is = told_of P refusal end status of is h }
-shut_out P request status call of (inr (refusal, (inr (inl faulty), few, aside), (end, is, written))) h =
+shut_out P request status call of (inr (refusal, (inr (inl faulty), few, aside), counts, (end, is, written))) h =
     absurd (
     switch_not_so P refusal request call.work.port call.work.port_after of faulty.0
     (told_of P refusal end status of is h)
     )
-shut_out P request status call of (inr (refusal, (inr (inr unput), few, aside), (end, is, written))) h =
+shut_out P request status call of (inr (refusal, (inr (inr unput), few, aside), counts, (end, is, written))) h =
     absurd (unwritten_not_so P refusal request call.work of unput (told_of P refusal end status of is h))
 
 -- where words, a file or a limit are to blame, all else is as it was
@@ -99,7 +102,7 @@ blamed_gates = record { done = λ h. h; write = λ h. h; switch = λ h. h; memor
 idle_ends : (request : Option Request) (status : Status) (call : Call)
     → EndsFor request status call → BlamesInput status → IsIdle call.work
 idle_ends None status call (inl done) input = absurd done.1
-idle_ends None status call (inr (refusal, cause, told)) input = cause.2
+idle_ends None status call (inr (refusal, cause, counts, told)) input = cause.2
 idle_ends (Some request) status call end input = (shut_out BlamesInput request status call blamed_gates end input).idle
 
 -- ## Words with no form
@@ -129,7 +132,7 @@ no_usage _ gates f f' is h = is
 usage_ends : (request : Option Request) (status : Status) (call : Call) → EndsFor request status call
     → IsUsage request status
 usage_ends None status call (inl done) = absurd done.1
-usage_ends None status call (inr (refusal, cause, (end, is, written))) = told_usage refusal end status cause.0 is
+usage_ends None status call (inr (refusal, cause, counts, (end, is, written))) = told_usage refusal end status cause.0 is
 usage_ends (Some request) status call end = λ usage.
     let out = shut_out IsUsageStatus request status call usage_gates end (subst IsUsageStatus (sym usage) tt) in
     no_usage out.refusal (gates_of request) call.work.files call.work.files_after out.is out.first
@@ -159,7 +162,7 @@ too_long_ends : (request : Option Request) (status : Status) (call : Call)
     → EndsFor request status call → IsTooLong status
     → IsBlamed request call.work.files.overlong call.work.files_after.overlong call.work.files_after.overlong_name
 too_long_ends None status call (inl done) long = absurd done.1
-too_long_ends None status call (inr (refusal, cause, (end, is, written))) long =
+too_long_ends None status call (inr (refusal, cause, counts, (end, is, written))) long =
     subst (λ r. IsTooLong (status_of r)) cause.0 (told_of IsTooLong refusal end status long_gates is long)
 too_long_ends (Some request) status call end long =
     let out = shut_out IsTooLong request status call long_gates end long in
@@ -188,7 +191,7 @@ read_fault_ends : (request : Option Request) (status : Status) (call : Call)
     → EndsFor request status call → IsReadFault status
     → IsBlamed request call.work.files.faults call.work.files_after.faults call.work.files_after.fault_name
 read_fault_ends None status call (inl done) fault = absurd done.1
-read_fault_ends None status call (inr (refusal, cause, (end, is, written))) fault =
+read_fault_ends None status call (inr (refusal, cause, counts, (end, is, written))) fault =
     subst (λ r. IsReadFault (status_of r)) cause.0 (told_of IsReadFault refusal end status fault_gates is fault)
 read_fault_ends (Some request) status call end fault =
     let out = shut_out IsReadFault request status call fault_gates end fault in
@@ -237,53 +240,58 @@ may_exceed refusal (ReplayWithin s t c l true) f f' is first =
 exceeded_ends : (request : Option Request) (status : Status) (call : Call)
     → EndsFor request status call → IsExceededStatus status → MayExceed request
 exceeded_ends None status call (inl done) exceeded = absurd done.1
-exceeded_ends None status call (inr (refusal, cause, (end, is, written))) exceeded =
+exceeded_ends None status call (inr (refusal, cause, counts, (end, is, written))) exceeded =
     subst (λ r. IsExceededStatus (status_of r)) cause.0
     (told_of IsExceededStatus refusal end status exceeded_gates is exceeded)
 exceeded_ends (Some request) status call end exceeded =
     let out = shut_out IsExceededStatus request status call exceeded_gates end exceeded in
     may_exceed out.refusal request call.work.files call.work.files_after out.is out.first
 
--- ## Faults of out and of the switch
+-- ## What is counted
 
 abbrev IsOutFault : Status → Type 0
 IsOutFault statuses.WriteFault = Unit {0}
 IsOutFault _ = ⊥
 
-no_write_fault : (gates : List Gate) (f f' : FilesState) → IsFirstRefused WriteFault gates f f' → ⊥
-no_write_fault [] f f' h = h
-no_write_fault (File name role ∷ gates) f f' (inl h) = h
-no_write_fault (Choice s l shrink ∷ gates) f f' (inl (m, allowed, found, never)) = never
-no_write_fault (gate ∷ gates) f f' (inr later) = no_write_fault gates f f' later.1
-
-out_rose : (refusal : Refusal) (request : Option Request) (work : Work)
-    → IsOutFault (status_of refusal) → HasCause refusal request work → Rose work.out.faults work.out_after.faults
-out_rose WriteFault None work is cause = let usage : WriteFault ≡ Usage = cause.0 in cc
-out_rose WriteFault (Some request) work is (inl first, few, aside) =
-    absurd (no_write_fault (gates_of request) work.files work.files_after first.0)
-out_rose WriteFault (Some request) work is (inr (inl faulty), few, aside) = absurd faulty.0
-out_rose WriteFault (Some request) work is (inr (inr unput), few, aside) = unput.0
-out_rose _ request work is cause = absurd is
+counted_ends : (request : Option Request) (status : Status) (call : Call)
+    → EndsFor request status call → (IsWriteFault status → ⊥)
+    → CountsFaults status call.work × (call.err_after.faults ≡ call.err.faults)
+counted_ends request status call (inl (is, done, counts, silent)) other =
+    (subst (λ s. CountsFaults s call.work) (sym is) counts, ap (λ (e : SinkState). e.faults) silent)
+counted_ends request status call (inr (refusal, cause, counts, (ends.Done, is, written))) other =
+    (subst (λ s. CountsFaults s call.work) (sym is) counts, written.faults)
+counted_ends request status call (inr (refusal, cause, counts, (ends.Failed, is, written))) other =
+    absurd (other (subst IsWriteFault (sym is) tt))
+counted_ends request status call (inr (refusal, cause, counts, (ends.NoMemory, is, written))) other =
+    absurd (other (subst IsWriteFault (sym is) tt))
 
 write_fault_ends : (request : Option Request) (status : Status) (call : Call)
-    → EndsFor request status call → IsOutFault status
-    → Rose call.work.out.faults call.work.out_after.faults ⊎ Rose call.err.faults call.err_after.faults
-write_fault_ends request status call (inl done) fault = absurd (subst IsOutFault done.0 fault)
-write_fault_ends request status call (inr (refusal, cause, (ends.Done, is, written))) fault =
-    inl (out_rose refusal request call.work (subst IsOutFault is fault) cause)
-write_fault_ends request status call (inr (refusal, cause, (ends.Failed, is, written))) fault = inr written.faults.1
-write_fault_ends request status call (inr (refusal, cause, (ends.NoMemory, is, written))) fault =
-    absurd (subst IsOutFault is fault)
+    → EndsFor request status call → status ≡ statuses.WriteFault
+    → (CountsFaults statuses.WriteFault call.work × (call.err_after.faults ≡ call.err.faults))
+    ⊎ (CountsOne call.work × Rose call.err.faults call.err_after.faults)
+write_fault_ends request status call (inl done) fault = absurd (subst IsOutFault (sym fault ∙ done.0) tt)
+write_fault_ends request status call (inr (refusal, cause, counts, (ends.Done, is, written))) fault =
+    inl (subst (λ s. CountsFaults s call.work) (sym is ∙ fault) counts, written.faults)
+write_fault_ends request status call (inr (refusal, cause, counts, (ends.Failed, is, written))) fault =
+    inr ((status_of refusal, counts), written.faults)
+write_fault_ends request status call (inr (refusal, cause, counts, (ends.NoMemory, is, written))) fault =
+    absurd (subst IsOutFault (sym fault ∙ is) tt)
+
+no_memory_ends : (request : Option Request) (status : Status) (call : Call)
+    → EndsFor request status call → status ≡ statuses.NoMemory
+    → CountsOne call.work × (call.err_after.faults ≡ call.err.faults)
+no_memory_ends request status call (inl (is, done, counts, silent)) memory =
+    ((statuses.Done, counts), ap (λ (e : SinkState). e.faults) silent)
+no_memory_ends request status call (inr (refusal, cause, counts, (ends.Done, is, written))) memory =
+    ((status_of refusal, counts), written.faults)
+no_memory_ends request status call (inr (refusal, cause, counts, (ends.Failed, is, written))) memory =
+    absurd (subst IsOutFault (sym is ∙ memory) tt)
+no_memory_ends request status call (inr (refusal, cause, counts, (ends.NoMemory, is, written))) memory =
+    ((status_of refusal, counts), written.faults)
 
 abbrev IsSwitchStatus : Status → Type 0
 IsSwitchStatus statuses.SwitchFault = Unit {0}
 IsSwitchStatus _ = ⊥
-
-no_switch_fault : (gates : List Gate) (f f' : FilesState) → IsFirstRefused SwitchFault gates f f' → ⊥
-no_switch_fault [] f f' h = h
-no_switch_fault (File name role ∷ gates) f f' (inl h) = h
-no_switch_fault (Choice s l shrink ∷ gates) f f' (inl (m, allowed, found, never)) = never
-no_switch_fault (gate ∷ gates) f f' (inr later) = no_switch_fault gates f f' later.1
 
 switch_rose : (refusal : Refusal) (request : Option Request) (work : Work)
     → IsSwitchStatus (status_of refusal) → HasCause refusal request work
@@ -299,11 +307,11 @@ switch_fault_ends : (request : Option Request) (status : Status) (call : Call)
     → EndsFor request status call → IsSwitchStatus status
     → IsReplay request × Rose call.work.port.faults call.work.port_after.faults
 switch_fault_ends request status call (inl done) fault = absurd (subst IsSwitchStatus done.0 fault)
-switch_fault_ends request status call (inr (refusal, cause, (ends.Done, is, written))) fault =
+switch_fault_ends request status call (inr (refusal, cause, counts, (ends.Done, is, written))) fault =
     switch_rose refusal request call.work (subst IsSwitchStatus is fault) cause
-switch_fault_ends request status call (inr (refusal, cause, (ends.Failed, is, written))) fault =
+switch_fault_ends request status call (inr (refusal, cause, counts, (ends.Failed, is, written))) fault =
     absurd (subst IsSwitchStatus is fault)
-switch_fault_ends request status call (inr (refusal, cause, (ends.NoMemory, is, written))) fault =
+switch_fault_ends request status call (inr (refusal, cause, counts, (ends.NoMemory, is, written))) fault =
     absurd (subst IsSwitchStatus is fault)
 
 -- ## Who calls the switch, and how often files are read
@@ -315,19 +323,19 @@ kept_aside false p p' none kept = kept
 aside_ends : (request : Option Request) (status : Status) (call : Call) → EndsFor request status call
     → (IsReplay request → ⊥) → call.work.port_after ≡ call.work.port
 aside_ends None status call (inl done) none = absurd done.1
-aside_ends None status call (inr (refusal, cause, told)) none = cause.2.port
-aside_ends (Some request) status call (inl (is, (text, answer, taken, read, aside), silent)) none =
+aside_ends None status call (inr (refusal, cause, counts, told)) none = cause.2.port
+aside_ends (Some request) status call (inl (is, (text, answer, taken, read, aside), counts, silent)) none =
     kept_aside (is_replay request) call.work.port call.work.port_after none aside
-aside_ends (Some request) status call (inr (refusal, (why, few, aside), told)) none =
+aside_ends (Some request) status call (inr (refusal, (why, few, aside), counts, told)) none =
     kept_aside (is_replay request) call.work.port call.work.port_after none aside
 
 once_ends : (request : Option Request) (status : Status) (call : Call)
     → EndsFor request status call → IsReadOnce request status call
 once_ends None status call (inl done) = absurd done.1
-once_ends None status call (inr (refusal, cause, told)) = cause.1
-once_ends (Some request) status call (inl (is, (text, answer, taken, read, aside), silent)) =
+once_ends None status call (inr (refusal, cause, counts, told)) = cause.1
+once_ends (Some request) status call (inl (is, (text, answer, taken, read, aside), counts, silent)) =
     (at_most _ _ read, λ _. read)
-once_ends (Some request) status call (inr (refusal, (why, few, aside), (end, told, written))) =
+once_ends (Some request) status call (inr (refusal, (why, few, aside), counts, (end, told, written))) =
     (few, λ is. absurd (subst IsNotDone (sym told ∙ is) (told_not_done refusal end)))
 
 -- all that is promised follows from how a call ends
@@ -350,6 +358,8 @@ promised status call one kept end =
       exceeded = λ is. exceeded_ends request status call end (subst IsExceededStatus (sym is) tt);
       too_long = λ is. too_long_ends request status call end (subst IsTooLong (sym is) tt);
       read_fault = λ is. read_fault_ends request status call end (subst IsReadFault (sym is) tt);
-      write_fault = λ is. write_fault_ends request status call end (subst IsOutFault (sym is) tt);
+      counted = counted_ends request status call end;
+      no_memory = no_memory_ends request status call end;
+      write_fault = write_fault_ends request status call end;
       switch_fault = λ is. switch_fault_ends request status call end (subst IsSwitchStatus (sym is) tt);
     }

@@ -19,6 +19,7 @@ use Rattle.split_validate.specs.CountsText.{counts_text}
 use Rattle.partition.specs.Choice.{IsChosen}
 use Rattle.run_text.specs.declared.plan.Plan.{Plan}
 use Rattle.switch_ir.specs.Port.{PortState}
+use Rattle.gallium_cli.specs.declared.status.Status.TheVariants as statuses
 use Rattle.gallium_cli.specs.declared.refusal.Refusal.{Refusal}
 use Rattle.gallium_cli.specs.declared.refusal.Refusal.TheVariants.{WriteFault, SwitchFault, NoMemory}
 use Rattle.gallium_cli.specs.Call.{work_of}
@@ -76,7 +77,7 @@ pub put_answer : {A : Type 0} {E : Type 0} (result : Result A E) (request : Requ
     (p p' : PortState) (o o' : SinkState) → IsAnswer text request f.told p p' → f'.reads ≡ most_reads request f
     → IsSwitchKept (is_replay request) p p' → OnOk result (IsPut text o o')
     → OnOk result (IsDone (Some request) (work_of f f' p p' o o'))
-put_answer (Ok x) request text f f' p p' o o' answer read kept put = (text, answer, put, read, kept)
+put_answer (Ok x) request text f f' p p' o o' answer read kept put = (text, answer, put.0, read, kept)
 put_answer (Err e) request text f f' p p' o o' answer read kept put = tt
 
 -- an answer that wasn't put on out is the cause of its refusal
@@ -128,7 +129,7 @@ reads_in_all a b x y z one two = omega arith
 -- what a refusal at the trace or the schedule comes to, behind gates that are passed
 traffic_cause : (refusal : Refusal) (request : Request) (gates : List Gate) (t c : List ℕ) (f g h : FilesState)
     (p : PortState) (o : SinkState) (a b : ℕ) → gates_of request ≡ gates ++ event_gates t c
-    → length (names_of request) ≡ a + b → AllPassed gates f → GoesOn f g → g.reads ≡ raised_by a f.reads
+    → length (names_of request) ≡ a + b → AllPassed gates f → GoesOn statuses.Done f g → g.reads ≡ raised_by a f.reads
     → IsFirstRefused refusal (event_gates t c) g h → h.reads ≤ raised_by b g.reads
     → HasCause refusal (Some request) (work_of f h p p o o)
 traffic_cause refusal request gates t c f g h p o a b goes_by many passed goes one first two =
@@ -140,7 +141,7 @@ traffic_cause refusal request gates t c f g h p o a b goes_by many passed goes o
     (subst (λ n. h.reads ≤ raised_by n f.reads) (sym many) few)
 
 pub served_refused : (refusal : Refusal) (s t c : List ℕ) (m : Tree) (f g h : FilesState) (p : PortState) (o : SinkState)
-    → IsProgram f.told s m → GoesOn f g → g.reads ≡ raised_by 1 f.reads
+    → IsProgram f.told s m → GoesOn statuses.Done f g → g.reads ≡ raised_by 1 f.reads
     → IsFirstRefused refusal (event_gates t c) g h → h.reads ≤ raised_by 2 g.reads
     → HasCause refusal (Some (Replay s t c)) (work_of f h p p o o)
 served_refused refusal s t c m f g h p o found goes one first two =
@@ -149,7 +150,7 @@ served_refused refusal s t c m f g h p o found goes one first two =
 
 pub chosen_refused : (refusal : Refusal) (s t c l : List ℕ) (shrink : Bool) (m : Tree) (allowed : Limits) (q : Program)
     (split : List Part) (f g h : FilesState) (p : PortState) (o : SinkState) → IsPlan f.told s l m allowed
-    → q ≡ flat_of m → IsChoice q allowed shrink split → GoesOn f g → g.reads ≡ raised_by 2 f.reads
+    → q ≡ flat_of m → IsChoice q allowed shrink split → GoesOn statuses.Done f g → g.reads ≡ raised_by 2 f.reads
     → IsFirstRefused refusal (event_gates t c) g h → h.reads ≤ raised_by 2 g.reads
     → HasCause refusal (Some (ReplayWithin s t c l shrink)) (work_of f h p p o o)
 chosen_refused refusal s t c l shrink m allowed q split f g h p o found same choice goes one first two =
@@ -169,7 +170,7 @@ report_put sent text m split writeback rows packets plan p p' put same report =
     (subst (λ n. IsReport text m (setup m split n packets) plan p p') same report)
 
 pub served_answer : (s t c : List ℕ) (m : Tree) (q : Program) (split : List Part) (writeback : ℕ) (packets : List Packet)
-    (plan : Plan) (text sent : List ℕ) (f g : FilesState) (p p' : PortState) → GoesOn f g → IsProgram f.told s m
+    (plan : Plan) (text sent : List ℕ) (f g : FilesState) (p p' : PortState) → GoesOn statuses.Done f g → IsProgram f.told s m
     → q ≡ flat_of m → IsNoChoice q split → writeback ≡ 0 → IsTraffic g.told t c packets plan
     → IsReport text m (setup m split writeback packets) plan p p' → sent ≡ text
     → IsAnswer sent (Replay s t c) f.told p p'
@@ -186,7 +187,7 @@ served_answer s t c m q split writeback packets plan text sent f g p p' goes fou
 
 pub chosen_answer : (s t c l : List ℕ) (shrink : Bool) (m : Tree) (allowed : Limits) (q : Program) (split : List Part)
     (writeback : ℕ) (packets : List Packet) (plan : Plan) (text sent : List ℕ) (f g : FilesState) (p p' : PortState)
-    → GoesOn f g → IsPlan f.told s l m allowed → q ≡ flat_of m → IsChoice q allowed shrink split
+    → GoesOn statuses.Done f g → IsPlan f.told s l m allowed → q ≡ flat_of m → IsChoice q allowed shrink split
     → writeback ≡ allowed.writeback → IsTraffic g.told t c packets plan
     → IsReport text m (setup m split writeback packets) plan p p' → sent ≡ text
     → IsAnswer sent (ReplayWithin s t c l shrink) f.told p p'

@@ -3,7 +3,7 @@ use Rattle.std.specs.Prelude.{◌≡◌, ◌≤◌, ◌⊎◌, ℕ, Bool, true, 
 use Rattle.std.specs.Prelude.{Option, Some, None, IfSome}
 use Rattle.std.specs.Option.{option_map}
 use Rattle.std.specs.Io.KnownBytes.{append_known}
-use Rattle.gal_io.specs.Count.{Rose}
+use Rattle.gal_io.specs.Count.{Rose, Counts}
 use Rattle.gal_io.specs.Files.{FilesState}
 use Rattle.gal_io.specs.Sink.{SinkState, Writes}
 use Rattle.state_store.specs.declared.object.ObjectDecl.{ObjectDecl}
@@ -28,7 +28,7 @@ use Rattle.gallium_cli.specs.Words.{Request, is_replay, request_of}
 use Rattle.gallium_cli.specs.Lines.{status_of, line_of}
 use Rattle.gallium_cli.specs.Roles.{Gate, File, Choice, IsGood, gates_of, names_of}
 use Rattle.gallium_cli.specs.Answers.{IsPlan, IsAnswer}
-use Rattle.gallium_cli.specs.Loads.{IsFileRefused, raised_by}
+use Rattle.gallium_cli.specs.Loads.{IsFileRefused, GoesOn, raised_by}
 
 -- what is told of a limit that is exceeded
 abbrev pub excess_of : List ObjectDecl → Over → Excess
@@ -98,13 +98,13 @@ IsSwitchFaulty SwitchFault request port port_after =
 IsSwitchFaulty _ request port port_after = ⊥
 
 -- Why an answer wasn't written: only some first bytes were taken, and the count of faults of out rose, or no memory was
--- found and nothing was taken.
+-- found, and out is as it was.
 abbrev pub IsNotWritten : Refusal → Request → Work → Type 0
 IsNotWritten WriteFault request work =
     Rose work.out.faults work.out_after.faults
     × (text : List ℕ) × IsAnswer text request work.files.told work.port work.port_after
     × (n : ℕ) × (work.out_after.taken ≡ append_known work.out.taken (take n text))
-IsNotWritten NoMemory request work = work.out_after.taken ≡ work.out.taken
+IsNotWritten NoMemory request work = work.out_after ≡ work.out
 IsNotWritten _ request work = ⊥
 
 -- what is as it was: out, its count too, and the switch
@@ -124,6 +124,21 @@ HasCause refusal (Some request) work =
     × (work.files_after.reads ≤ most_reads request work.files)
     × IsSwitchKept (is_replay request) work.port work.port_after
 
+abbrev pub is_write_fault : Status → Bool
+is_write_fault statuses.WriteFault = true
+is_write_fault _ = false
+
+abbrev pub is_switch_fault : Status → Bool
+is_switch_fault statuses.SwitchFault = true
+is_switch_fault _ = false
+
+-- What a request that ends with this status counts: the fault that the status names, once, and no other. No call that
+-- failed was made again.
+pub record CountsFaults (status : Status) (work : Work) : Type 0 where
+  pub files : GoesOn status work.files work.files_after
+  pub out : Counts (is_write_fault status) work.out.faults work.out_after.faults
+  pub switch : Counts (is_switch_fault status) work.port.faults work.port_after.faults
+
 -- the status that is answered where the line of a refusal ends so
 abbrev pub after_line : Refusal → SinkEnd → Status
 after_line refusal ends.Done = status_of refusal
@@ -134,12 +149,14 @@ after_line refusal ends.NoMemory = statuses.NoMemory
 abbrev pub IsTold : Refusal → Status → SinkState → SinkState → Type 0
 IsTold refusal status e e' = (end : SinkEnd) × (status ≡ after_line refusal end) × Writes end (line_of refusal) e e'
 
--- A call for this request is done, and err is as it was, its count too; or there is a refusal with its cause, and its
--- line goes to err.
+-- A call for this request is done without any fault, and err is as it was, its count too; or there is a refusal with its
+-- cause and its one fault, if it is for a fault, and its line goes to err.
 abbrev pub EndsFor : Option Request → Status → Call → Type 0
 EndsFor request status call =
-    ((status ≡ statuses.Done) × IsDone request call.work × (call.err_after ≡ call.err))
-    ⊎ ((refusal : Refusal) × HasCause refusal request call.work × IsTold refusal status call.err call.err_after)
+    ((status ≡ statuses.Done) × IsDone request call.work × CountsFaults statuses.Done call.work
+    × (call.err_after ≡ call.err))
+    ⊎ ((refusal : Refusal) × HasCause refusal request call.work × CountsFaults (status_of refusal) call.work
+    × IsTold refusal status call.err call.err_after)
 
 -- how a whole call ends
 abbrev pub Ends : Status → Call → Type 0

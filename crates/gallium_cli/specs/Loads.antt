@@ -1,6 +1,8 @@
 -- How one file is loaded.
-use Rattle.std.specs.Prelude.{◌≡◌, ◌≤◌, ◌<◌, ◌≢◌, ◌+◌, ◌-◌, ◌^◌, ℕ, min, List, length, Some, Err, IfSome}
-use Rattle.gal_io.specs.Count.{Rose}
+use Rattle.std.specs.Prelude.{◌≡◌, ◌≤◌, ◌<◌, ◌≢◌, ◌+◌, ◌-◌, ◌^◌, ℕ, min, Bool, true, false, List, length, Some, Err}
+use Rattle.std.specs.Prelude.{IfSome}
+use Rattle.std.specs.Bool.{OnFalse}
+use Rattle.gal_io.specs.Count.{Rose, Counts}
 use Rattle.gal_io.specs.Files.{FilesState}
 use Rattle.resource_limits.specs.Limits as texts
 use Rattle.resource_limits.specs.declared.limits.LimitsError.{LimitsError}
@@ -11,6 +13,8 @@ use Rattle.element_text.specs.declared.error.TextError.TheVariants as errors
 use Rattle.run_text.specs.Trace.{trace_of, schedule_of}
 use Rattle.run_text.specs.declared.refusal.LinesError.{LinesError}
 use Rattle.run_text.specs.declared.refusal.LinesError.TheVariants as lines
+use Rattle.gallium_cli.specs.declared.status.Status.{Status}
+use Rattle.gallium_cli.specs.declared.status.Status.TheVariants as statuses
 use Rattle.gallium_cli.specs.declared.refusal.Refusal.{Refusal}
 use Rattle.gallium_cli.specs.declared.refusal.Refusal.TheVariants.{Source, LongProgram, Limits, Trace, Schedule}
 use Rattle.gallium_cli.specs.declared.refusal.Refusal.TheVariants.{TooLong, ReadFault, NoMemory}
@@ -77,11 +81,22 @@ IsLoaded bytes name size f = (length bytes ≤ size) × IfSome (f.told name) (λ
 abbrev pub raised_by : ℕ → ℕ → ℕ
 raised_by n count = min (count + n) (2 ^ 64 - 1)
 
--- what stays over a read: what is told, and that no count falls
-pub record GoesOn (f f' : FilesState) : Type 0 where
+abbrev pub is_read_fault : Status → Bool
+is_read_fault statuses.ReadFault = true
+is_read_fault _ = false
+
+abbrev pub is_too_long : Status → Bool
+is_too_long statuses.TooLong = true
+is_too_long _ = false
+
+-- Files after some reads, by how these ended: what is told stays, a read fault or a file that is too long is counted
+-- once, where the status is that, and all else but the number of reads is as before.
+pub record GoesOn (status : Status) (f f' : FilesState) : Type 0 where
   pub told : (name : List ℕ) → f'.told name ≡ f.told name
-  pub faults : f.faults ≤ f'.faults
-  pub overlong : f.overlong ≤ f'.overlong
+  pub faults : Counts (is_read_fault status) f.faults f'.faults
+  pub fault_name : OnFalse (is_read_fault status) (f'.fault_name ≡ f.fault_name)
+  pub overlong : Counts (is_too_long status) f.overlong f'.overlong
+  pub overlong_name : OnFalse (is_too_long status) (f'.overlong_name ≡ f.overlong_name)
 
 -- the refusal of a source that isn't read
 abbrev pub refusal_of : TextError → Refusal

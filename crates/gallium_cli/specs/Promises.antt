@@ -19,14 +19,14 @@ use Rattle.gallium_cli.specs.declared.status.Status.TheVariants.{SwitchFault}
 use Rattle.gallium_cli.specs.declared.status.Status.TheVariants.{NoMemory}
 use Rattle.gallium_cli.specs.declared.refusal.Refusal.{Refusal}
 use Rattle.gallium_cli.specs.declared.refusal.Refusal.TheVariants as refusals
-use Rattle.gallium_cli.specs.Call.{Call}
+use Rattle.gallium_cli.specs.Call.{Call, Work}
 use Rattle.gallium_cli.specs.Words.{Request, Compile, ReplayWithin, is_replay, request_of}
 use Rattle.gallium_cli.specs.Lines.{status_of, line_of}
 use Rattle.gallium_cli.specs.Roles.{Role, source, program, limits, trace, schedule, size_of}
 use Rattle.gallium_cli.specs.Roles.{Gate, File, Choice, gates_of, names_of}
 use Rattle.gallium_cli.specs.Roles.{IsGood, IsBad, IsShort, AreLimits}
 use Rattle.gallium_cli.specs.Loads.{IsLongProgram, AreBadLimits, IsBadTrace, IsBadSchedule}
-use Rattle.gallium_cli.specs.Causes.{IsDone, Ends, excess_of, most_reads}
+use Rattle.gallium_cli.specs.Causes.{IsDone, CountsFaults, Ends, excess_of, most_reads}
 
 -- an end that writing and memory may bring whatever the words are
 abbrev pub IsWriteFault : Status → Type 0
@@ -169,6 +169,10 @@ abbrev pub IsOneOf : List (List ℕ) → Option (List ℕ) → Type 0
 IsOneOf [] blamed = ⊥
 IsOneOf (name ∷ names) blamed = (blamed ≡ Some name) ⊎ IsOneOf names blamed
 
+-- the request ended with some status, and counted at most one fault
+abbrev pub CountsOne : Work → Type 0
+CountsOne work = (status : Status) × CountsFaults status work
+
 -- a count of files rose, and blames one that the request names
 abbrev pub IsBlamed : Option Request → ℕ → ℕ → Option (List ℕ) → Type 0
 IsBlamed None before now blamed = ⊥
@@ -201,6 +205,10 @@ pub record Promises (status : Status) (call : Call) : Type 0 where
   pub cause : IsCauseTold (request_of call.words) status call
   pub complete : IsComplete (request_of call.words) status call
   pub exceeded : status ≡ Exceeded → MayExceed (request_of call.words)
+  -- which faults were counted: just the one that the status names, unless the line couldn't be written
+  pub counted : ¬ (IsWriteFault status)
+      → CountsFaults status call.work × (call.err_after.faults ≡ call.err.faults)
+  pub no_memory : status ≡ NoMemory → CountsOne call.work × (call.err_after.faults ≡ call.err.faults)
   -- which count rose, whether or not anything is told
   pub too_long : status ≡ TooLong
       → let before = call.work.files in let now = call.work.files_after in
@@ -209,6 +217,7 @@ pub record Promises (status : Status) (call : Call) : Type 0 where
       → let before = call.work.files in let now = call.work.files_after in
       IsBlamed (request_of call.words) before.faults now.faults now.fault_name
   pub write_fault : status ≡ WriteFault
-      → Rose call.work.out.faults call.work.out_after.faults ⊎ Rose call.err.faults call.err_after.faults
+      → (CountsFaults WriteFault call.work × (call.err_after.faults ≡ call.err.faults))
+      ⊎ (CountsOne call.work × Rose call.err.faults call.err_after.faults)
   pub switch_fault : status ≡ SwitchFault
       → IsReplay (request_of call.words) × Rose call.work.port.faults call.work.port_after.faults

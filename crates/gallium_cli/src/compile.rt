@@ -15,16 +15,18 @@ ghost use Rattle.split_model.specs.Legal.{IsLegal};
 ghost use Rattle.gallium_cli.specs.Words.{Compile};
 ghost use Rattle.gallium_cli.specs.Call.{work_of};
 ghost use Rattle.switch_ir.specs.Port.{PortState};
+ghost use Rattle.gallium_cli.specs.Lines.{status_of};
 ghost use Rattle.gallium_cli.specs.Roles.{program as program_role, limits as limits_role, File, plan_gates};
 ghost use Rattle.gallium_cli.specs.Answers.{IsChoice, IsPlan, heading_text, compiled_text};
 ghost use Rattle.gallium_cli.specs.Loads.{GoesOn, raised_by};
 ghost use Rattle.gallium_cli.specs.Runnable.{IsRunnable};
-ghost use Rattle.gallium_cli.specs.Causes.{HasCause, IsDone, IsFirstRefused, IsUnchosen, excess_of};
+ghost use Rattle.gallium_cli.specs.Causes.{CountsFaults, HasCause, IsDone, IsFirstRefused, IsUnchosen, excess_of};
 
 use crate::formats::{Flattened, LimitsFormat, ProgramFormat};
 use crate::load::load;
 use crate::output::put;
 use crate::refusal::{Excess, Refusal};
+use crate::status::Status;
 use element_interp::stores_are_kept;
 use flat_ir::{Flat, print_flat};
 use gal_io::{Files, NoMemory, Sink, Text};
@@ -48,7 +50,9 @@ fn load_plan<'a, F: Files>(
     ensures in_range { IfOk result (λ x. AreInRange x.1) }
     ensures err { IfErr result (λ refusal. IsFirstRefused refusal
         (File source.now program_role ∷ (File limits.now limits_role ∷ [])) (F.seen files.old) (F.seen files.new)) }
-    ensures stays { GoesOn (F.seen files.old) (F.seen files.new) }
+    ensures stays { OnOk result (GoesOn Status.Done (F.seen files.old) (F.seen files.new)) }
+    ensures fault { IfErr result (λ refusal.
+        GoesOn (status_of refusal) (F.seen files.old) (F.seen files.new)) }
     ensures read { OnOk result ((F.seen files.new).reads ≡ raised_by 2 (F.seen files.old).reads) }
     ensures few_reads { (F.seen files.new).reads ≤ raised_by 2 (F.seen files.old).reads }
 {
@@ -168,7 +172,9 @@ pub fn load_split<'a, F: Files>(
         IsRunnable (tree x.program.middlebox) (program_of x.program.flat) x.split x.writeback) }
     ensures err { IfErr result (λ refusal. IsFirstRefused refusal (plan_gates source.now limits.now shrink)
         (F.seen files.old) (F.seen files.new)) }
-    ensures stays { GoesOn (F.seen files.old) (F.seen files.new) }
+    ensures stays { OnOk result (GoesOn Status.Done (F.seen files.old) (F.seen files.new)) }
+    ensures fault { IfErr result (λ refusal.
+        GoesOn (status_of refusal) (F.seen files.old) (F.seen files.new)) }
     ensures read { OnOk result ((F.seen files.new).reads ≡ raised_by 2 (F.seen files.old).reads) }
     ensures few_reads { (F.seen files.new).reads ≤ raised_by 2 (F.seen files.old).reads }
 {
@@ -195,6 +201,10 @@ pub fn perform_compile<'a, F: Files, O: Sink>(
         (work_of (F.seen files.old) (F.seen files.new) port port (O.seen out.old) (O.seen out.new))) }
     ensures err { (port : PortState) → IfErr result (λ refusal.
         HasCause refusal (Some (Compile source.now limits.now shrink))
+        (work_of (F.seen files.old) (F.seen files.new) port port (O.seen out.old) (O.seen out.new))) }
+    ensures no_fault { (port : PortState) → OnOk result (CountsFaults Status.Done
+        (work_of (F.seen files.old) (F.seen files.new) port port (O.seen out.old) (O.seen out.new))) }
+    ensures fault { (port : PortState) → IfErr result (λ refusal. CountsFaults (status_of refusal)
         (work_of (F.seen files.old) (F.seen files.new) port port (O.seen out.old) (O.seen out.new))) }
 {
     let middlebox = load_split(alloc, source, limits, shrink, files)?;

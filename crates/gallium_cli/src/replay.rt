@@ -6,7 +6,8 @@ ghost use Rattle.flat_ir.specs.Program.{program_of};
 ghost use Rattle.run_text.specs.Sizes.{most_events, most_packets};
 ghost use Rattle.gallium_cli.specs.Answers.{IsNoChoice, IsProgram, IsReport, IsTraffic, setup};
 ghost use Rattle.gallium_cli.specs.Call.{work_of};
-ghost use Rattle.gallium_cli.specs.Causes.{HasCause, IsDone, IsFirstRefused};
+ghost use Rattle.gallium_cli.specs.Causes.{CountsFaults, HasCause, IsDone, IsFirstRefused};
+ghost use Rattle.gallium_cli.specs.Lines.{status_of};
 ghost use Rattle.gallium_cli.specs.Loads.{GoesOn, raised_by};
 ghost use Rattle.gallium_cli.specs.Roles.{program, File, event_gates};
 ghost use Rattle.gallium_cli.specs.Runnable.{IsRunnable};
@@ -18,6 +19,7 @@ use crate::formats::{Flattened, ProgramFormat, ScheduleFormat, TraceFormat};
 use crate::load::load;
 use crate::output::put;
 use crate::refusal::Refusal;
+use crate::status::Status;
 use element_interp::stores_are_kept;
 use flatten::flattening_keeps_the_meaning;
 use gal_io::{Files, Sink, Text};
@@ -41,7 +43,9 @@ fn load_traffic<'a, F: Files>(
     ensures few_events { IfOk result (λ x. length x.1.events ≤ most_events) }
     ensures err { IfErr result (λ refusal. IsFirstRefused refusal (event_gates trace.now schedule.now)
         (F.seen files.old) (F.seen files.new)) }
-    ensures stays { GoesOn (F.seen files.old) (F.seen files.new) }
+    ensures stays { OnOk result (GoesOn Status.Done (F.seen files.old) (F.seen files.new)) }
+    ensures fault { IfErr result (λ refusal.
+        GoesOn (status_of refusal) (F.seen files.old) (F.seen files.new)) }
     ensures read { OnOk result ((F.seen files.new).reads ≡ raised_by 2 (F.seen files.old).reads) }
     ensures few_reads { (F.seen files.new).reads ≤ raised_by 2 (F.seen files.old).reads }
 {
@@ -64,7 +68,9 @@ fn load_unsplit<'a, F: Files>(
         IsRunnable (tree x.program.middlebox) (program_of x.program.flat) x.split x.writeback) }
     ensures err { IfErr result (λ refusal. IsFirstRefused refusal (File source.now program ∷ [])
         (F.seen files.old) (F.seen files.new)) }
-    ensures stays { GoesOn (F.seen files.old) (F.seen files.new) }
+    ensures stays { OnOk result (GoesOn Status.Done (F.seen files.old) (F.seen files.new)) }
+    ensures fault { IfErr result (λ refusal.
+        GoesOn (status_of refusal) (F.seen files.old) (F.seen files.new)) }
     ensures read { OnOk result ((F.seen files.new).reads ≡ raised_by 1 (F.seen files.old).reads) }
     ensures few_reads { (F.seen files.new).reads ≤ raised_by 1 (F.seen files.old).reads }
 {
@@ -95,7 +101,9 @@ fn report<S: SwitchPort>(
     ensures ok { IfOk result (λ text. let m = tree split_middlebox.program.middlebox in
         IsReport text m (setup m split_middlebox.split split_middlebox.writeback packets) plan
         (S.seen port.old) (S.seen port.new)) }
-    ensures err { IfErr result (λ refusal. (refusal ≡ Refusal.NoMemory)
+    ensures no_fault { OnOk result ((S.seen port.new).faults ≡ (S.seen port.old).faults) }
+    ensures err { IfErr result (λ refusal.
+        ((refusal ≡ Refusal.NoMemory) × ((S.seen port.new).faults ≡ (S.seen port.old).faults))
         ⊎ ((refusal ≡ Refusal.SwitchFault) × Rose (S.seen port.old).faults (S.seen port.new).faults)) }
 {
     stores_are_kept();
@@ -143,6 +151,12 @@ pub fn perform_replay<'a, F: Files, S: SwitchPort, O: Sink>(
     ensures err { IfErr result (λ refusal. HasCause refusal (Some (Replay source.now trace.now schedule.now))
         (work_of (F.seen files.old) (F.seen files.new) (S.seen port.old) (S.seen port.new)
         (O.seen out.old) (O.seen out.new))) }
+    ensures no_fault { OnOk result (CountsFaults Status.Done
+        (work_of (F.seen files.old) (F.seen files.new) (S.seen port.old) (S.seen port.new)
+        (O.seen out.old) (O.seen out.new))) }
+    ensures fault { IfErr result (λ refusal. CountsFaults (status_of refusal)
+        (work_of (F.seen files.old) (F.seen files.new) (S.seen port.old) (S.seen port.new)
+        (O.seen out.old) (O.seen out.new))) }
 {
     let middlebox = load_unsplit(alloc, source, files)?;
     let (packets, plan) = load_traffic(alloc, trace, schedule, files)?;
@@ -168,6 +182,12 @@ pub fn perform_replay_within<'a, F: Files, S: SwitchPort, O: Sink>(
         (O.seen out.old) (O.seen out.new))) }
     ensures err { IfErr result (λ refusal. HasCause refusal
         (Some (ReplayWithin source.now trace.now schedule.now limits.now shrink))
+        (work_of (F.seen files.old) (F.seen files.new) (S.seen port.old) (S.seen port.new)
+        (O.seen out.old) (O.seen out.new))) }
+    ensures no_fault { OnOk result (CountsFaults Status.Done
+        (work_of (F.seen files.old) (F.seen files.new) (S.seen port.old) (S.seen port.new)
+        (O.seen out.old) (O.seen out.new))) }
+    ensures fault { IfErr result (λ refusal. CountsFaults (status_of refusal)
         (work_of (F.seen files.old) (F.seen files.new) (S.seen port.old) (S.seen port.new)
         (O.seen out.old) (O.seen out.new))) }
 {

@@ -6,11 +6,12 @@ ghost use Rattle.element_lang.specs.View.{tree};
 ghost use Rattle.element_lang.specs.Rules.{is_good};
 ghost use Rattle.run_text.specs.Sizes.{most_packets};
 ghost use Rattle.gallium_cli.specs.Words.{request_of, Run};
+ghost use Rattle.gallium_cli.specs.Lines.{status_of};
 ghost use Rattle.gallium_cli.specs.Roles.{gates_of};
 ghost use Rattle.gallium_cli.specs.Answers.{IsInput, serial_answer};
 ghost use Rattle.switch_ir.specs.Port.{PortState};
 ghost use Rattle.gallium_cli.specs.Loads.{GoesOn, raised_by};
-ghost use Rattle.gallium_cli.specs.Causes.{HasCause, IsDone, IsFirstRefused};
+ghost use Rattle.gallium_cli.specs.Causes.{CountsFaults, HasCause, IsDone, IsFirstRefused};
 ghost use Rattle.gallium_cli.specs.Call.{Call, work_of};
 ghost use Rattle.gallium_cli.specs.Promises.{Promises};
 
@@ -46,7 +47,9 @@ fn load_input<'a, F: Files>(
     ensures short_packets { IfOk result (λ x. AreShort x.1) }
     ensures err { IfErr result (λ refusal. IsFirstRefused refusal (gates_of (Run source.now trace.now))
         (F.seen files.old) (F.seen files.new)) }
-    ensures stays { GoesOn (F.seen files.old) (F.seen files.new) }
+    ensures stays { OnOk result (GoesOn Status.Done (F.seen files.old) (F.seen files.new)) }
+    ensures fault { IfErr result (λ refusal.
+        GoesOn (status_of refusal) (F.seen files.old) (F.seen files.new)) }
     ensures read { OnOk result ((F.seen files.new).reads ≡ raised_by 2 (F.seen files.old).reads) }
     ensures few_reads { (F.seen files.new).reads ≤ raised_by 2 (F.seen files.old).reads }
 {
@@ -81,6 +84,10 @@ fn perform_run<'a, F: Files, O: Sink>(
         (work_of (F.seen files.old) (F.seen files.new) port port (O.seen out.old) (O.seen out.new))) }
     ensures err { (port : PortState) → IfErr result (λ refusal. HasCause refusal (Some (Run source.now trace.now))
         (work_of (F.seen files.old) (F.seen files.new) port port (O.seen out.old) (O.seen out.new))) }
+    ensures no_fault { (port : PortState) → OnOk result (CountsFaults Status.Done
+        (work_of (F.seen files.old) (F.seen files.new) port port (O.seen out.old) (O.seen out.new))) }
+    ensures fault { (port : PortState) → IfErr result (λ refusal. CountsFaults (status_of refusal)
+        (work_of (F.seen files.old) (F.seen files.new) port port (O.seen out.old) (O.seen out.new))) }
 {
     let (middlebox, packets) = load_input(alloc, source, trace, files)?;
     let Ok(told) = answer(alloc, &middlebox, packets.as_slice()) else {
@@ -101,6 +108,12 @@ fn perform<'a, F: Files, S: SwitchPort, O: Sink>(
         (work_of (F.seen files.old) (F.seen files.new) (S.seen port.old) (S.seen port.new)
         (O.seen out.old) (O.seen out.new))) }
     ensures err { IfErr result (λ refusal. HasCause refusal (request_of (map string_bytes words.now))
+        (work_of (F.seen files.old) (F.seen files.new) (S.seen port.old) (S.seen port.new)
+        (O.seen out.old) (O.seen out.new))) }
+    ensures no_fault { OnOk result (CountsFaults Status.Done
+        (work_of (F.seen files.old) (F.seen files.new) (S.seen port.old) (S.seen port.new)
+        (O.seen out.old) (O.seen out.new))) }
+    ensures fault { IfErr result (λ refusal. CountsFaults (status_of refusal)
         (work_of (F.seen files.old) (F.seen files.new) (S.seen port.old) (S.seen port.new)
         (O.seen out.old) (O.seen out.new))) }
 {

@@ -34,7 +34,7 @@ no_calls x port = record {
   code = refl;
   told = same_told port.told;
   journal = sym (append-nil (calls_in port.journal));
-  faults = omega arith;
+  faults = refl;
   answers = λ told is. tt;
 }
 
@@ -48,7 +48,7 @@ kept_calls x old new kept = record {
 }
 
 pub keeps_all : (port : PortState) → KeepsCalls port port
-keeps_all port = record { code = refl; told = refl; journal = refl; spare = omega arith; faults = omega arith }
+keeps_all port = record { code = refl; told = refl; journal = refl; spare = omega arith; faults = refl }
 
 pub keeps_more : (old mid new : PortState) → KeepsCalls old mid → KeepsCalls mid new → KeepsCalls old new
 keeps_more old mid new one two = record {
@@ -56,7 +56,7 @@ keeps_more old mid new one two = record {
   told = two.told ∙ one.told;
   journal = two.journal ∙ one.journal;
   spare = let a = one.spare in let b = two.spare in omega arith;
-  faults = let a = one.faults in let b = two.faults in omega arith;
+  faults = two.faults ∙ one.faults;
 }
 
 one_entry : (journal more : List Entry) (entry : Entry) → is_of_replay entry ≡ true → more ≡ journal ++ entry ∷ []

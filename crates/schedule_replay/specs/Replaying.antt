@@ -51,10 +51,10 @@ pub record IsOnItsWay (x : Setup) (c : Course) (port : PortState) : Type 0 where
   pub events : List Event
   pub under_way : IsUnderWay x events c port
 
--- a port that told before tells now, and its count of faults didn't fall
+-- a port that told before tells now, and no call of it failed
 pub record StaysTold (old new : PortState) : Type 0 where
   pub told : is_some new.told ≡ is_some old.told
-  pub faults : old.faults ≤ new.faults
+  pub faults : new.faults ≡ old.faults
 
 -- the same from a port as it was before
 pub record HasGone (x : Setup) (events : List Event) (c : Course) (first port : PortState) : Type 0 where

@@ -2,6 +2,7 @@
 use Rattle.std.specs.Prelude.{◌≡◌, ◌≤◌, ◌+◌, ℕ, Bool, true, false, List, [], ◌∷◌, ◌++◌, ⊤, Option, Some, length, map}
 use Rattle.std.specs.Prelude.{take}
 use Rattle.std.specs.Option.{option_map}
+use Rattle.gal_io.specs.Count.{Counts}
 use Rattle.flat_ir.specs.Arrivals.{IsArrival}
 use Rattle.split_model.specs.Layouts.{down_layout}
 use Rattle.transfer_header.specs.Frames.{IsFrame}
@@ -22,6 +23,8 @@ use Rattle.schedule_replay.specs.Views.{replay_of}
 use Rattle.schedule_replay.specs.declared.course.Course.{Course}
 use Rattle.schedule_replay.specs.declared.course.Stepped.{Stepped}
 use Rattle.schedule_replay.specs.declared.course.Stepped.TheVariants.{Did, Idle}
+use Rattle.schedule_replay.specs.declared.job.ReplayError.{ReplayError}
+use Rattle.schedule_replay.specs.declared.job.ReplayError.TheVariants as errors
 
 -- ## Calls of a switch that tells its tables
 
@@ -63,25 +66,25 @@ applied_in r = take r.commit.done r.commit.commands
 
 -- ## One event
 
--- the port was called for nothing but room and rows
+-- the port was called for nothing but room and rows, and no call of it failed
 pub record KeepsCalls (old new : PortState) : Type 0 where
   pub code : new.code ≡ old.code
   pub told : new.told ≡ old.told
   pub journal : calls_in new.journal ≡ calls_in old.journal
   pub spare : old.spare ≤ new.spare
-  pub faults : old.faults ≤ new.faults
+  pub faults : new.faults ≡ old.faults
 
 -- and has the memory for so many commands
 pub record MadeRoom (commands : ℕ) (old new : PortState) : Type 0 where
   pub kept : KeepsCalls old new
   pub spare : commands ≤ new.spare
 
--- the port was called so, and for nothing else but room and rows
+-- the port was called so, and for nothing else but room and rows, and no call of it failed
 pub record WasCalled (x : Setup) (calls : List Call) (old new : PortState) : Type 0 where
   pub code : new.code ≡ old.code
   pub told : new.told ≡ option_map (told_through calls) old.told
   pub journal : calls_in new.journal ≡ calls_in old.journal ++ map entry_of calls
-  pub faults : old.faults ≤ new.faults
+  pub faults : new.faults ≡ old.faults
   pub answers : (told : Told) → old.told ≡ Some told → AreAnswersOver x told calls
 
 -- whether an event did something
@@ -106,6 +109,17 @@ pub record Does (x : Setup) (event : Event) (stepped : Stepped) (r : Replay) (ol
   pub stepped_so : stepped ≡ stepped_by (applies x.packets r event)
   pub sound : IsSound x next
   pub left : events_left x next + weight stepped ≤ events_left x r
+
+-- ## Errors
+
+-- whether a call of the port failed
+abbrev pub is_port_fault : ReplayError → Bool
+is_port_fault errors.PortFault = true
+is_port_fault errors.NoMemory = false
+
+-- what an error counts: one call that failed, or none
+abbrev pub CountsFault : ReplayError → PortState → PortState → Type 0
+CountsFault e old new = Counts (is_port_fault e) old.faults new.faults
 
 -- ## Between events
 

@@ -1,13 +1,12 @@
 //! The events that call the switch.
 ghost use Rattle.std.specs.Prelude.{◌≡◌, ◌<◌, ◌≤◌, length, map, Some, IfErr, IfOk, OnOk};
-ghost use Rattle.gal_io.specs.Count.{Rose};
 ghost use Rattle.run_text.specs.declared.event.Event.TheVariants as event;
 ghost use Rattle.split_model.specs.Layouts.{down_layout};
 ghost use Rattle.transfer_header.specs.Frames.{IsFrame};
 ghost use Rattle.switch_ir.specs.Port.{IsDownFrame, IsLoaded, PassesDown};
 ghost use Rattle.split_world.specs.Replay.{Finished, SentUp, admitted};
 ghost use Rattle.schedule_replay.specs.Setup.{setup_of};
-ghost use Rattle.schedule_replay.specs.Steps.{HasRoomNext, IsGoing, Went};
+ghost use Rattle.schedule_replay.specs.Steps.{CountsFault, HasRoomNext, IsGoing, Went};
 ghost use Rattle.schedule_replay.specs.Views.{replay_of};
 
 use crate::course::{Course, Stepped};
@@ -29,8 +28,7 @@ fn pass_down<S: SwitchPort>(
     requires frame { IsDownFrame (S.seen port.old) frame.now }
     ensures passes { IfOk result (λ verdict.
         PassesDown (DownEnd.Verdict verdict) frame.now (S.seen port.old) (S.seen port.new)) }
-    ensures fault { IfErr result (λ e. e ≡ ReplayError.PortFault
-        → Rose (S.seen port.old).faults (S.seen port.new).faults) }
+    ensures fault { IfErr result (λ e. CountsFault e (S.seen port.old) (S.seen port.new)) }
 {
     match port.pass_down(alloc, frame.as_slice()) {
         DownEnd::Verdict(verdict) => Ok(verdict),
@@ -78,8 +76,7 @@ impl Course {
         requires idle { self.old.idle < self.old.events }
         ensures went { IfOk result (λ stepped.
             Went (setup_of job.now) event.Admit stepped self.old (S.seen port.old) self.new (S.seen port.new)) }
-        ensures fault { IfErr result (λ e. e ≡ ReplayError.PortFault
-            → Rose (S.seen port.old).faults (S.seen port.new).faults) }
+        ensures fault { IfErr result (λ e. CountsFault e (S.seen port.old) (S.seen port.new)) }
     {
         let number = self.fates.len();
         let Some(packet) = job.packets.as_slice().get(number) else {
@@ -105,8 +102,7 @@ impl Course {
         requires room { HasRoomNext (replay_of self.old) (S.seen port.old) }
         ensures went { IfOk result (λ stepped.
             Went (setup_of job.now) event.Apply stepped self.old (S.seen port.old) self.new (S.seen port.new)) }
-        ensures fault { IfErr result (λ e. e ≡ ReplayError.PortFault
-            → Rose (S.seen port.old).faults (S.seen port.new).faults) }
+        ensures fault { IfErr result (λ e. CountsFault e (S.seen port.old) (S.seen port.new)) }
     {
         let Some(command) = self.commit.next_command() else {
             return Ok(self.idled());
@@ -129,8 +125,7 @@ impl Course {
         requires idle { self.old.idle < self.old.events }
         ensures went { IfOk result (λ stepped.
             Went (setup_of job.now) (event.Down j) stepped self.old (S.seen port.old) self.new (S.seen port.new)) }
-        ensures fault { IfErr result (λ e. e ≡ ReplayError.PortFault
-            → Rose (S.seen port.old).faults (S.seen port.new).faults) }
+        ensures fault { IfErr result (λ e. CountsFault e (S.seen port.old) (S.seen port.new)) }
     {
         let Some((number, frame)) = self.down.remove(j as usize) else {
             return Ok(self.idled());

@@ -1,11 +1,11 @@
 //! A whole replay.
-ghost use Rattle.std.specs.Prelude.{◌≡◌, ◌≤◌, length, IfErr, IfOk, IsSome};
-ghost use Rattle.gal_io.specs.Count.{Rose};
+ghost use Rattle.std.specs.Prelude.{◌≡◌, ◌≤◌, length, IfErr, IfOk, IsSome, OnOk};
 ghost use Rattle.flat_ir.specs.Program.{program_of};
 ghost use Rattle.split_model.specs.Bounds.{HasFewStages};
 ghost use Rattle.split_program.specs.Whole.{IsSplit};
 ghost use Rattle.run_text.specs.Sizes.{most_events, most_packets};
 ghost use Rattle.schedule_replay.specs.Setup.{setup_of};
+ghost use Rattle.schedule_replay.specs.Steps.{CountsFault};
 ghost use Rattle.schedule_replay.specs.Replayed.{IsReported, IsRunOf};
 
 use crate::course::Course;
@@ -20,7 +20,8 @@ use switch_ir::SwitchPort;
 use told_switch::{quiet_tables_are_the_stores, told_rows_are_the_visible_stores};
 
 /// Loads a switch with the code of a job, performs the job's events, and then, where it is asked for, those that end
-/// the run. After an error it is told of the switch only that its count of faults rose, where it failed.
+/// the run. No call of the switch failed then. After an error it is told of the switch only that just one call of it failed,
+/// or that none did and there was no memory.
 pub fn replay<S: SwitchPort>(
     alloc: Global,
     job: &Job,
@@ -35,8 +36,8 @@ pub fn replay<S: SwitchPort>(
         IsReported (setup_of job.now) job.now.events job.now.drain replayed (S.seen port.new)) }
     ensures told { IsSome (S.seen port.old).told → IfOk result (λ replayed.
         IsRunOf (setup_of job.now) job.now.events job.now.drain replayed.run (S.seen port.new)) }
-    ensures fault { IfErr result (λ e. e ≡ ReplayError.PortFault
-        → Rose (S.seen port.old).faults (S.seen port.new).faults) }
+    ensures no_fault { OnOk result ((S.seen port.new).faults ≡ (S.seen port.old).faults) }
+    ensures fault { IfErr result (λ e. CountsFault e (S.seen port.old) (S.seen port.new)) }
 {
     split_programs_have_their_laws();
     lookups_see_one_version();

@@ -1,7 +1,6 @@
 //! A replay that goes on call by call.
 ghost use Rattle.std.specs.Prelude.{◌≡◌, ◌≤◌, ◌<◌, ◌+◌, List, [], Some, None, Err, is_some, length, IfErr, IfOk, OnErr};
 ghost use Rattle.std.specs.Prelude.{OnOk};
-ghost use Rattle.gal_io.specs.Count.{Rose};
 ghost use Rattle.flat_ir.specs.Program.{program_of};
 ghost use Rattle.split_model.specs.Bounds.{HasFewStages};
 ghost use Rattle.split_program.specs.Whole.{IsSplit};
@@ -9,6 +8,7 @@ ghost use Rattle.run_text.specs.Sizes.{most_events, most_packets};
 ghost use Rattle.run_text.specs.declared.event.Event.{Event};
 ghost use Rattle.split_world.specs.Answered.{Call};
 ghost use Rattle.schedule_replay.specs.Setup.{setup_of};
+ghost use Rattle.schedule_replay.specs.Steps.{CountsFault};
 ghost use Rattle.schedule_replay.specs.Replaying.{HasGone};
 ghost use Rattle.schedule_replay.specs.declared.job.ReplayError.{ReplayError};
 
@@ -75,8 +75,7 @@ fn begin<S: SwitchPort>(alloc: Global, job: &Job, port: &mut S) -> Result<Begun,
     ensures same { IfOk result (λ begun. setup_of begun.job ≡ setup_of job.now) }
     ensures begun { IfOk result (λ begun.
         HasGone (setup_of job.now) [] begun.course (S.seen port.old) (S.seen port.new)) }
-    ensures fault { IfErr result (λ e. e ≡ ReplayError.PortFault
-        → Rose (S.seen port.old).faults (S.seen port.new).faults) }
+    ensures fault { IfErr result (λ e. CountsFault e (S.seen port.old) (S.seen port.new)) }
 {
     let copy = copy_job(alloc, job)?;
     let course = Course::start(alloc, job, port)?;
@@ -97,8 +96,8 @@ impl<S: SwitchPort> Replayer<S> {
         ensures alive { IfOk result (λ made. IsAlive (state_of S.seen made)) }
         ensures told { IfOk result (λ made.
             is_some (state_of S.seen made).port.told ≡ is_some (S.seen port).told) }
-        ensures fault { IfErr result (λ refused. refused.error ≡ ReplayError.PortFault
-            → Rose (S.seen port).faults (S.seen refused.port).faults) }
+        ensures no_fault { IfOk result (λ made. (state_of S.seen made).port.faults ≡ (S.seen port).faults) }
+        ensures fault { IfErr result (λ refused. CountsFault refused.error (S.seen port) (S.seen refused.port)) }
     {
         let mut port = port;
         match begin(alloc, job, &mut port) {
@@ -128,8 +127,10 @@ impl<S: SwitchPort> Replayer<S> {
         ensures not_counted { OnErr result ((state_of S.seen self.new).steps ≡ (state_of S.seen self.old).steps) }
         ensures ok { OnOk result ((state_of S.seen self.new).failed ≡ None) }
         ensures err { IfErr result (λ e. (state_of S.seen self.new).failed ≡ Some e) }
-        ensures fault { IfErr result (λ e. (state_of S.seen self.old).failed ≡ None → e ≡ ReplayError.PortFault
-            → Rose (state_of S.seen self.old).port.faults (state_of S.seen self.new).port.faults) }
+        ensures no_fault { OnOk result
+            ((state_of S.seen self.new).port.faults ≡ (state_of S.seen self.old).port.faults) }
+        ensures fault { IfErr result (λ e. (state_of S.seen self.old).failed ≡ None
+            → CountsFault e (state_of S.seen self.old).port (state_of S.seen self.new).port) }
         ensures sticky { (e : ReplayError) → (state_of S.seen self.old).failed ≡ Some e → result ≡ Err e }
         ensures stays { (e : ReplayError) → (state_of S.seen self.old).failed ≡ Some e
             → state_of S.seen self.new ≡ state_of S.seen self.old }
@@ -166,8 +167,10 @@ impl<S: SwitchPort> Replayer<S> {
         ensures steps { (state_of S.seen self.new).steps ≡ (state_of S.seen self.old).steps }
         ensures ok { OnOk result ((state_of S.seen self.new).failed ≡ None) }
         ensures err { IfErr result (λ e. (state_of S.seen self.new).failed ≡ Some e) }
-        ensures fault { IfErr result (λ e. (state_of S.seen self.old).failed ≡ None → e ≡ ReplayError.PortFault
-            → Rose (state_of S.seen self.old).port.faults (state_of S.seen self.new).port.faults) }
+        ensures no_fault { OnOk result
+            ((state_of S.seen self.new).port.faults ≡ (state_of S.seen self.old).port.faults) }
+        ensures fault { IfErr result (λ e. (state_of S.seen self.old).failed ≡ None
+            → CountsFault e (state_of S.seen self.old).port (state_of S.seen self.new).port) }
         ensures sticky { (e : ReplayError) → (state_of S.seen self.old).failed ≡ Some e → result ≡ Err e }
         ensures stays { (e : ReplayError) → (state_of S.seen self.old).failed ≡ Some e
             → state_of S.seen self.new ≡ state_of S.seen self.old }
@@ -198,8 +201,10 @@ impl<S: SwitchPort> Replayer<S> {
         ensures steps { (state_of S.seen self.new).steps ≡ (state_of S.seen self.old).steps }
         ensures ok { OnOk result ((state_of S.seen self.new).failed ≡ None) }
         ensures err { IfErr result (λ e. (state_of S.seen self.new).failed ≡ Some e) }
-        ensures fault { IfErr result (λ e. (state_of S.seen self.old).failed ≡ None → e ≡ ReplayError.PortFault
-            → Rose (state_of S.seen self.old).port.faults (state_of S.seen self.new).port.faults) }
+        ensures no_fault { OnOk result
+            ((state_of S.seen self.new).port.faults ≡ (state_of S.seen self.old).port.faults) }
+        ensures fault { IfErr result (λ e. (state_of S.seen self.old).failed ≡ None
+            → CountsFault e (state_of S.seen self.old).port (state_of S.seen self.new).port) }
         ensures sticky { (e : ReplayError) → (state_of S.seen self.old).failed ≡ Some e → result ≡ Err e }
         ensures stays { (e : ReplayError) → (state_of S.seen self.old).failed ≡ Some e
             → state_of S.seen self.new ≡ state_of S.seen self.old }

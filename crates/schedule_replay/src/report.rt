@@ -1,11 +1,10 @@
 //! What is reported of a replay.
 ghost use Rattle.std.specs.Prelude.{◌≡◌, ◌≤◌, Some, length, IfErr, IfOk};
-ghost use Rattle.gal_io.specs.Count.{Rose};
 ghost use Rattle.switch_ir.specs.Port.{HasReplicated, IsLoaded, ShowsRows};
 ghost use Rattle.split_world.specs.Reported as reported;
 ghost use Rattle.schedule_replay.specs.Setup.{setup_of, code_for};
 ghost use Rattle.schedule_replay.specs.Sound.{IsReady};
-ghost use Rattle.schedule_replay.specs.Steps.{IsGoing};
+ghost use Rattle.schedule_replay.specs.Steps.{CountsFault, IsGoing};
 ghost use Rattle.schedule_replay.specs.Replaying.{Reports, ShowsParts};
 ghost use Rattle.schedule_replay.specs.Views.{replay_of};
 
@@ -28,8 +27,7 @@ fn visible_rows<S: SwitchPort>(
     requires loaded { IsLoaded (S.seen port.old) }
     requires replicated { HasReplicated (S.seen port.old) object }
     ensures shows { IfOk result (λ rows. ShowsRows (RowsEnd.Rows rows) object (S.seen port.old) (S.seen port.new)) }
-    ensures fault { IfErr result (λ e. e ≡ ReplayError.PortFault
-        → Rose (S.seen port.old).faults (S.seen port.new).faults) }
+    ensures fault { IfErr result (λ e. CountsFault e (S.seen port.old) (S.seen port.new)) }
 {
     match port.visible(alloc, object) {
         RowsEnd::Rows(rows) => Ok(rows),
@@ -43,8 +41,7 @@ fn switch_parts<S: SwitchPort>(alloc: Global, job: &Job, port: &mut S) -> Result
     requires ready { IsReady (setup_of job.now) }
     requires code { (S.seen port.old).code ≡ Some (code_for (setup_of job.now)) }
     ensures shows { IfOk result (λ parts. ShowsParts (setup_of job.now) (S.seen port.old) (S.seen port.new) parts) }
-    ensures fault { IfErr result (λ e. e ≡ ReplayError.PortFault
-        → Rose (S.seen port.old).faults (S.seen port.new).faults) }
+    ensures fault { IfErr result (λ e. CountsFault e (S.seen port.old) (S.seen port.new)) }
 {
     replicated_objects_are_declared();
     let mut parts = Vec::new(alloc);
@@ -81,8 +78,7 @@ impl Course {
         requires going { IsGoing (setup_of job.now) self.now (S.seen port.old) }
         ensures reports { IfOk result (λ replayed.
             Reports (setup_of job.now) (replay_of self.now) (S.seen port.old) (S.seen port.new) replayed) }
-        ensures fault { IfErr result (λ e. e ≡ ReplayError.PortFault
-            → Rose (S.seen port.old).faults (S.seen port.new).faults) }
+        ensures fault { IfErr result (λ e. CountsFault e (S.seen port.old) (S.seen port.new)) }
     {
         let switch = switch_parts(alloc, job, port)?;
         let objects = Parts::of(alloc, job.flat.objects.as_slice(), self.server.store())?;

@@ -1,6 +1,5 @@
 //! The event that runs the server.
 ghost use Rattle.std.specs.Prelude.{◌≡◌, ◌<◌, ◌≤◌, ◌+◌, ◌-◌, ◌^◌, length, IfErr, IfOk, OnErr, OnOk};
-ghost use Rattle.gal_io.specs.Count.{Rose};
 ghost use Rattle.run_text.specs.declared.event.Event.TheVariants as event;
 ghost use Rattle.split_model.specs.Layouts.{up_layout};
 ghost use Rattle.transfer_header.specs.Frames.{IsFrame};
@@ -9,7 +8,7 @@ ghost use Rattle.server_runtime.specs.Serving.{IsServed};
 ghost use Rattle.server_runtime.specs.Views.{server_of};
 ghost use Rattle.switch_ir.specs.Port.{IsLoaded};
 ghost use Rattle.schedule_replay.specs.Setup.{setup_of};
-ghost use Rattle.schedule_replay.specs.Steps.{IsGoing, MadeRoom, Went};
+ghost use Rattle.schedule_replay.specs.Steps.{CountsFault, IsGoing, MadeRoom, Went};
 
 use crate::course::{Course, Stepped};
 use crate::fates::decide_at;
@@ -47,8 +46,7 @@ fn reserve<S: SwitchPort>(
     requires spare { length commit.now.commands - commit.now.done ≤ (S.seen port.old).spare }
     ensures room { OnOk result (MadeRoom (length commit.now.commands - commit.now.done + length (batch_of updates.now))
         (S.seen port.old) (S.seen port.new)) }
-    ensures fault { IfErr result (λ e. e ≡ ReplayError.PortFault
-        → Rose (S.seen port.old).faults (S.seen port.new).faults) }
+    ensures fault { IfErr result (λ e. CountsFault e (S.seen port.old) (S.seen port.new)) }
 {
     if updates.is_empty() {
         return Ok(());
@@ -74,8 +72,7 @@ impl Course {
         requires idle { self.old.idle < self.old.events }
         ensures went { IfOk result (λ stepped.
             Went (setup_of job.now) (event.Serve j) stepped self.old (S.seen port.old) self.new (S.seen port.new)) }
-        ensures fault { IfErr result (λ e. e ≡ ReplayError.PortFault
-            → Rose (S.seen port.old).faults (S.seen port.new).faults) }
+        ensures fault { IfErr result (λ e. CountsFault e (S.seen port.old) (S.seen port.new)) }
     {
         replicated_objects_are_declared();
         let Some(frame) = self.up.remove(j as usize) else {

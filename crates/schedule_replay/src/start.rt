@@ -1,7 +1,6 @@
 //! The start of a replay.
 ghost use Rattle.std.specs.Prelude.{◌≡◌, ◌≤◌, [], length, IfErr, IfOk, OnOk};
 ghost use Rattle.std.specs.List.{AllByRecursion as Each};
-ghost use Rattle.gal_io.specs.Count.{Rose};
 ghost use Rattle.packet_fields.specs.Sizes.{AreShort, largest_packet};
 ghost use Rattle.flat_ir.specs.Arrivals.{IsArrival};
 ghost use Rattle.flat_ir.specs.Program.{program_of};
@@ -12,6 +11,7 @@ ghost use Rattle.split_model.specs.Bounds.{HasFewStages};
 ghost use Rattle.switch_ir.specs.Port.{Loads};
 ghost use Rattle.split_program.specs.Whole.{IsSplit};
 ghost use Rattle.schedule_replay.specs.Setup.{setup_of};
+ghost use Rattle.schedule_replay.specs.Steps.{CountsFault};
 ghost use Rattle.schedule_replay.specs.Replaying.{HasGone};
 
 use crate::course::Course;
@@ -44,8 +44,7 @@ fn all_arrive(packets: &[Packet])
 fn load<S: SwitchPort>(alloc: Global, port: &mut S, code: &SwitchCode) -> Result<(), ReplayError>
     requires { IsEmitted (code_of code.now) }
     ensures loads { OnOk result (Loads PortEnd.Done (code_of code.now) (S.seen port.old) (S.seen port.new)) }
-    ensures fault { IfErr result (λ e. e ≡ ReplayError.PortFault
-        → Rose (S.seen port.old).faults (S.seen port.new).faults) }
+    ensures fault { IfErr result (λ e. CountsFault e (S.seen port.old) (S.seen port.new)) }
 {
     match port.load(alloc, code) {
         PortEnd::Done => Ok(()),
@@ -67,8 +66,7 @@ impl Course {
         requires few_packets { length job.now.packets ≤ most_packets }
         ensures started { IfOk result (λ course.
             HasGone (setup_of job.now) [] course (S.seen port.old) (S.seen port.new)) }
-        ensures fault { IfErr result (λ e. e ≡ ReplayError.PortFault
-            → Rose (S.seen port.old).faults (S.seen port.new).faults) }
+        ensures fault { IfErr result (λ e. CountsFault e (S.seen port.old) (S.seen port.new)) }
     {
         told_tables_start();
         a_told_step_keeps_the_tie();

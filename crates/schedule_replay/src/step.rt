@@ -1,10 +1,9 @@
 //! One event, the events of a schedule, and those that end a run.
 ghost use Rattle.std.specs.Prelude.{◌≡◌, ◌<◌, ◌≤◌, ◌+◌, ◌-◌, ◌^◌, [], length, IfErr, IfOk, OnOk};
-ghost use Rattle.gal_io.specs.Count.{Rose};
 ghost use Rattle.run_text.specs.Sizes.{most_events};
 ghost use Rattle.schedule_replay.specs.Setup.{setup_of};
 ghost use Rattle.schedule_replay.specs.Sound.{events_left};
-ghost use Rattle.schedule_replay.specs.Steps.{HasRoomNext, HasStepped, IsGoing};
+ghost use Rattle.schedule_replay.specs.Steps.{CountsFault, HasRoomNext, HasStepped, IsGoing};
 ghost use Rattle.schedule_replay.specs.Replaying.{HasDrained, HasEnded, HasGone, IsOnItsWay, IsUnderWay};
 ghost use Rattle.schedule_replay.specs.Views.{replay_of};
 
@@ -30,8 +29,7 @@ impl Course {
         requires room { HasRoomNext (replay_of self.old) (S.seen port.old) }
         ensures stepped { IfOk result (λ stepped.
             HasStepped (setup_of job.now) event stepped self.old (S.seen port.old) self.new (S.seen port.new)) }
-        ensures fault { IfErr result (λ e. e ≡ ReplayError.PortFault
-            → Rose (S.seen port.old).faults (S.seen port.new).faults) }
+        ensures fault { IfErr result (λ e. CountsFault e (S.seen port.old) (S.seen port.new)) }
     {
         self.events += 1;
         match event {
@@ -56,8 +54,7 @@ impl Course {
         requires started { IsUnderWay (setup_of job.now) [] self.old (S.seen port.old) }
         ensures gone { OnOk result
             (HasGone (setup_of job.now) job.now.events self.new (S.seen port.old) (S.seen port.new)) }
-        ensures fault { IfErr result (λ e. e ≡ ReplayError.PortFault
-            → Rose (S.seen port.old).faults (S.seen port.new).faults) }
+        ensures fault { IfErr result (λ e. CountsFault e (S.seen port.old) (S.seen port.new)) }
     {
         a_replay_goes_on();
         the_next_command_finds_room();
@@ -79,8 +76,7 @@ impl Course {
         requires few { (replay_of self.old).events + events_left (setup_of job.now) (replay_of self.old) < 2 ^ 32 - 1 }
         ensures drained { IfOk result (λ count.
             HasDrained (setup_of job.now) count self.old (S.seen port.old) self.new (S.seen port.new)) }
-        ensures fault { IfErr result (λ e. e ≡ ReplayError.PortFault
-            → Rose (S.seen port.old).faults (S.seen port.new).faults) }
+        ensures fault { IfErr result (λ e. CountsFault e (S.seen port.old) (S.seen port.new)) }
     {
         a_replay_goes_on();
         the_next_command_finds_room();
@@ -104,8 +100,7 @@ impl Course {
         requires under_way { IsUnderWay (setup_of job.now) job.now.events self.old (S.seen port.old) }
         ensures ended { OnOk result (HasEnded (setup_of job.now) job.now.events job.now.drain self.new
             (S.seen port.old) (S.seen port.new)) }
-        ensures fault { IfErr result (λ e. e ≡ ReplayError.PortFault
-            → Rose (S.seen port.old).faults (S.seen port.new).faults) }
+        ensures fault { IfErr result (λ e. CountsFault e (S.seen port.old) (S.seen port.new)) }
     {
         a_replay_goes_on();
         drain_ends();

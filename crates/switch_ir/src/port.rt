@@ -17,7 +17,7 @@ use writeback_table::Command;
 #[derive(Clone, Copy, Debug, PartialEq, Eq)]
 pub enum PortEnd {
     Done,
-    /// The switch failed, and its count of faults rose. All else is as before.
+    /// The switch failed, and its count of faults rose by one. All else is as before.
     Failed,
     /// There was no memory. All is as before.
     NoMemory,
@@ -30,7 +30,7 @@ pub enum UpEnd {
     Finished(Verdict),
     /// The packet goes up to the server, in this frame.
     Up(Bytes),
-    /// The switch failed, and its count of faults rose.
+    /// The switch failed, and its count of faults rose by one.
     Failed,
     /// There was no memory.
     NoMemory,
@@ -40,7 +40,7 @@ pub enum UpEnd {
 #[derive(Debug, Drop)]
 pub enum DownEnd {
     Verdict(Verdict),
-    /// The switch failed, and its count of faults rose.
+    /// The switch failed, and its count of faults rose by one.
     Failed,
     /// There was no memory.
     NoMemory,
@@ -86,7 +86,7 @@ fn copy_verdict(alloc: Global, verdict: &Verdict) -> Result<Verdict, NoMemory>
 #[derive(Clone, Copy, Debug, PartialEq, Eq)]
 pub enum CommandEnd {
     Done,
-    /// The switch failed, and its count of faults rose. The tables and the bit are as before.
+    /// The switch failed, and its count of faults rose by one. The tables and the bit are as before.
     Failed,
 }
 
@@ -94,7 +94,7 @@ pub enum CommandEnd {
 #[derive(Debug, Drop)]
 pub enum RowsEnd {
     Rows(Rows),
-    /// The switch failed, and its count of faults rose.
+    /// The switch failed, and its count of faults rose by one.
     Failed,
     /// There was no memory.
     NoMemory,
@@ -103,8 +103,8 @@ pub enum RowsEnd {
 /// A switch.
 ///
 /// Contracts see the code that is loaded, the tables and the bit where the switch tells them, a journal of its calls,
-/// for how many commands there is memory, and a count of calls that failed, which never falls. The count stands still
-/// at 2^64 - 1, where a further fault still counts as risen.
+/// for how many commands there is memory, and a count of calls that failed, which each of them raises by one, and no
+/// other call changes. The count stands still at 2^64 - 1, where a further fault still counts as risen.
 pub trait SwitchPort {
     ghost seen: { Self → PortState };
 

@@ -1,6 +1,6 @@
 -- When the calls of a switch in memory fail, and how they are counted.
-use Rattle.std.specs.Prelude.{◌≡◌, ◌++◌, Bool, true, false, List, ⊤, if◌then◌else◌}
-use Rattle.gal_io.specs.Count.{one_more}
+use Rattle.std.specs.Prelude.{◌≡◌, ◌++◌, Bool, true, false, List, ⊤}
+use Rattle.gal_io.specs.Count.{Counts, count_after}
 use Rattle.switch_ir.specs.declared.journal.Entry.{Entry}
 use Rattle.switch_ir.specs.declared.port.PortEnd.{PortEnd}
 use Rattle.switch_ir.specs.declared.port.PortEnd.TheVariants as port
@@ -46,18 +46,18 @@ RowsEndAsPlanned planned rows.NoMemory = ⊤
 pub record IsCountedAs (kind : CallKind) (failed : Bool) (old new : MachineState) : Type 0 where
   pub planned : new.planned ≡ old.planned
   pub calls : new.calls ≡ counted old.calls kind
-  pub faults : new.faults ≡ (if failed then one_more old.faults else old.faults)
+  pub faults : Counts failed old.faults new.faults
 
 -- the state after a call of this kind is counted, and its fault where it fails
 abbrev pub called : MachineState → CallKind → Bool → MachineState
 called m kind failed = record m {
   calls = counted m.calls kind;
-  faults = if failed then one_more m.faults else m.faults;
+  faults = count_after failed m.faults;
 }
 
 -- the state after a call that left these entries, and that failed or didn't
 abbrev pub ended : MachineState → List Entry → Bool → MachineState
 ended m entries failed = record m {
   journal = record m.journal { entries = m.journal.entries ++ entries };
-  faults = if failed then one_more m.faults else m.faults;
+  faults = count_after failed m.faults;
 }

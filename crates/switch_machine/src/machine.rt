@@ -1,7 +1,7 @@
 //! A switch in memory.
 ghost use Rattle.std.specs.Prelude.{◌≡◌, ◌≤◌, ◌<◌, ◌-◌, ◌++◌, ◌∷◌, [], ℕ, false, max, None, Some};
-ghost use Rattle.std.specs.Prelude.{length, OnOk, OnErr, IfOk, IsSome, if◌then◌else◌};
-ghost use Rattle.gal_io.specs.Count.{one_more, Counts};
+ghost use Rattle.std.specs.Prelude.{length, OnOk, OnErr, IfOk, IsSome};
+ghost use Rattle.gal_io.specs.Count.{Counts, count_after};
 ghost use Rattle.packet_fields.specs.Sizes.{largest_packet};
 ghost use Rattle.state_store.specs.declared.object.ObjectDecl.{ObjectDecl};
 ghost use Rattle.writeback_table.specs.Pair.{visible_rows};
@@ -111,7 +111,7 @@ impl ModelSwitch {
     // Counts a fault, where there was one.
     fn count_fault(&mut self, failed: bool)
         ensures counted { let old = machine_of self.old in
-            machine_of self.new ≡ record old { faults = if failed then one_more old.faults else old.faults } }
+            machine_of self.new ≡ record old { faults = count_after failed old.faults } }
         ensures rises { Counts failed (machine_of self.old).faults (machine_of self.new).faults }
     {
         if failed {

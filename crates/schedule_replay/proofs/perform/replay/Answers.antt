@@ -1,6 +1,6 @@
-use Rattle.std.proofs.Common.{◌∙◌}
+use Rattle.std.proofs.Common.{◌≡◌, ◌∙◌}
 use Rattle.std.proofs.lemmas.Result.{err_from_is_err_and, IfErr-weaker, IfOk-weaker}
-use Rattle.schedule_replay.proofs.Performing.{rose_after}
+use Rattle.schedule_replay.proofs.Performing.{counts_behind}
 use Rattle.schedule_replay.specs.Setup.{setup_of}
 use Rattle.schedule_replay.specs.Views.{replay_of}
 use Rattle.schedule_replay.specs.Replayed.{IsReported, IsRunOf}
@@ -26,18 +26,27 @@ returns-clause-told g c = λ tells.
     c.a_quiet_switch_has_the_newest_tables.ensures c.quiet_tables_are_the_stores.ensures c.told_rows_are_the_visible_stores.ensures
     _ _ _ c.conclude.new.self _ _ _ replayed c.in_ok-conclude.ensures.ended reports (same ∙ tells)) c.report.ensures.reports
 
+pub returns-clause-no_fault : goal.returns-clause-no_fault
+returns-clause-no_fault g c =
+    IfOk-weaker c.report.result (λ replayed. Reports (setup_of c.args.job.now) (replay_of c.conclude.new.self) (g.S.SwitchPort.seen c.conclude.new.port)
+    (g.S.SwitchPort.seen c.report.new.port) replayed)
+    (λ replayed. (g.S.SwitchPort.seen c.report.new.port).faults ≡ (g.S.SwitchPort.seen c.args.port.now).faults)
+    (λ replayed reports. reports.switch.kept.faults ∙ (c.in_ok-conclude.ensures.ended.stays.faults
+    ∙ (c.in_ok-perform.ensures.gone.stays.faults ∙ c.in_ok-course.ensures.started.stays.faults))) c.report.ensures.reports
+
 pub returns-in_err-perform-clause-fault : goal.returns-in_err-perform-clause-fault
 returns-in_err-perform-clause-fault g c =
     let p = err_from_is_err_and c.from_residual-in_err-perform.result c.from_residual-in_err-perform.ensures.1 in
-    rw (p.1, p.2) (λ is. rose_after _ _ _ c.in_ok-course.ensures.started.stays.faults (c.in_err-perform.ensures.fault is))
+    rw (p.1, p.2) (counts_behind _ _ _ _ c.in_ok-course.ensures.started.stays.faults c.in_err-perform.ensures.fault)
 
 pub returns-in_err-conclude-clause-fault : goal.returns-in_err-conclude-clause-fault
 returns-in_err-conclude-clause-fault g c =
     let p = err_from_is_err_and c.from_residual-in_err-conclude.result c.from_residual-in_err-conclude.ensures.1 in
-    rw (p.1, p.2) (λ is. rose_after _ _ _ c.in_ok-course.ensures.started.stays.faults
-    (rose_after _ _ _ c.in_ok-perform.ensures.gone.stays.faults (c.in_err-conclude.ensures.fault is)))
+    rw (p.1, p.2) (counts_behind _ _ _ _ c.in_ok-course.ensures.started.stays.faults
+    (counts_behind _ _ _ _ c.in_ok-perform.ensures.gone.stays.faults c.in_err-conclude.ensures.fault))
 
 pub returns-clause-fault : goal.returns-clause-fault
 returns-clause-fault g c =
-    IfErr-weaker c.report.result _ _ (λ e h is. rose_after _ _ _ c.in_ok-course.ensures.started.stays.faults
-    (rose_after _ _ _ c.in_ok-perform.ensures.gone.stays.faults (rose_after _ _ _ c.in_ok-conclude.ensures.ended.stays.faults (h is)))) c.report.ensures.fault
+    IfErr-weaker c.report.result _ _ (λ e counts. counts_behind e _ _ _ c.in_ok-course.ensures.started.stays.faults
+    (counts_behind e _ _ _ c.in_ok-perform.ensures.gone.stays.faults
+    (counts_behind e _ _ _ c.in_ok-conclude.ensures.ended.stays.faults counts))) c.report.ensures.fault
