@@ -6,8 +6,7 @@ use Rattle.std.proofs.lemmas.Bool.{leb-true, and_parts}
 use Rattle.std.proofs.lemmas.Option.{slice_get-get_or}
 use Rattle.packet_fields.specs.declared.field.Field.{Field}
 use Rattle.packet_fields.specs.declared.field.Field.TheVariants.{MetaPort}
-use Rattle.packet_fields.specs.declared.field.TheConstants.{FIELD_COUNT}
-use Rattle.packet_fields.specs.Table.{row, all_fields, field_index}
+use Rattle.packet_fields.specs.Table.{row, all_fields, field_count, field_index}
 
 -- the field at the place of a field is that field
 pub at_index : (f : Field) → get_or all_fields (field_index f) MetaPort ≡ f
@@ -15,11 +14,11 @@ unfolding all_fields
 at_index MetaPort = refl
 at_index _ = refl
 
-pub index-lt : (f : Field) → field_index f < FIELD_COUNT
+pub index-lt : (f : Field) → field_index f < field_count
 index-lt MetaPort = lit< tt
 index-lt _ = lit< tt
 
-pub length-all_fields : length all_fields ≡ FIELD_COUNT
+pub length-all_fields : length all_fields ≡ field_count
 unfolding all_fields
 length-all_fields = refl
 

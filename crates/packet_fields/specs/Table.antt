@@ -69,6 +69,10 @@ all_fields =
     ∷ TcpSport ∷ TcpDport ∷ TcpSeq ∷ TcpAck ∷ TcpOff ∷ TcpRes ∷ TcpFlags ∷ TcpWin ∷ TcpSum ∷ TcpUrg ∷ UdpSport
     ∷ UdpDport ∷ UdpLen ∷ UdpSum ∷ []
 
+-- how many fields there are
+abbrev pub field_count : ℕ
+field_count = 37
+
 -- the place of a field in field order, counted from 0
 abbrev pub field_index : Field → ℕ
 field_index MetaPort = 0

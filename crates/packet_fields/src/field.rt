@@ -1,8 +1,7 @@
 //! The fields of a packet, from one table.
 ghost use Rattle.std.specs.Prelude.{◌≡◌, ◌≢◌, ◌<◌, MatchOption, Some, slice_get};
 ghost use Rattle.packet_fields.specs.declared.field.Field.{Field};
-ghost use Rattle.packet_fields.specs.declared.field.TheConstants.{FIELD_COUNT};
-ghost use Rattle.packet_fields.specs.Table.{field_index, row, all_fields, field_named};
+ghost use Rattle.packet_fields.specs.Table.{field_index, field_count, row, all_fields, field_named};
 
 use gal_bits::Width;
 
@@ -168,7 +167,7 @@ pub fn fields() -> [Field; FIELD_COUNT]
 pub fn field_index(field: Field) -> usize
     ensures value { result ≡ field_index field }
     ensures place { slice_get all_fields result ≡ Some field }
-    ensures within { result < FIELD_COUNT }
+    ensures within { result < field_count }
 {
     field as usize
 }
