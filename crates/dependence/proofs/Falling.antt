@@ -1,201 +1,152 @@
--- A scan in falling order: each placed instruction is in the set, or no closed set can have what it reads.
-use Rattle.std.proofs.Common.{◌≡◌, ℕ, zero, suc, ◌+◌, ◌<◌, Bool, true, false, ◌&&◌, List, [], ◌∷◌, ◌++◌, inl, inr, refl, sym, ap, ◌∙◌, subst, arith, length, get_or, take, set, replicate, length-set}
-use Rattle.std.specs.Prelude.{slice_get, slice_index_or, IsTrue, not}
-use Rattle.std.proofs.lemmas.Option.{same_Some, slice_get_within}
-use Rattle.std.proofs.lemmas.List.{take_more, length-replicate, get_or_default}
-use Rattle.std.proofs.lemmas.Bool.{cases_lt}
+-- A scan in falling order: what is closed so far has all that any closed set has of the instructions placed.
+use Rattle.std.proofs.Common.{◌≡◌, ℕ, zero, suc, ◌+◌, ◌<◌, ◌≤◌, Bool, true, false, ◌&&◌, ◌||◌, List, [], ◌∷◌, inl, inr, refl, sym, ap, ◌∙◌, subst, arith, length, set, replicate, length-set}
+use Rattle.std.specs.Prelude.{slice_get, slice_index_or, IsTrue, not, ◌==◌}
+use Rattle.std.specs.List.{list_any, list_all}
+use Rattle.std.proofs.lemmas.Option.{same_Some, slice_get_within, slice_get-get_or}
+use Rattle.std.proofs.lemmas.List.{length-replicate}
+use Rattle.std.proofs.lemmas.Bool.{cases_lt, cases_eq, or_cases, or_left, or_right, eqb-true, eq-eqb, false≢true}
 use Rattle.flat_ir.specs.declared.program.ValueId.{ValueId}
-use Rattle.flat_ir.specs.Program.{Program, Step, operands}
+use Rattle.flat_ir.specs.Program.{Program, Step, Work, const, step_at, operands}
 use Rattle.flat_ir.specs.Kinds.{fits_switch, is_mutable_look, is_field}
-use Rattle.flat_ir.specs.Sets.{Reads, IsMarked, IsAt, IsPostClosed, IsGreatest}
+use Rattle.flat_ir.specs.Sets.{Reads, IsMarked, IsAt, IsGuard, IsPostClosed, IsGreatest}
 use Rattle.dependence.specs.Placed.{IsPlaced}
 use Rattle.dependence.specs.Guards.{AreGuards}
-use Rattle.dependence.specs.Barred.{Joins, IsPostFrom}
-use Rattle.dependence.proofs.Marking.{marked_set_kept, marked_set_same, marked_set_cases, unset_marked, not_both, not_marked, reads_append, append_reads, and_true, true_and, not_true, true_not}
+use Rattle.dependence.specs.Uses.{is_user, users_of, AreUses}
+use Rattle.dependence.specs.Posted.{IsPostFrom}
+use Rattle.dependence.proofs.Marking.{marked_set_kept, marked_set_same, marked_set_cases, unset_marked, mark_cases, not_both, not_marked, and_true, true_and, not_true, true_not}
+use Rattle.dependence.proofs.Placing.{step_there}
+use Rattle.dependence.proofs.Using.{of_users, to_users}
 
-pub joins_none : (marks : List Bool) → Joins marks marks []
-joins_none marks = record {
-  count = refl;
-  kept = λ j h. h;
-  read = λ j r. absurd r;
-  only = λ j h. inl h;
-}
+-- ## Users and what they read
 
-pub joins_one : (old new : List Bool) (values : List ValueId) (v : ValueId) → v.instruction < length old → Joins old new values
-    → Joins old (set new v.instruction true) (values ++ v ∷ [])
-joins_one old new values v inside so = record {
-  count = length-set new v.instruction true ∙ so.count;
-  kept = λ j h. marked_set_kept new v.instruction j (so.kept j h);
-  read = λ j r. elim (reads_append values (v ∷ []) j r) [
-    | inl p ↦ marked_set_kept new v.instruction j (so.read j p)
-    | inr q ↦ elim q [
-      | inl e ↦ subst (IsMarked (set new v.instruction true)) e (marked_set_same new v.instruction (let c = so.count in omega arith))
-      | inr n ↦ absurd n
-    ]
-  ];
-  only = λ j h. elim (marked_set_cases new v.instruction j h) [
-    | inl p ↦ elim (so.only j p) [ inl a ↦ inl a | inr b ↦ inr (append_reads values (v ∷ []) j (inl b)) ]
-    | inr q ↦ inr (append_reads values (v ∷ []) j (inr (inl (sym q))))
-  ];
-}
+any_reads : (vs : List ValueId) (j : ℕ) → list_any (λ (v : ValueId). v.instruction == j) vs ≡ true → Reads vs j
+any_reads [] j h = absurd (false≢true h)
+any_reads (v ∷ vs) j h = elim (or_cases (v.instruction == j) (list_any (λ (w : ValueId). w.instruction == j) vs) h) [
+  | inl e ↦ inl (eqb-true v.instruction j e)
+  | inr r ↦ inr (any_reads vs j r)
+]
 
-pub read_here : (values : List ValueId) (k : ℕ) (d : ValueId) → k < length values → Reads values (get_or values k d).instruction
-read_here [] k d l = absurd (omega arith)
-read_here (v ∷ vs) zero d l = inl refl
-read_here (v ∷ vs) (suc k) d l = inr (read_here vs k d (omega arith))
+reads_any : (vs : List ValueId) (j : ℕ) → Reads vs j → list_any (λ (v : ValueId). v.instruction == j) vs ≡ true
+reads_any [] j r = absurd r
+reads_any (v ∷ vs) j (inl e) = or_left (v.instruction == j) (list_any (λ (w : ValueId). w.instruction == j) vs) (eq-eqb v.instruction j e)
+reads_any (v ∷ vs) j (inr r) = or_right (v.instruction == j) (list_any (λ (w : ValueId). w.instruction == j) vs) (reads_any vs j r)
 
-pub joins_more : (old new : List Bool) (values : List ValueId) (k : ℕ) (v : ValueId) → k < length values → v ≡ get_or values k v
-    → ((j : ℕ) → Reads values j → j < length old)
-    → Joins old new (take k values) → Joins old (set new v.instruction true) (take (k + 1) values)
-joins_more old new values k v l is inside so =
-    let e : take (k + 1) values ≡ take k values ++ v ∷ [] = take_more values k v l ∙ ap (λ x. take k values ++ x ∷ []) (sym is) in
-    let here : v.instruction < length old = inside v.instruction (subst (λ (x : ValueId). Reads values x.instruction) (sym is) (read_here values k v l)) in
-    rw e (joins_one old new (take k values) v here so)
+reader_is_user : (f : Program) (u j : ℕ) (one : Step) → IsAt f u one → Reads (operands one.work) j → is_user f j u ≡ true
+reader_is_user f u j one at r = reads_any (operands (step_at f u).work) j (subst (λ (x : Step). Reads (operands x.work) j) (sym (step_there f u one at)) r)
 
-pub joins_at : (old new : List Bool) (values : List ValueId) (k : ℕ) (d : ValueId) → k < length values
-    → ((j : ℕ) → Reads values j → j < length old)
-    → Joins old new (take k values) → Joins old (set new (get_or values k d).instruction true) (take (k + 1) values)
-joins_at old new values k d l inside so = joins_more old new values k (get_or values k d) l (get_or_default values k d (get_or values k d) l) inside so
+-- ## The scan
 
-pub joins_both : (a b c : List Bool) (vs ws : List ValueId) → Joins a b vs → Joins b c ws → Joins a c (vs ++ ws)
-joins_both a b c vs ws p q = record {
-  count = q.count ∙ p.count;
-  kept = λ j h. q.kept j (p.kept j h);
-  read = λ j r. elim (reads_append vs ws j r) [ inl x ↦ q.kept j (p.read j x) | inr y ↦ q.read j y ];
-  only = λ j h. elim (q.only j h) [
-    | inl x ↦ elim (p.only j x) [ inl o ↦ inl o | inr r ↦ inr (append_reads vs ws j (inl r)) ]
-    | inr y ↦ inr (append_reads vs ws j (inr y))
-  ];
-}
-
--- only what may be of postprocessing is there at its own place
-pub post_from_end : (f : Program) (carried barred : List Bool) → AreGuards f barred
-    → IsPostFrom f carried (length f.code) (replicate (length f.code) false) barred
-post_from_end f carried barred g = record {
+pub post_from_end : (f : Program) (carried : List Bool)
+    → IsPostFrom f carried (length f.code) (replicate (length f.code) false)
+post_from_end f carried = record {
   count = length-replicate (length f.code) false;
-  bars = g.count;
-  placed = λ j h. absurd (unset_marked (length f.code) j h);
-  apart = λ j h. absurd (unset_marked (length f.code) j h);
-  kinds = λ j h. absurd (unset_marked (length f.code) j h);
-  clear = λ j h. absurd (unset_marked (length f.code) j h);
-  guards = g.complete;
-  readers = λ u j one l here r free. let w = slice_get_within f.code u one here in absurd (omega arith);
+  closed = record {
+    apart = λ j h. absurd (unset_marked (length f.code) j h);
+    kinds = λ j h. absurd (unset_marked (length f.code) j h);
+    readers = λ u j one h at r free. absurd (unset_marked (length f.code) j h);
+    guards = λ j h g. unset_marked (length f.code) j h;
+  };
   greatest = λ others c j l h. let e = c.kinds j h in let w = slice_get_within f.code j e.0 e.1 in absurd (omega arith);
-  free = λ others c j h. not_marked barred j (λ m. c.guards j h (g.sound j m));
 }
 
--- a carried instruction is passed by
-pub pass_carried : (f : Program) (carried : List Bool) (i : ℕ) (post barred : List Bool) → IsMarked carried i
-    → IsPostFrom f carried (i + 1) post barred → IsPostFrom f carried i post barred
-pass_carried f carried i post barred is from = record {
-  count = from.count;
-  bars = from.bars;
-  placed = λ j h. let p = from.placed j h in omega arith;
-  apart = from.apart;
-  kinds = from.kinds;
-  clear = from.clear;
-  guards = from.guards;
-  readers = λ u j one l here r free. elim (cases_lt i u) [
-    | inl lt ↦ from.readers u j one (omega arith) here r free
-    | inr ge ↦ let e : u ≡ i = omega arith in absurd (not_both carried i is (subst (λ x. slice_index_or carried x false ≡ false) e free))
-  ];
-  greatest = λ others c j l h. elim (cases_lt i j) [
-    | inl lt ↦ from.greatest others c j (omega arith) h
-    | inr ge ↦ let e : j ≡ i = omega arith in absurd (not_both carried i is (subst (λ x. slice_index_or carried x false ≡ false) e (c.apart j h)))
-  ];
-  free = from.free;
-}
+-- postprocessing may have an instruction of this kind
+abbrev pub may : Program → Step → Bool
+may f one = fits_switch one && (not (is_mutable_look f one.work) && not (is_field one.work))
 
--- an instruction that nothing bars is taken
-pub take_free : (f : Program) (carried : List Bool) (i : ℕ) (one : Step) (post barred : List Bool) → IsAt f i one
-    → slice_index_or carried i false ≡ false
-    → (not (slice_index_or barred i false) && (fits_switch one && (not (is_mutable_look f one.work) && not (is_field one.work)))) ≡ true
-    → IsPostFrom f carried (i + 1) post barred → IsPostFrom f carried i (set post i true) barred
-take_free f carried i one post barred here alone may from =
-    let enters = and_true _ _ may in
-    let free = not_true _ enters.0 in
+-- and has instruction i, by what it has of its users
+abbrev pub enters : List (List ℕ) → List Bool → List Bool → List Bool → ℕ → Bool
+enters uses guards carried post i =
+    not (slice_index_or carried i false) && (not (slice_index_or guards i false)
+    && list_all (λ u. slice_index_or post u false || slice_index_or carried u false) (slice_index_or uses i []))
+
+-- an instruction is taken whose users are all there or carried
+pub take_one : (f : Program) (uses : List (List ℕ)) (guards carried : List Bool) (i : ℕ) (one : Step) (post : List Bool)
+    → AreUses f uses → AreGuards f guards → IsAt f i one
+    → may f one ≡ true → enters uses guards carried post i ≡ true
+    → IsPostFrom f carried (i + 1) post → IsPostFrom f carried i (set post i true)
+take_one f uses guards carried i one post used guarded here fit may from =
     let inside = slice_get_within f.code i one here in
-    let a = and_true _ _ enters.1 in
+    let a = and_true _ _ fit in
     let b = and_true _ _ a.1 in
+    let t : ℕ → Bool = λ u. slice_index_or post u false || slice_index_or carried u false in
+    let c = and_true (not (slice_index_or carried i false)) (not (slice_index_or guards i false) && list_all t (slice_index_or uses i [])) may in
+    let d = and_true (not (slice_index_or guards i false)) (list_all t (slice_index_or uses i [])) c.1 in
+    let alone = not_true (slice_index_or carried i false) c.0 in
+    let free = not_true (slice_index_or guards i false) d.0 in
+    let there : list_all t (users_of f i) ≡ true = subst (λ us. list_all t us ≡ true) (used.users i inside) d.1 in
     record {
       count = length-set post i true ∙ from.count;
-      bars = from.bars;
-      placed = λ j h. elim (marked_set_cases post i j h) [ inl p ↦ (let q = from.placed j p in omega arith) | inr q ↦ omega arith ];
-      apart = λ j h. elim (marked_set_cases post i j h) [ inl p ↦ from.apart j p | inr q ↦ subst (λ x. slice_index_or carried x false ≡ false) (sym q) alone ];
-      kinds = λ j h. elim (marked_set_cases post i j h) [
-        | inl p ↦ from.kinds j p
-        | inr q ↦ (one, subst (λ x. IsAt f x one) (sym q) here, (a.0, not_true _ b.0, not_true _ b.1))
-      ];
-      clear = λ j h. elim (marked_set_cases post i j h) [ inl p ↦ from.clear j p | inr q ↦ subst (λ x. slice_index_or barred x false ≡ false) (sym q) free ];
-      guards = from.guards;
-      readers = λ u j other l at r apart. elim (cases_lt i u) [
-        | inl lt ↦ elim (from.readers u j other (omega arith) at r apart) [ inl p ↦ inl (marked_set_kept post i u p) | inr q ↦ inr q ]
-        | inr ge ↦ let e : i ≡ u = omega arith in inl (subst (IsMarked (set post i true)) e (marked_set_same post i (let c = from.count in omega arith)))
-      ];
+      closed = record {
+        apart = λ j h. elim (marked_set_cases post i j h) [ inl p ↦ from.closed.apart j p | inr q ↦ subst (λ x. slice_index_or carried x false ≡ false) (sym q) alone ];
+        kinds = λ j h. elim (marked_set_cases post i j h) [
+          | inl p ↦ from.closed.kinds j p
+          | inr q ↦ (one, subst (λ x. IsAt f x one) (sym q) here, (a.0, not_true _ b.0, not_true _ b.1))
+        ];
+        readers = λ u j other h at r apart. elim (marked_set_cases post i j h) [
+          | inl p ↦ marked_set_kept post i u (from.closed.readers u j other p at r apart)
+          | inr q ↦
+              let user : is_user f i u ≡ true = reader_is_user f u i other at (subst (Reads (operands other.work)) q r) in
+              let within = slice_get_within f.code u other at in
+              let known : t u ≡ true = of_users t (is_user f i) 0 (length f.code) u there (omega arith) (omega arith) user in
+              elim (or_cases (slice_index_or post u false) (slice_index_or carried u false) known) [
+                | inl p ↦ marked_set_kept post i u p
+                | inr q ↦ absurd (not_both carried u q apart)
+              ]
+        ];
+        guards = λ j h g. elim (marked_set_cases post i j h) [
+          | inl p ↦ from.closed.guards j p g
+          | inr q ↦ not_both guards i (guarded.complete i (subst (IsGuard f) q g)) free
+        ];
+      };
       greatest = λ others c j l h. elim (cases_lt i j) [
         | inl lt ↦ marked_set_kept post i j (from.greatest others c j (omega arith) h)
         | inr ge ↦ let e : i ≡ j = omega arith in subst (IsMarked (set post i true)) e (marked_set_same post i (let c = from.count in omega arith))
       ];
-      free = from.free;
     }
 
--- no closed set has an instruction that is barred, or that may not be of postprocessing by its kind
-pub none_has : (f : Program) (carried : List Bool) (i : ℕ) (one : Step) (post barred : List Bool) → IsAt f i one
-    → (not (slice_index_or barred i false) && (fits_switch one && (not (is_mutable_look f one.work) && not (is_field one.work)))) ≡ false
-    → IsPostFrom f carried (i + 1) post barred → (others : List Bool) → IsPostClosed f carried others → IsMarked others i → ⊥
-none_has f carried i one post barred here not_may from others c h =
+-- an instruction that a closed set has enters
+closed_enters : (f : Program) (uses : List (List ℕ)) (guards carried : List Bool) (i : ℕ) (one : Step) (post : List Bool) → IsPlaced f
+    → AreUses f uses → AreGuards f guards → IsAt f i one → IsPostFrom f carried (i + 1) post
+    → (others : List Bool) → IsPostClosed f carried others → IsMarked others i
+    → (may f one && enters uses guards carried post i) ≡ true
+closed_enters f uses guards carried i one post good used guarded here from others c h =
+    let inside = slice_get_within f.code i one here in
     let e = c.kinds i h in
     let same : e.0 ≡ one = same_Some e.0 one (sym e.1 ∙ here) in
     let k = subst (λ (x : Step). IsTrue (fits_switch x) × (is_mutable_look f x.work ≡ false) × (is_field x.work ≡ false)) same e.2 in
-    let t = true_and _ _ (true_not _ (from.free others c i h)) (true_and _ _ k.0 (true_and _ _ (true_not _ k.1) (true_not _ k.2))) in
-    cc
+    let t : ℕ → Bool = λ u. slice_index_or post u false || slice_index_or carried u false in
+    let each : (u : ℕ) → u < 0 + length f.code → is_user f i u ≡ true → t u ≡ true = λ u l user.
+    let r : Reads (operands (step_at f u).work) i = any_reads (operands (step_at f u).work) i user in
+    let at = slice_get-get_or f.code u (record { block = 0; looped = false; work = const 1 0 }) (omega arith) in
+    let later = good.operands u i (step_at f u) at r in
+    elim (mark_cases carried u) [
+      | inl y ↦ or_right (slice_index_or post u false) (slice_index_or carried u false) y
+      | inr n ↦ or_left (slice_index_or post u false) (slice_index_or carried u false) (from.greatest others c u (omega arith) (c.readers u i (step_at f u) h at r n))
+    ] in
+    let all = to_users t (is_user f i) 0 (length f.code) each in
+    let there : list_all t (slice_index_or uses i []) ≡ true = subst (λ us. list_all t us ≡ true) (sym (used.users i inside)) all in
+    let free = not_marked guards i (λ m. c.guards i h (guarded.sound i m)) in
+    true_and _ _ (true_and _ _ k.0 (true_and _ _ (true_not _ k.1) (true_not _ k.2)))
+    (true_and _ _ (true_not _ (c.apart i h)) (true_and _ _ (true_not _ free) there))
 
--- an instruction that stays out bars what it reads
-pub leave_out : (f : Program) (carried : List Bool) (i : ℕ) (one : Step) (post barred after : List Bool) → IsPlaced f → IsAt f i one
-    → slice_index_or carried i false ≡ false
-    → (not (slice_index_or barred i false) && (fits_switch one && (not (is_mutable_look f one.work) && not (is_field one.work)))) ≡ false
-    → Joins barred after (operands one.work)
-    → IsPostFrom f carried (i + 1) post barred → IsPostFrom f carried i post after
-leave_out f carried i one post barred after good here alone not_may joins from =
-    record {
-      count = from.count;
-      bars = joins.count ∙ from.bars;
-      placed = λ j h. let p = from.placed j h in omega arith;
-      apart = from.apart;
-      kinds = from.kinds;
-      clear = λ j h. not_marked after j (λ m. elim (joins.only j m) [
-        | inl o ↦ not_both barred j o (from.clear j h)
-        | inr r ↦ let p = from.placed j h in let q = good.operands i j one here r in omega arith
-      ]);
-      guards = λ j g. joins.kept j (from.guards j g);
-      readers = λ u j other l at r apart. elim (cases_lt i u) [
-        | inl lt ↦ elim (from.readers u j other (omega arith) at r apart) [ inl p ↦ inl p | inr q ↦ inr (joins.kept j q) ]
-        | inr ge ↦
-            let e : u ≡ i = omega arith in
-            let same : other ≡ one = same_Some other one (sym at ∙ ap (λ n. slice_get f.code n) e ∙ here) in
-            inr (joins.read j (subst (λ (x : Step). Reads (operands x.work) j) same r))
-      ];
-      greatest = λ others c j l h. elim (cases_lt i j) [
-        | inl lt ↦ from.greatest others c j (omega arith) h
-        | inr ge ↦ let e : j ≡ i = omega arith in absurd (none_has f carried i one post barred here not_may from others c (subst (IsMarked others) e h))
-      ];
-      free = λ others c j h. not_marked after j (λ m. elim (joins.only j m) [
-        | inl o ↦ not_both barred j o (from.free others c j h)
-        | inr r ↦ none_has f carried i one post barred here not_may from others c (c.readers i j one h here r alone)
-      ]);
-    }
-
-pub post_found : (f : Program) (carried post barred : List Bool) → IsPostFrom f carried 0 post barred → IsGreatest f (IsPostClosed f carried) post
-post_found f carried post barred from = record {
+-- an instruction stays out that no closed set has
+pub leave_out : (f : Program) (uses : List (List ℕ)) (guards carried : List Bool) (i : ℕ) (one : Step) (post : List Bool) → IsPlaced f
+    → AreUses f uses → AreGuards f guards → IsAt f i one
+    → (may f one && enters uses guards carried post i) ≡ false
+    → IsPostFrom f carried (i + 1) post → IsPostFrom f carried i post
+leave_out f uses guards carried i one post good used guarded here out from = record {
   count = from.count;
-  closed = record {
-    apart = from.apart;
-    kinds = from.kinds;
-    readers = λ u j one h here r free. elim (from.readers u j one (omega arith) here r free) [
-      | inl p ↦ p
-      | inr q ↦ absurd (not_both barred j q (from.clear j h))
-    ];
-    guards = λ i h g. not_both barred i (from.guards i g) (from.clear i h);
-  };
+  closed = from.closed;
+  greatest = λ others c j l h. elim (cases_lt i j) [
+    | inl lt ↦ from.greatest others c j (omega arith) h
+    | inr ge ↦ let e : j ≡ i = omega arith in
+        absurd (false≢true (sym out ∙ closed_enters f uses guards carried i one post good used guarded here from others c (subst (IsMarked others) e h)))
+  ];
+}
+
+pub post_found : (f : Program) (carried post : List Bool) → IsPostFrom f carried 0 post → IsGreatest f (IsPostClosed f carried) post
+post_found f carried post from = record {
+  count = from.count;
+  closed = from.closed;
   greatest = λ others c i h. from.greatest others c i (omega arith) h;
 }

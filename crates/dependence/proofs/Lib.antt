@@ -3,6 +3,7 @@ mod Marking
 mod Placing
 mod Rising
 mod Guarding
+mod Using
 mod Falling
 mod Deep
 mod Least

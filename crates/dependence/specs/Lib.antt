@@ -1,4 +1,6 @@
 pub mod Placed
 pub mod Marked
 pub mod Guards
-pub mod Barred
+pub mod Uses
+pub mod Noted
+pub mod Posted

@@ -1,5 +1,5 @@
 //! Which instructions decide whether a write takes effect.
-ghost use Rattle.std.specs.Prelude.{◌≡◌, ◌+◌, ◌-◌, ◌<◌, ◌≤◌, ◌^◌, length, IfOk};
+ghost use Rattle.std.specs.Prelude.{◌≡◌, ◌+◌, ◌-◌, ◌<◌, ◌≤◌, length, IfOk};
 ghost use Rattle.flat_ir.specs.Program.{program_of};
 ghost use Rattle.flat_ir.specs.WellFormed.{IsWellFormed};
 ghost use Rattle.dependence.specs.Guards.{AreGuards, AreWriteBlocks, AreWriteBlocksSoFar, AreGuardsFrom};
@@ -25,11 +25,10 @@ fn mark_block(f: &Flat, i: usize, marks: &mut Marks)
 
 // The blocks in which a write stands, the root first.
 fn write_blocks(alloc: Global, f: &Flat) -> Result<Marks, NoMemory>
-    requires formed { IsWellFormed (program_of f.now) }
-    requires few { length f.now.blocks < 2 ^ 32 }
+    requires { IsWellFormed (program_of f.now) }
     ensures { IfOk result (λ marks. AreWriteBlocks (program_of f.now) marks) }
 {
-    let mut marks = Marks::unset(alloc, f.blocks.len() + 1)?;
+    let mut marks = Marks::unset(alloc, f.blocks.as_slice().len() + 1)?;
     for i in 0..f.code.len() {
         mark_block(f, i, &mut marks);
     }
@@ -50,10 +49,10 @@ fn lift(f: &Flat, b: usize, covering: &mut Marks, guards: &mut Marks)
     }
 }
 
-/// The instructions that have a result in the block chain of a write. It takes one step an instruction and a block.
-pub(crate) fn guards(alloc: Global, f: &Flat) -> Result<Marks, NoMemory>
-    requires formed { IsWellFormed (program_of f.now) }
-    requires few { length f.now.blocks < 2 ^ 32 }
+/// The guards of writes: the instructions that have a result in the block chain of a write. It takes one step an
+/// instruction and a block.
+pub fn guards(alloc: Global, f: &Flat) -> Result<Marks, NoMemory>
+    requires { IsWellFormed (program_of f.now) }
     ensures { IfOk result (λ marks. AreGuards (program_of f.now) marks) }
 {
     let mut covering = write_blocks(alloc, f)?;

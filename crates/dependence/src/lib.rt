@@ -8,9 +8,12 @@ mod guard;
 mod laws;
 mod marks;
 mod operand;
+mod uses;
 
-pub use backward::post_closure;
+pub use backward::{post_closure, post_closure_beside_guards};
 pub use depth::depths;
 pub use forward::{carried_closure, pre_closure};
+pub use guard::guards;
 pub use laws::depths_are_least;
 pub use marks::{Depths, Marks};
+pub use uses::Uses;

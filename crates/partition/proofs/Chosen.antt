@@ -99,3 +99,17 @@ module _ (one : (f : Program) (k : ℕ) (all : Bool) (split other : List Part) �
   exceeded_not_kept split over tried kept =
       let e : split ≡ tried.exceeded.split = one f k all split tried.exceeded.split formed kept.greatest tried.exceeded.greatest in
       tried.broken (subst (λ (s : List Part). KeepsLimits f s limits) e kept.keeps)
+
+-- ## At most one
+
+module _ (one : (f : Program) (k : ℕ) (all : Bool) (split other : List Part) → IsWellFormed f → IsGreatestSplit f k all split → IsGreatestSplit f k all other → split ≡ other) where
+  one_first : (f : Program) (limits : Limits) (cs : List (ℕ × Bool)) (split other : List Part) → IsWellFormed f → IsFirstKept f limits cs split → IsFirstKept f limits cs other → split ≡ other
+  one_first f limits [] split other formed h k = absurd h
+  one_first f limits (c ∷ cs) split other formed (inl h) (inl k) = one f c.0 c.1 split other formed h.greatest k.greatest
+  one_first f limits (c ∷ cs) split other formed (inl h) (inr k) = absurd (k.0 split h)
+  one_first f limits (c ∷ cs) split other formed (inr h) (inl k) = absurd (h.0 other k)
+  one_first f limits (c ∷ cs) split other formed (inr h) (inr k) = one_first f limits cs split other formed h.1 k.1
+
+  pub one_chosen : (f : Program) (limits : Limits) (shrink : Bool) (split other : List Part) → IsWellFormed f → IsChosen f limits shrink split → IsChosen f limits shrink other → split ≡ other
+  one_chosen f limits false split other formed h k = one f (length f.code) true split other formed h.greatest k.greatest
+  one_chosen f limits true split other formed h k = one_first f limits (shrinking (length f.code)) split other formed h k

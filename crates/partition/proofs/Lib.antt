@@ -8,3 +8,4 @@ pub mod Steps
 pub mod Chosen
 pub mod Deeper
 pub mod Twice
+pub mod Lowest

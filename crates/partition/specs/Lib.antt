@@ -5,3 +5,5 @@ pub mod Front
 pub mod Tried
 pub mod Deeper
 pub mod Looks
+pub mod Basis
+pub mod Lowest

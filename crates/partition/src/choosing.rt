@@ -12,18 +12,20 @@ ghost use Rattle.partition.specs.declared.choosing.PartError.TheVariants.{NoMemo
 ghost use Rattle.partition.specs.Causes.{IsCause};
 ghost use Rattle.partition.specs.Tried.{IsTried, IsFound, IsFoundOfTwo, IsStep};
 ghost use Rattle.partition.specs.Front.{IsFront};
+ghost use Rattle.partition.specs.Basis.{IsBasis};
 ghost use Rattle.std.specs.List.{list_any};
 ghost use Rattle.split_model.specs.Counts.{stage_or_zero};
 ghost use Rattle.partition.specs.Deeper.{is_deeper};
 
+use crate::basis::Basis;
 use crate::front::Front;
-use crate::greatest::{all_on_server, greatest_split};
+use crate::greatest::all_on_server;
 use crate::laws::greatest_split_is_one;
 use crate::looks::looks_twice;
 use dependence::depths_are_least;
 use flat_ir::Flat;
 use gal_io::NoMemory;
-use resource_limits::{Limits, Over, count, first_exceeded};
+use resource_limits::{Limits, Over, count_by_guards, first_exceeded};
 use split_model::{Part, Split};
 use std::alloc::Global;
 use thiserror::Error;
@@ -57,16 +59,19 @@ enum Tried {
 fn try_split(
     alloc: Global,
     f: &Flat,
+    basis: &Basis,
     limits: &Limits,
     k: usize,
     all: bool,
 ) -> Result<Tried, NoMemory>
     requires bounded { IsBounded (program_of f.now) }
+    requires basis { IsBasis f.now basis.now }
     requires in_range { AreInRange limits.now }
     ensures { IfOk result (λ tried. IsTried (program_of f.now) limits.now k all tried) }
 {
-    let split = greatest_split(alloc, f, k, all)?;
-    let counts = count(alloc, f, &split, limits.writeback)?;
+    let front = Front::new(alloc, f, k)?;
+    let split = front.split(alloc, f, basis, all)?;
+    let counts = count_by_guards(alloc, f, &split, &basis.guard_values, limits.writeback)?;
     match first_exceeded(&counts, limits) {
         None => Ok(Tried::Kept(split)),
         Some(over) => Ok(Tried::Exceeding(over)),
@@ -95,8 +100,15 @@ fn has_deeper(most: u32, split: &Split) -> bool
 }
 
 // Whether a split keeps the limits. The stages are looked at first, since that is quickly done.
-fn keeps(alloc: Global, f: &Flat, split: &Split, limits: &Limits) -> Result<bool, NoMemory>
+fn keeps(
+    alloc: Global,
+    f: &Flat,
+    basis: &Basis,
+    split: &Split,
+    limits: &Limits,
+) -> Result<bool, NoMemory>
     requires bounded { IsBounded (program_of f.now) }
+    requires basis { IsBasis f.now basis.now }
     requires parts { length split.now ≡ length f.now.code }
     requires in_range { AreInRange limits.now }
     ensures { IfOk result (λ keeps. (keeps ≡ true) ↔ KeepsLimits (program_of f.now) split.now limits.now) }
@@ -104,7 +116,7 @@ fn keeps(alloc: Global, f: &Flat, split: &Split, limits: &Limits) -> Result<bool
     if has_deeper(limits.stages, split) {
         return Ok(false);
     }
-    let counts = count(alloc, f, split, limits.writeback)?;
+    let counts = count_by_guards(alloc, f, split, &basis.guard_values, limits.writeback)?;
     Ok(first_exceeded(&counts, limits).is_none())
 }
 
@@ -112,18 +124,20 @@ fn keeps(alloc: Global, f: &Flat, split: &Split, limits: &Limits) -> Result<bool
 fn find(
     alloc: Global,
     f: &Flat,
+    basis: &Basis,
     limits: &Limits,
     front: &Front,
     all: bool,
 ) -> Result<Option<Split>, NoMemory>
     requires bounded { IsBounded (program_of f.now) }
+    requires basis { IsBasis f.now basis.now }
     requires in_range { AreInRange limits.now }
     requires front { IsFront (program_of f.now) front.now }
     ensures { IfOk result (λ found. IsFound (program_of f.now) limits.now front.now.count all found) }
 {
     greatest_split_is_one();
-    let split = front.split(alloc, f, all)?;
-    if keeps(alloc, f, &split, limits)? {
+    let split = front.split(alloc, f, basis, all)?;
+    if keeps(alloc, f, basis, &split, limits)? {
         Ok(Some(split))
     } else {
         Ok(None)
@@ -135,10 +149,12 @@ fn find(
 fn find_of_two(
     alloc: Global,
     f: &Flat,
+    basis: &Basis,
     limits: &Limits,
     front: &Front,
 ) -> Result<Option<Split>, NoMemory>
     requires bounded { IsBounded (program_of f.now) }
+    requires basis { IsBasis f.now basis.now }
     requires in_range { AreInRange limits.now }
     requires front { IsFront (program_of f.now) front.now }
     ensures { IfOk result (λ found. IsFoundOfTwo (program_of f.now) limits.now front.now.count found) }
@@ -150,42 +166,50 @@ fn find_of_two(
     if looks_twice(alloc, f, &front.pre)? {
         return Ok(None);
     }
-    if let Some(split) = find(alloc, f, limits, front, true)? {
+    if let Some(split) = find(alloc, f, basis, limits, front, true)? {
         return Ok(Some(split));
     }
-    find(alloc, f, limits, front, false)
+    find(alloc, f, basis, limits, front, false)
 }
 
 // The first split of those on so many instructions or fewer, where it is one on so many. Where preprocessing hasn't the
 // last of them, these are the splits on one less.
-fn step(alloc: Global, f: &Flat, limits: &Limits, front: &Front) -> Result<Option<Split>, NoMemory>
+fn step(
+    alloc: Global,
+    f: &Flat,
+    basis: &Basis,
+    limits: &Limits,
+    front: &Front,
+) -> Result<Option<Split>, NoMemory>
     requires bounded { IsBounded (program_of f.now) }
+    requires basis { IsBasis f.now basis.now }
     requires in_range { AreInRange limits.now }
     requires front { IsFront (program_of f.now) front.now }
     requires some { 0 < front.now.count }
     ensures { IfOk result (λ found. IsStep (program_of f.now) limits.now front.now.count found) }
 {
     if front.has_last() {
-        find_of_two(alloc, f, limits, front)
+        find_of_two(alloc, f, basis, limits, front)
     } else {
         Ok(None)
     }
 }
 
 // The first split of the shrinking list that keeps the limits.
-fn shrunk(alloc: Global, f: &Flat, limits: &Limits) -> Result<Split, NoMemory>
+fn shrunk(alloc: Global, f: &Flat, basis: &Basis, limits: &Limits) -> Result<Split, NoMemory>
     requires bounded { IsBounded (program_of f.now) }
+    requires basis { IsBasis f.now basis.now }
     requires in_range { AreInRange limits.now }
     ensures { IfOk result (λ split. IsChosen (program_of f.now) limits.now true split) }
 {
     let mut front = Front::new(alloc, f, f.code.len())?;
     while front.count > 0 {
-        if let Some(split) = step(alloc, f, limits, &front)? {
+        if let Some(split) = step(alloc, f, basis, limits, &front)? {
             return Ok(split);
         }
         front.narrow();
     }
-    match find(alloc, f, limits, &front, true)? {
+    match find(alloc, f, basis, limits, &front, true)? {
         Some(split) => Ok(split),
         None => all_on_server(alloc, f),
     }
@@ -208,11 +232,12 @@ pub fn partition(alloc: Global, f: &Flat, limits: &Limits, shrink: bool) -> Resu
         → IfOk result (λ split. ⊥) }
 {
     greatest_split_is_one();
+    let basis = Basis::of(alloc, f)?;
     if shrink {
-        let split = shrunk(alloc, f, limits)?;
+        let split = shrunk(alloc, f, &basis, limits)?;
         return Ok(split);
     }
-    match try_split(alloc, f, limits, f.code.len(), true)? {
+    match try_split(alloc, f, &basis, limits, f.code.len(), true)? {
         Tried::Kept(split) => Ok(split),
         Tried::Exceeding(over) => Err(PartError::Exceeds(over)),
     }

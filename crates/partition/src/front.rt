@@ -5,7 +5,9 @@ ghost use Rattle.flat_ir.specs.Program.{program_of};
 ghost use Rattle.split_model.specs.Bounds.{IsBounded};
 ghost use Rattle.split_model.specs.Greatest.{IsGreatestSplit};
 ghost use Rattle.partition.specs.Front.{IsFront};
+ghost use Rattle.partition.specs.Basis.{IsBasis};
 
+use crate::basis::Basis;
 use crate::greatest::{join, post_set};
 use dependence::{Depths, Marks, carried_closure, depths, pre_closure};
 use flat_ir::Flat;
@@ -73,12 +75,19 @@ impl Front {
     }
 
     /// The greatest split with these sets, with all of postprocessing or none of it.
-    pub(crate) fn split(&self, alloc: Global, f: &Flat, all: bool) -> Result<Split, NoMemory>
+    pub(crate) fn split(
+        &self,
+        alloc: Global,
+        f: &Flat,
+        basis: &Basis,
+        all: bool,
+    ) -> Result<Split, NoMemory>
         requires bounded { IsBounded (program_of f.now) }
+        requires basis { IsBasis f.now basis.now }
         requires front { IsFront (program_of f.now) self.now }
         ensures { IfOk result (λ s. IsGreatestSplit (program_of f.now) self.now.count all s) }
     {
-        let post = post_set(alloc, f, all, &self.carried)?;
+        let post = post_set(alloc, f, basis, all, &self.carried)?;
         let post_depths = depths(alloc, f, &post)?;
         join(
             alloc,

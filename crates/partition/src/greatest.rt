@@ -11,10 +11,12 @@ ghost use Rattle.split_model.specs.Shown.{is_shown};
 ghost use Rattle.split_model.specs.Legal.{IsLegal};
 ghost use Rattle.split_model.specs.Greatest.{IsGreatestSplit, IsPostSet};
 ghost use Rattle.split_model.specs.Bounds.{IsBounded};
+ghost use Rattle.partition.specs.Basis.{IsBasis};
 ghost use Rattle.partition.specs.Joined.{IsJoined};
 
+use crate::basis::Basis;
 use crate::front::Front;
-use dependence::{Depths, Marks, post_closure};
+use dependence::{Depths, Marks, post_closure_beside_guards};
 use flat_ir::Flat;
 use gal_io::NoMemory;
 use split_model::{Part, Slow, Split};
@@ -85,21 +87,20 @@ pub(crate) fn join(
     Ok(Split::from(items))
 }
 
-// The set of postprocessing: the greatest one, or none. A block's number has 32 bits, and no memory holds more blocks.
+// The set of postprocessing: the greatest one, or none.
 pub(crate) fn post_set(
     alloc: Global,
     f: &Flat,
+    basis: &Basis,
     all: bool,
     carried: &Marks,
 ) -> Result<Marks, NoMemory>
-    requires { IsWellFormed (program_of f.now) }
+    requires formed { IsWellFormed (program_of f.now) }
+    requires basis { IsBasis f.now basis.now }
     ensures { IfOk result (λ post. IsPostSet (program_of f.now) all carried.now post) }
 {
-    if f.blocks.len() > u32::MAX as usize {
-        return Err(NoMemory);
-    }
     if all {
-        post_closure(alloc, f, carried)
+        post_closure_beside_guards(alloc, f, &basis.uses, &basis.guards, carried)
     } else {
         Marks::unset(alloc, f.code.len())
     }
@@ -111,7 +112,8 @@ pub fn greatest_split(alloc: Global, f: &Flat, k: usize, all: bool) -> Result<Sp
     requires { IsBounded (program_of f.now) }
     ensures { IfOk result (λ s. IsGreatestSplit (program_of f.now) k all s) }
 {
-    Front::new(alloc, f, k)?.split(alloc, f, all)
+    let basis = Basis::of(alloc, f)?;
+    Front::new(alloc, f, k)?.split(alloc, f, &basis, all)
 }
 
 /// The split that leaves every instruction to the server. No object is looked up on the switch.

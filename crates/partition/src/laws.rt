@@ -10,8 +10,11 @@ ghost use Rattle.split_model.specs.Greatest.{IsGreatestSplit, pre_marks, pre_sta
 ghost use Rattle.resource_limits.specs.declared.limits.Limits.{Limits};
 ghost use Rattle.resource_limits.specs.Limits.{AreInRange};
 ghost use Rattle.resource_limits.specs.Kept.{KeepsLimits};
+ghost use Rattle.partition.specs.Choice.{IsChosen};
+ghost use Rattle.partition.specs.Lowest.{IsLowestBefore, IsLowestAfter};
 
 use dependence::depths_are_least;
+use split_model::legal_passes_go_by_stages;
 
 /// There is at most one greatest split of a kind, and it is legal. Preprocessing of no legal split has more than that
 /// of the greatest split on all instructions, and no stages that it may have are lower anywhere. This does nothing: its
@@ -36,3 +39,23 @@ pub fn the_last_keeps()
     ensures { (f : Program) (limits : Limits) (split : List Part) → IsWellFormed f → AreInRange limits
         → IsGreatestSplit f 0 false split → KeepsLimits f split limits }
 {}
+
+/// At most one split is chosen. This does nothing: its contract is the law.
+pub fn one_split_is_chosen()
+    ensures { (f : Program) (limits : Limits) (shrink : Bool) (split other : List Part) → IsWellFormed f
+        → IsChosen f limits shrink split → IsChosen f limits shrink other → split ≡ other }
+{
+    greatest_split_is_one();
+}
+
+/// No legal split that computes the same in preprocessing has a lower highest stage there than the chosen one, nor one
+/// that computes the same in postprocessing there. This does nothing: its contract is the law.
+pub fn the_chosen_is_lowest()
+    ensures before { (f : Program) (limits : Limits) (shrink : Bool) (split : List Part) → IsWellFormed f
+        → IsChosen f limits shrink split → IsLowestBefore f split }
+    ensures after { (f : Program) (limits : Limits) (shrink : Bool) (split : List Part) → IsWellFormed f
+        → IsChosen f limits shrink split → IsLowestAfter f split }
+{
+    depths_are_least();
+    legal_passes_go_by_stages();
+}

@@ -1,6 +1,7 @@
 //! Which split a program gets: the greatest one, or by shrinking the first of a list that keeps the limits.
 #![tactic(auto)]
 
+mod basis;
 mod choosing;
 mod front;
 mod greatest;
@@ -11,4 +12,4 @@ mod tests;
 
 pub use choosing::{PartError, partition};
 pub use greatest::{all_on_server, greatest_split};
-pub use laws::{greatest_split_is_one, the_last_keeps};
+pub use laws::{greatest_split_is_one, one_split_is_chosen, the_chosen_is_lowest, the_last_keeps};

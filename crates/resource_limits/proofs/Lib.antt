@@ -3,4 +3,3 @@ pub mod Kept
 pub mod Tallies
 pub mod Objects
 pub mod Shown
-pub mod Short

@@ -3,7 +3,9 @@ ghost use Rattle.std.specs.Prelude.{◌≡◌, ℕ, ◌+◌, ◌<◌, ◌≤◌,
 ghost use Rattle.state_store.specs.Kinds.{is_table};
 ghost use Rattle.flat_ir.specs.Program.{program_of};
 ghost use Rattle.split_model.specs.Bounds.{IsBounded, IsSmall};
-ghost use Rattle.split_model.specs.Counts.{layout_bytes, stage_or_zero, stages, sum_of, transfer_bytes};
+ghost use Rattle.split_model.specs.Counts.{stage_or_zero, stages, sum_of, transfer_bytes};
+ghost use Rattle.split_model.specs.Crossing.{guards_write};
+ghost use Rattle.split_model.specs.Marked.{AreMarked};
 ghost use Rattle.resource_limits.specs.Counts.{counts_of, first_numbers};
 ghost use Rattle.resource_limits.specs.Uses.{told_at, told_of, TakeBits, TakesBits};
 
@@ -12,7 +14,7 @@ use crate::uses::{Use, tally};
 use flat_ir::Flat;
 use gal_bits::Widths;
 use gal_io::NoMemory;
-use split_model::{Layout, Split, down_layout, up_layout};
+use split_model::{Layouts, Split, ValueSet, guard_values};
 use state_store::{Kind, ObjectDecl};
 use std::alloc::Global;
 
@@ -136,9 +138,8 @@ fn bits_of(widths: &Widths) -> u64
 
 // The bits of an object's tables on the switch, by whether preprocessing and postprocessing look it up.
 fn object_bits(d: &ObjectDecl, before: bool, after: bool, writeback: u32) -> u64
-    requires small { IsSmall d.now }
-    requires writeback { writeback ≤ 65536 }
-    ensures low { result ≤ 2 ^ 30 }
+    requires { IsSmall d.now }
+    ensures low { result ≤ 2 ^ 48 }
     ensures exact { TakesBits d.now before after writeback result }
 {
     let bits = bits_of(&d.keys) + bits_of(&d.values);
@@ -156,7 +157,6 @@ fn object_bits(d: &ObjectDecl, before: bool, after: bool, writeback: u32) -> u64
 fn table_bits(objects: &[ObjectDecl], before: &[u32], after: &[u32], writeback: u32) -> u64
     requires few { length objects.now ≤ 64 }
     requires small { All IsSmall objects.now }
-    requires writeback { writeback ≤ 65536 }
     requires same { length before.now ≡ length objects.now }
     requires same_after { length after.now ≡ length objects.now }
     ensures { TakeBits objects.now before.now after.now writeback result }
@@ -168,32 +168,39 @@ fn table_bits(objects: &[ObjectDecl], before: &[u32], after: &[u32], writeback: 
     bits
 }
 
-// The bytes of the longer header, up or down.
-fn transfer_bytes(alloc: Global, f: &Flat, s: &Split) -> Result<u32, NoMemory>
+// The bytes of the longer header, up or down, by what decides on the program's writes.
+fn transfer_bytes(alloc: Global, f: &Flat, s: &Split, guards: &ValueSet) -> Result<u32, NoMemory>
     requires bounded { IsBounded (program_of f.now) }
+    requires guards { AreMarked (length f.now.code) (guards_write (program_of f.now)) guards.now }
     ensures { IfOk result (λ bytes. bytes ≡ transfer_bytes (program_of f.now) s.now) }
 {
-    let up = layout_bytes(&up_layout(alloc, f, s)?);
-    let down = layout_bytes(&down_layout(alloc, f, s)?);
+    let layouts = Layouts::find(alloc, f, s, guards)?;
+    let up = layouts.up.bytes() as u32;
+    let down = layouts.down.bytes() as u32;
     Ok(up.max(down))
 }
 
-// The bytes that hold a layout's values.
-fn layout_bytes(layout: &Layout) -> u32
-    requires few { length layout.now < 2 ^ 26 }
-    ensures { result ≡ layout_bytes layout.now }
+/// What a split takes of the switch, where each write-back table has room for so many rows. It takes one step an
+/// operand, a value, an object and a block.
+pub fn count(alloc: Global, f: &Flat, s: &Split, writeback: u32) -> Result<Counts, NoMemory>
+    requires { IsBounded (program_of f.now) }
+    ensures { IfOk result (λ counts. counts ≡ counts_of (program_of f.now) s.now writeback) }
 {
-    let mut bits = 7u32;
-    for crossing in layout.as_slice() {
-        bits += crossing.width.bits();
-    }
-    bits / 8
+    let guards = guard_values(alloc, f)?;
+    count_by_guards(alloc, f, s, &guards, writeback)
 }
 
-/// What a split takes of the switch, where each write-back table has room for so many rows.
-pub fn count(alloc: Global, f: &Flat, s: &Split, writeback: u32) -> Result<Counts, NoMemory>
+/// The same by what decides on the program's writes, which hangs on no split. It takes one step an operand, a value and
+/// an object.
+pub fn count_by_guards(
+    alloc: Global,
+    f: &Flat,
+    s: &Split,
+    guards: &ValueSet,
+    writeback: u32,
+) -> Result<Counts, NoMemory>
     requires bounded { IsBounded (program_of f.now) }
-    requires writeback { writeback ≤ 65536 }
+    requires guards { AreMarked (length f.now.code) (guards_write (program_of f.now)) guards.now }
     ensures { IfOk result (λ counts. counts ≡ counts_of (program_of f.now) s.now writeback) }
 {
     let objects = f.objects.as_slice();
@@ -205,6 +212,6 @@ pub fn count(alloc: Global, f: &Flat, s: &Split, writeback: u32) -> Result<Count
         stages: stages(f, s),
         table_bits: table_bits(objects, &before, &after, writeback),
         writes: told(alloc, objects, &before, &changes)?,
-        transfer_bytes: transfer_bytes(alloc, f, s)?,
+        transfer_bytes: transfer_bytes(alloc, f, s, guards)?,
     })
 }

@@ -9,7 +9,7 @@ mod reader;
 mod tally;
 mod uses;
 
-pub use counting::{Counts, count};
+pub use counting::{Counts, count, count_by_guards};
 pub use exceeding::{LimitName, Over, first_exceeded};
 pub use laws::kept_limits_are_not_exceeded;
 pub use limits::{Key, Limits, LimitsError};

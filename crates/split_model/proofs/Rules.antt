@@ -1,6 +1,6 @@
 -- What the nine rules say of the instructions of a legal split.
-use Rattle.std.proofs.Common.{◌≡◌, ℕ, zero, suc, ◌==◌, ◌<◌, Bool, true, false, not, ◌&&◌, ◌||◌, List, [], ◌∷◌, length, nat_lt, Option, Some, refl, sym, ap, ◌∙◌}
-use Rattle.std.proofs.lemmas.Bool.{false≢true, true≢false, or_parts, ltb-true}
+use Rattle.std.proofs.Common.{◌≡◌, ℕ, zero, suc, ◌==◌, ◌<◌, Bool, true, false, not, ◌&&◌, ◌||◌, List, [], ◌∷◌, length, nat_lt, Option, Some, inl, inr, refl, sym, ap, ◌∙◌, arith}
+use Rattle.std.proofs.lemmas.Bool.{false≢true, true≢false, or_parts, or_cases, cases_eq, cases_lt, eqb-true, eq-eqb, ltb-true}
 use Rattle.std.specs.List.{AllByRecursion as Each, list_all, list_any}
 use Rattle.flat_ir.specs.declared.program.ValueId.{ValueId}
 use Rattle.flat_ir.specs.Program.{Program, Work, step_at, operands}
@@ -10,6 +10,8 @@ use Rattle.flat_ir.specs.WellFormed.{EachCondition}
 use Rattle.split_model.specs.declared.split.Part.{Part}
 use Rattle.split_model.specs.Split.{pre_stage, post_stage, is_pre, is_carried, is_server, is_post}
 use Rattle.split_model.specs.Legal.{IsLegal, is_post_condition, is_not_lower, is_misplaced}
+use Rattle.split_model.specs.Crossing.{is_value, is_among}
+use Rattle.split_model.specs.Laws.{GoesByStages}
 use Rattle.split_model.proofs.Below.{each_weaker}
 
 -- ## Tests that hold
@@ -58,6 +60,45 @@ rises f stage i own is e =
     each_weaker (λ v. is_not_lower (stage v.instruction) own ≡ false) (IsLower stage own) (is_lower stage own) (operands work)
     (each_false (λ v. is_not_lower (stage v.instruction) own) (operands work)
     ((or_parts (not (same (is_input work) (own == 0))) (list_any (λ v. is_not_lower (stage v.instruction) own) (operands work)) (ap (is_misplaced f stage i) (sym is) ∙ e)).1))
+
+same_value : (stage : ℕ → Option ℕ) (own : ℕ) (v : ValueId) (vs : List ValueId) → Each (IsLower stage own) vs → is_among v vs ≡ true → IsLower stage own v
+same_value stage own v [] low h = absurd (false≢true h)
+same_value stage own v (w ∷ ws) low h = elim (or_cases (is_value v w) (is_among v ws) h) [
+  | inl e ↦
+      let e' : v.instruction ≡ w.instruction = eqb-true v.instruction w.instruction (first_true (v.instruction == w.instruction) (v.result == w.result) e) in
+      λ other is. low.0 other (ap stage (sym e') ∙ is)
+  | inr r ↦ same_value stage own v ws low.1 r
+]
+  where
+    first_true : (a b : Bool) → (a && b) ≡ true → a ≡ true
+    first_true true b h = refl
+    first_true false b h = h
+
+zero_stage : (b : Bool) (own : ℕ) → same b (own == 0) ≡ true → b ≡ true → own ≡ 0
+zero_stage true own h e = eqb-true own 0 h
+zero_stage false own h e = absurd (false≢true e)
+
+later_stage : (b : Bool) (own : ℕ) → same b (own == 0) ≡ true → b ≡ false → 0 < own
+later_stage true own h e = absurd (true≢false e)
+later_stage false own h e = elim (cases_eq own 0) [
+  | inl z ↦ absurd (false≢true (ap (same false) (sym (eq-eqb own 0 z)) ∙ h))
+  | inr ne ↦ elim (cases_lt 0 own) [ inl l ↦ l | inr le ↦ absurd (ne (omega arith)) ]
+]
+
+-- a pass in which no instruction is misplaced goes by stages
+pub by_stages : (f : Program) (stage : ℕ → Option ℕ) → ((i : ℕ) → i < length f.code → is_misplaced f stage i (stage i) ≡ false) → GoesByStages f stage
+by_stages f stage placed = record {
+  inputs = λ i own within is. zero_stage (is_input (step_at f i).work) own (own_place i own within is);
+  others = λ i own within is. later_stage (is_input (step_at f i).work) own (own_place i own within is);
+  reads = λ i own written v within is among there.
+      same_value stage own v (operands (step_at f i).work) (rises f stage i own is (placed i within)) among written there;
+}
+  where
+    own_place : (i own : ℕ) → i < length f.code → stage i ≡ Some own → same (is_input (step_at f i).work) (own == 0) ≡ true
+    own_place i own within is =
+        let work = (step_at f i).work in
+        not_false (same (is_input work) (own == 0))
+        ((or_parts (not (same (is_input work) (own == 0))) (list_any (λ v. is_not_lower (stage v.instruction) own) (operands work)) (ap (is_misplaced f stage i) (sym is) ∙ placed i within)).0)
 
 -- ## The rules
 
@@ -128,7 +169,7 @@ module _ (f : Program) (split : List Part) (legal : IsLegal f split) (i : ℕ) (
   pub writes_not_pre : is_write work ≡ true → is_pre split i ≡ false
   writes_not_pre write = (eighth write).0
 
-  abbrev ninth : (is_misplaced f (pre_stage split) i (pre_stage split i) ≡ false) × (is_misplaced f (post_stage split) i (post_stage split i) ≡ false)
+  abbrev pub ninth : (is_misplaced f (pre_stage split) i (pre_stage split i) ≡ false) × (is_misplaced f (post_stage split) i (post_stage split i) ≡ false)
   ninth = or_parts (is_misplaced f (pre_stage split) i (pre_stage split i)) (is_misplaced f (post_stage split) i (post_stage split i)) (legal.kept 9 i within)
 
 pub pre_rises : (f : Program) (split : List Part) → IsLegal f split → IsRising f (pre_stage split)

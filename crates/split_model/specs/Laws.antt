@@ -1,20 +1,20 @@
 -- What holds of the parts of a split program.
-use Rattle.std.specs.Prelude.{◌≡◌, ◌<◌, ◌^◌, ℕ, Bool, true, not, ◌&&◌, ◌||◌, List, [], Some, None, slice_get}
-use Rattle.std.specs.Prelude.{if◌then◌else◌}
+use Rattle.std.specs.Prelude.{◌≡◌, ◌<◌, ◌^◌, ℕ, Bool, true, false, not, ◌&&◌, ◌||◌, List, [], Option, Some, None}
+use Rattle.std.specs.Prelude.{if◌then◌else◌, length, slice_get}
 use Rattle.packet_fields.specs.declared.packet.Packet.{Packet}
 use Rattle.state_store.specs.declared.object.ObjectDecl.{ObjectDecl}
 use Rattle.state_store.specs.Kept.{IsKept}
 use Rattle.state_store.specs.Kinds.{is_table}
 use Rattle.state_store.specs.Store.{Store, object_at, start_object}
 use Rattle.flat_ir.specs.declared.program.ValueId.{ValueId}
-use Rattle.flat_ir.specs.Program.{Program, step_at, width_of_value}
+use Rattle.flat_ir.specs.Program.{Program, step_at, operands, width_of_value}
 use Rattle.flat_ir.specs.Blocks.{Reading}
-use Rattle.flat_ir.specs.Kinds.{is_const, is_mutable_look, is_write}
+use Rattle.flat_ir.specs.Kinds.{is_const, is_input, is_mutable_look, is_write}
 use Rattle.flat_ir.specs.Run.{flat_run, flat_store, flat_changes, flat_verdict}
 use Rattle.split_model.specs.declared.split.Part.{Part}
 use Rattle.split_model.specs.Split.{is_carried, is_post, is_pre, any_step}
 use Rattle.split_model.specs.Counts.{is_post_shown}
-use Rattle.split_model.specs.Crossing.{crosses_up, crosses_down, is_written_value}
+use Rattle.split_model.specs.Crossing.{crosses_up, crosses_down, is_among, is_written_value}
 use Rattle.split_model.specs.Passes.{pre_verdict, pre_values, is_fast, meets_rest, Shows, IsHanded, server_run}
 use Rattle.split_model.specs.Passes.{replicated_changes, post_values, post_verdict, sent_down, down_verdict}
 use Rattle.split_model.specs.Shown.{is_shown, is_replicated}
@@ -113,3 +113,11 @@ pub record HasEveryPart (f : Program) (split : List Part) : Type 0 where
   pub up : (v : ValueId) × (crosses_up f split v ≡ true)
   pub down : (v : ValueId) × (crosses_down f split v ≡ true)
   pub adds : any_step f (λ i. is_post split i && not (is_const (step_at f i).work)) ≡ true
+
+-- A pass goes by stages: consts and fields have stage 0, all else a stage above it, and what an instruction reads of
+-- its own pass is written at a lower stage.
+pub record GoesByStages (f : Program) (stage : ℕ → Option ℕ) : Type 0 where
+  pub inputs : (i own : ℕ) → i < length f.code → stage i ≡ Some own → is_input (step_at f i).work ≡ true → own ≡ 0
+  pub others : (i own : ℕ) → i < length f.code → stage i ≡ Some own → is_input (step_at f i).work ≡ false → 0 < own
+  pub reads : (i own written : ℕ) (v : ValueId) → i < length f.code → stage i ≡ Some own
+      → is_among v (operands (step_at f i).work) ≡ true → stage v.instruction ≡ Some written → written < own

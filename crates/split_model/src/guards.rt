@@ -50,8 +50,8 @@ fn lift(f: &Flat, b: usize, covering: &mut Vec<bool>, guards: &mut ValueSet)
 }
 
 /// The conditions of the blocks in which writes stand, and of those above them. It takes one step an instruction and a
-/// block.
-pub(crate) fn guards(alloc: Global, f: &Flat) -> Result<ValueSet, NoMemory>
+/// block, and hangs on no split.
+pub fn guard_values(alloc: Global, f: &Flat) -> Result<ValueSet, NoMemory>
     requires formed { IsWellFormed (program_of f.now) }
     requires few { length f.now.code < 2 ^ 32 }
     ensures { IfOk result (λ set. AreMarked (length f.now.code) (guards_write (program_of f.now)) set) }

@@ -16,7 +16,8 @@ ghost use Rattle.split_model.specs.Split.{post_stage, pre_stage};
 ghost use Rattle.split_model.specs.Legal.{IsLegal};
 ghost use Rattle.split_model.specs.Passes.{IsHanded, Shows, pre_values, post_values, served};
 ghost use Rattle.split_model.specs.Passes.{done_below, given_down, pass};
-ghost use Rattle.split_model.specs.Laws.{CarriedStand, FitAcross, HasEveryPart, HasReplicated, IsExact, IsLoaded};
+ghost use Rattle.split_model.specs.Laws.{CarriedStand, FitAcross, GoesByStages, HasEveryPart, HasReplicated};
+ghost use Rattle.split_model.specs.Laws.{IsExact, IsLoaded};
 ghost use Rattle.split_model.specs.Laws.{IsPostedAlike, IsSentAlike, IsSentDown, IsServedAlike, IsServedWithin};
 ghost use Rattle.split_model.specs.Laws.{IsShownAlone, IsWhole};
 
@@ -113,6 +114,12 @@ pub fn passes_keep_widths()
 {
     a_turn_keeps_widths();
 }
+
+/// Both passes of a legal split go by stages: an instruction reads of its own pass only what a lower stage writes.
+pub fn legal_passes_go_by_stages()
+    ensures pre { (f : Program) (split : List Part) → IsLegal f split → GoesByStages f (pre_stage split) }
+    ensures post { (f : Program) (split : List Part) → IsLegal f split → GoesByStages f (post_stage split) }
+{}
 
 /// Once all stages of a pass up to that of a value are done, the value is the pass's: it stays.
 pub fn a_pass_is_done_by_stages()

@@ -1,5 +1,5 @@
 //! What is handed from one part to the next.
-ghost use Rattle.std.specs.Prelude.{◌≡◌, ◌<◌, ◌++◌, ◌∷◌, ◌^◌, [], length, IfOk, OnOk, OnErr};
+ghost use Rattle.std.specs.Prelude.{◌≡◌, ◌<◌, ◌≤◌, ◌*◌, ◌++◌, ◌∷◌, ◌^◌, [], length, IfOk, OnOk, OnErr};
 ghost use Rattle.split_model.specs.Counts.{layout_bytes};
 
 use flat_ir::ValueId;
@@ -56,7 +56,8 @@ impl Layout {
     /// How many bytes hold the values, one after the other and each in as many bits as its width.
     pub fn bytes(&self) -> usize
         requires few { length self.now < 2 ^ 32 }
-        ensures { result ≡ layout_bytes self.now }
+        ensures exact { result ≡ layout_bytes self.now }
+        ensures low { result ≤ 8 * length self.now }
     {
         let mut bits = 7usize;
         for crossing in &self.items {

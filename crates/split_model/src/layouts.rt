@@ -1,14 +1,13 @@
 //! Which values are handed up and down.
 ghost use Rattle.std.specs.Prelude.{◌≡◌, ◌+◌, ◌*◌, ◌<◌, ◌≤◌, ◌^◌, ◌++◌, ◌∷◌, [], length, IfOk, OnOk, IsTrue};
 ghost use Rattle.flat_ir.specs.Program.{program_of, work_of, is_named, step_at, result_count};
-ghost use Rattle.flat_ir.specs.WellFormed.{IsWellFormed};
 ghost use Rattle.split_model.specs.Bounds.{IsBounded};
-ghost use Rattle.split_model.specs.Crossing.{is_written, is_at_hand, crosses_up, crosses_down};
+ghost use Rattle.split_model.specs.Crossing.{is_written, is_at_hand, crosses_up, crosses_down, guards_write};
 ghost use Rattle.split_model.specs.Layouts.{first_results, values_below, values_of, number_of};
 ghost use Rattle.split_model.specs.Layouts.{up_layout, down_layout};
-ghost use Rattle.split_model.specs.Marked.{crosses, crossings_of, AreFound};
+ghost use Rattle.split_model.specs.Marked.{crosses, crossings_of, AreFound, AreMarked};
 
-use crate::guards::guards;
+use crate::guards::guard_values;
 use crate::kinds::{is_input, result_count, result_width};
 use crate::layout::{Crossing, Layout};
 use crate::readers::{Reader, read_by, written_values};
@@ -61,16 +60,16 @@ pub fn is_at_hand(f: &Flat, s: &Split, kind: &InstrKind) -> bool
 }
 
 impl Crossings {
-    // Looks for them in a program.
-    fn find(alloc: Global, f: &Flat, s: &Split) -> Result<Crossings, NoMemory>
-        requires formed { IsWellFormed (program_of f.now) }
+    // Looks for them in a program, but for what decides on writes, which is known.
+    fn find(alloc: Global, f: &Flat, s: &Split, guards: ValueSet) -> Result<Crossings, NoMemory>
         requires few { length f.now.code < 2 ^ 32 }
+        requires guards { AreMarked (length f.now.code) (guards_write (program_of f.now)) guards }
         ensures { IfOk result (λ found. AreFound (program_of f.now) s.now found) }
     {
         Ok(Crossings {
             post: read_by(alloc, f, s, Reader::Post)?,
             server: read_by(alloc, f, s, Reader::Server)?,
-            guards: guards(alloc, f)?,
+            guards,
             written: written_values(alloc, f, s)?,
         })
     }
@@ -181,22 +180,55 @@ impl Crossings {
         }
         Ok(count)
     }
+
+    // The values that cross this way.
+    fn layout(&self, alloc: Global, f: &Flat, s: &Split, way: Way) -> Result<Layout, NoMemory>
+        requires bounded { IsBounded (program_of f.now) }
+        requires found { AreFound (program_of f.now) s.now self.now }
+        ensures exact { IfOk result (λ layout.
+            layout ≡ crossings_of way (program_of f.now) s.now (values_of (program_of f.now))) }
+        ensures few { IfOk result (λ layout. length layout < 2 ^ 26) }
+    {
+        let mut layout = Layout::new(alloc);
+        let mut number = 0;
+        for i in 0..f.code.len() {
+            number += self.put_results(f, s, way, i as u32, number, &mut layout)?;
+        }
+        Ok(layout)
+    }
 }
 
-// The values that cross this way.
-fn layout_of(alloc: Global, f: &Flat, s: &Split, way: Way) -> Result<Layout, NoMemory>
-    requires bounded { IsBounded (program_of f.now) }
-    ensures exact { IfOk result (λ layout.
-        layout ≡ crossings_of way (program_of f.now) s.now (values_of (program_of f.now))) }
-    ensures few { IfOk result (λ layout. length layout < 2 ^ 32) }
-{
-    let found = Crossings::find(alloc, f, s)?;
-    let mut layout = Layout::new(alloc);
-    let mut number = 0;
-    for i in 0..f.code.len() {
-        number += found.put_results(f, s, way, i as u32, number, &mut layout)?;
+/// What is handed up, and what is handed down.
+#[derive(Debug, Drop)]
+pub struct Layouts {
+    pub up: Layout,
+    pub down: Layout,
+}
+
+impl Layouts {
+    /// Those of a split, by what decides on the program's writes. It takes one step an operand and a value.
+    pub fn find(alloc: Global, f: &Flat, s: &Split, guards: &ValueSet) -> Result<Layouts, NoMemory>
+        requires bounded { IsBounded (program_of f.now) }
+        requires guards { AreMarked (length f.now.code) (guards_write (program_of f.now)) guards.now }
+        ensures up { IfOk result (λ both. both.up ≡ up_layout (program_of f.now) s.now) }
+        ensures down { IfOk result (λ both. both.down ≡ down_layout (program_of f.now) s.now) }
+        ensures few_up { IfOk result (λ both. length both.up < 2 ^ 26) }
+        ensures few_down { IfOk result (λ both. length both.down < 2 ^ 26) }
+    {
+        let found = Crossings::find(alloc, f, s, guards.copy(alloc)?)?;
+        let up = found.layout(alloc, f, s, Way::Up)?;
+        let down = found.layout(alloc, f, s, Way::Down)?;
+        Ok(Layouts { up, down })
     }
-    Ok(layout)
+}
+
+// What decides whether a value crosses.
+fn found_crossings(alloc: Global, f: &Flat, s: &Split) -> Result<Crossings, NoMemory>
+    requires { IsBounded (program_of f.now) }
+    ensures { IfOk result (λ found. AreFound (program_of f.now) s.now found) }
+{
+    let guards = guard_values(alloc, f)?;
+    Crossings::find(alloc, f, s, guards)
 }
 
 /// The values that preprocessing hands up to the server. It takes one step an operand, a block and a value.
@@ -205,7 +237,7 @@ pub fn up_layout(alloc: Global, f: &Flat, s: &Split) -> Result<Layout, NoMemory>
     ensures exact { IfOk result (λ layout. layout ≡ up_layout (program_of f.now) s.now) }
     ensures few { IfOk result (λ layout. length layout < 2 ^ 32) }
 {
-    layout_of(alloc, f, s, Way::Up)
+    found_crossings(alloc, f, s)?.layout(alloc, f, s, Way::Up)
 }
 
 /// The values that the server hands down to postprocessing, those that it was handed up among them. It takes one step
@@ -215,5 +247,5 @@ pub fn down_layout(alloc: Global, f: &Flat, s: &Split) -> Result<Layout, NoMemor
     ensures exact { IfOk result (λ layout. layout ≡ down_layout (program_of f.now) s.now) }
     ensures few { IfOk result (λ layout. length layout < 2 ^ 32) }
 {
-    layout_of(alloc, f, s, Way::Down)
+    found_crossings(alloc, f, s)?.layout(alloc, f, s, Way::Down)
 }

@@ -18,7 +18,7 @@ pub(crate) fn is_value(one: ValueId, other: ValueId) -> bool
 
 /// A set of values, by a mark for each of the first 9 results of each instruction. No instruction has more.
 #[derive(Debug, Drop)]
-pub(crate) struct ValueSet {
+pub struct ValueSet {
     marks: Vec<bool>,
 }
 
@@ -32,7 +32,7 @@ impl Model for ValueSet {
 
 impl ValueSet {
     /// The empty set, with room for the values of so many instructions.
-    pub fn new(alloc: Global, instructions: usize) -> Result<ValueSet, NoMemory>
+    pub(crate) fn new(alloc: Global, instructions: usize) -> Result<ValueSet, NoMemory>
         requires few { instructions < 2 ^ 32 }
         ensures { IfOk result (λ set. AreMarked instructions (λ v. false) set) }
     {
@@ -41,7 +41,7 @@ impl ValueSet {
     }
 
     /// Whether a value is in the set.
-    pub fn has(&self, value: ValueId) -> bool
+    pub(crate) fn has(&self, value: ValueId) -> bool
         ensures { result ≡ is_marked self.now value }
     {
         let place = 9 * value.instruction as usize + value.result as usize;
@@ -52,8 +52,16 @@ impl ValueSet {
         }
     }
 
+    /// The same set again, in memory of its own.
+    pub fn copy(&self, alloc: Global) -> Result<ValueSet, NoMemory>
+        ensures { IfOk result (λ made. made ≡ self.now) }
+    {
+        let marks = self.marks.to_vec(alloc)?;
+        Ok(ValueSet { marks })
+    }
+
     /// Puts a value into the set, where there is room for it.
-    pub fn insert(&mut self, value: ValueId)
+    pub(crate) fn insert(&mut self, value: ValueId)
         ensures { Adds (λ v. is_value v value) self.old self.new }
     {
         let place = 9 * value.instruction as usize + value.result as usize;
@@ -63,7 +71,7 @@ impl ValueSet {
     }
 
     /// Puts several values into the set.
-    pub fn insert_all(&mut self, values: &[ValueId])
+    pub(crate) fn insert_all(&mut self, values: &[ValueId])
         ensures { Adds (λ v. is_among v values.now) self.old self.new }
     {
         for value in values {
@@ -72,7 +80,7 @@ impl ValueSet {
     }
 
     /// Puts the operands of an instruction into the set.
-    pub fn insert_operands(&mut self, kind: &InstrKind)
+    pub(crate) fn insert_operands(&mut self, kind: &InstrKind)
         ensures { Adds (λ v. is_among v (operands (work_of kind.now))) self.old self.new }
     {
         match kind {

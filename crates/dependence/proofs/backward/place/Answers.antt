@@ -1,29 +1,27 @@
-use Rattle.std.proofs.Common.{◌≡◌, ◌<◌, ◌∙◌, false, length, subst, sym, arith}
-use Rattle.std.specs.Prelude.{slice_index_or}
+use Rattle.std.proofs.Common.{◌≡◌, ◌<◌, ◌∙◌, ◌&&◌, Bool, true, false, length, subst, sym, ap, refl}
 use Rattle.flat_ir.specs.Program.{program_of, step_of}
-use Rattle.dependence.proofs.Placing.{placed, here, as_many}
-use Rattle.dependence.proofs.Falling.{take_free, leave_out}
+use Rattle.dependence.proofs.Placing.{placed, here}
+use Rattle.dependence.proofs.Using.{and_false}
+use Rattle.dependence.proofs.Falling.{may, enters, take_one, leave_out}
+use Rattle.dependence.proofs.backward.place.Goals.{else-may-via-then-may+else-enters_post, else-may-via-else-may}
 use Rattle.dependence.proofs.backward.place.Goals as goal
 
-pub bar_operands-requires : goal.bar_operands-requires
-bar_operands-requires c =
-    λ j r. let at = here c.args.f.now c.as_slice.result.now c.args.i c.index-as_slice-i.result c.as_slice.ensures (subst (λ l. c.args.i < length l) (sym c.as_slice.ensures) c.requires.inside) c.index-as_slice-i.is in
-    let before = (placed (program_of c.args.f.now) c.requires.formed).operands c.args.i j (step_of c.index-as_slice-i.result) at r in
-    let count = c.requires.from.bars in
-    let same = as_many c.args.f.now c.as_slice.result.now c.as_slice.ensures in
-    let inside = subst (λ l. c.args.i < length l) (sym c.as_slice.ensures) c.requires.inside in
-    omega arith
+false_and : (a b : Bool) → a ≡ false → (a && b) ≡ false
+false_and a b h = ap (λ x. x && b) h
 
 pub returns-then-enters_post : goal.returns-then-enters_post
 returns-then-enters_post c =
     let at = here c.args.f.now c.as_slice.result.now c.args.i c.index-as_slice-i.result c.as_slice.ensures (subst (λ l. c.args.i < length l) (sym c.as_slice.ensures) c.requires.inside) c.index-as_slice-i.is in
-    let alone : slice_index_or c.args.carried.now c.args.i false ≡ false = sym c.at.ensures ∙ c.if-at.false in
-    rw c.set.ensures (take_free (program_of c.args.f.now) c.args.carried.now c.args.i (step_of c.index-as_slice-i.result) c.args.post.now c.args.barred.now at alone
-    (sym c.enters_post.ensures ∙ c.if-enters_post.true) c.requires.from)
+    rw c.set.ensures (take_one (program_of c.args.f.now) c.args.uses.now c.args.guards.now c.args.carried.now c.args.i (step_of c.index-as_slice-i.result) c.args.post.now c.requires.uses c.requires.guards at
+    (sym c.may_be_post-may.ensures ∙ c.if-may.true) (sym c.enters_post.ensures ∙ c.if-enters_post.true) c.requires.from)
 
-pub returns-else-enters_post : goal.returns-else-enters_post
-returns-else-enters_post c =
+pub returns-else-may : goal.returns-else-may
+returns-else-may c =
     let at = here c.args.f.now c.as_slice.result.now c.args.i c.index-as_slice-i.result c.as_slice.ensures (subst (λ l. c.args.i < length l) (sym c.as_slice.ensures) c.requires.inside) c.index-as_slice-i.is in
-    let alone : slice_index_or c.args.carried.now c.args.i false ≡ false = sym c.at.ensures ∙ c.if-at.false in
-    leave_out (program_of c.args.f.now) c.args.carried.now c.args.i (step_of c.index-as_slice-i.result) c.args.post.now c.args.barred.now c.bar_operands.new.barred (placed (program_of c.args.f.now) c.requires.formed) at alone
-    (sym c.enters_post.ensures ∙ c.if-enters_post.false) c.bar_operands.ensures c.requires.from
+    let fits = may (program_of c.args.f.now) (step_of c.index-as_slice-i.result) in
+    let goes = enters c.args.uses.now c.args.guards.now c.args.carried.now c.args.post.now c.args.i in
+    let out : (fits && goes) ≡ false = elim c.else-may.branch [
+      | else-may-via-then-may+else-enters_post w ↦ and_false fits goes (sym w.enters_post.ensures ∙ w.if-enters_post.false)
+      | else-may-via-else-may w ↦ false_and fits goes (sym c.may_be_post-may.ensures ∙ w.if-may.false)
+    ] in
+    leave_out (program_of c.args.f.now) c.args.uses.now c.args.guards.now c.args.carried.now c.args.i (step_of c.index-as_slice-i.result) c.args.post.now (placed (program_of c.args.f.now) c.requires.formed) c.requires.uses c.requires.guards at out c.requires.from

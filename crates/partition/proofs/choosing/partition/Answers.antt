@@ -73,8 +73,8 @@ returns-in-Kept-clause-not_chosen c =
     λ over refused. kept_not_exceeded c.greatest_split_is_one.ensures.one f l (length f.code) true c.requires.bounded.formed c.in-Kept.split over tried
     (subst (λ (b : Bool). IsRefused f l b over) c.if-shrink.false refused)
 
-pub returns-in-Exceeding-clause-refused : goal.returns-in-Exceeding-clause-refused
-returns-in-Exceeding-clause-refused c =
+pub returns-clause-refused : goal.returns-clause-refused
+returns-clause-refused c =
     let f = program_of c.args.f.now in
     let l = c.args.limits.now in
     let e : c.len.result ≡ length f.code = c.len.ensures ∙ sym (length-map c.args.f.now.code step_of) in
@@ -82,8 +82,8 @@ returns-in-Exceeding-clause-refused c =
     subst (λ n. IsTried f l n true (Exceeding c.in-Exceeding.over)) e (subst (λ (t : Tried). IsTried f l c.len.result true t) c.in-Exceeding.is c.in_ok-split-2.ensures) in
     subst (λ (b : Bool). IsRefused f l b c.in-Exceeding.over) (sym c.if-shrink.false) tried.exceeded
 
-pub returns-in-Exceeding-clause-not_refused : goal.returns-in-Exceeding-clause-not_refused
-returns-in-Exceeding-clause-not_refused c =
+pub returns-clause-not_refused : goal.returns-clause-not_refused
+returns-clause-not_refused c =
     let f = program_of c.args.f.now in
     let l = c.args.limits.now in
     let e : c.len.result ≡ length f.code = c.len.ensures ∙ sym (length-map c.args.f.now.code step_of) in

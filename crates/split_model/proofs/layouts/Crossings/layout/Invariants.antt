@@ -2,7 +2,7 @@ use Rattle.std.proofs.Common.{◌≡◌, ◌*◌, ◌≤◌, length}
 use Rattle.flat_ir.specs.Program.{program_of}
 use Rattle.split_model.specs.Layouts.{values_below}
 use Rattle.split_model.specs.Marked.{crossings_of}
-use Rattle.split_model.proofs.layouts.layout_of.Given as goal
+use Rattle.split_model.proofs.layouts.Crossings.layout.Given as goal
 
 abbrev pub invariant-loop-i : goal.invariant-loop-i
 invariant-loop-i l = record {

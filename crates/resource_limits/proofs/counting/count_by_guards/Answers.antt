@@ -5,7 +5,7 @@ use Rattle.split_model.specs.Counts.{accesses, writes, table_bits}
 use Rattle.resource_limits.specs.Counts.{each_object, first_numbers}
 use Rattle.resource_limits.specs.Uses.{told_at}
 use Rattle.resource_limits.proofs.Shown.{accesses_are, writes_are}
-use Rattle.resource_limits.proofs.counting.count.Goals as goal
+use Rattle.resource_limits.proofs.counting.count_by_guards.Goals as goal
 
 pub returns : goal.returns
 returns c =

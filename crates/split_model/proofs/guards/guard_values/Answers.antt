@@ -4,7 +4,7 @@ use Rattle.flat_ir.specs.Program.{program_of, step_of}
 use Rattle.split_model.specs.Crossing.{guards_write}
 use Rattle.split_model.specs.Marked.{AreMarked, AreWriteBlocks, AreGuardsFrom}
 use Rattle.split_model.proofs.Guarding.{from_last, all_found}
-use Rattle.split_model.proofs.guards.guards.Goals as goal
+use Rattle.split_model.proofs.guards.guard_values.Goals as goal
 
 pub loop-b-init : goal.loop-b-init
 loop-b-init c =

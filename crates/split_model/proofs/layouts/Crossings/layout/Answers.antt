@@ -5,7 +5,7 @@ use Rattle.flat_ir.specs.Program.{program_of, step_of}
 use Rattle.split_model.specs.Layouts.{crossing, first_results, values_below}
 use Rattle.split_model.specs.Marked.{crosses}
 use Rattle.split_model.proofs.Numbering.{values_more, layout_more, few_cross}
-use Rattle.split_model.proofs.layouts.layout_of.Goals as goal
+use Rattle.split_model.proofs.layouts.Crossings.layout.Goals as goal
 
 pub loop-i-preserved : goal.loop-i-preserved
 loop-i-preserved c =

@@ -1,7 +1,7 @@
 use Rattle.std.proofs.Common.{◌≤◌, length}
 use Rattle.flat_ir.specs.Program.{program_of}
 use Rattle.split_model.specs.Marked.{AreGuardsFrom}
-use Rattle.split_model.proofs.guards.guards.Given as goal
+use Rattle.split_model.proofs.guards.guard_values.Given as goal
 
 abbrev pub invariant-loop-b : goal.invariant-loop-b
 invariant-loop-b l = record {
