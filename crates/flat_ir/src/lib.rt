@@ -4,6 +4,7 @@
 mod blocks;
 mod eval;
 mod fits;
+mod kinds;
 mod laws;
 mod listing;
 mod program;
@@ -25,4 +26,6 @@ pub use program::{Block, Blocks, Code, FieldValue, Flat, Instr, InstrKind, Out, 
 pub use reading::{Lookup, Numbers};
 pub use registers::Results;
 pub use well_formed::is_well_formed;
-pub use work::{Arrival, compute, given, key_of, row_of, what_fits_can_run};
+pub use work::{
+    Arrival, compute, compute_number, given, given_number, key_of, look, row_of, what_fits_can_run,
+};
