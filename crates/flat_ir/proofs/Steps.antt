@@ -52,13 +52,15 @@ with_same n rs r r' v e =
     ⊎_elim (λ same. set_own n rs r v same ∙ sym (set_own n rs r' v same)) (λ ne. set_other n rs r v ne ∙ e ∙ sym (set_other n rs r' v ne)) (cases_eq v.instruction n)
 
 -- what an instruction gives and changes is its turn
-pub turn_taken : (f : Program) (packet : Packet) (i : ℕ) (rows : List Results) (st st' : Store) (r : Results) (s : Step) (live : Bool) → s ≡ step_at f i → live ≡ is_live f.blocks (reads_of rows) s.block → results_of r ≡ results (reads_of rows) live st packet s.work → st' ≡ with_changes st (made live (change_of (reads_of rows) st s.work)) → i < length rows → StandAs (turn f packet i (reads_of rows) st) (reads_of (slice_set rows i r)) st'
-turn_taken f packet i rows st st' r s live is opened gives leaves lt =
+pub turn_taken : (f : Program) (packet : Packet) (i : ℕ) (rows : List Results) (st st' : Store) (r : Results) (s : Step) → s ≡ step_at f i
+    → results_of r ≡ results (reads_of rows) (is_live f.blocks (reads_of rows) s.block) st packet s.work
+    → st' ≡ with_changes st (made (is_live f.blocks (reads_of rows) s.block) (change_of (reads_of rows) st s.work))
+    → i < length rows → StandAs (turn f packet i (reads_of rows) st) (reads_of (slice_set rows i r)) st'
+turn_taken f packet i rows st st' r s is gives leaves lt =
     let reads = reads_of rows in
-    let now = is_live f.blocks reads (step_at f i).block in
     record {
-      values = λ v. row_set rows i r v lt ∙ ap (λ rs. with_results i rs reads v) (gives ∙ ap (λ l. results reads l st packet s.work) opened ∙ ap (λ (t : Step). results reads (is_live f.blocks reads t.block) st packet t.work) is);
-      store = leaves ∙ ap (λ l. with_changes st (made l (change_of reads st s.work))) opened ∙ ap (λ (t : Step). with_changes st (made (is_live f.blocks reads t.block) (change_of reads st t.work))) is;
+      values = λ v. row_set rows i r v lt ∙ ap (λ rs. with_results i rs reads v) (gives ∙ ap (λ (t : Step). results reads (is_live f.blocks reads t.block) st packet t.work) is);
+      store = leaves ∙ ap (λ (t : Step). with_changes st (made (is_live f.blocks reads t.block) (change_of reads st t.work))) is;
     }
 
 module _ (f : Program) (packet : Packet) (m : Machine) (i : ℕ) where

@@ -32,6 +32,17 @@ is_write (select width cond first second) = false
 is_write (byte index) = false
 is_write (look object keys) = false
 
+abbrev pub is_look : Work → Bool
+is_look (look object keys) = true
+is_look (const width number) = false
+is_look (field name) = false
+is_look (apply op width args) = false
+is_look (shift op width arg by) = false
+is_look (select width cond first second) = false
+is_look (byte index) = false
+is_look (put object keys values) = false
+is_look (del object keys) = false
+
 abbrev pub is_const : Work → Bool
 is_const (const width number) = true
 is_const (field name) = false

@@ -5,11 +5,15 @@ pub mod Kinds
 pub mod Laws
 pub mod Listing
 pub mod Operands
+pub mod Plan
+pub mod Planning
 pub mod Program
 pub mod Registers
 pub mod Run
 pub mod Sets
+pub mod Spans
 pub mod Stages
+pub mod Taking
 pub mod Tests
 pub mod Turns
 pub mod WellFormed

@@ -70,6 +70,10 @@ abbrev pub with_changes : Store → List Change → Store
 with_changes st [] = st
 with_changes st (c ∷ cs) = with_changes (with_values st c.object c.key c.values) cs
 
+-- what a look gives: 1 and the values where the key is there, and zeros where it isn't
+abbrev pub looked : Store → ℕ → List ℕ → List ℕ
+looked st object key = bit (is_some (store.look (object_at st object) key)) ∷ looked_up (object_at st object) key
+
 -- The results of an instruction, from the numbers that it reads. A put or a del that is not live has the result 0.
 abbrev pub results : Reading → Bool → Store → Packet → Work → List ℕ
 results reads live st packet (const width number) = number ∷ []
@@ -79,8 +83,7 @@ results reads live st packet (shift op width arg by) = operator_value op width (
 results reads live st packet (select width cond first second) =
     operator_value Select width (reads cond ∷ reads first ∷ reads second ∷ []) ∷ []
 results reads live st packet (byte index) = slice_index packet.bytes (reads index) ∷ []
-results reads live st packet (look object keys) =
-    bit (is_some (store.look (object_at st object) (map reads keys))) ∷ looked_up (object_at st object) (map reads keys)
+results reads live st packet (look object keys) = looked st object (map reads keys)
 results reads live st packet (put object keys values) =
     length (made live (change_of reads st (put object keys values))) ∷ []
 results reads live st packet (del object keys) = length (made live (change_of reads st (del object keys))) ∷ []

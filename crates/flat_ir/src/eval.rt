@@ -13,7 +13,6 @@ ghost use Rattle.flat_ir.specs.Registers.{reads_of, packet_of};
 ghost use Rattle.flat_ir.specs.Turns.{StandAs, turn};
 ghost use Rattle.flat_ir.specs.Writable.{IsWritable};
 
-use crate::blocks::is_live;
 use crate::program::{FieldValue, Flat, Out};
 use crate::reading::Numbers;
 use crate::registers::{Results, SoFar};
@@ -37,8 +36,7 @@ fn take_turn(f: &Flat, arrival: &Arrival<'_>, i: usize, rows: &mut [Results], st
 {
     let instr = &f.code.as_slice()[i];
     let so_far = SoFar { rows };
-    let live = is_live(f.blocks.as_slice(), &so_far, instr.block);
-    rows[i] = compute(f, store, arrival, &so_far, &instr.kind, live);
+    rows[i] = compute(f, store, arrival, &so_far, instr);
 }
 
 // All turns, in order.

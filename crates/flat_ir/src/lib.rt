@@ -4,11 +4,15 @@
 mod blocks;
 mod eval;
 mod fits;
+mod kinds;
 mod laws;
 mod listing;
 mod program;
 mod reading;
+mod reg_plan;
 mod registers;
+mod spans;
+mod taken;
 #[cfg(test)]
 mod tests;
 mod well_formed;
@@ -23,6 +27,10 @@ pub use laws::{
 pub use listing::print_flat;
 pub use program::{Block, Blocks, Code, FieldValue, Flat, Instr, InstrKind, Out, ValueId};
 pub use reading::{Lookup, Numbers};
+pub use reg_plan::RegPlan;
 pub use registers::Results;
+pub use spans::{Span, Spans};
 pub use well_formed::is_well_formed;
-pub use work::{Arrival, compute, given, key_of, row_of, what_fits_can_run};
+pub use work::{
+    Arrival, compute, compute_number, given, given_number, key_of, look, row_of, what_fits_can_run,
+};

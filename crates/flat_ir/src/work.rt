@@ -1,19 +1,24 @@
 //! What an instruction gives, and what it changes.
-ghost use Rattle.std.specs.Prelude.{◌≡◌, ◌≤◌, ◌∷◌, true, false, length, map, slice_get, slice_index, is_some, IsTrue};
+ghost use Rattle.std.specs.Prelude.{◌≡◌, ◌≤◌, ◌&&◌, ◌∷◌, [], true, false, length, map, slice_get, slice_index};
+ghost use Rattle.std.specs.Prelude.{is_some, IsTrue};
+ghost use Rattle.gal_bits.specs.Operators.{row_of, value_of as operator_value};
 ghost use Rattle.packet_fields.specs.Shape.{shape_of};
 ghost use Rattle.packet_fields.specs.Sizes.{largest_packet};
-ghost use Rattle.state_store.specs.Store.{object_at, look, looked_up, put_answer};
+ghost use Rattle.state_store.specs.Store.{Store as Objects, object_at, look as found_in, put_answer};
 ghost use Rattle.flat_ir.specs.Program.{work_of, program_of};
-ghost use Rattle.flat_ir.specs.Program.Work.{put, del};
-ghost use Rattle.flat_ir.specs.Run.{bit, change_of, del_change, is_stored, made, put_change, results, with_changes};
+ghost use Rattle.flat_ir.specs.Blocks.{is_live, HasLowParents};
+ghost use Rattle.flat_ir.specs.Kinds.{is_look, is_write};
+ghost use Rattle.flat_ir.specs.Run.{bit, change_of, del_change, is_stored, looked, made, put_change, results};
+ghost use Rattle.flat_ir.specs.Run.{with_changes};
 ghost use Rattle.flat_ir.specs.Fits.{fits, fits_keys, fits_values, widths_of};
 ghost use Rattle.flat_ir.specs.Operands.{CanRun, HasFewKeys};
 ghost use Rattle.flat_ir.specs.Registers.{results_of, packet_of};
 
-use crate::program::{Flat, InstrKind, ValueId};
+use crate::blocks::is_live;
+use crate::program::{Flat, Instr, InstrKind, ValueId};
 use crate::reading::{Lookup, Numbers, read_all};
 use crate::registers::Results;
-use gal_bits::{Op, Values, eval};
+use gal_bits::{Op, Values, Width, eval};
 use packet_fields::{Shape, get};
 use state_store::{Put, Store};
 
@@ -37,19 +42,76 @@ fn byte_at(bytes: &[u8], index: u64) -> u64
     }
 }
 
-// What a look gives.
-fn looked<L: Lookup>(tables: &L, object: u32, key: &Values) -> Results
-    ensures { results_of result ≡ bit (is_some (look (object_at (L.seen tables.now) object) key.now))
-        ∷ looked_up (object_at (L.seen tables.now) object) key.now }
+/// What a look gives: 1 and the values where the key is there, and zeros where it isn't.
+pub fn look<L: Lookup, R: Numbers>(
+    tables: &L,
+    numbers: &R,
+    object: u32,
+    keys: &[ValueId],
+) -> Results
+    requires { length keys.now ≤ 8 }
+    ensures { results_of result ≡ looked (L.seen tables.now) object (map (R.reads numbers.now) keys.now) }
 {
-    let row = tables.find(object, key);
+    let row = tables.find(object, &read_all(numbers, keys));
     Results {
         first: u64::from(row.found),
         others: row.values,
     }
 }
 
-/// The results of an instruction in a block that isn't live, where nothing is stored or removed.
+// The value of an operator.
+fn applied<R: Numbers>(numbers: &R, op: Op, width: Width, args: &[ValueId]) -> u64
+    requires arity { length args.now ≡ (row_of op).arity }
+    requires few { length args.now ≤ 8 }
+    ensures { result ≡ operator_value op width (map (R.reads numbers.now) args.now) }
+{
+    match args {
+        [x] => eval(op, width, &[numbers.number(*x)]),
+        [x, y] => eval(op, width, &[numbers.number(*x), numbers.number(*y)]),
+        _ => eval(op, width, read_all(numbers, args).as_slice()),
+    }
+}
+
+/// The number that an instruction other than a look gives where nothing is stored or removed.
+pub fn given_number<R: Numbers>(arrival: &Arrival<'_>, numbers: &R, kind: &InstrKind) -> u64
+    requires number { is_look (work_of kind.now) ≡ false }
+    requires can { CanRun (work_of kind.now) }
+    requires size { length arrival.now.bytes.now ≤ largest_packet }
+    requires shape { arrival.now.shape ≡ shape_of arrival.now.bytes.now }
+    ensures { (st : Objects)
+        → results (R.reads numbers.now) false st (packet_of arrival.now) (work_of kind.now) ≡ result ∷ [] }
+{
+    match kind {
+        InstrKind::Const(_, number) => *number,
+        InstrKind::Field(field) => get(arrival.bytes, arrival.port, &arrival.shape, *field),
+        InstrKind::Apply { op, width, args } => applied(numbers, *op, *width, args),
+        InstrKind::Shift { op, width, arg, by } => {
+            eval(*op, *width, &[numbers.number(*arg), u64::from(*by)])
+        }
+        InstrKind::Select {
+            width,
+            cond,
+            first,
+            second,
+        } => {
+            eval(
+                Op::Select,
+                *width,
+                &[
+                    numbers.number(*cond),
+                    numbers.number(*first),
+                    numbers.number(*second),
+                ],
+            )
+        }
+        InstrKind::Byte(index) => byte_at(arrival.bytes, numbers.number(*index)),
+        InstrKind::Look { .. } => unreachable!(),
+        InstrKind::Put { .. } => 0,
+        InstrKind::Del { .. } => 0,
+    }
+}
+
+/// The results of an instruction where nothing is stored or removed.
 pub fn given<L: Lookup, R: Numbers>(
     tables: &L,
     arrival: &Arrival<'_>,
@@ -63,39 +125,8 @@ pub fn given<L: Lookup, R: Numbers>(
         ≡ results (R.reads numbers.now) false (L.seen tables.now) (packet_of arrival.now) (work_of kind.now) }
 {
     match kind {
-        InstrKind::Const(_, number) => Results::one(*number),
-        InstrKind::Field(field) => {
-            Results::one(get(arrival.bytes, arrival.port, &arrival.shape, *field))
-        }
-        InstrKind::Apply { op, width, args } => {
-            let args = read_all(numbers, args);
-            Results::one(eval(*op, *width, args.as_slice()))
-        }
-        InstrKind::Shift { op, width, arg, by } => Results::one(eval(
-            *op,
-            *width,
-            &[numbers.number(*arg), u64::from(*by)],
-        )),
-        InstrKind::Select {
-            width,
-            cond,
-            first,
-            second,
-        } => {
-            Results::one(eval(
-                Op::Select,
-                *width,
-                &[
-                    numbers.number(*cond),
-                    numbers.number(*first),
-                    numbers.number(*second),
-                ],
-            ))
-        }
-        InstrKind::Byte(index) => Results::one(byte_at(arrival.bytes, numbers.number(*index))),
-        InstrKind::Look { object, keys } => looked(tables, *object, &read_all(numbers, keys)),
-        InstrKind::Put { .. } => Results::one(0),
-        InstrKind::Del { .. } => Results::one(0),
+        InstrKind::Look { object, keys } => look(tables, numbers, *object, keys),
+        _ => Results::one(given_number(arrival, numbers, kind)),
     }
 }
 
@@ -160,7 +191,7 @@ fn put_row(store: &mut Store, object: u32, key: &Values, row: &Values) -> bool
 
 // Removes a row, and answers whether it was there.
 fn del_row(store: &mut Store, object: u32, key: &Values) -> bool
-    ensures was { result ≡ is_some (look (object_at store.old object) key.now) }
+    ensures was { result ≡ is_some (found_in (object_at store.old object) key.now) }
     ensures after { store.new ≡ with_changes store.old (made true (del_change store.old object key.now)) }
 {
     let was = store.get(object, key).found;
@@ -195,28 +226,88 @@ fn write<R: Numbers>(f: &Flat, store: &mut Store, numbers: &R, kind: &InstrKind)
     }
 }
 
-/// The results of an instruction in a block that is live, or is not. A live put or del changes the store.
+// Whether an instruction is a put or a del in a block that is live. No other asks whether its block is live.
+fn is_live_write<R: Numbers>(f: &Flat, numbers: &R, instr: &Instr) -> bool
+    requires low { HasLowParents f.now.blocks }
+    requires there { instr.now.block ≤ length f.now.blocks }
+    ensures { result
+        ≡ (is_write (work_of instr.now.kind) && is_live f.now.blocks (R.reads numbers.now) instr.now.block) }
+{
+    instr.kind.is_write() && is_live(f.blocks.as_slice(), numbers, instr.block)
+}
+
+// Stores or removes a row, where the instruction is a put or a del in a block that is live. It answers whether that
+// took effect.
+fn take_effect<R: Numbers>(f: &Flat, store: &mut Store, numbers: &R, instr: &Instr) -> bool
+    requires fits { IsTrue (fits (program_of f.now) (work_of instr.now.kind)) }
+    requires low { HasLowParents f.now.blocks }
+    requires there { instr.now.block ≤ length f.now.blocks }
+    ensures told { let reads = R.reads numbers.now in
+        bit result ≡ length (made (is_live f.now.blocks reads instr.now.block)
+        (change_of reads store.old (work_of instr.now.kind))) }
+    ensures after { let reads = R.reads numbers.now in
+        store.new ≡ with_changes store.old (made (is_live f.now.blocks reads instr.now.block)
+        (change_of reads store.old (work_of instr.now.kind))) }
+{
+    if is_live_write(f, numbers, instr) {
+        write(f, store, numbers, &instr.kind)
+    } else {
+        false
+    }
+}
+
+/// The number that an instruction other than a look gives. A put or a del in a block that is live changes the store.
+pub fn compute_number<R: Numbers>(
+    f: &Flat,
+    store: &mut Store,
+    arrival: &Arrival<'_>,
+    numbers: &R,
+    instr: &Instr,
+) -> u64
+    requires number { is_look (work_of instr.now.kind) ≡ false }
+    requires fits { IsTrue (fits (program_of f.now) (work_of instr.now.kind)) }
+    requires low { HasLowParents f.now.blocks }
+    requires there { instr.now.block ≤ length f.now.blocks }
+    requires size { length arrival.now.bytes.now ≤ largest_packet }
+    requires shape { arrival.now.shape ≡ shape_of arrival.now.bytes.now }
+    ensures number { let reads = R.reads numbers.now in
+        results reads (is_live f.now.blocks reads instr.now.block) store.old (packet_of arrival.now)
+        (work_of instr.now.kind) ≡ result ∷ [] }
+    ensures after { let reads = R.reads numbers.now in
+        store.new ≡ with_changes store.old (made (is_live f.now.blocks reads instr.now.block)
+        (change_of reads store.old (work_of instr.now.kind))) }
+{
+    what_fits_can_run(f, &instr.kind);
+    if take_effect(f, store, numbers, instr) {
+        1
+    } else {
+        given_number(arrival, numbers, &instr.kind)
+    }
+}
+
+/// The results of an instruction. A put or a del in a block that is live changes the store.
 pub fn compute<R: Numbers>(
     f: &Flat,
     store: &mut Store,
     arrival: &Arrival<'_>,
     numbers: &R,
-    kind: &InstrKind,
-    live: bool,
+    instr: &Instr,
 ) -> Results
-    requires fits { IsTrue (fits (program_of f.now) (work_of kind.now)) }
+    requires fits { IsTrue (fits (program_of f.now) (work_of instr.now.kind)) }
+    requires low { HasLowParents f.now.blocks }
+    requires there { instr.now.block ≤ length f.now.blocks }
     requires size { length arrival.now.bytes.now ≤ largest_packet }
     requires shape { arrival.now.shape ≡ shape_of arrival.now.bytes.now }
-    ensures results { results_of result
-        ≡ results (R.reads numbers.now) live store.old (packet_of arrival.now) (work_of kind.now) }
-    ensures after { store.new
-        ≡ with_changes store.old (made live (change_of (R.reads numbers.now) store.old (work_of kind.now))) }
+    ensures results { let reads = R.reads numbers.now in
+        results_of result ≡ results reads (is_live f.now.blocks reads instr.now.block) store.old
+        (packet_of arrival.now) (work_of instr.now.kind) }
+    ensures after { let reads = R.reads numbers.now in
+        store.new ≡ with_changes store.old (made (is_live f.now.blocks reads instr.now.block)
+        (change_of reads store.old (work_of instr.now.kind))) }
 {
-    what_fits_can_run(f, kind);
-    let dead = given(store, arrival, numbers, kind);
-    if live && write(f, store, numbers, kind) {
-        Results::one(1)
-    } else {
-        dead
+    what_fits_can_run(f, &instr.kind);
+    match &instr.kind {
+        InstrKind::Look { object, keys } => look(store, numbers, *object, keys),
+        _ => Results::one(compute_number(f, store, arrival, numbers, instr)),
     }
 }

@@ -1,5 +1,5 @@
--- The first result of a put or a del says whether it took effect.
-use Rattle.std.proofs.Common.{◌≡◌, ◌==◌, ℕ, Bool, true, false, List, [], ◌∷◌, map, length, get_or, Some, None, is_some, refl, ap, if◌then◌else◌}
+-- The number of a put or a del says whether it took effect.
+use Rattle.std.proofs.Common.{◌≡◌, ◌==◌, ℕ, Bool, true, false, List, [], ◌∷◌, map, length, get_or, Some, None, is_some, refl, sym, ap, if◌then◌else◌}
 use Rattle.packet_fields.specs.declared.packet.Packet.{Packet}
 use Rattle.state_store.specs.Store.{object_at, put_answer, Store}
 use Rattle.state_store.specs.Store as store
@@ -7,7 +7,7 @@ use Rattle.flat_ir.specs.Blocks.{Reading}
 use Rattle.flat_ir.specs.Program.{Work}
 use Rattle.flat_ir.specs.Program.Work.{const, field, apply, shift, select, byte, look, put, del}
 use Rattle.flat_ir.specs.Run.{change_of, is_stored, made, results, Change}
-use Rattle.server_runtime.specs.Turns.{wanted}
+use Rattle.server_runtime.specs.Turns.{changed_by}
 
 wanted_made : (first : ℕ) (live takes : Bool) (c : Change) → first ≡ length (made live (if takes then Some c else None))
     → (if first == 1 then made true (Some c) else []) ≡ made live (if takes then Some c else None)
@@ -15,23 +15,26 @@ wanted_made first true true c e = ap (λ n. if n == 1 then made true (Some c) el
 wanted_made first true false c e = ap (λ n. if n == 1 then made true (Some c) else []) e
 wanted_made first false takes c e = ap (λ n. if n == 1 then made true (Some c) else []) e
 
+pub made_none : (live : Bool) → made live None ≡ []
+made_none true = refl
+made_none false = refl
+
 none_made : (b live : Bool) → (if b then made true None else []) ≡ made live None
 none_made true true = refl
 none_made true false = refl
 none_made false true = refl
 none_made false false = refl
 
-pub work_told : (reads : Reading) (live : Bool) (st : Store) (packet : Packet) (work : Work) (first : ℕ) (others : List ℕ)
-    → first ∷ others ≡ results reads live st packet work
-    → (if first == 1 then made true (wanted reads work) else []) ≡ made live (change_of reads st work)
-work_told reads live st packet (put object keys values) first others e =
-    wanted_made first live (is_stored (put_answer (object_at st object) (map reads keys))) (record { object = object; key = map reads keys; values = Some (map reads values) }) (ap (λ l. get_or l 0 0) e)
-work_told reads live st packet (del object keys) first others e =
-    wanted_made first live (is_some (store.look (object_at st object) (map reads keys))) (record { object = object; key = map reads keys; values = None }) (ap (λ l. get_or l 0 0) e)
-work_told reads live st packet (const width number) first others e = none_made (first == 1) live
-work_told reads live st packet (field name) first others e = none_made (first == 1) live
-work_told reads live st packet (apply op width args) first others e = none_made (first == 1) live
-work_told reads live st packet (shift op width arg by) first others e = none_made (first == 1) live
-work_told reads live st packet (select width cond first second) one others e = none_made (one == 1) live
-work_told reads live st packet (byte index) first others e = none_made (first == 1) live
-work_told reads live st packet (look object keys) first others e = none_made (first == 1) live
+pub work_changed : (reads : Reading) (live : Bool) (st : Store) (packet : Packet) (work : Work) (number : ℕ)
+    → results reads live st packet work ≡ number ∷ [] → changed_by reads number work ≡ made live (change_of reads st work)
+work_changed reads live st packet (put object keys values) number e =
+    wanted_made number live (is_stored (put_answer (object_at st object) (map reads keys))) (record { object = object; key = map reads keys; values = Some (map reads values) }) (sym (ap (λ l. get_or l 0 0) e))
+work_changed reads live st packet (del object keys) number e =
+    wanted_made number live (is_some (store.look (object_at st object) (map reads keys))) (record { object = object; key = map reads keys; values = None }) (sym (ap (λ l. get_or l 0 0) e))
+work_changed reads live st packet (const width n) number e = none_made (number == 1) live
+work_changed reads live st packet (field name) number e = none_made (number == 1) live
+work_changed reads live st packet (apply op width args) number e = none_made (number == 1) live
+work_changed reads live st packet (shift op width arg by) number e = none_made (number == 1) live
+work_changed reads live st packet (select width cond first second) number e = none_made (number == 1) live
+work_changed reads live st packet (byte index) number e = none_made (number == 1) live
+work_changed reads live st packet (look object keys) number e = none_made (number == 1) live

@@ -10,3 +10,4 @@ pub mod Samples
 pub mod Steps
 pub mod Told
 pub mod Wholes
+pub mod Turned

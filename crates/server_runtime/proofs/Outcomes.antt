@@ -24,7 +24,7 @@ use Rattle.transfer_header.specs.Values.{low_bits}
 use Rattle.writeback_table.specs.declared.command.Update.{Update}
 use Rattle.server_runtime.specs.declared.run.Ran.{Ran}
 use Rattle.server_runtime.specs.Registers.{register_reads}
-use Rattle.server_runtime.specs.Serving.{followed_writes, updates_of, IsUpdateIn}
+use Rattle.server_runtime.specs.Serving.{evaluated_steps, followed_writes, updates_of, IsUpdateIn}
 use Rattle.server_runtime.specs.Turns.{IsOutcome, IsRead, IsRunning}
 use Rattle.server_runtime.proofs.Lengths.{length_with_writes}
 use Rattle.server_runtime.proofs.Readings.{reads_named}
@@ -62,8 +62,9 @@ pub is_outcome : (f : Program) (split : List Part) (st after : Store) (number : 
     → IsFrameOf 2 (down_layout f split) number packet.port (low_bits (value_in registers)) sent (frame_of 2 (down_layout f split) number packet.port (value_in registers) sent))
     → Each (IsUpdateIn f split) (updates_of f split (server_run f split up st packet).changes)
     → length (updates_of f split (server_run f split up st packet).changes) ≤ followed_writes f split
+    → ran.evaluated ≡ evaluated_steps f split
     → IsOutcome f split st number packet up after ran
-is_outcome f split st after number packet up registers sent updates ran so numbered told sets bytes reading holds four_bytes one_byte short frame fit few =
+is_outcome f split st after number packet up registers sent updates ran so numbered told sets bytes reading holds four_bytes one_byte short frame fit few evaluated =
     let m = server_run f split up st packet in
     let same : sent ≡ (sent_down f split m.reads packet).bytes = sets ∙ ap (λ r. with_writes (server_fields f split) r packet.bytes) so.values in
     let tells : ran.updates ≡ updates_of f split m.changes = told ∙ so.told in
@@ -82,6 +83,7 @@ is_outcome f split st after number packet up registers sent updates ran so numbe
       updates = tells;
       fit = subst (Each (IsUpdateIn f split)) (sym tells) fit;
       few = subst (λ us. length us ≤ followed_writes f split) (sym tells) few;
+      evaluated = evaluated;
     }
 
 -- ## Of a frame

@@ -1,5 +1,5 @@
 -- How many results an instruction gives.
-use Rattle.std.proofs.Common.{◌≡◌, ℕ, suc, Bool, true, ◌^◌, List, [], ◌∷◌, map, length, nat_lt, replicate, slice_get, Option, Some, None, unwrap_or, refl, sym, ap, ◌∙◌, true≢false}
+use Rattle.std.proofs.Common.{◌≡◌, ℕ, suc, Bool, true, false, ◌^◌, List, [], ◌∷◌, map, length, nat_lt, replicate, slice_get, Option, Some, None, unwrap_or, refl, sym, ap, ◌∙◌, true≢false}
 use Rattle.std.specs.Option.{option_map}
 use Rattle.std.proofs.lemmas.Bool.{and_parts}
 use Rattle.std.proofs.lemmas.List.{length-replicate}
@@ -10,6 +10,7 @@ use Rattle.state_store.specs.Kept.{have_widths, IsKept, IsKeptObject}
 use Rattle.state_store.specs.Store.{look as found_in, looked_up, object_at, Object, Store}
 use Rattle.flat_ir.specs.Blocks.{Reading}
 use Rattle.flat_ir.specs.Fits.{fits, widths_of}
+use Rattle.flat_ir.specs.Kinds.{is_look}
 use Rattle.flat_ir.specs.Program.{result_count, Program, Work}
 use Rattle.flat_ir.specs.Program.Work.{const, field, apply, shift, select, byte, look, put, del}
 use Rattle.flat_ir.specs.Run.{results}
@@ -42,3 +43,15 @@ results_count f reads live st packet (select width cond first second) kept h = r
 results_count f reads live st packet (byte index) kept h = refl
 results_count f reads live st packet (put object keys values) kept h = refl
 results_count f reads live st packet (del object keys) kept h = refl
+
+-- an instruction other than a look gives one
+pub one_result : (objects : List ObjectDecl) (work : Work) → is_look work ≡ false → result_count objects work ≡ 1
+one_result objects (look object keys) e = absurd (true≢false e)
+one_result objects (const width number) e = refl
+one_result objects (field name) e = refl
+one_result objects (apply op width args) e = refl
+one_result objects (shift op width arg by) e = refl
+one_result objects (select width cond first second) e = refl
+one_result objects (byte index) e = refl
+one_result objects (put object keys values) e = refl
+one_result objects (del object keys) e = refl

@@ -1,11 +1,12 @@
 -- A server as contracts see it, and what it makes of the frames that come up.
-use Rattle.std.specs.Prelude.{◌≡◌, ◌≤◌, ℕ, ◌+◌, Bool, true, false, List, [], ◌∷◌, map, length}
+use Rattle.std.specs.Prelude.{◌≡◌, ◌≤◌, ℕ, ◌+◌, Bool, true, false, ◌&&◌, not, List, [], ◌∷◌, map, length}
 use Rattle.std.specs.Prelude.{Option, Some, None, IsTrue, slice_get}
 use Rattle.std.specs.List.{AllByRecursion as Each}
 use Rattle.packet_fields.specs.declared.packet.Packet.{Packet}
 use Rattle.packet_fields.specs.declared.verdict.Verdict.{Verdict}
 use Rattle.state_store.specs.declared.object.ObjectDecl.{ObjectDecl}
 use Rattle.state_store.specs.Store.{Store}
+use Rattle.flat_ir.specs.Kinds.{is_input}
 use Rattle.flat_ir.specs.Program.{Program, Work, step_at}
 use Rattle.flat_ir.specs.Program.Work.{const, field, apply, shift, select, byte, look, put, del}
 use Rattle.flat_ir.specs.Run.{Change, Machine, flat_changes, flat_store, flat_verdict}
@@ -14,6 +15,7 @@ use Rattle.split_model.specs.Counts.{count_steps}
 use Rattle.split_model.specs.Layouts.{down_layout, up_layout}
 use Rattle.split_model.specs.Passes.{down_verdict, pre_values, replicated_changes, sent_down, server_run}
 use Rattle.split_model.specs.Shown.{is_replicated}
+use Rattle.split_model.specs.Split.{is_server}
 use Rattle.transfer_header.specs.Frames.{down_frame, up_frame, IsFrame}
 use Rattle.transfer_header.specs.Told.{number_in, packet_in, port_in, reads_in}
 use Rattle.writeback_table.specs.declared.command.To.{To}
@@ -22,12 +24,14 @@ use Rattle.writeback_table.specs.declared.command.Update.{Update}
 use Rattle.writeback_table.specs.Widths.{fits_update}
 use Rattle.server_runtime.specs.declared.served.Served.{Served}
 
--- a split program, the store, and how many versions of its replicated objects there were
+-- a split program, the store, how many versions of its replicated objects there were, and how many instructions other
+-- than consts and fields the last frame took
 pub record Server : Type 0 where
   pub program : Program
   pub split : List Part
   pub store : Store
   pub version : ℕ
+  pub evaluated : ℕ
 
 -- ## What the switch is told
 
@@ -63,6 +67,14 @@ is_followed f split (look object keys) = false
 -- how many instructions write to replicated objects
 abbrev pub followed_writes : Program → List Part → ℕ
 followed_writes f split = count_steps f (λ i. is_followed f split (step_at f i).work)
+
+-- it is the server's, and no const or field
+abbrev pub is_evaluated : Program → List Part → ℕ → Bool
+is_evaluated f split i = is_server split i && not (is_input (step_at f i).work)
+
+-- how many of these the server has
+abbrev pub evaluated_steps : Program → List Part → ℕ
+evaluated_steps f split = count_steps f (is_evaluated f split)
 
 -- a change of a replicated object, in count and widths
 pub record IsUpdateIn (f : Program) (split : List Part) (u : Update) : Type 0 where
@@ -105,6 +117,7 @@ pub record IsServed (before : Server) (frame : List ℕ) (served : Served) (afte
   pub few : length served.updates ≤ followed_writes before.program before.split
   pub version : after.version ≡ version_after before.version served.updates
   pub told : served.version ≡ after.version
+  pub evaluated : after.evaluated ≡ evaluated_steps before.program before.split
 
 -- ## Beside the whole program
 

@@ -1,6 +1,6 @@
 -- The server's turns.
-use Rattle.std.specs.Prelude.{◌≡◌, ◌≤◌, ℕ, Bool, true, false, ◌||◌, List, [], ◌∷◌, map, length, drop}
-use Rattle.std.specs.Prelude.{Option, Some, None}
+use Rattle.std.specs.Prelude.{◌≡◌, ◌≤◌, ℕ, Bool, true, false, ◌==◌, ◌||◌, List, [], ◌∷◌, ◌++◌, map, length, drop}
+use Rattle.std.specs.Prelude.{Option, Some, None, if◌then◌else◌}
 use Rattle.std.specs.List.{AllByRecursion as Each}
 use Rattle.packet_fields.specs.declared.packet.Packet.{Packet}
 use Rattle.state_store.specs.Store.{Store}
@@ -10,11 +10,12 @@ use Rattle.flat_ir.specs.Program.{Program, Work, step_at}
 use Rattle.flat_ir.specs.Program.Work.{const, field, apply, shift, select, byte, look, put, del}
 use Rattle.flat_ir.specs.Blocks.{Reading}
 use Rattle.flat_ir.specs.Kinds.{is_input}
-use Rattle.flat_ir.specs.Run.{Change, Machine}
+use Rattle.flat_ir.specs.Run.{made, Change, Machine}
 use Rattle.flat_ir.specs.Turns.{turn}
 use Rattle.split_model.specs.declared.split.Part.{Part}
 use Rattle.split_model.specs.Layouts.{down_layout, up_layout}
 use Rattle.split_model.specs.Passes.{sent_down, server_run}
+use Rattle.split_model.specs.Shown.{is_replicated}
 use Rattle.split_model.specs.Split.{is_server}
 use Rattle.transfer_header.specs.declared.frame.Head.{Head}
 use Rattle.transfer_header.specs.Frames.{down_frame, IsFrame}
@@ -22,7 +23,7 @@ use Rattle.transfer_header.specs.Told.{number_in, packet_in, reads_in}
 use Rattle.writeback_table.specs.declared.command.Update.{Update}
 use Rattle.server_runtime.specs.declared.run.Ran.{Ran}
 use Rattle.server_runtime.specs.Registers.{register_reads}
-use Rattle.server_runtime.specs.Serving.{followed_writes, updates_of, IsUpdateIn}
+use Rattle.server_runtime.specs.Serving.{evaluated_steps, followed_writes, updates_of, IsUpdateIn}
 
 -- registers, a store and what the switch is told are those of a machine
 pub record IsRunning (f : Program) (split : List Part) (m : Machine) (reads : Reading) (st : Store)
@@ -52,9 +53,20 @@ wanted reads (select width cond first second) = None
 wanted reads (byte index) = None
 wanted reads (look object keys) = None
 
-abbrev pub as_list : Option Update → List Update
-as_list None = []
-as_list (Some update) = update ∷ []
+-- what the switch is told of a change: nothing, where the object isn't replicated
+abbrev pub told_of : Program → List Part → Update → List Update
+told_of f split update = if is_replicated f split update.object then update ∷ [] else []
+
+-- what an instruction that gave this number changes
+abbrev pub changed_by : Reading → ℕ → Work → List Change
+changed_by reads number work = if number == 1 then made true (wanted reads work) else []
+
+-- a turn was taken: registers and store are those of the machine behind it, and the switch was told of its changes
+pub record HasTurned (f : Program) (split : List Part) (m : Machine) (reads : Reading) (st : Store)
+    (before after : List Update) : Type 0 where
+  pub values : reads ≡ m.reads
+  pub store : st ≡ m.store
+  pub told : after ≡ before ++ updates_of f split m.changes
 
 -- What is read of a frame that came up: its number and packet, and its numbers in registers, which fit.
 pub record IsRead (f : Program) (split : List Part) (frame registers : List ℕ) (head : Head) : Type 0 where
@@ -77,3 +89,4 @@ pub record IsOutcome (f : Program) (split : List Part) (st : Store) (n : ℕ) (p
   pub updates : ran.updates ≡ updates_of f split (server_run f split up st packet).changes
   pub fit : Each (IsUpdateIn f split) ran.updates
   pub few : length ran.updates ≤ followed_writes f split
+  pub evaluated : ran.evaluated ≡ evaluated_steps f split

@@ -8,4 +8,5 @@ server_of s = record {
   split = s.plan.split;
   store = s.store;
   version = s.version;
+  evaluated = s.evaluated;
 }

@@ -1,7 +1,6 @@
 //! A split program, and what the server works out of it beforehand.
 ghost use Rattle.std.specs.Prelude.{◌≡◌, ◌<◌, ◌≤◌, List, Some, None, length, IfOk, IsTrue, if◌then◌else◌};
 ghost use Rattle.flat_ir.specs.Fits.{fits};
-ghost use Rattle.flat_ir.specs.Kinds.{is_input};
 ghost use Rattle.flat_ir.specs.Program.{is_named, program_of, work_of, Program};
 ghost use Rattle.flat_ir.specs.WellFormed.{IsWellFormed};
 ghost use Rattle.split_model.specs.declared.split.Part.{Part};
@@ -85,16 +84,6 @@ impl Plan {
         ensures { IfOk result (λ values. AreAll self.now.program values) }
     {
         Regs::new(alloc, self.whole.firsts[self.whole.flat.code.len()])
-    }
-}
-
-/// Whether an instruction is a const or a field of the packet.
-pub(crate) fn is_input(kind: &InstrKind) -> bool
-    ensures { result ≡ is_input (work_of kind.now) }
-{
-    match kind {
-        InstrKind::Const(..) | InstrKind::Field(_) => true,
-        _ => false,
     }
 }
 

@@ -1,5 +1,5 @@
 //! Registers, as instructions read and set them.
-ghost use Rattle.std.specs.Prelude.{◌≡◌, ◌<◌, ◌≤◌, ℕ, suc, length, replicate, slice_index};
+ghost use Rattle.std.specs.Prelude.{◌≡◌, ◌<◌, ◌≤◌, ◌∷◌, [], ℕ, suc, length, replicate, slice_index};
 ghost use Rattle.flat_ir.specs.Program.{program_of, result_count, step_at};
 ghost use Rattle.flat_ir.specs.Registers.{results_of};
 ghost use Rattle.flat_ir.specs.Run.{with_results};
@@ -41,6 +41,20 @@ pub(crate) fn clear(values: &mut Regs)
     for number in 0..values.len() {
         values.set(number, 0);
     }
+}
+
+/// Gives the register of an instruction with one result its number.
+pub(crate) fn set_number(whole: &SplitProgram, values: &mut Regs, instruction: usize, number: u64)
+    requires prepared { IsPrepared whole.now }
+    requires within { instruction < length whole.now.flat.code }
+    requires all { AreAll (program_of whole.now.flat) values.old }
+    requires count { let f = program_of whole.now.flat in
+        result_count f.objects (step_at f instruction).work ≡ 1 }
+    ensures values { let f = program_of whole.now.flat in
+        register_reads f values.new ≡ with_results instruction (number ∷ []) (register_reads f values.old) }
+    ensures count { length values.new ≡ length values.old }
+{
+    values.set(whole.first(instruction), number);
 }
 
 /// Gives the registers of an instruction its results.

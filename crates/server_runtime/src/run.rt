@@ -1,5 +1,5 @@
 //! The server's run of a packet.
-ghost use Rattle.std.specs.Prelude.{◌≡◌, ◌↔◌, ◌+◌, ◌<◌, ◌≤◌, ◌++◌, ◌∷◌, [], length, vec_capacity, vec_len};
+ghost use Rattle.std.specs.Prelude.{◌≡◌, ◌↔◌, ◌≤◌, [], length, vec_capacity};
 ghost use Rattle.std.specs.Prelude.{Err, IfOk, IsOk, OnErr};
 ghost use Rattle.packet_fields.specs.Shape.{shape_of};
 ghost use Rattle.packet_fields.specs.Sizes.{largest_packet};
@@ -15,8 +15,8 @@ ghost use Rattle.transfer_header.specs.Frames.{HasRoom, IsFrame};
 ghost use Rattle.transfer_header.specs.Told.{number_in, packet_in, reads_in};
 ghost use Rattle.server_runtime.specs.Plans.{IsPrepared};
 ghost use Rattle.server_runtime.specs.Registers.{register_reads, AreAll};
-ghost use Rattle.server_runtime.specs.Serving.{followed_writes};
-ghost use Rattle.server_runtime.specs.Turns.{as_list, IsOutcome, IsRead, IsRunning};
+ghost use Rattle.server_runtime.specs.Serving.{evaluated_steps, followed_writes};
+ghost use Rattle.server_runtime.specs.Turns.{IsOutcome, IsRead, IsRunning};
 
 use crate::laws::what_the_switch_is_told_fits;
 use crate::plan::{Plan, SplitProgram};
@@ -49,28 +49,6 @@ pub(crate) struct Ran {
     pub evaluated: u32,
 }
 
-// Puts a change last. There is room for it.
-fn push(updates: &mut Vec<Update>, update: Update)
-    requires { vec_len updates.old < vec_capacity updates.old }
-    ensures items { updates.new.items ≡ updates.old.items ++ update ∷ [] }
-    ensures room { vec_capacity updates.old ≤ vec_capacity updates.new }
-{
-    let is_put = updates.extend_from_slice(&[update]).is_ok();
-    prove!(is_put);
-}
-
-// Puts a change last, if there is one. There is room for it.
-fn note(updates: &mut Vec<Update>, update: Option<Update>)
-    requires { vec_len updates.old + length (as_list update) ≤ vec_capacity updates.old }
-    ensures items { updates.new.items ≡ updates.old.items ++ as_list update }
-    ensures room { vec_capacity updates.old ≤ vec_capacity updates.new }
-{
-    match update {
-        Some(update) => push(updates, update),
-        None => {}
-    }
-}
-
 // All turns of the server, in order. What the switch is told goes into `updates`, which has room for it. The answer is
 // how many instructions other than consts and fields were evaluated.
 fn take_turns(
@@ -93,14 +71,13 @@ fn take_turns(
         (server_run f whole.now.split (register_reads f values.old) store.old (packet_of arrival.now))
         (register_reads f values.new) store.new updates.new.items }
     ensures count { length values.new ≡ length values.old }
+    ensures evaluated { result ≡ evaluated_steps (program_of whole.now.flat) whole.now.split }
 {
     a_server_keeps_widths();
     what_the_switch_is_told_fits();
     let mut evaluated = 0;
     for i in 0..whole.flat.code.len() {
-        let (update, more) = take_turn(whole, arrival, i, values, store);
-        note(updates, update);
-        evaluated += more;
+        evaluated += take_turn(whole, arrival, i, values, store, updates);
     }
     evaluated
 }

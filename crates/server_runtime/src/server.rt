@@ -56,7 +56,7 @@ impl Server {
         requires legal { IsLegal (program_of f.now) s.now }
         requires kept { IsKept f.now.objects store }
         ensures { IfOk result (λ made. server_of made
-            ≡ record { program = program_of f.now; split = s.now; store = store; version = 0 }) }
+            ≡ record { program = program_of f.now; split = s.now; store = store; version = 0; evaluated = 0 }) }
     {
         let plan = Plan::of(alloc, f, s)?;
         let values = plan.registers(alloc)?;
@@ -73,7 +73,7 @@ impl Server {
     /// What comes of a frame that came up. The numbers that the frame hands up are taken as they are. All memory is
     /// taken before the store changes: after an error the server is as before.
     pub fn serve(&mut self, frame: &[u8]) -> Result<Served, ServeError>
-        requires { self.old.version < 2 ^ 32 - 1 }
+        requires { (server_of self.old).version < 2 ^ 32 - 1 }
         ensures ok { IfOk result (λ served.
             IsServed (server_of self.old) frame.now served (server_of self.new)) }
         ensures malformed { let before = server_of self.old in
@@ -101,14 +101,14 @@ impl Server {
     /// How many versions of the replicated objects there were since the server began: one for each packet that
     /// changed one of them.
     pub fn version(&self) -> u32
-        ensures { result ≡ self.now.version }
+        ensures { result ≡ (server_of self.now).version }
     {
         self.version
     }
 
     /// The store, which keeps what was declared.
     pub fn store(&self) -> &Store
-        ensures store { result.now ≡ self.now.store }
+        ensures store { result.now ≡ (server_of self.now).store }
         ensures kept { IsKept (server_of self.now).program.objects result.now }
     {
         &self.store
@@ -116,7 +116,9 @@ impl Server {
 
     /// How many instructions other than consts and fields the last call of `serve` that gave no error evaluated; 0
     /// before the first.
-    pub fn evaluated(&self) -> u32 {
+    pub fn evaluated(&self) -> u32
+        ensures { result ≡ (server_of self.now).evaluated }
+    {
         self.evaluated
     }
 }

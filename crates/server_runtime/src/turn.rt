@@ -1,37 +1,64 @@
 //! The server's turn at an instruction.
-ghost use Rattle.std.specs.Prelude.{◌≡◌, ◌<◌, ◌≤◌, ◌==◌, ◌||◌, ◌∷◌, [], true, false};
-ghost use Rattle.std.specs.Prelude.{length, IsTrue, if◌then◌else◌};
+ghost use Rattle.std.specs.Prelude.{◌≡◌, ◌+◌, ◌<◌, ◌≤◌, ◌||◌, ◌&&◌, ◌++◌, ◌∷◌, [], true, false, not};
+ghost use Rattle.std.specs.Prelude.{length, map, vec_capacity, vec_len, IsTrue, if◌then◌else◌};
 ghost use Rattle.packet_fields.specs.Shape.{shape_of};
 ghost use Rattle.packet_fields.specs.Sizes.{largest_packet};
 ghost use Rattle.state_store.specs.Kept.{IsKept};
-ghost use Rattle.flat_ir.specs.Blocks.{is_live};
 ghost use Rattle.flat_ir.specs.Fits.{fits};
-ghost use Rattle.flat_ir.specs.Kinds.{is_input};
-ghost use Rattle.flat_ir.specs.Program.{program_of, work_of};
-ghost use Rattle.flat_ir.specs.Registers.{packet_of, results_of};
-ghost use Rattle.flat_ir.specs.Run.{change_of, made, results, with_changes};
-ghost use Rattle.split_model.specs.Shown.{is_replicated};
+ghost use Rattle.flat_ir.specs.Kinds.{is_input, is_look};
+ghost use Rattle.flat_ir.specs.Program.{program_of, result_count, step_at, step_of, work_of};
+ghost use Rattle.flat_ir.specs.Registers.{packet_of};
+ghost use Rattle.flat_ir.specs.Run.{looked, made, with_results};
+ghost use Rattle.flat_ir.specs.Turns.{turn};
 ghost use Rattle.split_model.specs.Split.{is_server};
 ghost use Rattle.server_runtime.specs.Plans.{IsPrepared};
 ghost use Rattle.server_runtime.specs.Registers.{register_reads, AreAll};
-ghost use Rattle.server_runtime.specs.Serving.{updates_of};
-ghost use Rattle.server_runtime.specs.Turns.{as_list, server_turn, wanted, IsRunning};
+ghost use Rattle.server_runtime.specs.Serving.{is_evaluated, updates_of};
+ghost use Rattle.server_runtime.specs.Turns.{changed_by, server_turn, told_of, wanted, HasTurned};
 
-use crate::plan::{SplitProgram, is_input};
-use crate::registers::{Registers, set_results};
-use flat_ir::{Arrival, Instr, InstrKind, Results, compute, is_live, key_of, row_of};
-use gal_bits::Values;
+use crate::plan::SplitProgram;
+use crate::registers::{Registers, set_number, set_results};
+use flat_ir::{Arrival, Instr, InstrKind, ValueId, compute_number, key_of, look, row_of, what_fits_can_run};
 use state_store::Store;
 use transfer_header::Regs;
 use writeback_table::{To, Update};
 
-// What the switch is told of a put or a del that takes effect.
-fn told(numbers: &Registers<'_>, kind: &InstrKind) -> Option<Update>
+// Puts a change last. There is room for it.
+fn push(updates: &mut Vec<Update>, update: Update)
+    requires { vec_len updates.old < vec_capacity updates.old }
+    ensures items { updates.new.items ≡ updates.old.items ++ update ∷ [] }
+    ensures room { vec_capacity updates.old ≤ vec_capacity updates.new }
+{
+    let is_put = updates.extend_from_slice(&[update]).is_ok();
+    prove!(is_put);
+}
+
+// Tells the switch of a change, where its object is replicated.
+fn follow(whole: &SplitProgram, update: Update, updates: &mut Vec<Update>)
+    requires prepared { IsPrepared whole.now }
+    requires declared { update.object < length whole.now.flat.objects }
+    requires room { vec_len updates.old + length (told_of (program_of whole.now.flat) whole.now.split update)
+        ≤ vec_capacity updates.old }
+    ensures told { updates.new.items
+        ≡ updates.old.items ++ told_of (program_of whole.now.flat) whole.now.split update }
+    ensures room { vec_capacity updates.old ≤ vec_capacity updates.new }
+{
+    if whole.follows(update.object) {
+        push(updates, update);
+    }
+}
+
+// Tells the switch of a put or a del that took effect.
+fn tell_write(numbers: &Registers<'_>, kind: &InstrKind, updates: &mut Vec<Update>)
     requires prepared { IsPrepared numbers.now.whole.now }
     requires fits { IsTrue (fits (program_of numbers.now.whole.now.flat) (work_of kind.now)) }
+    requires room { let f = program_of numbers.now.whole.now.flat in
+        vec_len updates.old + length (updates_of f numbers.now.whole.now.split
+        (made true (wanted (register_reads f numbers.now.values.now) (work_of kind.now)))) ≤ vec_capacity updates.old }
     ensures told { let f = program_of numbers.now.whole.now.flat in
-        as_list result ≡ updates_of f numbers.now.whole.now.split
+        updates.new.items ≡ updates.old.items ++ updates_of f numbers.now.whole.now.split
         (made true (wanted (register_reads f numbers.now.values.now) (work_of kind.now))) }
+    ensures room { vec_capacity updates.old ≤ vec_capacity updates.new }
 {
     let whole = numbers.whole;
     let f = &whole.flat;
@@ -43,114 +70,179 @@ fn told(numbers: &Registers<'_>, kind: &InstrKind) -> Option<Update>
         } => {
             let key = key_of(f, numbers, *object, keys);
             let to = To::Value(row_of(f, numbers, *object, values));
-            of_replicated(whole, *object, key, to)
+            let update = Update {
+                object: *object,
+                key,
+                to,
+            };
+            follow(whole, update, updates);
         }
         InstrKind::Del { object, keys } => {
             let key = key_of(f, numbers, *object, keys);
-            of_replicated(whole, *object, key, To::Gone)
+            let update = Update {
+                object: *object,
+                key,
+                to: To::Gone,
+            };
+            follow(whole, update, updates);
         }
-        _ => None,
+        _ => {}
     }
 }
 
-// A change, where its object is replicated.
-fn of_replicated(whole: &SplitProgram, object: u32, key: Values, to: To) -> Option<Update>
-    requires prepared { IsPrepared whole.now }
-    requires declared { object < length whole.now.flat.objects }
-    ensures { as_list result ≡ (if is_replicated (program_of whole.now.flat) whole.now.split object
-        then record { object = object; key = key; to = to } ∷ [] else []) }
-{
-    if whole.follows(object) {
-        Some(Update { object, key, to })
-    } else {
-        None
-    }
-}
-
-// What the switch is told of an instruction whose first result is this number.
-fn tell(numbers: &Registers<'_>, kind: &InstrKind, first: u64) -> Option<Update>
+// Tells the switch of an instruction that gave this number.
+fn tell(numbers: &Registers<'_>, kind: &InstrKind, number: u64, updates: &mut Vec<Update>)
     requires prepared { IsPrepared numbers.now.whole.now }
     requires fits { IsTrue (fits (program_of numbers.now.whole.now.flat) (work_of kind.now)) }
+    requires room { let f = program_of numbers.now.whole.now.flat in
+        vec_len updates.old + length (updates_of f numbers.now.whole.now.split
+        (changed_by (register_reads f numbers.now.values.now) number (work_of kind.now))) ≤ vec_capacity updates.old }
     ensures told { let f = program_of numbers.now.whole.now.flat in
-        as_list result ≡ updates_of f numbers.now.whole.now.split
-        (if first == 1
-        then made true (wanted (register_reads f numbers.now.values.now) (work_of kind.now)) else []) }
+        updates.new.items ≡ updates.old.items ++ updates_of f numbers.now.whole.now.split
+        (changed_by (register_reads f numbers.now.values.now) number (work_of kind.now)) }
+    ensures room { vec_capacity updates.old ≤ vec_capacity updates.new }
 {
-    if first == 1 {
-        told(numbers, kind)
-    } else {
-        None
+    if number == 1 {
+        tell_write(numbers, kind, updates);
     }
 }
 
-// What an instruction gives, and what the switch is told of it.
-fn work_and_tell(
-    numbers: &Registers<'_>,
+// The turn of an instruction that gives one number.
+fn give_number(
+    whole: &SplitProgram,
     arrival: &Arrival<'_>,
-    store: &mut Store,
+    instruction: usize,
     instr: &Instr,
-) -> (Results, Option<Update>)
-    requires prepared { IsPrepared numbers.now.whole.now }
-    requires fits { IsTrue (fits (program_of numbers.now.whole.now.flat) (work_of instr.now.kind)) }
-    requires there { instr.now.block ≤ length numbers.now.whole.now.flat.blocks }
+    values: &mut Regs,
+    store: &mut Store,
+    updates: &mut Vec<Update>,
+)
+    requires prepared { IsPrepared whole.now }
+    requires within { instruction < length whole.now.flat.code }
+    requires instr { step_of instr.now ≡ step_at (program_of whole.now.flat) instruction }
+    requires number { is_look (work_of instr.now.kind) ≡ false }
+    requires all { AreAll (program_of whole.now.flat) values.old }
     requires size { length arrival.now.bytes.now ≤ largest_packet }
     requires shape { arrival.now.shape ≡ shape_of arrival.now.bytes.now }
-    ensures results { let f = program_of numbers.now.whole.now.flat in
-        let reads = register_reads f numbers.now.values.now in
-        results_of result.0
-        ≡ results reads (is_live f.blocks reads instr.now.block) store.old (packet_of arrival.now)
-        (work_of instr.now.kind) }
-    ensures after { let f = program_of numbers.now.whole.now.flat in
-        let reads = register_reads f numbers.now.values.now in
-        store.new ≡ with_changes store.old
-        (made (is_live f.blocks reads instr.now.block) (change_of reads store.old (work_of instr.now.kind))) }
-    ensures told { let f = program_of numbers.now.whole.now.flat in
-        let reads = register_reads f numbers.now.values.now in
-        as_list result.1 ≡ updates_of f numbers.now.whole.now.split
-        (made (is_live f.blocks reads instr.now.block) (change_of reads store.old (work_of instr.now.kind))) }
+    requires room { let f = program_of whole.now.flat in
+        vec_len updates.old + length (updates_of f whole.now.split
+        (turn f (packet_of arrival.now) instruction (register_reads f values.old) store.old).changes)
+        ≤ vec_capacity updates.old }
+    ensures turn { let f = program_of whole.now.flat in
+        HasTurned f whole.now.split
+        (turn f (packet_of arrival.now) instruction (register_reads f values.old) store.old)
+        (register_reads f values.new) store.new updates.old.items updates.new.items }
+    ensures count { length values.new ≡ length values.old }
+    ensures room { vec_capacity updates.old ≤ vec_capacity updates.new }
 {
-    let whole = numbers.whole;
-    let live = is_live(whole.flat.blocks.as_slice(), numbers, instr.block);
-    let results = compute(&whole.flat, store, arrival, numbers, &instr.kind, live);
-    let update = tell(numbers, &instr.kind, results.first);
-    (results, update)
+    let numbers = Registers { whole, values };
+    let number = compute_number(&whole.flat, store, arrival, &numbers, instr);
+    tell(&numbers, &instr.kind, number, updates);
+    set_number(whole, values, instruction, number);
+}
+
+// Looks a key up and gives the registers of an instruction what was found.
+fn look_up(
+    whole: &SplitProgram,
+    instruction: usize,
+    object: u32,
+    keys: &[ValueId],
+    values: &mut Regs,
+    store: &Store,
+)
+    requires prepared { IsPrepared whole.now }
+    requires within { instruction < length whole.now.flat.code }
+    requires few { length keys.now ≤ 8 }
+    requires all { AreAll (program_of whole.now.flat) values.old }
+    requires count { let f = program_of whole.now.flat in
+        length (looked store.now object (map (register_reads f values.old) keys.now))
+        ≡ result_count f.objects (step_at f instruction).work }
+    ensures values { let f = program_of whole.now.flat in
+        let reads = register_reads f values.old in
+        register_reads f values.new ≡ with_results instruction (looked store.now object (map reads keys.now)) reads }
+    ensures count { length values.new ≡ length values.old }
+{
+    let results = look(store, &Registers { whole, values }, object, keys);
+    set_results(whole, values, instruction, &results);
+}
+
+// The turn of an instruction that the server evaluates.
+fn evaluate(
+    whole: &SplitProgram,
+    arrival: &Arrival<'_>,
+    instruction: usize,
+    instr: &Instr,
+    values: &mut Regs,
+    store: &mut Store,
+    updates: &mut Vec<Update>,
+)
+    requires prepared { IsPrepared whole.now }
+    requires within { instruction < length whole.now.flat.code }
+    requires instr { step_of instr.now ≡ step_at (program_of whole.now.flat) instruction }
+    requires all { AreAll (program_of whole.now.flat) values.old }
+    requires kept { IsKept whole.now.flat.objects store.old }
+    requires size { length arrival.now.bytes.now ≤ largest_packet }
+    requires shape { arrival.now.shape ≡ shape_of arrival.now.bytes.now }
+    requires room { let f = program_of whole.now.flat in
+        vec_len updates.old + length (updates_of f whole.now.split
+        (turn f (packet_of arrival.now) instruction (register_reads f values.old) store.old).changes)
+        ≤ vec_capacity updates.old }
+    ensures turn { let f = program_of whole.now.flat in
+        HasTurned f whole.now.split
+        (turn f (packet_of arrival.now) instruction (register_reads f values.old) store.old)
+        (register_reads f values.new) store.new updates.old.items updates.new.items }
+    ensures count { length values.new ≡ length values.old }
+    ensures room { vec_capacity updates.old ≤ vec_capacity updates.new }
+{
+    match &instr.kind {
+        InstrKind::Look { object, keys } => {
+            what_fits_can_run(&whole.flat, &instr.kind);
+            look_up(whole, instruction, *object, keys, values, store);
+        }
+        _ => give_number(whole, arrival, instruction, instr, values, store, updates),
+    }
 }
 
 /// Whether the server evaluates an instruction.
 pub(crate) fn is_mine(whole: &SplitProgram, instruction: usize, kind: &InstrKind) -> bool
     ensures { result ≡ (is_input (work_of kind.now) || is_server whole.now.split instruction) }
 {
-    is_input(kind) || whole.split.is_server(instruction)
+    kind.is_input() || whole.split.is_server(instruction)
 }
 
-/// The server's turn at an instruction: what the switch is told of it, and how many instructions other than consts and
-/// fields were evaluated.
+/// The server's turn at an instruction. What the switch is told of it goes into `updates`, which has room for it. The
+/// answer is how many instructions other than consts and fields were evaluated.
 pub(crate) fn take_turn(
     whole: &SplitProgram,
     arrival: &Arrival<'_>,
     instruction: usize,
     values: &mut Regs,
     store: &mut Store,
-) -> (Option<Update>, u32)
+    updates: &mut Vec<Update>,
+) -> u32
     requires prepared { IsPrepared whole.now }
     requires within { instruction < length whole.now.flat.code }
     requires all { AreAll (program_of whole.now.flat) values.old }
     requires kept { IsKept whole.now.flat.objects store.old }
     requires size { length arrival.now.bytes.now ≤ largest_packet }
     requires shape { arrival.now.shape ≡ shape_of arrival.now.bytes.now }
+    requires room { let f = program_of whole.now.flat in
+        vec_len updates.old + length (updates_of f whole.now.split
+        (server_turn f whole.now.split (packet_of arrival.now) instruction (register_reads f values.old)
+        store.old).changes) ≤ vec_capacity updates.old }
     ensures turn { let f = program_of whole.now.flat in
-        IsRunning f whole.now.split
+        HasTurned f whole.now.split
         (server_turn f whole.now.split (packet_of arrival.now) instruction (register_reads f values.old) store.old)
-        (register_reads f values.new) store.new (as_list result.0) }
+        (register_reads f values.new) store.new updates.old.items updates.new.items }
     ensures count { length values.new ≡ length values.old }
-    ensures few { result.1 ≤ 1 }
+    ensures room { vec_capacity updates.old ≤ vec_capacity updates.new }
+    ensures evaluated { result
+        ≡ (if is_evaluated (program_of whole.now.flat) whole.now.split instruction then 1 else 0) }
 {
     let instr = &whole.flat.code.as_slice()[instruction];
     if !is_mine(whole, instruction, &instr.kind) {
-        return (None, 0);
+        return 0;
     }
-    let numbers = Registers { whole, values };
-    let (results, update) = work_and_tell(&numbers, arrival, store, instr);
-    set_results(whole, values, instruction, &results);
-    (update, u32::from(!is_input(&instr.kind)))
+    evaluate(whole, arrival, instruction, instr, values, store, updates);
+    u32::from(!instr.kind.is_input())
 }

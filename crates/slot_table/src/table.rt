@@ -41,8 +41,22 @@ impl<const K: usize, const V: usize> Model for SlotTable<K, V> {
     ghost invariant = { λ a. IsTable a.slots.items a.len a.capacity };
 }
 
+// The same slots again, in memory of their own.
+fn copied<const K: usize, const V: usize>(
+    alloc: Global,
+    slots: &[Option<([u64; K], [u64; V])>],
+) -> Result<Vec<Option<([u64; K], [u64; V])>>, NoMemory>
+    ensures { IfOk result (λ made. made.items ≡ slots.now) }
+{
+    let mut made = Vec::with_capacity(alloc, slots.len())?;
+    for slot in slots {
+        made.push(*slot)?;
+    }
+    Ok(made)
+}
+
 impl<const K: usize, const V: usize> SlotTable<K, V> {
-    /// A table without rows, with the memory for so many. No other call takes memory.
+    /// A table without rows, with the memory for so many. No other call but `copy` takes memory.
     pub fn new(alloc: Global, capacity: usize) -> Result<Self, NoMemory>
         requires keys { IsWords K }
         requires values { IsWords V }
@@ -62,6 +76,20 @@ impl<const K: usize, const V: usize> SlotTable<K, V> {
             slots,
             len: 0,
             capacity,
+        })
+    }
+
+    /// The same table again, in memory of its own.
+    pub fn copy(&self, alloc: Global) -> Result<Self, NoMemory>
+        requires keys { IsWords K }
+        requires values { IsWords V }
+        ensures { IfOk result (λ table. table ≡ self.now) }
+    {
+        let slots = copied(alloc, &self.slots)?;
+        Ok(SlotTable {
+            slots,
+            len: self.len,
+            capacity: self.capacity,
         })
     }
 

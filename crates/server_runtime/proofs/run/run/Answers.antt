@@ -54,6 +54,7 @@ returns-clause-outcome c =
     (c.frames_of_low_bits.ensures.frame 2 (down_layout f split) number packet.port (value_in registers) sent)
     (c.what_the_switch_is_told_fits.ensures.fit f split c.args.store.now packet up c.requires.prepared.bounded.formed c.requires.prepared.legal c.requires.arrives c.requires.kept (λ v e. c.requires.fit v))
     (c.what_the_switch_is_told_fits.ensures.few f split c.args.store.now packet up (length f.code))
+    c.take_turns-evaluated.ensures.evaluated
 
 pub returns-clause-kept : goal.returns-clause-kept
 returns-clause-kept c =

@@ -1,8 +1,10 @@
 use Rattle.std.proofs.Common.{◌≡◌, ◌≤◌, length, vec_capacity}
 use Rattle.flat_ir.specs.Program.{program_of}
 use Rattle.flat_ir.specs.Registers.{packet_of}
+use Rattle.split_model.specs.Counts.{count_below}
 use Rattle.split_model.specs.Passes.{served}
 use Rattle.server_runtime.specs.Registers.{register_reads}
+use Rattle.server_runtime.specs.Serving.{is_evaluated}
 use Rattle.server_runtime.specs.Turns.{IsRunning}
 use Rattle.server_runtime.proofs.run.take_turns.Given as goal
 
@@ -13,5 +15,5 @@ invariant-loop-i l = record {
       (register_reads (program_of l.whole.flat) l.values) l.store l.updates.items;
   count : length l.values ≡ length l.initial.values;
   room : vec_capacity l.initial.updates ≤ vec_capacity l.updates;
-  few : l.evaluated ≤ l.i;
+  evaluated : l.evaluated ≡ count_below l.i (is_evaluated (program_of l.whole.flat) l.whole.split);
 }

@@ -1,0 +1,108 @@
+//! A register for each value.
+ghost use Rattle.std.specs.Prelude.{◌≡◌, ◌<◌, ◌↔◌, ◌^◌, ℕ, length, IfOk, IfSome, None};
+ghost use Rattle.std.specs.List.Sorted.{IsPermutation, IsNonDecreasingBy};
+ghost use Rattle.flat_ir.specs.Spans.{ValuesDiffer, AreWrittenFirst, spans_of};
+ghost use Rattle.flat_ir.specs.Plan.{Plan, register_of, AreBelow, AreApart, IsGreatestOverlap};
+
+use crate::spans::{Span, Spans};
+use crate::taken::{Taken, take};
+use gal_io::NoMemory;
+use slot_table::SlotTable;
+use std::alloc::Global;
+use std::collections::BinaryHeap;
+use std::fmt::{self, Debug};
+use std::marker::Model;
+
+/// A register for each value that has a span, so that no two values are in one register at one step.
+#[derive(Drop)]
+pub struct RegPlan {
+    registers: SlotTable<1, 1>,
+    count: u32,
+}
+
+impl Debug for RegPlan {
+    fn fmt<W: fmt::Write>(&self, f: &mut fmt::Formatter<W>) -> fmt::Result {
+        write!(f, "{} registers", self.count)
+    }
+}
+
+impl Model for RegPlan {
+    ghost use Rattle.std.specs.Prelude.{◌<◌, ◌^◌};
+    ghost use Rattle.flat_ir.specs.Plan.{Plan, AreBelow, plan_code};
+
+    ghost Value = { Plan };
+
+    ghost coded = { plan_code };
+
+    ghost view = { λ plan. record { rows = plan.registers.rows; count = plan.count } };
+
+    ghost invariant = { λ plan. (AreBelow plan.registers.rows plan.count) × (plan.count < 2 ^ 32) };
+}
+
+// The spans, in the order of their first steps.
+fn in_order(alloc: Global, spans: &Spans) -> Result<Vec<Span>, NoMemory>
+    requires { length spans.now < 2 ^ 32 }
+    ensures same { IfOk result (λ sorted. IsPermutation spans.now sorted.items) }
+    ensures rising { IfOk result (λ sorted. IsNonDecreasingBy (λ span. span.from) sorted.items) }
+    ensures few { IfOk result (λ sorted. length sorted.items < 2 ^ 32) }
+{
+    let mut sorted = spans.as_slice().to_vec(alloc)?;
+    sorted.sort_by_key(|span| span.from)?;
+    Ok(sorted)
+}
+
+impl RegPlan {
+    /// A plan with as few registers as spans allow, in n log n steps for n spans.
+    pub fn of(alloc: Global, spans: &Spans) -> Result<RegPlan, NoMemory>
+        requires few { length spans.now < 2 ^ 32 }
+        requires differ { ValuesDiffer spans.now }
+        requires ordered { AreWrittenFirst spans.now }
+        ensures registers { IfOk result (λ plan. (value : ℕ)
+            → (register_of plan value ≡ None) ↔ (spans_of spans.now value ≡ 0)) }
+        ensures below { IfOk result (λ plan. AreBelow plan.rows plan.count) }
+        ensures apart { IfOk result (λ plan. AreApart spans.now plan.rows) }
+        ensures count { IfOk result (λ plan. IsGreatestOverlap spans.now plan.count) }
+    {
+        let sorted = in_order(alloc, spans)?;
+        let mut registers = SlotTable::new(alloc, sorted.len())?;
+        let mut taken = BinaryHeap::<Taken>::new(alloc);
+        for span in &sorted {
+            let register = take(&mut taken, span)?;
+            let _ = registers.insert([span.value as u64], [register as u64]);
+        }
+        let count = taken.len() as u32;
+        Ok(RegPlan { registers, count })
+    }
+
+    /// The register of a value, or none if it has no span.
+    pub fn register(&self, value: u32) -> Option<u32>
+        ensures register { result ≡ register_of self.now value }
+        ensures below { IfSome result (λ register. register < self.now.count) }
+    {
+        match self.registers.look(&[value as u64]) {
+            Some(words) => {
+                let register = words[0];
+                Some(register as u32)
+            }
+            None => None,
+        }
+    }
+
+    /// The same plan again, in memory of its own.
+    pub fn copy(&self, alloc: Global) -> Result<RegPlan, NoMemory>
+        ensures { IfOk result (λ made. made ≡ self.now) }
+    {
+        Ok(RegPlan {
+            registers: self.registers.copy(alloc)?,
+            count: self.count,
+        })
+    }
+
+    /// How many registers there are.
+    pub fn count(&self) -> u32
+        ensures count { result ≡ self.now.count }
+        ensures below { AreBelow self.now.rows self.now.count }
+    {
+        self.count
+    }
+}
