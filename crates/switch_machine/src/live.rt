@@ -11,18 +11,18 @@ use std::alloc::Global;
 use switch_ir::Pass;
 
 // Whether the condition of a block has its polarity.
-fn holds<R: Numbers>(block: Block, numbers: &R) -> bool
-    ensures { result ≡ same block.polarity (is_on (R.reads numbers.now block.cond)) }
+fn holds<R: Numbers>(block: &Block, numbers: &R) -> bool
+    ensures { result ≡ same block.now.polarity (is_on (R.reads numbers.now block.now.cond)) }
 {
     let is_on = numbers.number(block.cond) == 1;
     if block.polarity { is_on } else { !is_on }
 }
 
 // Whether a block is live below its parent, which has a mark.
-fn is_live_below<R: Numbers>(marks: &[bool], block: Block, numbers: &R) -> bool
-    requires { block.parent < length marks.now }
-    ensures { result ≡ (same block.polarity (is_on (R.reads numbers.now block.cond))
-        && slice_index_or marks.now block.parent false) }
+fn is_live_below<R: Numbers>(marks: &[bool], block: &Block, numbers: &R) -> bool
+    requires { block.now.parent < length marks.now }
+    ensures { result ≡ (same block.now.polarity (is_on (R.reads numbers.now block.now.cond))
+        && slice_index_or marks.now block.now.parent false) }
 {
     holds(block, numbers) && marks[block.parent as usize]
 }
@@ -41,7 +41,7 @@ fn live_blocks<R: Numbers>(
     let mut marks = Vec::with_capacity(alloc, blocks.len() + 1)?;
     marks.push(true)?;
     for block in blocks {
-        let live = is_live_below(&marks, *block, numbers);
+        let live = is_live_below(&marks, block, numbers);
         marks.push(live)?;
     }
     Ok(marks)

@@ -72,10 +72,10 @@ pub(crate) fn go_up(
         bytes: packet,
         shape: Shape::of(packet),
     };
-    let rows = run_pass(alloc, &code.pre, &loaded.pre, &Nothing, tables, &arrival)?;
+    let known = run_pass(alloc, &code.pre, &loaded.pre, &Nothing, tables, &arrival)?;
     let run = Run {
         given: &Nothing,
-        rows: &rows,
+        known: &known,
     };
     let leaves = leaves_work(alloc, &code.pre, &run)?;
     if leaves {
