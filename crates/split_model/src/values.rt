@@ -10,7 +10,7 @@ use std::alloc::Global;
 use std::marker::Model;
 
 /// Whether two values are the same one.
-pub(crate) fn is_value(one: ValueId, other: ValueId) -> bool
+pub fn is_value(one: ValueId, other: ValueId) -> bool
     ensures { result ≡ is_value one other }
 {
     one.instruction == other.instruction && one.result == other.result
@@ -18,7 +18,7 @@ pub(crate) fn is_value(one: ValueId, other: ValueId) -> bool
 
 /// A set of values, by a mark for each of the first 9 results of each instruction. No instruction has more.
 #[derive(Debug, Drop)]
-pub(crate) struct ValueSet {
+pub struct ValueSet {
     marks: Vec<bool>,
 }
 
