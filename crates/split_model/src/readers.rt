@@ -12,7 +12,7 @@ use std::alloc::Global;
 
 /// Who reads a value.
 #[derive(Clone, Copy)]
-pub(crate) enum Reader {
+pub enum Reader {
     Server,
     Post,
 }
@@ -40,7 +40,7 @@ fn mark_operands(f: &Flat, s: &Split, reader: Reader, i: usize, set: &mut ValueS
 }
 
 /// The values that the instructions of a reader read.
-pub(crate) fn read_by(
+pub fn read_by(
     alloc: Global,
     f: &Flat,
     s: &Split,

@@ -10,7 +10,7 @@ use std::alloc::Global;
 use std::marker::Model;
 
 /// Whether two values are the same one.
-pub(crate) fn is_value(one: ValueId, other: ValueId) -> bool
+pub fn is_value(one: ValueId, other: ValueId) -> bool
     ensures { result ≡ is_value one other }
 {
     one.instruction == other.instruction && one.result == other.result

@@ -1,25 +1,28 @@
 -- The code of a legal split computes its passes.
-use Rattle.std.proofs.Common.{◌≡◌, ◌≤◌, ℕ, List, length, Some, None, ap, ◌∙◌, arith, slice_index_or, if◌then◌else◌}
+use Rattle.std.proofs.Common.{◌≡◌, ◌≤◌, ℕ, ◌==◌, ◌%◌, ◌^◌, true, List, length, Some, None, ap, ◌∙◌, arith, slice_index_or, if◌then◌else◌}
 use Rattle.std.proofs.lemmas.List.{get_or_past}
 use Rattle.packet_fields.specs.declared.packet.Packet.{Packet}
+use Rattle.packet_fields.specs.declared.verdict.Verdict.TheVariants.{Drop, Send}
 use Rattle.state_store.specs.Store.{Store}
 use Rattle.flat_ir.specs.declared.program.ValueId.{ValueId}
 use Rattle.flat_ir.specs.Program.{Program}
 use Rattle.flat_ir.specs.Blocks.{Reading, nothing, is_live}
+use Rattle.flat_ir.specs.Run.{with_writes}
 use Rattle.split_model.specs.declared.split.Part.{Part}
 use Rattle.split_model.specs.declared.split.Slow.TheVariants.{Server}
 use Rattle.split_model.specs.Legal.{IsLegal}
-use Rattle.split_model.specs.Passes.{meets_rest, pass, pre_values, given_down, post_values}
+use Rattle.split_model.specs.Passes.{down_verdict, meets_rest, pass, pre_values, given_down, post_fields, post_values}
 use Rattle.split_model.specs.Split.{pre_stage, post_stage, stage_after}
 use Rattle.transfer_header.specs.Values.{value_by}
 use Rattle.switch_ir.specs.Code.{Code}
-use Rattle.switch_ir.specs.Emitted.{emitted, Computes}
-use Rattle.switch_ir.specs.Meaning.{up_values, goes_up, leaves, down_given, down_values}
+use Rattle.switch_ir.specs.Emitted.{emitted, is_used_after, Computes}
+use Rattle.switch_ir.specs.Meaning.{up_values, goes_up, leaves, down_end, down_given, down_values}
+use Rattle.switch_ir.proofs.Alike.{Agreements, fields_alike, pass_alike, port_used, send_used}
 use Rattle.switch_ir.proofs.Passes.{DoneByStages, IsWithin, computes}
 use Rattle.switch_ir.proofs.Rests.{rest_passes}
 use Rattle.switch_ir.proofs.Handing.{HasNumbers, given_same}
 
-module _ (done : DoneByStages) (numbers : HasNumbers) (f : Program) (split : List Part) (writeback : ℕ) (legal : IsLegal f split) where
+module _ (done : DoneByStages) (agree : Agreements) (numbers : HasNumbers) (f : Program) (split : List Part) (writeback : ℕ) (legal : IsLegal f split) where
   abbrev code : Code
   code = emitted f split writeback
 
@@ -41,17 +44,21 @@ module _ (done : DoneByStages) (numbers : HasNumbers) (f : Program) (split : Lis
   rest_same : (reads : Reading) → goes_up code reads ≡ meets_rest f split reads
   rest_same reads = rest_passes (is_live f.blocks reads) f split
 
-  given_is : (down : Reading) (packet : Packet) → down_given code (value_by down) packet ≡ given_down f split down packet
-  given_is down packet = λ i. λ v. given_same f split packet v numbers writeback down i
-
-  down_same : (down : Reading) (tables : Store) (packet : Packet) (v : ValueId)
+  down_same : (down : Reading) (tables : Store) (packet : Packet) (v : ValueId) → is_used_after f split v ≡ true
       → down_values code (value_by down) tables packet v ≡ post_values f split down tables packet v
-  down_same down tables packet v =
+  down_same down tables packet v used =
       computes f (post_stage split) post_within (down_given code (value_by down) packet) tables packet done v
-      ∙ ap (λ (r : Reading). pass f (post_stage split) r tables packet v) (given_is down packet)
+      ∙ pass_alike agree f split legal post_within tables packet (down_given code (value_by down) packet) (given_down f split down packet)
+      (λ w post read. given_same f split packet w numbers writeback down post read) v used
 
-  down_is : (down : Reading) (tables : Store) (packet : Packet) → down_values code (value_by down) tables packet ≡ post_values f split down tables packet
-  down_is down tables packet = λ i. λ v. down_same down tables packet v i
+  verdict_same : (down : Reading) (tables : Store) (packet : Packet)
+      → down_end code (value_by down) tables packet ≡ down_verdict f split down tables packet
+  verdict_same down tables packet =
+      let R = down_values code (value_by down) tables packet in
+      let Q = post_values f split down tables packet in
+      ap (λ n. if n == 0 then Drop else Send (R f.port % 2 ^ 8) (with_writes (post_fields f split) R packet.bytes)) (down_same down tables packet f.send (send_used f split))
+      ∙ ap (λ n. if Q f.send == 0 then Drop else Send (n % 2 ^ 8) (with_writes (post_fields f split) R packet.bytes)) (down_same down tables packet f.port (port_used f split))
+      ∙ ap (λ bytes. if Q f.send == 0 then Drop else Send (Q f.port % 2 ^ 8) bytes) (fields_alike f split R Q packet.bytes (down_same down tables packet))
 
   pub all_computed : Computes f split code
   all_computed = record {
@@ -61,5 +68,5 @@ module _ (done : DoneByStages) (numbers : HasNumbers) (f : Program) (split : Lis
         ap (λ b. if b then None else Some (leaves code.pre (up_values code tables packet) packet)) (rest_same (up_values code tables packet))
         ∙ ap (λ (r : Reading). if meets_rest f split r then None else Some (leaves code.pre r packet)) (up_is tables packet);
     down = down_same;
-    verdict = λ down tables packet. ap (λ (r : Reading). leaves code.post r packet) (down_is down tables packet);
+    verdict = verdict_same;
   }

@@ -1,12 +1,12 @@
 -- What postprocessing begins with.
-use Rattle.std.proofs.Common.{◌≡◌, ℕ, zero, suc, ◌==◌, Bool, true, false, not, ◌&&◌, ◌||◌, List, [], ◌∷◌, map, length, Some, None, refl, sym, ap, ◌∙◌, ⊎_elim, slice_get, slice_index, if◌then◌else◌}
+use Rattle.std.proofs.Common.{◌≡◌, ◌<◌, ℕ, zero, suc, ◌==◌, Bool, true, false, not, ◌&&◌, ◌||◌, List, [], ◌∷◌, map, length, Some, None, refl, sym, ap, ◌∙◌, ⊎_elim, slice_get, slice_index, if◌then◌else◌}
 use Rattle.std.proofs.lemmas.Bool.{cond-true, cond-false, cases_Bool, cases_lt, eq-eqb, eqb-true, and_parts, and_from, or_cases, or_left, or_right, false≢true}
 use Rattle.std.proofs.lemmas.List.{get_or_past}
 use Rattle.std.specs.List.{filter}
 use Rattle.packet_fields.specs.declared.packet.Packet.{Packet}
 use Rattle.flat_ir.specs.declared.program.ValueId.{ValueId}
 use Rattle.flat_ir.specs.Program.{Program, Step, Work, step_at, is_named}
-use Rattle.flat_ir.specs.Program.Work.{const}
+use Rattle.flat_ir.specs.Program.Work.{const, field, apply, shift, select, byte, look, put, del}
 use Rattle.flat_ir.specs.Blocks.{Reading, nothing}
 use Rattle.flat_ir.specs.Run.{results}
 use Rattle.split_model.specs.declared.layout.Crossing.{Crossing}
@@ -16,7 +16,7 @@ use Rattle.split_model.specs.Layouts.{crossing, values_of, number_of, down_layou
 use Rattle.split_model.specs.Passes.{is_stage, given_down}
 use Rattle.split_model.specs.Split.{is_post}
 use Rattle.transfer_header.specs.Values.{value_by}
-use Rattle.switch_ir.specs.Emitted.{given_stage, steps_of, emitted}
+use Rattle.switch_ir.specs.Emitted.{given_stage, is_given, is_read_after, only_value, steps_of, emitted}
 use Rattle.switch_ir.specs.Meaning.{after_stage, crosses, handed, down_given}
 use Rattle.switch_ir.proofs.Passes.{one_stage, past_stage}
 
@@ -24,12 +24,12 @@ use Rattle.switch_ir.proofs.Passes.{one_stage, past_stage}
 abbrev pub HasNumbers : Type 0
 HasNumbers = (f : Program) (v : ValueId) → is_named f v ≡ true → slice_get (values_of f) (number_of f v) ≡ Some v
 
-same_value : (a b : ValueId) → is_value a b ≡ true → a ≡ b
+pub same_value : (a b : ValueId) → is_value a b ≡ true → a ≡ b
 same_value a b e =
     let both = and_parts (a.instruction == b.instruction) (a.result == b.result) e in
     λ i. record { instruction = eqb-true a.instruction b.instruction both.0 i; result = eqb-true a.result b.result both.1 i }
 
-value_same : (a b : ValueId) → a ≡ b → is_value a b ≡ true
+pub value_same : (a b : ValueId) → a ≡ b → is_value a b ≡ true
 value_same a b e =
     and_from (a.instruction == b.instruction) (a.result == b.result)
     (eq-eqb a.instruction b.instruction (ap (λ (v : ValueId). v.instruction) e)) (eq-eqb a.result b.result (ap (λ (v : ValueId). v.result) e))
@@ -103,19 +103,67 @@ module _ (f : Program) (split : List Part) (packet : Packet) (v : ValueId) where
   abbrev at_hand : Work → ℕ
   at_hand work = if is_at_hand f split work then slice_index (results nothing false [] packet work) v.result else 0
 
-  inputs_are : after_stage (steps_of f (given_stage f split)) 0 nothing [] packet v ≡ at_hand (step_at f v.instruction).work
-  inputs_are =
+  inputs_are : (lt : v.instruction < length f.code)
+      → after_stage (steps_of f (given_stage f split)) 0 nothing [] packet v
+      ≡ (if is_given f split v.instruction then slice_index (results nothing false [] packet (step_at f v.instruction).work) v.result else 0)
+  inputs_are lt =
+      one_stage f (given_stage f split) 0 nothing [] packet v lt
+      ∙ by_hand (is_given f split v.instruction) (slice_index (results nothing false [] packet (step_at f v.instruction).work) v.result)
+
+  -- what is at hand has one value
+  one_alone : (work : Work) (n : ℕ) → is_at_hand f split work ≡ true → slice_index (results nothing false [] packet work) (suc n) ≡ 0
+  one_alone (const width number) n e = refl
+  one_alone (field name) n e = refl
+  one_alone (apply op width args) n e = absurd (false≢true e)
+  one_alone (shift op width arg by) n e = absurd (false≢true e)
+  one_alone (select width cond first second) n e = absurd (false≢true e)
+  one_alone (byte index) n e = absurd (false≢true e)
+  one_alone (look object keys) n e = absurd (false≢true e)
+  one_alone (put object keys values) n e = absurd (false≢true e)
+  one_alone (del object keys) n e = absurd (false≢true e)
+
+  nothing_either : (b : Bool) (x : ℕ) → x ≡ 0 → (if b then x else 0) ≡ 0
+  nothing_either true x e = e
+  nothing_either false x e = refl
+
+  -- a value at hand that is read, and neither computed nor handed down, is given
+  is_one : v.result ≡ 0 → only_value v.instruction ≡ v
+  is_one e = λ i. record { instruction = v.instruction; result = sym e i }
+
+  given_there : (n : ℕ) → v.result ≡ n → is_post split v.instruction ≡ false → crosses_down f split v ≡ false → is_read_after f split v ≡ true
+      → (hand : Bool) → is_at_hand f split (step_at f v.instruction).work ≡ hand
+      → (if is_given f split v.instruction then slice_index (results nothing false [] packet (step_at f v.instruction).work) v.result else 0)
+      ≡ (if hand then slice_index (results nothing false [] packet (step_at f v.instruction).work) v.result else 0)
+  given_there n at post crossing read false hand =
+      let x = slice_index (results nothing false [] packet (step_at f v.instruction).work) v.result in
+      ap (λ b. if b && (not (is_post split v.instruction) && (not (crosses_down f split (only_value v.instruction)) && is_read_after f split (only_value v.instruction))) then x else 0) hand
+  given_there zero at post crossing read true hand =
+      let x = slice_index (results nothing false [] packet (step_at f v.instruction).work) v.result in
+      let own = only_value v.instruction in
+      cond-true (is_given f split v.instruction) x 0
+      (and_from (is_at_hand f split (step_at f v.instruction).work) (not (is_post split v.instruction) && (not (crosses_down f split own) && is_read_after f split own)) hand
+      (and_from (not (is_post split v.instruction)) (not (crosses_down f split own) && is_read_after f split own) (ap not post)
+      (and_from (not (crosses_down f split own)) (is_read_after f split own) (ap (λ w. not (crosses_down f split w)) (is_one at) ∙ ap not crossing) (ap (is_read_after f split) (is_one at) ∙ read))))
+  given_there (suc n) at post crossing read true hand =
+      let work = (step_at f v.instruction).work in
+      let x = slice_index (results nothing false [] packet work) v.result in
+      let none : x ≡ 0 = ap (slice_index (results nothing false [] packet work)) at ∙ one_alone work n hand in
+      nothing_either (is_given f split v.instruction) x none ∙ sym none
+
+  inputs_same : is_post split v.instruction ≡ false → crosses_down f split v ≡ false → is_read_after f split v ≡ true
+      → after_stage (steps_of f (given_stage f split)) 0 nothing [] packet v ≡ at_hand (step_at f v.instruction).work
+  inputs_same post crossing read =
       ⊎_elim
-      (λ lt. one_stage f (given_stage f split) 0 nothing [] packet v lt
-      ∙ by_hand (is_at_hand f split (step_at f v.instruction).work) (slice_index (results nothing false [] packet (step_at f v.instruction).work) v.result))
+      (λ lt. inputs_are lt
+      ∙ given_there v.result refl post crossing read (is_at_hand f split (step_at f v.instruction).work) refl)
       (λ le. past_stage f (given_stage f split) 0 nothing [] packet v le
       ∙ sym (ap (λ (s : Step). at_hand s.work) (get_or_past f.code v.instruction (record { block = 0; looped = false; work = const 1 0 }) le) ∙ zero_at v.result))
       (cases_lt v.instruction (length f.code))
 
-  -- the code gives postprocessing what the split gives it
-  pub given_same : HasNumbers → (writeback : ℕ) (down : Reading)
+  -- the code gives postprocessing what the split gives it, of the values that it reads and doesn't compute
+  pub given_same : HasNumbers → (writeback : ℕ) (down : Reading) → is_post split v.instruction ≡ false → is_read_after f split v ≡ true
       → down_given (emitted f split writeback) (value_by down) packet v ≡ given_down f split down packet v
-  given_same numbers writeback down =
+  given_same numbers writeback down post read =
       let inside = handed (down_layout f split) (value_by down) v in
       let outside = after_stage (steps_of f (given_stage f split)) 0 nothing [] packet v in
       let own = at_hand (step_at f v.instruction).work in
@@ -125,6 +173,6 @@ module _ (f : Program) (split : List Part) (packet : Packet) (v : ValueId) where
       ∙ handed_is (down_layout f split) down v (exact ∙ yes)
       ∙ sym (cond-true (crosses_down f split v) (down v) own yes))
       (λ no. cond-false (crosses (down_layout f split) v) inside outside (exact ∙ no)
-      ∙ inputs_are
+      ∙ inputs_same post no read
       ∙ sym (cond-false (crosses_down f split v) (down v) own no))
       (cases_Bool (crosses_down f split v))

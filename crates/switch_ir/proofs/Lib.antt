@@ -1,6 +1,8 @@
+mod Alike
 mod Soundness
 mod Passes
 mod Rests
+mod Givens
 mod Handing
 mod Computing
 mod Places

@@ -19,7 +19,7 @@ pub record Step : Type 0 where
 
 pub record PassCode : Type 0 where
   pub steps : List Step
-  -- the consts and fields that the pass is given beside what is handed to it
+  -- the consts and fields that the pass reads and is given beside what is handed to it
   pub given : List Step
   pub blocks : List Block
   -- the blocks in which the pass leaves work to others

@@ -1,5 +1,5 @@
 -- The code of a split program.
-use Rattle.std.specs.Prelude.{◌≡◌, ◌≤◌, ◌<◌, ℕ, zero, suc, ◌==◌, Bool, not, ◌&&◌, ◌||◌, List, [], ◌∷◌, ◌++◌, length}
+use Rattle.std.specs.Prelude.{◌≡◌, ◌≤◌, ◌<◌, ℕ, zero, suc, ◌==◌, Bool, not, true, ◌&&◌, ◌||◌, List, [], ◌∷◌, ◌++◌, length}
 use Rattle.std.specs.Prelude.{max, Option, Some, None, if◌then◌else◌}
 use Rattle.std.specs.List.{list_any}
 use Rattle.packet_fields.specs.declared.packet.Packet.{Packet}
@@ -11,10 +11,11 @@ use Rattle.flat_ir.specs.Program.{Program, step_at}
 use Rattle.flat_ir.specs.Operands.{CanRun}
 use Rattle.flat_ir.specs.Blocks.{Reading}
 use Rattle.split_model.specs.declared.split.Part.{Part}
-use Rattle.split_model.specs.Split.{pre_stage, post_stage, is_pre}
+use Rattle.split_model.specs.Split.{pre_stage, post_stage, is_pre, is_post}
 use Rattle.split_model.specs.Bounds.{IsBounded, HasFewStages}
 use Rattle.split_model.specs.Counts.{is_post_shown, stage_or_zero}
-use Rattle.split_model.specs.Crossing.{is_at_hand}
+use Rattle.split_model.specs.Crossing.{crosses_down, is_at_hand, is_read_by, is_value}
+use Rattle.split_model.specs.Crossing.{is_among as is_value_among}
 use Rattle.split_model.specs.Layouts.{values_of, values_below, up_layout, down_layout}
 use Rattle.split_model.specs.Legal.{IsLegal}
 use Rattle.split_model.specs.Passes.{pre_values, pre_verdict, meets_rest, post_values, post_fields, down_verdict}
@@ -43,9 +44,31 @@ steps_below f stage (suc n) = steps_below f stage n ++ placed f n (stage n)
 abbrev pub steps_of : Program → (ℕ → Option ℕ) → List Step
 steps_of f stage = steps_below f stage (length f.code)
 
--- stage 0 for an instruction whose value postprocessing has from the code or the packet
+-- postprocessing reads the value: one of its instructions does, or it is `send`, `port` or the value of a field that
+-- the pass sets
+abbrev pub is_read_after : Program → List Part → ValueId → Bool
+is_read_after f split v =
+    is_read_by f (is_post split) v
+    || (is_value_among v (f.send ∷ f.port ∷ []) || list_any (λ w. is_value v w.value) (post_fields f split))
+
+-- the value of a const or a field, which has no other
+abbrev pub only_value : ℕ → ValueId
+only_value i = record { instruction = i; result = 0 }
+
+-- The pass is given an instruction's value from the code or the packet: it is a const or a field that the server
+-- leaves, which postprocessing neither computes nor is handed, and reads.
+abbrev pub is_given : Program → List Part → ℕ → Bool
+is_given f split i =
+    is_at_hand f split (step_at f i).work
+    && (not (is_post split i) && (not (crosses_down f split (only_value i)) && is_read_after f split (only_value i)))
+
+-- stage 0 for an instruction whose value the pass is given
 abbrev pub given_stage : Program → List Part → ℕ → Option ℕ
-given_stage f split i = if is_at_hand f split (step_at f i).work then Some 0 else None
+given_stage f split i = if is_given f split i then Some 0 else None
+
+-- postprocessing computes the value or reads it
+abbrev pub is_used_after : Program → List Part → ValueId → Bool
+is_used_after f split v = is_post split v.instruction || is_read_after f split v
 
 -- these blocks and the block of an instruction, where that is outside `pre` and its block isn't among them
 abbrev pub with_rest : Program → List Part → ℕ → List ℕ → List ℕ
@@ -110,13 +133,13 @@ emitted f split writeback = record {
 }
 
 -- The code computes the split's passes, over any tables: the values of preprocessing, which packets it finishes, and
--- with which verdict; and the values of postprocessing, and its verdict.
+-- with which verdict; and the values that postprocessing computes or reads, and its verdict.
 pub record Computes (f : Program) (split : List Part) (code : Code) : Type 0 where
   pub up : (tables : Store) (packet : Packet) (v : ValueId)
       → up_values code tables packet v ≡ pre_values f split tables packet v
   pub rest : (reads : Reading) → goes_up code reads ≡ meets_rest f split reads
   pub finished : (tables : Store) (packet : Packet) → up_verdict code tables packet ≡ pre_verdict f split tables packet
-  pub down : (down : Reading) (tables : Store) (packet : Packet) (v : ValueId)
+  pub down : (down : Reading) (tables : Store) (packet : Packet) (v : ValueId) → is_used_after f split v ≡ true
       → down_values code (value_by down) tables packet v ≡ post_values f split down tables packet v
   pub verdict : (down : Reading) (tables : Store) (packet : Packet)
       → down_end code (value_by down) tables packet ≡ down_verdict f split down tables packet

@@ -2,6 +2,7 @@
 use Rattle.std.specs.Prelude.{◌≡◌, ◌<◌, length, ℕ, ◌==◌, Bool, true, false, List, [], ◌∷◌, map, Option, Some, None}
 use Rattle.std.specs.Prelude.{if◌then◌else◌, unwrap_or, slice_get, slice_set}
 use Rattle.std.specs.FinMap as finmap
+use Rattle.state_store.specs.Kinds.{is_table}
 use Rattle.state_store.specs.Store.{Object, Store, start_object, no_object}
 use Rattle.state_store.specs.declared.object.ObjectDecl.{ObjectDecl}
 use Rattle.writeback_table.specs.declared.command.Command.{Command}
@@ -40,9 +41,14 @@ abbrev pub declared_at : List Table → ℕ → Option ObjectDecl
 declared_at [] o = None
 declared_at (t ∷ ts) o = if t.number == o then Some t.object else declared_at ts o
 
+-- how many rows an object's write-back table has room for: none where the object can't change
+abbrev pub staging_room : ℕ → ObjectDecl → ℕ
+staging_room writeback d = if is_table d.kind then 0 else writeback
+
 abbrev pub start_pair : ℕ → Option ObjectDecl → Pair
 start_pair writeback None = no_pair
-start_pair writeback (Some d) = record { main = start_object d; staged = finmap.empty; room = writeback }
+start_pair writeback (Some d) =
+    record { main = start_object d; staged = finmap.empty; room = staging_room writeback d }
 
 -- the tables before any command, with bit 0
 pub record IsStart (code : Code) (told : Told) : Type 0 where

@@ -104,7 +104,7 @@ impl Steps {
 #[derive(Debug, Drop)]
 pub struct Pass {
     pub steps: Steps,
-    /// The consts and fields that postprocessing has from the code and the packet. Preprocessing has none.
+    /// The consts and fields that postprocessing reads and has from the code and the packet. Preprocessing has none.
     pub given: Steps,
     /// The blocks of the program.
     pub blocks: Blocks,

@@ -14,7 +14,7 @@ use crate::code::{Pass, Steps, SwitchCode};
 use crate::laws::what_is_emitted_computes_the_split;
 use crate::looked_up::looked_up;
 use crate::rest::rest;
-use crate::steps::{Role, highest, steps, values};
+use crate::steps::{Role, given_steps, highest, steps, values};
 use flat_ir::{FieldValue, Flat, Out, what_fits_can_run};
 use gal_io::NoMemory;
 use split_model::{Split, down_layout, up_layout};
@@ -84,7 +84,7 @@ fn post_pass(alloc: Global, f: &Flat, s: &Split) -> Result<Pass, NoMemory>
     ensures { IfOk result (λ pass. pass_of pass ≡ post_code (program_of f.now) s.now) }
 {
     let computed = steps(alloc, f, s, Role::Post)?;
-    let given = steps(alloc, f, s, Role::Given)?;
+    let given = given_steps(alloc, f, s)?;
     let blocks = f.blocks.copy(alloc)?;
     let fields = fields_after(alloc, f, s)?;
     Ok(Pass {

@@ -8,6 +8,7 @@ ghost use Rattle.switch_ir.specs.Code.{Code};
 ghost use Rattle.switch_ir.specs.Emitted.{emitted, Computes, IsEmitted};
 ghost use Rattle.switch_ir.specs.Sound.{CanBeRun};
 
+use flat_ir::readings_that_agree;
 use split_model::a_pass_is_done_by_stages;
 use transfer_header::{layouts_fit, values_have_their_numbers};
 
@@ -17,6 +18,7 @@ pub fn what_is_emitted_computes_the_split()
         → IsLegal f split → Computes f split (emitted f split writeback) }
 {
     a_pass_is_done_by_stages();
+    readings_that_agree();
     values_have_their_numbers();
 }
 

@@ -27,10 +27,10 @@ fn looks_at(object: u32, kind: &InstrKind) -> bool
 fn is_seen_by(f: &Flat, s: &Split, role: Role, object: u32) -> bool
     ensures { result
         ≡ any_step (program_of f.now) (λ i.
-        is_some (stage_in role (program_of f.now) s.now i) && looks_at object (step_at (program_of f.now) i).work) }
+        is_some (stage_in role s.now i) && looks_at object (step_at (program_of f.now) i).work) }
 {
     for i in 0..f.code.len() {
-        if role.stage(f, s, i).is_some() && looks_at(object, &f.code.as_slice()[i].kind) {
+        if role.stage(s, i).is_some() && looks_at(object, &f.code.as_slice()[i].kind) {
             return true;
         }
     }

@@ -80,21 +80,21 @@ pub none_crosses : (v : ValueId) (layout : List Crossing) → find (holds_value 
 none_crosses v [] e = refl
 none_crosses v (x ∷ xs) e = none_by (holds_value v x) x (find (holds_value v) xs) (crosses xs v) e (none_crosses v xs)
 
-pub number_found : (layout : List Crossing) (registers : List ℕ) (rows : List Row) (v : ValueId) (c : Crossing)
-    → find (holds_value v) layout ≡ Some c → handed_over layout registers rows v ≡ slice_index registers c.number
-number_found layout registers rows v c e =
+pub number_found : (layout : List Crossing) (registers : List ℕ) (looked : List (List ℕ)) (rows : List Row) (v : ValueId) (c : Crossing)
+    → find (holds_value v) layout ≡ Some c → handed_over layout registers looked rows v ≡ slice_index registers c.number
+number_found layout registers looked rows v c e =
     let found = found_crosses v (value_in registers) layout c e in
-    cond-true (crosses layout v) (handed layout (value_in registers) v) (over nothing rows v) found.0 ∙ found.1
+    cond-true (crosses layout v) (handed layout (value_in registers) v) (over nothing looked rows v) found.0 ∙ found.1
 
-pub number_given : (layout : List Crossing) (registers : List ℕ) (rows : List Row) (v : ValueId)
-    → find (holds_value v) layout ≡ None → handed_over layout registers rows v ≡ over nothing rows v
-number_given layout registers rows v e =
-    cond-false (crosses layout v) (handed layout (value_in registers) v) (over nothing rows v) (none_crosses v layout e)
+pub number_given : (layout : List Crossing) (registers : List ℕ) (looked : List (List ℕ)) (rows : List Row) (v : ValueId)
+    → find (holds_value v) layout ≡ None → handed_over layout registers looked rows v ≡ over nothing looked rows v
+number_given layout registers looked rows v e =
+    cond-false (crosses layout v) (handed layout (value_in registers) v) (over nothing looked rows v) (none_crosses v layout e)
 
 -- with the consts and fields in the rows it is what the code is given
-pub handed_is_given : (code : Code) (registers : List ℕ) (packet : Packet) (rows : List Row) → over nothing rows ≡ inputs code packet
-    → handed_over code.down registers rows ≡ down_given code (value_in registers) packet
-handed_is_given code registers packet rows e =
+pub handed_is_given : (code : Code) (registers : List ℕ) (packet : Packet) (looked : List (List ℕ)) (rows : List Row) → over nothing looked rows ≡ inputs code packet
+    → handed_over code.down registers looked rows ≡ down_given code (value_in registers) packet
+handed_is_given code registers packet looked rows e =
     let under : Reading → Reading = λ given v. if crosses code.down v then handed code.down (value_in registers) v else given v in
     ap under e
 

@@ -1,6 +1,7 @@
 -- The tables of code keep what it declares, from their start on and under each of its commands.
-use Rattle.std.proofs.Common.{◌≡◌, ◌≤◌, ℕ, zero, suc, Bool, true, false, List, [], ◌∷◌, Option, Some, None, refl, sym, ap, ◌∙◌, subst, arith, slice_get, slice_set, unwrap_or}
+use Rattle.std.proofs.Common.{◌≡◌, ◌≤◌, ℕ, zero, suc, Bool, true, false, List, [], ◌∷◌, Option, Some, None, refl, sym, ap, ◌∙◌, subst, arith, slice_get, slice_set, unwrap_or, if◌then◌else◌}
 use Rattle.state_store.specs.declared.object.ObjectDecl.{ObjectDecl}
+use Rattle.state_store.specs.Kinds.{is_table}
 use Rattle.writeback_table.specs.declared.command.Update.{Update}
 use Rattle.writeback_table.specs.declared.command.Command.{Command}
 use Rattle.writeback_table.specs.declared.command.Command.TheVariants.{Stage, On, Main, Off, Clear}
@@ -8,7 +9,7 @@ use Rattle.writeback_table.specs.Pair.{Pair, applied}
 use Rattle.switch_ir.specs.Code.{Code}
 use Rattle.switch_ir.specs.Port.{IsCommandOf, IsKeyOf, IsReplicatedIn, IsUpdateOf}
 use Rattle.switch_ir.specs.Sound.{CanBeRun}
-use Rattle.switch_ir.specs.Tables.{Told, IsStart, declared_at, no_pair, pair_at, start_pair, told_after, with_command}
+use Rattle.switch_ir.specs.Tables.{Told, IsStart, declared_at, no_pair, pair_at, staging_room, start_pair, told_after, with_command}
 use Rattle.switch_machine.specs.Kept.{KeepsRows, KeepsTables, AreSafe}
 use Rattle.switch_machine.proofs.KeptRows.{the_some, none_some, staging, changing, clearing, starting}
 
@@ -43,11 +44,16 @@ module _ (code : Code) (told : Told) (safe : KeepsTables code told) where
 pub safe_of : (code : Code) (told : Told) → KeepsTables code told → AreSafe (Some code) told
 safe_of code told safe other is = subst (λ (c : Code). KeepsTables c told) (the_some code other is) safe
 
+room_low : (b : Bool) (room : ℕ) → room ≤ 65536 → (if b then 0 else room) ≤ 65536
+room_low true room le = omega arith
+room_low false room le = le
+
 pub start_safe : (code : Code) (told : Told) → CanBeRun code → IsStart code told → AreSafe (Some code) told
 start_safe code told can start =
     safe_of code told (λ o d here.
     subst (KeepsRows d) (sym (start.pairs o ∙ ap (start_pair code.writeback) here))
-    (starting d code.writeback (can.tables o d here).start can.writeback))
+    (starting d (staging_room code.writeback d) (can.tables o d here).start
+    (room_low (is_table d.kind) code.writeback can.writeback)))
 
 pub nothing_safe : (told : Told) → AreSafe None told
 nothing_safe told code is = absurd (none_some code is)

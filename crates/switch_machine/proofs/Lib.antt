@@ -3,6 +3,7 @@ mod HandedLemmas
 mod KeptRows
 mod KeptTables
 mod Lists
+mod LiveMarks
 mod LoadedCode
 mod PassRows
 mod Passing

@@ -6,20 +6,18 @@ use Rattle.std.specs.List.{AllByRecursion as Each}
 use Rattle.packet_fields.specs.declared.packet.Packet.{Packet}
 use Rattle.state_store.specs.Store.{Store}
 use Rattle.flat_ir.specs.declared.program.ValueId.{ValueId}
-use Rattle.flat_ir.specs.declared.registers.Results.{Results}
 use Rattle.flat_ir.specs.Blocks.{Reading}
 use Rattle.flat_ir.specs.Operands.{CanRun}
 use Rattle.flat_ir.specs.Program.{work_of}
-use Rattle.flat_ir.specs.Registers.{results_of}
 use Rattle.flat_ir.specs.Run.{results}
 use Rattle.switch_ir.specs.declared.code.PassStep.{PassStep}
 use Rattle.switch_ir.specs.Code.{Step, step_of}
 use Rattle.switch_ir.specs.Meaning.{after_stage, after_stages}
 use Rattle.switch_ir.specs.Sound.{CanStep}
-use Rattle.switch_machine.specs.Rows.{gives_of, stage_gives, with_gives, instructions_of, Gives, HaveRows}
+use Rattle.switch_machine.specs.Rows.{stage_gives, with_gives, instructions_of, Gives, HaveRows}
 use Rattle.switch_machine.proofs.Each.{each_at, each_map}
 use Rattle.switch_machine.proofs.Lists.{ahead}
-use Rattle.switch_machine.proofs.PassRows.{same_reading, gives_last}
+use Rattle.switch_machine.proofs.PassRows.{same_reading}
 
 module _ (reads : Reading) (tables : Store) (packet : Packet) (t : ℕ) where
   given_by : (b : Bool) (i : ℕ) (rs : List ℕ) (more : List Gives) (v : ValueId) (rest : ℕ) → rest ≡ with_gives more reads v
@@ -73,26 +71,19 @@ stage_more reads tables packet t steps i s before after all lt is more so =
     ∙ ap (λ (ss : List PassStep). before ++ stage_gives (map step_of ss) t reads tables packet) (sym (ahead steps i s lt is))
     ∙ so
 
--- what is computed of an instruction of the stage, and of another one
-pub read_then : (reads : Reading) (tables : Store) (packet : Packet) (t : ℕ) (s : PassStep) (before after : List (ℕ × Results)) (r : Results)
-    → after ≡ before ++ (s.instruction, r) ∷ [] → s.stage ≡ t → results_of r ≡ results reads false tables packet (work_of s.kind)
-    → map gives_of after
-    ≡ map gives_of before ++ (if s.stage == t then (s.instruction, results reads false tables packet (work_of s.kind)) ∷ [] else [])
-read_then reads tables packet t s before after r more at is =
+-- what an instruction of the stage gives, and another one
+pub gives_then : (reads : Reading) (tables : Store) (packet : Packet) (t : ℕ) (s : PassStep) (before : List Gives) → s.stage ≡ t
+    → before ++ (s.instruction, results reads false tables packet (work_of s.kind)) ∷ []
+    ≡ before ++ (if s.stage == t then (s.instruction, results reads false tables packet (work_of s.kind)) ∷ [] else [])
+gives_then reads tables packet t s before at =
     let one : List Gives = (s.instruction, results reads false tables packet (work_of s.kind)) ∷ [] in
-    ap (map gives_of) more ∙ gives_last before s.instruction r
-    ∙ ap (λ rs. map gives_of before ++ (s.instruction, rs) ∷ []) is
-    ∙ ap (λ gs. map gives_of before ++ gs) (sym (cond-true (s.stage == t) one [] (eq-eqb s.stage t at)))
+    ap (λ gs. before ++ gs) (sym (cond-true (s.stage == t) one [] (eq-eqb s.stage t at)))
 
-pub read_else : (reads : Reading) (tables : Store) (packet : Packet) (t : ℕ) (s : PassStep) (before after : List (ℕ × Results))
-    → after ≡ before → s.stage ≢ t
-    → map gives_of after
-    ≡ map gives_of before ++ (if s.stage == t then (s.instruction, results reads false tables packet (work_of s.kind)) ∷ [] else [])
-read_else reads tables packet t s before after same other =
+pub gives_else : (reads : Reading) (tables : Store) (packet : Packet) (t : ℕ) (s : PassStep) (before : List Gives) → s.stage ≢ t
+    → before ≡ before ++ (if s.stage == t then (s.instruction, results reads false tables packet (work_of s.kind)) ∷ [] else [])
+gives_else reads tables packet t s before other =
     let one : List Gives = (s.instruction, results reads false tables packet (work_of s.kind)) ∷ [] in
-    ap (map gives_of) same
-    ∙ sym (append-nil (map gives_of before))
-    ∙ ap (λ gs. map gives_of before ++ gs) (sym (cond-false (s.stage == t) one [] (ne_eqb s.stage t other)))
+    sym (append-nil before) ∙ ap (λ gs. before ++ gs) (sym (cond-false (s.stage == t) one [] (ne_eqb s.stage t other)))
 
 -- ## One stage after the other
 

@@ -16,12 +16,14 @@ use Rattle.switch_machine.specs.declared.calls.CallKind.{CallKind}
 use Rattle.switch_machine.specs.Counts.{counted}
 use Rattle.switch_machine.specs.Machine.{MachineState}
 
--- A call fails exactly where that was planned. Only for want of memory may it end before.
+-- A call fails exactly where that was planned. A load, room and rows that fail take no memory, so that these calls end
+-- for want of memory only where no failure was planned.
 abbrev pub PortEndsAsPlanned : Bool → PortEnd → Type 0
 PortEndsAsPlanned planned port.Failed = planned ≡ true
 PortEndsAsPlanned planned port.Done = planned ≡ false
-PortEndsAsPlanned planned port.NoMemory = ⊤
+PortEndsAsPlanned planned port.NoMemory = planned ≡ false
 
+-- A pass is noted with its end, also where it fails: for want of memory for that it may end before.
 abbrev pub UpEndsAsPlanned : Bool → UpEnd → Type 0
 UpEndsAsPlanned planned up.Failed = planned ≡ true
 UpEndsAsPlanned planned (up.Finished verdict) = planned ≡ false
@@ -40,7 +42,7 @@ CommandEndsAsPlanned planned command.Done = planned ≡ false
 abbrev pub RowsEndAsPlanned : Bool → RowsEnd → Type 0
 RowsEndAsPlanned planned rows.Failed = planned ≡ true
 RowsEndAsPlanned planned (rows.Rows list) = planned ≡ false
-RowsEndAsPlanned planned rows.NoMemory = ⊤
+RowsEndAsPlanned planned rows.NoMemory = planned ≡ false
 
 -- a call of this kind is counted, and a fault where it failed; the plan stays
 pub record IsCountedAs (kind : CallKind) (failed : Bool) (old new : MachineState) : Type 0 where

@@ -11,9 +11,9 @@ use Rattle.switch_machine.specs.declared.run.Row.{Row}
 use Rattle.switch_machine.specs.Rows.{over}
 
 -- the numbers of a layout in registers, and else those of these rows
-abbrev pub handed_over : List Crossing → List ℕ → List Row → Reading
-handed_over layout registers rows v =
-    if crosses layout v then handed layout (value_in registers) v else over nothing rows v
+abbrev pub handed_over : List Crossing → List ℕ → List (List ℕ) → List Row → Reading
+handed_over layout registers looked rows v =
+    if crosses layout v then handed layout (value_in registers) v else over nothing looked rows v
 
 abbrev pub holds_value : ValueId → Crossing → Bool
 holds_value v c = is_value c.value v

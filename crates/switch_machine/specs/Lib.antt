@@ -4,6 +4,7 @@ pub mod Counts
 pub mod Ends
 pub mod Handed
 pub mod Kept
+pub mod Live
 pub mod Loading
 pub mod Machine
 pub mod Rows

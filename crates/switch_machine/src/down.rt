@@ -14,7 +14,7 @@ ghost use Rattle.switch_ir.specs.declared.port.DownEnd.TheVariants.{Verdict as E
 
 use crate::handed::{Handed, places};
 use crate::loaded::Loaded;
-use crate::run::{Run, given_rows, run_pass};
+use crate::run::{Run, given_numbers, run_pass};
 use crate::tables::SwitchTables;
 use flat_ir::{Arrival, leave};
 use gal_io::NoMemory;
@@ -62,18 +62,18 @@ fn finish(
         (packet_of arrival.now)) }
 {
     let code = &loaded.code;
-    let inputs = given_rows(alloc, &code.post, arrival)?;
+    let inputs = given_numbers(alloc, &code.post, arrival)?;
     let places = places(alloc, &code.down)?;
     let handed = Handed {
         layout: &code.down,
         places: &places,
         registers,
-        rows: &inputs,
+        inputs: &inputs,
     };
-    let rows = run_pass(alloc, &code.post, &loaded.post, &handed, tables, arrival)?;
+    let known = run_pass(alloc, &code.post, &loaded.post, &handed, tables, arrival)?;
     let run = Run {
         given: &handed,
-        rows: &rows,
+        known: &known,
     };
     let copy = arrival.bytes.to_vec(alloc)?;
     Ok(leave(&code.post.out, arrival, &run, copy))

@@ -3,10 +3,10 @@ ghost use Rattle.std.specs.Prelude.{◌≡◌, ◌≤◌, ◌<◌, ℕ, length, 
 ghost use Rattle.split_model.specs.declared.layout.Crossing.{Crossing as Entry};
 ghost use Rattle.split_model.specs.Crossing.{is_value};
 ghost use Rattle.flat_ir.specs.Blocks.{nothing};
-ghost use Rattle.switch_machine.specs.Rows.{over};
+ghost use Rattle.switch_machine.specs.Rows.{lists, over};
 ghost use Rattle.switch_machine.specs.Handed.{holds_value, index_prop, registers_prop, HaveRegisters, IsIndexOf};
 
-use crate::run::{Nothing, Row, Run};
+use crate::run::{Known, Nothing, Run};
 use flat_ir::{Numbers, ValueId};
 use gal_io::NoMemory;
 use split_model::{Crossing, Layout};
@@ -20,31 +20,32 @@ pub(crate) struct Handed<'a> {
     /// For each instruction a place in the layout before which none of its values stands.
     pub places: &'a [usize],
     pub registers: &'a Regs,
-    pub rows: &'a [Row],
+    pub inputs: &'a Known,
     ghost index: { IsIndexOf layout.now places.now } by { index_prop layout.now places.now },
     ghost within: { HaveRegisters layout.now registers.now } by { registers_prop layout.now registers.now },
 }
 
 impl Numbers for Handed<'_> {
     ghost use Rattle.switch_machine.specs.Handed.{handed_over};
+    ghost use Rattle.switch_machine.specs.Rows.{lists};
 
-    ghost reads = { λ h. handed_over h.layout.now h.registers.now h.rows.now };
+    ghost reads = { λ h. handed_over h.layout.now h.registers.now (lists h.inputs.now.looked.items) h.inputs.now.rows.items };
 
     fn number(&self, value: ValueId) -> u64 {
         match crossing_of(self.layout, self.places, value) {
             Some(crossing) => self.registers.at(crossing.number),
-            None => given(self.rows, value),
+            None => given(self.inputs, value),
         }
     }
 }
 
 // The number of a value that was given from the code or the packet.
-fn given(rows: &[Row], value: ValueId) -> u64
-    ensures { result ≡ over nothing rows.now value }
+fn given(inputs: &Known, value: ValueId) -> u64
+    ensures { result ≡ over nothing (lists inputs.now.looked.items) inputs.now.rows.items value }
 {
     let run = Run {
         given: &Nothing,
-        rows,
+        known: inputs,
     };
     run.number(value)
 }

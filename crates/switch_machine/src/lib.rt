@@ -4,6 +4,7 @@
 mod calls;
 mod down;
 mod handed;
+mod live;
 mod loaded;
 mod machine;
 mod run;

@@ -2,7 +2,7 @@
 ghost use Rattle.std.specs.Prelude.{◌≡◌, ℕ, ◌≤◌, [], false, IfOk};
 ghost use Rattle.state_store.specs.Store.{no_object, start_object};
 ghost use Rattle.switch_ir.specs.Code.{code_of};
-ghost use Rattle.switch_ir.specs.Tables.{told_after, pair_at, start_pair, declared_at, with_command, IsStart};
+ghost use Rattle.switch_ir.specs.Tables.{told_after, pair_at, staging_room, start_pair, declared_at, with_command, IsStart};
 ghost use Rattle.writeback_table.specs.Pair.{visible_rows};
 
 use flat_ir::Lookup;
@@ -132,10 +132,21 @@ fn start_pair(
 {
     for table in tables {
         if u64::from(table.number) == number {
-            return Pair::new(alloc, &table.object, writeback);
+            let room = staging_room(&table.object, writeback);
+            return Pair::new(alloc, &table.object, room);
         }
     }
     Pair::new(alloc, &no_object(alloc), 0)
+}
+
+// How many rows the write-back table of an object has room for.
+fn staging_room(object: &ObjectDecl, writeback: u32) -> u32
+    ensures { result ≡ staging_room writeback object.now }
+{
+    match object.kind {
+        Kind::Table => 0,
+        Kind::Map | Kind::Vector | Kind::Int => writeback,
+    }
 }
 
 // An object without rows, and with room for none.

@@ -1,8 +1,6 @@
 //! The pass over a packet that arrives.
 ghost use Rattle.std.specs.Prelude.{◌≡◌, ◌≤◌, false, length, replicate, IfOk};
-ghost use Rattle.std.specs.List.{list_any, AllByRecursion as Each};
 ghost use Rattle.packet_fields.specs.Sizes.{largest_packet};
-ghost use Rattle.flat_ir.specs.Blocks.{is_live, HasLowParents};
 ghost use Rattle.transfer_header.specs.Frames.{up_frame};
 ghost use Rattle.transfer_header.specs.Registers.{FitsLayout, Holds};
 ghost use Rattle.switch_ir.specs.Code.{code_of, pass_of};
@@ -10,30 +8,17 @@ ghost use Rattle.switch_ir.specs.Port.{EndsUp, IsUpFrame};
 ghost use Rattle.switch_ir.specs.declared.port.UpEnd.TheVariants.{Up};
 ghost use Rattle.switch_machine.specs.Ends.{UpPasses};
 
+use crate::live::leaves_work;
 use crate::loaded::Loaded;
 use crate::run::{Nothing, Run, run_pass};
 use crate::tables::SwitchTables;
-use flat_ir::{Arrival, Numbers, is_live, leave};
+use flat_ir::{Arrival, Numbers, leave};
 use gal_io::{Bytes, NoMemory};
 use packet_fields::Shape;
 use split_model::Layout;
 use std::alloc::Global;
-use switch_ir::{Pass, SwitchCode, UpEnd};
+use switch_ir::{SwitchCode, UpEnd};
 use transfer_header::{Regs, frames_of_low_bits, pack_up};
-
-// Whether a block is live in which the pass leaves work to the server.
-fn leaves_work<R: Numbers>(pass: &Pass, numbers: &R) -> bool
-    requires low { HasLowParents (pass_of pass.now).blocks }
-    requires there { Each (λ b. b ≤ length (pass_of pass.now).blocks) (pass_of pass.now).rest }
-    ensures { result ≡ list_any (is_live (pass_of pass.now).blocks (R.reads numbers.now)) (pass_of pass.now).rest }
-{
-    for block in &pass.rest {
-        if is_live(pass.blocks.as_slice(), numbers, *block) {
-            return true;
-        }
-    }
-    false
-}
 
 // Puts the numbers of the values of a layout into registers.
 fn hold<R: Numbers>(layout: &Layout, numbers: &R, registers: &mut Regs)
@@ -87,12 +72,13 @@ pub(crate) fn go_up(
         bytes: packet,
         shape: Shape::of(packet),
     };
-    let rows = run_pass(alloc, &code.pre, &loaded.pre, &Nothing, tables, &arrival)?;
+    let known = run_pass(alloc, &code.pre, &loaded.pre, &Nothing, tables, &arrival)?;
     let run = Run {
         given: &Nothing,
-        rows: &rows,
+        known: &known,
     };
-    if leaves_work(&code.pre, &run) {
+    let leaves = leaves_work(alloc, &code.pre, &run)?;
+    if leaves {
         let frame = frame_of(alloc, code, number, port, &run, packet)?;
         return Ok(UpEnd::Up(frame));
     }

@@ -2,13 +2,14 @@
 use Rattle.std.proofs.Common.{◌≡◌, ◌<◌, ℕ, Bool, true, false, List, [], ◌∷◌, length, Option, Some, slice_get, refl, sym, ap, ◌∙◌, arith, if◌then◌else◌}
 use Rattle.std.specs.FinMap as finmap
 use Rattle.std.specs.FinMap.{len-empty, len-entries}
-use Rattle.std.proofs.lemmas.Bool.{cond-true, eq-eqb}
+use Rattle.std.proofs.lemmas.Bool.{cond-true, cond-false, eq-eqb}
 use Rattle.std.proofs.lemmas.List.{get_or-map, take_all}
 use Rattle.std.proofs.lemmas.Option.{unwrap_or-slice_get}
 use Rattle.state_store.specs.declared.object.Kind.{Kind}
 use Rattle.state_store.specs.declared.object.ObjectDecl.{ObjectDecl}
 use Rattle.state_store.specs.declared.object.Row.{Row}
 use Rattle.state_store.specs.Kept.{IsKept, IsKeptObject}
+use Rattle.state_store.specs.Kinds.{is_table}
 use Rattle.state_store.specs.Store.{Contents, Object, Store, is_full, is_out, key_cmp, no_object, object_at, put_row, rows_from, rows_of, start_object}
 use Rattle.flat_ir.specs.Program.{Program}
 use Rattle.split_model.specs.declared.split.Part.{Part}
@@ -77,10 +78,12 @@ sees_start true d writeback =
     ap (λ staged. with_staged staged (start_object d).contents) (no_items (finmap.entries none) (sym (len-entries none) ∙ len-empty key_cmp (Option (List ℕ))))
 
 -- the world begins with the same
-pub same_start : (f : Program) (split : List Part) (writeback o : ℕ) (d : ObjectDecl) → slice_get f.objects o ≡ Some d → first_pair (whole_of f split writeback) o ≡ starting d writeback
-same_start f split writeback o d is =
-    let P : Object → Pair = λ x. record { main = x; staged = finmap.empty; room = writeback } in
-    ap P (started_at f.objects o d is)
+pub same_start : (f : Program) (split : List Part) (writeback o : ℕ) (d : ObjectDecl) → slice_get f.objects o ≡ Some d → is_table d.kind ≡ false
+    → first_pair (whole_of f split writeback) o ≡ starting d writeback
+same_start f split writeback o d is changes =
+    let P : Object → ℕ → Pair = λ x n. record { main = x; staged = finmap.empty; room = n } in
+    ap (λ x. P x writeback) (started_at f.objects o d is)
+    ∙ ap (P (start_object d)) (sym (cond-false (is_table d.kind) 0 writeback changes))
 
 -- ## Commands change the contents alone
 
@@ -153,7 +156,7 @@ module _ (f : Program) (split : List Part) (writeback : ℕ) (is : IsSplit f spl
   pub pair_is : (o : ℕ) → is_replicated f split o ≡ true → pair_at told.pairs o ≡ pair_through o (first_pair (whole_of f split writeback) o) commands
   pair_is o shown =
       let d = is_declared f split writeback o is shown in
-      through.pairs o d.0 d.1 ∙ ap (λ p. pair_through o p commands) (sym (same_start f split writeback o d.0 (declared_parts f split o d.0 d.1.declared).1))
+      through.pairs o d.0 d.1 ∙ ap (λ p. pair_through o p commands) (sym (same_start f split writeback o d.0 (declared_parts f split o d.0 d.1.declared).1 d.1.changes))
 
   contents_seen : (o : ℕ) → is_replicated f split o ≡ true → visible told.bit (pair_at told.pairs o) ≡ seen_after o (first_pair (whole_of f split writeback) o) commands (length commands)
   contents_seen o shown =

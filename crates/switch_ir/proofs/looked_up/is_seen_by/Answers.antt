@@ -12,7 +12,7 @@ pub returns-then-looks_at : goal.returns-then-looks_at
 returns-then-looks_at c =
     let f = c.args.f.now in
     let i = c.loop-i.i in
-    let stages = stage_in c.args.role (program_of f) c.args.s.now in
+    let stages = stage_in c.args.role c.args.s.now in
     let within : i < length f.code = omega arith in
     let here = work_is f c.as_slice.result.now i c.index-as_slice-i.result c.as_slice.ensures within c.index-as_slice-i.is in
     let staged : is_some (stages i) ≡ true = sym (ap is_some c.stage.ensures) ∙ sym c.is_some.ensures ∙ c.if-is_some.true in

@@ -8,4 +8,4 @@ use Rattle.switch_ir.proofs.looked_up.is_seen_by.Given as goal
 
 abbrev pub invariant-loop-i : goal.invariant-loop-i
 invariant-loop-i l =
-    any_below l.i (λ i. is_some (stage_in l.role (program_of l.f) l.s i) && looks_at l.object (step_at (program_of l.f) i).work) ≡ false
+    any_below l.i (λ i. is_some (stage_in l.role l.s i) && looks_at l.object (step_at (program_of l.f) i).work) ≡ false

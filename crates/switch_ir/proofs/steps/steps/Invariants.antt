@@ -10,5 +10,5 @@ abbrev pub invariant-loop-i : goal.invariant-loop-i
 invariant-loop-i l = record {
   numbered : l.number ≡ length (values_below (program_of l.f) l.i);
   low : l.number ≤ 9 * l.i;
-  so_far : map step_of l.made ≡ steps_below (program_of l.f) (stage_in l.role (program_of l.f) l.s) l.i;
+  so_far : map step_of l.made ≡ steps_below (program_of l.f) (stage_in l.role l.s) l.i;
 }

@@ -8,12 +8,12 @@ use Rattle.switch_ir.specs.Tables.{seen_tables}
 use Rattle.switch_machine.specs.Rows.{over}
 use Rattle.switch_machine.proofs.up.go_up.Goals as goal
 
-pub returns-then-leaves_work-clause-told : goal.returns-then-leaves_work-clause-told
-returns-then-leaves_work-clause-told c =
+pub returns-then-leaves-clause-told : goal.returns-then-leaves-clause-told
+returns-then-leaves-clause-told c =
     let code = code_of c.args.loaded.now.code in
     let packet : Packet = record { port = c.args.port; bytes = c.args.packet.now } in
-    let same = ap (over nothing) c.deref.ensures.value ∙ c.in_ok-rows.ensures in (
-      ap (goes_up code) (sym same) ∙ sym c.leaves_work.ensures ∙ c.if-leaves_work.true,
+    let same = c.in_ok-known.ensures in (
+      ap (goes_up code) (sym same) ∙ sym c.in_ok-leaves.ensures ∙ c.if-leaves.true,
       c.in_ok-frame.ensures.bytes ∙ ap (λ (reads : Reading). up_frame code.up c.args.number c.args.port reads c.args.packet.now) same,
     )
 
@@ -22,6 +22,6 @@ returns-clause-told c =
     let code = code_of c.args.loaded.now.code in
     let packet : Packet = record { port = c.args.port; bytes = c.args.packet.now } in
     let reads = up_values code (seen_tables c.args.tables.now) packet in
-    let same = ap (over nothing) c.deref.ensures.value ∙ c.in_ok-rows.ensures in
-    ap (λ b. if b then None else Some (leaves code.pre reads packet)) (ap (goes_up code) (sym same) ∙ sym c.leaves_work.ensures ∙ c.if-leaves_work.false)
+    let same = c.in_ok-known.ensures in
+    ap (λ b. if b then None else Some (leaves code.pre reads packet)) (ap (goes_up code) (sym same) ∙ sym c.in_ok-leaves.ensures ∙ c.if-leaves.false)
     ∙ ap Some (ap (λ (r : Reading). leaves code.pre r packet) (sym same) ∙ sym c.leave.ensures)

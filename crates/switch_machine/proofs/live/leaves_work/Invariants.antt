@@ -1,7 +1,7 @@
 use Rattle.std.proofs.Common.{◌≡◌, drop}
 use Rattle.std.specs.List.{list_any}
 use Rattle.flat_ir.specs.Blocks.{is_live}
-use Rattle.switch_machine.proofs.up.leaves_work.Given as goal
+use Rattle.switch_machine.proofs.live.leaves_work.Given as goal
 
 abbrev pub invariant-loop-block : goal.invariant-loop-block
 invariant-loop-block g l =

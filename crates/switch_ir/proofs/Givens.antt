@@ -1,0 +1,91 @@
+-- Which consts and fields postprocessing is given.
+use Rattle.std.proofs.Common.{◌≡◌, ◌<◌, ℕ, ◌==◌, Bool, true, false, not, ◌&&◌, ◌||◌, List, [], ◌∷◌, length, nat_lt, Some, None, refl, sym, ap, ◌∙◌, ⊎_elim, arith, if◌then◌else◌}
+use Rattle.std.proofs.lemmas.Bool.{cases_Bool, and_from, and_parts, eqb-true, false≢true, true≢false}
+use Rattle.std.proofs.lemmas.Bool.Decides.{nat_tests}
+use Rattle.std.specs.List.{filter, list_any}
+use Rattle.flat_ir.specs.declared.program.FieldValue.{FieldValue}
+use Rattle.flat_ir.specs.declared.program.ValueId.{ValueId}
+use Rattle.flat_ir.specs.Program.{Program, Work, is_named, result_count, step_at}
+use Rattle.flat_ir.specs.Program.Work.{const, field, apply, shift, select, byte, look, put, del}
+use Rattle.split_model.specs.declared.split.Part.{Part}
+use Rattle.split_model.specs.Crossing.{crosses_down, is_among, is_at_hand, is_read_by, is_value}
+use Rattle.split_model.specs.Passes.{post_fields}
+use Rattle.split_model.specs.Split.{is_post}
+use Rattle.switch_ir.specs.Emitted.{is_given, only_value}
+use Rattle.switch_ir.proofs.Rests.{or_nothing}
+
+true_lt : (i k : ℕ) → i < k → nat_lt i k ≡ true
+true_lt i k h = grind (arith, nat_tests)
+
+settle : (out read : Bool) → (not out && (read || (out || false))) ≡ (not out && read)
+settle true read = refl
+settle false read = or_nothing read
+
+module _ (f : Program) (split : List Part) (i : ℕ) where
+  abbrev v : ValueId
+  v = only_value i
+
+  abbrev out : Bool
+  out = is_among v (f.send ∷ f.port ∷ [])
+
+  abbrev read : Bool
+  read = is_read_by f (is_post split) v
+
+  one_result : (work : Work) → is_at_hand f split work ≡ true → nat_lt 0 (result_count f.objects work) ≡ true
+  one_result (const width number) e = refl
+  one_result (field name) e = refl
+  one_result (apply op width args) e = absurd (false≢true e)
+  one_result (shift op width arg by) e = absurd (false≢true e)
+  one_result (select width cond first second) e = absurd (false≢true e)
+  one_result (byte index) e = absurd (false≢true e)
+  one_result (look object keys) e = absurd (false≢true e)
+  one_result (put object keys values) e = absurd (false≢true e)
+  one_result (del object keys) e = absurd (false≢true e)
+
+  -- a field that postprocessing sets is computed there
+  no_field : (ws : List FieldValue) → is_post split i ≡ false
+      → list_any (λ (w : FieldValue). is_value v w.value) (filter (λ (w : FieldValue). is_post split w.value.instruction) ws) ≡ false
+  no_field [] other = refl
+  no_field (w ∷ ws) other = by_test (is_post split w.value.instruction) refl (no_field ws other)
+    where
+      apart : is_post split w.value.instruction ≡ true → is_value v w.value ≡ false
+      apart post =
+          ⊎_elim
+          (λ same. absurd (true≢false (sym post ∙ ap (is_post split) (sym (eqb-true i w.value.instruction (and_parts (i == w.value.instruction) (0 == w.value.result) same).0)) ∙ other)))
+          (λ no. no)
+          (cases_Bool (is_value v w.value))
+
+      by_test : (b : Bool) → is_post split w.value.instruction ≡ b
+          → list_any (λ (x : FieldValue). is_value v x.value) (filter (λ (x : FieldValue). is_post split x.value.instruction) ws) ≡ false
+          → list_any (λ (x : FieldValue). is_value v x.value) (if b then w ∷ filter (λ (x : FieldValue). is_post split x.value.instruction) ws else filter (λ (x : FieldValue). is_post split x.value.instruction) ws) ≡ false
+      by_test true post rest =
+          ap (λ b. b || list_any (λ (x : FieldValue). is_value v x.value) (filter (λ (x : FieldValue). is_post split x.value.instruction) ws)) (apart post) ∙ rest
+      by_test false post rest = rest
+
+  -- of what is at hand, `send` and `port` alone are handed down
+  crosses_by : i < length f.code → is_at_hand f split (step_at f i).work ≡ true → is_post split i ≡ false → crosses_down f split v ≡ out
+  crosses_by within hand other =
+      let named : is_named f v ≡ true =
+      and_from (nat_lt i (length f.code)) (nat_lt 0 (result_count f.objects (step_at f i).work)) (true_lt i (length f.code) within) (one_result (step_at f i).work hand) in
+      ap (λ n. (n && not (is_post split i)) && (out || (not (is_at_hand f split (step_at f i).work) && read))) named
+      ∙ ap (λ p. not p && (out || (not (is_at_hand f split (step_at f i).work) && read))) other
+      ∙ ap (λ h. out || (not h && read)) hand
+      ∙ or_nothing out
+
+  pub given_simply : i < length f.code
+      → is_given f split i ≡ (is_at_hand f split (step_at f i).work && (not (is_post split i) && (not out && read)))
+  given_simply within =
+      let hand = is_at_hand f split (step_at f i).work in
+      let fields = list_any (λ (w : FieldValue). is_value v w.value) (post_fields f split) in
+      let whole : Bool = not (crosses_down f split v) && (read || (out || fields)) in
+      let simple : Bool = not out && read in
+      ⊎_elim
+      (λ there. ⊎_elim
+      (λ post. ap (λ p. hand && (not p && whole)) post ∙ sym (ap (λ p. hand && (not p && simple)) post))
+      (λ other. ap (λ x. hand && (not (is_post split i) && x))
+      (ap (λ x. not x && (read || (out || fields))) (crosses_by within there other)
+      ∙ ap (λ y. not out && (read || (out || y))) (no_field f.fields other)
+      ∙ settle out read))
+      (cases_Bool (is_post split i)))
+      (λ none. ap (λ h. h && (not (is_post split i) && whole)) none ∙ sym (ap (λ h. h && (not (is_post split i) && simple)) none))
+      (cases_Bool hand)
