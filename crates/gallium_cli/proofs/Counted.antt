@@ -1,6 +1,6 @@
 -- Which faults the steps of a request count.
-use Rattle.std.proofs.Common.{◌≡◌, Bool, true, false, List, [], ◌∷◌, ℕ, Result, Ok, Err, IfErr, inl, inr, refl, sym, ap, subst}
-use Rattle.std.proofs.Common.{◌∙◌}
+use Rattle.std.proofs.Common.{◌≡◌, Bool, true, false, List, [], ◌∷◌, ℕ, Option, Result, Ok, Err, IfErr, inl, inr, refl, sym, ap}
+use Rattle.std.proofs.Common.{subst, ◌∙◌}
 use Rattle.std.specs.Prelude.{OnOk}
 use Rattle.std.specs.Bool.{OnFalse}
 use Rattle.gal_io.specs.Count.{Counts, Rose, count_after}
@@ -139,6 +139,12 @@ pub switch_counts : (refusal : Refusal) (f f' : FilesState) (p p' : PortState) (
 switch_counts SwitchFault f f' p p' o is goes rose =
     record { files = goes_still statuses.SwitchFault f f' (refl, refl) goes; out = refl; switch = rose }
 switch_counts _ f f' p p' o is goes rose = cc
+
+-- a sink that took nothing, and of which no write failed
+pub same_sink : (o o' : SinkState) → o'.taken ≡ o.taken → o'.faults ≡ o.faults → o' ≡ o
+same_sink o o' taken faults =
+    ap (λ (t : Option (List ℕ)). let s : SinkState = record { taken = t; faults = o'.faults } in s) taken
+    ∙ ap (λ (n : ℕ). let s : SinkState = record { taken = o.taken; faults = n } in s) faults
 
 -- an answer that was put on out, and one that wasn't
 pub put_counts : {A : Type 0} {E : Type 0} (result : Result A E) (text : List ℕ) (f f' : FilesState) (p p' : PortState)
