@@ -4,7 +4,8 @@ use Rattle.std.proofs.Common.{subst, ◌∙◌}
 use Rattle.std.specs.Prelude.{OnOk}
 use Rattle.std.specs.Bool.{OnFalse}
 use Rattle.gal_io.specs.Count.{Counts, Rose, count_after}
-use Rattle.gal_io.specs.Files.{FilesState}
+use Rattle.gal_io.specs.Files.{FilesState, Reads}
+use Rattle.gal_io.specs.declared.files.ReadEnd.TheVariants as ends
 use Rattle.gal_io.specs.Sink.{SinkState}
 use Rattle.flat_ir.specs.Program.{Program}
 use Rattle.resource_limits.specs.declared.limits.Limits.{Limits}
@@ -25,6 +26,47 @@ use Rattle.gallium_cli.specs.Causes.{IsFirstRefused, IsUnchosen, CountsFaults, i
 on_false : (b : Bool) (P Q : Type 0) → (P → Q) → OnFalse b P → OnFalse b Q
 on_false true P Q follows h = tt
 on_false false P Q follows h = follows h
+
+-- one read, by how it ended
+pub read_goes : (name : List ℕ) (max : ℕ) (f g : FilesState) (into : List ℕ) → Reads ends.Done name max f g into
+    → GoesOn statuses.Done f g
+read_goes name max f g into reads = record {
+  told = reads.told_stays;
+  faults = reads.faults;
+  fault_name = reads.fault_name;
+  overlong = reads.overlong;
+  overlong_name = reads.overlong_name;
+}
+
+pub long_goes : (name : List ℕ) (max : ℕ) (f g : FilesState) (into : List ℕ) → Reads ends.TooLong name max f g into
+    → GoesOn statuses.TooLong f g
+long_goes name max f g into reads = record {
+  told = reads.told_stays;
+  faults = reads.faults;
+  fault_name = reads.fault_name;
+  overlong = reads.overlong;
+  overlong_name = tt;
+}
+
+pub failed_goes : (name : List ℕ) (max : ℕ) (f g : FilesState) (into : List ℕ) → Reads ends.Failed name max f g into
+    → GoesOn statuses.ReadFault f g
+failed_goes name max f g into reads = record {
+  told = reads.told_stays;
+  faults = reads.faults;
+  fault_name = tt;
+  overlong = reads.overlong;
+  overlong_name = reads.overlong_name;
+}
+
+pub unread_memory_goes : (name : List ℕ) (max : ℕ) (f g : FilesState) (into : List ℕ)
+    → Reads ends.NoMemory name max f g into → GoesOn statuses.NoMemory f g
+unread_memory_goes name max f g into reads = record {
+  told = reads.told_stays;
+  faults = reads.faults;
+  fault_name = reads.fault_name;
+  overlong = reads.overlong;
+  overlong_name = reads.overlong_name;
+}
 
 -- reads behind others of which none failed
 pub goes_further : (status : Status) (f g h : FilesState) → GoesOn statuses.Done f g → GoesOn status g h
