@@ -1,5 +1,5 @@
 -- Which faults the steps of a request count.
-use Rattle.std.proofs.Common.{◌≡◌, Bool, true, false, List, [], ◌∷◌, ℕ, Option, Result, Ok, Err, IfErr, inl, inr, refl, sym, ap}
+use Rattle.std.proofs.Common.{◌≡◌, ◌⊎◌, Bool, true, false, List, [], ◌∷◌, ℕ, Option, Result, Ok, Err, IfErr, inl, inr, refl, sym, ap}
 use Rattle.std.proofs.Common.{subst, ◌∙◌}
 use Rattle.std.specs.Prelude.{OnOk}
 use Rattle.std.specs.Bool.{OnFalse}
@@ -181,6 +181,12 @@ pub switch_counts : (refusal : Refusal) (f f' : FilesState) (p p' : PortState) (
 switch_counts SwitchFault f f' p p' o is goes rose =
     record { files = goes_still statuses.SwitchFault f f' (refl, refl) goes; out = refl; switch = rose }
 switch_counts _ f f' p p' o is goes rose = cc
+
+pub replay_counts : (refusal : Refusal) (f f' : FilesState) (p p' : PortState) (o : SinkState)
+    → ((refusal ≡ NoMemory) × (p'.faults ≡ p.faults)) ⊎ ((refusal ≡ SwitchFault) × Rose p.faults p'.faults)
+    → GoesOn statuses.Done f f' → CountsFaults (status_of refusal) (work_of f f' p p' o o)
+replay_counts refusal f f' p p' o (inl memory) goes = memory_counts refusal f f' p p' o memory.0 goes memory.1
+replay_counts refusal f f' p p' o (inr switch) goes = switch_counts refusal f f' p p' o switch.0 goes switch.1
 
 -- a sink that took nothing, and of which no write failed
 pub same_sink : (o o' : SinkState) → o'.taken ≡ o.taken → o'.faults ≡ o.faults → o' ≡ o
