@@ -1,10 +1,11 @@
 -- Which faults the steps of a request count.
-use Rattle.std.proofs.Common.{◌≡◌, Bool, true, false, List, [], ◌∷◌, ℕ, Result, Ok, Err, IfErr, inl, inr, refl, sym, ap, subst}
-use Rattle.std.proofs.Common.{◌∙◌}
+use Rattle.std.proofs.Common.{◌≡◌, ◌⊎◌, Bool, true, false, List, [], ◌∷◌, ℕ, Option, Result, Ok, Err, IfErr, inl, inr, refl, sym, ap}
+use Rattle.std.proofs.Common.{subst, ◌∙◌}
 use Rattle.std.specs.Prelude.{OnOk}
 use Rattle.std.specs.Bool.{OnFalse}
 use Rattle.gal_io.specs.Count.{Counts, Rose, count_after}
-use Rattle.gal_io.specs.Files.{FilesState}
+use Rattle.gal_io.specs.Files.{FilesState, Reads}
+use Rattle.gal_io.specs.declared.files.ReadEnd.TheVariants as ends
 use Rattle.gal_io.specs.Sink.{SinkState}
 use Rattle.flat_ir.specs.Program.{Program}
 use Rattle.resource_limits.specs.declared.limits.Limits.{Limits}
@@ -25,6 +26,47 @@ use Rattle.gallium_cli.specs.Causes.{IsFirstRefused, IsUnchosen, CountsFaults, i
 on_false : (b : Bool) (P Q : Type 0) → (P → Q) → OnFalse b P → OnFalse b Q
 on_false true P Q follows h = tt
 on_false false P Q follows h = follows h
+
+-- one read, by how it ended
+pub read_goes : (name : List ℕ) (max : ℕ) (f g : FilesState) (into : List ℕ) → Reads ends.Done name max f g into
+    → GoesOn statuses.Done f g
+read_goes name max f g into reads = record {
+  told = reads.told_stays;
+  faults = reads.faults;
+  fault_name = reads.fault_name;
+  overlong = reads.overlong;
+  overlong_name = reads.overlong_name;
+}
+
+pub long_goes : (name : List ℕ) (max : ℕ) (f g : FilesState) (into : List ℕ) → Reads ends.TooLong name max f g into
+    → GoesOn statuses.TooLong f g
+long_goes name max f g into reads = record {
+  told = reads.told_stays;
+  faults = reads.faults;
+  fault_name = reads.fault_name;
+  overlong = reads.overlong;
+  overlong_name = tt;
+}
+
+pub failed_goes : (name : List ℕ) (max : ℕ) (f g : FilesState) (into : List ℕ) → Reads ends.Failed name max f g into
+    → GoesOn statuses.ReadFault f g
+failed_goes name max f g into reads = record {
+  told = reads.told_stays;
+  faults = reads.faults;
+  fault_name = tt;
+  overlong = reads.overlong;
+  overlong_name = reads.overlong_name;
+}
+
+pub unread_memory_goes : (name : List ℕ) (max : ℕ) (f g : FilesState) (into : List ℕ)
+    → Reads ends.NoMemory name max f g into → GoesOn statuses.NoMemory f g
+unread_memory_goes name max f g into reads = record {
+  told = reads.told_stays;
+  faults = reads.faults;
+  fault_name = reads.fault_name;
+  overlong = reads.overlong;
+  overlong_name = reads.overlong_name;
+}
 
 -- reads behind others of which none failed
 pub goes_further : (status : Status) (f g h : FilesState) → GoesOn statuses.Done f g → GoesOn status g h
@@ -139,6 +181,18 @@ pub switch_counts : (refusal : Refusal) (f f' : FilesState) (p p' : PortState) (
 switch_counts SwitchFault f f' p p' o is goes rose =
     record { files = goes_still statuses.SwitchFault f f' (refl, refl) goes; out = refl; switch = rose }
 switch_counts _ f f' p p' o is goes rose = cc
+
+pub replay_counts : (refusal : Refusal) (f f' : FilesState) (p p' : PortState) (o : SinkState)
+    → ((refusal ≡ NoMemory) × (p'.faults ≡ p.faults)) ⊎ ((refusal ≡ SwitchFault) × Rose p.faults p'.faults)
+    → GoesOn statuses.Done f f' → CountsFaults (status_of refusal) (work_of f f' p p' o o)
+replay_counts refusal f f' p p' o (inl memory) goes = memory_counts refusal f f' p p' o memory.0 goes memory.1
+replay_counts refusal f f' p p' o (inr switch) goes = switch_counts refusal f f' p p' o switch.0 goes switch.1
+
+-- a sink that took nothing, and of which no write failed
+pub same_sink : (o o' : SinkState) → o'.taken ≡ o.taken → o'.faults ≡ o.faults → o' ≡ o
+same_sink o o' taken faults =
+    ap (λ (t : Option (List ℕ)). let s : SinkState = record { taken = t; faults = o'.faults } in s) taken
+    ∙ ap (λ (n : ℕ). let s : SinkState = record { taken = o.taken; faults = n } in s) faults
 
 -- an answer that was put on out, and one that wasn't
 pub put_counts : {A : Type 0} {E : Type 0} (result : Result A E) (text : List ℕ) (f f' : FilesState) (p p' : PortState)

@@ -1,5 +1,5 @@
 -- What a text that was written leads to, and what a call that came to none.
-use Rattle.std.proofs.Common.{◌≡◌, ◌≤◌, ◌+◌, ◌++◌, ℕ, Bool, true, false, List, [], ◌∷◌, length, Option, Some, Result, Ok, Err}
+use Rattle.std.proofs.Common.{◌≡◌, ◌⊎◌, ◌≤◌, ◌+◌, ◌++◌, ℕ, Bool, true, false, List, [], ◌∷◌, length, Option, Some, Result, Ok, Err}
 use Rattle.std.proofs.Common.{IfErr, inl, inr, refl, sym, ap, subst, ◌∙◌, append_assoc, arith}
 use Rattle.std.specs.Prelude.{OnOk}
 use Rattle.gal_io.specs.Count.{Rose}
@@ -62,6 +62,16 @@ pub switch_cause : (refusal : Refusal) (request : Request) (f f' : FilesState) (
     → IsSwitchKept (is_replay request) p p' → HasCause refusal (Some request) (work_of f f' p p' o o)
 switch_cause SwitchFault request f f' p p' o is replays rose few kept = (inr (inl ((replays, rose), refl)), few, kept)
 switch_cause _ request f f' p p' o is replays rose few kept = cc
+
+-- a replay that came to no report
+pub replay_cause : (refusal : Refusal) (request : Request) (f f' : FilesState) (p p' : PortState) (o : SinkState)
+    → ((refusal ≡ NoMemory) × (p'.faults ≡ p.faults)) ⊎ ((refusal ≡ SwitchFault) × Rose p.faults p'.faults)
+    → is_replay request ≡ true → f'.reads ≤ most_reads request f → IsSwitchKept (is_replay request) p p'
+    → HasCause refusal (Some request) (work_of f f' p p' o o)
+replay_cause refusal request f f' p p' o (inl memory) replays few kept =
+    memory_cause refusal request f f' p p' o memory.0 few kept
+replay_cause refusal request f f' p p' o (inr switch) replays few kept =
+    switch_cause refusal request f f' p p' o switch.0 replays switch.1 few kept
 
 -- ## Answers
 

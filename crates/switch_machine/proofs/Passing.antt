@@ -1,6 +1,6 @@
 -- What a call of a switch in memory leaves, step by step.
-use Rattle.std.proofs.Common.{◌≡◌, ◌≤◌, ℕ, Bool, true, false, List, [], ◌∷◌, ◌++◌, Option, Some, None, refl, sym, ap, ◌∙◌, subst, arith, if◌then◌else◌}
-use Rattle.gal_io.specs.Count.{one_more, Counts}
+use Rattle.std.proofs.Common.{◌≡◌, ◌≤◌, ℕ, Bool, true, false, List, [], ◌∷◌, ◌++◌, Option, Some, None, refl, sym, ap, ◌∙◌, subst, arith}
+use Rattle.gal_io.specs.Count.{Counts, count_after}
 use Rattle.switch_ir.specs.declared.journal.Entry.{Entry}
 use Rattle.switch_ir.specs.declared.journal.Entry.TheVariants as entry
 use Rattle.switch_ir.specs.declared.port.UpEnd.{UpEnd}
@@ -33,10 +33,10 @@ down_is fails down.NoMemory frame h = absurd h
 -- the state after an entry is made and a fault is counted
 pub ended_by : (old noted new : MachineState) (entries wanted : List Entry) (fails failed : Bool)
     → noted ≡ record old { journal = record old.journal { entries = old.journal.entries ++ entries } }
-    → new ≡ record noted { faults = if fails then one_more noted.faults else noted.faults }
+    → new ≡ record noted { faults = count_after fails noted.faults }
     → wanted ≡ entries → failed ≡ fails → new ≡ ended old wanted failed
 ended_by old noted new entries wanted fails failed e f same is =
-    f ∙ ap (λ (m : MachineState). record m { faults = if fails then one_more m.faults else m.faults }) e
+    f ∙ ap (λ (m : MachineState). record m { faults = count_after fails m.faults }) e
     ∙ ap (λ es. ended old es fails) (sym same) ∙ ap (ended old wanted) (sym is)
 
 module _ (old counted new : MachineState) (calls : Calls) (entries : List Entry) (failed : Bool)

@@ -1,5 +1,6 @@
 use Rattle.std.proofs.Common.{refl}
 use Rattle.gallium_cli.specs.Words.{Compile}
+use Rattle.gallium_cli.proofs.Counted.{put_counts, unput_counts}
 use Rattle.gallium_cli.proofs.Written.{compilation, put_answer, unput_answer}
 use Rattle.gallium_cli.proofs.compile.perform_compile.Goals as goal
 
@@ -20,3 +21,11 @@ returns-clause-err g c = λ port.
     (g.F.Files.seen c.args.files.now) (g.F.Files.seen c.load_split.new.files) port port
     (g.O.Sink.seen c.args.out.now) (g.O.Sink.seen c.put.new.out)
     (_, found.ok.0, found.ok.1, made) found.read refl c.put.ensures.err
+
+pub returns-clause-no_fault : goal.returns-clause-no_fault
+returns-clause-no_fault g c = λ port.
+    put_counts _ c.as_slice.result.now _ _ port port _ _ c.in_ok-middlebox.ensures.stays refl c.put.ensures.ok
+
+pub returns-clause-fault : goal.returns-clause-fault
+returns-clause-fault g c = λ port.
+    unput_counts _ c.as_slice.result.now _ _ port port _ _ c.in_ok-middlebox.ensures.stays refl c.put.ensures.err

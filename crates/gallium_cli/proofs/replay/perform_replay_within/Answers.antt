@@ -1,5 +1,6 @@
 use Rattle.std.proofs.lemmas.Result.{err_from_is_err_and}
 use Rattle.gallium_cli.specs.Words.{ReplayWithin}
+use Rattle.gallium_cli.proofs.Counted.{gate_counts, goes_further, put_counts, replay_counts, unput_counts}
 use Rattle.gallium_cli.proofs.Written.{chosen_refused, chosen_answer, chosen_reads, put_answer, unput_answer}
 use Rattle.gallium_cli.proofs.replay.perform_replay_within.Goals as goal
 
@@ -40,3 +41,29 @@ returns-clause-err g c =
     found.ok.3 came.ok c.in_ok-text.ensures.ok c.as_slice.ensures)
     (chosen_reads (g.F.Files.seen c.args.files.now) (g.F.Files.seen c.load_split.new.files) (g.F.Files.seen c.load_traffic.new.files)
     found.read came.read) tt c.put.ensures.err
+
+pub returns-in_err-packets-clause-fault : goal.returns-in_err-packets-clause-fault
+returns-in_err-packets-clause-fault g c =
+    let p = err_from_is_err_and c.from_residual-in_err-packets.result c.from_residual-in_err-packets.ensures.1 in
+    rw (p.1, p.2)
+    (gate_counts _ _ _ _ _ _ _ c.in_err-packets.ensures.err
+    (goes_further _ _ _ _ c.in_ok-middlebox.ensures.stays c.in_err-packets.ensures.fault))
+
+pub returns-in_err-text-clause-fault : goal.returns-in_err-text-clause-fault
+returns-in_err-text-clause-fault g c =
+    let p = err_from_is_err_and c.from_residual-in_err-text.result c.from_residual-in_err-text.ensures.1 in
+    rw (p.1, p.2)
+    (replay_counts _ _ _ _ _ _ c.in_err-text.ensures.err
+    (goes_further _ _ _ _ c.in_ok-middlebox.ensures.stays c.in_ok-packets.ensures.stays))
+
+pub returns-clause-no_fault : goal.returns-clause-no_fault
+returns-clause-no_fault g c =
+    put_counts _ c.as_slice.result.now _ _ _ _ _ _
+    (goes_further _ _ _ _ c.in_ok-middlebox.ensures.stays c.in_ok-packets.ensures.stays)
+    c.in_ok-text.ensures.no_fault c.put.ensures.ok
+
+pub returns-clause-fault : goal.returns-clause-fault
+returns-clause-fault g c =
+    unput_counts _ c.as_slice.result.now _ _ _ _ _ _
+    (goes_further _ _ _ _ c.in_ok-middlebox.ensures.stays c.in_ok-packets.ensures.stays)
+    c.in_ok-text.ensures.no_fault c.put.ensures.err
