@@ -19,7 +19,9 @@ impl Seen {
     pub fn new() -> Seen
         ensures { (f : Field) → get_or result.marks (field_index f) false ≡ false }
     {
-        Seen { marks: [false; FIELD_COUNT] }
+        Seen {
+            marks: [false; FIELD_COUNT],
+        }
     }
 
     pub fn has(&self, field: Field) -> bool
