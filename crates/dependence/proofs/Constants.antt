@@ -1,5 +1,5 @@
 -- Constant tables, by their place.
-use Rattle.std.proofs.Common.{◌≡◌, ℕ, zero, suc, Bool, false, List, [], ◌∷◌, refl, arith}
+use Rattle.std.proofs.Common.{◌≡◌, ℕ, zero, suc, false, List, [], ◌∷◌, refl}
 use Rattle.std.specs.Prelude.{slice_get, Some, None}
 use Rattle.state_store.specs.Kinds.{is_table}
 use Rattle.state_store.specs.declared.object.ObjectDecl.{ObjectDecl}

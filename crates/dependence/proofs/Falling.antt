@@ -1,12 +1,12 @@
 -- A scan in falling order: what is closed so far has all that any closed set has of the instructions placed.
-use Rattle.std.proofs.Common.{◌≡◌, ℕ, zero, suc, ◌+◌, ◌<◌, ◌≤◌, Bool, true, false, ◌&&◌, ◌||◌, List, [], ◌∷◌, inl, inr, refl, sym, ap, ◌∙◌, subst, arith, length, set, replicate, length-set}
-use Rattle.std.specs.Prelude.{slice_get, slice_index_or, IsTrue, not, ◌==◌}
+use Rattle.std.proofs.Common.{◌≡◌, ℕ, ◌+◌, ◌<◌, Bool, true, false, ◌&&◌, ◌||◌, List, [], ◌∷◌, inl, inr, sym, ◌∙◌, subst, arith, length, set, replicate, length-set}
+use Rattle.std.specs.Prelude.{slice_index_or, IsTrue, not, ◌==◌}
 use Rattle.std.specs.List.{list_any, list_all}
 use Rattle.std.proofs.lemmas.Option.{same_Some, slice_get_within, slice_get-get_or}
 use Rattle.std.proofs.lemmas.List.{length-replicate}
-use Rattle.std.proofs.lemmas.Bool.{cases_lt, cases_eq, or_cases, or_left, or_right, eqb-true, eq-eqb, false≢true}
+use Rattle.std.proofs.lemmas.Bool.{cases_lt, or_cases, or_left, or_right, eqb-true, eq-eqb, false≢true}
 use Rattle.flat_ir.specs.declared.program.ValueId.{ValueId}
-use Rattle.flat_ir.specs.Program.{Program, Step, Work, const, step_at, operands}
+use Rattle.flat_ir.specs.Program.{Program, Step, const, step_at, operands}
 use Rattle.flat_ir.specs.Kinds.{fits_switch, is_mutable_look, is_field}
 use Rattle.flat_ir.specs.Sets.{Reads, IsMarked, IsAt, IsGuard, IsPostClosed, IsGreatest}
 use Rattle.dependence.specs.Placed.{IsPlaced}

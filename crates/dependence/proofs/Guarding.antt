@@ -1,17 +1,17 @@
 -- From the blocks of the writes to the instructions that decide whether they are live.
 use Rattle.std.proofs.Common.{◌≡◌, ℕ, zero, suc, ◌+◌, ◌-◌, ◌<◌, ◌≤◌, Bool, true, false, ◌||◌, List, [], ◌∷◌, inl, inr, refl, sym, ap, ◌∙◌, subst, arith, length, get_or, set, replicate, length-set}
-use Rattle.std.specs.Prelude.{slice_get, slice_index_or, Some, ◌==◌}
+use Rattle.std.specs.Prelude.{slice_get, slice_index_or}
 use Rattle.std.specs.List.{list_any}
 use Rattle.std.proofs.lemmas.Option.{same_Some, slice_get_within}
-use Rattle.std.proofs.lemmas.Bool.{cases_lt, cases_eq, or_cases, or_left, or_right, eqb-true, eq-eqb, false≢true}
+use Rattle.std.proofs.lemmas.Bool.{cases_lt, or_cases, or_left, or_right, eqb-true, eq-eqb, false≢true}
 use Rattle.std.proofs.lemmas.List.{length-replicate, get_or_default}
 use Rattle.flat_ir.specs.declared.program.Block.{Block}
 use Rattle.flat_ir.specs.Program.{Program, Step}
-use Rattle.flat_ir.specs.Blocks.{block_at, line, line_up}
+use Rattle.flat_ir.specs.Blocks.{block_at, line_up}
 use Rattle.flat_ir.specs.Kinds.{is_write}
 use Rattle.flat_ir.specs.Sets.{IsMarked, IsAt, IsGuard, is_condition_of, decides_on}
 use Rattle.dependence.specs.Placed.{IsPlaced}
-use Rattle.dependence.specs.Guards.{AreGuards, AreWriteBlocks, AreWriteBlocksSoFar, AreGuardsFrom, HasWrite}
+use Rattle.dependence.specs.Guards.{AreGuards, AreWriteBlocks, AreWriteBlocksSoFar, AreGuardsFrom}
 use Rattle.dependence.proofs.Marking.{marked_set_kept, marked_set_same, marked_set_cases, unset_marked, marked_inside}
 
 -- ## The line of blocks above a block

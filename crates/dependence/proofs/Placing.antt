@@ -1,6 +1,6 @@
 -- From a well formed program to what the scans rest on, and from Rust's instructions to those of the program.
-use Rattle.std.proofs.Common.{◌≡◌, ℕ, ◌<◌, ◌≤◌, Bool, true, false, ◌&&◌, List, [], ◌∷◌, inl, inr, refl, sym, ap, ◌∙◌, subst, arith, length, map, get_or}
-use Rattle.std.specs.Prelude.{slice_get, Some, nat_lt}
+use Rattle.std.proofs.Common.{◌≡◌, ℕ, ◌<◌, ◌≤◌, false, List, [], ◌∷◌, inl, inr, refl, sym, ap, ◌∙◌, subst, length, map, get_or}
+use Rattle.std.specs.Prelude.{slice_get, nat_lt}
 use Rattle.std.specs.Option.{option_map}
 use Rattle.std.specs.List.{AllByRecursion as Each}
 use Rattle.std.proofs.lemmas.List.{length-map}
@@ -8,7 +8,7 @@ use Rattle.std.proofs.lemmas.Option.{slice_get-map, slice_get_within, slice_get_
 use Rattle.flat_ir.specs.declared.program.ValueId.{ValueId}
 use Rattle.flat_ir.specs.declared.program.Instr.{Instr}
 use Rattle.flat_ir.specs.declared.program.Flat.{Flat}
-use Rattle.flat_ir.specs.Program.{Program, Step, Work, const, step_of, program_of, step_at, operands, is_named, result_count}
+use Rattle.flat_ir.specs.Program.{Program, Step, const, step_of, program_of, step_at, operands, result_count}
 use Rattle.flat_ir.specs.Blocks.{block_at}
 use Rattle.flat_ir.specs.WellFormed.{IsWellFormed}
 use Rattle.flat_ir.specs.Sets.{IsAt, Reads}

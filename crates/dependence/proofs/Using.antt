@@ -1,15 +1,14 @@
 -- Users that are noted one after the other.
 use Rattle.std.proofs.Common.{◌≡◌, ℕ, zero, suc, ◌+◌, ◌-◌, ◌<◌, ◌≤◌, Bool, true, false, ◌&&◌, ◌||◌, cond, List, [], ◌∷◌, ◌++◌, inl, inr, refl, sym, ap, ◌∙◌, subst, arith, length, get_or, take, set, replicate, length-set, length-append}
-use Rattle.std.specs.Prelude.{slice_index_or, slice_index, nat_lt, ◌==◌, if◌then◌else◌, All}
+use Rattle.std.specs.Prelude.{slice_index_or, slice_index, ◌==◌, if◌then◌else◌, All}
 use Rattle.std.specs.List.{list_any, list_all, filter, range_with_len}
 use Rattle.std.proofs.lemmas.Bool.{cases_lt, cases_eq, cases_Bool, eq-eqb, eqb-true, false≢true}
-use Rattle.std.proofs.lemmas.Bool.Decides.{nat_tests}
 use Rattle.std.proofs.lemmas.List.{take_more, length-replicate, get_or-set_same, get_or-set_other}
 use Rattle.std.proofs.lemmas.List.Elements.{filter-append, All-filter}
 use Rattle.std.proofs.lemmas.List.FromFn.{length-range_with_len, get_or-range_with_len}
 use Rattle.flat_ir.specs.declared.program.ValueId.{ValueId}
 use Rattle.flat_ir.specs.Program.{Program, step_at, operands}
-use Rattle.dependence.specs.Uses.{is_user, users_of, AreUses}
+use Rattle.dependence.specs.Uses.{is_user, AreUses}
 use Rattle.dependence.specs.Noted.{is_last, noted, noted_at, noted_all, AreUsesSoFar}
 use Rattle.dependence.proofs.Marking.{true_and, true_lt}
 

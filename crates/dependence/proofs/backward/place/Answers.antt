@@ -1,4 +1,4 @@
-use Rattle.std.proofs.Common.{◌≡◌, ◌<◌, ◌∙◌, ◌&&◌, Bool, true, false, length, subst, sym, ap, refl}
+use Rattle.std.proofs.Common.{◌≡◌, ◌<◌, ◌∙◌, ◌&&◌, Bool, false, length, subst, sym, ap}
 use Rattle.flat_ir.specs.Program.{program_of, step_of}
 use Rattle.dependence.proofs.Placing.{placed, here}
 use Rattle.dependence.proofs.Using.{and_false}

@@ -1,4 +1,4 @@
-use Rattle.std.proofs.Common.{◌≡◌, ◌+◌, ap, length, subst, sym, arith}
+use Rattle.std.proofs.Common.{◌≡◌, ◌+◌, length, subst, sym, arith}
 use Rattle.flat_ir.specs.Program.{program_of, step_of}
 use Rattle.dependence.proofs.Placing.{placed, here, as_many}
 use Rattle.dependence.proofs.Rising.{IsSoFar, PreMay, needed_of, pre_more, pre_done}

@@ -1,4 +1,4 @@
-use Rattle.std.proofs.Common.{◌≡◌, ◌∙◌, false, sym}
+use Rattle.std.proofs.Common.{◌∙◌, false, sym}
 use Rattle.flat_ir.specs.Program.{program_of}
 use Rattle.dependence.proofs.Placing.{placed}
 use Rattle.dependence.proofs.Guarding.{lifted}

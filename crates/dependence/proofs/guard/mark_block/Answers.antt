@@ -1,4 +1,4 @@
-use Rattle.std.proofs.Common.{◌≡◌, ◌<◌, ◌∙◌, length, subst, sym, arith}
+use Rattle.std.proofs.Common.{◌<◌, ◌∙◌, length, subst, sym, arith}
 use Rattle.flat_ir.specs.Program.{program_of, step_of}
 use Rattle.dependence.proofs.Placing.{placed, here}
 use Rattle.dependence.proofs.Guarding.{write_block, no_write}

@@ -1,4 +1,4 @@
-use Rattle.std.proofs.Common.{◌≡◌, ◌∙◌, sym, ap, get_or}
+use Rattle.std.proofs.Common.{◌∙◌, sym, ap, get_or}
 use Rattle.flat_ir.specs.declared.program.ValueId.{ValueId}
 use Rattle.dependence.specs.Noted.{noted_at}
 use Rattle.dependence.proofs.Using.{noted_more}

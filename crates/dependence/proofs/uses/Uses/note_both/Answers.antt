@@ -1,4 +1,4 @@
-use Rattle.std.proofs.Common.{◌≡◌, ◌∙◌, sym, ap}
+use Rattle.std.proofs.Common.{◌∙◌, sym, ap}
 use Rattle.dependence.specs.Noted.{noted_all}
 use Rattle.dependence.proofs.Using.{noted_append}
 use Rattle.dependence.proofs.uses.Uses.note_both.Goals as goal

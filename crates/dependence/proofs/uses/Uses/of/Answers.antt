@@ -1,4 +1,4 @@
-use Rattle.std.proofs.Common.{◌≡◌, ◌∙◌, ◌+◌, List, ℕ, [], refl, sym, ap, arith, length, subst, replicate, ◌<◌, get_or}
+use Rattle.std.proofs.Common.{◌≡◌, ◌∙◌, ◌+◌, [], refl, sym, ap, arith, length, subst, replicate, ◌<◌, get_or}
 use Rattle.flat_ir.specs.declared.program.Instr.{Instr}
 use Rattle.flat_ir.specs.Program.{program_of, step_of, step_at, work_of, operands, Step}
 use Rattle.dependence.specs.Noted.{noted_all, AreUsesSoFar}
