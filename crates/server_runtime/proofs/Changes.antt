@@ -1,5 +1,5 @@
 -- The number of a put or a del says whether it took effect.
-use Rattle.std.proofs.Common.{◌≡◌, ◌==◌, ℕ, Bool, true, false, List, [], ◌∷◌, map, length, get_or, Some, None, is_some, refl, sym, ap, if◌then◌else◌}
+use Rattle.std.proofs.Common.{◌≡◌, ◌==◌, ℕ, Bool, true, false, [], ◌∷◌, map, length, get_or, Some, None, is_some, refl, sym, ap, if◌then◌else◌}
 use Rattle.packet_fields.specs.declared.packet.Packet.{Packet}
 use Rattle.state_store.specs.Store.{object_at, put_answer, Store}
 use Rattle.state_store.specs.Store as store
@@ -14,10 +14,6 @@ wanted_made : (first : ℕ) (live takes : Bool) (c : Change) → first ≡ lengt
 wanted_made first true true c e = ap (λ n. if n == 1 then made true (Some c) else []) e
 wanted_made first true false c e = ap (λ n. if n == 1 then made true (Some c) else []) e
 wanted_made first false takes c e = ap (λ n. if n == 1 then made true (Some c) else []) e
-
-pub made_none : (live : Bool) → made live None ≡ []
-made_none true = refl
-made_none false = refl
 
 none_made : (b live : Bool) → (if b then made true None else []) ≡ made live None
 none_made true true = refl

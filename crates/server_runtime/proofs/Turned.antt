@@ -1,19 +1,16 @@
 -- What an instruction that the server evaluates leaves.
-use Rattle.std.proofs.Common.{◌≡◌, ℕ, Bool, true, false, List, [], ◌∷◌, ◌++◌, map, None, refl, sym, ap, ◌∙◌, subst}
-use Rattle.std.proofs.lemmas.List.{append-nil}
+use Rattle.std.proofs.Common.{◌≡◌, ℕ, Bool, List, [], ◌∷◌, ◌++◌, sym, ap, ◌∙◌}
 use Rattle.packet_fields.specs.declared.packet.Packet.{Packet}
 use Rattle.state_store.specs.Store.{Store}
-use Rattle.flat_ir.specs.declared.program.ValueId.{ValueId}
 use Rattle.flat_ir.specs.Blocks.{is_live, Reading}
 use Rattle.flat_ir.specs.Program.{step_at, Program, Step}
-use Rattle.flat_ir.specs.Program.Work.{look as look_work}
-use Rattle.flat_ir.specs.Run.{change_of, do_step, looked, made, results, with_changes, with_results, Machine}
+use Rattle.flat_ir.specs.Run.{change_of, do_step, made, results, with_changes, with_results, Machine}
 use Rattle.flat_ir.specs.Turns.{turn}
 use Rattle.split_model.specs.declared.split.Part.{Part}
 use Rattle.writeback_table.specs.declared.command.Update.{Update}
 use Rattle.server_runtime.specs.Serving.{updates_of}
 use Rattle.server_runtime.specs.Turns.{changed_by, HasTurned}
-use Rattle.server_runtime.proofs.Changes.{made_none, work_changed}
+use Rattle.server_runtime.proofs.Changes.{work_changed}
 
 module _ (f : Program) (split : List Part) (packet : Packet) (i : ℕ) (reads : Reading) (st : Store) where
   abbrev live_at : Step → Bool

@@ -1,5 +1,5 @@
 //! The server's turn at an instruction.
-ghost use Rattle.std.specs.Prelude.{◌≡◌, ◌+◌, ◌<◌, ◌≤◌, ◌||◌, ◌&&◌, ◌++◌, ◌∷◌, [], true, false, not};
+ghost use Rattle.std.specs.Prelude.{◌≡◌, ◌+◌, ◌<◌, ◌≤◌, ◌||◌, ◌++◌, ◌∷◌, [], true, false};
 ghost use Rattle.std.specs.Prelude.{length, map, vec_capacity, vec_len, IsTrue, if◌then◌else◌};
 ghost use Rattle.packet_fields.specs.Shape.{shape_of};
 ghost use Rattle.packet_fields.specs.Sizes.{largest_packet};
@@ -18,7 +18,9 @@ ghost use Rattle.server_runtime.specs.Turns.{changed_by, server_turn, told_of, w
 
 use crate::plan::SplitProgram;
 use crate::registers::{Registers, set_number, set_results};
-use flat_ir::{Arrival, Instr, InstrKind, ValueId, compute_number, key_of, look, row_of, what_fits_can_run};
+use flat_ir::{
+    Arrival, Instr, InstrKind, ValueId, compute_number, key_of, look, row_of, what_fits_can_run,
+};
 use state_store::Store;
 use transfer_header::Regs;
 use writeback_table::{To, Update};

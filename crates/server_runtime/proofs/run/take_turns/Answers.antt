@@ -1,4 +1,4 @@
-use Rattle.std.proofs.Common.{◌≡◌, ◌+◌, ◌≤◌, length, sym, ap, ◌∙◌, subst, arith, add-one}
+use Rattle.std.proofs.Common.{◌≡◌, ◌+◌, length, ap, ◌∙◌, subst, arith, add-one}
 use Rattle.flat_ir.specs.Program.{program_of}
 use Rattle.flat_ir.specs.Registers.{packet_of}
 use Rattle.split_model.specs.Counts.{count_below}

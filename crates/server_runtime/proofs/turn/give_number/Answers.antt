@@ -23,8 +23,12 @@ compute_number-number-requires-clause-there c =
 pub tell-requires-clause-room : goal.tell-requires-clause-room
 tell-requires-clause-room c =
     let f = program_of c.args.whole.now.flat in
-    omega (arith, c.requires.room, ap length (room_for f c.args.whole.now.split (packet_of c.args.arrival.now) c.args.instruction (register_reads f c.args.values.now) c.args.store.now
-    (step_of c.args.instr.now) c.compute_number-number.result c.requires.instr c.compute_number-number.ensures.number))
+    omega (
+      arith,
+      c.requires.room,
+      ap length (room_for f c.args.whole.now.split (packet_of c.args.arrival.now) c.args.instruction (register_reads f c.args.values.now) c.args.store.now
+          (step_of c.args.instr.now) c.compute_number-number.result c.requires.instr c.compute_number-number.ensures.number),
+    )
 
 pub set_number-requires-clause-count : goal.set_number-requires-clause-count
 set_number-requires-clause-count c =
