@@ -40,12 +40,7 @@ fn mark_operands(f: &Flat, s: &Split, reader: Reader, i: usize, set: &mut ValueS
 }
 
 /// The values that the instructions of a reader read.
-pub fn read_by(
-    alloc: Global,
-    f: &Flat,
-    s: &Split,
-    reader: Reader,
-) -> Result<ValueSet, NoMemory>
+pub fn read_by(alloc: Global, f: &Flat, s: &Split, reader: Reader) -> Result<ValueSet, NoMemory>
     requires few { length f.now.code < 2 ^ 32 }
     ensures { IfOk result (λ set.
         AreMarked (length f.now.code) (is_read_by (program_of f.now) (is_of reader s.now)) set) }

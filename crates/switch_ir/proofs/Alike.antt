@@ -39,9 +39,10 @@ any_passes (suc n) test i lt t =
 -- what holds of each value that is among others holds of each of these
 each_among : (P : ValueId → Type 0) (vs : List ValueId) → ((v : ValueId) → is_among v vs ≡ true → P v) → Each P vs
 each_among P [] go = tt
-each_among P (x ∷ xs) go =
-    (go x (or_left (is_value x x) (is_among x xs) (value_same x x refl)),
-    each_among P xs (λ v e. go v (or_right (is_value v x) (is_among v xs) e)))
+each_among P (x ∷ xs) go = (
+  go x (or_left (is_value x x) (is_among x xs) (value_same x x refl)),
+  each_among P xs (λ v e. go v (or_right (is_value v x) (is_among v xs) e)),
+)
 
 not_any : (test : ValueId → Bool) (vs : List ValueId) → list_any test vs ≡ false → (v : ValueId) → is_among v vs ≡ true → test v ≡ false
 not_any test [] none v e = absurd (false≢true e)

@@ -334,17 +334,14 @@ fn sums_are_computed_before_the_server(rt: HostRuntime) -> Result<(), Fail> {
     Ok(())
 }
 
-const GIVEN: [(u32, u32); 7] = [(0, 0), (1, 0), (2, 0), (3, 0), (4, 0), (6, 0), (8, 0)];
-
 #[test]
 fn the_cut_is_computed_behind_the_server(rt: HostRuntime) -> Result<(), Fail> {
     let alloc = rt.alloc();
     let code = chain_code(alloc)?.ok_or("not bounded")?;
     let pass = &code.post;
     let steps = places(alloc, &pass.steps)?;
-    let given = places(alloc, &pass.given)?;
     assert_eq!(rt; steps.as_slice(), [(10, 1)].as_slice());
-    assert_eq!(rt; given.as_slice(), GIVEN.as_slice());
+    assert_eq!(rt; pass.given.len(), 0);
     assert_eq!(rt; pass.rest.len(), 0);
     assert_eq!(rt; pass.highest, 1);
     Ok(())

@@ -12,7 +12,7 @@ ghost use Rattle.switch_machine.specs.Handed.{HaveRegisters};
 ghost use Rattle.switch_ir.specs.Port.{EndsDown};
 ghost use Rattle.switch_ir.specs.declared.port.DownEnd.TheVariants.{Verdict as Ended};
 
-use crate::handed::{Handed, places};
+use crate::handed::Handed;
 use crate::loaded::Loaded;
 use crate::run::{Run, given_numbers, run_pass};
 use crate::tables::SwitchTables;
@@ -63,10 +63,9 @@ fn finish(
 {
     let code = &loaded.code;
     let inputs = given_numbers(alloc, &code.post, arrival)?;
-    let places = places(alloc, &code.down)?;
     let handed = Handed {
         layout: &code.down,
-        places: &places,
+        places: &loaded.places,
         registers,
         inputs: &inputs,
     };

@@ -136,8 +136,11 @@ fn read_step<L: Lookup, G: Numbers>(
     ensures read { OnOk result ((before : List (List ℕ)) (gives : List Gives)
         → IsRead before known.old.rows.items gives (lists known.old.looked.items) computed.old.items
         → IsRead before known.old.rows.items
-        (gives ++ (step.now.instruction, results (over (G.reads given.now) before known.old.rows.items) false
-        (L.seen tables.now) (packet_of arrival.now) (work_of step.now.kind)) ∷ [])
+        (gives ++ (
+          step.now.instruction,
+          results (over (G.reads given.now) before known.old.rows.items) false
+              (L.seen tables.now) (packet_of arrival.now) (work_of step.now.kind),
+        ) ∷ [])
         (lists known.new.looked.items) computed.new.items) }
 {
     let results = one_given(&step.kind, given, tables, arrival, known);
