@@ -149,8 +149,8 @@ after_line refusal ends.NoMemory = statuses.NoMemory
 abbrev pub IsTold : Refusal → Status → SinkState → SinkState → Type 0
 IsTold refusal status e e' = (end : SinkEnd) × (status ≡ after_line refusal end) × Writes end (line_of refusal) e e'
 
--- A call for this request is done without any fault, and err is as it was, its count too; or there is a refusal with its
--- cause and its one fault, if it is for a fault, and its line goes to err.
+-- A call for this request is done without any fault, and err is as it was, its count too; or there is a refusal with
+-- its cause and its one fault, if it is for a fault, and its line goes to err.
 abbrev pub EndsFor : Option Request → Status → Call → Type 0
 EndsFor request status call =
     ((status ≡ statuses.Done) × IsDone request call.work × CountsFaults statuses.Done call.work

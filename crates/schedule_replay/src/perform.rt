@@ -20,8 +20,8 @@ use switch_ir::SwitchPort;
 use told_switch::{quiet_tables_are_the_stores, told_rows_are_the_visible_stores};
 
 /// Loads a switch with the code of a job, performs the job's events, and then, where it is asked for, those that end
-/// the run. No call of the switch failed then. After an error it is told of the switch only that just one call of it failed,
-/// or that none did and there was no memory.
+/// the run. No call of the switch failed then. After an error it is told of the switch only that just one call of it
+/// failed, or that none did and there was no memory.
 pub fn replay<S: SwitchPort>(
     alloc: Global,
     job: &Job,
