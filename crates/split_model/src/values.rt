@@ -41,7 +41,7 @@ impl ValueSet {
     }
 
     /// Whether a value is in the set.
-    pub(crate) fn has(&self, value: ValueId) -> bool
+    pub fn has(&self, value: ValueId) -> bool
         ensures { result ≡ is_marked self.now value }
     {
         let place = 9 * value.instruction as usize + value.result as usize;
