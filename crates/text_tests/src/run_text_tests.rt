@@ -1,9 +1,13 @@
 //! Texts of a replay, read and written.
 
-use super::*;
+use crate::samples::object;
 use gal_bits::{Values, Widths};
 use gal_io::{Bytes, NoMemory, Text};
 use packet_fields::{Packets, Verdict};
+use run_text::{
+    Event, Events, Fate, Fates, LineKind, LinesError, Order, Part, Parts, Run, order, print_run,
+    print_schedule, print_trace, read_schedule, read_trace,
+};
 use state_store::{Kind, ObjectDecl, Objects, Row, Rows};
 use std::alloc::Global;
 use std::test::Fail;
@@ -46,9 +50,7 @@ fn lines_of_a_trace(rt: HostRuntime) {
 #[test]
 fn packets_of_a_trace(rt: HostRuntime) -> Result<(), Fail> {
     let alloc = rt.alloc();
-    let Ok(packets) = read_trace(alloc, b"# two packets\n255 0aFf\n0 -") else {
-        return Err(Fail::from("refused"));
-    };
+    let packets = read_trace(alloc, b"# two packets\n255 0aFf\n0 -")?;
     match packets.as_slice() {
         [first, second] => {
             assert_eq!(rt; first.port, 255);
@@ -130,9 +132,7 @@ fn lines_of_a_schedule(rt: HostRuntime) {
 #[test]
 fn events_of_a_schedule(rt: HostRuntime) -> Result<(), Fail> {
     let alloc = rt.alloc();
-    let Ok(plan) = read_schedule(alloc, b"a\nu 0\nc\nw\nk\nh 1\nd 2\n") else {
-        return Err(Fail::from("refused"));
-    };
+    let plan = read_schedule(alloc, b"a\nu 0\nc\nw\nk\nh 1\nd 2\n")?;
     let mut events = Events::new(alloc);
     for event in [
         Event::Admit,
@@ -143,14 +143,11 @@ fn events_of_a_schedule(rt: HostRuntime) -> Result<(), Fail> {
         Event::Hold(1),
         Event::Down(2),
     ] {
-        assert!(rt; events.push(event).is_ok());
+        events.push(event)?;
     }
     assert_eq!(rt; plan.events.as_slice(), events.as_slice());
     assert!(rt; !plan.drain);
-    let Ok(copy) = events.copy(alloc) else {
-        return Err(Fail::from("no copy"));
-    };
-    assert_eq!(rt; copy.as_slice(), plan.events.as_slice());
+    assert_eq!(rt; events.copy(alloc)?.as_slice(), plan.events.as_slice());
     Ok(())
 }
 
@@ -181,9 +178,7 @@ fn text_of_many(alloc: Global, doublings: u32) -> Result<Vec<u8>, NoMemory> {
 #[test]
 fn sizes_of_a_schedule(rt: HostRuntime) -> Result<(), Fail> {
     let alloc = rt.alloc();
-    let Ok(mut text) = text_of_many(alloc, 20) else {
-        return Err(Fail::from("no memory"));
-    };
+    let mut text = text_of_many(alloc, 20)?;
     let many = LinesError::TooMany {
         have: 1_048_577,
         allowed: 1_048_576,
@@ -222,10 +217,7 @@ fn traces_are_printed(rt: HostRuntime) -> Result<(), Fail> {
         (b"255 0aFF\r\n#\n0 -\n1 00", b"255 0aff\n0 -\n1 00\n"),
         (twice.as_bytes(), twice.as_bytes()),
     ] {
-        let Ok(have) = printed_trace(alloc, text) else {
-            return Err(Fail::from("no memory"));
-        };
-        assert_eq!(rt; have.as_slice(), want);
+        assert_eq!(rt; printed_trace(alloc, text)?.as_slice(), want);
     }
     Ok(())
 }
@@ -251,18 +243,14 @@ fn schedules_are_printed(rt: HostRuntime) -> Result<(), Fail> {
             b"h 4294967295\nd 10\nu 7\nc\nw\nk\na\n",
         ),
     ] {
-        let Ok(have) = printed_schedule(alloc, text) else {
-            return Err(Fail::from("no memory"));
-        };
-        assert_eq!(rt; have.as_slice(), want);
+        assert_eq!(rt; printed_schedule(alloc, text)?.as_slice(), want);
     }
     Ok(())
 }
 
-#[test]
-fn report_of_nothing(rt: HostRuntime) -> Result<(), Fail> {
-    let alloc = rt.alloc();
-    let run = Run {
+// A run that is over before it begins, with these rows on the server and on the switch.
+fn of_no_packets(alloc: Global, objects: Parts, switch: Parts) -> Run {
+    Run {
         total: 0,
         decided: 0,
         released: 0,
@@ -273,12 +261,17 @@ fn report_of_nothing(rt: HostRuntime) -> Result<(), Fail> {
         drained: true,
         fates: Fates::from(Vec::new(alloc)),
         order: Order::from(Vec::new(alloc)),
-        objects: Parts::from(Vec::new(alloc)),
-        switch: Parts::from(Vec::new(alloc)),
-    };
-    let Ok(text) = print_run(alloc, &Objects::new(alloc), &run) else {
-        return Err(Fail::from("no memory"));
-    };
+        objects,
+        switch,
+    }
+}
+
+#[test]
+fn report_of_nothing(rt: HostRuntime) -> Result<(), Fail> {
+    let alloc = rt.alloc();
+    let none = Parts::from(Vec::new(alloc));
+    let run = of_no_packets(alloc, none, Parts::from(Vec::new(alloc)));
+    let text = print_run(alloc, &Objects::new(alloc), &run)?;
     let want = "report 1\npackets 0 admitted 0 decided 0 released 0\nevents 0 idle 0\n\
         version 0 visible 0\ndrained yes\norder -\nend\n";
     assert_eq!(rt; text.as_slice(), want.as_bytes());
@@ -288,12 +281,8 @@ fn report_of_nothing(rt: HostRuntime) -> Result<(), Fail> {
 #[test]
 fn report_of_all_fates(rt: HostRuntime) -> Result<(), Fail> {
     let alloc = rt.alloc();
-    let (Ok(two), Ok(none)) = (
-        Bytes::from_slice(alloc, b"\n\xff"),
-        Bytes::from_slice(alloc, b""),
-    ) else {
-        return Err(Fail::from("no memory"));
-    };
+    let two = Bytes::from_slice(alloc, b"\n\xff")?;
+    let none = Bytes::from_slice(alloc, b"")?;
     let fates = Fates::from(vec![in alloc;
         Fate::Up { admitted: 1 },
         Fate::Held {
@@ -323,9 +312,7 @@ fn report_of_all_fates(rt: HostRuntime) -> Result<(), Fail> {
             verdict: Verdict::Send(1, two)
         },
     ]?);
-    let Ok(order) = order(alloc, &fates) else {
-        return Err(Fail::from("no memory"));
-    };
+    let order = order(alloc, &fates)?;
     let run = Run {
         total: 6,
         decided: 4,
@@ -340,9 +327,7 @@ fn report_of_all_fates(rt: HostRuntime) -> Result<(), Fail> {
         objects: Parts::from(Vec::new(alloc)),
         switch: Parts::from(Vec::new(alloc)),
     };
-    let Ok(text) = print_run(alloc, &Objects::new(alloc), &run) else {
-        return Err(Fail::from("no memory"));
-    };
+    let text = print_run(alloc, &Objects::new(alloc), &run)?;
     let want = "report 1\n\
         packets 6 admitted 5 decided 4 released 3\n\
         events 12 idle 1\n\
@@ -372,25 +357,18 @@ fn two(first: u64, second: u64) -> Values {
     numbers
 }
 
-fn object(alloc: Global, name: &[u8], kind: Kind) -> Result<ObjectDecl, NoMemory> {
-    Ok(ObjectDecl {
-        name: Bytes::from_slice(alloc, name)?,
-        kind,
-        keys: Widths::new(),
-        values: Widths::new(),
-        size: 4,
-        start: 0,
-        rows: Rows::new(alloc),
-    })
+// What a report doesn't tell is left out.
+fn of_no_widths(alloc: Global, name: &[u8], kind: Kind) -> Result<ObjectDecl, NoMemory> {
+    object(alloc, name, kind, Widths::new(), Widths::new())
 }
 
 // A map with two rows, a table, which a report leaves out, an integer, and a map with none.
 fn objects(alloc: Global) -> Result<Objects, NoMemory> {
     let mut objects = Objects::new(alloc);
-    objects.push(object(alloc, b"flows", Kind::Map)?)?;
-    objects.push(object(alloc, b"routes", Kind::Table)?)?;
-    objects.push(object(alloc, b"count", Kind::Int)?)?;
-    objects.push(object(alloc, b"hosts", Kind::Map)?)?;
+    objects.push(of_no_widths(alloc, b"flows", Kind::Map)?)?;
+    objects.push(of_no_widths(alloc, b"routes", Kind::Table)?)?;
+    objects.push(of_no_widths(alloc, b"count", Kind::Int)?)?;
+    objects.push(of_no_widths(alloc, b"hosts", Kind::Map)?)?;
     Ok(objects)
 }
 
@@ -441,28 +419,13 @@ fn switch_parts(alloc: Global) -> Result<Parts, NoMemory> {
 }
 
 fn report_with_rows(alloc: Global) -> Result<Text, NoMemory> {
-    let run = Run {
-        total: 0,
-        decided: 0,
-        released: 0,
-        events: 0,
-        idle: 0,
-        version: 0,
-        visible: 0,
-        drained: true,
-        fates: Fates::from(Vec::new(alloc)),
-        order: Order::from(Vec::new(alloc)),
-        objects: parts(alloc)?,
-        switch: switch_parts(alloc)?,
-    };
+    let run = of_no_packets(alloc, parts(alloc)?, switch_parts(alloc)?);
     print_run(alloc, &objects(alloc)?, &run)
 }
 
 #[test]
 fn report_of_rows(rt: HostRuntime) -> Result<(), Fail> {
-    let Ok(text) = report_with_rows(rt.alloc()) else {
-        return Err(Fail::from("no memory"));
-    };
+    let text = report_with_rows(rt.alloc())?;
     let want = "report 1\n\
         packets 0 admitted 0 decided 0 released 0\n\
         events 0 idle 0\n\
@@ -496,9 +459,9 @@ fn part(alloc: Global, object: u32, keys: Values, values: Values) -> Result<Part
 // One packet went out by the translator, whose table of flows is in both places.
 fn report_of_one_flow(alloc: Global) -> Result<Text, NoMemory> {
     let mut objects = Objects::new(alloc);
-    objects.push(object(alloc, b"out", Kind::Map)?)?;
-    objects.push(object(alloc, b"back", Kind::Map)?)?;
-    objects.push(object(alloc, b"next", Kind::Int)?)?;
+    objects.push(of_no_widths(alloc, b"out", Kind::Map)?)?;
+    objects.push(of_no_widths(alloc, b"back", Kind::Map)?)?;
+    objects.push(of_no_widths(alloc, b"next", Kind::Int)?)?;
     let (host, port) = (167_772_161, 5000);
     let mut on_server = Vec::new(alloc);
     on_server.push(part(alloc, 0, two(host, port), one(1024))?)?;
@@ -535,9 +498,7 @@ fn report_of_one_flow(alloc: Global) -> Result<Text, NoMemory> {
 
 #[test]
 fn report_of_a_translator(rt: HostRuntime) -> Result<(), Fail> {
-    let Ok(text) = report_of_one_flow(rt.alloc()) else {
-        return Err(Fail::from("no memory"));
-    };
+    let text = report_of_one_flow(rt.alloc())?;
     let want = "report 1\n\
         packets 1 admitted 1 decided 1 released 1\n\
         events 14 idle 1\n\
