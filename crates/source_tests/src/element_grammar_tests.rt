@@ -1,9 +1,6 @@
 //! Sources that are read, and sources that are refused.
-use crate::error::ParseError;
-use crate::parser::parse;
-use crate::surface::{At, SurfaceStmt};
-use element_lang::MAX_DEPTH;
-use element_tokens::{depth, tokens};
+use crate::samples::parsed;
+use element_grammar::{At, ParseError, SurfaceStmt};
 use std::test::Fail;
 
 const ACCEPTED: [&[u8]; 14] = [
@@ -78,11 +75,7 @@ const REFUSED: [(&[u8], usize); 48] = [
 #[test]
 fn accepted(rt: HostRuntime) -> Result<(), Fail> {
     for text in ACCEPTED {
-        let found = tokens(rt.alloc(), text)?;
-        let deepest = depth(text, found.as_slice());
-        assert!(rt; deepest <= MAX_DEPTH, "at {text:?}");
-        let read = parse(rt.alloc(), text, found.as_slice());
-        assert!(rt; read.is_ok(), "at {text:?}");
+        assert!(rt; parsed(rt.alloc(), text)?.is_ok(), "at {text:?}");
     }
     Ok(())
 }
@@ -90,13 +83,8 @@ fn accepted(rt: HostRuntime) -> Result<(), Fail> {
 #[test]
 fn refused(rt: HostRuntime) -> Result<(), Fail> {
     for (text, left) in REFUSED {
-        let found = tokens(rt.alloc(), text)?;
-        let deepest = depth(text, found.as_slice());
-        assert!(rt; deepest <= MAX_DEPTH, "at {text:?}");
-        match parse(rt.alloc(), text, found.as_slice()) {
-            Ok(_) => assert!(rt; false, "at {text:?}"),
-            Err(error) => assert_eq!(rt; error, ParseError::Left(left), "at {text:?}"),
-        }
+        let error = parsed(rt.alloc(), text)?.err();
+        assert_eq!(rt; error, Some(ParseError::Left(left)), "at {text:?}");
     }
     Ok(())
 }
@@ -129,10 +117,7 @@ fn branches(rt: HostRuntime) -> Result<(), Fail> {
         (b"process { drop; }", None),
     ];
     for (text, want) in table {
-        let found = tokens(rt.alloc(), text)?;
-        let deepest = depth(text, found.as_slice());
-        assert!(rt; deepest <= MAX_DEPTH, "at {text:?}");
-        let read = parse(rt.alloc(), text, found.as_slice())?;
+        let read = parsed(rt.alloc(), text)??;
         assert_eq!(rt; blocks(read.body.as_slice()), want, "at {text:?}");
     }
     Ok(())

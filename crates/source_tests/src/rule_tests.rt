@@ -1,8 +1,7 @@
 //! The rules: texts that break one alone, one and a higher one at the same place, and neighbours that break none.
 
-use crate::error::TextError;
-use crate::reader::read;
 use element_lang::What;
+use element_text::{TextError, read};
 use std::alloc::{AllocError, Global};
 use std::test::Fail;
 

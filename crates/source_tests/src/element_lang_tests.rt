@@ -1,5 +1,5 @@
 //! A middlebox and its copy.
-use crate::tree::{Expr, Local, Locals, Middlebox, Stmt};
+use element_lang::{Expr, Local, Locals, Middlebox, Stmt};
 use gal_bits::Width;
 use gal_io::Bytes;
 use state_store::Objects;

@@ -1,8 +1,7 @@
 //! Why texts are refused and where, and how locals are numbered.
 
-use crate::error::TextError;
-use crate::reader::read;
 use element_lang::{Middlebox, Stmt, What};
+use element_text::{TextError, read};
 use std::alloc::Global;
 use std::test::Fail;
 
