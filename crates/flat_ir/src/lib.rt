@@ -9,8 +9,6 @@ mod listing;
 mod program;
 mod reading;
 mod registers;
-#[cfg(test)]
-mod tests;
 mod well_formed;
 mod work;
 

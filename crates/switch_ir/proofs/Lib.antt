@@ -6,4 +6,3 @@ mod Computing
 mod Places
 mod Marks
 mod Codes
-mod Chain

@@ -2,29 +2,16 @@
 ghost use Rattle.std.specs.Prelude.{◌≡◌, replicate, IfOk};
 ghost use Rattle.transfer_header.specs.Registers.{FitsLayout};
 
-use super::*;
+use crate::samples::{DOWN, PACKET, UP};
 use flat_ir::ValueId;
 use gal_bits::Width;
 use gal_io::{Bytes, NoMemory};
 use split_model::{Crossing, Layout};
 use std::alloc::Global;
 use std::test::Fail;
-
-// An Ethernet header to all stations.
-const PACKET: [u8; 14] = [
-    0xff, 0xff, 0xff, 0xff, 0xff, 0xff, 0, 0, 0, 0, 0, 0x01, 0x08, 0,
-];
-
-// Packet 0 from port 3, with 17 in 16 bits.
-const UP: [u8; 22] = [
-    1, 0, 0, 0, 0, 3, 0, 0x11, 0xff, 0xff, 0xff, 0xff, 0xff, 0xff, 0, 0, 0, 0, 0, 0x01, 0x08, 0,
-];
-
-// Packet 0 from port 3, with 1 in 1 bit and 17 in 16 bits, and 7 bits of filling.
-const DOWN: [u8; 23] = [
-    2, 0, 0, 0, 0, 3, 0x80, 0x08, 0x80, 0xff, 0xff, 0xff, 0xff, 0xff, 0xff, 0, 0, 0, 0, 0, 0x01,
-    0x08, 0,
-];
+use transfer_header::{
+    FrameRoom, Head, Malformed, Regs, pack_down, pack_down_in, pack_up, unpack_down, unpack_up,
+};
 
 const HEAD: Head = Head {
     number: 0,

@@ -1,14 +1,14 @@
 //! Limits files read, and splits counted by hand.
-ghost use Rattle.std.specs.Prelude.{◌≤◌, length, All, IfOk};
-ghost use Rattle.split_model.specs.Bounds.{IsSmall};
-
-use super::*;
-use flat_ir::{Blocks, Code, Flat, Instr, InstrKind, Out, ValueId, is_well_formed};
-use gal_bits::{Op, Width, Widths};
-use gal_io::{Bytes, NoMemory};
-use packet_fields::Field;
-use split_model::{Part, Slow, Split};
-use state_store::{Kind, ObjectDecl, Objects, Rows};
+use crate::samples::{
+    SERVER, bits, carried, chain, chain_parts, four_rows, give, look, part, put, value,
+};
+use flat_ir::{Blocks, Code, Flat, InstrKind, Out};
+use gal_io::NoMemory;
+use resource_limits::{
+    Counts, Key, LimitName, Limits, LimitsError, Over, Tally, count, first_exceeded, read_limits,
+};
+use split_model::{Part, Slow, Split, is_bounded};
+use state_store::{Kind, Objects};
 use std::alloc::Global;
 use std::test::Fail;
 
@@ -54,102 +54,16 @@ fn refused_texts(rt: HostRuntime) {
     }
 }
 
-fn value(instruction: u32, place: u32) -> ValueId {
-    ValueId {
-        instruction,
-        result: place,
-    }
-}
-
-fn bits(count: u32) -> Width
-    requires least { 1 ≤ count }
-    requires most { count ≤ 64 }
-{
-    Width::new(count).unwrap()
-}
-
-fn give(code: &mut Code, kind: InstrKind) -> Result<(), NoMemory> {
-    code.push(Instr {
-        block: 0,
-        looped: false,
-        kind,
-    })
-}
-
-// Packets leave by the port of their length and 3.
-fn chain(alloc: Global) -> Result<Flat, NoMemory>
-    ensures { IfOk result (λ f. (length f.objects ≤ 64) × All IsSmall f.objects) }
-{
-    let mut code = Code::new(alloc);
-    give(&mut code, InstrKind::Const(bits(1), 0))?;
-    give(&mut code, InstrKind::Const(bits(1), 1))?;
-    give(&mut code, InstrKind::Const(bits(8), 0))?;
-    give(&mut code, InstrKind::Field(Field::MetaLen))?;
-    for last in [3, 5, 7] {
-        give(&mut code, InstrKind::Const(bits(16), 1))?;
-        let sum = InstrKind::Apply {
-            op: Op::Add,
-            width: bits(16),
-            args: vec![in alloc; value(last, 0), value(last + 1, 0)]?,
-        };
-        give(&mut code, sum)?;
-    }
-    let cut = InstrKind::Apply {
-        op: Op::Cast,
-        width: bits(8),
-        args: vec![in alloc; value(9, 0)]?,
-    };
-    give(&mut code, cut)?;
-    Ok(Flat {
-        objects: Objects::new(alloc),
-        blocks: Blocks::new(alloc),
-        code,
-        out: Out {
-            send: value(1, 0),
-            port: value(10, 0),
-            fields: Vec::new(alloc),
-        },
-    })
-}
-
-// Four rows from 8 bits to 8 bits.
-fn four_rows(alloc: Global, kind: Kind) -> Result<ObjectDecl, NoMemory>
-    ensures { IfOk result IsSmall }
-{
-    let mut widths = Widths::new();
-    widths.push(8);
-    Ok(ObjectDecl {
-        name: Bytes::from_slice(alloc, b"rows")?,
-        kind,
-        keys: widths,
-        values: widths,
-        size: 4,
-        start: 0,
-        rows: Rows::new(alloc),
-    })
-}
-
 // Looks a row up in a map, or in a table; stores a row of the map; and sends by the port that was found.
-fn lookup(alloc: Global, object: u32) -> Result<Flat, NoMemory>
-    ensures { IfOk result (λ f. (length f.objects ≤ 64) × All IsSmall f.objects) }
-{
+fn lookup(alloc: Global, object: u32) -> Result<Flat, NoMemory> {
     let mut objects = Objects::new(alloc);
-    objects.push(four_rows(alloc, Kind::Table)?)?;
-    objects.push(four_rows(alloc, Kind::Map)?)?;
+    objects.push(four_rows(alloc, b"rows", Kind::Table)?)?;
+    objects.push(four_rows(alloc, b"rows", Kind::Map)?)?;
     let mut code = Code::new(alloc);
-    give(&mut code, InstrKind::Const(bits(1), 1))?;
-    give(&mut code, InstrKind::Const(bits(8), 7))?;
-    let look = InstrKind::Look {
-        object,
-        keys: vec![in alloc; value(1, 0)]?,
-    };
-    give(&mut code, look)?;
-    let put = InstrKind::Put {
-        object: 1,
-        keys: vec![in alloc; value(1, 0)]?,
-        values: vec![in alloc; value(2, 1)]?,
-    };
-    give(&mut code, put)?;
+    give(&mut code, 0, InstrKind::Const(bits(1), 1))?;
+    give(&mut code, 0, InstrKind::Const(bits(8), 7))?;
+    give(&mut code, 0, look(alloc, object, value(1, 0))?)?;
+    give(&mut code, 0, put(alloc, 1, value(1, 0), value(2, 1))?)?;
     Ok(Flat {
         objects,
         blocks: Blocks::new(alloc),
@@ -160,10 +74,6 @@ fn lookup(alloc: Global, object: u32) -> Result<Flat, NoMemory>
             fields: Vec::new(alloc),
         },
     })
-}
-
-fn part(pre: Option<u32>, slow: Slow) -> Part {
-    Part { pre, slow }
 }
 
 // What a split is to take, with the write-back tables of 16 rows.
@@ -184,26 +94,18 @@ fn is_wanted(counts: &Counts, wanted: &Wanted) -> bool {
         && counts.transfer_bytes == wanted.transfer_bytes
 }
 
-fn takes(alloc: Global, f: &Flat, parts: &[Part], wanted: &Wanted) -> Result<bool, Fail>
-    requires objects { length f.now.objects ≤ 64 }
-    requires small { All IsSmall f.now.objects }
-{
+fn takes(alloc: Global, f: &Flat, parts: &[Part], wanted: &Wanted) -> Result<bool, Fail> {
     let split = Split::from(parts.to_vec(alloc)?);
-    if !is_well_formed(f) || f.code.len() > 4096 {
+    if !is_bounded(f) {
         return Err(Fail::from("no program"));
     }
     let counts = count(alloc, f, &split, 16)?;
     Ok(is_wanted(&counts.copy(alloc)?, wanted))
 }
 
-// The sums on the switch, one stage each, and the cut of the last one where this part has it.
+// The sums on the switch, and the cut of the last one where this part has it.
 fn chain_takes(alloc: Global, last: Part, stages: u32, transfer_bytes: u32) -> Result<bool, Fail> {
     let f = chain(alloc)?;
-    let mut parts = [part(Some(0), Slow::Carried); 11];
-    parts[5] = part(Some(1), Slow::Carried);
-    parts[7] = part(Some(2), Slow::Carried);
-    parts[9] = part(Some(3), Slow::Carried);
-    parts[10] = last;
     let wanted = Wanted {
         accesses: &[],
         stages,
@@ -211,26 +113,24 @@ fn chain_takes(alloc: Global, last: Part, stages: u32, transfer_bytes: u32) -> R
         writes: &[],
         transfer_bytes,
     };
-    takes(alloc, &f, &parts, &wanted)
+    takes(alloc, &f, &chain_parts(last), &wanted)
 }
 
 #[test]
 fn counts_of_a_chain(rt: HostRuntime) -> Result<(), Fail> {
     let alloc = rt.alloc();
-    assert!(rt; chain_takes(alloc, part(Some(4), Slow::Carried), 4, 2)?);
+    assert!(rt; chain_takes(alloc, carried(4), 4, 2)?);
     // 16 bits of the last sum go down, and 1 bit of whether it is sent
     assert!(rt; chain_takes(alloc, part(None, Slow::Post(1)), 3, 3)?);
     assert!(rt; chain_takes(alloc, part(None, Slow::Post(7)), 7, 3)?);
-    assert!(rt; chain_takes(alloc, part(None, Slow::Server), 3, 2)?);
+    assert!(rt; chain_takes(alloc, SERVER, 3, 2)?);
     Ok(())
 }
 
 // A look at the table or the map by this part, while the server stores the row.
 fn lookup_takes(alloc: Global, object: u32, look: Part, wanted: &Wanted) -> Result<bool, Fail> {
     let f = lookup(alloc, object)?;
-    let input = part(Some(0), Slow::Carried);
-    let server = part(None, Slow::Server);
-    takes(alloc, &f, &[input, input, look, server], wanted)
+    takes(alloc, &f, &[carried(0), carried(0), look, SERVER], wanted)
 }
 
 #[test]
@@ -244,7 +144,7 @@ fn counts_of_a_map(rt: HostRuntime) -> Result<(), Fail> {
         writes: &[0, 1],
         transfer_bytes: 2,
     };
-    assert!(rt; lookup_takes(alloc, 1, part(Some(0), Slow::Carried), &shown)?);
+    assert!(rt; lookup_takes(alloc, 1, carried(0), &shown)?);
     // the switch doesn't look it up
     let served = Wanted {
         accesses: &[0, 0],
@@ -253,7 +153,7 @@ fn counts_of_a_map(rt: HostRuntime) -> Result<(), Fail> {
         writes: &[0, 0],
         transfer_bytes: 2,
     };
-    assert!(rt; lookup_takes(alloc, 1, part(None, Slow::Server), &served)?);
+    assert!(rt; lookup_takes(alloc, 1, SERVER, &served)?);
     Ok(())
 }
 

@@ -1,8 +1,9 @@
 //! The texts of a split and of what it takes.
 
-use crate::{print_counts, print_split};
+use crate::samples::part;
 use resource_limits::{Counts, Tally};
-use split_model::{Part, Slow, Split};
+use split_model::{Slow, Split};
+use split_validate::{print_counts, print_split};
 use std::test::Fail;
 
 const TEXT: &str = "split 1 4\n\
@@ -22,11 +23,9 @@ fn a_split(rt: HostRuntime) -> Result<(), Fail> {
         (None, Slow::Server),
         (None, Slow::Post(1)),
     ] {
-        parts.push(Part { pre, slow })?;
+        parts.push(part(pre, slow))?;
     }
-    let Ok(text) = print_split(alloc, &Split::from(parts)) else {
-        return Err(Fail::from("no memory"));
-    };
+    let text = print_split(alloc, &Split::from(parts))?;
     assert_eq!(rt; text.as_slice(), TEXT.as_bytes());
     Ok(())
 }
@@ -41,9 +40,7 @@ fn what_it_takes(rt: HostRuntime) -> Result<(), Fail> {
         writes: Tally::of([2, 16, 0].to_vec(alloc)?),
         transfer_bytes: 3,
     };
-    let Ok(text) = print_counts(alloc, &counts) else {
-        return Err(Fail::from("no memory"));
-    };
+    let text = print_counts(alloc, &counts)?;
     assert_eq!(rt;
         text.as_slice(),
         b"accesses 1 stages 12 table_bits 999999999999 writeback 16 transfer_bytes 3".as_slice()

@@ -1,74 +1,15 @@
-//! What no clause can say: that calls succeed with ample memory, on listings from outside.
-ghost use Rattle.std.specs.Prelude.{◌≡◌, ◌≤◌, [], IfOk};
-
-use crate::{
-    Block, Blocks, Code, FieldValue, Flat, Instr, InstrKind, Out, ValueId, eval_flat,
-    is_well_formed, print_flat,
+//! Listings from outside, and a run.
+use crate::samples::{bits, chain, give, look, put, value};
+use flat_ir::{
+    Block, Blocks, Code, FieldValue, Flat, Instr, InstrKind, Out, eval_flat, is_well_formed,
+    print_flat,
 };
-use gal_bits::{Op, Width, Widths};
+use gal_bits::{Op, Widths};
 use gal_io::{Bytes, NoMemory};
 use packet_fields::{Field, Verdict};
 use state_store::{Kind, ObjectDecl, Objects, Rows, Store};
 use std::alloc::Global;
 use std::test::Fail;
-
-fn value(instruction: u32, place: u32) -> ValueId {
-    ValueId {
-        instruction,
-        result: place,
-    }
-}
-
-fn bits(count: u32) -> Width
-    requires least { 1 ≤ count }
-    requires most { count ≤ 64 }
-{
-    Width::new(count).unwrap()
-}
-
-fn give(code: &mut Code, block: u32, kind: InstrKind) -> Result<(), NoMemory> {
-    code.push(Instr {
-        block,
-        looped: false,
-        kind,
-    })
-}
-
-// Packets leave by the port of their length and 3.
-fn chain(alloc: Global) -> Result<Flat, NoMemory>
-    ensures { IfOk result (λ f. f.objects ≡ []) }
-{
-    let mut code = Code::new(alloc);
-    give(&mut code, 0, InstrKind::Const(bits(1), 0))?;
-    give(&mut code, 0, InstrKind::Const(bits(1), 1))?;
-    give(&mut code, 0, InstrKind::Const(bits(8), 0))?;
-    give(&mut code, 0, InstrKind::Field(Field::MetaLen))?;
-    for last in [3, 5, 7] {
-        give(&mut code, 0, InstrKind::Const(bits(16), 1))?;
-        let sum = InstrKind::Apply {
-            op: Op::Add,
-            width: bits(16),
-            args: vec![in alloc; value(last, 0), value(last + 1, 0)]?,
-        };
-        give(&mut code, 0, sum)?;
-    }
-    let cut = InstrKind::Apply {
-        op: Op::Cast,
-        width: bits(8),
-        args: vec![in alloc; value(9, 0)]?,
-    };
-    give(&mut code, 0, cut)?;
-    Ok(Flat {
-        objects: Objects::new(alloc),
-        blocks: Blocks::new(alloc),
-        code,
-        out: Out {
-            send: value(1, 0),
-            port: value(10, 0),
-            fields: Vec::new(alloc),
-        },
-    })
-}
 
 const CHAIN: &str = "# 0 b0 const 1 0
 # 1 b0 const 1 1
@@ -99,7 +40,7 @@ fn lists_a_chain_of_sums(rt: HostRuntime) -> Result<(), Fail> {
 }
 
 #[test]
-#[tactic(auto, using(crate::proofs::NothingKept::nothing_to_keep))]
+#[tactic(auto, using(crate::proofs::Kept::nothing_to_keep))]
 fn sends_by_the_length_and_3(rt: HostRuntime) -> Result<(), Fail> {
     let alloc = rt.alloc();
     let f = chain(alloc)?;
@@ -140,17 +81,8 @@ fn every_kind(alloc: Global) -> Result<Code, NoMemory> {
     give(&mut code, 0, InstrKind::Field(Field::HasTcp))?;
     give(&mut code, 0, InstrKind::Field(Field::EthType))?;
     give(&mut code, 0, InstrKind::Byte(key))?;
-    let look = InstrKind::Look {
-        object: 0,
-        keys: vec![in alloc; key]?,
-    };
-    give(&mut code, 0, look)?;
-    let put = InstrKind::Put {
-        object: 0,
-        keys: vec![in alloc; key]?,
-        values: vec![in alloc; value(3, 1)]?,
-    };
-    give(&mut code, 1, put)?;
+    give(&mut code, 0, look(alloc, 0, key)?)?;
+    give(&mut code, 1, put(alloc, 0, key, value(3, 1))?)?;
     let del = InstrKind::Del {
         object: 0,
         keys: vec![in alloc; key]?,
