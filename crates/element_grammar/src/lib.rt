@@ -8,8 +8,6 @@ mod expressions;
 mod parser;
 mod statements;
 mod surface;
-#[cfg(test)]
-mod tests;
 
 pub use error::ParseError;
 pub use parser::parse;

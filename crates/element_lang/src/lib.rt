@@ -6,8 +6,6 @@ mod copy;
 mod laws;
 mod mark;
 mod sizes;
-#[cfg(test)]
-mod tests;
 mod tree;
 
 pub use broken::Broken;

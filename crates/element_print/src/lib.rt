@@ -6,8 +6,6 @@ mod expr;
 mod middlebox;
 mod place;
 mod stmt;
-#[cfg(test)]
-mod tests;
 mod tokens;
 
 pub use middlebox::print;

@@ -64,29 +64,3 @@ pub(crate) fn number_value(bytes: &[u8]) -> Option<u64>
     }
     hex_value(&bytes[2..])
 }
-
-#[cfg(test)]
-mod tests {
-    use super::*;
-
-    #[test]
-    fn values(rt: HostRuntime) {
-        let table: [(&[u8], Option<u64>); 12] = [
-            (b"0", Some(0)),
-            (b"007", Some(7)),
-            (b"18446744073709551615", Some(u64::MAX)),
-            (b"18446744073709551616", None),
-            (b"12ab", None),
-            (b"1_000", None),
-            (b"0xfF", Some(255)),
-            (b"0x0000000000000000a09F", Some(41119)),
-            (b"0xffffffffffffffff", Some(u64::MAX)),
-            (b"0x10000000000000000", None),
-            (b"0x", None),
-            (b"0X1", None),
-        ];
-        for (bytes, want) in table {
-            assert_eq!(rt; number_value(bytes), want, "at {bytes:?}");
-        }
-    }
-}

@@ -13,8 +13,6 @@ mod reg_plan;
 mod registers;
 mod spans;
 mod taken;
-#[cfg(test)]
-mod tests;
 mod well_formed;
 mod work;
 

@@ -1,4 +1,3 @@
-mod Examples
 pub mod Growth
 pub mod Steps
 pub mod Trees

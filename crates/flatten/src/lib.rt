@@ -13,8 +13,6 @@ mod sizes;
 mod state;
 mod statement;
 mod stretch;
-#[cfg(test)]
-mod tests;
 mod value;
 
 pub use error::FlatError;

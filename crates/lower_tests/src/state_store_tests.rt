@@ -61,6 +61,8 @@ enum Call {
     Lists(u32, &'static [(&'static [u64], &'static [u64])]),
 }
 
+use Call::{Dels, Finds, Lacks, Lists, Puts};
+
 fn finds(rt: &impl Abort, store: &Store, object: u32, key: &[u64], found: bool, wanted: &[u64]) {
     let got = store.get(object, &values(key));
     assert_eq!(rt; got.found, found, "of {key:?} in {object}");
@@ -84,53 +86,53 @@ fn walks(rt: &impl Abort, listing: &Listing, object: u32, wanted: &[(&[u64], &[u
     }
 }
 
+const CALLS: [Call; 33] = [
+    // a table has its declared rows
+    Lists(TABLE, &[(&[22], &[3, 4]), (&[80], &[1, 2])]),
+    Finds(TABLE, &[80], &[1, 2]),
+    Lacks(TABLE, &[79], &[0, 0]),
+    Puts(TABLE, &[79], &[5, 6], Put::Full),
+    // a map starts empty, and is full at its capacity
+    Lists(MAP, &[]),
+    Lacks(MAP, &[1, 1], &[0]),
+    Dels(MAP, &[1, 1], false),
+    Puts(MAP, &[1, 2], &[12], Put::Stored),
+    Puts(MAP, &[1, 1], &[11], Put::Stored),
+    Puts(MAP, &[1, 3], &[13], Put::Full),
+    Puts(MAP, &[1, 2], &[102], Put::Stored),
+    Lists(MAP, &[(&[1, 1], &[11]), (&[1, 2], &[102])]),
+    Dels(MAP, &[1, 1], true),
+    Lacks(MAP, &[1, 1], &[0]),
+    Puts(MAP, &[0, 9], &[9], Put::Stored),
+    Lists(MAP, &[(&[0, 9], &[9]), (&[1, 2], &[102])]),
+    // a vector has a row for each index below its length
+    Finds(VECTOR, &[2], &[0]),
+    Lacks(VECTOR, &[3], &[0]),
+    Puts(VECTOR, &[2], &[5], Put::Stored),
+    Puts(VECTOR, &[3], &[6], Put::OutOfRange),
+    Lists(VECTOR, &[(&[0], &[0]), (&[1], &[0]), (&[2], &[5])]),
+    // an integer has one row
+    Finds(INT, &[], &[7]),
+    Puts(INT, &[], &[8], Put::Stored),
+    Lists(INT, &[(&[], &[8])]),
+    // keys go by their first difference
+    Puts(WIDE, &[1, 2, 3, 4, 5, 6, 7, 9], &[1], Put::Stored),
+    Puts(WIDE, &[1, 2, 3, 4, 5, 6, 7, 8], &[2], Put::Stored),
+    Puts(WIDE, &[0, 9, 9, 9, 9, 9, 9, 9], &[3], Put::Stored),
+    Lacks(WIDE, &[1, 2, 3, 4, 5, 6, 8, 8], &[0]),
+    Finds(WIDE, &[1, 2, 3, 4, 5, 6, 7, 8], &[2]),
+    // a number of no object has no rows, and room for none
+    Lacks(NONE, &[], &[]),
+    Puts(NONE, &[], &[1], Put::Full),
+    Dels(NONE, &[], false),
+    Lists(NONE, &[]),
+];
+
 #[test]
 fn calls_answer(rt: HostRuntime) -> Result<(), Fail> {
-    use Call::{Dels, Finds, Lacks, Lists, Puts};
-    let calls = [
-        // a table has its declared rows
-        Lists(TABLE, &[(&[22], &[3, 4]), (&[80], &[1, 2])]),
-        Finds(TABLE, &[80], &[1, 2]),
-        Lacks(TABLE, &[79], &[0, 0]),
-        Puts(TABLE, &[79], &[5, 6], Put::Full),
-        // a map starts empty, and is full at its capacity
-        Lists(MAP, &[]),
-        Lacks(MAP, &[1, 1], &[0]),
-        Dels(MAP, &[1, 1], false),
-        Puts(MAP, &[1, 2], &[12], Put::Stored),
-        Puts(MAP, &[1, 1], &[11], Put::Stored),
-        Puts(MAP, &[1, 3], &[13], Put::Full),
-        Puts(MAP, &[1, 2], &[102], Put::Stored),
-        Lists(MAP, &[(&[1, 1], &[11]), (&[1, 2], &[102])]),
-        Dels(MAP, &[1, 1], true),
-        Lacks(MAP, &[1, 1], &[0]),
-        Puts(MAP, &[0, 9], &[9], Put::Stored),
-        Lists(MAP, &[(&[0, 9], &[9]), (&[1, 2], &[102])]),
-        // a vector has a row for each index below its length
-        Finds(VECTOR, &[2], &[0]),
-        Lacks(VECTOR, &[3], &[0]),
-        Puts(VECTOR, &[2], &[5], Put::Stored),
-        Puts(VECTOR, &[3], &[6], Put::OutOfRange),
-        Lists(VECTOR, &[(&[0], &[0]), (&[1], &[0]), (&[2], &[5])]),
-        // an integer has one row
-        Finds(INT, &[], &[7]),
-        Puts(INT, &[], &[8], Put::Stored),
-        Lists(INT, &[(&[], &[8])]),
-        // keys go by their first difference
-        Puts(WIDE, &[1, 2, 3, 4, 5, 6, 7, 9], &[1], Put::Stored),
-        Puts(WIDE, &[1, 2, 3, 4, 5, 6, 7, 8], &[2], Put::Stored),
-        Puts(WIDE, &[0, 9, 9, 9, 9, 9, 9, 9], &[3], Put::Stored),
-        Lacks(WIDE, &[1, 2, 3, 4, 5, 6, 8, 8], &[0]),
-        Finds(WIDE, &[1, 2, 3, 4, 5, 6, 7, 8], &[2]),
-        // a number of no object has no rows, and room for none
-        Lacks(NONE, &[], &[]),
-        Puts(NONE, &[], &[1], Put::Full),
-        Dels(NONE, &[], false),
-        Lists(NONE, &[]),
-    ];
     let alloc = rt.alloc();
     let mut store = Store::new(alloc, &objects(alloc)?)?;
-    for call in &calls {
+    for call in &CALLS {
         match call {
             Finds(object, key, wanted) => finds(&rt, &store, *object, key, true, wanted),
             Lacks(object, key, wanted) => finds(&rt, &store, *object, key, false, wanted),

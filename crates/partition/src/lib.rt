@@ -7,8 +7,6 @@ mod front;
 mod greatest;
 mod laws;
 mod looks;
-#[cfg(test)]
-mod tests;
 
 pub use choosing::{PartError, partition};
 pub use greatest::{all_on_server, greatest_split};

@@ -15,6 +15,3 @@ mod stage;
 pub use error::RunTextError;
 pub use laws::{one_line_is_first_wrong, printed_runs_are_read};
 pub use report::read_run;
-
-#[cfg(test)]
-mod tests;

@@ -15,6 +15,3 @@ pub use laws::kept_limits_are_not_exceeded;
 pub use limits::{Key, Limits, LimitsError};
 pub use reader::read_limits;
 pub use tally::Tally;
-
-#[cfg(test)]
-mod tests;

@@ -24,6 +24,3 @@ pub use run::{Order, Part, Parts, Run};
 pub use schedule::{print_schedule, read_schedule};
 pub use serial::{Decided, order};
 pub use trace::{print_trace, read_trace};
-
-#[cfg(test)]
-mod tests;

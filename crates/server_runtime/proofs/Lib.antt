@@ -6,7 +6,6 @@ pub mod Outcomes
 pub mod Readings
 pub mod Results
 pub mod Running
-pub mod Samples
 pub mod Steps
 pub mod Told
 pub mod Wholes

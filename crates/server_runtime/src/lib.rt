@@ -8,8 +8,6 @@ mod room;
 mod run;
 mod served;
 mod server;
-#[cfg(test)]
-mod tests;
 mod turn;
 
 pub use laws::{a_served_packet_is_the_whole_run, what_the_switch_is_told_fits};

@@ -11,8 +11,6 @@ mod layouts;
 mod readers;
 mod shown;
 mod split;
-#[cfg(test)]
-mod tests;
 mod values;
 
 pub use bounds::is_bounded;

@@ -6,6 +6,3 @@ mod split_text;
 
 pub use counts_text::print_counts;
 pub use split_text::print_split;
-
-#[cfg(test)]
-mod tests;

@@ -8,4 +8,3 @@ mod Computing
 mod Places
 mod Marks
 mod Codes
-mod Chain

@@ -9,8 +9,6 @@ mod looked_up;
 mod port;
 mod rest;
 mod steps;
-#[cfg(test)]
-mod tests;
 
 pub use code::{Pass, PassStep, Steps, SwitchCode, Table, Tables};
 pub use emitter::emit;

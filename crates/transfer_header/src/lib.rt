@@ -14,6 +14,3 @@ pub use laws::{
 };
 pub use registers::Regs;
 pub use room::FrameRoom;
-
-#[cfg(test)]
-mod tests;

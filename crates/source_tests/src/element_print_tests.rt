@@ -1,0 +1,73 @@
+//! Texts of middleboxes, compared with texts that were written by hand.
+ghost use Rattle.std.specs.Prelude.{IsTrue};
+ghost use Rattle.element_lang.specs.Accepted.{HasNames};
+ghost use Rattle.element_lang.specs.Rules.{is_good};
+ghost use Rattle.element_lang.specs.View.{tree};
+
+use element_lang::{Locals, Middlebox};
+use element_print::print;
+use element_text::read;
+use gal_io::Text;
+use state_store::Objects;
+use std::alloc::Global;
+use std::test::Fail;
+
+fn text_of(alloc: Global, m: &Middlebox) -> Result<Text, Fail>
+    requires good { IsTrue (is_good (tree m.now)) }
+    requires names { HasNames (tree m.now) }
+{
+    Ok(print(alloc, m)?)
+}
+
+// Each kind of object and of expression, with brackets that are needed and some that aren't.
+const EXPRESSIONS: &str = "table t (8, 16) -> (1) { (1:8, 2:16) -> (0:1); (3:8, 4:16) -> (1:1); }
+    map m (8) -> (8, 64) capacity 3; vector v length 3 -> (16); int i : 16 = 0x7;
+    process {
+      let a = (meta.len); let b = ~(7:16);
+      let c = adjust(select(meta.len <= (~a), (a), b), cast(16, byte((a + 255:16) - (~(~(b << 3))))), 0:16) >> 63;
+    }";
+
+const PRINTED_EXPRESSIONS: &str =
+    "table t ( 8 , 16 ) -> ( 1 ) { ( 1 : 8 , 2 : 16 ) -> ( 0 : 1 ) ; ( 3 : 8 , 4 : 16 ) -> ( 1 : 1 ) ; } \
+    map m ( 8 ) -> ( 8 , 64 ) capacity 3 ; vector v length 3 -> ( 16 ) ; int i : 16 = 7 ; \
+    process { let a = meta.len ; let b = ~ 7 : 16 ; let c = adjust ( select ( meta.len <= ~ a , a , b ) , \
+    cast ( 16 , byte ( ( a + 255 : 16 ) - ~ ( ~ ( b << 3 ) ) ) ) , 0 : 16 ) >> 63 ; }\n";
+
+// Each kind of statement, and second blocks that are empty.
+const STATEMENTS: &str = "map m (8) -> (8, 64) capacity 3; int i : 16 = 7;
+    process {
+      look a, b, c = m[meta.port]; put d = i[] -> cast(16, c); del e = m[b];
+      if a { if d { drop; } else { } } else { send b; }
+      repeat f 64 { b = b + 1:8; }
+      ip.ttl = 64:8;
+    }";
+
+const PRINTED_STATEMENTS: &str =
+    "map m ( 8 ) -> ( 8 , 64 ) capacity 3 ; int i : 16 = 7 ; process { look a , b , c = m [ meta.port ] ; \
+    put d = i [ ] -> cast ( 16 , c ) ; del e = m [ b ] ; if a { if d { drop ; } } else { send b ; } \
+    repeat f 64 { b = b + 1 : 8 ; } ip.ttl = 64 : 8 ; }\n";
+
+#[test]
+fn each_construct(rt: HostRuntime) -> Result<(), Fail> {
+    let alloc = rt.alloc();
+    for (source, printed) in [
+        (EXPRESSIONS, PRINTED_EXPRESSIONS),
+        (STATEMENTS, PRINTED_STATEMENTS),
+    ] {
+        let middlebox = read(alloc, source.as_bytes())?;
+        assert_eq!(rt; text_of(alloc, &middlebox)?.as_slice(), printed.as_bytes());
+    }
+    Ok(())
+}
+
+#[test]
+fn the_least_middlebox(rt: HostRuntime) -> Result<(), Fail> {
+    let alloc = rt.alloc();
+    let m = Middlebox {
+        objects: Objects::new(alloc),
+        locals: Locals::new(alloc),
+        body: Vec::new(alloc),
+    };
+    assert_eq!(rt; print(alloc, &m)?.as_slice(), b"process { }\n".as_slice());
+    Ok(())
+}

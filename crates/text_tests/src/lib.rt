@@ -1,0 +1,9 @@
+//! Tests of the texts of a replay, one module for each crate, on texts from outside: no clause says them.
+#![tactic(auto)]
+
+#[cfg(test)]
+mod report_text_tests;
+#[cfg(test)]
+mod run_text_tests;
+#[cfg(test)]
+mod samples;
