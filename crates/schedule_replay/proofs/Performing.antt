@@ -1,7 +1,7 @@
 -- The events of a schedule, one after the other.
 use Rattle.std.proofs.Common.{◌≡◌, ◌<◌, ◌≤◌, ◌+◌, ◌-◌, ◌*◌, ◌^◌, ℕ, suc, zero, Bool, true, false, List, [], ◌∷◌, ◌++◌, Option, Some, None, refl, sym, ap, subst, ◌∙◌, arith, length}
 use Rattle.std.specs.Prelude.{is_some, slice_get}
-use Rattle.gal_io.specs.Count.{count_after}
+use Rattle.gal_io.specs.Count.{Counts, count_after}
 use Rattle.std.specs.List.{AllByRecursion as Each}
 use Rattle.std.specs.Option.{option_map}
 use Rattle.std.proofs.lemmas.Option.{same_Some, none-some}
@@ -27,8 +27,7 @@ use Rattle.schedule_replay.specs.Setup.{Setup, whole, code_for}
 use Rattle.schedule_replay.specs.Entries.{calls_in}
 use Rattle.schedule_replay.specs.Sound.{IsReady, IsSound, IsWithin, events_left, most_commands, unapplied}
 use Rattle.schedule_replay.specs.declared.job.ReplayError.{ReplayError}
-use Rattle.schedule_replay.specs.declared.job.ReplayError.TheVariants as errors
-use Rattle.schedule_replay.specs.Steps.{CountsFault, Does, HasStepped, IsGoing, HasRoomNext, WasCalled, is_port_fault, told_through}
+use Rattle.schedule_replay.specs.Steps.{Does, HasStepped, IsGoing, HasRoomNext, WasCalled, is_port_fault, told_through}
 use Rattle.schedule_replay.specs.Replaying.{HasGone, IsReplaying, IsShown, IsUnderWay, StaysTold}
 use Rattle.schedule_replay.specs.Views.{replay_of}
 use Rattle.schedule_replay.proofs.Ongoing.{GoesOn, FindsRoom}
@@ -55,14 +54,9 @@ stays_more a b c one two = record {
 }
 
 -- what an error counts behind calls of which none failed, it counts over all of them
-pub counts_behind : (e : ReplayError) (first old new : PortState) → old.faults ≡ first.faults → CountsFault e old new
-    → CountsFault e first new
+pub counts_behind : (e : ReplayError) (first old new : ℕ) → old ≡ first → Counts (is_port_fault e) old new
+    → Counts (is_port_fault e) first new
 counts_behind e first old new same counts = counts ∙ ap (count_after (is_port_fault e)) same
-
--- what finds no memory counts nothing
-pub counts_nothing : (e : ReplayError) (old new : PortState) → e ≡ errors.NoMemory → new.faults ≡ old.faults
-    → CountsFault e old new
-counts_nothing e old new is same = subst (λ x. CountsFault x old new) (sym is) same
 
 -- ## One event more
 
