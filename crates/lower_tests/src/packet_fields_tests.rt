@@ -17,6 +17,43 @@ const DATAGRAM: [u8; 42] = [
     0x10, 0, 0, 0x45, 0, 0x08, 0xff, 0xef, // UDP
 ];
 
+// An IPv4 header of 20 bytes behind a tag of priority 1 and VLAN 5.
+const TAGGED: [u8; 38] = [
+    0x02, 0, 0, 0, 0, 0x01, 0x02, 0, 0, 0, 0, 0x02, 0x81, 0, // Ethernet
+    0x20, 0x05, 0x08, 0, // the tag
+    0x45, 0, 0, 0x14, 0, 0, 0, 0, 0x40, 0x11, 0, 0, 10, 0, 0, 1, 10, 0, 0, 2, // IPv4
+];
+
+#[test]
+fn reads_behind_a_tag(rt: HostRuntime) {
+    let shape = Shape::of(&TAGGED);
+    let rows = [
+        (Field::EthType, 0x8100),
+        (Field::VlanPcp, 1),
+        (Field::VlanDei, 0),
+        (Field::VlanId, 5),
+        (Field::HasIp, 1),
+        (Field::HasUdp, 0),
+        (Field::IpDst, 167_772_162),
+    ];
+    for (field, value) in rows {
+        assert_eq!(rt; get(&TAGGED, 0, &shape, field), value);
+    }
+    let short = Shape::of(&TAGGED[..17]);
+    assert_eq!(rt; get(&TAGGED[..17], 0, &short, Field::VlanId), 0);
+}
+
+#[test]
+fn sets_the_number_of_a_vlan(rt: HostRuntime) {
+    let mut packet = TAGGED;
+    let shape = Shape::of(&packet);
+    set(&mut packet, &shape, Field::VlanId, 0xabc);
+    let mut expected = TAGGED;
+    expected[14] = 0x2a;
+    expected[15] = 0xbc;
+    assert_eq!(rt; packet.as_slice(), expected.as_slice());
+}
+
 #[test]
 fn reads_fields(rt: HostRuntime) {
     let shape = Shape::of(&SYN);

@@ -2,7 +2,7 @@
 ghost use Rattle.std.specs.Prelude.{◌≤◌};
 
 use crate::samples::{guarded_put, recall};
-use dependence::{Marks, carried_closure, depths, post_closure, pre_closure};
+use dependence::{Marks, Uses, carried_closure, depths, post_closure, pre_closure};
 use flat_ir::Flat;
 use split_model::is_bounded;
 use std::alloc::Global;
@@ -15,7 +15,8 @@ fn closures(alloc: Global, f: &Flat, k: usize) -> Result<[Marks; 3], Fail> {
     }
     let pre = pre_closure(alloc, f, k)?;
     let carried = carried_closure(alloc, f, &pre)?;
-    let post = post_closure(alloc, f, &carried)?;
+    let uses = Uses::of(alloc, f)?;
+    let post = post_closure(alloc, f, &uses, &carried)?;
     Ok([pre, carried, post])
 }
 
