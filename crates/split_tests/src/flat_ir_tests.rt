@@ -1,8 +1,10 @@
-//! Listings from outside, and a run.
+//! Listings from outside, a run, and a plan of registers.
+ghost use Rattle.std.specs.Prelude.{◌≡◌};
+
 use crate::samples::{bits, chain, give, look, put, value};
 use flat_ir::{
-    Block, Blocks, Code, FieldValue, Flat, Instr, InstrKind, Out, eval_flat, is_well_formed,
-    print_flat,
+    Block, Blocks, Code, FieldValue, Flat, Instr, InstrKind, Out, RegPlan, Span, Spans, eval_flat,
+    is_well_formed, print_flat,
 };
 use gal_bits::{Op, Widths};
 use gal_io::{Bytes, NoMemory};
@@ -156,5 +158,36 @@ fn lists_a_copy_of_every_construct(rt: HostRuntime) -> Result<(), Fail> {
     assert!(rt; is_well_formed(&f));
     let text = print_flat(alloc, &f)?;
     assert_eq!(rt; text.as_slice(), EVERY_CONSTRUCT.as_bytes());
+    Ok(())
+}
+
+// A value that is written at one step and last read at another.
+fn span(value: u32, from: u32, to: u32) -> Span
+    ensures { result ≡ record { value = value; from = from; to = to } }
+{
+    Span { value, from, to }
+}
+
+#[test]
+fn registers_of_a_chain_of_sums(rt: HostRuntime) -> Result<(), Fail> {
+    let mut spans = Spans::new(rt.alloc());
+    spans.push(span(0, 0, 0))?;
+    spans.push(span(1, 0, 5))?;
+    spans.push(span(2, 0, 0))?;
+    spans.push(span(3, 0, 1))?;
+    spans.push(span(4, 0, 1))?;
+    spans.push(span(5, 1, 2))?;
+    spans.push(span(6, 0, 2))?;
+    spans.push(span(7, 2, 3))?;
+    spans.push(span(8, 0, 3))?;
+    spans.push(span(9, 3, 4))?;
+    spans.push(span(10, 4, 5))?;
+    let plan = RegPlan::of(rt.alloc(), &spans)?;
+    assert_eq!(rt; plan.count(), 7);
+    assert!(rt; plan.register(10).is_some());
+    assert!(rt; plan.register(11).is_none());
+    let copy = plan.copy(rt.alloc())?;
+    assert_eq!(rt; copy.count(), 7);
+    assert_eq!(rt; copy.register(10), plan.register(10));
     Ok(())
 }
