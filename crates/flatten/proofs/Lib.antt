@@ -1,5 +1,6 @@
 mod Examples
 pub mod Growth
+pub mod Journals
 pub mod Steps
 pub mod Trees
 pub mod GoodSizes
