@@ -16,7 +16,7 @@ use Rattle.flat_ir.specs.Program as flat
 use Rattle.flatten.specs.declared.entry.Entry.{Entry}
 use Rattle.flatten.specs.declared.entry.Change.{Change}
 use Rattle.flatten.specs.declared.place.Place.{Place}
-use Rattle.flatten.specs.Flatten.{Given, View, Scoped, same_id, give, merge_id, merge_option, merge_ids, kept, in_scope}
+use Rattle.flatten.specs.Flatten.{Given, View, Scoped, same_id, give, merge_id, merge_option, merge_ids, kept, in_scope, leave}
 use Rattle.flatten.specs.Journal.{undone, with_locals, locals_of, value_or_none, change_at, second_at, with_first, IsOther, AreRising, AreOn, AreSides, AreAssigned, merge_each, leave_each}
 use Rattle.flatten.specs.Pending.{placed, scoped, merged, valued}
 use Rattle.flatten.proofs.Meanings.{same_itself}
@@ -41,6 +41,10 @@ length_undone (e ∷ es) xs = length-set (undone es xs) e.local e.before ∙ len
 pub undone_set : (es : List Entry) (xs : Ids) (x : ℕ) (id : Option ValueId) → undone (es ++ entry x (value_or_none xs x) ∷ []) (slice_set xs x id) ≡ undone es xs
 undone_set es xs x id =
     undone_last es (entry x (value_or_none xs x)) (slice_set xs x id) ∙ ap (undone es) (set-set xs x id (value_or_none xs x) ∙ set-get_or xs x None)
+
+-- a local is given the value that it has
+pub set_same : (xs : Ids) (x : ℕ) (id : Option ValueId) → value_or_none xs x ≡ id → xs ≡ slice_set xs x id
+set_same xs x id e = sym (set-get_or xs x None) ∙ ap (slice_set xs x) e
 
 -- the values of locals that none of the entries is of
 pub undone_other : (es : List Entry) (xs : Ids) (x : ℕ) → (Contains (locals_of es) x → ⊥) → value_or_none (undone es xs) x ≡ value_or_none xs x
@@ -224,7 +228,14 @@ leave_from xs ys now (c ∷ cs) l on others =
     leave_from xs ys (slice_set now c.local id) cs (length-set now c.local id ∙ l) on.2
     (λ x other. set_alike now all c.local x id l (λ ne. others x (ne, other)) ∙ ap (λ l. value_or_none l x) same)
 
-pub leave_told : (start now : Ids) (cs : List Change) → length start ≡ length now → AreSides start now start cs → leave_each cs start ≡ in_scope start now
-leave_told start now cs l sides =
+leave_same : (start now : Ids) (cs : List Change) → length start ≡ length now → AreSides start now start cs → leave_each cs start ≡ in_scope start now
+leave_same start now cs l sides =
     leave_from start now start cs (sym (length_in_scope start now l)) sides.on
     (λ x other. sym (in_scope_at start now x ∙ ap (kept (value_or_none start x)) (sides.seconds x other) ∙ kept_same (value_or_none start x)))
+
+pub leave_told : (start now left : View) (none : List Entry) (cs ds : List Change) → length start.locals ≡ length now.locals → none ≡ [] → left ≡ with_locals start.locals now → ds ≡ cs
+    → AreSides (undone none start.locals) now.locals start.locals cs → with_locals (leave_each ds left.locals) left ≡ leave start now
+leave_told start now left none cs ds l en el ed sides =
+    let same : AreSides start.locals now.locals start.locals cs = subst (λ l. AreSides (undone l start.locals) now.locals start.locals cs) en sides in
+    ap (λ l. with_locals (leave_each l left.locals) left) ed ∙ ap (λ w. with_locals (leave_each cs w.locals) w) el
+    ∙ ap (λ l. with_locals l now) (leave_same start.locals now.locals cs l same)

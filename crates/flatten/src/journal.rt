@@ -1,13 +1,13 @@
 //! States from which those before are had again.
 ghost use Rattle.std.specs.Prelude.{◌≡◌, [], IfOk, OnOk, Some};
 ghost use Rattle.flatten.specs.Flatten as pure;
-ghost use Rattle.flatten.specs.Journal.{before, past_of, with_local};
+ghost use Rattle.flatten.specs.Journal.{before, past_of, undone, with_local, with_locals, leave_each, AreSides};
 ghost use Rattle.flatten.specs.Tracked.{started};
 
 use crate::entry::{Change, Entry};
 use crate::place::Ending;
-use crate::sides::{sides, undo};
-use crate::state::{State, set_at, value_or_none};
+use crate::sides::{set, sides, undo};
+use crate::state::State;
 use flat_ir::ValueId;
 use std::alloc::{AllocError, Global};
 use std::marker::Model;
@@ -82,12 +82,7 @@ impl Tracked {
         ensures state { OnOk result (self.new.state ≡ with_local x value self.old.state) }
         ensures start { OnOk result (started self.new ≡ started self.old) }
     {
-        let before = value_or_none(&self.state.locals, x as usize);
-        if before != value {
-            self.journal.entries.push(Entry { local: x, before })?;
-            set_at(&mut self.state.locals, x as usize, value);
-        }
-        Ok(())
+        set(&mut self.state.locals, &mut self.journal.entries, x, value)
     }
 
     /// Gives a local another value.
@@ -143,18 +138,38 @@ impl Tracked {
         })
     }
 
+    // Gives locals the values that they have where they are in scope.
+    fn keep(&mut self, changes: &[Change]) -> Result<(), AllocError>
+        ensures state { OnOk result (self.new.state
+            ≡ with_locals (leave_each changes.now self.old.state.locals) self.old.state) }
+        ensures start { OnOk result (started self.new ≡ started self.old) }
+    {
+        for change in changes {
+            self.set(change.local, kept(change.first, change.second))?;
+        }
+        Ok(())
+    }
+
+    /// Gives the locals the values that they had where the journal began, and answers the changes of two sides that began
+    /// there: of one that is had again from there, and of the one here. What was assigned is no longer in the journal.
+    pub fn sides(&mut self, alloc: Global, first: Vec<Entry>) -> Result<Vec<Change>, AllocError>
+        ensures state { OnOk result (self.new.state ≡ with_locals (started self.old).locals self.old.state) }
+        ensures changes { let start = (started self.old).locals in IfOk result (λ changes.
+            AreSides (undone first.items start) self.old.state.locals start changes.items) }
+    {
+        let second = mem::replace(&mut self.journal.entries, Vec::new(alloc));
+        sides(alloc, &mut self.state.locals, first, second)
+    }
+
     /// Lets go of the locals that were not in scope where the journal began, and goes on with another journal, which
     /// was kept until there.
     pub fn leave(&mut self, alloc: Global, outer: Journal) -> Result<(), AllocError>
         ensures state { OnOk result (self.new.state ≡ pure.leave (started self.old) self.old.state) }
         ensures start { OnOk result (started self.new ≡ before outer (started self.old)) }
     {
-        let second = mem::replace(&mut self.journal.entries, Vec::new(alloc));
-        let changes = sides(alloc, &mut self.state.locals, Vec::new(alloc), second)?;
+        let changes = self.sides(alloc, Vec::new(alloc))?;
         self.journal = outer;
-        for change in &changes {
-            self.set(change.local, kept(change.first, change.second))?;
-        }
+        self.keep(&changes)?;
         Ok(())
     }
 }

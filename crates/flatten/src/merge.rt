@@ -10,7 +10,6 @@ use crate::frame::Frame;
 use crate::journal::{Journal, Tracked};
 use crate::output::Output;
 use crate::place::{Ending, Place};
-use crate::sides::sides;
 use crate::state::{NOUGHT, ONE, State};
 use flat_ir::{InstrKind, ValueId};
 use gal_bits::Width;
@@ -188,8 +187,7 @@ impl Output {
         ensures start { OnOk result (started w.new ≡ before outer (started w.old)) }
     {
         let entries = mem::replace(&mut first.entries, Vec::new(alloc));
-        let second = mem::replace(&mut w.journal.entries, Vec::new(alloc));
-        let changes = sides(alloc, &mut w.state.locals, entries, second)?;
+        let changes = w.sides(alloc, entries)?;
         w.journal = outer;
         self.merge_each(frame, place, cond, &changes, w)?;
         self.merge_rest(alloc, frame, place, cond, &first, &mut w.state)

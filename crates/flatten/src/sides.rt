@@ -1,5 +1,5 @@
 //! What two sides assigned that began alike.
-ghost use Rattle.std.specs.Prelude.{◌≡◌, ◌++◌, map, IfOk, OnOk};
+ghost use Rattle.std.specs.Prelude.{◌≡◌, ◌++◌, map, slice_set, IfOk, OnOk};
 ghost use Rattle.flatten.specs.Journal as pure;
 
 use crate::entry::{Change, Entry};
@@ -28,6 +28,25 @@ pub(crate) fn undo(
         set_at(locals, place, entry.before);
     }
     Ok(back)
+}
+
+/// Gives a local another value, or none, and notes the one before where they differ.
+#[tactic(auto, using(crate::proofs::Journals::undone_set, crate::proofs::Journals::set_same))]
+pub(crate) fn set(
+    locals: &mut [Option<ValueId>],
+    entries: &mut Vec<Entry>,
+    x: u32,
+    value: Option<ValueId>,
+) -> Result<(), AllocError>
+    ensures locals { OnOk result (locals.new ≡ slice_set locals.old x value) }
+    ensures undone { OnOk result (pure.undone entries.new.items locals.new ≡ pure.undone entries.old.items locals.old) }
+{
+    let before = value_or_none(locals, x as usize);
+    if before != value {
+        entries.push(Entry { local: x, before })?;
+        set_at(locals, x as usize, value);
+    }
+    Ok(())
 }
 
 // The locals of entries, behind others.
