@@ -16,8 +16,8 @@ use Rattle.flat_ir.specs.Program as flat
 use Rattle.flatten.specs.declared.entry.Entry.{Entry}
 use Rattle.flatten.specs.declared.entry.Change.{Change}
 use Rattle.flatten.specs.declared.place.Place.{Place}
-use Rattle.flatten.specs.Flatten.{Given, View, Scoped, same_id, give, merge_id, merge_option, merge_ids, kept, in_scope, leave}
-use Rattle.flatten.specs.Journal.{undone, with_locals, locals_of, value_or_none, change_at, second_at, with_first, IsOther, AreRising, AreOn, AreSides, AreAssigned, merge_each, leave_each}
+use Rattle.flatten.specs.Flatten.{Given, View, At, Scoped, join, same_id, give, merge_id, merge_option, merge_ids, kept, in_scope, leave}
+use Rattle.flatten.specs.Journal.{Past, before, undone, with_locals, locals_of, value_or_none, change_at, second_at, with_first, IsOther, AreRising, AreOn, AreSides, AreAssigned, merge_each, merge_rest, leave_each}
 use Rattle.flatten.specs.Pending.{placed, scoped, merged, valued}
 use Rattle.flatten.proofs.Meanings.{same_itself}
 
@@ -197,6 +197,18 @@ merge_told p v ws (c ∷ cs) n xs ys start w g l m s on rising firsts seconds =
     ∙ ap (λ r. placed r.given (with_locals r.ids w))
     (merge_this p v x ws xs ys c.first c.second g l m (λ k lt. let o = other_below k x (c ∷ cs) lt from in firsts k o ∙ sym (seconds k o)) on.0 on.1)
 
+-- the first side is had again from where both began, and the second is here
+pub join_told : (ws : List ℕ) (p : Place) (v : ValueId) (first : Past) (start now left : View) (g : Given) (cs ds : List Change) (r total : At) → length now.locals ≡ length ws → length start.locals ≡ length now.locals
+    → left ≡ with_locals start.locals now → ds ≡ cs → AreSides (before first start).locals now.locals start.locals cs
+    → r ≡ merge_each p v ws ds (placed g left) → total ≡ merge_rest p v first r → total ≡ join ws p v (before first start) (placed g now)
+join_told ws p v first start now left g cs ds r total l m el ed sides er et =
+    let xs = undone first.entries start.locals in
+    let both = merge_ids p v ws xs now.locals g in
+    let locals : merge_each p v ws ds (placed g left) ≡ placed both.given (with_locals both.ids now) =
+    ap (λ ds. merge_each p v ws ds (placed g left)) ed ∙ ap (λ w. merge_each p v ws cs (placed g w)) el
+    ∙ merge_told p v ws cs 0 xs now.locals start.locals now g (length_undone first.entries start.locals ∙ m ∙ l) l (m ∙ l) sides.on sides.rising sides.firsts sides.seconds in
+    et ∙ ap (λ r. merge_rest p v first r) (er ∙ locals)
+
 -- ## What is out of scope
 
 kept_none : (a : Option ValueId) → kept a None ≡ None
@@ -233,9 +245,9 @@ leave_same start now cs l sides =
     leave_from start now start cs (sym (length_in_scope start now l)) sides.on
     (λ x other. sym (in_scope_at start now x ∙ ap (kept (value_or_none start x)) (sides.seconds x other) ∙ kept_same (value_or_none start x)))
 
-pub leave_told : (start now left : View) (none : List Entry) (cs ds : List Change) → length start.locals ≡ length now.locals → none ≡ [] → left ≡ with_locals start.locals now → ds ≡ cs
-    → AreSides (undone none start.locals) now.locals start.locals cs → with_locals (leave_each ds left.locals) left ≡ leave start now
-leave_told start now left none cs ds l en el ed sides =
-    let same : AreSides start.locals now.locals start.locals cs = subst (λ l. AreSides (undone l start.locals) now.locals start.locals cs) en sides in
+pub leave_told : (start first now left : View) (cs ds : List Change) → length start.locals ≡ length now.locals → first ≡ start → left ≡ with_locals start.locals now → ds ≡ cs → AreSides first.locals now.locals start.locals cs
+    → with_locals (leave_each ds left.locals) left ≡ leave start now
+leave_told start first now left cs ds l ef el ed sides =
+    let same : AreSides start.locals now.locals start.locals cs = subst (λ w. AreSides w.locals now.locals start.locals cs) ef sides in
     ap (λ l. with_locals (leave_each l left.locals) left) ed ∙ ap (λ w. with_locals (leave_each cs w.locals) w) el
     ∙ ap (λ l. with_locals l now) (leave_same start.locals now.locals cs l same)

@@ -1,7 +1,7 @@
 //! States from which those before are had again.
 ghost use Rattle.std.specs.Prelude.{◌≡◌, [], IfOk, OnOk, Some};
 ghost use Rattle.flatten.specs.Flatten as pure;
-ghost use Rattle.flatten.specs.Journal.{before, past_of, undone, with_local, with_locals, leave_each, AreSides};
+ghost use Rattle.flatten.specs.Journal.{before, past_of, with_local, with_locals, leave_each, AreSides};
 ghost use Rattle.flatten.specs.Tracked.{started};
 
 use crate::entry::{Change, Entry};
@@ -152,11 +152,12 @@ impl Tracked {
 
     /// Gives the locals the values that they had where the journal began, and answers the changes of two sides that began
     /// there: of one that is had again from there, and of the one here. What was assigned is no longer in the journal.
-    pub fn sides(&mut self, alloc: Global, first: Vec<Entry>) -> Result<Vec<Change>, AllocError>
+    pub fn sides(&mut self, alloc: Global, first: &Journal) -> Result<Vec<Change>, AllocError>
         ensures state { OnOk result (self.new.state ≡ with_locals (started self.old).locals self.old.state) }
-        ensures changes { let start = (started self.old).locals in IfOk result (λ changes.
-            AreSides (undone first.items start) self.old.state.locals start changes.items) }
+        ensures changes { let start = started self.old in IfOk result (λ changes.
+            AreSides (before first.now start).locals self.old.state.locals start.locals changes.items) }
     {
+        let first = first.entries.to_vec(alloc)?;
         let second = mem::replace(&mut self.journal.entries, Vec::new(alloc));
         sides(alloc, &mut self.state.locals, first, second)
     }
@@ -167,7 +168,8 @@ impl Tracked {
         ensures state { OnOk result (self.new.state ≡ pure.leave (started self.old) self.old.state) }
         ensures start { OnOk result (started self.new ≡ before outer (started self.old)) }
     {
-        let changes = self.sides(alloc, Vec::new(alloc))?;
+        let first = self.unchanged(alloc)?;
+        let changes = self.sides(alloc, &first)?;
         self.journal = outer;
         self.keep(&changes)?;
         Ok(())

@@ -15,7 +15,6 @@ use flat_ir::{InstrKind, ValueId};
 use gal_bits::Width;
 use gal_io::NoMemory;
 use std::alloc::Global;
-use std::mem;
 
 // The value that says whether a run has ended.
 fn ended_id(ended: Ending) -> ValueId
@@ -176,7 +175,7 @@ impl Output {
         frame: &Frame,
         place: Place,
         cond: ValueId,
-        mut first: Journal,
+        first: Journal,
         outer: Journal,
         w: &mut Tracked,
     ) -> Result<(), NoMemory>
@@ -186,10 +185,10 @@ impl Output {
             ≡ pure.join frame.now.locals.items place cond (before first (started w.old)) (placed self.old w.old.state)) }
         ensures start { OnOk result (started w.new ≡ before outer (started w.old)) }
     {
-        let entries = mem::replace(&mut first.entries, Vec::new(alloc));
-        let changes = w.sides(alloc, entries)?;
+        let changes = w.sides(alloc, &first)?;
         w.journal = outer;
         self.merge_each(frame, place, cond, &changes, w)?;
-        self.merge_rest(alloc, frame, place, cond, &first, &mut w.state)
+        self.merge_rest(alloc, frame, place, cond, &first, &mut w.state)?;
+        Ok(())
     }
 }
