@@ -9,7 +9,7 @@ use Rattle.flatten.specs.Flatten.{Given, View, At, Scoped, merge_ids, join, Flat
 use Rattle.flatten.specs.Journal.{before}
 use Rattle.flatten.specs.Open.{closed, outermost}
 use Rattle.flatten.specs.Over.{IsOver}
-use Rattle.flatten.specs.Pending.{scoped_front, scoped}
+use Rattle.flatten.specs.Pending.{scoped_front, scoped, placed}
 use Rattle.flatten.specs.Tracked.{started}
 use Rattle.flatten.proofs.Journals.{length_undone}
 use Rattle.flatten.proofs.Growth.{over_later, closed_grows, Growing}
@@ -38,6 +38,16 @@ pub as_wide : (ps qs : List Pending) (w u : Tracked) → outermost qs (started u
 as_wide ps qs w u e =
     sym (length_outermost qs (started u) ∙ length_undone u.journal.entries u.state.locals)
     ∙ ap (λ v. length v.locals) e ∙ length_outermost ps (started w) ∙ length_undone w.journal.entries w.state.locals
+
+-- a block is closed
+pub close_start : (ps all : List Pending) (p : Pending) (w u : Tracked) → all ≡ ps ++ p ∷ [] → started u ≡ before p.outer (started w) → outermost ps (started u) ≡ outermost all (started w)
+close_start ps all p w u ea es = ap (outermost ps) es ∙ sym (outermost_last ps p (started w)) ∙ ap (λ l. outermost l (started w)) (sym ea)
+
+pub close_told : (ws : List ℕ) (ps all : List Pending) (p : Pending) (w u : Tracked) (g h : Given) (first : View) → all ≡ ps ++ p ∷ [] → first ≡ started w → placed h u.state ≡ join ws p.place p.ended first (placed g w.state)
+    → started u ≡ before p.outer (started w) → closed ws ps (started u) (placed h u.state) ≡ closed ws all (started w) (placed g w.state)
+close_told ws ps all p w u g h first ea ef ej es =
+    ap (λ s. closed ws ps s (placed h u.state)) es ∙ ap (closed ws ps (before p.outer (started w))) (ej ∙ ap (λ f. join ws p.place p.ended f (placed g w.state)) ef)
+    ∙ sym (closed_last ws ps p (started w) (placed g w.state)) ∙ ap (λ l. closed ws l (started w) (placed g w.state)) (sym ea)
 
 pub over_join : (ws : List ℕ) (ps : List Pending) (start : View) (r total : At) (e : FlatError) → closed ws ps start r ≡ total → IsOver r.given e → IsOver total.given e
 over_join ws ps start r total e is over = subst (λ t. IsOver t.given e) is (over_later r.given (closed ws ps start r).given e (closed_grows ws ps start r) over)
