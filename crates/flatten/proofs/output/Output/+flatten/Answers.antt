@@ -1,0 +1,227 @@
+use Rattle.std.proofs.Common.{◌≡◌, ◌+◌, ◌-◌, drop, sym, ap, ◌∙◌, subst, if◌then◌else◌, Bool, true, rules, [], refl, length}
+use Rattle.element_lang.specs.Tree.StmtTree.{choose}
+use Rattle.element_lang.specs.View.{expr_tree, stmt_tree, body_tree}
+use Rattle.flatten.specs.Flatten as pure
+use Rattle.flatten.specs.Sized.{IsSizedStmt, IsSizedBody}
+use Rattle.flatten.specs.Journal.{before}
+use Rattle.flatten.specs.Open.{closed, outermost}
+use Rattle.flatten.specs.Pending.{placed, valued}
+use Rattle.flatten.specs.Over.{IsOver}
+use Rattle.flatten.specs.Tracked.{started}
+use Rattle.flatten.proofs.Growth.{first_over, second_over, turns_grow, body_grows}
+use Rattle.flatten.proofs.Steps.{order_step, order_over, as_wide}
+use Rattle.flatten.proofs.Branches.{split_at, turns_split, choose_told}
+use Rattle.flatten.proofs.Trees.{tree_if, tree_repeat}
+use Rattle.element_lang.specs.Rules.{is_empty}
+use Rattle.flatten.proofs.output.Output.+flatten.Goals as goal
+
+pub body-loop-s-preserved : goal.body-loop-s-preserved
+body-loop-s-preserved t c =
+    let ws = c.args.frame.now.locals.items in
+    let l = c.loop-s in
+    let n = c.goes_on.new in
+    let u = c.stmt.new.w in
+    let split = split_at c.args.body.now l.s-index c.s-item.result c.loop-s-test.true c.s-item.is in
+    let rest = drop (l.s-index + 1) c.args.body.now in
+    let told = subst (λ b. closed ws l.stretch.pending.items (started l.w) (pure.flat_body ws (body_tree b) l.stretch.place l.self l.w.state) ≡ pure.flat_body ws (body_tree c.args.body.now) c.args.place c.args.self.now c.args.w.now.state) split l.invariant.told in
+    let sized = subst (λ b. IsSizedBody ws (body_tree b)) split l.invariant.sized in
+    let same = c.in_ok-stmt.ensures.start in
+    record {
+      told = ap (λ s. closed ws n.stretch.pending.items s (pure.flat_body ws (body_tree rest) n.stretch.place c.stmt.new.self u.state)) same
+          ∙ order_step ws (pure.flat_stmt ws (stmt_tree c.s-item.result)) (pure.flat_body ws (body_tree rest)) l.stretch.pending.items n.stretch.pending.items (started l.w) (started n.w) l.stretch.place n.stretch.place l.self n.self l.w.state n.w.state (placed c.stmt.new.self u.state) _ told
+          (λ widths go. subst (λ (b : Bool). closed widths n.stretch.pending.items (started n.w) (if b then go n.stretch.place n.self n.w.state else placed n.self n.w.state) ≡ closed widths l.stretch.pending.items (started l.w) (pure.go_on widths l.w.state.ended l.stretch.place go l.self l.w.state)) c.if-not-goes.false (c.in_ok-goes.ensures.told widths go))
+          c.in_ok-stmt.ensures.ok;
+      start = ap (outermost n.stretch.pending.items) same ∙ c.in_ok-goes.ensures.start ∙ l.invariant.start;
+      wide = as_wide [] [] n.w u same ∙ as_wide l.stretch.pending.items n.stretch.pending.items l.w n.w c.in_ok-goes.ensures.start ∙ l.invariant.wide;
+      sized = sized.1;
+      fields = l.invariant.fields;
+    }
+
+pub body-stmt-requires : goal.body-stmt-requires
+body-stmt-requires t c =
+    let ws = c.args.frame.now.locals.items in
+    let l = c.loop-s in
+    let n = c.goes_on.new in
+    let split = split_at c.args.body.now l.s-index c.s-item.result c.loop-s-test.true c.s-item.is in
+    let sized = subst (λ b. IsSizedBody ws (body_tree b)) split l.invariant.sized in
+    record {
+      fields = l.invariant.fields;
+      wide = as_wide l.stretch.pending.items n.stretch.pending.items l.w n.w c.in_ok-goes.ensures.start ∙ l.invariant.wide;
+      sized = sized.0;
+    }
+
+pub body-close-requires-clause-wide : goal.body-close-requires-clause-wide
+body-close-requires-clause-wide t c =
+    let l = c.loop-s in
+    let n = c.goes_on.new in
+    as_wide l.stretch.pending.items n.stretch.pending.items l.w n.w c.in_ok-goes.ensures.start ∙ l.invariant.wide
+
+pub turns-turn-requires : goal.turns-turn-requires
+turns-turn-requires t c =
+    let l = c.loop-turn in
+    let n = c.goes_on.new in
+    record {
+      fields = l.invariant.fields;
+      wide = as_wide l.stretch.pending.items n.stretch.pending.items l.w n.w c.in_ok-goes.ensures.start ∙ l.invariant.wide;
+      sized = l.invariant.sized;
+    }
+
+pub turns-close-requires-clause-wide : goal.turns-close-requires-clause-wide
+turns-close-requires-clause-wide t c =
+    let l = c.loop-turn in
+    let n = c.goes_on.new in
+    as_wide l.stretch.pending.items n.stretch.pending.items l.w n.w c.in_ok-goes.ensures.start ∙ l.invariant.wide
+
+pub turns-returns-then-not-goes-clause-ok : goal.turns-returns-then-not-goes-clause-ok
+turns-returns-then-not-goes-clause-ok t c = ?
+
+pub turns-loop-turn-preserved : goal.turns-loop-turn-preserved
+turns-loop-turn-preserved t c =
+    let ws = c.args.frame.now.locals.items in
+    let go = pure.flat_body ws (body_tree c.args.body.now) in
+    let l = c.loop-turn in
+    let n = c.goes_on.new in
+    let u = c.turn.new.w in
+    let i = l.turn in
+    let split = turns_split ws c.args.count i c.args.index go l.stretch.place l.self l.w.state c.loop-turn-test.true in
+    let same = c.in_ok-turn.ensures.start in
+    record {
+      told = ap (λ s. closed ws n.stretch.pending.items s (pure.flat_turns ws (c.args.count - (i + 1)) (i + 1) c.args.index go n.stretch.place c.turn.new.self u.state)) same
+          ∙ order_step ws (pure.flat_turn i c.args.index go) (pure.flat_turns ws (c.args.count - (i + 1)) (i + 1) c.args.index go) l.stretch.pending.items n.stretch.pending.items (started l.w) (started n.w) l.stretch.place n.stretch.place l.self n.self l.w.state n.w.state (placed c.turn.new.self u.state) _
+          (ap (closed ws l.stretch.pending.items (started l.w)) (sym split) ∙ l.invariant.told)
+          (λ widths go. subst (λ (b : Bool). closed widths n.stretch.pending.items (started n.w) (if b then go n.stretch.place n.self n.w.state else placed n.self n.w.state) ≡ closed widths l.stretch.pending.items (started l.w) (pure.go_on widths l.w.state.ended l.stretch.place go l.self l.w.state)) c.if-not-goes.false (c.in_ok-goes.ensures.told widths go))
+          c.in_ok-turn.ensures.ok;
+      start = ap (outermost n.stretch.pending.items) same ∙ c.in_ok-goes.ensures.start ∙ l.invariant.start;
+      wide = as_wide [] [] n.w u same ∙ as_wide l.stretch.pending.items n.stretch.pending.items l.w n.w c.in_ok-goes.ensures.start ∙ l.invariant.wide;
+      sized = l.invariant.sized;
+      fields = l.invariant.fields;
+    }
+
+pub body-returns-in_err-stmt-clause-large : goal.body-returns-in_err-stmt-clause-large
+body-returns-in_err-stmt-clause-large t c =
+    let ws = c.args.frame.now.locals.items in
+    let l = c.loop-s in
+    let n = c.goes_on.new in
+    let split = split_at c.args.body.now l.s-index c.s-item.result c.loop-s-test.true c.s-item.is in
+    let rest = drop (l.s-index + 1) c.args.body.now in
+    let told = subst (λ b. closed ws l.stretch.pending.items (started l.w) (pure.flat_body ws (body_tree b) l.stretch.place l.self l.w.state) ≡ pure.flat_body ws (body_tree c.args.body.now) c.args.place c.args.self.now c.args.w.now.state) split l.invariant.told in
+    let over : IsOver (pure.flat_body ws (body_tree c.args.body.now) c.args.place c.args.self.now c.args.w.now.state).given c.in_err-stmt.field-0.0 =
+    order_over ws (pure.flat_stmt ws (stmt_tree c.s-item.result)) (pure.flat_body ws (body_tree rest)) l.stretch.pending.items n.stretch.pending.items (started l.w) (started n.w) l.stretch.place n.stretch.place l.self n.self l.w.state n.w.state _ c.in_err-stmt.field-0.0
+    (body_grows ws (body_tree rest)) told
+    (λ widths go. subst (λ (b : Bool). closed widths n.stretch.pending.items (started n.w) (if b then go n.stretch.place n.self n.w.state else placed n.self n.w.state) ≡ closed widths l.stretch.pending.items (started l.w) (pure.go_on widths l.w.state.ended l.stretch.place go l.self l.w.state)) c.if-not-goes.false (c.in_ok-goes.ensures.told widths go))
+    c.in_err-stmt.ensures.large in
+    search (rules, over)
+
+pub turns-returns-in_err-turn-clause-large : goal.turns-returns-in_err-turn-clause-large
+turns-returns-in_err-turn-clause-large t c =
+    let ws = c.args.frame.now.locals.items in
+    let go = pure.flat_body ws (body_tree c.args.body.now) in
+    let l = c.loop-turn in
+    let n = c.goes_on.new in
+    let i = l.turn in
+    let split = turns_split ws c.args.count i c.args.index go l.stretch.place l.self l.w.state c.loop-turn-test.true in
+    let over : IsOver (pure.flat_turns ws c.args.count 0 c.args.index go c.args.place c.args.self.now c.args.w.now.state).given c.in_err-turn.field-0.0 =
+    order_over ws (pure.flat_turn i c.args.index go) (pure.flat_turns ws (c.args.count - (i + 1)) (i + 1) c.args.index go) l.stretch.pending.items n.stretch.pending.items (started l.w) (started n.w) l.stretch.place n.stretch.place l.self n.self l.w.state n.w.state _ c.in_err-turn.field-0.0
+    (turns_grow ws (c.args.count - (i + 1)) (i + 1) c.args.index go (body_grows ws (body_tree c.args.body.now))) (ap (closed ws l.stretch.pending.items (started l.w)) (sym split) ∙ l.invariant.told)
+    (λ widths go. subst (λ (b : Bool). closed widths n.stretch.pending.items (started n.w) (if b then go n.stretch.place n.self n.w.state else placed n.self n.w.state) ≡ closed widths l.stretch.pending.items (started l.w) (pure.go_on widths l.w.state.ended l.stretch.place go l.self l.w.state)) c.if-not-goes.false (c.in_ok-goes.ensures.told widths go))
+    c.in_err-turn.ensures.large in
+    search (rules, over)
+
+pub stmt-choose-requires : goal.stmt-choose-requires
+stmt-choose-requires t c =
+    let ws = c.args.frame.now.locals.items in
+    let parts = c.in-If in
+    let sized = subst (IsSizedStmt ws) (ap stmt_tree parts.is ∙ tree_if parts.cond parts.yes parts.no) c.requires.sized in
+    record {
+      fields = c.requires.fields;
+      wide = c.requires.wide;
+      cond = sized.0;
+      yes = subst (λ b. IsSizedBody ws (body_tree b)) (sym c.deref-in-If.ensures.value) sized.1;
+      no = subst (λ b. IsSizedBody ws (body_tree b)) (sym c.deref-in-If-2.ensures.value) sized.2;
+    }
+
+pub stmt-returns-in_err-turns-in-Repeat-clause-large : goal.stmt-returns-in_err-turns-in-Repeat-clause-large
+stmt-returns-in_err-turns-in-Repeat-clause-large t c =
+    let ws = c.args.frame.now.locals.items in
+    let p = c.args.place in
+    let w = c.args.w.now.state in
+    let e = c.in_err-turns-in-Repeat.field-0.0 in
+    let told = subst (λ y. IsOver (pure.flat_turns ws c.in-Repeat.count 0 c.in-Repeat.index (pure.flat_body ws (body_tree y)) (pure.looping p) c.args.self.now w).given e) c.deref-in-Repeat.ensures.value c.in_err-turns-in-Repeat.ensures.large in
+    let over : IsOver (pure.flat_stmt ws (stmt_tree c.args.s.now) p c.args.self.now w).given e =
+    subst (λ s. IsOver (pure.flat_stmt ws s p c.args.self.now w).given e) (sym (tree_repeat c.in-Repeat.index c.in-Repeat.count c.in-Repeat.body) ∙ sym (ap stmt_tree c.in-Repeat.is)) told in
+    search (rules, over)
+
+-- ## Choices
+
+pub choose-body-requires : goal.choose-body-requires
+choose-body-requires t c = record {
+  fields = c.requires.fields;
+  wide = ap (λ w. length w.locals) c.in_ok-outer.ensures.state ∙ c.requires.wide;
+  sized = c.requires.yes;
+}
+
+pub choose-second-requires : goal.choose-second-requires
+choose-second-requires t c = record {
+  fields = c.requires.fields;
+  wide = ap (λ w. length w.locals) (c.in_ok-first.ensures.state ∙ c.in_ok-body.ensures.start ∙ c.in_ok-outer.ensures.start) ∙ c.requires.wide;
+  sized = c.requires.no;
+}
+
+pub choose-join-requires-clause-wide : goal.choose-join-requires-clause-wide
+choose-join-requires-clause-wide t c =
+    as_wide [] [] c.flip.new.self c.second.new.w c.in_ok-second.ensures.start
+    ∙ ap (λ w. length w.locals) (c.in_ok-first.ensures.state ∙ c.in_ok-body.ensures.start ∙ c.in_ok-outer.ensures.start) ∙ c.requires.wide
+
+pub choose-returns-clause-ok : goal.choose-returns-clause-ok
+choose-returns-clause-ok t c =
+    let ws = c.args.frame.now.locals.items in
+    let p = c.args.place in
+    let v = c.in_ok-v.v in
+    let k = c.in_ok-inner.inner in
+    let g = c.value.new.self in
+    let w = c.args.w.now.state in
+    let yes = body_tree c.args.yes.now in
+    let no = body_tree c.args.no.now in
+    let ra = placed c.body.new.self c.body.new.w.state in
+    let rb = placed c.second.new.self c.second.new.w.state in
+    let ea : ra ≡ pure.flat_body ws yes k (pure.opened p v true g) w =
+    c.in_ok-body.ensures.ok ∙ ap (λ g. pure.flat_body ws yes k g c.enter.new.self.state) c.in_ok-inner.ensures.given ∙ ap (λ w. pure.flat_body ws yes k (pure.opened p v true g) w) c.in_ok-outer.ensures.state in
+    let eb : rb ≡ pure.second_side (is_empty no) p v (pure.flat_body ws no) ra.given w =
+    c.in_ok-second.ensures.ok ∙ ap (λ w. pure.second_side (is_empty no) p v (pure.flat_body ws no) ra.given w) (c.in_ok-first.ensures.state ∙ c.in_ok-body.ensures.start ∙ c.in_ok-outer.ensures.start) in
+    let ef : before c.in_ok-first.first (started c.second.new.w) ≡ c.body.new.w.state =
+    ap (before c.in_ok-first.first) (c.in_ok-second.ensures.start ∙ c.in_ok-first.ensures.start) ∙ c.in_ok-first.ensures.first in
+    c.in_ok-join.ensures.told ∙ ap (λ a. pure.join ws p v a rb) ef
+    ∙ choose_told ws p (expr_tree c.args.cond.now) yes no c.args.self.now w (valued g v) k ra rb c.in_ok-v.ensures c.in_ok-inner.ensures.inner ea eb
+
+pub choose-returns-in_err-body-clause-large : goal.choose-returns-in_err-body-clause-large
+choose-returns-in_err-body-clause-large t c =
+    let ws = c.args.frame.now.locals.items in
+    let p = c.args.place in
+    let w = c.args.w.now.state in
+    let yes = body_tree c.args.yes.now in
+    let no = body_tree c.args.no.now in
+    let e = c.in_err-body.field-0.0 in
+    let over : IsOver (pure.flat_stmt ws (choose (expr_tree c.args.cond.now) yes no) p c.args.self.now w).given e =
+    first_over ws p (expr_tree c.args.cond.now) yes no yes c.args.self.now c.open.new.self w c.enter.new.self.state (valued c.value.new.self c.in_ok-v.v) c.in_ok-inner.inner e
+    c.in_ok-v.ensures c.in_ok-inner.ensures.inner c.in_ok-inner.ensures.given c.in_ok-outer.ensures.state refl c.in_err-body.ensures.large in
+    search (rules, over)
+
+pub choose-returns-in_err-second-clause-large : goal.choose-returns-in_err-second-clause-large
+choose-returns-in_err-second-clause-large t c =
+    let ws = c.args.frame.now.locals.items in
+    let p = c.args.place in
+    let v = c.in_ok-v.v in
+    let k = c.in_ok-inner.inner in
+    let g = c.value.new.self in
+    let w = c.args.w.now.state in
+    let yes = body_tree c.args.yes.now in
+    let no = body_tree c.args.no.now in
+    let e = c.in_err-second.field-0.0 in
+    let ra = placed c.body.new.self c.body.new.w.state in
+    let ea : ra ≡ pure.flat_body ws yes (pure.below p g) (pure.opened p v true g) w =
+    c.in_ok-body.ensures.ok ∙ ap (λ g. pure.flat_body ws yes k g c.enter.new.self.state) c.in_ok-inner.ensures.given ∙ ap (λ w. pure.flat_body ws yes k (pure.opened p v true g) w) c.in_ok-outer.ensures.state
+    ∙ ap (λ k. pure.flat_body ws yes k (pure.opened p v true g) w) c.in_ok-inner.ensures.inner in
+    let large = subst (λ w. IsOver (pure.second_side (is_empty no) p v (pure.flat_body ws no) ra.given w).given e) (c.in_ok-first.ensures.state ∙ c.in_ok-body.ensures.start ∙ c.in_ok-outer.ensures.start) c.in_err-second.ensures.large in
+    let over : IsOver (pure.flat_stmt ws (choose (expr_tree c.args.cond.now) yes no) p c.args.self.now w).given e =
+    second_over ws p (expr_tree c.args.cond.now) yes no no c.args.self.now w (valued g v) ra e c.in_ok-v.ensures ea refl large in
+    search (rules, over)
