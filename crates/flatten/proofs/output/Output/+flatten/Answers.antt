@@ -1,8 +1,8 @@
-use Rattle.std.proofs.Common.{◌≡◌, ◌+◌, ◌-◌, drop, sym, ap, ◌∙◌, subst, if◌then◌else◌, Bool, true, rules, [], refl, length}
+use Rattle.std.proofs.Common.{◌≡◌, ℕ, List, ◌+◌, ◌-◌, drop, sym, ap, ◌∙◌, subst, if◌then◌else◌, Bool, true, rules, [], refl, length}
 use Rattle.element_lang.specs.Tree.StmtTree.{choose}
 use Rattle.element_lang.specs.View.{expr_tree, stmt_tree, body_tree}
 use Rattle.flatten.specs.Flatten as pure
-use Rattle.flatten.specs.Sized.{IsSizedStmt, IsSizedBody}
+use Rattle.flatten.specs.Sized.{IsSizedExpr, IsSizedStmt, IsSizedBody}
 use Rattle.flatten.specs.Journal.{before}
 use Rattle.flatten.specs.Open.{closed, outermost}
 use Rattle.flatten.specs.Pending.{placed, valued}
@@ -14,6 +14,12 @@ use Rattle.flatten.proofs.Branches.{split_at, turns_split, choose_told}
 use Rattle.flatten.proofs.Trees.{tree_if, tree_repeat}
 use Rattle.element_lang.specs.Rules.{is_empty}
 use Rattle.flatten.proofs.output.Output.+flatten.Goals as goal
+
+-- this turn and those that follow
+abbrev all_turns : List ℕ → pure.Flattener → ℕ → ℕ → ℕ → pure.Flattener
+all_turns ws go count i x p g w =
+    let r = pure.flat_turn i x go p g w in
+    pure.flat_turns ws (count - (i + 1)) (i + 1) x go p r.given r.view
 
 pub body-loop-s-preserved : goal.body-loop-s-preserved
 body-loop-s-preserved t c =
@@ -43,12 +49,10 @@ body-stmt-requires t c =
     let l = c.loop-s in
     let n = c.goes_on.new in
     let split = split_at c.args.body.now l.s-index c.s-item.result c.loop-s-test.true c.s-item.is in
-    let sized = subst (λ b. IsSizedBody ws (body_tree b)) split l.invariant.sized in
-    record {
-      fields = l.invariant.fields;
-      wide = as_wide l.stretch.pending.items n.stretch.pending.items l.w n.w c.in_ok-goes.ensures.start ∙ l.invariant.wide;
-      sized = sized.0;
-    }
+    let all = subst (λ b. IsSizedBody ws (body_tree b)) split l.invariant.sized in
+    let sized : IsSizedStmt ws (stmt_tree c.s-item.result) = all.0 in
+    let wide : length n.w.state.locals ≡ length ws = as_wide l.stretch.pending.items n.stretch.pending.items l.w n.w c.in_ok-goes.ensures.start ∙ l.invariant.wide in
+    search (rules, wide, sized)
 
 pub body-close-requires-clause-wide : goal.body-close-requires-clause-wide
 body-close-requires-clause-wide t c =
@@ -60,11 +64,8 @@ pub turns-turn-requires : goal.turns-turn-requires
 turns-turn-requires t c =
     let l = c.loop-turn in
     let n = c.goes_on.new in
-    record {
-      fields = l.invariant.fields;
-      wide = as_wide l.stretch.pending.items n.stretch.pending.items l.w n.w c.in_ok-goes.ensures.start ∙ l.invariant.wide;
-      sized = l.invariant.sized;
-    }
+    let wide : length n.w.state.locals ≡ length c.args.frame.now.locals.items = as_wide l.stretch.pending.items n.stretch.pending.items l.w n.w c.in_ok-goes.ensures.start ∙ l.invariant.wide in
+    search (rules, wide)
 
 pub turns-close-requires-clause-wide : goal.turns-close-requires-clause-wide
 turns-close-requires-clause-wide t c =
@@ -73,7 +74,17 @@ turns-close-requires-clause-wide t c =
     as_wide l.stretch.pending.items n.stretch.pending.items l.w n.w c.in_ok-goes.ensures.start ∙ l.invariant.wide
 
 pub turns-returns-then-not-goes-clause-ok : goal.turns-returns-then-not-goes-clause-ok
-turns-returns-then-not-goes-clause-ok t c = ?
+turns-returns-then-not-goes-clause-ok t c =
+    let ws = c.args.frame.now.locals.items in
+    let go = pure.flat_body ws (body_tree c.args.body.now) in
+    let l = c.loop-turn in
+    let n = c.goes_on.new in
+    let i = l.turn in
+    let split = turns_split ws c.args.count i c.args.index go l.stretch.place l.self l.w.state c.loop-turn-test.true in
+    c.in_ok-close.ensures.told
+    ∙ subst (λ (b : Bool). closed ws n.stretch.pending.items (started n.w) (if b then all_turns ws go c.args.count i c.args.index n.stretch.place n.self n.w.state else placed n.self n.w.state) ≡ closed ws l.stretch.pending.items (started l.w) (pure.go_on ws l.w.state.ended l.stretch.place (all_turns ws go c.args.count i c.args.index) l.self l.w.state))
+    c.if-not-goes.true (c.in_ok-goes.ensures.told ws (all_turns ws go c.args.count i c.args.index))
+    ∙ ap (closed ws l.stretch.pending.items (started l.w)) (sym split) ∙ l.invariant.told
 
 pub turns-loop-turn-preserved : goal.turns-loop-turn-preserved
 turns-loop-turn-preserved t c =
@@ -132,13 +143,10 @@ stmt-choose-requires t c =
     let ws = c.args.frame.now.locals.items in
     let parts = c.in-If in
     let sized = subst (IsSizedStmt ws) (ap stmt_tree parts.is ∙ tree_if parts.cond parts.yes parts.no) c.requires.sized in
-    record {
-      fields = c.requires.fields;
-      wide = c.requires.wide;
-      cond = sized.0;
-      yes = subst (λ b. IsSizedBody ws (body_tree b)) (sym c.deref-in-If.ensures.value) sized.1;
-      no = subst (λ b. IsSizedBody ws (body_tree b)) (sym c.deref-in-If-2.ensures.value) sized.2;
-    }
+    let cond : IsSizedExpr ws (expr_tree parts.cond) = sized.0 in
+    let yes : IsSizedBody ws (body_tree c.deref-in-If.result.now) = subst (λ b. IsSizedBody ws (body_tree b)) (sym c.deref-in-If.ensures.value) sized.1 in
+    let no : IsSizedBody ws (body_tree c.deref-in-If-2.result.now) = subst (λ b. IsSizedBody ws (body_tree b)) (sym c.deref-in-If-2.ensures.value) sized.2 in
+    search (rules, cond, yes, no)
 
 pub stmt-returns-in_err-turns-in-Repeat-clause-large : goal.stmt-returns-in_err-turns-in-Repeat-clause-large
 stmt-returns-in_err-turns-in-Repeat-clause-large t c =
@@ -154,18 +162,15 @@ stmt-returns-in_err-turns-in-Repeat-clause-large t c =
 -- ## Choices
 
 pub choose-body-requires : goal.choose-body-requires
-choose-body-requires t c = record {
-  fields = c.requires.fields;
-  wide = ap (λ w. length w.locals) c.in_ok-outer.ensures.state ∙ c.requires.wide;
-  sized = c.requires.yes;
-}
+choose-body-requires t c =
+    let wide : length c.enter.new.self.state.locals ≡ length c.args.frame.now.locals.items = ap (λ w. length w.locals) c.in_ok-outer.ensures.state ∙ c.requires.wide in
+    search (rules, wide)
 
 pub choose-second-requires : goal.choose-second-requires
-choose-second-requires t c = record {
-  fields = c.requires.fields;
-  wide = ap (λ w. length w.locals) (c.in_ok-first.ensures.state ∙ c.in_ok-body.ensures.start ∙ c.in_ok-outer.ensures.start) ∙ c.requires.wide;
-  sized = c.requires.no;
-}
+choose-second-requires t c =
+    let wide : length c.flip.new.self.state.locals ≡ length c.args.frame.now.locals.items =
+    ap (λ w. length w.locals) (c.in_ok-first.ensures.state ∙ c.in_ok-body.ensures.start ∙ c.in_ok-outer.ensures.start) ∙ c.requires.wide in
+    search (rules, wide)
 
 pub choose-join-requires-clause-wide : goal.choose-join-requires-clause-wide
 choose-join-requires-clause-wide t c =
