@@ -1,5 +1,5 @@
 //! States from which those before are had again.
-ghost use Rattle.std.specs.Prelude.{◌≡◌, [], IfOk, OnOk, Some};
+ghost use Rattle.std.specs.Prelude.{◌≡◌, [], length, IfOk, OnOk, Some};
 ghost use Rattle.flatten.specs.Flatten as pure;
 ghost use Rattle.flatten.specs.Journal.{before, past_of, with_local, with_locals, leave_each, AreSides};
 ghost use Rattle.flatten.specs.Tracked.{started};
@@ -97,6 +97,7 @@ impl Tracked {
     pub fn enter(&mut self, alloc: Global) -> Result<Journal, AllocError>
         ensures state { OnOk result (self.new.state ≡ self.old.state) }
         ensures start { OnOk result (started self.new ≡ self.old.state) }
+        ensures wide { OnOk result (length self.new.state.locals ≡ length self.old.state.locals) }
         ensures outer { IfOk result (λ outer. outer ≡ self.old.journal) }
     {
         let journal = Journal::at(alloc, &self.state)?;

@@ -1,7 +1,7 @@
 //! The instructions of statements.
 ghost use Rattle.std.specs.Prelude.{◌≡◌, ◌≤◌, ◌∷◌, length, IfErr, OnOk};
 ghost use Rattle.element_lang.specs.View.{expr_tree, expr_trees, stmt_tree, body_tree};
-ghost use Rattle.element_lang.specs.Tree.StmtTree.{look, put, del, choose};
+ghost use Rattle.element_lang.specs.Tree.StmtTree.{look, put, del};
 ghost use Rattle.element_lang.specs.Rules.{is_empty};
 ghost use Rattle.flatten.specs.Flatten as pure;
 ghost use Rattle.flatten.specs.Sized.{IsSizedExpr, AreSizedExprs, IsSizedStmt, IsSizedBody};
@@ -165,7 +165,15 @@ impl Output {
             Stmt::Del { was, object, keys } => self.del(
                 alloc, frame, place, *was, *object, keys, w,
             )?,
-            Stmt::If { cond, yes, no } => self.choose(alloc, frame, place, cond, yes, no, w)?,
+            Stmt::If { cond, yes, no } => {
+                let v = self.value(alloc, frame, place, &w.state, cond)?;
+                let inner = self.open(place, v, true)?;
+                let outer = w.enter(alloc)?;
+                self.body(alloc, frame, inner, yes, w)?;
+                let first = w.flip(alloc)?;
+                self.second(alloc, frame, place, v, no, w)?;
+                self.join(alloc, frame, place, v, first, outer, w)?;
+            }
             Stmt::Repeat { index, count, body } => {
                 let place = Place {
                     block: place.block,
@@ -179,40 +187,6 @@ impl Output {
             }
             Stmt::Drop => w.state.finish(NOUGHT, NOUGHT_PORT),
         }
-        Ok(())
-    }
-
-    // Both sides of an `if`, and the state that is made of what they leave.
-    #[cycle(flatten)]
-    fn choose(
-        &mut self,
-        alloc: Global,
-        frame: &Frame,
-        place: Place,
-        cond: &Expr,
-        yes: &[Stmt],
-        no: &[Stmt],
-        w: &mut Tracked,
-    ) -> Result<(), FlatError>
-        requires fields { frame.now.fields.items ≡ pure.field_widths }
-        requires wide { length w.old.state.locals ≡ length frame.now.locals.items }
-        requires cond { IsSizedExpr frame.now.locals.items (expr_tree cond.now) }
-        requires yes { IsSizedBody frame.now.locals.items (body_tree yes.now) }
-        requires no { IsSizedBody frame.now.locals.items (body_tree no.now) }
-        ensures ok { OnOk result (placed self.new w.new.state ≡ pure.flat_stmt frame.now.locals.items
-            (choose (expr_tree cond.now) (body_tree yes.now) (body_tree no.now)) place self.old w.old.state) }
-        ensures start { OnOk result (started w.new ≡ started w.old) }
-        ensures large { IfErr result (λ error. IsOver (pure.flat_stmt frame.now.locals.items
-            (choose (expr_tree cond.now) (body_tree yes.now) (body_tree no.now)) place self.old w.old.state).given
-            error) }
-    {
-        let v = self.value(alloc, frame, place, &w.state, cond)?;
-        let inner = self.open(place, v, true)?;
-        let outer = w.enter(alloc)?;
-        self.body(alloc, frame, inner, yes, w)?;
-        let first = w.flip(alloc)?;
-        self.second(alloc, frame, place, v, no, w)?;
-        self.join(alloc, frame, place, v, first, outer, w)?;
         Ok(())
     }
 

@@ -60,6 +60,7 @@ impl Output {
             (pure.go_on widths w.old.state.ended stretch.old.place go self.old w.old.state)) }
         ensures start { OnOk result (outermost stretch.new.pending.items (started w.new)
             ≡ outermost stretch.old.pending.items (started w.old)) }
+        ensures wide { OnOk result (length w.new.state.locals ≡ length w.old.state.locals) }
     {
         match w.state.ended {
             Ending::No => Ok(true),

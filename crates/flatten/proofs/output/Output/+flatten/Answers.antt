@@ -1,8 +1,7 @@
 use Rattle.std.proofs.Common.{◌≡◌, ℕ, List, ◌+◌, ◌-◌, drop, sym, ap, ◌∙◌, subst, if◌then◌else◌, Bool, true, rules, [], refl, length}
-use Rattle.element_lang.specs.Tree.StmtTree.{choose}
 use Rattle.element_lang.specs.View.{expr_tree, stmt_tree, body_tree}
 use Rattle.flatten.specs.Flatten as pure
-use Rattle.flatten.specs.Sized.{IsSizedExpr, IsSizedStmt, IsSizedBody}
+use Rattle.flatten.specs.Sized.{IsSizedBody}
 use Rattle.flatten.specs.Journal.{before}
 use Rattle.flatten.specs.Open.{closed, outermost}
 use Rattle.flatten.specs.Pending.{placed, valued}
@@ -42,17 +41,6 @@ body-loop-s-preserved t c =
       sized = sized.1;
       fields = l.invariant.fields;
     }
-
-pub body-stmt-requires : goal.body-stmt-requires
-body-stmt-requires t c =
-    let ws = c.args.frame.now.locals.items in
-    let l = c.loop-s in
-    let n = c.goes_on.new in
-    let split = split_at c.args.body.now l.s-index c.s-item.result c.loop-s-test.true c.s-item.is in
-    let all = subst (λ b. IsSizedBody ws (body_tree b)) split l.invariant.sized in
-    let sized : IsSizedStmt ws (stmt_tree c.s-item.result) = all.0 in
-    let wide : length n.w.state.locals ≡ length ws = as_wide l.stretch.pending.items n.stretch.pending.items l.w n.w c.in_ok-goes.ensures.start ∙ l.invariant.wide in
-    search (rules, wide, sized)
 
 pub body-close-requires-clause-wide : goal.body-close-requires-clause-wide
 body-close-requires-clause-wide t c =
@@ -138,16 +126,6 @@ turns-returns-in_err-turn-clause-large t c =
     c.in_err-turn.ensures.large in
     search (rules, over)
 
-pub stmt-choose-requires : goal.stmt-choose-requires
-stmt-choose-requires t c =
-    let ws = c.args.frame.now.locals.items in
-    let parts = c.in-If in
-    let sized = subst (IsSizedStmt ws) (ap stmt_tree parts.is ∙ tree_if parts.cond parts.yes parts.no) c.requires.sized in
-    let cond : IsSizedExpr ws (expr_tree parts.cond) = sized.0 in
-    let yes : IsSizedBody ws (body_tree c.deref-in-If.result.now) = subst (λ b. IsSizedBody ws (body_tree b)) (sym c.deref-in-If.ensures.value) sized.1 in
-    let no : IsSizedBody ws (body_tree c.deref-in-If-2.result.now) = subst (λ b. IsSizedBody ws (body_tree b)) (sym c.deref-in-If-2.ensures.value) sized.2 in
-    search (rules, cond, yes, no)
-
 pub stmt-returns-in_err-turns-in-Repeat-clause-large : goal.stmt-returns-in_err-turns-in-Repeat-clause-large
 stmt-returns-in_err-turns-in-Repeat-clause-large t c =
     let ws = c.args.frame.now.locals.items in
@@ -161,72 +139,65 @@ stmt-returns-in_err-turns-in-Repeat-clause-large t c =
 
 -- ## Choices
 
-pub choose-body-requires : goal.choose-body-requires
-choose-body-requires t c =
-    let wide : length c.enter.new.self.state.locals ≡ length c.args.frame.now.locals.items = ap (λ w. length w.locals) c.in_ok-outer.ensures.state ∙ c.requires.wide in
-    search (rules, wide)
+pub stmt-join-requires-clause-wide : goal.stmt-join-requires-clause-wide
+stmt-join-requires-clause-wide t c =
+    as_wide [] [] c.flip.new.self c.second.new.w c.in_ok-second-in-If.ensures.start
+    ∙ ap (λ w. length w.locals) (c.in_ok-first-in-If.ensures.state ∙ c.in_ok-body-in-If.ensures.start ∙ c.in_ok-outer-in-If.ensures.start) ∙ c.requires.wide
 
-pub choose-second-requires : goal.choose-second-requires
-choose-second-requires t c =
-    let wide : length c.flip.new.self.state.locals ≡ length c.args.frame.now.locals.items =
-    ap (λ w. length w.locals) (c.in_ok-first.ensures.state ∙ c.in_ok-body.ensures.start ∙ c.in_ok-outer.ensures.start) ∙ c.requires.wide in
-    search (rules, wide)
-
-pub choose-join-requires-clause-wide : goal.choose-join-requires-clause-wide
-choose-join-requires-clause-wide t c =
-    as_wide [] [] c.flip.new.self c.second.new.w c.in_ok-second.ensures.start
-    ∙ ap (λ w. length w.locals) (c.in_ok-first.ensures.state ∙ c.in_ok-body.ensures.start ∙ c.in_ok-outer.ensures.start) ∙ c.requires.wide
-
-pub choose-returns-clause-ok : goal.choose-returns-clause-ok
-choose-returns-clause-ok t c =
+pub stmt-returns-in_ok-join-in-If-clause-ok : goal.stmt-returns-in_ok-join-in-If-clause-ok
+stmt-returns-in_ok-join-in-If-clause-ok t c =
     let ws = c.args.frame.now.locals.items in
     let p = c.args.place in
-    let v = c.in_ok-v.v in
-    let k = c.in_ok-inner.inner in
-    let g = c.value.new.self in
+    let v = c.in_ok-v-in-If.v in
+    let k = c.in_ok-inner-in-If.inner in
+    let g = c.value-in-If.new.self in
     let w = c.args.w.now.state in
-    let yes = body_tree c.args.yes.now in
-    let no = body_tree c.args.no.now in
+    let yes = body_tree c.in-If.yes.items in
+    let no = body_tree c.in-If.no.items in
     let ra = placed c.body.new.self c.body.new.w.state in
     let rb = placed c.second.new.self c.second.new.w.state in
     let ea : ra ≡ pure.flat_body ws yes k (pure.opened p v true g) w =
-    c.in_ok-body.ensures.ok ∙ ap (λ g. pure.flat_body ws yes k g c.enter.new.self.state) c.in_ok-inner.ensures.given ∙ ap (λ w. pure.flat_body ws yes k (pure.opened p v true g) w) c.in_ok-outer.ensures.state in
+    c.in_ok-body-in-If.ensures.ok ∙ ap (λ y. pure.flat_body ws (body_tree y) k c.open.new.self c.enter.new.self.state) c.deref-in-If.ensures.value
+    ∙ ap (λ g. pure.flat_body ws yes k g c.enter.new.self.state) c.in_ok-inner-in-If.ensures.given ∙ ap (λ w. pure.flat_body ws yes k (pure.opened p v true g) w) c.in_ok-outer-in-If.ensures.state in
     let eb : rb ≡ pure.second_side (is_empty no) p v (pure.flat_body ws no) ra.given w =
-    c.in_ok-second.ensures.ok ∙ ap (λ w. pure.second_side (is_empty no) p v (pure.flat_body ws no) ra.given w) (c.in_ok-first.ensures.state ∙ c.in_ok-body.ensures.start ∙ c.in_ok-outer.ensures.start) in
-    let ef : before c.in_ok-first.first (started c.second.new.w) ≡ c.body.new.w.state =
-    ap (before c.in_ok-first.first) (c.in_ok-second.ensures.start ∙ c.in_ok-first.ensures.start) ∙ c.in_ok-first.ensures.first in
-    c.in_ok-join.ensures.told ∙ ap (λ a. pure.join ws p v a rb) ef
-    ∙ choose_told ws p (expr_tree c.args.cond.now) yes no c.args.self.now w (valued g v) k ra rb c.in_ok-v.ensures c.in_ok-inner.ensures.inner ea eb
+    c.in_ok-second-in-If.ensures.ok ∙ ap (λ y. pure.second_side (is_empty (body_tree y)) p v (pure.flat_body ws (body_tree y)) ra.given c.flip.new.self.state) c.deref-in-If-2.ensures.value
+    ∙ ap (λ w. pure.second_side (is_empty no) p v (pure.flat_body ws no) ra.given w) (c.in_ok-first-in-If.ensures.state ∙ c.in_ok-body-in-If.ensures.start ∙ c.in_ok-outer-in-If.ensures.start) in
+    let ef : before c.in_ok-first-in-If.first (started c.second.new.w) ≡ c.body.new.w.state =
+    ap (before c.in_ok-first-in-If.first) (c.in_ok-second-in-If.ensures.start ∙ c.in_ok-first-in-If.ensures.start) ∙ c.in_ok-first-in-If.ensures.first in
+    c.in_ok-join-in-If.ensures.told ∙ ap (λ a. pure.join ws p v a rb) ef
+    ∙ choose_told ws p (expr_tree c.in-If.cond) yes no c.args.self.now w (valued g v) k ra rb c.in_ok-v-in-If.ensures c.in_ok-inner-in-If.ensures.inner ea eb
+    ∙ ap (λ s. pure.flat_stmt ws s p c.args.self.now w) (sym (tree_if c.in-If.cond c.in-If.yes c.in-If.no) ∙ sym (ap stmt_tree c.in-If.is))
 
-pub choose-returns-in_err-body-clause-large : goal.choose-returns-in_err-body-clause-large
-choose-returns-in_err-body-clause-large t c =
+pub stmt-returns-in_err-body-in-If-clause-large : goal.stmt-returns-in_err-body-in-If-clause-large
+stmt-returns-in_err-body-in-If-clause-large t c =
     let ws = c.args.frame.now.locals.items in
     let p = c.args.place in
     let w = c.args.w.now.state in
-    let yes = body_tree c.args.yes.now in
-    let no = body_tree c.args.no.now in
-    let e = c.in_err-body.field-0.0 in
-    let over : IsOver (pure.flat_stmt ws (choose (expr_tree c.args.cond.now) yes no) p c.args.self.now w).given e =
-    first_over ws p (expr_tree c.args.cond.now) yes no yes c.args.self.now c.open.new.self w c.enter.new.self.state (valued c.value.new.self c.in_ok-v.v) c.in_ok-inner.inner e
-    c.in_ok-v.ensures c.in_ok-inner.ensures.inner c.in_ok-inner.ensures.given c.in_ok-outer.ensures.state refl c.in_err-body.ensures.large in
+    let e = c.in_err-body-in-If.field-0.0 in
+    let told = first_over ws p (expr_tree c.in-If.cond) (body_tree c.in-If.yes.items) (body_tree c.in-If.no.items) _ c.args.self.now c.open.new.self w c.enter.new.self.state (valued c.value-in-If.new.self c.in_ok-v-in-If.v) c.in_ok-inner-in-If.inner e
+    c.in_ok-v-in-If.ensures c.in_ok-inner-in-If.ensures.inner c.in_ok-inner-in-If.ensures.given c.in_ok-outer-in-If.ensures.state (ap body_tree c.deref-in-If.ensures.value) c.in_err-body-in-If.ensures.large in
+    let over : IsOver (pure.flat_stmt ws (stmt_tree c.args.s.now) p c.args.self.now w).given e =
+    subst (λ s. IsOver (pure.flat_stmt ws s p c.args.self.now w).given e) (sym (tree_if c.in-If.cond c.in-If.yes c.in-If.no) ∙ sym (ap stmt_tree c.in-If.is)) told in
     search (rules, over)
 
-pub choose-returns-in_err-second-clause-large : goal.choose-returns-in_err-second-clause-large
-choose-returns-in_err-second-clause-large t c =
+pub stmt-returns-in_err-second-in-If-clause-large : goal.stmt-returns-in_err-second-in-If-clause-large
+stmt-returns-in_err-second-in-If-clause-large t c =
     let ws = c.args.frame.now.locals.items in
     let p = c.args.place in
-    let v = c.in_ok-v.v in
-    let k = c.in_ok-inner.inner in
-    let g = c.value.new.self in
+    let v = c.in_ok-v-in-If.v in
+    let k = c.in_ok-inner-in-If.inner in
+    let g = c.value-in-If.new.self in
     let w = c.args.w.now.state in
-    let yes = body_tree c.args.yes.now in
-    let no = body_tree c.args.no.now in
-    let e = c.in_err-second.field-0.0 in
+    let e = c.in_err-second-in-If.field-0.0 in
+    let yes = body_tree c.in-If.yes.items in
     let ra = placed c.body.new.self c.body.new.w.state in
     let ea : ra ≡ pure.flat_body ws yes (pure.below p g) (pure.opened p v true g) w =
-    c.in_ok-body.ensures.ok ∙ ap (λ g. pure.flat_body ws yes k g c.enter.new.self.state) c.in_ok-inner.ensures.given ∙ ap (λ w. pure.flat_body ws yes k (pure.opened p v true g) w) c.in_ok-outer.ensures.state
-    ∙ ap (λ k. pure.flat_body ws yes k (pure.opened p v true g) w) c.in_ok-inner.ensures.inner in
-    let large = subst (λ w. IsOver (pure.second_side (is_empty no) p v (pure.flat_body ws no) ra.given w).given e) (c.in_ok-first.ensures.state ∙ c.in_ok-body.ensures.start ∙ c.in_ok-outer.ensures.start) c.in_err-second.ensures.large in
-    let over : IsOver (pure.flat_stmt ws (choose (expr_tree c.args.cond.now) yes no) p c.args.self.now w).given e =
-    second_over ws p (expr_tree c.args.cond.now) yes no no c.args.self.now w (valued g v) ra e c.in_ok-v.ensures ea refl large in
+    c.in_ok-body-in-If.ensures.ok ∙ ap (λ y. pure.flat_body ws (body_tree y) k c.open.new.self c.enter.new.self.state) c.deref-in-If.ensures.value
+    ∙ ap (λ g. pure.flat_body ws yes k g c.enter.new.self.state) c.in_ok-inner-in-If.ensures.given ∙ ap (λ w. pure.flat_body ws yes k (pure.opened p v true g) w) c.in_ok-outer-in-If.ensures.state
+    ∙ ap (λ k. pure.flat_body ws yes k (pure.opened p v true g) w) c.in_ok-inner-in-If.ensures.inner in
+    let large = subst (λ w. IsOver (pure.second_side (is_empty (body_tree c.deref-in-If-2.result.now)) p v (pure.flat_body ws (body_tree c.deref-in-If-2.result.now)) ra.given w).given e)
+        (c.in_ok-first-in-If.ensures.state ∙ c.in_ok-body-in-If.ensures.start ∙ c.in_ok-outer-in-If.ensures.start) c.in_err-second-in-If.ensures.large in
+    let told = second_over ws p (expr_tree c.in-If.cond) yes (body_tree c.in-If.no.items) _ c.args.self.now w (valued g v) ra e c.in_ok-v-in-If.ensures ea (ap body_tree c.deref-in-If-2.ensures.value) large in
+    let over : IsOver (pure.flat_stmt ws (stmt_tree c.args.s.now) p c.args.self.now w).given e =
+    subst (λ s. IsOver (pure.flat_stmt ws s p c.args.self.now w).given e) (sym (tree_if c.in-If.cond c.in-If.yes c.in-If.no) ∙ sym (ap stmt_tree c.in-If.is)) told in
     search (rules, over)
