@@ -174,10 +174,11 @@ set_alike (a ∷ xs) (b ∷ ys) (suc x) (suc k) id l h = set_alike xs ys x k id 
 -- the changes behind one are on both sides what they were
 on_later : (xs ys : Ids) (x : ℕ) (id : Option ValueId) (n : ℕ) (cs : List Change) → x < n → AreRising n cs → AreOn xs ys cs → AreOn (slice_set xs x id) (slice_set ys x id) cs
 on_later xs ys x id n [] lt rising on = tt
-on_later xs ys x id n (c ∷ cs) lt rising on =
-    (on.0 ∙ sym (get_or-set_other xs x c.local id None (λ e. absurd (omega (arith, lt, rising.0, e)))),
-     on.1 ∙ sym (get_or-set_other ys x c.local id None (λ e. absurd (omega (arith, lt, rising.0, e)))),
-     on_later xs ys x id (suc c.local) cs (omega (arith, lt, rising.0)) rising.1 on.2)
+on_later xs ys x id n (c ∷ cs) lt rising on = (
+  on.0 ∙ sym (get_or-set_other xs x c.local id None (λ e. absurd (omega (arith, lt, rising.0, e)))),
+  on.1 ∙ sym (get_or-set_other ys x c.local id None (λ e. absurd (omega (arith, lt, rising.0, e)))),
+  on_later xs ys x id (suc c.local) cs (omega (arith, lt, rising.0)) rising.1 on.2,
+)
 
 pub merge_told : (p : Place) (v : ValueId) (ws : List ℕ) (cs : List Change) (n : ℕ) (xs ys start : Ids) (w : View) (g : Given) → length xs ≡ length ws → length ys ≡ length ws → length start ≡ length ws → AreOn xs ys cs → AreRising n cs
     → ((x : ℕ) → IsOther x cs → value_or_none xs x ≡ value_or_none start x) → ((x : ℕ) → IsOther x cs → value_or_none ys x ≡ value_or_none start x)

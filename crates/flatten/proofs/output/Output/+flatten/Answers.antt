@@ -196,7 +196,7 @@ stmt-returns-in_err-second-in-If-clause-large t c =
     ∙ ap (λ g. pure.flat_body ws yes k g c.enter.new.self.state) c.in_ok-inner-in-If.ensures.given ∙ ap (λ w. pure.flat_body ws yes k (pure.opened p v true g) w) c.in_ok-outer-in-If.ensures.state
     ∙ ap (λ k. pure.flat_body ws yes k (pure.opened p v true g) w) c.in_ok-inner-in-If.ensures.inner in
     let large = subst (λ w. IsOver (pure.second_side (is_empty (body_tree c.deref-in-If-2.result.now)) p v (pure.flat_body ws (body_tree c.deref-in-If-2.result.now)) ra.given w).given e)
-        (c.in_ok-first-in-If.ensures.state ∙ c.in_ok-body-in-If.ensures.start ∙ c.in_ok-outer-in-If.ensures.start) c.in_err-second-in-If.ensures.large in
+    (c.in_ok-first-in-If.ensures.state ∙ c.in_ok-body-in-If.ensures.start ∙ c.in_ok-outer-in-If.ensures.start) c.in_err-second-in-If.ensures.large in
     let told = second_over ws p (expr_tree c.in-If.cond) yes (body_tree c.in-If.no.items) _ c.args.self.now w (valued g v) ra e c.in_ok-v-in-If.ensures ea (ap body_tree c.deref-in-If-2.ensures.value) large in
     let over : IsOver (pure.flat_stmt ws (stmt_tree c.args.s.now) p c.args.self.now w).given e =
     subst (λ s. IsOver (pure.flat_stmt ws s p c.args.self.now w).given e) (sym (tree_if c.in-If.cond c.in-If.yes c.in-If.no) ∙ sym (ap stmt_tree c.in-If.is)) told in
