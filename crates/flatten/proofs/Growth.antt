@@ -21,7 +21,7 @@ use Rattle.flatten.specs.declared.place.Place.{Place}
 use Rattle.flatten.specs.Flatten.{Given, View, At, Valued, Flattener, emit, give, opened, below, flat_expr, flat_exprs, operation, same_id, merge_id, merge_option, merge_ids, field_widths, merge, merge_ended, ends, select_ended, join, follow, go_on, in_order, bound, flat_turn, flat_turns, looping, second_side, flat_stmt, flat_body}
 use Rattle.flatten.specs.Over.{IsOver}
 use Rattle.flatten.specs.declared.stretch.Pending.{Pending}
-use Rattle.flatten.specs.Pending.{closed}
+use Rattle.flatten.specs.Open.{closed, outermost}
 
 abbrev pub size : Given → ℕ
 size g = length g.code
@@ -137,10 +137,10 @@ join_grows ws p v a b =
     let r = merge ws p v a b.view b.given in
     then_grows b.given r.given (merge_ended p v a.ended b.view.ended r.given).given (merge_grows ws p v a b.view b.given) (merge_ended_grows p v a.ended b.view.ended r.given)
 
-pub closed_grows : (ws : List ℕ) (ps : List Pending) (r : At) → Grows r.given (closed ws ps r).given
-closed_grows ws [] r = grows r.given
-closed_grows ws (p ∷ ps) r =
-    then_grows r.given (closed ws ps r).given (closed ws (p ∷ ps) r).given (closed_grows ws ps r) (join_grows ws p.place p.ended p.before (closed ws ps r))
+pub closed_grows : (ws : List ℕ) (ps : List Pending) (start : View) (r : At) → Grows r.given (closed ws ps start r).given
+closed_grows ws [] start r = grows r.given
+closed_grows ws (p ∷ ps) start r =
+    then_grows r.given (closed ws ps start r).given (closed ws (p ∷ ps) start r).given (closed_grows ws ps start r) (join_grows ws p.place p.ended (outermost ps start) (closed ws ps start r))
 
 -- ## Pieces
 

@@ -1,4 +1,5 @@
 pub mod Growth
+pub mod Journals
 pub mod Steps
 pub mod Trees
 pub mod GoodSizes

@@ -3,4 +3,7 @@ pub mod Flatten
 pub mod Over
 pub mod Sized
 pub mod Pending
+pub mod Journal
+pub mod Tracked
+pub mod Open
 pub mod Same

@@ -1,14 +1,8 @@
--- Blocks that are still open because a run may have ended in front of them.
-use Rattle.std.specs.Prelude.{ℕ, List, [], ◌∷◌, ◌++◌, Option}
+-- What is given and what comes of it.
+use Rattle.std.specs.Prelude.{List, ◌++◌, Option}
 use Rattle.flat_ir.specs.declared.program.ValueId.{ValueId}
 use Rattle.flatten.specs.declared.place.Ending.{Ending}
-use Rattle.flatten.specs.declared.stretch.Pending.{Pending}
-use Rattle.flatten.specs.Flatten.{View, Given, At, join, Valued, Listed, Scoped, Merged, EndedAt}
-
--- a state behind the innermost block, joined with those in front of each
-abbrev pub closed : List ℕ → List Pending → At → At
-closed widths [] r = r
-closed widths (p ∷ ps) r = join widths p.place p.ended p.before (closed widths ps r)
+use Rattle.flatten.specs.Flatten.{View, Given, At, Valued, Listed, Scoped, Merged, EndedAt}
 
 abbrev pub in_front : List ValueId → Listed → Listed
 in_front ids r = record { given = r.given; ids = ids ++ r.ids }

@@ -1,5 +1,5 @@
 //! How wide the variables of a run are.
-ghost use Rattle.std.specs.Prelude.{◌≡◌, ◌≤◌, map, IfOk};
+ghost use Rattle.std.specs.Prelude.{◌≡◌, ◌≤◌, map, get_or, IfOk};
 ghost use Rattle.packet_fields.specs.Table.{row};
 ghost use Rattle.element_lang.specs.View.{expr_tree};
 ghost use Rattle.element_lang.specs.Widths.{width_of};
@@ -25,6 +25,16 @@ impl Frame {
         let locals = local_widths(alloc, declared)?;
         let fields = widths_of_fields(alloc)?;
         Ok(Frame { locals, fields })
+    }
+
+    /// The width of a local, and 1 where there is none.
+    pub fn width_at(&self, x: u32) -> Width
+        ensures { result ≡ get_or self.now.locals.items x 1 }
+    {
+        match self.locals.get(x as usize) {
+            Some(width) => *width,
+            None => Width::new(1).unwrap(),
+        }
     }
 
     /// The width of an expression.

@@ -1,14 +1,17 @@
 //! From the syntax tree of a middlebox to its flat program.
 #![tactic(auto)]
 
+mod entry;
 mod error;
 mod frame;
+mod journal;
 mod laws;
 mod merge;
 mod occurs;
 mod output;
 mod place;
 mod program;
+mod sides;
 mod sizes;
 mod state;
 mod statement;

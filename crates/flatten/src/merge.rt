@@ -1,9 +1,13 @@
 //! Two states made one.
-ghost use Rattle.std.specs.Prelude.{◌≡◌, ◌≤◌, IfOk};
+ghost use Rattle.std.specs.Prelude.{◌≡◌, ◌≤◌, length, IfOk, OnOk};
 ghost use Rattle.flatten.specs.Flatten as pure;
+ghost use Rattle.flatten.specs.Journal.{before, merge_each, merge_rest};
 ghost use Rattle.flatten.specs.Pending.{valued, scoped, merged, ended_at, placed};
+ghost use Rattle.flatten.specs.Tracked.{started};
 
+use crate::entry::Change;
 use crate::frame::Frame;
+use crate::journal::{Journal, Tracked};
 use crate::output::Output;
 use crate::place::{Ending, Place};
 use crate::state::{NOUGHT, ONE, State};
@@ -96,33 +100,6 @@ impl Output {
         Ok(ids)
     }
 
-    // The one state where the condition is 1, and else the other; whether the run has ended is taken from the other.
-    fn merge(
-        &mut self,
-        alloc: Global,
-        frame: &Frame,
-        place: Place,
-        cond: ValueId,
-        a: &State,
-        b: &State,
-    ) -> Result<State, NoMemory>
-        requires { frame.now.fields.items ≡ pure.field_widths }
-        ensures { IfOk result (λ w.
-            placed self.new w ≡ pure.merge frame.now.locals.items place cond a.now b.now self.old) }
-    {
-        let locals = self.merge_ids(alloc, place, cond, &frame.locals, &a.locals, &b.locals)?;
-        let fields = self.merge_ids(alloc, place, cond, &frame.fields, &a.fields, &b.fields)?;
-        let send = self.merge_id(place, cond, width(1), a.send, b.send)?;
-        let port = self.merge_id(place, cond, width(8), a.port, b.port)?;
-        Ok(State {
-            locals,
-            fields,
-            send,
-            port,
-            ended: b.ended,
-        })
-    }
-
     // Whether the run has ended, the one where the condition is 1, and else the other.
     fn merge_ended(
         &mut self,
@@ -149,22 +126,69 @@ impl Output {
         }
     }
 
-    /// Makes two states one: the first where the condition is 1, and else the second.
+    // The locals that changed, one after the other.
+    fn merge_each(
+        &mut self,
+        frame: &Frame,
+        place: Place,
+        cond: ValueId,
+        changes: &[Change],
+        w: &mut Tracked,
+    ) -> Result<(), NoMemory>
+        ensures told { OnOk result (placed self.new w.new.state
+            ≡ merge_each place cond frame.now.locals.items changes.now (placed self.old w.old.state)) }
+        ensures start { OnOk result (started w.new ≡ started w.old) }
+    {
+        for change in changes {
+            let width = frame.width_at(change.local);
+            let value = self.merge_option(place, cond, width, change.first, change.second)?;
+            w.set(change.local, value)?;
+        }
+        Ok(())
+    }
+
+    // The variables other than locals.
+    fn merge_rest(
+        &mut self,
+        alloc: Global,
+        frame: &Frame,
+        place: Place,
+        cond: ValueId,
+        a: &Journal,
+        w: &mut State,
+    ) -> Result<(), NoMemory>
+        requires { frame.now.fields.items ≡ pure.field_widths }
+        ensures { OnOk result (placed self.new w.new ≡ merge_rest place cond a.now (placed self.old w.old)) }
+    {
+        w.fields = self.merge_ids(alloc, place, cond, &frame.fields, &a.fields, &w.fields)?;
+        w.send = self.merge_id(place, cond, width(1), a.send, w.send)?;
+        w.port = self.merge_id(place, cond, width(8), a.port, w.port)?;
+        w.ended = self.merge_ended(place, cond, a.ended, w.ended)?;
+        Ok(())
+    }
+
+    /// Makes two states one: the first, which is had again from where the journal began, where the condition is 1, and
+    /// else the one here. It goes on with another journal, which was kept until there.
     pub fn join(
         &mut self,
         alloc: Global,
         frame: &Frame,
         place: Place,
         cond: ValueId,
-        a: &State,
-        b: &State,
-    ) -> Result<State, NoMemory>
-        requires { frame.now.fields.items ≡ pure.field_widths }
-        ensures { IfOk result (λ w.
-            placed self.new w ≡ pure.join frame.now.locals.items place cond a.now (placed self.old b.now)) }
+        first: Journal,
+        outer: Journal,
+        w: &mut Tracked,
+    ) -> Result<(), NoMemory>
+        requires fields { frame.now.fields.items ≡ pure.field_widths }
+        requires wide { length w.old.state.locals ≡ length frame.now.locals.items }
+        ensures told { OnOk result (placed self.new w.new.state
+            ≡ pure.join frame.now.locals.items place cond (before first (started w.old)) (placed self.old w.old.state)) }
+        ensures start { OnOk result (started w.new ≡ before outer (started w.old)) }
     {
-        let both = self.merge(alloc, frame, place, cond, a, b)?;
-        let ended = self.merge_ended(place, cond, a.ended, b.ended)?;
-        Ok(State { ended, ..both })
+        let changes = w.sides(alloc, &first)?;
+        w.journal = outer;
+        self.merge_each(frame, place, cond, &changes, w)?;
+        self.merge_rest(alloc, frame, place, cond, &first, &mut w.state)?;
+        Ok(())
     }
 }

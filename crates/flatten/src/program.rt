@@ -15,6 +15,7 @@ ghost use Rattle.flatten.specs.declared.error.FlatError.TheVariants.{TooLarge};
 
 use crate::error::FlatError;
 use crate::frame::Frame;
+use crate::journal::Tracked;
 use crate::laws::{flattened_is_well_formed, flattening_keeps_the_meaning};
 use crate::occurs::Seen;
 use crate::output::Output;
@@ -144,17 +145,18 @@ fn built(alloc: Global, m: &Middlebox) -> Result<Flat, FlatError>
         block: 0,
         looped: false,
     };
-    let end = out.body(alloc, &frame, root, &m.body, start)?;
+    let mut w = Tracked::new(alloc, start)?;
+    out.body(alloc, &frame, root, &m.body, &mut w)?;
     out.keeps_size()?;
     let mut changed = Vec::new(alloc);
-    push_all(&mut changed, &fields(), &came, &end.fields)?;
+    push_all(&mut changed, &fields(), &came, &w.state.fields)?;
     Ok(Flat {
         objects: m.objects.copy(alloc)?,
         blocks: out.blocks,
         code: out.code,
         out: Out {
-            send: end.send,
-            port: end.port,
+            send: w.state.send,
+            port: w.state.port,
             fields: changed,
         },
     })

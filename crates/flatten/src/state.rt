@@ -1,12 +1,12 @@
 //! Which values stand for the variables of a run.
-ghost use Rattle.std.specs.Prelude.{◌≡◌, suc, slice_set, IfOk, OnOk, Some};
+ghost use Rattle.std.specs.Prelude.{◌≡◌, slice_set, Some};
 ghost use Rattle.packet_fields.specs.Table.{field_index};
 ghost use Rattle.flatten.specs.Flatten as pure;
+ghost use Rattle.flatten.specs.Journal as journal;
 
 use crate::place::Ending;
-use flat_ir::{FieldValue, ValueId};
+use flat_ir::ValueId;
 use packet_fields::{Field, field_index};
-use std::alloc::{AllocError, Global};
 use std::marker::Model;
 
 /// 0 of 1 bit, the first instruction of every flat program.
@@ -63,12 +63,22 @@ fn value_at(ids: &[Option<ValueId>], place: usize) -> ValueId
     }
 }
 
-// Sets the value at a place, where there is one.
-fn set_at(ids: &mut [Option<ValueId>], place: usize, id: ValueId)
-    ensures { ids.new ≡ slice_set ids.old place (Some id) }
+/// The value at a place, and none where there is no such place.
+pub(crate) fn value_or_none(ids: &[Option<ValueId>], place: usize) -> Option<ValueId>
+    ensures { result ≡ journal.value_or_none ids.now place }
+{
+    match ids.get(place) {
+        Some(id) => *id,
+        None => None,
+    }
+}
+
+/// Sets the value at a place, where there is one.
+pub(crate) fn set_at(ids: &mut [Option<ValueId>], place: usize, id: Option<ValueId>)
+    ensures { ids.new ≡ slice_set ids.old place id }
 {
     if place < ids.len() {
-        ids[place] = Some(id);
+        ids[place] = id;
     }
 }
 
@@ -87,18 +97,11 @@ impl State {
         value_at(&self.fields, field_index(field))
     }
 
-    /// Gives a local another value.
-    pub fn bind(&mut self, x: u32, id: ValueId)
-        ensures { self.new ≡ pure.bound x id self.old }
-    {
-        set_at(&mut self.locals, x as usize, id);
-    }
-
     /// Gives a field another value.
     pub fn assign(&mut self, field: Field, id: ValueId)
         ensures { self.new ≡ pure.assigned field id self.old }
     {
-        set_at(&mut self.fields, field_index(field), id);
+        set_at(&mut self.fields, field_index(field), Some(id));
     }
 
     /// Says whether the run has ended.
@@ -116,48 +119,4 @@ impl State {
         self.port = port;
         self.ended = Ending::Yes;
     }
-
-    /// The same state again.
-    pub fn copy(&self, alloc: Global) -> Result<State, AllocError>
-        ensures { IfOk result (λ made. made ≡ self.now) }
-    {
-        Ok(State {
-            locals: self.locals.to_vec(alloc)?,
-            fields: self.fields.to_vec(alloc)?,
-            send: self.send,
-            port: self.port,
-            ended: self.ended,
-        })
-    }
-
-    /// Lets go of the locals that were not in scope in another state.
-    pub fn leave(&mut self, alloc: Global, before: &State) -> Result<(), AllocError>
-        ensures { OnOk result (self.new ≡ pure.leave before.now self.old) }
-    {
-        self.locals = in_scope(alloc, &before.locals, &self.locals)?;
-        Ok(())
-    }
-}
-
-// The values of the locals that were in scope before.
-fn in_scope(
-    alloc: Global,
-    before: &[Option<ValueId>],
-    now: &[Option<ValueId>],
-) -> Result<Vec<Option<ValueId>>, AllocError>
-    ensures { IfOk result (λ ids. ids.items ≡ pure.in_scope before.now now.now) }
-{
-    let count = before.len().min(now.len());
-    let mut ids = Vec::with_capacity(alloc, count)?;
-    for i in 0..count {
-        ids.push(kept(before[i], now[i]))?;
-    }
-    Ok(ids)
-}
-
-// The value of a local, where it was in scope before.
-fn kept(before: Option<ValueId>, now: Option<ValueId>) -> Option<ValueId>
-    ensures { result ≡ pure.kept before now }
-{
-    if before.is_some() { now } else { None }
 }

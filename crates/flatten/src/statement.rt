@@ -1,5 +1,5 @@
 //! The instructions of statements.
-ghost use Rattle.std.specs.Prelude.{◌≡◌, ◌≤◌, ◌∷◌, length, IfOk, IfErr, OnOk};
+ghost use Rattle.std.specs.Prelude.{◌≡◌, ◌≤◌, ◌∷◌, length, IfErr, OnOk};
 ghost use Rattle.element_lang.specs.View.{expr_tree, expr_trees, stmt_tree, body_tree};
 ghost use Rattle.element_lang.specs.Tree.StmtTree.{look, put, del};
 ghost use Rattle.element_lang.specs.Rules.{is_empty};
@@ -7,33 +7,37 @@ ghost use Rattle.flatten.specs.Flatten as pure;
 ghost use Rattle.flatten.specs.Sized.{IsSizedExpr, AreSizedExprs, IsSizedStmt, IsSizedBody};
 ghost use Rattle.flatten.specs.Over.{IsOver};
 ghost use Rattle.flatten.specs.Pending.{placed};
+ghost use Rattle.flatten.specs.Tracked.{started};
 
 use crate::error::FlatError;
 use crate::frame::Frame;
+use crate::journal::Tracked;
 use crate::output::Output;
 use crate::place::Place;
-use crate::state::{NOUGHT, NOUGHT_PORT, ONE, State};
+use crate::state::{NOUGHT, NOUGHT_PORT, ONE};
 use crate::stretch::Stretch;
 use element_lang::{Expr, Stmt};
 use flat_ir::{InstrKind, ValueId};
 use gal_bits::Width;
 use gal_io::NoMemory;
-use std::alloc::Global;
+use std::alloc::{AllocError, Global};
 
 // Binds locals to the results of a look: the first to whether the key is there, and the others to its values.
-fn bind_results(look: u32, found: u32, into: &[u32], w: &mut State)
+fn bind_results(look: u32, found: u32, into: &[u32], w: &mut Tracked) -> Result<(), AllocError>
     requires { length into.now ≤ 8 }
-    ensures { w.new ≡ pure.bound_to look 0 (found ∷ into.now) w.old }
+    ensures state { OnOk result (w.new.state ≡ pure.bound_to look 0 (found ∷ into.now) w.old.state) }
+    ensures start { OnOk result (started w.new ≡ started w.old) }
 {
     let mut id = ValueId {
         instruction: look,
         result: 0,
     };
-    w.bind(found, id);
+    w.bind(found, id)?;
     for x in into {
         id.result += 1;
-        w.bind(*x, id);
+        w.bind(*x, id)?;
     }
+    Ok(())
 }
 
 impl Output {
@@ -47,17 +51,18 @@ impl Output {
         into: &[u32],
         object: u32,
         keys: &[Expr],
-        w: &mut State,
+        w: &mut Tracked,
     ) -> Result<(), NoMemory>
         requires keys { AreSizedExprs frame.now.locals.items (expr_trees keys.now) }
         requires few { length into.now ≤ 8 }
-        ensures { OnOk result (placed self.new w.new
+        ensures told { OnOk result (placed self.new w.new.state
             ≡ pure.flat_stmt frame.now.locals.items (look found into.now object (expr_trees keys.now)) place self.old
-            w.old) }
+            w.old.state) }
+        ensures start { OnOk result (started w.new ≡ started w.old) }
     {
-        let keys = self.values(alloc, frame, place, w, keys)?;
+        let keys = self.values(alloc, frame, place, &w.state, keys)?;
         let id = self.give(place, InstrKind::Look { object, keys })?;
-        bind_results(id.instruction, found, into, w);
+        bind_results(id.instruction, found, into, w)?;
         Ok(())
     }
 
@@ -71,23 +76,24 @@ impl Output {
         object: u32,
         keys: &[Expr],
         values: &[Expr],
-        w: &mut State,
+        w: &mut Tracked,
     ) -> Result<(), NoMemory>
         requires keys { AreSizedExprs frame.now.locals.items (expr_trees keys.now) }
         requires values { AreSizedExprs frame.now.locals.items (expr_trees values.now) }
-        ensures { OnOk result (placed self.new w.new
+        ensures told { OnOk result (placed self.new w.new.state
             ≡ pure.flat_stmt frame.now.locals.items (put ok object (expr_trees keys.now) (expr_trees values.now)) place
-            self.old w.old) }
+            self.old w.old.state) }
+        ensures start { OnOk result (started w.new ≡ started w.old) }
     {
-        let keys = self.values(alloc, frame, place, w, keys)?;
-        let values = self.values(alloc, frame, place, w, values)?;
+        let keys = self.values(alloc, frame, place, &w.state, keys)?;
+        let values = self.values(alloc, frame, place, &w.state, values)?;
         let kind = InstrKind::Put {
             object,
             keys,
             values,
         };
         let id = self.give(place, kind)?;
-        w.bind(ok, id);
+        w.bind(ok, id)?;
         Ok(())
     }
 
@@ -100,15 +106,16 @@ impl Output {
         was: u32,
         object: u32,
         keys: &[Expr],
-        w: &mut State,
+        w: &mut Tracked,
     ) -> Result<(), NoMemory>
         requires { AreSizedExprs frame.now.locals.items (expr_trees keys.now) }
-        ensures { OnOk result (placed self.new w.new
-            ≡ pure.flat_stmt frame.now.locals.items (del was object (expr_trees keys.now)) place self.old w.old) }
+        ensures told { OnOk result (placed self.new w.new.state
+            ≡ pure.flat_stmt frame.now.locals.items (del was object (expr_trees keys.now)) place self.old w.old.state) }
+        ensures start { OnOk result (started w.new ≡ started w.old) }
     {
-        let keys = self.values(alloc, frame, place, w, keys)?;
+        let keys = self.values(alloc, frame, place, &w.state, keys)?;
         let id = self.give(place, InstrKind::Del { object, keys })?;
-        w.bind(was, id);
+        w.bind(was, id)?;
         Ok(())
     }
 
@@ -121,25 +128,27 @@ impl Output {
         frame: &Frame,
         place: Place,
         s: &Stmt,
-        w: &mut State,
+        w: &mut Tracked,
     ) -> Result<(), FlatError>
         requires fields { frame.now.fields.items ≡ pure.field_widths }
+        requires wide { length w.old.state.locals ≡ length frame.now.locals.items }
         requires sized { IsSizedStmt frame.now.locals.items (stmt_tree s.now) }
-        ensures ok { OnOk result (placed self.new w.new
-            ≡ pure.flat_stmt frame.now.locals.items (stmt_tree s.now) place self.old w.old) }
+        ensures ok { OnOk result (placed self.new w.new.state
+            ≡ pure.flat_stmt frame.now.locals.items (stmt_tree s.now) place self.old w.old.state) }
+        ensures start { OnOk result (started w.new ≡ started w.old) }
         ensures large { IfErr result
-            (λ error. IsOver (pure.flat_stmt frame.now.locals.items (stmt_tree s.now) place self.old w.old).given
+            (λ error. IsOver (pure.flat_stmt frame.now.locals.items (stmt_tree s.now) place self.old w.old.state).given
             error) }
     {
         self.keeps_size()?;
         match s {
             Stmt::Let { local, value } | Stmt::Assign { local, value } => {
-                let id = self.value(alloc, frame, place, w, value)?;
-                w.bind(*local, id);
+                let id = self.value(alloc, frame, place, &w.state, value)?;
+                w.bind(*local, id)?;
             }
             Stmt::SetField { field, value } => {
-                let id = self.value(alloc, frame, place, w, value)?;
-                w.assign(*field, id);
+                let id = self.value(alloc, frame, place, &w.state, value)?;
+                w.state.assign(*field, id);
             }
             Stmt::Look {
                 found,
@@ -157,25 +166,26 @@ impl Output {
                 alloc, frame, place, *was, *object, keys, w,
             )?,
             Stmt::If { cond, yes, no } => {
-                let v = self.value(alloc, frame, place, w, cond)?;
-                let first = self.open(place, v, true)?;
-                let start = w.copy(alloc)?;
-                let a = self.body(alloc, frame, first, yes, start)?;
-                let b = self.second(alloc, frame, place, v, no, w)?;
-                *w = self.join(alloc, frame, place, v, &a, &b)?;
+                let v = self.value(alloc, frame, place, &w.state, cond)?;
+                let inner = self.open(place, v, true)?;
+                let outer = w.enter(alloc)?;
+                self.body(alloc, frame, inner, yes, w)?;
+                let first = w.flip(alloc)?;
+                self.second(alloc, frame, place, v, no, w)?;
+                self.join(alloc, frame, place, v, first, outer, w)?;
             }
             Stmt::Repeat { index, count, body } => {
                 let place = Place {
                     block: place.block,
                     looped: true,
                 };
-                *w = self.turns(alloc, frame, place, *index, *count, body, w)?;
+                self.turns(alloc, frame, place, *index, *count, body, w)?;
             }
             Stmt::Send { port } => {
-                let id = self.value(alloc, frame, place, w, port)?;
-                w.finish(ONE, id);
+                let id = self.value(alloc, frame, place, &w.state, port)?;
+                w.state.finish(ONE, id);
             }
-            Stmt::Drop => w.finish(NOUGHT, NOUGHT_PORT),
+            Stmt::Drop => w.state.finish(NOUGHT, NOUGHT_PORT),
         }
         Ok(())
     }
@@ -190,23 +200,24 @@ impl Output {
         place: Place,
         cond: ValueId,
         no: &[Stmt],
-        w: &State,
-    ) -> Result<State, FlatError>
+        w: &mut Tracked,
+    ) -> Result<(), FlatError>
         requires fields { frame.now.fields.items ≡ pure.field_widths }
+        requires wide { length w.old.state.locals ≡ length frame.now.locals.items }
         requires sized { IsSizedBody frame.now.locals.items (body_tree no.now) }
         ensures ok { let second = pure.flat_body frame.now.locals.items (body_tree no.now) in
-            IfOk result (λ made. placed self.new made
-            ≡ pure.second_side (is_empty (body_tree no.now)) place cond second self.old w.now) }
+            OnOk result (placed self.new w.new.state
+            ≡ pure.second_side (is_empty (body_tree no.now)) place cond second self.old w.old.state) }
+        ensures start { OnOk result (started w.new ≡ started w.old) }
         ensures large { let second = pure.flat_body frame.now.locals.items (body_tree no.now) in
             IfErr result (λ error. IsOver
-            (pure.second_side (is_empty (body_tree no.now)) place cond second self.old w.now).given error) }
+            (pure.second_side (is_empty (body_tree no.now)) place cond second self.old w.old.state).given error) }
     {
-        let start = w.copy(alloc)?;
         if no.is_empty() {
-            return Ok(start);
+            return Ok(());
         }
         let inner = self.open(place, cond, false)?;
-        self.body(alloc, frame, inner, no, start)
+        self.body(alloc, frame, inner, no, w)
     }
 
     // The turns of a `repeat`.
@@ -219,35 +230,30 @@ impl Output {
         index: u32,
         count: u8,
         body: &[Stmt],
-        w: &State,
-    ) -> Result<State, FlatError>
+        w: &mut Tracked,
+    ) -> Result<(), FlatError>
         requires fields { frame.now.fields.items ≡ pure.field_widths }
+        requires wide { length w.old.state.locals ≡ length frame.now.locals.items }
         requires sized { IsSizedBody frame.now.locals.items (body_tree body.now) }
         ensures ok { let widths = frame.now.locals.items in
-            IfOk result (λ made. placed self.new made
-            ≡ pure.flat_turns widths count 0 index (pure.flat_body widths (body_tree body.now)) place self.old w.now) }
+            OnOk result (placed self.new w.new.state
+            ≡ pure.flat_turns widths count 0 index (pure.flat_body widths (body_tree body.now)) place self.old
+            w.old.state) }
+        ensures start { OnOk result (started w.new ≡ started w.old) }
         ensures large { let widths = frame.now.locals.items in
             IfErr result (λ error. IsOver
             (pure.flat_turns widths count 0 index (pure.flat_body widths (body_tree body.now)) place self.old
-            w.now).given error) }
+            w.old.state).given error) }
     {
-        let mut stretch = Stretch::new(alloc, place, w.copy(alloc)?);
+        let mut stretch = Stretch::new(alloc, place);
         for turn in 0..count {
-            let goes = self.goes_on(alloc, &mut stretch)?;
+            let goes = self.goes_on(alloc, &mut stretch, w)?;
             if !goes {
-                return Ok(self.close(alloc, frame, stretch)?);
+                return Ok(self.close(alloc, frame, stretch, w)?);
             }
-            self.turn(
-                alloc,
-                frame,
-                stretch.place,
-                index,
-                turn,
-                body,
-                &mut stretch.state,
-            )?;
+            self.turn(alloc, frame, stretch.place, index, turn, body, w)?;
         }
-        Ok(self.close(alloc, frame, stretch)?)
+        Ok(self.close(alloc, frame, stretch, w)?)
     }
 
     // One turn, whose number the local `index` has. What is declared in it is out of scope behind it.
@@ -260,28 +266,29 @@ impl Output {
         index: u32,
         turn: u8,
         body: &[Stmt],
-        w: &mut State,
+        w: &mut Tracked,
     ) -> Result<(), FlatError>
         requires fields { frame.now.fields.items ≡ pure.field_widths }
+        requires wide { length w.old.state.locals ≡ length frame.now.locals.items }
         requires sized { IsSizedBody frame.now.locals.items (body_tree body.now) }
-        ensures ok { OnOk result (placed self.new w.new
+        ensures ok { OnOk result (placed self.new w.new.state
             ≡ pure.flat_turn turn index (pure.flat_body frame.now.locals.items (body_tree body.now)) place self.old
-            w.old) }
+            w.old.state) }
+        ensures start { OnOk result (started w.new ≡ started w.old) }
         ensures large { IfErr result
             (λ error. IsOver (pure.flat_turn turn index (pure.flat_body frame.now.locals.items (body_tree body.now))
-            place self.old w.old).given error) }
+            place self.old w.old.state).given error) }
     {
         let number = InstrKind::Const(Width::new(32).unwrap(), u64::from(turn));
         let id = self.give(place, number)?;
-        let mut start = w.copy(alloc)?;
-        start.bind(index, id);
-        let mut end = self.body(alloc, frame, place, body, start)?;
-        end.leave(alloc, w)?;
-        *w = end;
+        let outer = w.enter(alloc)?;
+        w.bind(index, id)?;
+        self.body(alloc, frame, place, body, w)?;
+        w.leave(alloc, outer)?;
         Ok(())
     }
 
-    /// The instructions of statements, one after the other, and the state behind them.
+    /// The instructions of statements, one after the other; the state becomes that behind them.
     #[cycle(flatten)]
     pub fn body(
         &mut self,
@@ -289,24 +296,25 @@ impl Output {
         frame: &Frame,
         place: Place,
         body: &[Stmt],
-        w: State,
-    ) -> Result<State, FlatError>
+        w: &mut Tracked,
+    ) -> Result<(), FlatError>
         requires fields { frame.now.fields.items ≡ pure.field_widths }
+        requires wide { length w.old.state.locals ≡ length frame.now.locals.items }
         requires sized { IsSizedBody frame.now.locals.items (body_tree body.now) }
-        ensures ok { IfOk result (λ made.
-            placed self.new made ≡ pure.flat_body frame.now.locals.items (body_tree body.now) place self.old w) }
-        ensures large { IfErr result
-            (λ error. IsOver (pure.flat_body frame.now.locals.items (body_tree body.now) place self.old w).given
-            error) }
+        ensures ok { OnOk result (placed self.new w.new.state
+            ≡ pure.flat_body frame.now.locals.items (body_tree body.now) place self.old w.old.state) }
+        ensures start { OnOk result (started w.new ≡ started w.old) }
+        ensures large { IfErr result (λ error.
+            IsOver (pure.flat_body frame.now.locals.items (body_tree body.now) place self.old w.old.state).given error) }
     {
-        let mut stretch = Stretch::new(alloc, place, w);
+        let mut stretch = Stretch::new(alloc, place);
         for s in body {
-            let goes = self.goes_on(alloc, &mut stretch)?;
+            let goes = self.goes_on(alloc, &mut stretch, w)?;
             if !goes {
-                return Ok(self.close(alloc, frame, stretch)?);
+                return Ok(self.close(alloc, frame, stretch, w)?);
             }
-            self.stmt(alloc, frame, stretch.place, s, &mut stretch.state)?;
+            self.stmt(alloc, frame, stretch.place, s, w)?;
         }
-        Ok(self.close(alloc, frame, stretch)?)
+        Ok(self.close(alloc, frame, stretch, w)?)
     }
 }

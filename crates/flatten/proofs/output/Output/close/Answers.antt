@@ -1,0 +1,22 @@
+use Rattle.std.proofs.Common.{◌≡◌, ◌++◌, ◌∷◌, [], ◌∙◌, rules}
+use Rattle.flatten.specs.Journal.{before}
+use Rattle.flatten.specs.Tracked.{started}
+use Rattle.flatten.proofs.Steps.{close_start, close_told, as_wide}
+use Rattle.flatten.proofs.output.Output.close.Goals as goal
+
+pub loop-open-preserved : goal.loop-open-preserved
+loop-open-preserved c =
+    let ws = c.args.frame.now.locals.items in
+    let ps = c.pop.new.self.items in
+    let all = c.loop-open.pending.items in
+    let p = c.in-Some.open in
+    let w = c.loop-open.w in
+    let u = c.join.new.w in
+    let ea : all ≡ ps ++ p ∷ [] = c.in-Some.ensures.items in
+    let start = close_start ps all p w u ea c.in_ok-join.ensures.start in
+    record {
+      told = close_told ws ps all p w u c.loop-open.self c.join.new.self (before c.in_ok-first.first (started w)) ea c.in_ok-first.ensures c.in_ok-join.ensures.told c.in_ok-join.ensures.start ∙ c.loop-open.invariant.told;
+      start = start ∙ c.loop-open.invariant.start;
+      wide = as_wide all ps w u start ∙ c.loop-open.invariant.wide;
+      fields = c.loop-open.invariant.fields;
+    }
