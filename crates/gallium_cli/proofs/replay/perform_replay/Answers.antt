@@ -1,4 +1,5 @@
 use Rattle.std.proofs.lemmas.Result.{err_from_is_err_and}
+use Rattle.gallium_cli.specs.Roles.{event_gates}
 use Rattle.gallium_cli.specs.Words.{Replay}
 use Rattle.gallium_cli.proofs.Counted.{gate_counts, goes_further, put_counts, replay_counts, unput_counts}
 use Rattle.gallium_cli.proofs.Written.{served_refused, served_answer, served_reads, put_answer, unput_answer}
@@ -42,7 +43,8 @@ pub returns-in_err-packets-clause-fault : goal.returns-in_err-packets-clause-fau
 returns-in_err-packets-clause-fault g c =
     let p = err_from_is_err_and c.from_residual-in_err-packets.result c.from_residual-in_err-packets.ensures.1 in
     rw (p.1, p.2)
-    (gate_counts _ _ _ _ _ _ _ c.in_err-packets.ensures.err
+    (gate_counts _ (event_gates c.args.trace.now c.args.schedule.now) (g.F.Files.seen c.load_unsplit.new.files) _ _ _ _
+    c.in_err-packets.ensures.err
     (goes_further _ _ _ _ c.in_ok-middlebox.ensures.stays c.in_err-packets.ensures.fault))
 
 pub returns-in_err-text-clause-fault : goal.returns-in_err-text-clause-fault
