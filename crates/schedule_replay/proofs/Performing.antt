@@ -126,7 +126,7 @@ starts_with code (Some before) new told starts is = subst (IsStart code) (same_S
 
 pub started : StartLaw → FirstAnswer → FirstTie → (x : Setup) (c : Course) (server : Server) (old new : PortState) → IsReady x
     → Loads port.Done (code_for x) old new → server_of c.server ≡ server
-    → server ≡ record { program = x.program; split = x.split; store = start_store x.program.objects; version = 0 }
+    → server ≡ record { program = x.program; split = x.split; store = start_store x.program.objects; version = 0; evaluated = 0 }
     → replay_of c ≡ first_replay server.store → HasGone x [] c old new
 started start answer tie x c server old new ready loads served is replay =
     let first : replay_of c ≡ first_replay (start_store x.program.objects) = replay ∙ ap (λ s. first_replay s.store) is in

@@ -22,7 +22,7 @@ use Rattle.output_commit.specs.Commit.{batch_of, with_output}
 use Rattle.run_text.specs.declared.event.Event.TheVariants.{Serve}
 use Rattle.server_runtime.specs.declared.served.Served.{Served}
 use Rattle.server_runtime.specs.declared.server.Server.{Server as Runtime}
-use Rattle.server_runtime.specs.Serving.{Server, IsServed, IsUpdateIn, followed_writes, is_followed, served_store, served_updates, served_frame, version_after}
+use Rattle.server_runtime.specs.Serving.{Server, IsServed, IsUpdateIn, evaluated_steps, followed_writes, is_followed, served_store, served_updates, served_frame, version_after}
 use Rattle.server_runtime.specs.Views.{server_of}
 use Rattle.switch_ir.specs.Port.{PortState, IsCommandOf, IsUpdateOf, IsReplicatedIn}
 use Rattle.split_world.specs.Answered.{Happens}
@@ -101,6 +101,7 @@ of_program x before after frame s p q is = record {
   few = subst (λ f. length s.updates ≤ followed_writes f x.split) p (subst (λ y. length s.updates ≤ followed_writes before.program y) q is.few);
   version = is.version;
   told = is.told;
+  evaluated = is.evaluated ∙ (λ i. evaluated_steps (p i) (q i));
 }
 
 -- the replay then, by its parts

@@ -22,5 +22,6 @@ returns-clause-started g c =
       split = c.args.job.now.split;
       store = st;
       version = 0;
+      evaluated = 0;
     }) c.in_ok-store.ensures)
     c.new-3.ensures.replay
