@@ -1,5 +1,5 @@
 -- What a call of a switch may be given, by the code that is loaded.
-use Rattle.std.proofs.Common.{◌≡◌, ℕ, false, List, [], ◌∷◌, Some, ap, sym, subst}
+use Rattle.std.proofs.Common.{◌≡◌, ℕ, false, List, [], ◌∷◌, Some, ap, refl, sym, subst}
 use Rattle.std.specs.Prelude.{IsSome, IfSome}
 use Rattle.state_store.specs.declared.object.ObjectDecl.{ObjectDecl}
 use Rattle.state_store.specs.Kinds.{is_table}
@@ -10,7 +10,7 @@ use Rattle.switch_ir.specs.Tables.{declared_at}
 use Rattle.switch_ir.specs.Port.{PortState, IsLoaded, IsReplicatedIn, HasReplicated, IsDownFrame}
 
 pub loaded_by : (state : PortState) (code : Code) → state.code ≡ Some code → IsLoaded state
-loaded_by state code e = subst (λ c. IsSome c) (sym e) tt
+loaded_by state code e = subst (λ c. IsSome c) (sym e) refl
 
 pub shown_by : (state : PortState) (code : Code) → state.code ≡ Some code → (d : ObjectDecl) × IsReplicatedIn code 0 d
     → HasReplicated state 0
