@@ -8,17 +8,9 @@ ghost use Rattle.gallium_cli.specs.Status.{code_of};
 
 mod arrivals;
 mod compile;
-#[cfg(test)]
-mod drain_tests;
-#[cfg(test)]
-mod fault_tests;
-#[cfg(test)]
-mod flat_tests;
 mod formats;
 mod load;
 mod output;
-#[cfg(test)]
-mod print_tests;
 mod refusal;
 mod replay;
 mod status;
