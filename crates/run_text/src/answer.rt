@@ -1,27 +1,33 @@
 //! The text that a run alone writes.
-ghost use Rattle.std.specs.Prelude.{◌≡◌, ◌++◌, IfOk, OnOk, string_bytes};
+ghost use Rattle.std.specs.Prelude.{◌≡◌, ◌++◌, IfOk, OnOk};
 ghost use Rattle.run_text.specs.Answer.{answer_of, verdict_line, verdict_lines};
 
 use crate::parts::put_parts;
-use crate::report::verdict_text;
+use crate::report::{put_packet_number, put_verdict};
 use crate::run::Parts;
 use gal_io::{NoMemory, Text};
 use packet_fields::Verdict;
 use state_store::Objects;
 use std::alloc::Global;
 
-fn verdict_line(alloc: Global, number: usize, verdict: &Verdict) -> Result<String, NoMemory>
-    ensures { IfOk result (λ line. string_bytes line ≡ verdict_line number verdict.now) }
+fn put_verdict_line(
+    alloc: Global,
+    number: usize,
+    verdict: &Verdict,
+    text: &mut Text,
+) -> Result<(), NoMemory>
+    ensures { OnOk result (text.new ≡ text.old ++ verdict_line number verdict.now) }
 {
-    let verdict = verdict_text(alloc, verdict)?;
-    Ok(format!(in alloc; "packet {number} {verdict}\n")?)
+    put_packet_number(number, text)?;
+    put_verdict(alloc, verdict, text)?;
+    text.push(b'\n')
 }
 
 fn put_verdicts(alloc: Global, verdicts: &[Verdict], text: &mut Text) -> Result<(), NoMemory>
     ensures { OnOk result (text.new ≡ text.old ++ verdict_lines 0 verdicts.now) }
 {
     for number in 0..verdicts.len() {
-        text.extend(verdict_line(alloc, number, &verdicts[number])?.as_bytes())?;
+        put_verdict_line(alloc, number, &verdicts[number], text)?;
     }
     Ok(())
 }

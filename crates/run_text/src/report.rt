@@ -1,5 +1,6 @@
 //! The text of a report.
-ghost use Rattle.std.specs.Prelude.{◌≡◌, ◌++◌, IfOk, OnOk, string_bytes};
+ghost use Rattle.std.specs.Prelude.{◌≡◌, ◌++◌, codes, decimal, IfOk, OnOk, string_bytes};
+ghost use Rattle.hex.specs.Hex.{IsBytes};
 ghost use Rattle.run_text.specs.Report.{body_text, decided_text, drained_line, events_line, fate_line};
 ghost use Rattle.run_text.specs.Report.{fate_lines, fate_text, order_line, packets_line, released_text, report_of};
 ghost use Rattle.run_text.specs.Report.{tables_text, verdict_text, version_line};
@@ -13,59 +14,79 @@ use packet_fields::Verdict;
 use state_store::{ObjectDecl, Objects};
 use std::alloc::Global;
 
-pub(crate) fn body_text(alloc: Global, bytes: &[u8]) -> Result<String, NoMemory>
-    ensures { IfOk result (λ text. string_bytes text ≡ body_text bytes.now) }
+/// Puts the bytes of a packet behind a text: in lower-case hexadecimal digits, or `-` for none.
+pub(crate) fn put_body(alloc: Global, bytes: &[u8], text: &mut Text) -> Result<(), NoMemory>
+    ensures text { OnOk result (text.new ≡ text.old ++ body_text bytes.now) }
+    ensures fits { IsBytes bytes.now }
 {
     match bytes {
-        [] => Ok(String::from_str(alloc, "-")?),
-        _ => Ok(hex::encode(alloc, bytes)?),
+        [] => text.push(b'-'),
+        _ => text.extend(hex::encode(alloc, bytes)?.as_bytes()),
     }
 }
 
-pub(crate) fn verdict_text(alloc: Global, verdict: &Verdict) -> Result<String, NoMemory>
-    ensures { IfOk result (λ text. string_bytes text ≡ verdict_text verdict.now) }
+/// Puts a verdict behind a text.
+pub(crate) fn put_verdict(alloc: Global, verdict: &Verdict, text: &mut Text) -> Result<(), NoMemory>
+    ensures { OnOk result (text.new ≡ text.old ++ verdict_text verdict.now) }
 {
     match verdict {
-        Verdict::Drop => Ok(String::from_str(alloc, "drop")?),
+        Verdict::Drop => text.extend(b"drop"),
         Verdict::Send(port, bytes) => {
-            let body = body_text(alloc, bytes.as_slice())?;
-            Ok(format!(in alloc; "send {port} {body}")?)
+            put_labelled("send ", u32::from(*port), text)?;
+            text.push(b' ')?;
+            put_body(alloc, bytes.as_slice(), text)
         }
     }
 }
 
-fn decided_text(
-    alloc: Global,
+// Puts a number behind a label.
+fn put_labelled(label: &str, number: u32, text: &mut Text) -> Result<(), NoMemory>
+    ensures { OnOk result (text.new ≡ text.old ++ (label.now ++ decimal number)) }
+{
+    text.extend(label.as_bytes())?;
+    text.push_number(u64::from(number))
+}
+
+fn put_decided(
     path: &str,
     admitted: u32,
     decided: u32,
     version: u32,
-) -> Result<String, NoMemory>
-    ensures { IfOk result (λ text. string_bytes text ≡ decided_text path.now admitted decided version) }
+    text: &mut Text,
+) -> Result<(), NoMemory>
+    ensures { OnOk result (text.new ≡ text.old ++ decided_text path.now admitted decided version) }
 {
-    Ok(format!(in alloc; "{path} admitted {admitted} decided {decided} version {version}")?)
+    text.extend(path.as_bytes())?;
+    put_labelled(" admitted ", admitted, text)?;
+    put_labelled(" decided ", decided, text)?;
+    put_labelled(" version ", version, text)
 }
 
-fn released_text(alloc: Global, released: u32, verdict: &Verdict) -> Result<String, NoMemory>
-    ensures { IfOk result (λ text. string_bytes text ≡ released_text released verdict.now) }
+fn put_released(
+    alloc: Global,
+    released: u32,
+    verdict: &Verdict,
+    text: &mut Text,
+) -> Result<(), NoMemory>
+    ensures { OnOk result (text.new ≡ text.old ++ released_text released verdict.now) }
 {
-    let verdict = verdict_text(alloc, verdict)?;
-    Ok(format!(in alloc; " released {released} {verdict}")?)
+    put_labelled(" released ", released, text)?;
+    text.push(b' ')?;
+    put_verdict(alloc, verdict, text)
 }
 
-fn fate_text(alloc: Global, fate: &Fate) -> Result<String, NoMemory>
-    ensures { IfOk result (λ text. string_bytes text ≡ fate_text fate.now) }
+fn put_fate(alloc: Global, fate: &Fate, text: &mut Text) -> Result<(), NoMemory>
+    ensures { OnOk result (text.new ≡ text.old ++ fate_text fate.now) }
 {
     match fate {
-        Fate::Up { admitted } => Ok(format!(in alloc; "up admitted {admitted}")?),
+        Fate::Up { admitted } => put_labelled("up admitted ", *admitted, text),
         Fate::Held {
             admitted,
             decided,
             version,
         } => {
-            let mut held = decided_text(alloc, "slow", *admitted, *decided, *version)?;
-            held.push_str(" held")?;
-            Ok(held)
+            put_decided("slow", *admitted, *decided, *version, text)?;
+            text.extend(b" held")
         }
         Fate::Slow {
             admitted,
@@ -74,9 +95,8 @@ fn fate_text(alloc: Global, fate: &Fate) -> Result<String, NoMemory>
             released,
             verdict,
         } => {
-            let mut slow = decided_text(alloc, "slow", *admitted, *decided, *version)?;
-            slow.push_str(released_text(alloc, *released, verdict)?.as_str())?;
-            Ok(slow)
+            put_decided("slow", *admitted, *decided, *version, text)?;
+            put_released(alloc, *released, verdict, text)
         }
         Fate::Fast {
             admitted,
@@ -85,25 +105,34 @@ fn fate_text(alloc: Global, fate: &Fate) -> Result<String, NoMemory>
             released,
             verdict,
         } => {
-            let mut fast = decided_text(alloc, "fast", *admitted, *decided, *version)?;
-            fast.push_str(released_text(alloc, *released, verdict)?.as_str())?;
-            Ok(fast)
+            put_decided("fast", *admitted, *decided, *version, text)?;
+            put_released(alloc, *released, verdict, text)
         }
     }
 }
 
-fn fate_line(alloc: Global, number: usize, fate: &Fate) -> Result<String, NoMemory>
-    ensures { IfOk result (λ line. string_bytes line ≡ fate_line number fate.now) }
+/// Puts the front of the line of a packet behind a text: its number and a space.
+pub(crate) fn put_packet_number(number: usize, text: &mut Text) -> Result<(), NoMemory>
+    ensures { OnOk result (text.new ≡ text.old ++ (codes "packet " ++ (decimal number ++ codes " "))) }
 {
-    let fate = fate_text(alloc, fate)?;
-    Ok(format!(in alloc; "packet {number} {fate}\n")?)
+    text.extend(b"packet ")?;
+    text.push_number(number as u64)?;
+    text.push(b' ')
+}
+
+fn put_fate_line(alloc: Global, number: usize, fate: &Fate, text: &mut Text) -> Result<(), NoMemory>
+    ensures { OnOk result (text.new ≡ text.old ++ fate_line number fate.now) }
+{
+    put_packet_number(number, text)?;
+    put_fate(alloc, fate, text)?;
+    text.push(b'\n')
 }
 
 fn put_fates(alloc: Global, fates: &[Fate], text: &mut Text) -> Result<(), NoMemory>
     ensures { OnOk result (text.new ≡ text.old ++ fate_lines 0 fates.now) }
 {
     for number in 0..fates.len() {
-        text.extend(fate_line(alloc, number, &fates[number])?.as_bytes())?;
+        put_fate_line(alloc, number, &fates[number], text)?;
     }
     Ok(())
 }

@@ -1,15 +1,14 @@
 //! The text of a trace.
 ghost use Rattle.std.specs.Prelude.{◌≡◌, ◌≤◌, ◌⊎◌, ◌++◌, length, false, codes, decimal, IfOk, IfErr, OnOk, Ok, Err};
-ghost use Rattle.hex.specs.Hex.{IsBytes};
 ghost use Rattle.packet_fields.specs.Sizes.{AreShort, largest_packet};
 ghost use Rattle.run_text.specs.Printed.{IsLineOf, packet_text, trace_text};
-ghost use Rattle.run_text.specs.Report.{body_text, line_end};
+ghost use Rattle.run_text.specs.Report.{line_end};
 ghost use Rattle.run_text.specs.Sizes.{most_packets};
 ghost use Rattle.run_text.specs.Trace.{body_of, packet_line, trace_of};
 
 use crate::line_value::{LineValue, read_values, split_at_space};
 use crate::refusal::{LineKind, LinesError, MAX_PACKETS};
-use crate::report::body_text;
+use crate::report::put_body;
 use gal_io::{Bytes, NoMemory, Text, number_up_to};
 use hex::FromHexError;
 use packet_fields::{Packet, Packets, is_short};
@@ -26,7 +25,7 @@ fn read_body(alloc: Global, body: &[u8]) -> Result<Result<Bytes, LineKind>, NoMe
         return Ok(Ok(Bytes::new(alloc)));
     }
     match hex::decode(alloc, body) {
-        Ok(bytes) if is_short(&bytes) => { Ok(Ok(Bytes::from_slice(alloc, &bytes)?)) }
+        Ok(bytes) if is_short(&bytes) => Ok(Ok(Bytes::from(bytes))),
         Ok(_) => Ok(Err(LineKind::Long)),
         Err(FromHexError::OutOfMemory) => Err(NoMemory),
         Err(_) => Ok(Err(LineKind::Hex)),
@@ -76,13 +75,6 @@ fn put_port(port: u8, text: &mut Text) -> Result<(), NoMemory>
 {
     text.push_number(u64::from(port))?;
     text.push(b' ')
-}
-
-fn put_body(alloc: Global, bytes: &[u8], text: &mut Text) -> Result<(), NoMemory>
-    ensures text { OnOk result (text.new ≡ text.old ++ body_text bytes.now) }
-    ensures fits { IsBytes bytes.now }
-{
-    text.extend(body_text(alloc, bytes)?.as_bytes())
 }
 
 fn put_packet(alloc: Global, packet: &Packet, text: &mut Text) -> Result<(), NoMemory>
