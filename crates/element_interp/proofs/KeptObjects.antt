@@ -21,7 +21,8 @@ use Rattle.element_lang.specs.declared.sizes.TheConstants.{MAX_ROWS}
 use Rattle.state_store.specs.Kinds.{is_table, is_map}
 use Rattle.element_lang.specs.Rules.{same_widths, is_size, are_good_rows, is_good_object, are_good_objects}
 use Rattle.element_interp.proofs.Tests.{left, right, the_some, none_some}
-use Rattle.element_interp.proofs.Values.{one_width, same_list}
+use Rattle.gal_bits.specs.Fits.{same_list}
+use Rattle.state_store.specs.Widths.{one_width, zeros_have_widths}
 
 -- ---- rows
 no_rows : (keys values : List ℕ) → AreRows keys values empty
@@ -45,10 +46,6 @@ rows_fit keys values seen (row ∷ rows) contents h old =
     (with_row keys values row.keys row.values contents (left (have_widths keys row.keys) _ widths) (right _ (have_widths values row.values) widths) old)
 
 -- the zeros of a vector, whose indices have 32 bits
-zeros_have_widths : (widths : List ℕ) → have_widths widths (replicate (length widths) 0) ≡ true
-zeros_have_widths [] = refl
-zeros_have_widths (w ∷ widths) = one_width w 0 widths (replicate (length widths) 0) (pow_pos w) (zeros_have_widths widths)
-
 few_zeros : (n i width : ℕ) (contents : Contents) → len (zeros_from n i width contents) ≤ len contents + n
 few_zeros zero i width contents = omega arith
 few_zeros (suc n) i width contents =

@@ -2,7 +2,6 @@ pub mod Tests
 pub mod FieldOrder
 pub mod NoBits
 pub mod GoodRuns
-pub mod Values
 pub mod KeptObjects
 pub mod KeptRuns
 pub mod Bindings

@@ -15,16 +15,8 @@ use Rattle.gal_bits.specs.Fitting.{is_width}
 use Rattle.flat_ir.specs.Fits.{same_widths, fits_operator, is_select, is_shift, fits_keys, fits_values, can_put, can_del, widths_of, fits}
 use Rattle.flat_ir.specs.WellFormed.{WritesNoTable, is_constant}
 use Rattle.flat_ir.specs.Operands.{CanRun, HasFewKeys}
+use Rattle.gal_bits.specs.Fits.{same_list}
 use Rattle.flat_ir.proofs.Parts.{left, right, not_true}
-
-pub same_list : (xs ys : List ℕ) → same_widths xs ys ≡ true → xs ≡ ys
-same_list [] [] h = refl
-same_list [] (y ∷ ys) h = absurd (true≢false (sym h))
-same_list (x ∷ xs) [] h = absurd (true≢false (sym h))
-same_list (x ∷ xs) (y ∷ ys) h =
-    let first : x ≡ y = eqb-true x y (left _ _ h) in
-    let rest : xs ≡ ys = same_list xs ys (right (x == y) (same_widths xs ys) h) in
-    cc
 
 -- ## What is written is no constant table
 

@@ -39,13 +39,13 @@ use Rattle.flatten.specs.Flatten.{Given, View, At, Valued, Listed, Scoped, Merge
 use Rattle.flatten.specs.Occurs.{same_field, is_in_expr, is_in_exprs, is_in_stmt, is_in_body}
 use Rattle.flatten.proofs.BothParts.{left, right}
 use Rattle.flatten.proofs.Views.{Below, InRange, Meets, Agree, HasId, IsThere, range_more, range_at, range_set, meets_more, agree_more, agree_at, agree_set, there_set, there_new, Knows, known_at, knows_later, range_scope, agree_scope, there_scope}
-use Rattle.flatten.proofs.Fitting.{AtWidths, at_place}
+use Rattle.state_store.specs.Widths.{AtWidths, at_place}
 use Rattle.packet_fields.specs.FieldOrder.{at_index}
 use Rattle.flatten.proofs.Writes.{bit_same, put_tells, del_tells}
 use Rattle.std.proofs.lemmas.List.{get_or-set_other}
 use Rattle.packet_fields.specs.declared.field.Field.TheVariants.{MetaPort}
-use Rattle.flatten.proofs.KeptRuns.{Fits, value_fits, bound_fits, stmt_fits}
-use Rattle.flat_ir.specs.Arrivals.{IsArrival}
+use Rattle.element_lang.specs.KeptRuns.{Fits, value_fits, bound_fits, stmt_fits}
+use Rattle.packet_fields.specs.Arrivals.{IsArrival}
 
 -- ## Lines of blocks
 

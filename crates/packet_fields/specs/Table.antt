@@ -1,5 +1,5 @@
 -- The fields of a packet: one row for each, in field order.
-use Rattle.std.specs.Prelude.{ℕ, Bool, true, false, List, [], ◌∷◌, Option, codes, find}
+use Rattle.std.specs.Prelude.{ℕ, Bool, true, false, List, [], ◌∷◌, map, Option, codes, find}
 use Rattle.std.specs.Str.{bytes_eq}
 use Rattle.packet_fields.specs.declared.field.Field.{Field}
 use Rattle.packet_fields.specs.declared.field.Field.TheVariants.{MetaPort, MetaLen, HasIp, HasTcp, HasUdp, EthDst}
@@ -68,6 +68,10 @@ all_fields =
     ∷ IpVersion ∷ IpIhl ∷ IpTos ∷ IpLen ∷ IpId ∷ IpFlags ∷ IpFrag ∷ IpTtl ∷ IpProto ∷ IpSum ∷ IpSrc ∷ IpDst
     ∷ TcpSport ∷ TcpDport ∷ TcpSeq ∷ TcpAck ∷ TcpOff ∷ TcpRes ∷ TcpFlags ∷ TcpWin ∷ TcpSum ∷ TcpUrg ∷ UdpSport
     ∷ UdpDport ∷ UdpLen ∷ UdpSum ∷ []
+
+-- how wide the fields are, in field order
+abbrev pub field_widths : List ℕ
+field_widths = map (λ f. (row f).width) all_fields
 
 -- how many fields there are
 abbrev pub field_count : ℕ
