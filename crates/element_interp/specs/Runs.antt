@@ -9,8 +9,8 @@ use Rattle.element_interp.specs.declared.value.Variables.{Variables}
 abbrev pub packet_of : Frame → Packet
 packet_of frame = record { port = frame.port; bytes = frame.bytes.now }
 
-abbrev pub widths_of : Frame → List ℕ
-widths_of frame = map (λ l. l.width) frame.locals.now
+abbrev pub frame_widths : Frame → List ℕ
+frame_widths frame = map (λ l. l.width) frame.locals.now
 
 abbrev pub state_of : Variables → Store → State
 state_of vars store = record { locals = vars.locals.items; fields = vars.fields; store = store }

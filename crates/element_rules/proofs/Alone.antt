@@ -2,7 +2,7 @@
 use Rattle.std.proofs.Common.{Vec, Global, ◌≡◌, ℕ, Bool, true, false, ◌||◌, List, map, refl, sym, ap, ◌∙◌}
 use Rattle.element_lang.specs.declared.tree.Local.{Local}
 use Rattle.element_lang.specs.Surface.{SurfaceExpr, SurfaceExprs, no_expr, expr}
-use Rattle.element_lang.specs.Broken.{joined}
+use Rattle.element_lang.specs.Broken.{appended}
 use Rattle.element_rules.specs.declared.expressions.Faults.{Faults}
 use Rattle.element_rules.specs.declared.expressions.Tested.{Tested}
 use Rattle.element_rules.specs.declared.expressions.TestedList.{TestedList}
@@ -34,7 +34,7 @@ pub only_faults : (text : List ℕ) {known locals : List (Vec ℕ Global × ℕ)
 only_faults text {known = known} {locals = locals} e made same is =
     ap (λ (m : Tested). m.faults) is ∙ ap (λ l. faults_of (map local_of l) e) same ∙ sym (faults_alone (map local_of locals) e)
 
-pub faults_joined : (locals : List Local) (es more : SurfaceExprs) → list_faults locals (joined es more) ≡ both (list_faults locals es)
+pub faults_joined : (locals : List Local) (es more : SurfaceExprs) → list_faults locals (appended es more) ≡ both (list_faults locals es)
     (list_faults locals more)
 faults_joined locals no_expr more = refl
 faults_joined locals (expr e es) more =

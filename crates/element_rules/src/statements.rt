@@ -226,7 +226,7 @@ fn own_row(
         ≡ broken.widths_in (map local_of sight.now.locals.entries) (surface_exprs text.now values.now)) }
     ensures faults { IfOk result (λ made. made.faults
         ≡ list_faults (map local_of sight.now.locals.entries)
-        (broken.joined (surface_exprs text.now keys.now) (surface_exprs text.now values.now))) }
+        (broken.appended (surface_exprs text.now keys.now) (surface_exprs text.now values.now))) }
 {
     let keys = own_expressions(alloc, text, sight, keys)?;
     let values = own_expressions(alloc, text, sight, values)?;

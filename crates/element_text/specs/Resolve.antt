@@ -19,7 +19,7 @@ use Rattle.element_lang.specs.Rules.{are_good_objects}
 use Rattle.element_lang.specs.Surface.{SurfaceExpr, SurfaceExprs, SurfaceStmt, SurfaceBody, Literal, SurfaceRow}
 use Rattle.element_lang.specs.Surface.{SurfaceDecl, Declared, Surface, lit, name, field, byte, shift, apply, no_expr}
 use Rattle.element_lang.specs.Surface.{expr, let_local, assign, set_field, look, put, del, choose, repeat, send, drop}
-use Rattle.element_lang.specs.Surface.{done, stmt, table_decl, map_decl, vector_decl, int_decl, row_of, object_of}
+use Rattle.element_lang.specs.Surface.{done, stmt, table_decl, map_decl, vector_decl, int_decl, value_row, object_of}
 
 infixl 10 ◌>>=◌
 abbrev pub ◌>>=◌ : {A B : Type 0} → Option A → (A → Option B) → Option B
@@ -272,7 +272,7 @@ is_good_row keys values row = are_good_literals keys row.keys && are_good_litera
 
 -- rows whose literals are so, and of which no two have the same key
 abbrev pub are_good_written_rows : List ℕ → List ℕ → List SurfaceRow → Bool
-are_good_written_rows keys values rows = are_written keys values rows && are_good_rows keys values [] (map row_of rows)
+are_good_written_rows keys values rows = are_written keys values rows && are_good_rows keys values [] (map value_row rows)
 
 abbrev pub is_written : SurfaceDecl → Bool
 is_written (table_decl word keys values rows) = are_written keys values rows

@@ -4,7 +4,7 @@ use Rattle.std.proofs.lemmas.Bool.{eqb-true}
 use Rattle.std.proofs.lemmas.List.{length-map}
 use Rattle.gal_bits.specs.declared.op.Op.{Op}
 use Rattle.gal_bits.specs.declared.op.Op.TheVariants.{Add, Sub, Mul, Div, Rem, And, Or, Xor, Not, Shl, Shr, Eq, Ne, Lt, Le, Cast, Select, Adjust}
-use Rattle.gal_bits.specs.Operators.{row_of}
+use Rattle.gal_bits.specs.Operators.{operator_row}
 use Rattle.state_store.specs.declared.object.Kind.{Kind}
 use Rattle.state_store.specs.declared.object.Kind.TheVariants.{Table, Map, Vector, Int}
 use Rattle.state_store.specs.declared.object.ObjectDecl.{ObjectDecl}
@@ -54,7 +54,7 @@ exactly : (ws xs : List ℕ) → same_widths ws xs ≡ true → length xs ≤ 3 
 exactly ws xs h le = let e = ap length (same_list ws xs h) in (e, omega (arith, e, le))
 
 -- an operator has as many arguments as it takes
-pub operator_count : (op : Op) (w : ℕ) (ws : List ℕ) → fits_operator op w ws ≡ true → (length ws ≡ (row_of op).arity) × (length ws ≤ 3)
+pub operator_count : (op : Op) (w : ℕ) (ws : List ℕ) → fits_operator op w ws ≡ true → (length ws ≡ (operator_row op).arity) × (length ws ≤ 3)
 operator_count Add w ws h = exactly ws (w ∷ w ∷ []) h (omega arith)
 operator_count Sub w ws h = exactly ws (w ∷ w ∷ []) h (omega arith)
 operator_count Mul w ws h = exactly ws (w ∷ w ∷ []) h (omega arith)
@@ -87,7 +87,7 @@ values_count (x ∷ ds) (suc o) d ws h is = values_count ds o d ws h is
 
 -- ## What can be computed from numbers and tables alone
 
-shift_count : (op : Op) → is_shift op ≡ true → (row_of op).arity ≡ 2
+shift_count : (op : Op) → is_shift op ≡ true → (operator_row op).arity ≡ 2
 shift_count Add h = refl
 shift_count Sub h = refl
 shift_count Mul h = refl

@@ -9,7 +9,7 @@ use Rattle.packet_fields.specs.Table.{row}
 use Rattle.state_store.specs.declared.object.ObjectDecl.{ObjectDecl}
 use Rattle.state_store.specs.Kept.{have_widths, IsKeptObject, IsKept}
 use Rattle.state_store.specs.Kinds.{is_table, is_map}
-use Rattle.state_store.specs.Store.{Object, Store, object_at, looked_up, put_answer}
+use Rattle.state_store.specs.Store.{Object, Store, object_at, looked_up, put_answer, is_stored}
 use Rattle.state_store.specs.Store as store
 use Rattle.gal_bits.specs.declared.op.Op.TheVariants.{Select}
 use Rattle.flat_ir.specs.declared.program.ValueId.{ValueId}
@@ -18,7 +18,7 @@ use Rattle.packet_fields.specs.Arrivals.{IsArrival}
 use Rattle.flat_ir.specs.Program.{Program, Work, step_at, value_widths, result_widths, width_of_value}
 use Rattle.flat_ir.specs.Program.Work.{const, field, apply, shift, select, byte, look, put, del}
 use Rattle.flat_ir.specs.Blocks.{Reading, is_live}
-use Rattle.flat_ir.specs.Run.{Change, Machine, do_step, bit, is_stored, made, change_of, with_changes, results, with_results, after}
+use Rattle.flat_ir.specs.Run.{Change, Machine, do_step, bit, made, change_of, with_changes, results, with_results, after}
 use Rattle.flat_ir.specs.Fits.{fits_keys, fits_values, can_put, can_del, widths_of, fits}
 use Rattle.flat_ir.specs.WellFormed.{IsWellFormed, IsWritten}
 use Rattle.flat_ir.specs.Writable.{IsWritable}

@@ -14,7 +14,7 @@ use Rattle.packet_fields.specs.declared.field.Header.TheVariants.{Meta, Ethernet
 
 -- a field's name, the header that it stands in, its first bit there, how many bits it has, and whether it may be
 -- written
-pub record Row : Type 0 where
+pub record FieldRow : Type 0 where
   pub name : List ℕ
   pub header : Header
   pub at : ℕ
@@ -22,7 +22,7 @@ pub record Row : Type 0 where
   pub writable : Bool
 
 -- the row of a field
-abbrev pub row : Field → Row
+abbrev pub row : Field → FieldRow
 row MetaPort = record { name = codes "meta.port"; header = Meta; at = 0; width = 8; writable = false }
 row MetaLen = record { name = codes "meta.len"; header = Meta; at = 0; width = 16; writable = false }
 row HasIp = record { name = codes "has.ip"; header = Meta; at = 0; width = 1; writable = false }

@@ -1,27 +1,30 @@
 //! The text that a run alone writes.
-ghost use Rattle.std.specs.Prelude.{◌≡◌, ◌++◌, IfOk, OnOk, string_bytes};
+ghost use Rattle.std.specs.Prelude.{◌≡◌, ◌++◌, IfOk, OnOk};
 ghost use Rattle.run_text.specs.Answer.{answer_of, verdict_line, verdict_lines};
 
 use crate::parts::put_parts;
-use crate::report::verdict_text;
+use crate::report::put_verdict;
 use crate::run::Parts;
 use gal_io::{NoMemory, Text};
 use packet_fields::Verdict;
 use state_store::Objects;
 use std::alloc::Global;
 
-fn verdict_line(alloc: Global, number: usize, verdict: &Verdict) -> Result<String, NoMemory>
-    ensures { IfOk result (λ line. string_bytes line ≡ verdict_line number verdict.now) }
+fn put_verdict_line(number: usize, verdict: &Verdict, text: &mut Text) -> Result<(), NoMemory>
+    ensures { OnOk result (text.new ≡ text.old ++ verdict_line number verdict.now) }
 {
-    let verdict = verdict_text(alloc, verdict)?;
-    Ok(format!(in alloc; "packet {number} {verdict}\n")?)
+    text.extend(b"packet ")?;
+    text.push_number(number as u64)?;
+    text.push(b' ')?;
+    put_verdict(verdict, text)?;
+    text.push(b'\n')
 }
 
-fn put_verdicts(alloc: Global, verdicts: &[Verdict], text: &mut Text) -> Result<(), NoMemory>
+fn put_verdicts(verdicts: &[Verdict], text: &mut Text) -> Result<(), NoMemory>
     ensures { OnOk result (text.new ≡ text.old ++ verdict_lines 0 verdicts.now) }
 {
     for number in 0..verdicts.len() {
-        text.extend(verdict_line(alloc, number, &verdicts[number])?.as_bytes())?;
+        put_verdict_line(number, &verdicts[number], text)?;
     }
     Ok(())
 }
@@ -36,7 +39,7 @@ pub fn print_answer(
     ensures { IfOk result (λ text. text ≡ answer_of objects.now verdicts.now parts.now) }
 {
     let mut text = Text::new(alloc);
-    put_verdicts(alloc, verdicts, &mut text)?;
+    put_verdicts(verdicts, &mut text)?;
     put_parts("object", objects.as_slice(), parts.as_slice(), &mut text)?;
     text.extend(b"end\n")?;
     Ok(text)

@@ -1,9 +1,10 @@
 //! The text of a report.
-ghost use Rattle.std.specs.Prelude.{◌≡◌, ◌++◌, IfOk, OnOk, string_bytes};
+ghost use Rattle.std.specs.Prelude.{◌≡◌, ◌<◌, ◌++◌, IfOk, OnOk, slice_index, string_bytes};
+ghost use Rattle.hex.specs.Hex.{encode_lower, lower_digits};
 ghost use Rattle.run_text.specs.Report.{body_text, decided_text, drained_line, events_line, fate_line};
 ghost use Rattle.run_text.specs.Report.{fate_lines, fate_text, order_line, packets_line, released_text, report_of};
 ghost use Rattle.run_text.specs.Report.{tables_text, verdict_text, version_line};
-ghost use Rattle.gal_io.specs.Number.{spaced};
+ghost use Rattle.gal_io.specs.Number.{spaced_numbers};
 
 use crate::fate::Fate;
 use crate::parts::put_parts;
@@ -13,59 +14,92 @@ use packet_fields::Verdict;
 use state_store::{ObjectDecl, Objects};
 use std::alloc::Global;
 
-pub(crate) fn body_text(alloc: Global, bytes: &[u8]) -> Result<String, NoMemory>
-    ensures { IfOk result (λ text. string_bytes text ≡ body_text bytes.now) }
+// A hexadecimal digit, a letter in lower case.
+fn hex_digit(value: u8) -> u8
+    requires { value < 16 }
+    ensures { result ≡ slice_index lower_digits value }
+{
+    b"0123456789abcdef"[value as usize]
+}
+
+#[tactic(auto, unfolding(hex::specs::Hex::encode_with))]
+fn put_hex(bytes: &[u8], text: &mut Text) -> Result<(), NoMemory>
+    ensures { OnOk result (text.new ≡ text.old ++ encode_lower bytes.now) }
+{
+    for byte in bytes {
+        text.push(hex_digit(*byte / 16))?;
+        text.push(hex_digit(*byte % 16))?;
+    }
+    Ok(())
+}
+
+/// Puts the bytes of a packet behind a text.
+pub(crate) fn put_body(bytes: &[u8], text: &mut Text) -> Result<(), NoMemory>
+    ensures { OnOk result (text.new ≡ text.old ++ body_text bytes.now) }
 {
     match bytes {
-        [] => Ok(String::from_str(alloc, "-")?),
-        _ => Ok(hex::encode(alloc, bytes)?),
+        [] => text.push(b'-'),
+        _ => put_hex(bytes, text),
     }
 }
 
-pub(crate) fn verdict_text(alloc: Global, verdict: &Verdict) -> Result<String, NoMemory>
-    ensures { IfOk result (λ text. string_bytes text ≡ verdict_text verdict.now) }
+/// Puts what became of a packet behind a text.
+pub(crate) fn put_verdict(verdict: &Verdict, text: &mut Text) -> Result<(), NoMemory>
+    ensures { OnOk result (text.new ≡ text.old ++ verdict_text verdict.now) }
 {
     match verdict {
-        Verdict::Drop => Ok(String::from_str(alloc, "drop")?),
+        Verdict::Drop => text.extend(b"drop"),
         Verdict::Send(port, bytes) => {
-            let body = body_text(alloc, bytes.as_slice())?;
-            Ok(format!(in alloc; "send {port} {body}")?)
+            text.extend(b"send ")?;
+            text.push_number(u64::from(*port))?;
+            text.push(b' ')?;
+            put_body(bytes.as_slice(), text)
         }
     }
 }
 
-fn decided_text(
-    alloc: Global,
+fn put_decided(
     path: &str,
     admitted: u32,
     decided: u32,
     version: u32,
-) -> Result<String, NoMemory>
-    ensures { IfOk result (λ text. string_bytes text ≡ decided_text path.now admitted decided version) }
+    text: &mut Text,
+) -> Result<(), NoMemory>
+    ensures { OnOk result (text.new ≡ text.old ++ decided_text path.now admitted decided version) }
 {
-    Ok(format!(in alloc; "{path} admitted {admitted} decided {decided} version {version}")?)
+    text.extend(path.as_bytes())?;
+    text.extend(b" admitted ")?;
+    text.push_number(u64::from(admitted))?;
+    text.extend(b" decided ")?;
+    text.push_number(u64::from(decided))?;
+    text.extend(b" version ")?;
+    text.push_number(u64::from(version))
 }
 
-fn released_text(alloc: Global, released: u32, verdict: &Verdict) -> Result<String, NoMemory>
-    ensures { IfOk result (λ text. string_bytes text ≡ released_text released verdict.now) }
+fn put_released(released: u32, verdict: &Verdict, text: &mut Text) -> Result<(), NoMemory>
+    ensures { OnOk result (text.new ≡ text.old ++ released_text released verdict.now) }
 {
-    let verdict = verdict_text(alloc, verdict)?;
-    Ok(format!(in alloc; " released {released} {verdict}")?)
+    text.extend(b" released ")?;
+    text.push_number(u64::from(released))?;
+    text.push(b' ')?;
+    put_verdict(verdict, text)
 }
 
-fn fate_text(alloc: Global, fate: &Fate) -> Result<String, NoMemory>
-    ensures { IfOk result (λ text. string_bytes text ≡ fate_text fate.now) }
+fn put_fate(fate: &Fate, text: &mut Text) -> Result<(), NoMemory>
+    ensures { OnOk result (text.new ≡ text.old ++ fate_text fate.now) }
 {
     match fate {
-        Fate::Up { admitted } => Ok(format!(in alloc; "up admitted {admitted}")?),
+        Fate::Up { admitted } => {
+            text.extend(b"up admitted ")?;
+            text.push_number(u64::from(*admitted))
+        }
         Fate::Held {
             admitted,
             decided,
             version,
         } => {
-            let mut held = decided_text(alloc, "slow", *admitted, *decided, *version)?;
-            held.push_str(" held")?;
-            Ok(held)
+            put_decided("slow", *admitted, *decided, *version, text)?;
+            text.extend(b" held")
         }
         Fate::Slow {
             admitted,
@@ -74,9 +108,8 @@ fn fate_text(alloc: Global, fate: &Fate) -> Result<String, NoMemory>
             released,
             verdict,
         } => {
-            let mut slow = decided_text(alloc, "slow", *admitted, *decided, *version)?;
-            slow.push_str(released_text(alloc, *released, verdict)?.as_str())?;
-            Ok(slow)
+            put_decided("slow", *admitted, *decided, *version, text)?;
+            put_released(*released, verdict, text)
         }
         Fate::Fast {
             admitted,
@@ -85,31 +118,33 @@ fn fate_text(alloc: Global, fate: &Fate) -> Result<String, NoMemory>
             released,
             verdict,
         } => {
-            let mut fast = decided_text(alloc, "fast", *admitted, *decided, *version)?;
-            fast.push_str(released_text(alloc, *released, verdict)?.as_str())?;
-            Ok(fast)
+            put_decided("fast", *admitted, *decided, *version, text)?;
+            put_released(*released, verdict, text)
         }
     }
 }
 
-fn fate_line(alloc: Global, number: usize, fate: &Fate) -> Result<String, NoMemory>
-    ensures { IfOk result (λ line. string_bytes line ≡ fate_line number fate.now) }
+fn put_fate_line(number: usize, fate: &Fate, text: &mut Text) -> Result<(), NoMemory>
+    ensures { OnOk result (text.new ≡ text.old ++ fate_line number fate.now) }
 {
-    let fate = fate_text(alloc, fate)?;
-    Ok(format!(in alloc; "packet {number} {fate}\n")?)
+    text.extend(b"packet ")?;
+    text.push_number(number as u64)?;
+    text.push(b' ')?;
+    put_fate(fate, text)?;
+    text.push(b'\n')
 }
 
-fn put_fates(alloc: Global, fates: &[Fate], text: &mut Text) -> Result<(), NoMemory>
+fn put_fates(fates: &[Fate], text: &mut Text) -> Result<(), NoMemory>
     ensures { OnOk result (text.new ≡ text.old ++ fate_lines 0 fates.now) }
 {
     for number in 0..fates.len() {
-        text.extend(fate_line(alloc, number, &fates[number])?.as_bytes())?;
+        put_fate_line(number, &fates[number], text)?;
     }
     Ok(())
 }
 
 fn put_numbers(numbers: &[u32], text: &mut Text) -> Result<(), NoMemory>
-    ensures { OnOk result (text.new ≡ text.old ++ spaced numbers.now) }
+    ensures { OnOk result (text.new ≡ text.old ++ spaced_numbers numbers.now) }
 {
     for number in numbers {
         text.push(b' ')?;
@@ -180,7 +215,7 @@ pub fn print_run(alloc: Global, objects: &Objects, run: &Run) -> Result<Text, No
     text.extend(events_line(alloc, run)?.as_bytes())?;
     text.extend(version_line(alloc, run)?.as_bytes())?;
     text.extend(drained_line(run.drained))?;
-    put_fates(alloc, run.fates.as_slice(), &mut text)?;
+    put_fates(run.fates.as_slice(), &mut text)?;
     put_order(run.order.as_slice(), &mut text)?;
     put_tables(objects.as_slice(), run, &mut text)?;
     text.extend(b"end\n")?;

@@ -9,7 +9,7 @@ ghost use Rattle.run_text.specs.Trace.{body_of, packet_line, trace_of};
 
 use crate::line_value::{LineValue, read_values, split_at_space};
 use crate::refusal::{LineKind, LinesError, MAX_PACKETS};
-use crate::report::body_text;
+use crate::report;
 use gal_io::{Bytes, NoMemory, Text, number_up_to};
 use hex::FromHexError;
 use packet_fields::{Packet, Packets, is_short};
@@ -26,8 +26,13 @@ fn read_body(alloc: Global, body: &[u8]) -> Result<Result<Bytes, LineKind>, NoMe
         return Ok(Ok(Bytes::new(alloc)));
     }
     match hex::decode(alloc, body) {
-        Ok(bytes) if is_short(&bytes) => { Ok(Ok(Bytes::from_slice(alloc, &bytes)?)) }
-        Ok(_) => Ok(Err(LineKind::Long)),
+        Ok(bytes) => {
+            if is_short(&bytes) {
+                Ok(Ok(Bytes::from(bytes)))
+            } else {
+                Ok(Err(LineKind::Long))
+            }
+        }
         Err(FromHexError::OutOfMemory) => Err(NoMemory),
         Err(_) => Ok(Err(LineKind::Hex)),
     }
@@ -78,20 +83,20 @@ fn put_port(port: u8, text: &mut Text) -> Result<(), NoMemory>
     text.push(b' ')
 }
 
-fn put_body(alloc: Global, bytes: &[u8], text: &mut Text) -> Result<(), NoMemory>
+fn put_body(bytes: &[u8], text: &mut Text) -> Result<(), NoMemory>
     ensures text { OnOk result (text.new ≡ text.old ++ body_text bytes.now) }
     ensures fits { IsBytes bytes.now }
 {
-    text.extend(body_text(alloc, bytes)?.as_bytes())
+    report::put_body(bytes, text)
 }
 
-fn put_packet(alloc: Global, packet: &Packet, text: &mut Text) -> Result<(), NoMemory>
+fn put_packet(packet: &Packet, text: &mut Text) -> Result<(), NoMemory>
     requires { length packet.now.bytes ≤ largest_packet }
     ensures text { OnOk result (text.new ≡ text.old ++ (packet_text packet.now ++ line_end)) }
     ensures back { OnOk result (IsLineOf packet_line (packet_text packet.now) packet.now) }
 {
     put_port(packet.port, text)?;
-    put_body(alloc, packet.bytes.as_slice(), text)?;
+    put_body(packet.bytes.as_slice(), text)?;
     text.push(b'\n')
 }
 
@@ -103,7 +108,7 @@ pub fn print_trace(alloc: Global, packets: &Packets) -> Result<Text, NoMemory>
 {
     let mut text = Text::new(alloc);
     for packet in packets.as_slice() {
-        put_packet(alloc, packet, &mut text)?;
+        put_packet(packet, &mut text)?;
     }
     Ok(text)
 }
