@@ -124,7 +124,7 @@ bound_from widths i [] values locals each fit = fit
 bound_from widths i (x ∷ into) values locals each fit =
     let first : i + 0 ≡ i = omega arith in
     let here : slice_index values i < 2 ^ slice_index widths x =
-        subst (λ n. slice_index values n < 2 ^ slice_index widths x) first (each 0) in
+    subst (λ n. slice_index values n < 2 ^ slice_index widths x) first (each 0) in
     bound_from widths (i + 1) into values (slice_set locals x (slice_index values i))
     (λ place. let next : i + suc place ≡ i + 1 + place = omega arith in
     subst (λ n. slice_index values n < 2 ^ slice_index (map (slice_index widths) into) place) next (each (suc place)))
@@ -155,9 +155,9 @@ look_fits m found into object key s fits declared one = by_option (slice_get m.o
         let there : AtWidths d.values (looked_up o key) = looked_fits d o key (fits.store.each object d is) in
         let same : map (slice_index widths) into ≡ d.values = same_list (map (slice_index widths) into) d.values h in
         let each = λ (place : ℕ).
-            let here : place ≡ 0 + place = omega arith in
-            subst (λ n. slice_index (looked_up o key) n < 2 ^ slice_index (map (slice_index widths) into) place) here
-            (subst (λ ws. slice_index (looked_up o key) place < 2 ^ slice_index ws place) (sym same) (there place)) in
+        let here : place ≡ 0 + place = omega arith in
+        subst (λ n. slice_index (looked_up o key) n < 2 ^ slice_index (map (slice_index widths) into) place) here
+        (subst (λ ws. slice_index (looked_up o key) place < 2 ^ slice_index ws place) (sym same) (there place)) in
         record {
           locals = bound_from widths 0 into (looked_up o key)
               (slice_set s.locals found (bit (is_some (store.look o key)))) each

@@ -26,7 +26,8 @@ fn are_widths(widths: &[u64]) -> bool
 // Whether values may have the widths that are written in a declaration, and in its rows.
 fn has_good_widths(declaration: &SurfaceDecl) -> bool
     ensures { (text : List ℕ) → let d = surface_decl text declaration.now in
-        result ≡ list_all rules.is_width ((object_of d).keys ++ ((object_of d).values ++ literal_widths (surface_rows d))) }
+        result ≡ list_all rules.is_width
+        ((object_of d).keys ++ ((object_of d).values ++ literal_widths (surface_rows d))) }
 {
     match declaration {
         SurfaceDecl::Table {

@@ -59,7 +59,8 @@ abbrev pub IsTooLarge : Tree → TextError → Type 0
 IsTooLarge m (TooLarge Entries have allowed) =
     (have ≡ min (entries m) (2 ^ 64 - 1)) × (allowed ≡ limit_of Entries) × (allowed < have)
 IsTooLarge m (TooLarge Writes have allowed) =
-    (entries m ≤ limit_of Entries) × (have ≡ min (writes m) (2 ^ 64 - 1)) × (allowed ≡ limit_of Writes) × (allowed < have)
+    (entries m ≤ limit_of Entries) × (have ≡ min (writes m) (2 ^ 64 - 1)) × (allowed ≡ limit_of Writes)
+    × (allowed < have)
 IsTooLarge m _ = ⊥
 
 -- the middlebox keeps the rules and is this surface tree, once its names are put back
@@ -74,7 +75,7 @@ pub record IsUnbroken (surface : Surface) : Type 0 where
   pub none : first_broken surface ≡ None
 
 -- this is the one middlebox of the surface tree, where that keeps the sizes
-abbrev pub IsMiddlebox : Surface → Result Middlebox TextError → Type 0
-IsMiddlebox surface (Ok m) =
+abbrev pub IsResolved : Surface → Result Middlebox TextError → Type 0
+IsResolved surface (Ok m) =
     Keeps surface (tree m) × (HasSurfaceNames surface → HasNames (tree m)) × KeepsSizes (tree m)
-IsMiddlebox surface (Err e) = (e ≡ NoMemory) ⊎ ((m : Tree) × Keeps surface m × IsTooLarge m e)
+IsResolved surface (Err e) = (e ≡ NoMemory) ⊎ ((m : Tree) × Keeps surface m × IsTooLarge m e)

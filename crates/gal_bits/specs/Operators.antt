@@ -15,7 +15,8 @@ pub record OperatorRow : Type 0 where
 
 -- one row of the table
 abbrev pub operator_named : List ℕ → ℕ → Bool → (ℕ → ℕ → ℕ → ℕ → ℕ) → OperatorRow
-operator_named name arity on_switch number = record { name = name; arity = arity; on_switch = on_switch; number = number }
+operator_named name arity on_switch number =
+    record { name = name; arity = arity; on_switch = on_switch; number = number }
 
 -- the table; w is the width, and x, y and z are the arguments
 abbrev pub operator_row : Op → OperatorRow

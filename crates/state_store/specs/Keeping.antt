@@ -48,7 +48,8 @@ row_kept keys values key row found there before true e key_fits row_fits old is 
 row_kept keys values key row found there before false e key_fits row_fits old is = old is
 
 pub with_row : (keys values key row : List ℕ) (contents : Contents) → have_widths keys key ≡ true
-    → have_widths values row ≡ true → HaveRowWidths keys values contents → HaveRowWidths keys values (insert contents key row)
+    → have_widths values row ≡ true → HaveRowWidths keys values contents
+    → HaveRowWidths keys values (insert contents key row)
 with_row keys values key row contents key_fits row_fits rows found there is =
     row_kept keys values key row found there (get contents found) (eq_by_cmp key_cmp found key) refl key_fits row_fits
     (rows found there) (sym (get-insert nat_list_cmp_total contents key row found) ∙ is)
