@@ -1,15 +1,7 @@
 -- What a store starts with keeps what was declared.
-use Rattle.std.proofs.Common.{◌≡◌, ◌≤◌, ◌<◌, ◌+◌, ◌-◌, ◌^◌, ◌==◌, ℕ, zero, suc, Bool, true, false, cond, not, ◌&&◌, List, [], ◌∷◌, length, replicate, nat_le, Option, Some, None, slice_get, slice_index, refl, sym, ap, ◌∙◌, subst, arith, true≢false}
-use Rattle.std.specs.Ordering.{eq_by_cmp, is_eq}
-use Rattle.std.specs.declared.cmp.Ordering.{Ordering}
-use Rattle.std.specs.declared.cmp.Ordering.TheVariants.{Less, Equal, Greater}
-use Rattle.std.specs.FinMap.{empty, get, insert, remove, len, contains_key, get-insert, get-remove, len-insert, len-remove, get-empty, len-empty}
+use Rattle.std.proofs.Common.{◌≡◌, ◌≤◌, ◌<◌, ◌+◌, ◌^◌, ◌==◌, ℕ, zero, suc, true, List, [], ◌∷◌, length, replicate, nat_le, Some, slice_get, slice_index, refl, sym, ap, ◌∙◌, subst, arith}
+use Rattle.std.specs.FinMap.{empty, get, insert, len, get-empty, len-empty}
 use Rattle.std.proofs.lemmas.Bool.{eqb-true, leb-true, ltb-true}
-use Rattle.std.proofs.lemmas.Bool.Decides.{nat_tests}
-use Rattle.std.proofs.lemmas.Cmp.{nat_list_cmp_total}
-use Rattle.std.proofs.lemmas.List.{length-set}
-use Rattle.std.proofs.lemmas.Map.Lookups.{exact_bytes}
-use Rattle.std.proofs.lemmas.Nat.{pow_pos}
 use Rattle.std.proofs.lemmas.Option.{none-some, same_Some}
 use Rattle.state_store.specs.declared.object.Kind.{Kind}
 use Rattle.state_store.specs.declared.object.Kind.TheVariants.{Table, Map, Vector, Int}
@@ -17,9 +9,8 @@ use Rattle.state_store.specs.declared.object.Row.{Row}
 use Rattle.state_store.specs.declared.object.ObjectDecl.{ObjectDecl}
 use Rattle.state_store.specs.Keeping.{HaveRowWidths, with_row, one_row_more, start_whole}
 use Rattle.state_store.specs.Kept.{have_widths, IsWhole, IsKeptObject, IsKept}
-use Rattle.state_store.specs.Store.{key_cmp, Contents, Object, Store, with_rows, zeros_from, is_out, is_full, put_row, del_row, start_contents, start_object, start_store, object_at, with_object}
+use Rattle.state_store.specs.Store.{key_cmp, Contents, with_rows, zeros_from, start_contents, start_object, start_store, object_at}
 use Rattle.element_lang.specs.declared.sizes.TheConstants.{MAX_ROWS}
-use Rattle.state_store.specs.Kinds.{is_table, is_map}
 use Rattle.element_lang.specs.Rules.{same_widths, is_size, are_good_rows, is_good_object, are_good_objects}
 use Rattle.element_interp.proofs.Tests.{left, right}
 use Rattle.gal_bits.specs.Fits.{same_list}

@@ -1,5 +1,5 @@
 pub mod Tests
-pub mod FieldOrder
+pub mod Assigned
 pub mod NoBits
 pub mod GoodRuns
 pub mod KeptObjects

@@ -10,8 +10,9 @@ ghost use Rattle.element_interp.specs.Flows.{outcome_of};
 ghost use Rattle.element_interp.specs.Runnable.{IsRunnableStmt, IsRunnableBody};
 ghost use Rattle.packet_fields.specs.Sizes.{largest_packet};
 
-use crate::fields::FieldValues;
-use crate::value::{Frame, Variables, fresh_locals, value, values};
+use crate::fields::AssignedFields;
+use crate::frame::Frame;
+use crate::value::{Variables, fresh_locals, value, values};
 use element_lang::{Middlebox, Stmt};
 use gal_io::{Bytes, NoMemory};
 use packet_fields::{Shape, Verdict};
@@ -39,8 +40,8 @@ fn low_byte(value: u64) -> u8
 #[cycle(run)]
 fn run_stmt(frame: &Frame<'_>, s: &Stmt, vars: &mut Variables, store: &mut Store) -> Flow
     requires { IsRunnableStmt (stmt_tree s.now) }
-    ensures { outcome_of result (packet_of frame.now) (state_of vars.new store.new)
-        ≡ do_stmt (frame_widths frame.now) (packet_of frame.now) (stmt_tree s.now) (state_of vars.old store.old) }
+    ensures { outcome_of result (packet_of frame.now) (state_of frame.now vars.new store.new)
+        ≡ do_stmt (frame_widths frame.now) (packet_of frame.now) (stmt_tree s.now) (state_of frame.now vars.old store.old) }
 {
     match s {
         Stmt::Let { local, value: e } | Stmt::Assign { local, value: e } => {
@@ -109,9 +110,9 @@ fn run_turns(
     store: &mut Store,
 ) -> Flow
     requires { IsRunnableBody (body_tree body.now) }
-    ensures { outcome_of result (packet_of frame.now) (state_of vars.new store.new)
+    ensures { outcome_of result (packet_of frame.now) (state_of frame.now vars.new store.new)
         ≡ turns count 0 index (do_body (frame_widths frame.now) (packet_of frame.now) (body_tree body.now))
-        (state_of vars.old store.old) }
+        (state_of frame.now vars.old store.old) }
 {
     for turn in 0..count {
         vars.set_local(index, u64::from(turn));
@@ -126,8 +127,8 @@ fn run_turns(
 #[cycle(run)]
 fn run_body(frame: &Frame<'_>, body: &[Stmt], vars: &mut Variables, store: &mut Store) -> Flow
     requires { IsRunnableBody (body_tree body.now) }
-    ensures { outcome_of result (packet_of frame.now) (state_of vars.new store.new)
-        ≡ do_body (frame_widths frame.now) (packet_of frame.now) (body_tree body.now) (state_of vars.old store.old) }
+    ensures { outcome_of result (packet_of frame.now) (state_of frame.now vars.new store.new)
+        ≡ do_body (frame_widths frame.now) (packet_of frame.now) (body_tree body.now) (state_of frame.now vars.old store.old) }
 {
     for s in body {
         match run_stmt(frame, s, vars, store) {
@@ -169,12 +170,13 @@ pub(crate) fn run_in(
     let mut bytes = packet.to_vec(alloc)?;
     let mut vars = Variables {
         locals: fresh_locals(memory, m.locals.len())?,
-        fields: FieldValues::of(packet, port, &shape),
+        fields: AssignedFields::none(),
     };
     let frame = Frame {
         locals: m.locals.as_slice(),
         port,
         bytes: packet,
+        shape,
     };
     match run_body(&frame, &m.body, &mut vars, store) {
         Flow::Goes | Flow::Drops => Ok(Ran {
@@ -182,7 +184,7 @@ pub(crate) fn run_in(
             locals: vars.locals,
         }),
         Flow::Sends(port) => {
-            vars.fields.write(&mut bytes, &shape);
+            vars.fields.write(&mut bytes, &frame.shape);
             Ok(Ran {
                 verdict: Verdict::Send(port, Bytes::from(bytes)),
                 locals: vars.locals,

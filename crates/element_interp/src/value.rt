@@ -9,24 +9,17 @@ ghost use Rattle.element_lang.specs.Rules.{count_of};
 ghost use Rattle.element_interp.specs.Runs.{packet_of, frame_widths, state_of};
 ghost use Rattle.element_interp.specs.Runnable.{IsRunnableExpr, AreRunnableExprs};
 
-use crate::fields::FieldValues;
+use crate::fields::AssignedFields;
+use crate::frame::Frame;
 use element_lang::{Expr, Local};
 use gal_bits::{Op, Values, Width, eval};
 use gal_io::NoMemory;
-
-/// What a run doesn't change: the declared locals, and the packet as it arrived.
-#[derive(Clone, Copy, Debug)]
-pub(crate) struct Frame<'a> {
-    pub locals: &'a [Local],
-    pub port: u8,
-    pub bytes: &'a [u8],
-}
 
 /// The variables of a run but for the store.
 #[derive(Debug, Drop)]
 pub(crate) struct Variables {
     pub locals: Vec<u64>,
-    pub fields: FieldValues,
+    pub fields: AssignedFields,
 }
 
 /// So many locals as a run begins with them, which are 0, in the memory of those of another run as far as it goes.
@@ -100,12 +93,15 @@ fn byte_at(bytes: &[u8], place: u64) -> u64
 pub(crate) fn value(frame: &Frame<'_>, e: &Expr, vars: &Variables) -> u64
     requires { IsRunnableExpr (expr_tree e.now) }
     ensures { (store : Store)
-        → result ≡ value_of (frame_widths frame.now) (packet_of frame.now) (expr_tree e.now) (state_of vars.now store) }
+        → result ≡ value_of (frame_widths frame.now) (packet_of frame.now) (expr_tree e.now) (state_of frame.now vars.now store) }
 {
     match e {
         Expr::Lit(value, _) => *value,
         Expr::Local(x) => at(&vars.locals, *x as usize),
-        Expr::Field(field) => vars.fields.at(*field),
+        Expr::Field(field) => {
+            vars.fields
+                .get(frame.bytes, frame.port, &frame.shape, *field)
+        }
         Expr::Byte(index) => byte_at(frame.bytes, value(frame, index, vars)),
         Expr::Shift { op, by, arg } => {
             let shifts = value(frame, arg, vars);
@@ -125,7 +121,7 @@ pub(crate) fn values(frame: &Frame<'_>, all: &[Expr], vars: &Variables) -> Value
     requires good { AreRunnableExprs (expr_trees all.now) }
     ensures told { (store : Store)
         → result ≡ values_of (frame_widths frame.now) (packet_of frame.now) (expr_trees all.now)
-        (state_of vars.now store) }
+        (state_of frame.now vars.now store) }
     ensures count { length result ≡ count_of (expr_trees all.now) }
 {
     let mut values = Values::new();

@@ -8,14 +8,14 @@ use Rattle.element_interp.proofs.interp.+run.Given as goal
 -- the turns that are left do from here what all do from the start
 abbrev pub invariant-run_turns-loop-turn : goal.invariant-run_turns-loop-turn
 invariant-run_turns-loop-turn l = record {
-  told : turns (l.count - l.turn) l.turn l.index (do_body (frame_widths l.frame) (packet_of l.frame) (body_tree l.body)) (state_of l.vars l.store)
-      ≡ turns l.count 0 l.index (do_body (frame_widths l.frame) (packet_of l.frame) (body_tree l.body)) (state_of l.fn.vars l.fn.store);
+  told : turns (l.count - l.turn) l.turn l.index (do_body (frame_widths l.frame) (packet_of l.frame) (body_tree l.body)) (state_of l.frame l.vars l.store)
+      ≡ turns l.count 0 l.index (do_body (frame_widths l.frame) (packet_of l.frame) (body_tree l.body)) (state_of l.frame l.fn.vars l.fn.store);
   good : IsRunnableBody (body_tree l.body);
 }
 
 -- the statements that are left do from here what all do from the start
 abbrev pub invariant-run_body-loop-s : goal.invariant-run_body-loop-s
 invariant-run_body-loop-s l = record {
-  told : do_body (frame_widths l.frame) (packet_of l.frame) (body_tree (drop l.s-index l.body)) (state_of l.vars l.store) ≡ do_body (frame_widths l.frame) (packet_of l.frame) (body_tree l.body) (state_of l.fn.vars l.fn.store);
+  told : do_body (frame_widths l.frame) (packet_of l.frame) (body_tree (drop l.s-index l.body)) (state_of l.frame l.vars l.store) ≡ do_body (frame_widths l.frame) (packet_of l.frame) (body_tree l.body) (state_of l.frame l.fn.vars l.fn.store);
   good : IsRunnableBody (body_tree (drop l.s-index l.body));
 }
