@@ -14,7 +14,7 @@ use Rattle.element_lang.specs.Grammar.{are_no_keys, are_keys}
 use Rattle.element_grammar.specs.declared.error.ParseError.{ParseError}
 use Rattle.element_grammar.specs.Surface.{exprs_of}
 use Rattle.element_grammar.specs.Machine.{Awaited, mark, some_number, prim, unary, expr, operand, exprs, more_exprs, keys, push, starts_on, is_mark, prim_after}
-use Rattle.element_grammar.specs.Machine.{unary_after, starts, after, step, go_on, left_at}
+use Rattle.element_grammar.specs.Machine.{unary_after, starts, after, step, when_it_fits, left_at}
 use Rattle.element_grammar.specs.Refused.{Misses, NoMark, NoMarks, NoOperand, FoundOperand, FoundExpr, FoundBetween, FoundThree}
 use Rattle.element_grammar.proofs.Runs.{skip_operand, as_unary, as_expr, keys_as_exprs, pushed, pushed_shift, reads_unary}
 use Rattle.element_grammar.proofs.Pieces.{moved, memory, onward, behind, first, first_two, past_mark, past_number_then, past_expr, past_expr_then, past_between}
@@ -86,7 +86,7 @@ same_after _ free = refl
 as_plain : (ts : List Token) → NoMark marks.Tilde ts → (below : List Awaited) → left_at (unary ∷ below) ts ≡ left_at (prim ∷ below) ts
 as_plain [] free below = refl
 as_plain (t ∷ ts) free below =
-    ap (λ o. go_on (after (starts o []) below (step below t)) (λ stack. left_at stack ts) (suc (length ts)))
+    ap (λ o. when_it_fits (after (starts o []) below (step below t)) (λ stack. left_at stack ts) (suc (length ts)))
     (same_after t (λ e. free.none ts (ap (λ u. u ∷ ts) e)))
 
 pub no_plain : {ts : List Token} {e : ParseError} → NoMark marks.Tilde ts → Misses (prim ∷ []) ts e → Misses (unary ∷ []) ts e

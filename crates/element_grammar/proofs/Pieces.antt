@@ -8,7 +8,7 @@ use Rattle.element_lang.specs.Grammar.{IsBody, AreKeys, AreNames, AreWidths, Are
 use Rattle.element_grammar.specs.declared.error.ParseError.{ParseError}
 use Rattle.element_grammar.specs.declared.error.ParseError.TheVariants.{Left, NoMemory}
 use Rattle.element_grammar.specs.Machine.{Awaited, mark, some_number, some_name, expr, keys, names, body, widths, literals, push, refuse, starts_on, is_mark}
-use Rattle.element_grammar.specs.Machine.{code, move_at, may_skip, after, step, end, go_on, left_at}
+use Rattle.element_grammar.specs.Machine.{code, move_at, may_skip, after, step, end, when_it_fits, left_at}
 use Rattle.element_grammar.specs.Refused.{Misses, NoMark, AtEnd, FoundExpr, FoundBetween, FoundEntry}
 use Rattle.element_grammar.proofs.Marks.{mark_passed}
 use Rattle.element_grammar.proofs.Runs.{reads_keys, reads_names, reads_body, reads_widths, reads_literals}
@@ -54,7 +54,7 @@ past {more = more} way = onward (λ below. way (more ++ below))
 
 pub mark_way : (m : Mark) (ts : List Token) (below : List Awaited) → left_at (mark m ∷ below) (fixed m ∷ ts) ≡ left_at below ts
 mark_way m ts below =
-    ap (λ b. go_on (after (starts_on b []) below (step below (fixed m))) (λ stack. left_at stack ts) (suc (length ts))) (eq-eqb (code m) (code m) refl)
+    ap (λ b. when_it_fits (after (starts_on b []) below (step below (fixed m))) (λ stack. left_at stack ts) (suc (length ts))) (eq-eqb (code m) (code m) refl)
 
 pub past_mark : {m : Mark} {more : List Awaited} {ts us : List Token} {e : ParseError} → ts ≡ fixed m ∷ us → Misses more us e → Misses (mark m ∷ more) ts e
 past_mark {m = m} {us = us} is = past (λ below. ap (left_at (mark m ∷ below)) is ∙ mark_way m us below)
@@ -120,14 +120,14 @@ past_literals p = past (reads_literals p)
 -- a part begins with this token, and misses what is awaited behind it
 pub begun : {a : Awaited} {t : Token} {parts : List Awaited} {ts : List Token} {e : ParseError} → move_at a t ≡ push parts → Misses parts ts e
     → Misses (a ∷ []) (t ∷ ts) e
-begun {t = t} {ts = ts} is = onward (λ below. ap (λ m. go_on (after m below (step below t)) (λ stack. left_at stack ts) (suc (length ts))) is)
+begun {t = t} {ts = ts} is = onward (λ below. ap (λ m. when_it_fits (after m below (step below t)) (λ stack. left_at stack ts) (suc (length ts))) is)
 
 -- no part begins with this token
 pub not_begun : {a : Awaited} {t : Token} {ts us : List Token} {e : ParseError} → ts ≡ t ∷ us → move_at a t ≡ refuse → e ≡ Left (length ts)
     → Misses (a ∷ []) ts e
 not_begun {a = a} {t = t} {us = us} is ends e = record {
   tells = λ left below f.
-      ap (left_at (a ∷ below)) is ∙ ap (λ m. go_on (after m below (step below t)) (λ stack. left_at stack us) (suc (length us))) ends ∙ cc;
+      ap (left_at (a ∷ below)) is ∙ ap (λ m. when_it_fits (after m below (step below t)) (λ stack. left_at stack us) (suc (length us))) ends ∙ cc;
 }
 
 -- there are no more tokens
@@ -159,7 +159,7 @@ no_mark {m = m} {ts = ts} free is = record { tells = λ left below e. stops ts f
 
     stops : (ts : List Token) → NoMark m ts → (below : List Awaited) → left_at (mark m ∷ below) ts ≡ Some (length ts)
     stops [] free below = refl
-    stops (t ∷ ts) free below = ap (λ b. go_on (after (starts_on b []) below (step below t)) (λ stack. left_at stack ts) (suc (length ts))) (fails free)
+    stops (t ∷ ts) free below = ap (λ b. when_it_fits (after (starts_on b []) below (step below t)) (λ stack. left_at stack ts) (suc (length ts))) (fails free)
 
 -- What begins with a mark alone is that mark, and then more.
 pub as_mark : (a : Awaited) (m : Mark) (parts : List Awaited) (ts : List Token)
@@ -167,9 +167,9 @@ pub as_mark : (a : Awaited) (m : Mark) (parts : List Awaited) (ts : List Token)
     → may_skip a ≡ false → (below : List Awaited) → left_at (a ∷ below) ts ≡ left_at (mark m ∷ (parts ++ below)) ts
 as_mark a m parts [] moves ends below = ap (λ b. if b then end below else Some 0) ends
 as_mark a m parts (t ∷ ts) moves ends below =
-    ap (λ v. go_on (after v below (step below t)) (λ stack. left_at stack ts) (suc (length ts))) (moves t ts refl) ∙ by_test (is_mark m t)
+    ap (λ v. when_it_fits (after v below (step below t)) (λ stack. left_at stack ts) (suc (length ts))) (moves t ts refl) ∙ by_test (is_mark m t)
   where
-    by_test : (b : Bool) → go_on (after (starts_on b parts) below (step below t)) (λ stack. left_at stack ts) (suc (length ts))
-        ≡ go_on (after (starts_on b []) (parts ++ below) (step (parts ++ below) t)) (λ stack. left_at stack ts) (suc (length ts))
+    by_test : (b : Bool) → when_it_fits (after (starts_on b parts) below (step below t)) (λ stack. left_at stack ts) (suc (length ts))
+        ≡ when_it_fits (after (starts_on b []) (parts ++ below) (step (parts ++ below) t)) (λ stack. left_at stack ts) (suc (length ts))
     by_test true = refl
     by_test false = refl

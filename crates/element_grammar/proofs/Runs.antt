@@ -9,13 +9,13 @@ use Rattle.element_lang.specs.Grammar.{infix_of, shift_of, IsPrim, is_literal, i
 use Rattle.element_lang.specs.Grammar.{IsStmt, is_let, is_assign, is_set_field, is_look, is_put, is_del, is_if, is_repeat, is_send, is_drop, IsElse, is_absent, is_else, IsBody, is_end, is_more}
 use Rattle.element_lang.specs.Grammar.{AreWidths, is_last_width, is_width_and_more, AreLiterals, is_last_literal, is_literal_and_more, AreRows, are_no_rows, are_rows, IsDecl, is_table, is_map, is_vector, is_int, IsMiddlebox, is_process, is_declared}
 use Rattle.element_grammar.specs.Machine.{Awaited, mark, some_number, some_name, prim, unary, expr, operand, exprs, more_exprs, keys, names, stmt, otherwise, body, widths, literals, rows, middlebox}
-use Rattle.element_grammar.specs.Machine.{code, Move, push, skip, starts, starts_on, is_mark, infix_at, shift_at, unary_after, operand_move, keys_move, otherwise_move, step, after, go_on, left_at}
+use Rattle.element_grammar.specs.Machine.{code, Move, push, skip, starts, starts_on, is_mark, infix_at, shift_at, unary_after, operand_move, keys_move, otherwise_move, step, after, when_it_fits, left_at}
 use Rattle.element_grammar.specs.Refused.{NoMark, NoOperand, NoElse}
 
 -- what is awaited has no effect where a token skips it
 pub skipped : (m : Move) (below : List Awaited) (t : Token) (ts : List Token) → m ≡ skip
-    → go_on (after m below (step below t)) (λ stack. left_at stack ts) (suc (length ts)) ≡ left_at below (t ∷ ts)
-skipped m below t ts e = ap (λ v. go_on (after v below (step below t)) (λ stack. left_at stack ts) (suc (length ts))) e
+    → when_it_fits (after m below (step below t)) (λ stack. left_at stack ts) (suc (length ts)) ≡ left_at below (t ∷ ts)
+skipped m below t ts e = ap (λ v. when_it_fits (after v below (step below t)) (λ stack. left_at stack ts) (suc (length ts))) e
 
 pub skip_operand : (ts : List Token) → NoOperand ts → (below : List Awaited) → left_at (operand ∷ below) ts ≡ left_at below ts
 skip_operand [] free below = refl
@@ -39,12 +39,12 @@ starts_more o more below x y = starts_both o [] more below x y
 pub as_unary : (ts : List Token) (below : List Awaited) → left_at (expr ∷ below) ts ≡ left_at (unary ∷ operand ∷ below) ts
 as_unary [] below = refl
 as_unary (t ∷ ts) below =
-    ap (λ o. go_on o (λ stack. left_at stack ts) (suc (length ts))) (starts_more (unary_after t) (operand ∷ []) below (step below t) (step (operand ∷ below) t))
+    ap (λ o. when_it_fits o (λ stack. left_at stack ts) (suc (length ts))) (starts_more (unary_after t) (operand ∷ []) below (step below t) (step (operand ∷ below) t))
 
 pub as_expr : (close : Mark) (ts : List Token) (below : List Awaited) → left_at (exprs close ∷ below) ts ≡ left_at (expr ∷ more_exprs close ∷ below) ts
 as_expr close [] below = refl
 as_expr close (t ∷ ts) below =
-    ap (λ o. go_on o (λ stack. left_at stack ts) (suc (length ts)))
+    ap (λ o. when_it_fits o (λ stack. left_at stack ts) (suc (length ts)))
     (starts_both (unary_after t) (operand ∷ []) (more_exprs close ∷ []) below (step below t) (step (more_exprs close ∷ below) t))
 
 pub exprs_as_unary : (close : Mark) (ts : List Token) (below : List Awaited)
@@ -60,7 +60,7 @@ pub keys_as_exprs : (ts : List Token) → NoMark marks.RightBracket ts → (belo
     → left_at (keys ∷ below) ts ≡ left_at (exprs marks.RightBracket ∷ below) ts
 keys_as_exprs [] free below = refl
 keys_as_exprs (t ∷ ts) free below =
-    ap (λ v. go_on (after v below (step below t)) (λ stack. left_at stack ts) (suc (length ts))) (keys_but t (λ e. free.none ts (ap (λ u. u ∷ ts) e)))
+    ap (λ v. when_it_fits (after v below (step below t)) (λ stack. left_at stack ts) (suc (length ts))) (keys_but t (λ e. free.none ts (ap (λ u. u ∷ ts) e)))
 
 pub keys_as_unary : (ts : List Token) → NoMark marks.RightBracket ts → (below : List Awaited)
     → left_at (keys ∷ below) ts ≡ left_at (unary ∷ operand ∷ more_exprs marks.RightBracket ∷ below) ts
@@ -69,7 +69,7 @@ keys_as_unary ts free below = keys_as_exprs ts free below ∙ exprs_as_unary mar
 -- a symbol makes a second operand awaited, or the number of a shift
 pub pushed : (t : Token) (ts : List Token) (op : Op) → infix_at t ≡ Some op → (below : List Awaited)
     → left_at (operand ∷ below) (t ∷ ts) ≡ left_at (unary ∷ below) ts
-pushed t ts op is below = ap (λ o. go_on (after (operand_move o (shift_at t)) below (step below t)) (λ stack. left_at stack ts) (suc (length ts))) is
+pushed t ts op is below = ap (λ o. when_it_fits (after (operand_move o (shift_at t)) below (step below t)) (λ stack. left_at stack ts) (suc (length ts))) is
 
 pub shift_no_infix : (m : Mark) (op : Op) → shift_of m ≡ Some op → infix_of m ≡ None
 shift_no_infix marks.ShiftLeft op is = refl
@@ -79,8 +79,8 @@ shift_no_infix _ op is = cc
 pub pushed_shift : (m : Mark) (ts : List Token) (op : Op) → shift_of m ≡ Some op → (below : List Awaited)
     → left_at (operand ∷ below) (fixed m ∷ ts) ≡ left_at (some_number ∷ below) ts
 pushed_shift m ts op is below =
-    ap (λ o. go_on (after (operand_move o (shift_of m)) below (step below (fixed m))) (λ stack. left_at stack ts) (suc (length ts))) (shift_no_infix m op is)
-    ∙ ap (λ o. go_on (after (operand_move None o) below (step below (fixed m))) (λ stack. left_at stack ts) (suc (length ts))) is
+    ap (λ o. when_it_fits (after (operand_move o (shift_of m)) below (step below (fixed m))) (λ stack. left_at stack ts) (suc (length ts))) (shift_no_infix m op is)
+    ∙ ap (λ o. when_it_fits (after (operand_move None o) below (step below (fixed m))) (λ stack. left_at stack ts) (suc (length ts))) is
 
 -- an operand begins with no sign
 as_prim : {e : SurfaceExpr} {ts rest : List Token} → IsPrim e ts rest → (below : List Awaited) → left_at (unary ∷ below) ts ≡ left_at (prim ∷ below) ts
@@ -137,14 +137,14 @@ semicolon_closes = record { no_infix = refl; no_shift = refl; no_comma = refl; i
 pub closed : (close : Mark) (rest : List Token) → Closes close → (below : List Awaited)
     → left_at (more_exprs close ∷ below) (fixed close ∷ rest) ≡ left_at below rest
 closed close rest c below =
-    ap (λ b. go_on (after (if b then push [] else starts_on (is_mark marks.Comma (fixed close)) (exprs close ∷ [])) below (step below (fixed close)))
+    ap (λ b. when_it_fits (after (if b then push [] else starts_on (is_mark marks.Comma (fixed close)) (exprs close ∷ [])) below (step below (fixed close)))
     (λ stack. left_at stack rest) (suc (length rest)))
     c.itself
 
 pub comma_more : (close : Mark) (rest : List Token) → Closes close → (below : List Awaited)
     → left_at (more_exprs close ∷ below) (fixed marks.Comma ∷ rest) ≡ left_at (exprs close ∷ below) rest
 comma_more close rest c below =
-    ap (λ b. go_on (after (if b then push [] else push (exprs close ∷ [])) below (step below (fixed marks.Comma)))
+    ap (λ b. when_it_fits (after (if b then push [] else push (exprs close ∷ [])) below (step below (fixed marks.Comma)))
     (λ stack. left_at stack rest) (suc (length rest)))
     c.no_comma
 

@@ -12,7 +12,7 @@ use Rattle.element_grammar.specs.declared.error.ParseError.{ParseError}
 use Rattle.element_grammar.specs.declared.surface.At.{At}
 use Rattle.element_grammar.specs.Surface.{body_of}
 use Rattle.element_grammar.specs.Machine.{Awaited, mark, some_name, exprs, keys, names, stmt, otherwise, body, skip, starts, starts_on, is_mark, stmt_after}
-use Rattle.element_grammar.specs.Machine.{names_move, body_move, otherwise_move, after, step, go_on, left_at}
+use Rattle.element_grammar.specs.Machine.{names_move, body_move, otherwise_move, after, step, when_it_fits, left_at}
 use Rattle.element_grammar.specs.Refused.{Misses, NoMark, NoElse, FoundExpr, FoundBetween, FoundEntry, FoundStmt, FoundElse}
 use Rattle.element_grammar.proofs.Runs.{semicolon_closes, starts_more, skip_else, reads_keys, reads_exprs, reads_names, reads_body}
 use Rattle.element_grammar.proofs.Pieces.{moved, memory, onward, behind, first, first_two, first_three, past_mark, past_marks, past_number_then, past_name}
@@ -187,8 +187,8 @@ body_but _ free = refl
 as_stmt : (ts : List Token) → NoMark marks.RightBrace ts → (below : List Awaited) → left_at (body ∷ below) ts ≡ left_at (stmt ∷ body ∷ below) ts
 as_stmt [] free below = refl
 as_stmt (t ∷ ts) free below =
-    ap (λ m. go_on (after m below (step below t)) (λ stack. left_at stack ts) (suc (length ts))) (body_but t (λ e. free.none ts (ap (λ u. u ∷ ts) e)))
-    ∙ ap (λ o. go_on o (λ stack. left_at stack ts) (suc (length ts))) (starts_more (stmt_after t) (body ∷ []) below (step below t) (step (body ∷ below) t))
+    ap (λ m. when_it_fits (after m below (step below t)) (λ stack. left_at stack ts) (suc (length ts))) (body_but t (λ e. free.none ts (ap (λ u. u ∷ ts) e)))
+    ∙ ap (λ o. when_it_fits o (λ stack. left_at stack ts) (suc (length ts))) (starts_more (stmt_after t) (body ∷ []) below (step below t) (step (body ∷ below) t))
 
 abbrev pub is_body : List (At SurfaceStmt) → List Token → List Token → Type 0
 is_body ss ts rest = IsBody (body_of ss) ts rest

@@ -1,7 +1,7 @@
 -- Where the machine stops, the tokens before it can go on to a source, and no source has the token there.
 use Rattle.std.proofs.Common.{◌≡◌, ℕ, suc, List, [], ◌∷◌, ◌++◌, length, Option, Some, None, refl, sym, ap, subst, ◌∙◌}
 use Rattle.element_lang.specs.Token.{Token}
-use Rattle.element_grammar.specs.Machine.{Awaited, operand, otherwise, Move, push, skip, refuse, move_at, after, step, end, go_on, left_at}
+use Rattle.element_grammar.specs.Machine.{Awaited, operand, otherwise, Move, push, skip, refuse, move_at, after, step, end, when_it_fits, left_at}
 use Rattle.element_grammar.proofs.Viable.{Completes, completion}
 use Rattle.element_grammar.proofs.ViableMoves.{Keeps, keeps}
 
@@ -43,12 +43,12 @@ ends_at_0 (_ ∷ below) n e = cc
 
 further : (stack : List Awaited) (t : Token) (later : List Awaited) (front rest : List Token) → step stack t ≡ Some later
     → StopsAt later front rest → StopsAt stack (t ∷ front) rest
-further stack t later front [] e h = ap (λ o. go_on o (λ below. left_at below front) (suc (length front))) e ∙ h
+further stack t later front [] e h = ap (λ o. when_it_fits o (λ below. left_at below front) (suc (length front))) e ∙ h
 further stack t later front (u ∷ rest) e h = λ more.
-    ap (λ o. go_on o (λ below. left_at below (front ++ u ∷ more)) (suc (length (front ++ u ∷ more)))) e ∙ h more
+    ap (λ o. when_it_fits o (λ below. left_at below (front ++ u ∷ more)) (suc (length (front ++ u ∷ more)))) e ∙ h more
 
 stops_by : (o : Option (List Awaited)) (t : Token) (ts : List Token) (stack : List Awaited) (n : ℕ) → step stack t ≡ o
-    → go_on o (λ below. left_at below ts) (suc (length ts)) ≡ Some n
+    → when_it_fits o (λ below. left_at below ts) (suc (length ts)) ≡ Some n
     → ((later : List Awaited) → left_at later ts ≡ Some n → Stops later ts n) → Stops stack (t ∷ ts) n
 stops_by None t ts stack n is e again = record {
   front = [];
@@ -57,7 +57,7 @@ stops_by None t ts stack n is e again = record {
   count = cc;
   more = (completion stack).0;
   viable = (completion stack).1;
-  stops = λ more. ap (λ o. go_on o (λ below. left_at below more) (suc (length more))) is;
+  stops = λ more. ap (λ o. when_it_fits o (λ below. left_at below more) (suc (length more))) is;
 }
 stops_by (Some later) t ts stack n is e again =
     let h = again later e in

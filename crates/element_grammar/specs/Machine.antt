@@ -267,11 +267,11 @@ end [] = None
 end (a ∷ below) = if may_skip a then end below else Some 0
 
 -- goes on where a token fits, and else says how many tokens are left
-abbrev pub go_on : Option (List Awaited) → (List Awaited → Option ℕ) → ℕ → Option ℕ
-go_on None next left = Some left
-go_on (Some stack) next left = next stack
+abbrev pub when_it_fits : Option (List Awaited) → (List Awaited → Option ℕ) → ℕ → Option ℕ
+when_it_fits None next left = Some left
+when_it_fits (Some stack) next left = next stack
 
 -- how many tokens are left at the first that doesn't fit, itself among them, or 0 at an end where more is awaited
 abbrev pub left_at : List Awaited → List Token → Option ℕ
 left_at stack [] = end stack
-left_at stack (t ∷ ts) = go_on (step stack t) (λ below. left_at below ts) (suc (length ts))
+left_at stack (t ∷ ts) = when_it_fits (step stack t) (λ below. left_at below ts) (suc (length ts))

@@ -14,7 +14,7 @@ use Rattle.element_grammar.specs.Machine.{literals, middlebox, skip, infix_at, s
 use Rattle.element_grammar.specs.Machine.{otherwise_move, left_at}
 
 -- what is awaited stands in front, and then the rest, to which it doesn't reach
-pub record Reads (a : Awaited) (ts rest : List Token) : Type 0 where
+pub record ReadsAwaited (a : Awaited) (ts rest : List Token) : Type 0 where
   pub way : (below : List Awaited) → left_at (a ∷ below) ts ≡ left_at below rest
 
 -- what is awaited, one after another, doesn't stand in front: the error tells how many tokens are left at the first
@@ -50,12 +50,12 @@ pub record AtEnd (ts : List Token) (e : ParseError) : Type 0 where
 -- behind one operand stands what makes it the whole expression, and then the rest
 pub record FoundOperand (first whole : SurfaceExpr) (ts rest : List Token) : Type 0 where
   pub spelled : (before : List Token) → IsUnary first before ts → IsExpr whole before rest
-  pub reads : Reads operand ts rest
+  pub reads : ReadsAwaited operand ts rest
 
 -- this expression stands in front, as far as it goes: nothing is left behind it by which it would go on
 pub record FoundExpr (e : SurfaceExpr) (ts rest : List Token) : Type 0 where
   pub spelled : IsExpr e ts rest
-  pub reads : Reads expr ts rest
+  pub reads : ReadsAwaited expr ts rest
 
 -- the same between two marks
 pub record FoundBetween (before behind : Mark) (e : SurfaceExpr) (ts rest : List Token) : Type 0 where
@@ -97,12 +97,12 @@ pub record FoundEntry (object : List ℕ) (es : SurfaceExprs) (ts rest : List To
 -- this statement stands in front, as far as it goes: behind an `if` no `else` is left that it could take
 pub record FoundStmt (s : SurfaceStmt) (ts rest : List Token) : Type 0 where
   pub spelled : IsStmt s ts rest
-  pub reads : Reads stmt ts rest
+  pub reads : ReadsAwaited stmt ts rest
 
 -- the same of a block behind `else`, which may be absent
 pub record FoundElse (b : SurfaceBody) (ts rest : List Token) : Type 0 where
   pub spelled : IsElse b ts rest
-  pub reads : Reads otherwise ts rest
+  pub reads : ReadsAwaited otherwise ts rest
 
 -- ## Declarations
 

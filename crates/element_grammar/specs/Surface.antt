@@ -1,7 +1,7 @@
 -- The surface trees that the Rust values stand for, with the names that lie in the text.
 use Rattle.std.specs.Prelude.{ℕ, List, [], ◌∷◌, map}
 use Rattle.element_lang.specs.Surface as surface
-use Rattle.element_tokens.specs.Tokens.{spelled}
+use Rattle.element_tokens.specs.Tokens.{span_text}
 use Rattle.element_grammar.specs.declared.surface.At.{At}
 use Rattle.element_grammar.specs.declared.surface.SurfaceExpr.{SurfaceExpr, fold-SurfaceExpr}
 use Rattle.element_grammar.specs.declared.surface.SurfaceExpr.TheOpen.{SurfaceExpr-F}
@@ -24,7 +24,7 @@ body_of (s ∷ ss) = surface.stmt s.at s.item (body_of ss)
 -- one level, with the tree of each child in its place
 abbrev pub expr_step : List ℕ → SurfaceExpr-F surface.SurfaceExpr → surface.SurfaceExpr
 expr_step text (SurfaceExpr-F.Literal value width) = surface.lit value width
-expr_step text (SurfaceExpr-F.Name word) = surface.name (spelled text word)
+expr_step text (SurfaceExpr-F.Name word) = surface.name (span_text text word)
 expr_step text (SurfaceExpr-F.Field f) = surface.field f
 expr_step text (SurfaceExpr-F.Byte index) = surface.byte index.value
 expr_step text (SurfaceExpr-F.Shift op by arg) = surface.shift op by arg.value
@@ -37,20 +37,21 @@ abbrev pub surface_exprs : List ℕ → List SurfaceExpr → surface.SurfaceExpr
 surface_exprs text es = exprs_of (map (surface_expr text) es)
 
 abbrev pub stmt_step : List ℕ → SurfaceStmt-F surface.SurfaceStmt → surface.SurfaceStmt
-stmt_step text (SurfaceStmt-F.Let local value) = surface.let_local (spelled text local) (surface_expr text value)
-stmt_step text (SurfaceStmt-F.Assign local value) = surface.assign (spelled text local) (surface_expr text value)
+stmt_step text (SurfaceStmt-F.Let local value) = surface.let_local (span_text text local) (surface_expr text value)
+stmt_step text (SurfaceStmt-F.Assign local value) = surface.assign (span_text text local) (surface_expr text value)
 stmt_step text (SurfaceStmt-F.SetField f value) = surface.set_field f (surface_expr text value)
 stmt_step text (SurfaceStmt-F.Look found into object keys) =
-    surface.look (spelled text found) (map (spelled text) into.items) (spelled text object)
+    surface.look (span_text text found) (map (span_text text) into.items) (span_text text object)
     (surface_exprs text keys.items)
 stmt_step text (SurfaceStmt-F.Put ok object keys values) =
-    surface.put (spelled text ok) (spelled text object) (surface_exprs text keys.items)
+    surface.put (span_text text ok) (span_text text object) (surface_exprs text keys.items)
     (surface_exprs text values.items)
 stmt_step text (SurfaceStmt-F.Del was object keys) =
-    surface.del (spelled text was) (spelled text object) (surface_exprs text keys.items)
+    surface.del (span_text text was) (span_text text object) (surface_exprs text keys.items)
 stmt_step text (SurfaceStmt-F.If cond first second) =
     surface.choose (surface_expr text cond) (body_of first.items) (body_of second.items)
-stmt_step text (SurfaceStmt-F.Repeat index count body) = surface.repeat (spelled text index) count (body_of body.items)
+stmt_step text (SurfaceStmt-F.Repeat index count body) =
+    surface.repeat (span_text text index) count (body_of body.items)
 stmt_step text (SurfaceStmt-F.Send port) = surface.send (surface_expr text port)
 stmt_step text SurfaceStmt-F.Drop = surface.drop
 
@@ -71,11 +72,12 @@ surface_row row = record { keys = map surface_literal row.keys.items; values = m
 
 abbrev pub surface_decl : List ℕ → SurfaceDecl → surface.SurfaceDecl
 surface_decl text (SurfaceDecl.Table name keys values rows) =
-    surface.table_decl (spelled text name) keys.items values.items (map surface_row rows.items)
+    surface.table_decl (span_text text name) keys.items values.items (map surface_row rows.items)
 surface_decl text (SurfaceDecl.Map name keys values capacity) =
-    surface.map_decl (spelled text name) keys.items values.items capacity
-surface_decl text (SurfaceDecl.Vector name length values) = surface.vector_decl (spelled text name) length values.items
-surface_decl text (SurfaceDecl.Int name width start) = surface.int_decl (spelled text name) width start
+    surface.map_decl (span_text text name) keys.items values.items capacity
+surface_decl text (SurfaceDecl.Vector name length values) =
+    surface.vector_decl (span_text text name) length values.items
+surface_decl text (SurfaceDecl.Int name width start) = surface.int_decl (span_text text name) width start
 
 abbrev pub surface_object : List ℕ → At SurfaceDecl → surface.Declared
 surface_object text d = record { at = d.at; decl = surface_decl text d.item }

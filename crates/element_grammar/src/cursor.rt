@@ -1,7 +1,7 @@
 //! The tokens in front of others.
 ghost use Rattle.std.specs.Prelude.{◌≡◌, ◌<◌, [], ◌∷◌, length, IfOk, IfErr, IfSome, IfNone};
 ghost use Rattle.element_lang.specs.Token.{fixed, number as number_token, name as name_token};
-ghost use Rattle.element_tokens.specs.Tokens.{spelled, token_of, tokens_of};
+ghost use Rattle.element_tokens.specs.Tokens.{span_text, token_of, tokens_of};
 ghost use Rattle.element_grammar.specs.Machine.{mark, some_number, some_name};
 ghost use Rattle.element_grammar.specs.Refused.{NoMark, NoMarks, AtEnd, Misses};
 
@@ -121,7 +121,7 @@ pub(crate) fn name<'t>(
     tokens: &'t [Placed],
 ) -> Result<(Span, &'t [Placed]), ParseError>
     ensures ok { IfOk result (λ x. tokens_of text.now tokens.now
-        ≡ name_token (spelled text.now x.0) ∷ tokens_of text.now x.1.now) }
+        ≡ name_token (span_text text.now x.0) ∷ tokens_of text.now x.1.now) }
     ensures shorter { IfOk result (λ x. length x.1.now < length tokens.now) }
     ensures err { IfErr result (λ e. Misses (some_name ∷ []) (tokens_of text.now tokens.now) e) }
 {
@@ -155,7 +155,7 @@ pub(crate) fn name_then<'t>(
     want: Mark,
 ) -> Result<(Span, &'t [Placed]), ParseError>
     ensures ok { IfOk result (λ x. tokens_of text.now tokens.now
-        ≡ name_token (spelled text.now x.0) ∷ fixed want ∷ tokens_of text.now x.1.now) }
+        ≡ name_token (span_text text.now x.0) ∷ fixed want ∷ tokens_of text.now x.1.now) }
     ensures shorter { IfOk result (λ x. length x.1.now < length tokens.now) }
     ensures err { IfErr result (λ e.
         Misses (some_name ∷ mark want ∷ []) (tokens_of text.now tokens.now) e) }

@@ -6,7 +6,7 @@ ghost use Rattle.element_lang.specs.declared.mark.Mark.TheVariants.{Process as P
 ghost use Rattle.element_lang.specs.Token.{fixed, number as number_token};
 ghost use Rattle.element_lang.specs.Surface as tree;
 ghost use Rattle.element_lang.specs.Grammar.{AreWidths, AreLiterals, AreRows, IsDecl};
-ghost use Rattle.element_tokens.specs.Tokens.{spelled, tokens_of};
+ghost use Rattle.element_tokens.specs.Tokens.{span_text, tokens_of};
 ghost use Rattle.element_grammar.specs.Surface.{surface_literal, surface_row, surface_decl, surface_object};
 ghost use Rattle.element_grammar.specs.Machine.{mark, some_number, widths as widths_part, literals as literals_part};
 ghost use Rattle.element_grammar.specs.Machine.{rows as rows_part, middlebox};
@@ -30,7 +30,7 @@ fn table_of(
     rows: Vec<SurfaceRow>,
 ) -> SurfaceDecl
     ensures { surface_decl text.now result
-        ≡ tree.table_decl (spelled text.now name) keys.items values.items (map surface_row rows.items) }
+        ≡ tree.table_decl (span_text text.now name) keys.items values.items (map surface_row rows.items) }
 {
     SurfaceDecl::Table {
         name,
@@ -42,7 +42,7 @@ fn table_of(
 
 fn map_of(text: &[u8], name: Span, keys: Vec<u64>, values: Vec<u64>, capacity: u64) -> SurfaceDecl
     ensures { surface_decl text.now result
-        ≡ tree.map_decl (spelled text.now name) keys.items values.items capacity }
+        ≡ tree.map_decl (span_text text.now name) keys.items values.items capacity }
 {
     SurfaceDecl::Map {
         name,
@@ -54,7 +54,7 @@ fn map_of(text: &[u8], name: Span, keys: Vec<u64>, values: Vec<u64>, capacity: u
 
 fn vector_of(text: &[u8], name: Span, length: u64, values: Vec<u64>) -> SurfaceDecl
     ensures { surface_decl text.now result
-        ≡ tree.vector_decl (spelled text.now name) length values.items }
+        ≡ tree.vector_decl (span_text text.now name) length values.items }
 {
     SurfaceDecl::Vector {
         name,
@@ -64,7 +64,7 @@ fn vector_of(text: &[u8], name: Span, length: u64, values: Vec<u64>) -> SurfaceD
 }
 
 fn int_of(text: &[u8], name: Span, width: u64, start: u64) -> SurfaceDecl
-    ensures { surface_decl text.now result ≡ tree.int_decl (spelled text.now name) width start }
+    ensures { surface_decl text.now result ≡ tree.int_decl (span_text text.now name) width start }
 {
     SurfaceDecl::Int { name, width, start }
 }
@@ -180,7 +180,7 @@ fn header<'t>(
     text: &[u8],
     tokens: &'t [Placed],
 ) -> Result<(Span, Vec<u64>, Vec<u64>, &'t [Placed]), ParseError>
-    ensures ok { IfOk result (λ x. FoundHeader (spelled text.now x.0) x.1.items x.2.items
+    ensures ok { IfOk result (λ x. FoundHeader (span_text text.now x.0) x.1.items x.2.items
         (tokens_of text.now tokens.now) (tokens_of text.now x.3.now)) }
     ensures shorter { IfOk result (λ x. length x.3.now < length tokens.now) }
     ensures err { IfErr result (λ e. Misses header_parts (tokens_of text.now tokens.now) e) }

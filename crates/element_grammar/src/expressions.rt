@@ -5,7 +5,7 @@ ghost use Rattle.element_lang.specs.Token.{fixed, number as number_token};
 ghost use Rattle.element_lang.specs.Surface as tree;
 ghost use Rattle.element_lang.specs.Grammar as grammar;
 ghost use Rattle.element_lang.specs.Grammar.{IsPrim, IsUnary, AreExprs, AreKeys, one, two, three};
-ghost use Rattle.element_tokens.specs.Tokens.{spelled, tokens_of};
+ghost use Rattle.element_tokens.specs.Tokens.{span_text, tokens_of};
 ghost use Rattle.element_grammar.specs.Surface.{surface_expr, surface_exprs};
 ghost use Rattle.element_grammar.specs.Machine.{mark, prim, unary as unary_part, operand, expr, exprs};
 ghost use Rattle.element_grammar.specs.Machine.{keys as keys_part};
@@ -59,7 +59,7 @@ fn literal_of(text: &[u8], value: u64, width: u64) -> SurfaceExpr
 }
 
 fn local_of(text: &[u8], word: Span) -> SurfaceExpr
-    ensures { surface_expr text.now result ≡ tree.name (spelled text.now word) }
+    ensures { surface_expr text.now result ≡ tree.name (span_text text.now word) }
 {
     SurfaceExpr::Name(word)
 }

@@ -3,7 +3,7 @@ ghost use Rattle.std.specs.Prelude.{◌≡◌, ℕ, ◌-◌, ◌≤◌, length, 
 ghost use Rattle.element_lang.specs.Surface.{Surface};
 ghost use Rattle.element_lang.specs.Grammar.{Spells, IsFirstWrong};
 ghost use Rattle.element_lang.specs.Accepted.{deepest};
-ghost use Rattle.element_lang.specs.Bounds.{bound};
+ghost use Rattle.element_lang.specs.Bounds.{limit_of};
 ghost use Rattle.element_lang.specs.declared.sizes.What.TheVariants.{Depth};
 ghost use Rattle.element_tokens.specs.Tokens.{tokens_of};
 ghost use Rattle.element_grammar.specs.Surface.{surface_tree};
@@ -37,7 +37,7 @@ fn whole(alloc: Global, text: &[u8], tokens: &[Placed]) -> Result<SurfaceTree, P
 /// brackets are
 /// open, so that no more may be open at once than a source may have.
 pub fn parse(alloc: Global, text: &[u8], tokens: &[Placed]) -> Result<SurfaceTree, ParseError>
-    requires shallow { deepest 0 (tokens_of text.now tokens.now) ≤ bound Depth }
+    requires shallow { deepest 0 (tokens_of text.now tokens.now) ≤ limit_of Depth }
     ensures spelled { IfOk result (λ s. Spells (tokens_of text.now tokens.now) (surface_tree text.now s)) }
     ensures only { IfOk result
         (λ s. (other : Surface) → Spells (tokens_of text.now tokens.now) other → other ≡ surface_tree text.now s) }

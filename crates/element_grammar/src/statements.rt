@@ -5,7 +5,7 @@ ghost use Rattle.element_lang.specs.declared.mark.Mark.TheVariants.{Del as DelMa
 ghost use Rattle.element_lang.specs.Token.{fixed, name as name_token, field as field_token};
 ghost use Rattle.element_lang.specs.Surface as tree;
 ghost use Rattle.element_lang.specs.Grammar.{AreNames, IsBody};
-ghost use Rattle.element_tokens.specs.Tokens.{spelled, tokens_of};
+ghost use Rattle.element_tokens.specs.Tokens.{span_text, tokens_of};
 ghost use Rattle.element_grammar.specs.Surface.{surface_expr, surface_exprs, surface_stmt, surface_body};
 ghost use Rattle.element_grammar.specs.Machine.{names as names_part, stmt, otherwise as else_part, body as body_part};
 ghost use Rattle.element_grammar.specs.Refused.{FoundEntry, FoundStmt, FoundElse, entry_parts, Misses};
@@ -23,14 +23,14 @@ use std::alloc::Global;
 
 fn let_of(text: &[u8], local: Span, value: SurfaceExpr) -> SurfaceStmt
     ensures { surface_stmt text.now result
-        ≡ tree.let_local (spelled text.now local) (surface_expr text.now value) }
+        ≡ tree.let_local (span_text text.now local) (surface_expr text.now value) }
 {
     SurfaceStmt::Let { local, value }
 }
 
 fn assign_of(text: &[u8], local: Span, value: SurfaceExpr) -> SurfaceStmt
     ensures { surface_stmt text.now result
-        ≡ tree.assign (spelled text.now local) (surface_expr text.now value) }
+        ≡ tree.assign (span_text text.now local) (surface_expr text.now value) }
 {
     SurfaceStmt::Assign { local, value }
 }
@@ -48,8 +48,8 @@ fn look_of(
     object: Span,
     keys: Vec<SurfaceExpr>,
 ) -> SurfaceStmt
-    ensures { surface_stmt text.now result ≡ tree.look (spelled text.now found) (map (spelled text.now) into.items)
-        (spelled text.now object) (surface_exprs text.now keys.items) }
+    ensures { surface_stmt text.now result ≡ tree.look (span_text text.now found) (map (span_text text.now) into.items)
+        (span_text text.now object) (surface_exprs text.now keys.items) }
 {
     SurfaceStmt::Look {
         found,
@@ -66,7 +66,7 @@ fn put_of(
     keys: Vec<SurfaceExpr>,
     values: Vec<SurfaceExpr>,
 ) -> SurfaceStmt
-    ensures { surface_stmt text.now result ≡ tree.put (spelled text.now ok) (spelled text.now object)
+    ensures { surface_stmt text.now result ≡ tree.put (span_text text.now ok) (span_text text.now object)
         (surface_exprs text.now keys.items) (surface_exprs text.now values.items) }
 {
     SurfaceStmt::Put {
@@ -79,7 +79,7 @@ fn put_of(
 
 fn del_of(text: &[u8], was: Span, object: Span, keys: Vec<SurfaceExpr>) -> SurfaceStmt
     ensures { surface_stmt text.now result
-        ≡ tree.del (spelled text.now was) (spelled text.now object) (surface_exprs text.now keys.items) }
+        ≡ tree.del (span_text text.now was) (span_text text.now object) (surface_exprs text.now keys.items) }
 {
     SurfaceStmt::Del { was, object, keys }
 }
@@ -98,7 +98,7 @@ fn if_of(
 
 fn repeat_of(text: &[u8], index: Span, count: u64, body: Vec<At<SurfaceStmt>>) -> SurfaceStmt
     ensures { surface_stmt text.now result
-        ≡ tree.repeat (spelled text.now index) count (surface_body text.now body.items) }
+        ≡ tree.repeat (span_text text.now index) count (surface_body text.now body.items) }
 {
     SurfaceStmt::Repeat { index, count, body }
 }
@@ -122,7 +122,7 @@ fn names<'t>(
     text: &[u8],
     tokens: &'t [Placed],
 ) -> Result<(Vec<Span>, &'t [Placed]), ParseError>
-    ensures ok { IfOk result (λ x. AreNames (map (spelled text.now) x.0.items)
+    ensures ok { IfOk result (λ x. AreNames (map (span_text text.now) x.0.items)
         (tokens_of text.now tokens.now) (tokens_of text.now x.1.now)) }
     ensures shorter { IfOk result (λ x. length x.1.now < length tokens.now) }
     ensures err { IfErr result (λ e. Misses (names_part ∷ []) (tokens_of text.now tokens.now) e) }
@@ -147,7 +147,7 @@ fn entry<'t>(
     text: &[u8],
     tokens: &'t [Placed],
 ) -> Result<(Span, Vec<SurfaceExpr>, &'t [Placed]), ParseError>
-    ensures ok { IfOk result (λ x. FoundEntry (spelled text.now x.0) (surface_exprs text.now x.1.items)
+    ensures ok { IfOk result (λ x. FoundEntry (span_text text.now x.0) (surface_exprs text.now x.1.items)
         (tokens_of text.now tokens.now) (tokens_of text.now x.2.now)) }
     ensures shorter { IfOk result (λ x. length x.2.now < length tokens.now) }
     ensures err { IfErr result (λ e. Misses entry_parts (tokens_of text.now tokens.now) e) }
@@ -184,10 +184,10 @@ fn assign<'t>(
     local: Span,
 ) -> Result<(SurfaceStmt, &'t [Placed]), ParseError>
     ensures ok { IfOk result (λ x. FoundStmt (surface_stmt text.now x.0)
-        (name_token (spelled text.now local) ∷ tokens_of text.now tokens.now) (tokens_of text.now x.1.now)) }
+        (name_token (span_text text.now local) ∷ tokens_of text.now tokens.now) (tokens_of text.now x.1.now)) }
     ensures shorter { IfOk result (λ x. length x.1.now < length tokens.now) }
     ensures err { IfErr result (λ e. Misses (stmt ∷ [])
-        (name_token (spelled text.now local) ∷ tokens_of text.now tokens.now) e) }
+        (name_token (span_text text.now local) ∷ tokens_of text.now tokens.now) e) }
 {
     let (value, rest) = expression_between(alloc, text, tokens, Mark::Assign, Mark::Semicolon)?;
     Ok((assign_of(text, local, value), rest))

@@ -2,11 +2,12 @@
 use Rattle.std.proofs.Common.{◌≡◌, ◌≤◌, ◌+◌, ℕ, zero, suc, true, ◌==◌, List, [], ◌∷◌, ◌++◌, length, nat_le, Option, Some, None, slice_get, slice_index, refl, sym, ap, ◌∙◌, subst, arith, true≢false}
 use Rattle.gal_bits.specs.declared.op.Op.{Op}
 use Rattle.gal_bits.specs.declared.op.Op.TheVariants.{Add, Sub, Mul, Div, Rem, And, Or, Xor, Not, Shl, Shr, Eq, Ne, Lt, Le, Cast, Select, Adjust}
-use Rattle.gal_bits.specs.Operators.{row_of}
+use Rattle.gal_bits.specs.Operators.{operator_row}
 use Rattle.state_store.specs.declared.object.Kind.{Kind}
 use Rattle.state_store.specs.declared.object.Kind.TheVariants.{Table, Map, Vector, Int}
 use Rattle.state_store.specs.declared.object.ObjectDecl.{ObjectDecl}
 use Rattle.std.proofs.lemmas.Bool.{leb-true, eqb-true}
+use Rattle.std.proofs.lemmas.Option.{same_Some}
 use Rattle.element_lang.specs.Tree.{ExprTree, Exprs, StmtTree, BodyTree, Tree}
 use Rattle.element_lang.specs.Tree.ExprTree.{lit, local, field, byte, shift, apply}
 use Rattle.element_lang.specs.Tree.Exprs.{no_expr, expr}
@@ -14,7 +15,7 @@ use Rattle.element_lang.specs.Tree.StmtTree.{let_local, assign, set_field, look,
 use Rattle.element_lang.specs.Tree.BodyTree.{done, stmt}
 use Rattle.element_lang.specs.Widths.{local_widths}
 use Rattle.element_lang.specs.Rules.{count_of, widths_of, same_widths, fits_operator, is_shift, is_good_expr, are_good_exprs, is_good_stmt, is_good_body, is_good, fits_keys, fits_values, are_widths, is_good_object, are_good_objects, declared_in, declared_by, binds}
-use Rattle.element_interp.proofs.Tests.{left, right, the_some}
+use Rattle.element_interp.proofs.Tests.{left, right}
 use Rattle.element_interp.specs.Runnable.{IsRunnableExpr, AreRunnableExprs, IsRunnableStmt, IsRunnableBody}
 
 same_length : (xs ys : List ℕ) → same_widths xs ys ≡ true → length xs ≡ length ys
@@ -28,7 +29,7 @@ count_widths widths no_expr = refl
 count_widths widths (expr e es) = ap suc (count_widths widths es)
 
 -- an operator that its arguments fit has as many as it takes
-arity : (op : Op) (w : ℕ) (args : List ℕ) → fits_operator op w args ≡ true → length args ≡ (row_of op).arity
+arity : (op : Op) (w : ℕ) (args : List ℕ) → fits_operator op w args ≡ true → length args ≡ (operator_row op).arity
 arity Add w args h = same_length args (w ∷ w ∷ []) h
 arity Sub w args h = same_length args (w ∷ w ∷ []) h
 arity Mul w args h = same_length args (w ∷ w ∷ []) h
@@ -48,7 +49,7 @@ arity Cast w args h = eqb-true (length args) 1 (right _ (length args == 1) h)
 arity Select w args h = same_length args (1 ∷ w ∷ w ∷ []) h
 arity Adjust w args h = same_length args (16 ∷ 16 ∷ 16 ∷ []) (right (w == 16) _ h)
 
-few_arguments : (op : Op) → (row_of op).arity ≤ 8
+few_arguments : (op : Op) → (operator_row op).arity ≤ 8
 few_arguments Add = omega arith
 few_arguments Sub = omega arith
 few_arguments Mul = omega arith
@@ -68,7 +69,7 @@ few_arguments Cast = omega arith
 few_arguments Select = omega arith
 few_arguments Adjust = omega arith
 
-shift_arity : (op : Op) → is_shift op ≡ true → (row_of op).arity ≡ 2
+shift_arity : (op : Op) → is_shift op ≡ true → (operator_row op).arity ≡ 2
 shift_arity Shl h = refl
 shift_arity Shr h = refl
 shift_arity Add h = refl
@@ -132,7 +133,7 @@ short_object Int o h =
 
 short_objects : (names : List (List ℕ)) (os : List ObjectDecl) (n : ℕ) (o : ObjectDecl) → are_good_objects names os ≡ true → slice_get os n ≡ Some o → IsShort o
 short_objects names [] n o h got = cc
-short_objects names (x ∷ xs) zero o h got = subst IsShort (the_some x o got) (short_object x.kind x (left (is_good_object x.kind x) _ (left _ _ h)))
+short_objects names (x ∷ xs) zero o h got = subst IsShort (same_Some x o got) (short_object x.kind x (left (is_good_object x.kind x) _ (left _ _ h)))
 short_objects names (x ∷ xs) (suc n) o h got = short_objects (x.name ∷ names) xs n o (right _ (are_good_objects (x.name ∷ names) xs) h) got
 
 -- a key or a value that fits an object has at most 8 numbers

@@ -1,43 +1,36 @@
 -- What a store starts with keeps what was declared.
-use Rattle.std.proofs.Common.{◌≡◌, ◌≤◌, ◌<◌, ◌+◌, ◌-◌, ◌^◌, ◌==◌, ℕ, zero, suc, Bool, true, false, cond, not, ◌&&◌, List, [], ◌∷◌, length, replicate, nat_le, Option, Some, None, slice_get, slice_index, refl, sym, ap, ◌∙◌, subst, arith, true≢false}
-use Rattle.std.specs.Ordering.{eq_by_cmp, is_eq}
-use Rattle.std.specs.declared.cmp.Ordering.{Ordering}
-use Rattle.std.specs.declared.cmp.Ordering.TheVariants.{Less, Equal, Greater}
-use Rattle.std.specs.FinMap.{empty, get, insert, remove, len, contains_key, get-insert, get-remove, len-insert, len-remove, get-empty, len-empty}
+use Rattle.std.proofs.Common.{◌≡◌, ◌≤◌, ◌<◌, ◌+◌, ◌^◌, ◌==◌, ℕ, zero, suc, true, List, [], ◌∷◌, length, replicate, nat_le, Some, slice_get, slice_index, refl, sym, ap, ◌∙◌, subst, arith}
+use Rattle.std.specs.FinMap.{empty, get, insert, len, get-empty, len-empty}
 use Rattle.std.proofs.lemmas.Bool.{eqb-true, leb-true, ltb-true}
-use Rattle.std.proofs.lemmas.Bool.Decides.{nat_tests}
-use Rattle.std.proofs.lemmas.Cmp.{nat_list_cmp_total}
-use Rattle.std.proofs.lemmas.List.{length-set}
-use Rattle.std.proofs.lemmas.Map.Lookups.{exact_bytes}
-use Rattle.std.proofs.lemmas.Nat.{pow_pos}
+use Rattle.std.proofs.lemmas.Option.{none-some, same_Some}
 use Rattle.state_store.specs.declared.object.Kind.{Kind}
 use Rattle.state_store.specs.declared.object.Kind.TheVariants.{Table, Map, Vector, Int}
 use Rattle.state_store.specs.declared.object.Row.{Row}
 use Rattle.state_store.specs.declared.object.ObjectDecl.{ObjectDecl}
-use Rattle.state_store.specs.Keeping.{AreRows, with_row, one_more, start_whole}
+use Rattle.state_store.specs.Keeping.{HaveRowWidths, with_row, one_row_more, start_whole}
 use Rattle.state_store.specs.Kept.{have_widths, IsWhole, IsKeptObject, IsKept}
-use Rattle.state_store.specs.Store.{key_cmp, Contents, Object, Store, with_rows, zeros_from, is_out, is_full, put_row, del_row, start_contents, start_object, start_store, object_at, with_object}
+use Rattle.state_store.specs.Store.{key_cmp, Contents, with_rows, zeros_from, start_contents, start_object, start_store, object_at}
 use Rattle.element_lang.specs.declared.sizes.TheConstants.{MAX_ROWS}
-use Rattle.state_store.specs.Kinds.{is_table, is_map}
 use Rattle.element_lang.specs.Rules.{same_widths, is_size, are_good_rows, is_good_object, are_good_objects}
-use Rattle.element_interp.proofs.Tests.{left, right, the_some, none_some}
-use Rattle.element_interp.proofs.Values.{one_width, same_list}
+use Rattle.element_interp.proofs.Tests.{left, right}
+use Rattle.gal_bits.specs.Fits.{same_list}
+use Rattle.state_store.specs.Widths.{one_width, zeros_have_widths}
 
 -- ---- rows
-no_rows : (keys values : List ℕ) → AreRows keys values empty
-no_rows keys values key there is = absurd (none_some there (sym (get-empty key_cmp key) ∙ is))
+no_rows : (keys values : List ℕ) → HaveRowWidths keys values empty
+no_rows keys values key there is = absurd (none-some there (sym (get-empty key_cmp key) ∙ is))
 
 -- ---- at the start
 -- the rows of a table
 few_rows : (rows : List Row) (contents : Contents) → len (with_rows rows contents) ≤ len contents + length rows
 few_rows [] contents = omega arith
-few_rows (row ∷ rows) contents = omega (arith, few_rows rows (insert contents row.keys row.values), one_more row.keys row.values contents)
+few_rows (row ∷ rows) contents = omega (arith, few_rows rows (insert contents row.keys row.values), one_row_more row.keys row.values contents)
 
 -- no more than were declared
 few_declared : (rows : List Row) (size : ℕ) → size ≡ length rows → len (with_rows rows empty) ≤ size
 few_declared rows size all = omega (arith, few_rows rows empty, len-empty key_cmp (List ℕ))
 
-rows_fit : (keys values : List ℕ) (seen : List (List ℕ)) (rows : List Row) (contents : Contents) → are_good_rows keys values seen rows ≡ true → AreRows keys values contents → AreRows keys values (with_rows rows contents)
+rows_fit : (keys values : List ℕ) (seen : List (List ℕ)) (rows : List Row) (contents : Contents) → are_good_rows keys values seen rows ≡ true → HaveRowWidths keys values contents → HaveRowWidths keys values (with_rows rows contents)
 rows_fit keys values seen [] contents h old = old
 rows_fit keys values seen (row ∷ rows) contents h old =
     let widths = left _ _ (left _ _ h) in
@@ -45,20 +38,16 @@ rows_fit keys values seen (row ∷ rows) contents h old =
     (with_row keys values row.keys row.values contents (left (have_widths keys row.keys) _ widths) (right _ (have_widths values row.values) widths) old)
 
 -- the zeros of a vector, whose indices have 32 bits
-zeros_have_widths : (widths : List ℕ) → have_widths widths (replicate (length widths) 0) ≡ true
-zeros_have_widths [] = refl
-zeros_have_widths (w ∷ widths) = one_width w 0 widths (replicate (length widths) 0) (pow_pos w) (zeros_have_widths widths)
-
 few_zeros : (n i width : ℕ) (contents : Contents) → len (zeros_from n i width contents) ≤ len contents + n
 few_zeros zero i width contents = omega arith
 few_zeros (suc n) i width contents =
-    omega (arith, few_zeros n (suc i) width (insert contents (i ∷ []) (replicate width 0)), one_more (i ∷ []) (replicate width 0) contents)
+    omega (arith, few_zeros n (suc i) width (insert contents (i ∷ []) (replicate width 0)), one_row_more (i ∷ []) (replicate width 0) contents)
 
 -- no more than the length
 few_indices : (size width : ℕ) → len (zeros_from size 0 width empty) ≤ size
 few_indices size width = omega (arith, few_zeros size 0 width empty, len-empty key_cmp (List ℕ))
 
-zeros_fit : (values : List ℕ) (n i : ℕ) (contents : Contents) → i + n ≤ 2 ^ 32 → AreRows (32 ∷ []) values contents → AreRows (32 ∷ []) values (zeros_from n i (length values) contents)
+zeros_fit : (values : List ℕ) (n i : ℕ) (contents : Contents) → i + n ≤ 2 ^ 32 → HaveRowWidths (32 ∷ []) values contents → HaveRowWidths (32 ∷ []) values (zeros_from n i (length values) contents)
 zeros_fit values zero i contents within old = old
 zeros_fit values (suc n) i contents within old =
     zeros_fit values n (suc i) (insert contents (i ∷ []) (replicate (length values) 0)) (omega arith)
@@ -71,10 +60,10 @@ small_size n h =
 
 -- the one row of an integer
 one_row : (row : List ℕ) (size : ℕ) → size ≡ 1 → len {R = key_cmp} (insert empty [] row) ≤ size
-one_row row size one = omega (arith, one_more [] row empty, len-empty key_cmp (List ℕ))
+one_row row size one = omega (arith, one_row_more [] row empty, len-empty key_cmp (List ℕ))
 
 -- an object that starts with these contents
-kept_from : (d : ObjectDecl) (contents : Contents) → (start_object d).contents ≡ contents → len contents ≤ d.size → AreRows d.keys d.values contents → IsKeptObject d (start_object d)
+kept_from : (d : ObjectDecl) (contents : Contents) → (start_object d).contents ≡ contents → len contents ≤ d.size → HaveRowWidths d.keys d.values contents → IsKeptObject d (start_object d)
 kept_from d contents is few rows = record {
   kind = refl;
   size = refl;
@@ -98,7 +87,7 @@ start_kept Vector d h is =
     let small : d.size ≤ 2 ^ 32 = small_size d.size (right _ (is_size d.size) three) in
     kept_from d (zeros_from d.size 0 (length d.values) empty) (ap (λ (kind : Kind). start_contents kind d) is)
     (few_indices d.size (length d.values))
-    (subst (λ keys. AreRows keys d.values (zeros_from d.size 0 (length d.values) empty)) (sym index) (zeros_fit d.values d.size 0 empty (omega arith) (no_rows (32 ∷ []) d.values)))
+    (subst (λ keys. HaveRowWidths keys d.values (zeros_from d.size 0 (length d.values) empty)) (sym index) (zeros_fit d.values d.size 0 empty (omega arith) (no_rows (32 ∷ []) d.values)))
 start_kept Int d h is =
     let five = left _ _ h in
     let four = left _ _ five in
@@ -125,13 +114,13 @@ start_length (o ∷ os) = ap suc (start_length os)
 
 start_each : (names : List (List ℕ)) (os : List ObjectDecl) → are_good_objects names os ≡ true → (number : ℕ) (d : ObjectDecl) → slice_get os number ≡ Some d → IsKeptObject d (object_at (start_store os) number)
 start_each names [] h number d got = cc
-start_each names (o ∷ os) h zero d got = subst (λ (x : ObjectDecl). IsKeptObject x (start_object o)) (the_some o d got) (start_kept o.kind o (left _ _ (left _ _ h)) refl)
+start_each names (o ∷ os) h zero d got = subst (λ (x : ObjectDecl). IsKeptObject x (start_object o)) (same_Some o d got) (start_kept o.kind o (left _ _ (left _ _ h)) refl)
 start_each names (o ∷ os) h (suc number) d got = start_each (o.name ∷ names) os (right _ _ h) number d got
 
 -- each object starts whole
 start_whole_each : (os : List ObjectDecl) (number : ℕ) (d : ObjectDecl) → slice_get os number ≡ Some d → IsWhole d (object_at (start_store os) number)
 start_whole_each [] number d got = cc
-start_whole_each (o ∷ os) zero d got = subst (λ (x : ObjectDecl). IsWhole x (start_object o)) (the_some o d got) (start_whole o)
+start_whole_each (o ∷ os) zero d got = subst (λ (x : ObjectDecl). IsWhole x (start_object o)) (same_Some o d got) (start_whole o)
 start_whole_each (o ∷ os) (suc number) d got = start_whole_each os number d got
 
 pub start_is_kept : (names : List (List ℕ)) (os : List ObjectDecl) → are_good_objects names os ≡ true → IsKept os (start_store os)

@@ -1,8 +1,7 @@
 pub mod Tests
-pub mod FieldOrder
+pub mod Assigned
 pub mod NoBits
 pub mod GoodRuns
-pub mod Values
 pub mod KeptObjects
 pub mod KeptRuns
 pub mod Bindings

@@ -1,6 +1,6 @@
 -- Trees that can be run: each operator has as many arguments as it takes, and no key or value has more than 8 numbers.
 use Rattle.std.specs.Prelude.{◌≡◌, ◌≤◌}
-use Rattle.gal_bits.specs.Operators.{row_of}
+use Rattle.gal_bits.specs.Operators.{operator_row}
 use Rattle.element_lang.specs.Tree.{ExprTree, Exprs, StmtTree, BodyTree}
 use Rattle.element_lang.specs.Tree.ExprTree.{lit, local, field, byte, shift, apply}
 use Rattle.element_lang.specs.Tree.Exprs.{no_expr, expr}
@@ -14,9 +14,9 @@ abbrev mutual
   IsRunnableExpr (local x) = Unit {0}
   IsRunnableExpr (field f) = Unit {0}
   IsRunnableExpr (byte index) = IsRunnableExpr index
-  IsRunnableExpr (shift op by arg) = ((row_of op).arity ≡ 2) × IsRunnableExpr arg
+  IsRunnableExpr (shift op by arg) = ((operator_row op).arity ≡ 2) × IsRunnableExpr arg
   IsRunnableExpr (apply op width args) =
-      (count_of args ≡ (row_of op).arity) × (count_of args ≤ 8) × AreRunnableExprs args
+      (count_of args ≡ (operator_row op).arity) × (count_of args ≤ 8) × AreRunnableExprs args
 
   pub AreRunnableExprs : Exprs → Type 0
   AreRunnableExprs no_expr = Unit {0}

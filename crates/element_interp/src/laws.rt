@@ -7,7 +7,7 @@ ghost use Rattle.state_store.specs.Store.{Store, start_store};
 ghost use Rattle.element_lang.specs.Tree.{Tree};
 ghost use Rattle.element_lang.specs.Rules.{is_good};
 ghost use Rattle.element_lang.specs.Meaning.{source_store, serial_store};
-ghost use Rattle.element_interp.specs.Arrivals.{IsArrival};
+ghost use Rattle.packet_fields.specs.Arrivals.{IsArrival};
 
 /// The store keeps what was declared: it does at the start, no packet changes that, and so it does behind any number of
 /// packets. This does nothing: its contract is the law.

@@ -2,6 +2,7 @@
 #![tactic(auto)]
 
 mod fields;
+mod frame;
 mod interp;
 mod laws;
 mod serial;

@@ -6,7 +6,7 @@ ghost use Rattle.element_lang.specs.Rules.{is_good};
 ghost use Rattle.element_lang.specs.Meaning.{serial_store, serial_verdicts};
 ghost use Rattle.packet_fields.specs.Sizes.{largest_packet};
 
-use crate::interp::run;
+use crate::interp::{Ran, run_in};
 use element_lang::Middlebox;
 use gal_io::NoMemory;
 use packet_fields::{Packet, Verdict};
@@ -34,9 +34,12 @@ pub fn run_all(alloc: Global, m: &Middlebox, packets: &[Packet]) -> Result<Serve
 {
     let mut store = Store::new(alloc, &m.objects)?;
     let mut verdicts = Vec::with_capacity(alloc, packets.len())?;
+    let mut memory = Vec::new(alloc);
     for packet in packets {
-        let verdict = run(alloc, m, &mut store, packet.port, packet.bytes.as_slice())?;
+        let bytes = packet.bytes.as_slice();
+        let Ran { verdict, locals } = run_in(alloc, m, &mut store, packet.port, bytes, memory)?;
         verdicts.push(verdict)?;
+        memory = locals;
     }
     Ok(Served { verdicts, store })
 }

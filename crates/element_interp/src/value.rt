@@ -1,31 +1,37 @@
 //! The values of expressions.
-ghost use Rattle.std.specs.Prelude.{◌≡◌, ◌≤◌, ℕ, [], ◌∷◌, slice_index, slice_set, length, map};
-ghost use Rattle.gal_bits.specs.Operators.{row_of, value_of as operator_value};
+ghost use Rattle.std.specs.Prelude.{◌≡◌, ◌≤◌, ℕ, [], ◌∷◌, slice_index, slice_set, length, map, replicate, IfOk};
+ghost use Rattle.gal_bits.specs.Operators.{operator_row, value_of as operator_value};
 ghost use Rattle.state_store.specs.Store.{Store};
 ghost use Rattle.element_lang.specs.View.{expr_tree, expr_trees};
 ghost use Rattle.element_lang.specs.Widths.{width_of as width_of_tree};
 ghost use Rattle.element_lang.specs.Meaning.{value_of, values_of, bind_from};
 ghost use Rattle.element_lang.specs.Rules.{count_of};
-ghost use Rattle.element_interp.specs.Runs.{packet_of, widths_of, state_of};
+ghost use Rattle.element_interp.specs.Runs.{packet_of, frame_widths, state_of};
 ghost use Rattle.element_interp.specs.Runnable.{IsRunnableExpr, AreRunnableExprs};
 
-use crate::fields::FieldValues;
+use crate::fields::AssignedFields;
+use crate::frame::Frame;
 use element_lang::{Expr, Local};
 use gal_bits::{Op, Values, Width, eval};
-
-/// What a run doesn't change: the declared locals, and the packet as it arrived.
-#[derive(Clone, Copy, Debug)]
-pub(crate) struct Frame<'a> {
-    pub locals: &'a [Local],
-    pub port: u8,
-    pub bytes: &'a [u8],
-}
+use gal_io::NoMemory;
 
 /// The variables of a run but for the store.
 #[derive(Debug, Drop)]
 pub(crate) struct Variables {
     pub locals: Vec<u64>,
-    pub fields: FieldValues,
+    pub fields: AssignedFields,
+}
+
+/// So many locals as a run begins with them, which are 0, in the memory of those of another run as far as it goes.
+pub(crate) fn fresh_locals(memory: Vec<u64>, count: usize) -> Result<Vec<u64>, NoMemory>
+    ensures { IfOk result (λ locals. locals.items ≡ replicate count 0) }
+{
+    let mut locals = memory;
+    locals.clear();
+    for _ in 0..count {
+        locals.push(0)?;
+    }
+    Ok(locals)
 }
 
 // How many bits wide the value of an expression is, 0 for a local that isn't declared.
@@ -49,7 +55,7 @@ fn width_of(locals: &[Local], e: &Expr) -> u32
 // A shift at a width, which is 0 where there are no bits.
 #[tactic(auto, unfolding(gal_bits::specs::Operators::value_of))]
 fn shifted(op: Op, bits: u32, value: u64, by: u8) -> u64
-    requires arity { (row_of op).arity ≡ 2 }
+    requires arity { (operator_row op).arity ≡ 2 }
     requires small { bits ≤ 64 }
     ensures { result ≡ operator_value op bits (value ∷ by ∷ []) }
 {
@@ -87,12 +93,15 @@ fn byte_at(bytes: &[u8], place: u64) -> u64
 pub(crate) fn value(frame: &Frame<'_>, e: &Expr, vars: &Variables) -> u64
     requires { IsRunnableExpr (expr_tree e.now) }
     ensures { (store : Store)
-        → result ≡ value_of (widths_of frame.now) (packet_of frame.now) (expr_tree e.now) (state_of vars.now store) }
+        → result ≡ value_of (frame_widths frame.now) (packet_of frame.now) (expr_tree e.now) (state_of frame.now vars.now store) }
 {
     match e {
         Expr::Lit(value, _) => *value,
         Expr::Local(x) => at(&vars.locals, *x as usize),
-        Expr::Field(field) => vars.fields.at(*field),
+        Expr::Field(field) => {
+            vars.fields
+                .get(frame.bytes, frame.port, &frame.shape, *field)
+        }
         Expr::Byte(index) => byte_at(frame.bytes, value(frame, index, vars)),
         Expr::Shift { op, by, arg } => {
             let shifts = value(frame, arg, vars);
@@ -111,8 +120,8 @@ pub(crate) fn values(frame: &Frame<'_>, all: &[Expr], vars: &Variables) -> Value
     requires few { count_of (expr_trees all.now) ≤ 8 }
     requires good { AreRunnableExprs (expr_trees all.now) }
     ensures told { (store : Store)
-        → result ≡ values_of (widths_of frame.now) (packet_of frame.now) (expr_trees all.now)
-        (state_of vars.now store) }
+        → result ≡ values_of (frame_widths frame.now) (packet_of frame.now) (expr_trees all.now)
+        (state_of frame.now vars.now store) }
     ensures count { length result ≡ count_of (expr_trees all.now) }
 {
     let mut values = Values::new();

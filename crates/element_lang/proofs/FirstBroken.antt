@@ -11,7 +11,7 @@ use Rattle.element_lang.specs.Grammar.IsElse.{is_absent, is_else}
 use Rattle.element_lang.specs.Grammar.IsBody.{is_end, is_more}
 use Rattle.element_lang.specs.Grammar.IsMiddlebox.{is_process, is_declared}
 use Rattle.element_lang.specs.Broken.{Sight, inside, in_repeat, behind, stmt_tests, decl_tests, lowest_broken, ◌or_else◌, broken_within, broken_in, broken_decl, first_broken}
-use Rattle.element_lang.specs.First.{Part, parts_within, parts_in, declared_parts, first_sight, parts, StandsIn, breaks, IsFirstBroken, BreakNone}
+use Rattle.element_lang.specs.First.{Part, parts_within, parts_in, declared_parts, first_sight, surface_parts, StandsIn, breaks, IsFirstBroken, BreakNone}
 use Rattle.element_lang.specs.First.StandsIn.{first, later}
 use Rattle.element_lang.proofs.Shorter as shorter
 
@@ -136,7 +136,7 @@ decls_are : (objects : List ObjectDecl) (ds : List Declared) → broken_decl obj
 decls_are objects [] = refl
 decls_are objects (d ∷ ds) = ap (λ o. lowest_broken d.at (decl_tests objects d.decl) or_else o) (decls_are (objects ++ object_of d.decl ∷ []) ds)
 
-first_is : (surface : Surface) → first_broken surface ≡ first_in (parts surface)
+first_is : (surface : Surface) → first_broken surface ≡ first_in (surface_parts surface)
 first_is surface =
     both_are (decls_are [] surface.objects) (in_is (first_sight surface) surface.body)
     ∙ first_joined (declared_parts [] surface.objects) (parts_in (first_sight surface) surface.body)
@@ -284,10 +284,10 @@ none_in (p ∷ ps) e q first rule =
     none_told p.at p.tests (neither_told (lowest_broken p.at p.tests) (first_in ps) e).0 rule
 none_in (p ∷ ps) e q (later h) rule = none_in ps (neither_told (lowest_broken p.at p.tests) (first_in ps) e).1 q h rule
 
-pub told : (ts : List Token) (surface : Surface) (b : Broken) → Spells ts surface → first_broken surface ≡ Some b → IsFirstBroken (parts surface) b
+pub told : (ts : List Token) (surface : Surface) (b : Broken) → Spells ts surface → first_broken surface ≡ Some b → IsFirstBroken (surface_parts surface) b
 told ts surface b h e =
     let (a, f) = source_falls [] (first_sight surface) h in
-    told_in 0 (length ts) (parts surface) b f (sym (first_is surface) ∙ e)
+    told_in 0 (length ts) (surface_parts surface) b f (sym (first_is surface) ∙ e)
 
-pub none : (ts : List Token) (surface : Surface) → Spells ts surface → first_broken surface ≡ None → BreakNone (parts surface)
-none ts surface h e = none_in (parts surface) (sym (first_is surface) ∙ e)
+pub none : (ts : List Token) (surface : Surface) → Spells ts surface → first_broken surface ≡ None → BreakNone (surface_parts surface)
+none ts surface h e = none_in (surface_parts surface) (sym (first_is surface) ∙ e)

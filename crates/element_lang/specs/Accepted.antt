@@ -13,7 +13,7 @@ use Rattle.element_lang.specs.Surface.{Surface, unplaced, named}
 use Rattle.element_lang.specs.Grammar.{Spells, IsFirstWrong}
 use Rattle.element_lang.specs.Rules.{is_good}
 use Rattle.element_lang.specs.Broken.{first_broken}
-use Rattle.element_lang.specs.Bounds.{bound}
+use Rattle.element_lang.specs.Bounds.{limit_of}
 use Rattle.element_lang.specs.Sizes.{entries, writes}
 
 -- How many brackets are open behind a token, where so many were open before it. One that closes closes the last open
@@ -44,18 +44,18 @@ pub record IsSpelling (text : List ℕ) (m : Tree) : Type 0 where
   pub utf8 : IsUtf8 text
   pub placed : List Placed
   pub tokens : AreTokens text placed
-  pub depth : deepest 0 (plain placed) ≤ bound Depth
+  pub depth : deepest 0 (plain placed) ≤ limit_of Depth
   pub surface : Surface
   pub spells : Spells (plain placed) surface
-  pub few_objects : length surface.objects ≤ bound Objects
+  pub few_objects : length surface.objects ≤ limit_of Objects
   pub named : unplaced surface ≡ named m
   pub good : IsTrue (is_good m)
 
 -- The text is a source of this middlebox: it spells it, and the middlebox keeps the sizes.
 pub record IsSource (text : List ℕ) (m : Tree) : Type 0 where
   pub spelling : IsSpelling text m
-  pub few_entries : entries m ≤ bound Entries
-  pub few_writes : writes m ≤ bound Writes
+  pub few_entries : entries m ≤ limit_of Entries
+  pub few_writes : writes m ≤ limit_of Writes
 
 -- every object and every local has a name that can be written
 pub record HasNames (m : Tree) : Type 0 where
@@ -81,7 +81,7 @@ pub record IsTooDeep (text : List ℕ) (have allowed : ℕ) : Type 0 where
   pub placed : List Placed
   pub tokens : AreTokens text placed
   pub most : have ≡ deepest 0 (plain placed)
-  pub limit : allowed ≡ bound Depth
+  pub limit : allowed ≡ limit_of Depth
   pub above : allowed < have
 
 -- the offset of the token at this place, or the length of the text where there is none
@@ -97,7 +97,7 @@ pub record IsOutsideGrammar (text : List ℕ) (offset : ℕ) : Type 0 where
   pub utf8 : IsUtf8 text
   pub placed : List Placed
   pub tokens : AreTokens text placed
-  pub depth : deepest 0 (plain placed) ≤ bound Depth
+  pub depth : deepest 0 (plain placed) ≤ limit_of Depth
   pub place : ℕ
   pub first : IsFirstWrong (plain placed) place
   pub there : offset ≡ offset_at text placed place
@@ -107,11 +107,11 @@ pub record HasManyObjects (text : List ℕ) (have allowed : ℕ) : Type 0 where
   pub utf8 : IsUtf8 text
   pub placed : List Placed
   pub tokens : AreTokens text placed
-  pub depth : deepest 0 (plain placed) ≤ bound Depth
+  pub depth : deepest 0 (plain placed) ≤ limit_of Depth
   pub surface : Surface
   pub spells : Spells (plain placed) surface
   pub count : have ≡ length surface.objects
-  pub limit : allowed ≡ bound Objects
+  pub limit : allowed ≡ limit_of Objects
   pub above : allowed < have
 
 -- its tokens spell a surface tree, and of the declarations and statements that break a rule the first is at this
@@ -121,10 +121,10 @@ pub record BreaksRule (text : List ℕ) (rule offset : ℕ) : Type 0 where
   pub utf8 : IsUtf8 text
   pub placed : List Placed
   pub tokens : AreTokens text placed
-  pub depth : deepest 0 (plain placed) ≤ bound Depth
+  pub depth : deepest 0 (plain placed) ≤ limit_of Depth
   pub surface : Surface
   pub spells : Spells (plain placed) surface
-  pub few_objects : length surface.objects ≤ bound Objects
+  pub few_objects : length surface.objects ≤ limit_of Objects
   pub at : ℕ
   pub first : first_broken surface ≡ Some (record { rule = rule; at = at })
   pub there : offset ≡ offset_at text placed (length placed - at)
@@ -136,14 +136,14 @@ pub record HasManyEntries (text : List ℕ) (have allowed : ℕ) : Type 0 where
   pub m : Tree
   pub spelling : IsSpelling text m
   pub count : have ≡ min (entries m) (2 ^ 64 - 1)
-  pub limit : allowed ≡ bound Entries
+  pub limit : allowed ≡ limit_of Entries
   pub above : allowed < have
 
 -- it has few enough, and so many statements that write, which are too many; the count is told likewise
 pub record HasManyWrites (text : List ℕ) (have allowed : ℕ) : Type 0 where
   pub m : Tree
   pub spelling : IsSpelling text m
-  pub few_entries : entries m ≤ bound Entries
+  pub few_entries : entries m ≤ limit_of Entries
   pub count : have ≡ min (writes m) (2 ^ 64 - 1)
-  pub limit : allowed ≡ bound Writes
+  pub limit : allowed ≡ limit_of Writes
   pub above : allowed < have

@@ -7,10 +7,11 @@ use Rattle.gal_bits.specs.declared.op.Op.{Op}
 use Rattle.gal_bits.specs.declared.op.Op.TheVariants.{Eq, Ne, Lt, Le, Cast, Select, Adjust}
 use Rattle.packet_fields.specs.Table.{row}
 use Rattle.state_store.specs.declared.object.ObjectDecl.{ObjectDecl}
+use Rattle.gal_bits.specs.Fitting.{sum_of}
 use Rattle.element_lang.specs.declared.tree.Local.{Local}
 use Rattle.element_lang.specs.declared.broken.Broken.{Broken}
 use Rattle.element_lang.specs.Rules.{is_width, same_widths, fits_operator, is_count, fits_keys, fits_values, can_put}
-use Rattle.element_lang.specs.Rules.{can_del, is_size, sum_of}
+use Rattle.element_lang.specs.Rules.{can_del, is_size}
 use Rattle.element_lang.specs.Surface.{SurfaceExpr, SurfaceExprs, SurfaceStmt, SurfaceBody, Literal, SurfaceRow}
 use Rattle.element_lang.specs.Surface.{SurfaceDecl, Declared, Surface, lit, name, field, byte, shift, apply, no_expr}
 use Rattle.element_lang.specs.Surface.{expr, let_local, assign, set_field, look, put, del, choose, repeat, send, drop}
@@ -131,9 +132,9 @@ abbrev mutual
   ends_always (stmt at s done) = always_ends s
   ends_always (stmt at s (stmt bt t b)) = ends_always (stmt bt t b)
 
-abbrev pub joined : SurfaceExprs → SurfaceExprs → SurfaceExprs
-joined no_expr more = more
-joined (expr e es) more = expr e (joined es more)
+abbrev pub appended : SurfaceExprs → SurfaceExprs → SurfaceExprs
+appended no_expr more = more
+appended (expr e es) more = expr e (appended es more)
 
 -- the expressions that are a statement's own, not those of statements inside it
 abbrev pub own_exprs : SurfaceStmt → SurfaceExprs
@@ -141,7 +142,7 @@ own_exprs (let_local word value) = expr value no_expr
 own_exprs (assign word value) = expr value no_expr
 own_exprs (set_field f value) = expr value no_expr
 own_exprs (look found into object keys) = keys
-own_exprs (put ok object keys values) = joined keys values
+own_exprs (put ok object keys values) = appended keys values
 own_exprs (del was object keys) = keys
 own_exprs (choose cond first second) = expr cond no_expr
 own_exprs (repeat index count body) = no_expr
@@ -250,9 +251,9 @@ abbrev pub literal_widths : List SurfaceRow → List ℕ
 literal_widths [] = []
 literal_widths (row ∷ rows) = map (λ l. l.width) row.keys ++ (map (λ l. l.width) row.values ++ literal_widths rows)
 
-abbrev pub rows_of : SurfaceDecl → List SurfaceRow
-rows_of (table_decl word keys values rows) = rows
-rows_of _ = []
+abbrev pub surface_rows : SurfaceDecl → List SurfaceRow
+surface_rows (table_decl word keys values rows) = rows
+surface_rows _ = []
 
 abbrev pub is_too_large_literal : Literal → Bool
 is_too_large_literal l = not (nat_lt l.value (2 ^ l.width))
@@ -295,9 +296,9 @@ has_bad_row _ = false
 abbrev pub decl_tests : List ObjectDecl → SurfaceDecl → List (ℕ × Bool)
 decl_tests objects d =
     (1, not (is_none (object_named objects (object_of d).name)))
-    ∷ (2, not (list_all is_width ((object_of d).keys ++ ((object_of d).values ++ literal_widths (rows_of d)))))
+    ∷ (2, not (list_all is_width ((object_of d).keys ++ ((object_of d).values ++ literal_widths (surface_rows d)))))
     ∷ (3, has_long_lists d)
-    ∷ (4, list_any is_too_large_row (rows_of d) || starts_too_large d)
+    ∷ (4, list_any is_too_large_row (surface_rows d) || starts_too_large d)
     ∷ (5, has_bad_size d)
     ∷ (6, has_bad_row d)
     ∷ []

@@ -36,8 +36,8 @@ first_sight surface =
     record { objects = map (λ d. object_of d.decl) surface.objects; locals = []; repeated = false; ended = false }
 
 -- all declarations and statements, those inside others too, in the order of the text
-abbrev pub parts : Surface → List Part
-parts surface = declared_parts [] surface.objects ++ parts_in (first_sight surface) surface.body
+abbrev pub surface_parts : Surface → List Part
+surface_parts surface = declared_parts [] surface.objects ++ parts_in (first_sight surface) surface.body
 
 pub data StandsIn : Part → List Part → Type 0 where
   first : {p : Part} {ps : List Part} → StandsIn p (p ∷ ps)

@@ -12,3 +12,4 @@ pub mod Bounds
 pub mod Sizes
 pub mod Accepted
 pub mod Meaning
+pub mod KeptRuns

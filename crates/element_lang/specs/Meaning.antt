@@ -8,9 +8,8 @@ use Rattle.packet_fields.specs.declared.verdict.Verdict.{Verdict}
 use Rattle.packet_fields.specs.declared.verdict.Verdict.TheVariants.{Drop, Send}
 use Rattle.packet_fields.specs.Table.{row, all_fields, field_index}
 use Rattle.packet_fields.specs.Fields.{field_value, with_field}
-use Rattle.state_store.specs.declared.store.Put.{Put}
-use Rattle.state_store.specs.declared.store.Put.TheVariants.{Stored, Full, OutOfRange}
-use Rattle.state_store.specs.Store.{Store, start_store, object_at, with_object, looked_up, put_answer, put_row, del_row}
+use Rattle.state_store.specs.Store.{Store, start_store, object_at, with_object, looked_up, put_answer, is_stored}
+use Rattle.state_store.specs.Store.{put_row, del_row}
 use Rattle.state_store.specs.Store as store
 use Rattle.element_lang.specs.Tree.{ExprTree, Exprs, StmtTree, BodyTree, Tree}
 use Rattle.element_lang.specs.Tree.ExprTree.{lit, local, field, byte, shift, apply}
@@ -67,11 +66,6 @@ looked found into object key s =
       locals = bind_from 0 into (looked_up o key)
           (slice_set s.locals found (bit (is_some (store.look o key))));
     }
-
-abbrev pub is_stored : Put → Bool
-is_stored Stored = true
-is_stored Full = false
-is_stored OutOfRange = false
 
 -- a put sets a row where it has a place, and binds whether it had
 abbrev pub stored : ℕ → ℕ → List ℕ → List ℕ → State → State

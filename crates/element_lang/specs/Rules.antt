@@ -4,6 +4,7 @@ use Rattle.std.specs.Prelude.{nat_le, nat_lt, ◌==◌, Option, Some, None, slic
 use Rattle.std.specs.List.{list_any, list_all}
 use Rattle.std.specs.Str.{bytes_eq}
 pub use Rattle.gal_bits.specs.Fitting.{is_width, same_widths, fits_operator, is_shift}
+use Rattle.gal_bits.specs.Fitting.{sum_of}
 pub use Rattle.state_store.specs.Fitting.{fits_keys, fits_values, can_put, can_del}
 use Rattle.packet_fields.specs.Table.{row}
 use Rattle.state_store.specs.declared.object.Kind.{Kind}
@@ -181,10 +182,6 @@ abbrev mutual
       && is_good_body m (binds s ++ scope) (next + declared_in s) b
 
 -- a key or a value has 1 to 8 numbers, each of 1 to 64 bits and of 128 bits together
-abbrev pub sum_of : List ℕ → ℕ
-sum_of [] = 0
-sum_of (w ∷ ws) = w + sum_of ws
-
 abbrev pub are_widths : List ℕ → Bool
 are_widths ws = nat_le 1 (length ws) && nat_le (length ws) 8 && list_all is_width ws && nat_le (sum_of ws) 128
 

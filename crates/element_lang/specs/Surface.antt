@@ -71,8 +71,8 @@ pub record Surface : Type 0 where
   pub body : SurfaceBody
 
 -- the object that is declared, whose widths, sizes and rows may break a rule
-abbrev pub row_of : SurfaceRow → Row
-row_of row = record { keys = map (λ l. l.value) row.keys; values = map (λ l. l.value) row.values }
+abbrev pub value_row : SurfaceRow → Row
+value_row row = record { keys = map (λ l. l.value) row.keys; values = map (λ l. l.value) row.values }
 
 abbrev pub object_of : SurfaceDecl → ObjectDecl
 object_of (table_decl word keys values rows) =
@@ -83,7 +83,7 @@ object_of (table_decl word keys values rows) =
       values = values;
       size = length rows;
       start = 0;
-      rows = map row_of rows;
+      rows = map value_row rows;
     }
 object_of (map_decl word keys values capacity) =
     record { name = word; kind = Map; keys = keys; values = values; size = capacity; start = 0; rows = [] }

@@ -103,15 +103,15 @@ pub record Lexeme : Type 0 where
   pub token : Token
   pub len : ℕ
 
-abbrev pub lexeme_of : ℕ → Option Token → Option Lexeme
-lexeme_of len None = None
-lexeme_of len (Some t) = Some (record { token = t; len = len })
+abbrev pub sized_lexeme : ℕ → Option Token → Option Lexeme
+sized_lexeme len None = None
+sized_lexeme len (Some t) = Some (record { token = t; len = len })
 
 abbrev pub word_lexeme : List ℕ → Option Lexeme
-word_lexeme word = lexeme_of (length word) (word_token word)
+word_lexeme word = sized_lexeme (length word) (word_token word)
 
 abbrev pub number_lexeme : List ℕ → Option Lexeme
-number_lexeme digits = lexeme_of (length digits) (number_token (number_value digits))
+number_lexeme digits = sized_lexeme (length digits) (number_token (number_value digits))
 
 abbrev pub symbol_of : Option Mark → Option Lexeme
 symbol_of None = None

@@ -34,7 +34,7 @@ pub enum What {
 impl What {
     /// The most that a source may have of it.
     pub fn bound(self) -> u64
-        ensures { result ≡ bounds.bound self }
+        ensures { result ≡ bounds.limit_of self }
     {
         match self {
             What::Depth => MAX_DEPTH as u64,

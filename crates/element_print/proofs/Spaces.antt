@@ -4,7 +4,7 @@ use Rattle.element_lang.specs.declared.mark.Mark.{Mark}
 use Rattle.element_lang.specs.declared.mark.Mark.TheVariants.{LeftParen, RightParen}
 use Rattle.element_lang.specs.Token.{Token, fixed}
 use Rattle.element_print.specs.Printed.{token_text, text_of, in_brackets_if}
-use Rattle.element_print.specs.Spaced.{spaced, mark_if, listed}
+use Rattle.element_print.specs.Spaced.{spaced, mark_if, separated}
 
 pub spaced_none : spaced [] ≡ []
 unfolding spaced
@@ -51,7 +51,7 @@ unfolding spaced
 bracketed true ts w x y z e f g = let m = spaced_append ts (fixed RightParen ∷ []) in grind (arith, append_assoc)
 bracketed false ts w x y z e f g = grind (arith, append_assoc, append-nil)
 
-pub listed_more : (b : Bool) (m : Mark) (p : List Token) (ps : List (List Token)) → listed b m (p ∷ ps) ≡ mark_if b m ++ (p ++ listed true m ps)
+pub listed_more : (b : Bool) (m : Mark) (p : List Token) (ps : List (List Token)) → separated b m (p ∷ ps) ≡ mark_if b m ++ (p ++ separated true m ps)
 listed_more true m p ps = refl
 listed_more false m p ps = refl
 

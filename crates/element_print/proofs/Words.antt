@@ -9,7 +9,7 @@ use Rattle.std.proofs.lemmas.Bool.Decides.{nat_tests}
 use Rattle.packet_fields.specs.declared.field.Field.{Field}
 use Rattle.element_lang.specs.declared.mark.Mark.{Mark}
 use Rattle.element_lang.specs.Mark.{symbol_in_front}
-use Rattle.element_lang.specs.Token.{Token, fixed, number, name, field, IsName, Lexeme, gap, lexeme, lexeme_of, word_lexeme, word_token, number_lexeme, number_token, number_value, decimal_value, decimal_digit, with_digit, symbol_of, is_blank, is_letter, is_digit, is_word_byte, is_number_byte}
+use Rattle.element_lang.specs.Token.{Token, fixed, number, name, field, IsName, Lexeme, gap, lexeme, sized_lexeme, word_lexeme, word_token, number_lexeme, number_token, number_value, decimal_value, decimal_digit, with_digit, symbol_of, is_blank, is_letter, is_digit, is_word_byte, is_number_byte}
 use Rattle.element_print.specs.Printed.{token_text}
 use Rattle.element_print.proofs.BoolParts.{left, right, both}
 use Rattle.element_print.proofs.Marks.{Stop, space, feed, mark_read, mark_front, mark_ascii, field_read, field_front, field_ascii}
@@ -55,7 +55,7 @@ same_lexeme x y h =
     let same : x ≡ y = cc in
     (ap (λ (x : Lexeme). x.token) same, ap (λ (x : Lexeme). x.len) same)
 
-not_a_number : (n : Option ℕ) (len : ℕ) (word : List ℕ) (x : ℕ) → lexeme_of len (number_token n) ≡ Some (record { token = name word; len = x }) → ⊥
+not_a_number : (n : Option ℕ) (len : ℕ) (word : List ℕ) (x : ℕ) → sized_lexeme len (number_token n) ≡ Some (record { token = name word; len = x }) → ⊥
 not_a_number None len word x h = cc
 not_a_number (Some n) len word x h = let (token, same_len) = same_lexeme _ _ h in cc
 
@@ -71,7 +71,7 @@ letter_first true d w digits m word h = (refl, h)
 letter_first false true w digits m word h = absurd (not_a_number (number_value digits) (length digits) word (length word) h)
 letter_first false false w digits m word h = absurd (not_a_symbol m word (length word) h)
 
-token_within : (t : Option Token) (len : ℕ) (word : List ℕ) (x : ℕ) → lexeme_of len t ≡ Some (record { token = name word; len = x })
+token_within : (t : Option Token) (len : ℕ) (word : List ℕ) (x : ℕ) → sized_lexeme len t ≡ Some (record { token = name word; len = x })
     → (t ≡ Some (name word)) × (len ≡ x)
 token_within None len word x h = cc
 token_within (Some t) len word x h = let (token, same_len) = same_lexeme _ _ h in (ap Some token, same_len)
@@ -107,7 +107,7 @@ word_read (a ∷ rest) b bs h stop =
     let taken = take_until is_word_byte (a ∷ rest) b bs h.bytes (ends_word stop) in
     choose_word (is_letter a) (is_digit a) (take_while is_word_byte all) (take_while is_number_byte all) (symbol_in_front all) letter
     ∙ ap word_lexeme taken
-    ∙ ap (lexeme_of (length (a ∷ rest))) h.token
+    ∙ ap (sized_lexeme (length (a ∷ rest))) h.token
 
 no_gap : (blank slash more : Bool) (x y : ℕ) → blank ≡ false → slash ≡ false → (if blank then x else (if slash && more then y else 0)) ≡ 0
 no_gap false false more x y e f = refl
@@ -213,7 +213,7 @@ digits_read (a ∷ rest) n b bs some digits value stop =
     let all : List ℕ = a ∷ (rest ++ b ∷ bs) in
     choose_number (is_letter a) (is_digit a) (take_while is_word_byte all) (take_while is_number_byte all) (symbol_in_front all) (digit_first a digit) digit
     ∙ ap number_lexeme taken
-    ∙ ap (λ v. lexeme_of (length (a ∷ rest)) (number_token v)) value
+    ∙ ap (λ v. sized_lexeme (length (a ∷ rest)) (number_token v)) value
 
 digits_front : (ds bs : List ℕ) → 0 < length ds → all_ascii_digits ds ≡ true → gap false (ds ++ bs) ≡ 0
 digits_front [] bs some digits = absurd (omega arith)

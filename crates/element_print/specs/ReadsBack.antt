@@ -1,7 +1,7 @@
 -- What a printed text is read back as.
 use Rattle.std.specs.Prelude.{◌≡◌, ◌≤◌, ℕ, List, length}
 use Rattle.element_lang.specs.declared.sizes.What.TheVariants.{Depth, Objects, Entries, Writes}
-use Rattle.element_lang.specs.Bounds.{bound}
+use Rattle.element_lang.specs.Bounds.{limit_of}
 use Rattle.element_lang.specs.Token.{Token, Placed, AreTokens}
 use Rattle.element_lang.specs.Tree.{Tree}
 use Rattle.element_lang.specs.Surface.{Surface, unplaced, named}
@@ -24,7 +24,7 @@ pub record IsSpelled (ts : List Token) (m : Tree) : Type 0 where
 
 -- the middlebox keeps the sizes of a source, and so does its text as to open brackets
 pub record IsWithinSizes (m : Tree) : Type 0 where
-  pub depth : deepest 0 (print_tokens (named m)) ≤ bound Depth
-  pub objects : length m.objects ≤ bound Objects
-  pub entries : entries m ≤ bound Entries
-  pub writes : writes m ≤ bound Writes
+  pub depth : deepest 0 (print_tokens (named m)) ≤ limit_of Depth
+  pub objects : length m.objects ≤ limit_of Objects
+  pub entries : entries m ≤ limit_of Entries
+  pub writes : writes m ≤ limit_of Writes

@@ -15,6 +15,6 @@ mark_if true m = fixed m ∷ []
 mark_if false m = []
 
 -- parts with a mark between two, and one before the first where that is asked for
-abbrev pub listed : Bool → Mark → List (List Token) → List Token
-listed true m ps = behind_each m ps
-listed false m ps = joined m ps
+abbrev pub separated : Bool → Mark → List (List Token) → List Token
+separated true m ps = behind_each m ps
+separated false m ps = joined m ps

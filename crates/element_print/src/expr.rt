@@ -5,7 +5,7 @@ ghost use Rattle.element_lang.specs.Token.{fixed};
 ghost use Rattle.element_lang.specs.View.{tree, expr_tree, expr_trees};
 ghost use Rattle.element_print.specs.Printed.{expr_tokens, parts, in_brackets, exprs_tokens, part};
 ghost use Rattle.element_print.specs.Printed as printed;
-ghost use Rattle.element_print.specs.Spaced.{spaced, listed};
+ghost use Rattle.element_print.specs.Spaced.{spaced, separated};
 
 use crate::place::{Place, mark_of, needs_brackets};
 use crate::tokens::Tokens;
@@ -48,7 +48,7 @@ fn put_listed(
     out: &mut Tokens,
 ) -> Result<(), NoMemory>
     ensures { OnOk result (out.new
-        ≡ out.old ++ spaced (listed before mark (parts place (named_exprs (tree m.now) (expr_trees all.now))))) }
+        ≡ out.old ++ spaced (separated before mark (parts place (named_exprs (tree m.now) (expr_trees all.now))))) }
 {
     let mut behind = before;
     for e in all {

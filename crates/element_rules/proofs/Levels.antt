@@ -3,7 +3,7 @@ use Rattle.std.proofs.Common.{Vec, Global, ◌≡◌, ℕ, List, map, sym, ap, �
 use Rattle.gal_bits.specs.declared.op.Op.{Op}
 use Rattle.packet_fields.specs.declared.field.Field as fields
 use Rattle.element_tokens.specs.declared.token.Span.{Span}
-use Rattle.element_tokens.specs.Tokens.{spelled}
+use Rattle.element_tokens.specs.Tokens.{span_text}
 use Rattle.element_lang.specs.Surface as surface
 use Rattle.element_grammar.specs.declared.surface.SurfaceExpr.{SurfaceExpr, fold-roll-SurfaceExpr}
 use Rattle.element_grammar.specs.declared.surface.SurfaceExpr.TheVariants.{Literal, Field, Apply, rolls-Literal, rolls-Field, rolls-Apply}
@@ -32,14 +32,14 @@ if_level text cond first second =
     ap (surface_stmt text) (sym (rolls-If cond first second)) ∙ fold-roll-SurfaceStmt surface.SurfaceStmt (stmt_step text) (SurfaceStmt-F.If cond first second)
 
 pub repeat_level : (text : List ℕ) (index : Span) (count : ℕ) (body : Vec (At SurfaceStmt) Global) → surface_stmt text (Repeat index count body)
-    ≡ surface.repeat (spelled text index) count (surface_body text body.items)
+    ≡ surface.repeat (span_text text index) count (surface_body text body.items)
 repeat_level text index count body =
     ap (surface_stmt text) (sym (rolls-Repeat index count body)) ∙ fold-roll-SurfaceStmt surface.SurfaceStmt (stmt_step text)
     (SurfaceStmt-F.Repeat index count body)
 
 -- a lookup, a store and a removal, where names and expressions were read from the statement
 look_level : (text : List ℕ) (found : Span) (into : Vec Span Global) (object : Span) (keys : Vec SurfaceExpr Global)
-    → surface_stmt text (Look found into object keys) ≡ surface.look (spelled text found) (map (spelled text) into.items) (spelled text object)
+    → surface_stmt text (Look found into object keys) ≡ surface.look (span_text text found) (map (span_text text) into.items) (span_text text object)
     (surface_exprs text keys.items)
 look_level text found into object keys =
     ap (surface_stmt text) (sym (rolls-Look found into object keys)) ∙ fold-roll-SurfaceStmt surface.SurfaceStmt (stmt_step text)
@@ -47,34 +47,34 @@ look_level text found into object keys =
 
 pub look_read : (text : List ℕ) (found : Span) (into : Vec Span Global) (object : Span) (keys : Vec SurfaceExpr Global) {source : SurfaceStmt}
     {names : List Span} {exprs : List SurfaceExpr} → source ≡ Look found into object keys → names ≡ into.items → exprs ≡ keys.items
-    → surface.look (spelled text found) (map (spelled text) names) (spelled text object) (surface_exprs text exprs) ≡ surface_stmt text source
+    → surface.look (span_text text found) (map (span_text text) names) (span_text text object) (surface_exprs text exprs) ≡ surface_stmt text source
 look_read text found into object keys {exprs = exprs} is names_are exprs_are =
-    ap (λ l. surface.look (spelled text found) (map (spelled text) l) (spelled text object) (surface_exprs text exprs)) names_are
-    ∙ ap (λ l. surface.look (spelled text found) (map (spelled text) into.items) (spelled text object) (surface_exprs text l)) exprs_are
+    ap (λ l. surface.look (span_text text found) (map (span_text text) l) (span_text text object) (surface_exprs text exprs)) names_are
+    ∙ ap (λ l. surface.look (span_text text found) (map (span_text text) into.items) (span_text text object) (surface_exprs text l)) exprs_are
     ∙ sym (ap (surface_stmt text) is ∙ look_level text found into object keys)
 
 put_level : (text : List ℕ) (ok object : Span) (keys values : Vec SurfaceExpr Global) → surface_stmt text (Put ok object keys values) ≡ surface.put
-    (spelled text ok) (spelled text object) (surface_exprs text keys.items) (surface_exprs text values.items)
+    (span_text text ok) (span_text text object) (surface_exprs text keys.items) (surface_exprs text values.items)
 put_level text ok object keys values =
     ap (surface_stmt text) (sym (rolls-Put ok object keys values)) ∙ fold-roll-SurfaceStmt surface.SurfaceStmt (stmt_step text)
     (SurfaceStmt-F.Put ok object keys values)
 
 pub put_read : (text : List ℕ) (ok object : Span) (keys values : Vec SurfaceExpr Global) {source : SurfaceStmt} {exprs more : List SurfaceExpr}
-    → source ≡ Put ok object keys values → exprs ≡ keys.items → more ≡ values.items → surface.put (spelled text ok) (spelled text object)
+    → source ≡ Put ok object keys values → exprs ≡ keys.items → more ≡ values.items → surface.put (span_text text ok) (span_text text object)
     (surface_exprs text exprs) (surface_exprs text more) ≡ surface_stmt text source
 put_read text ok object keys values {more = more} is exprs_are more_are =
-    ap (λ l. surface.put (spelled text ok) (spelled text object) (surface_exprs text l) (surface_exprs text more)) exprs_are
-    ∙ ap (λ l. surface.put (spelled text ok) (spelled text object) (surface_exprs text keys.items) (surface_exprs text l)) more_are
+    ap (λ l. surface.put (span_text text ok) (span_text text object) (surface_exprs text l) (surface_exprs text more)) exprs_are
+    ∙ ap (λ l. surface.put (span_text text ok) (span_text text object) (surface_exprs text keys.items) (surface_exprs text l)) more_are
     ∙ sym (ap (surface_stmt text) is ∙ put_level text ok object keys values)
 
 del_level : (text : List ℕ) (was object : Span) (keys : Vec SurfaceExpr Global) → surface_stmt text (Del was object keys) ≡ surface.del
-    (spelled text was) (spelled text object) (surface_exprs text keys.items)
+    (span_text text was) (span_text text object) (surface_exprs text keys.items)
 del_level text was object keys =
     ap (surface_stmt text) (sym (rolls-Del was object keys)) ∙ fold-roll-SurfaceStmt surface.SurfaceStmt (stmt_step text) (SurfaceStmt-F.Del was object keys)
 
 pub del_read : (text : List ℕ) (was object : Span) (keys : Vec SurfaceExpr Global) {source : SurfaceStmt} {exprs : List SurfaceExpr}
-    → source ≡ Del was object keys → exprs ≡ keys.items → surface.del (spelled text was) (spelled text object) (surface_exprs text exprs)
+    → source ≡ Del was object keys → exprs ≡ keys.items → surface.del (span_text text was) (span_text text object) (surface_exprs text exprs)
     ≡ surface_stmt text source
 del_read text was object keys is exprs_are =
-    ap (λ l. surface.del (spelled text was) (spelled text object) (surface_exprs text l)) exprs_are ∙ sym (ap (surface_stmt text) is
+    ap (λ l. surface.del (span_text text was) (span_text text object) (surface_exprs text l)) exprs_are ∙ sym (ap (surface_stmt text) is
     ∙ del_level text was object keys)

@@ -7,7 +7,7 @@ use Rattle.element_grammar.specs.declared.surface.SurfaceExpr.{SurfaceExpr}
 use Rattle.element_grammar.specs.Surface.{surface_expr, surface_exprs}
 use Rattle.element_rules.specs.declared.expressions.Faults.{Faults}
 use Rattle.element_rules.specs.declared.expressions.Tested.{Tested}
-use Rattle.element_rules.specs.Tested.{both, list_faults, tested}
+use Rattle.element_rules.specs.Tested.{both_faults, list_faults, tested}
 
 -- a list's next item in front of the rest
 pub at_item : {A B : Type 0} (P : List A → B) (all : List A) (at : ℕ) (x : A) → at < length all → x ≡ get_or all at x
@@ -18,11 +18,11 @@ or_assoc : (a b c : Bool) → ((a || b) || c) ≡ (a || (b || c))
 or_assoc true b c = refl
 or_assoc false b c = refl
 
-pub both_assoc : (a b c : Faults) → both (both a b) c ≡ both a (both b c)
+pub both_assoc : (a b c : Faults) → both_faults (both_faults a b) c ≡ both_faults a (both_faults b c)
 both_assoc a b c =
     let P : Bool → Bool → Bool → Bool → Bool → Faults = λ v w x y z. record { bad_width = v; too_large = w; unknown = x; misfit = y; far_shift = z } in
-    let l = both (both a b) c in
-    let r = both a (both b c) in
+    let l = both_faults (both_faults a b) c in
+    let r = both_faults a (both_faults b c) in
     ap (λ v. P v l.too_large l.unknown l.misfit l.far_shift) (or_assoc a.bad_width b.bad_width c.bad_width)
     ∙ ap (λ v. P r.bad_width v l.unknown l.misfit l.far_shift) (or_assoc a.too_large b.too_large c.too_large)
     ∙ ap (λ v. P r.bad_width r.too_large v l.misfit l.far_shift) (or_assoc a.unknown b.unknown c.unknown)
@@ -32,12 +32,12 @@ both_assoc a b c =
 -- the widths that were found, and those of what is left, are those of all; so are the faults
 pub record Testing (text : List ℕ) (locals : List Local) (widths : List ℕ) (faults : Faults) (left all : List SurfaceExpr) : Type 0 where
   pub widths_so_far : widths ++ widths_in locals (surface_exprs text left) ≡ widths_in locals (surface_exprs text all)
-  pub faults_so_far : both faults (list_faults locals (surface_exprs text left)) ≡ list_faults locals (surface_exprs text all)
+  pub faults_so_far : both_faults faults (list_faults locals (surface_exprs text left)) ≡ list_faults locals (surface_exprs text all)
 
 -- one more expression
 pub testing_more : {text : List ℕ} {locals : List Local} {widths more : List ℕ} {faults joined : Faults} {all : List SurfaceExpr} (at : ℕ)
     (e : SurfaceExpr) (t : Tested) → at < length all → e ≡ get_or all at e → Testing text locals widths faults (drop at all) all
-    → t ≡ tested locals (surface_expr text e) → more ≡ widths ++ t.width ∷ [] → joined ≡ both faults t.faults → Testing text locals more joined
+    → t ≡ tested locals (surface_expr text e) → more ≡ widths ++ t.width ∷ [] → joined ≡ both_faults faults t.faults → Testing text locals more joined
     (drop (at + 1) all) all
 testing_more {text = text} {locals = locals} {widths = widths} {more = more} {faults = faults} {joined = joined} {all = all} at e t within is h made
     pushed added =
@@ -46,7 +46,7 @@ testing_more {text = text} {locals = locals} {widths = widths} {more = more} {fa
       widths_so_far = ap (λ l. l ++ widths_in locals rest) pushed ∙ append_assoc widths (t.width ∷ []) (widths_in locals rest)
           ∙ ap (λ (x : Tested). widths ++ x.width ∷ widths_in locals rest) made
           ∙ sym (at_item (λ l. widths ++ widths_in locals (surface_exprs text l)) all at e within is) ∙ h.widths_so_far;
-      faults_so_far = ap (λ x. both x (list_faults locals rest)) added ∙ both_assoc faults t.faults (list_faults locals rest)
-          ∙ ap (λ (x : Tested). both faults (both x.faults (list_faults locals rest))) made
-          ∙ sym (at_item (λ l. both faults (list_faults locals (surface_exprs text l))) all at e within is) ∙ h.faults_so_far;
+      faults_so_far = ap (λ x. both_faults x (list_faults locals rest)) added ∙ both_assoc faults t.faults (list_faults locals rest)
+          ∙ ap (λ (x : Tested). both_faults faults (both_faults x.faults (list_faults locals rest))) made
+          ∙ sym (at_item (λ l. both_faults faults (list_faults locals (surface_exprs text l))) all at e within is) ∙ h.faults_so_far;
     }

@@ -11,7 +11,7 @@ use Rattle.element_lang.specs.Surface.{let_local, assign, set_field, look, put, 
 use Rattle.element_lang.specs.Broken as broken
 use Rattle.element_lang.specs.Broken.{Sight, ◌or_else◌, are_free, lowest_broken, stmt_tests, behind, always_ends}
 use Rattle.element_tokens.specs.declared.token.Span.{Span}
-use Rattle.element_tokens.specs.Tokens.{spelled}
+use Rattle.element_tokens.specs.Tokens.{span_text}
 use Rattle.element_grammar.specs.declared.surface.At.{At}
 use Rattle.element_grammar.specs.declared.surface.SurfaceExpr.{SurfaceExpr}
 use Rattle.element_grammar.specs.declared.surface.SurfaceStmt.{SurfaceStmt}
@@ -21,7 +21,7 @@ use Rattle.element_grammar.specs.Surface.{surface_stmt, surface_body}
 use Rattle.element_rules.specs.declared.names.Sight as rules
 use Rattle.element_rules.specs.declared.statements.StmtFaults.{StmtFaults}
 use Rattle.element_rules.specs.Seen.{local_of, sight_of}
-use Rattle.element_rules.specs.Faulty.{stmt_faults, tests_of, bound, counts_apart, within_repeat, with_ended}
+use Rattle.element_rules.specs.Faulty.{stmt_faults, tests_of, sight_behind, counts_apart, within_repeat, ended_sight}
 use Rattle.element_rules.proofs.Scope.{Entries, local_last}
 use Rattle.element_rules.proofs.Testing.{at_item}
 use Rattle.element_rules.proofs.Levels.{if_level, repeat_level}
@@ -49,7 +49,7 @@ cut outer inner n more is longer =
 
 -- ## A statement does not ask whether one before it has ended the block, but for the last rule
 
-same_faults : (ended : Bool) (sight : Sight) (s : surface.SurfaceStmt) → stmt_faults (with_ended ended sight) s ≡ stmt_faults sight s
+same_faults : (ended : Bool) (sight : Sight) (s : surface.SurfaceStmt) → stmt_faults (ended_sight ended sight) s ≡ stmt_faults sight s
 same_faults ended sight (let_local word value) = refl
 same_faults ended sight (assign word value) = refl
 same_faults ended sight (set_field f value) = refl
@@ -61,7 +61,7 @@ same_faults ended sight (repeat index count body) = refl
 same_faults ended sight (send port) = refl
 same_faults ended sight surface.drop = refl
 
-same_bound : (ended : Bool) (sight : Sight) (s : surface.SurfaceStmt) → behind (with_ended ended sight) s ≡ with_ended (ended || always_ends s) (bound sight s)
+same_bound : (ended : Bool) (sight : Sight) (s : surface.SurfaceStmt) → behind (ended_sight ended sight) s ≡ ended_sight (ended || always_ends s) (sight_behind sight s)
 same_bound ended sight (let_local word value) = refl
 same_bound ended sight (assign word value) = refl
 same_bound ended sight (set_field f value) = refl
@@ -73,8 +73,8 @@ same_bound ended sight (repeat index count body) = refl
 same_bound ended sight (send port) = refl
 same_bound ended sight surface.drop = refl
 
-same_within : (ended : Bool) (sight : Sight) (s : surface.SurfaceStmt) → broken.broken_within (with_ended ended sight) s ≡ broken.broken_within
-    (bound sight s) s
+same_within : (ended : Bool) (sight : Sight) (s : surface.SurfaceStmt) → broken.broken_within (ended_sight ended sight) s ≡ broken.broken_within
+    (sight_behind sight s) s
 same_within ended sight (let_local word value) = refl
 same_within ended sight (assign word value) = refl
 same_within ended sight (set_field f value) = refl
@@ -112,7 +112,7 @@ second_part true true c e = refl
 second_part true false c e = cc
 second_part false b c e = cc
 
-counted : (sight : Sight) (s : surface.SurfaceStmt) → are_free sight.objects sight.locals (broken.declares sight s) ≡ true → counts_apart (bound sight s) s ≡ true
+counted : (sight : Sight) (s : surface.SurfaceStmt) → are_free sight.objects sight.locals (broken.declares sight s) ≡ true → counts_apart (sight_behind sight s) s ≡ true
 counted sight (let_local word value) e = refl
 counted sight (assign word value) e = refl
 counted sight (set_field f value) e = refl
@@ -133,7 +133,7 @@ pub record Walking (text : List ℕ) (objects : List (At SurfaceDecl)) (before n
   pub more : List Local
   pub scope : map local_of now.locals.entries ≡ map local_of before.locals.entries ++ more
   pub repeated : now.repeated ≡ before.repeated
-  pub told : broken.broken_in (with_ended ended (sight_of text objects now)) (surface_body text left) ≡ broken.broken_in
+  pub told : broken.broken_in (ended_sight ended (sight_of text objects now)) (surface_body text left) ≡ broken.broken_in
       (sight_of text objects before) (surface_body text all)
 
 pub walking_none : (text : List ℕ) (objects : List (At SurfaceDecl)) (before : rules.Sight) (all : List (At SurfaceStmt))
@@ -144,7 +144,7 @@ module _ {text : List ℕ} {objects : List (At SurfaceDecl)} {before now : rules
     (at : ℕ) (s : At SurfaceStmt) {faults : StmtFaults} (within : at < length all) (is : s ≡ get_or all at s)
     (h : Walking text objects before now ended (drop at all) all) (faulty : faults ≡ stmt_faults (sight_of text objects now) (surface_stmt text s.item)) where
   abbrev then_seen : Sight
-  then_seen = bound (sight_of text objects now) (surface_stmt text s.item)
+  then_seen = sight_behind (sight_of text objects now) (surface_stmt text s.item)
 
   abbrev own_parts : Option Broken
   own_parts = lowest_broken s.at (tests_of ended faults)
@@ -153,7 +153,7 @@ module _ {text : List ℕ} {objects : List (At SurfaceDecl)} {before now : rules
   parts_within = broken.broken_within then_seen (surface_stmt text s.item)
 
   abbrev behind_it : Option Broken
-  behind_it = broken.broken_in (with_ended (ended || always_ends (surface_stmt text s.item)) then_seen)
+  behind_it = broken.broken_in (ended_sight (ended || always_ends (surface_stmt text s.item)) then_seen)
       (surface_body text (drop (at + 1) all))
 
   abbrev whole : Option Broken
@@ -164,14 +164,14 @@ module _ {text : List ℕ} {objects : List (At SurfaceDecl)} {before now : rules
       let tree = surface_stmt text s.item in
       let seen = sight_of text objects now in
       let rest = surface_body text (drop (at + 1) all) in
-      let tests : stmt_tests (with_ended ended seen) tree ≡ tests_of ended faults = ap (tests_of ended) (same_faults ended seen tree ∙ sym faulty) in
-      let inner : broken.broken_within (with_ended ended seen) tree ≡ parts_within = same_within ended seen tree in
-      let next : broken.broken_in (behind (with_ended ended seen) tree) rest ≡ behind_it =
+      let tests : stmt_tests (ended_sight ended seen) tree ≡ tests_of ended faults = ap (tests_of ended) (same_faults ended seen tree ∙ sym faulty) in
+      let inner : broken.broken_within (ended_sight ended seen) tree ≡ parts_within = same_within ended seen tree in
+      let next : broken.broken_in (behind (ended_sight ended seen) tree) rest ≡ behind_it =
       ap (λ x. broken.broken_in x rest) (same_bound ended seen tree) in
-      sym (sym h.told ∙ at_item (λ l. broken.broken_in (with_ended ended seen) (surface_body text l)) all at s within is
-      ∙ ap (λ x. lowest_broken s.at x or_else (broken.broken_within (with_ended ended seen) tree or_else broken.broken_in
-      (behind (with_ended ended seen) tree) rest)) tests
-      ∙ ap (λ x. own_parts or_else (x or_else broken.broken_in (behind (with_ended ended seen) tree) rest)) inner
+      sym (sym h.told ∙ at_item (λ l. broken.broken_in (ended_sight ended seen) (surface_body text l)) all at s within is
+      ∙ ap (λ x. lowest_broken s.at x or_else (broken.broken_within (ended_sight ended seen) tree or_else broken.broken_in
+      (behind (ended_sight ended seen) tree) rest)) tests
+      ∙ ap (λ x. own_parts or_else (x or_else broken.broken_in (behind (ended_sight ended seen) tree) rest)) inner
       ∙ ap (λ x. own_parts or_else (parts_within or_else x)) next)
 
   -- it breaks a rule itself
@@ -218,8 +218,8 @@ module _ {text : List ℕ} {objects : List (At SurfaceDecl)} {before now : rules
               scope = scope ∙ ap (λ l. l ++ broken.binds (sight_of text objects now) (surface_stmt text s.item)) h.scope
                   ∙ append_assoc (map local_of before.locals.entries) h.more _;
               repeated = ap (λ (x : Sight). x.repeated) same ∙ h.repeated;
-              told = ap (λ b. broken.broken_in (with_ended (ended || b) (sight_of text objects new)) rest) is_end
-                  ∙ ap (λ x. broken.broken_in (with_ended (ended || always_ends (surface_stmt text s.item)) x) rest) same
+              told = ap (λ b. broken.broken_in (ended_sight (ended || b) (sight_of text objects new)) rest) is_end
+                  ∙ ap (λ x. broken.broken_in (ended_sight (ended || always_ends (surface_stmt text s.item)) x) rest) same
                   ∙ sym (sym later ∙ next_found parts_within behind_it (ap is_some (sym inner_parts) ∙ none));
             }
 
@@ -228,7 +228,7 @@ pub walking_end : {text : List ℕ} {objects : List (At SurfaceDecl)} {before no
     → length all ≤ at → Walking text objects before now ended (drop at all) all → None ≡ broken.broken_in (sight_of text objects before)
     (surface_body text all)
 walking_end {text = text} {objects = objects} {now = now} {ended = ended} {all = all} at past h =
-    sym (sym h.told ∙ at_drop_all (λ l. broken.broken_in (with_ended ended (sight_of text objects now)) (surface_body text l)) all at past)
+    sym (sym h.told ∙ at_drop_all (λ l. broken.broken_in (ended_sight ended (sight_of text objects now)) (surface_body text l)) all at past)
 
 -- and the locals of the block go out of scope
 pub walked_out : {text : List ℕ} {objects : List (At SurfaceDecl)} {before now : rules.Sight} {ended : Bool} {left all : List (At SurfaceStmt)}
@@ -265,26 +265,26 @@ module _ (text : List ℕ) (objects : List (At SurfaceDecl)) (seen : rules.Sight
 pub repeated_block : (text : List ℕ) (objects : List (At SurfaceDecl)) (seen : rules.Sight) (index : Span) (count : ℕ)
     (body : Vec (At SurfaceStmt) Global) {source : SurfaceStmt} {statements : List (At SurfaceStmt)}
     → source ≡ Repeat index count body → statements ≡ body.items
-    → broken.broken_in (within_repeat (sight_of text objects seen) (spelled text index)) (surface_body text statements) ≡ broken.broken_within
+    → broken.broken_in (within_repeat (sight_of text objects seen) (span_text text index)) (surface_body text statements) ≡ broken.broken_within
     (sight_of text objects seen) (surface_stmt text source)
 repeated_block text objects seen index count body is are =
-    ap (λ l. broken.broken_in (within_repeat (sight_of text objects seen) (spelled text index)) (surface_body text l)) are
+    ap (λ l. broken.broken_in (within_repeat (sight_of text objects seen) (span_text text index)) (surface_body text l)) are
     ∙ sym (ap (broken.broken_within (sight_of text objects seen)) (ap (surface_stmt text) is ∙ repeat_level text index count body))
 
 -- in a repeat one more local is in scope
 pub counting : (text : List ℕ) (objects : List (At SurfaceDecl)) (seen pushed : rules.Sight) (index : Span) (key : Vec ℕ Global) (entries : Entries)
-    → spelled text index ≡ key.items → is_none (broken.local_named (map local_of seen.locals.entries) (spelled text index)) ≡ true
+    → span_text text index ≡ key.items → is_none (broken.local_named (map local_of seen.locals.entries) (span_text text index)) ≡ true
     → entries ≡ insert_entry (λ (k j : Vec ℕ Global). bytes_eq k.items j.items) seen.locals.entries key 32
     → pushed.locals.entries ≡ entries → pushed.repeated ≡ true
-    → sight_of text objects pushed ≡ within_repeat (sight_of text objects seen) (spelled text index)
+    → sight_of text objects pushed ≡ within_repeat (sight_of text objects seen) (span_text text index)
 counting text objects seen pushed index key entries same free is stored repeats =
-    let locals = ap (map local_of) stored ∙ local_last seen.locals.entries key 32 (spelled text index) same free is in
+    let locals = ap (map local_of) stored ∙ local_last seen.locals.entries key 32 (span_text text index) same free is in
     ap (λ ls. record (sight_of text objects pushed) { locals = ls }) locals
-    ∙ ap (λ b. record (within_repeat (sight_of text objects seen) (spelled text index)) { repeated = b }) repeats
+    ∙ ap (λ b. record (within_repeat (sight_of text objects seen) (span_text text index)) { repeated = b }) repeats
 
 -- the local that counts the turns goes out of scope
 pub repeated_out : (text : List ℕ) (objects : List (At SurfaceDecl)) (before inside new : rules.Sight) (index : Span) (n : ℕ)
-    → sight_of text objects inside ≡ within_repeat (sight_of text objects before) (spelled text index)
+    → sight_of text objects inside ≡ within_repeat (sight_of text objects before) (span_text text index)
     → n ≡ length before.locals.entries → new.locals.entries ≡ take n inside.locals.entries → new.repeated ≡ before.repeated
     → sight_of text objects new ≡ sight_of text objects before
 repeated_out text objects before inside new index n same outer taken repeated =

@@ -51,8 +51,8 @@ tests_of ended f =
     ∷ []
 
 -- what is seen behind a statement, apart from whether it ends the block
-abbrev pub bound : Sight → SurfaceStmt → Sight
-bound sight s = record {
+abbrev pub sight_behind : Sight → SurfaceStmt → Sight
+sight_behind sight s = record {
   objects = sight.objects;
   locals = sight.locals ++ binds sight s;
   repeated = sight.repeated;
@@ -78,8 +78,8 @@ within_repeat sight index = record {
 }
 
 -- what is seen where a statement before may have ended the block
-abbrev pub with_ended : Bool → Sight → Sight
-with_ended ended sight = record {
+abbrev pub ended_sight : Bool → Sight → Sight
+ended_sight ended sight = record {
   objects = sight.objects;
   locals = sight.locals;
   repeated = sight.repeated;

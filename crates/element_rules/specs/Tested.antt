@@ -11,8 +11,8 @@ use Rattle.element_rules.specs.declared.expressions.TestedList.{TestedList}
 abbrev pub no_faults : Faults
 no_faults = record { bad_width = false; too_large = false; unknown = false; misfit = false; far_shift = false }
 
-abbrev pub both : Faults → Faults → Faults
-both a b = record {
+abbrev pub both_faults : Faults → Faults → Faults
+both_faults a b = record {
   bad_width = a.bad_width || b.bad_width;
   too_large = a.too_large || b.too_large;
   unknown = a.unknown || b.unknown;

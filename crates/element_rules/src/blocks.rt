@@ -2,7 +2,7 @@
 ghost use Rattle.std.specs.Prelude.{◌≡◌, ◌++◌, ◌∷◌, [], true, false, map, is_none, IfOk, None};
 ghost use Rattle.element_lang.specs.Broken as broken;
 ghost use Rattle.element_lang.specs.Broken.{lowest_broken};
-ghost use Rattle.element_tokens.specs.Tokens.{spelled};
+ghost use Rattle.element_tokens.specs.Tokens.{span_text};
 ghost use Rattle.element_grammar.specs.Surface.{surface_stmt, surface_body};
 ghost use Rattle.element_rules.specs.Seen.{local_of, objects_of, sight_of};
 ghost use Rattle.element_rules.specs.Faulty.{tests_of, counts_apart, within_repeat};
@@ -101,9 +101,9 @@ fn broken_in_repeat(
     index: Span,
     source: &[At<SurfaceStmt>],
 ) -> Result<Option<Broken>, NoMemory>
-    requires { is_none (broken.local_named (map local_of sight.old.locals.entries) (spelled text.now index)) ≡ true }
+    requires { is_none (broken.local_named (map local_of sight.old.locals.entries) (span_text text.now index)) ≡ true }
     ensures found { IfOk result (λ found. found
-        ≡ broken.broken_in (within_repeat (sight_of text.now objects.now sight.old) (spelled text.now index))
+        ≡ broken.broken_in (within_repeat (sight_of text.now objects.now sight.old) (span_text text.now index))
         (surface_body text.now source.now)) }
     ensures sight { IfOk result (λ found. found ≡ None
         → sight_of text.now objects.now sight.new ≡ sight_of text.now objects.now sight.old) }

@@ -4,7 +4,7 @@ ghost use Rattle.std.specs.List.{list_any, list_all};
 ghost use Rattle.element_lang.specs.Rules as rules;
 ghost use Rattle.element_lang.specs.Surface.{object_of};
 ghost use Rattle.element_lang.specs.Broken as broken;
-ghost use Rattle.element_lang.specs.Broken.{lowest_broken, decl_tests, literal_widths, rows_of, is_too_large_row};
+ghost use Rattle.element_lang.specs.Broken.{lowest_broken, decl_tests, literal_widths, surface_rows, is_too_large_row};
 ghost use Rattle.element_grammar.specs.Surface.{surface_decl, surface_object};
 ghost use Rattle.element_rules.specs.Seen.{objects_of};
 
@@ -26,7 +26,8 @@ fn are_widths(widths: &[u64]) -> bool
 // Whether values may have the widths that are written in a declaration, and in its rows.
 fn has_good_widths(declaration: &SurfaceDecl) -> bool
     ensures { (text : List ℕ) → let d = surface_decl text declaration.now in
-        result ≡ list_all rules.is_width ((object_of d).keys ++ ((object_of d).values ++ literal_widths (rows_of d))) }
+        result ≡ list_all rules.is_width
+        ((object_of d).keys ++ ((object_of d).values ++ literal_widths (surface_rows d))) }
 {
     match declaration {
         SurfaceDecl::Table {
@@ -57,7 +58,7 @@ fn has_long_lists(declaration: &SurfaceDecl) -> bool
 // Whether a number in its rows, or the number that it starts with, needs more bits than it has.
 fn has_large_numbers(declaration: &SurfaceDecl) -> bool
     ensures { (text : List ℕ) → let d = surface_decl text declaration.now in
-        result ≡ (list_any is_too_large_row (rows_of d) || broken.starts_too_large d) }
+        result ≡ (list_any is_too_large_row (surface_rows d) || broken.starts_too_large d) }
 {
     match declaration {
         SurfaceDecl::Table { rows, .. } => any_row_too_large(rows),

@@ -3,10 +3,10 @@ ghost use Rattle.std.specs.Prelude.{◌≡◌, List, IfOk, map};
 ghost use Rattle.element_lang.specs.declared.tree.Local.{Local};
 ghost use Rattle.element_lang.specs.Surface as surface;
 ghost use Rattle.element_lang.specs.Broken as broken;
-ghost use Rattle.element_tokens.specs.Tokens.{spelled};
+ghost use Rattle.element_tokens.specs.Tokens.{span_text};
 ghost use Rattle.element_grammar.specs.Surface.{surface_expr, surface_exprs};
 ghost use Rattle.element_rules.specs.Seen.{local_of};
-ghost use Rattle.element_rules.specs.Tested.{no_faults, both, tested, tested_list, list_of};
+ghost use Rattle.element_rules.specs.Tested.{no_faults, both_faults, tested, tested_list, list_of};
 
 use crate::names::width_named;
 use crate::widths::{fits, fits_operator, is_width, result_width};
@@ -71,7 +71,7 @@ impl Faults {
 
     /// What is wrong here or there.
     pub fn and(self, other: Faults) -> Faults
-        ensures { result ≡ both self other }
+        ensures { result ≡ both_faults self other }
     {
         Faults {
             bad_width: self.bad_width || other.bad_width,
@@ -99,7 +99,7 @@ fn literal(value: u64, bits: u64) -> Tested
 
 // The local of this name.
 fn local(text: &[u8], locals: &IndexMap<Vec<u8>, u64>, name: Span) -> Tested
-    ensures { result ≡ tested (map local_of locals.now.entries) (surface.name (spelled text.now name)) }
+    ensures { result ≡ tested (map local_of locals.now.entries) (surface.name (span_text text.now name)) }
 {
     match width_named(text, locals, name) {
         Some(width) => Tested {

@@ -4,7 +4,7 @@ ghost use Rattle.std.specs.Option.{option_map, is_none};
 ghost use Rattle.element_lang.specs.Surface.{object_of};
 ghost use Rattle.element_lang.specs.Broken as broken;
 ghost use Rattle.element_lang.specs.Broken.{are_free, locals_of};
-ghost use Rattle.element_tokens.specs.Tokens.{spelled};
+ghost use Rattle.element_tokens.specs.Tokens.{span_text};
 ghost use Rattle.element_grammar.specs.Surface.{surface_decl};
 ghost use Rattle.element_rules.specs.Seen.{local_of, objects_of};
 
@@ -25,7 +25,7 @@ pub(crate) struct Sight {
 
 /// The bytes of a span, as far as the text has them.
 pub fn word_at(text: &[u8], span: Span) -> &[u8]
-    ensures { result.now ≡ spelled text.now span }
+    ensures { result.now ≡ span_text text.now span }
 {
     if span.offset >= text.len() {
         return &[];
@@ -39,7 +39,7 @@ pub fn word_at(text: &[u8], span: Span) -> &[u8]
 
 /// A copy of the bytes of a span.
 pub fn word_of(alloc: Global, text: &[u8], span: Span) -> Result<Vec<u8>, NoMemory>
-    ensures { IfOk result (λ word. word.items ≡ spelled text.now span) }
+    ensures { IfOk result (λ word. word.items ≡ span_text text.now span) }
 {
     Ok(word_at(text, span).to_vec(alloc)?)
 }
@@ -47,14 +47,14 @@ pub fn word_of(alloc: Global, text: &[u8], span: Span) -> Result<Vec<u8>, NoMemo
 /// How many bits the local in scope has that has a name.
 pub(crate) fn width_named(text: &[u8], locals: &IndexMap<Vec<u8>, u64>, name: Span) -> Option<u64>
     ensures { result ≡ option_map (λ l. l.width)
-        (broken.local_named (map local_of locals.now.entries) (spelled text.now name)) }
+        (broken.local_named (map local_of locals.now.entries) (span_text text.now name)) }
 {
     locals.get(word_at(text, name)).copied()
 }
 
 /// The name of an object that is declared.
 pub(crate) fn name_of(declaration: &SurfaceDecl) -> Span
-    ensures { (text : List ℕ) → spelled text result ≡ (object_of (surface_decl text declaration.now)).name }
+    ensures { (text : List ℕ) → span_text text result ≡ (object_of (surface_decl text declaration.now)).name }
 {
     match declaration {
         SurfaceDecl::Table { name, .. }
@@ -71,7 +71,7 @@ pub(crate) fn object_named<'a>(
     name: Span,
 ) -> Option<&'a SurfaceDecl>
     ensures { option_map (λ d. object_of (surface_decl text.now d.now)) result
-        ≡ broken.object_named (objects_of text.now objects.now) (spelled text.now name) }
+        ≡ broken.object_named (objects_of text.now objects.now) (span_text text.now name) }
 {
     let word = word_at(text, name);
     for object in objects {
@@ -89,8 +89,8 @@ pub(crate) fn is_free(
     locals: &IndexMap<Vec<u8>, u64>,
     name: Span,
 ) -> bool
-    ensures { result ≡ (is_none (broken.object_named (objects_of text.now objects.now) (spelled text.now name))
-        && is_none (broken.local_named (map local_of locals.now.entries) (spelled text.now name))) }
+    ensures { result ≡ (is_none (broken.object_named (objects_of text.now objects.now) (span_text text.now name))
+        && is_none (broken.local_named (map local_of locals.now.entries) (span_text text.now name))) }
 {
     object_named(text, objects, name).is_none() && width_named(text, locals, name).is_none()
 }
@@ -105,10 +105,10 @@ pub(crate) fn declare(
     width: u64,
 ) -> Result<bool, NoMemory>
     ensures free { IfOk result (λ free. free
-        ≡ (is_none (broken.object_named (objects_of text.now objects.now) (spelled text.now name))
-        && is_none (broken.local_named (map local_of locals.old.entries) (spelled text.now name)))) }
+        ≡ (is_none (broken.object_named (objects_of text.now objects.now) (span_text text.now name))
+        && is_none (broken.local_named (map local_of locals.old.entries) (span_text text.now name)))) }
     ensures locals { IfOk result (λ free. free ≡ true → map local_of locals.new.entries
-        ≡ map local_of locals.old.entries ++ record { name = spelled text.now name; width = width } ∷ []) }
+        ≡ map local_of locals.old.entries ++ record { name = span_text text.now name; width = width } ∷ []) }
 {
     if !is_free(text, objects, locals, name) {
         return Ok(false);
@@ -129,9 +129,9 @@ pub(crate) fn declare_all(
 ) -> Result<bool, NoMemory>
     ensures free { IfOk result (λ free. free
         ≡ are_free (objects_of text.now objects.now) (map local_of locals.old.entries)
-        (locals_of (map (spelled text.now) names.now) widths.now)) }
+        (locals_of (map (span_text text.now) names.now) widths.now)) }
     ensures locals { IfOk result (λ free. free ≡ true → map local_of locals.new.entries
-        ≡ map local_of locals.old.entries ++ locals_of (map (spelled text.now) names.now) widths.now) }
+        ≡ map local_of locals.old.entries ++ locals_of (map (span_text text.now) names.now) widths.now) }
 {
     for (i, name) in names.iter().enumerate() {
         let width = if i < widths.len() { widths[i] } else { 0 };

@@ -4,7 +4,7 @@ ghost use Rattle.element_lang.specs.Surface.{object_of};
 ghost use Rattle.state_store.specs.Kinds.{is_table, is_map};
 ghost use Rattle.element_lang.specs.Rules.{same_widths};
 ghost use Rattle.element_lang.specs.Broken.{are_free, locals_of};
-ghost use Rattle.element_tokens.specs.Tokens.{spelled};
+ghost use Rattle.element_tokens.specs.Tokens.{span_text};
 ghost use Rattle.element_grammar.specs.Surface.{surface_decl};
 ghost use Rattle.element_rules.specs.Seen.{local_of, objects_of};
 
@@ -67,10 +67,10 @@ pub(crate) fn declare_values(
 ) -> Result<bool, NoMemory>
     ensures free { IfOk result (λ free. free
         ≡ are_free (objects_of text.now objects.now) (map local_of locals.old.entries)
-        (locals_of (map (spelled text.now) names.now) (object_of (surface_decl text.now object.now)).values)) }
+        (locals_of (map (span_text text.now) names.now) (object_of (surface_decl text.now object.now)).values)) }
     ensures locals { IfOk result (λ free. free ≡ true → map local_of locals.new.entries
         ≡ map local_of locals.old.entries
-        ++ locals_of (map (spelled text.now) names.now) (object_of (surface_decl text.now object.now)).values) }
+        ++ locals_of (map (span_text text.now) names.now) (object_of (surface_decl text.now object.now)).values) }
 {
     match object {
         SurfaceDecl::Table { values, .. }

@@ -4,11 +4,11 @@ ghost use Rattle.std.specs.Option.{is_none};
 ghost use Rattle.element_lang.specs.Rules as rules;
 ghost use Rattle.element_lang.specs.Surface as surface;
 ghost use Rattle.element_lang.specs.Broken as broken;
-ghost use Rattle.element_tokens.specs.Tokens.{spelled};
+ghost use Rattle.element_tokens.specs.Tokens.{span_text};
 ghost use Rattle.element_grammar.specs.Surface.{surface_expr, surface_exprs, surface_stmt, surface_body};
 ghost use Rattle.element_rules.specs.Seen.{local_of, sight_of};
 ghost use Rattle.element_rules.specs.Tested.{list_faults};
-ghost use Rattle.element_rules.specs.Faulty.{stmt_faults, only_exprs, bound, alone};
+ghost use Rattle.element_rules.specs.Faulty.{stmt_faults, only_exprs, sight_behind, alone};
 
 use crate::ends::ends_always;
 use crate::expressions::{Faults, Tested, TestedList, expression, expressions};
@@ -94,11 +94,11 @@ fn let_local(
     value: &SurfaceExpr,
 ) -> Result<StmtFaults, NoMemory>
     ensures faults { IfOk result (λ faults. faults ≡ stmt_faults (sight_of text.now objects.now sight.old)
-        (surface.let_local (spelled text.now local) (surface_expr text.now value.now))) }
+        (surface.let_local (span_text text.now local) (surface_expr text.now value.now))) }
     ensures sight { IfOk result
         (λ faults. faults.taken ≡ false
-        → sight_of text.now objects.now sight.new ≡ bound (sight_of text.now objects.now sight.old)
-        (surface.let_local (spelled text.now local) (surface_expr text.now value.now))) }
+        → sight_of text.now objects.now sight.new ≡ sight_behind (sight_of text.now objects.now sight.old)
+        (surface.let_local (span_text text.now local) (surface_expr text.now value.now))) }
 {
     let value = only_expression(alloc, text, sight, value)?;
     let free = declare(alloc, text, objects, &mut sight.locals, local, value.width)?;
@@ -118,7 +118,7 @@ fn assign(
     value: &SurfaceExpr,
 ) -> Result<StmtFaults, NoMemory>
     ensures { IfOk result (λ faults. faults ≡ stmt_faults (sight_of text.now objects.now sight.now)
-        (surface.assign (spelled text.now local) (surface_expr text.now value.now))) }
+        (surface.assign (span_text text.now local) (surface_expr text.now value.now))) }
 {
     let value = only_expression(alloc, text, sight, value)?;
     let width = width_named(text, &sight.locals, local);
@@ -226,7 +226,7 @@ fn own_row(
         ≡ broken.widths_in (map local_of sight.now.locals.entries) (surface_exprs text.now values.now)) }
     ensures faults { IfOk result (λ made. made.faults
         ≡ list_faults (map local_of sight.now.locals.entries)
-        (broken.joined (surface_exprs text.now keys.now) (surface_exprs text.now values.now))) }
+        (broken.appended (surface_exprs text.now keys.now) (surface_exprs text.now values.now))) }
 {
     let keys = own_expressions(alloc, text, sight, keys)?;
     let values = own_expressions(alloc, text, sight, values)?;
@@ -249,12 +249,12 @@ fn look(
     keys: &[SurfaceExpr],
 ) -> Result<StmtFaults, NoMemory>
     ensures faults { IfOk result (λ faults. faults ≡ stmt_faults (sight_of text.now objects.now sight.old)
-        (surface.look (spelled text.now found) (map (spelled text.now) into.now) (spelled text.now object)
+        (surface.look (span_text text.now found) (map (span_text text.now) into.now) (span_text text.now object)
         (surface_exprs text.now keys.now))) }
     ensures sight { IfOk result
         (λ faults. faults.taken ≡ false
-        → sight_of text.now objects.now sight.new ≡ bound (sight_of text.now objects.now sight.old)
-        (surface.look (spelled text.now found) (map (spelled text.now) into.now) (spelled text.now object)
+        → sight_of text.now objects.now sight.new ≡ sight_behind (sight_of text.now objects.now sight.old)
+        (surface.look (span_text text.now found) (map (span_text text.now) into.now) (span_text text.now object)
         (surface_exprs text.now keys.now))) }
 {
     let keys = own_expressions(alloc, text, sight, keys)?;
@@ -289,12 +289,12 @@ fn put(
     values: &[SurfaceExpr],
 ) -> Result<StmtFaults, NoMemory>
     ensures faults { IfOk result (λ faults. faults ≡ stmt_faults (sight_of text.now objects.now sight.old)
-        (surface.put (spelled text.now ok) (spelled text.now object) (surface_exprs text.now keys.now)
+        (surface.put (span_text text.now ok) (span_text text.now object) (surface_exprs text.now keys.now)
         (surface_exprs text.now values.now))) }
     ensures sight { IfOk result
         (λ faults. faults.taken ≡ false
-        → sight_of text.now objects.now sight.new ≡ bound (sight_of text.now objects.now sight.old)
-        (surface.put (spelled text.now ok) (spelled text.now object) (surface_exprs text.now keys.now)
+        → sight_of text.now objects.now sight.new ≡ sight_behind (sight_of text.now objects.now sight.old)
+        (surface.put (span_text text.now ok) (span_text text.now object) (surface_exprs text.now keys.now)
         (surface_exprs text.now values.now))) }
 {
     let row = own_row(alloc, text, sight, keys, values)?;
@@ -329,11 +329,11 @@ fn del(
     keys: &[SurfaceExpr],
 ) -> Result<StmtFaults, NoMemory>
     ensures faults { IfOk result (λ faults. faults ≡ stmt_faults (sight_of text.now objects.now sight.old)
-        (surface.del (spelled text.now was) (spelled text.now object) (surface_exprs text.now keys.now))) }
+        (surface.del (span_text text.now was) (span_text text.now object) (surface_exprs text.now keys.now))) }
     ensures sight { IfOk result
         (λ faults. faults.taken ≡ false
-        → sight_of text.now objects.now sight.new ≡ bound (sight_of text.now objects.now sight.old)
-        (surface.del (spelled text.now was) (spelled text.now object) (surface_exprs text.now keys.now))) }
+        → sight_of text.now objects.now sight.new ≡ sight_behind (sight_of text.now objects.now sight.old)
+        (surface.del (span_text text.now was) (span_text text.now object) (surface_exprs text.now keys.now))) }
 {
     let keys = own_expressions(alloc, text, sight, keys)?;
     let free = declare(alloc, text, objects, &mut sight.locals, was, 1)?;
@@ -373,7 +373,7 @@ fn repeat(
     body: &[At<SurfaceStmt>],
 ) -> StmtFaults
     ensures { result ≡ stmt_faults (sight_of text.now objects.now sight.now)
-        (surface.repeat (spelled text.now index) count (surface_body text.now body.now)) }
+        (surface.repeat (span_text text.now index) count (surface_body text.now body.now)) }
 {
     StmtFaults {
         taken: !is_free(text, objects, &sight.locals, index),
@@ -395,7 +395,7 @@ pub(crate) fn statement(
     ensures faults { IfOk result (λ faults. faults
         ≡ stmt_faults (sight_of text.now objects.now sight.old) (surface_stmt text.now source.now)) }
     ensures sight { IfOk result (λ faults. faults.taken ≡ false → sight_of text.now objects.now sight.new
-        ≡ bound (sight_of text.now objects.now sight.old) (surface_stmt text.now source.now)) }
+        ≡ sight_behind (sight_of text.now objects.now sight.old) (surface_stmt text.now source.now)) }
 {
     match source {
         SurfaceStmt::Let { local, value } => let_local(alloc, text, objects, sight, *local, value),

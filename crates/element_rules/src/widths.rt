@@ -1,7 +1,7 @@
 //! Widths as they are written in a source, where they may be any number.
 ghost use Rattle.std.specs.Prelude.{◌≡◌, ◌^◌, List, nat_lt, nat_le, slice_index};
+ghost use Rattle.gal_bits.specs.Fitting.{sum_of};
 ghost use Rattle.element_lang.specs.Rules as rules;
-ghost use Rattle.element_lang.specs.Rules.{sum_of};
 ghost use Rattle.element_lang.specs.Broken as broken;
 
 use gal_bits::Op;

@@ -7,8 +7,9 @@ use Rattle.std.proofs.lemmas.List.{append-nil, length-map}
 use Rattle.std.proofs.lemmas.List.Folds.{list_all-append}
 use Rattle.state_store.specs.declared.object.ObjectDecl.{ObjectDecl}
 use Rattle.state_store.specs.Kept.{have_widths}
-use Rattle.element_lang.specs.Rules.{is_width, same_widths, are_widths, is_size, sum_of, are_good_rows, is_good_object, are_good_objects}
-use Rattle.element_lang.specs.Surface.{Literal, SurfaceRow, SurfaceDecl, Declared, table_decl, map_decl, vector_decl, int_decl, row_of, object_of}
+use Rattle.gal_bits.specs.Fitting.{sum_of}
+use Rattle.element_lang.specs.Rules.{is_width, same_widths, are_widths, is_size, are_good_rows, is_good_object, are_good_objects}
+use Rattle.element_lang.specs.Surface.{Literal, SurfaceRow, SurfaceDecl, Declared, table_decl, map_decl, vector_decl, int_decl, value_row, object_of}
 use Rattle.element_lang.specs.Broken.{object_named, literal_widths, is_too_large_literal, is_too_large_row, is_list_of_numbers, has_bad_rows, decl_tests, lowest_broken, broken_decl}
 use Rattle.element_text.specs.Resolve.{decls_of, are_written, is_written, are_good_decls}
 use Rattle.element_text.proofs.Operators.{same_lists}
@@ -88,7 +89,7 @@ all_three p xs ys zs = list_all-append p xs (ys ++ zs) ∙ ap (λ b. list_all p 
 -- rows break no rule exactly where they are written with the declared widths and are good
 rows_agree : (keys values : List ℕ) (seen : List (List ℕ)) (rows : List SurfaceRow) → list_all is_width keys ≡ true → list_all is_width values ≡ true
     → (list_all is_width (literal_widths rows) && (not (list_any is_too_large_row rows) && not (has_bad_rows keys values seen rows))) ≡
-    (are_written keys values rows && are_good_rows keys values seen (map row_of rows))
+    (are_written keys values rows && are_good_rows keys values seen (map value_row rows))
 rows_agree keys values seen [] a b = refl
 rows_agree keys values seen (row ∷ rows) a b =
     let ks = widths_in row.keys in
@@ -103,7 +104,7 @@ rows_agree keys values seen (row ∷ rows) a b =
     (list_any is_too_large_row rows)
     (same_widths ks keys) (same_widths vs values) new (has_bad_rows keys values (key ∷ seen) rows)
     (have_widths keys key) (have_widths values (numbers_in row.values)) (are_written keys values rows)
-    (are_good_rows keys values (key ∷ seen) (map row_of rows))
+    (are_good_rows keys values (key ∷ seen) (map value_row rows))
     (λ e. (wide_literals keys row.keys a e, small_literals keys row.keys e)) (λ e. (wide_literals values row.values b e, small_literals values row.values e))
     (rows_agree keys values (key ∷ seen) rows a b)
 
@@ -185,9 +186,9 @@ decl_agrees objects (table_decl word keys values rows) =
     let t = list_any is_too_large_row rows in
     let r = has_bad_rows keys values [] rows in
     let w = are_written keys values rows in
-    let g = are_good_rows keys values [] (map row_of rows) in
-    let q = length rows == length (map row_of rows) in
-    let counted : q ≡ true = eq-eqb (length rows) (length (map row_of rows)) (sym (length-map rows row_of)) in
+    let g = are_good_rows keys values [] (map value_row rows) in
+    let q = length rows == length (map value_row rows) in
+    let counted : q ≡ true = eq-eqb (length rows) (length (map value_row rows)) (sym (length-map rows value_row)) in
     ap (λ x. not (not n) && (not (not x) && (not (not k || not v) && (not (t || false) && (not r && true)))))
     (all_three is_width keys values (literal_widths rows))
     ∙ table_tests n a b l k v t r w g q counted (rows_agree keys values [] rows)

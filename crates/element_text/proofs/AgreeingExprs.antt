@@ -12,7 +12,7 @@ use Rattle.element_lang.specs.Rules.{is_width, is_shift, same_widths, fits_opera
 use Rattle.element_lang.specs.Surface.{SurfaceExpr, SurfaceExprs, lit, name, field, byte, shift, apply, no_expr, expr, written_width}
 use Rattle.element_lang.specs.Broken.{local_named, width_of_local, width_in, widths_in, in_expr, in_exprs, is_bad_width, is_too_large, is_unknown, is_misfit, is_far_shift}
 use Rattle.element_lang.specs.Broken as broken
-use Rattle.element_text.specs.Resolve.{Known, local_in, Typed, TypedList, result_width, typed_apply, typed_local, typed_byte, typed_shift, typed_expr, typed_exprs}
+use Rattle.element_text.specs.Resolve.{Known, local_in, Typed, TypedList, accepted_width, typed_apply, typed_local, typed_byte, typed_shift, typed_expr, typed_exprs}
 use Rattle.element_text.proofs.Optional.{if_so}
 use Rattle.element_text.proofs.Operators.{same_lists, Fitting, result_fits, fitting_result, result_wide}
 use Rattle.element_text.proofs.CompleteExprs.{field_wide}
@@ -135,7 +135,7 @@ record IsResult (w v : ℕ) : Type 0 where
   wide : is_width w ≡ true
 
 operator_agrees : (op : Op) (written : ℕ) (ws : List ℕ) (args : SurfaceExprs) → list_all is_width ws ≡ true
-    → Agrees (result_width op written ws)
+    → Agrees (accepted_width op written ws)
     (not (not (fits_operator op (broken.result_width op written ws) ws) || (is_bad_width (apply op written args) || is_odd (apply op written args))))
     (IsResult (broken.result_width op written ws))
 operator_agrees op written ws args wide =
@@ -144,11 +144,11 @@ operator_agrees op written ws args wide =
     let bad = is_bad_width (apply op written args) in
     let own = written == written_width op written in
     let test = not (not fits || (bad || not own)) in
-    agrees_from (result_width op written ws) test w (IsResult w)
+    agrees_from (accepted_width op written ws) test w (IsResult w)
     (λ e.
     let parts = operator_parts fits bad own e in
-    ap (λ n. result_width op n ws) (sym (written_back op written ws parts.1)) ∙ fitting_result op w ws parts.0)
-    (if_so (result_width op written ws) (Fitting op written ws) (λ v. (test ≡ true) × IsResult w v) (result_fits op written ws) (λ v p.
+    ap (λ n. accepted_width op n ws) (sym (written_back op written ws parts.1)) ∙ fitting_result op w ws parts.0)
+    (if_so (accepted_width op written ws) (Fitting op written ws) (λ v. (test ≡ true) × IsResult w v) (result_fits op written ws) (λ v p.
     let is : v ≡ w = result_is op v written ws p.0 p.1 in
     let good : fits ≡ true = ap (λ x. fits_operator op x ws) (sym is) ∙ p.0 in
     let tests = operator_tests fits bad own good (none_bad op v written ws args p.0 p.1) (none_odd op v written p.1) in
@@ -160,8 +160,8 @@ apply_agrees op written locals args ts h =
     let ws = widths_in locals args in
     let made : ℕ → Typed = λ w. record { tree = trees.apply op w ts.trees; width = w } in
     let test = not (is_wrong locals (apply op written args)) in
-    subst (λ vs. Agrees (option_map made (result_width op written vs)) test (HasWidth (width_in locals (apply op written args)))) (sym h.widths)
-    (agrees_map (result_width op written ws) made test (IsResult (broken.result_width op written ws)) (HasWidth (width_in locals (apply op written args)))
+    subst (λ vs. Agrees (option_map made (accepted_width op written vs)) test (HasWidth (width_in locals (apply op written args)))) (sym h.widths)
+    (agrees_map (accepted_width op written ws) made test (IsResult (broken.result_width op written ws)) (HasWidth (width_in locals (apply op written args)))
     (operator_agrees op written ws args h.wide) (λ w r. record { width = r.same; wide = r.wide }))
 
 -- ## Expressions

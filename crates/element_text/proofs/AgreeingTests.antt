@@ -2,7 +2,7 @@
 use Rattle.std.proofs.Common.{◌≡◌, ℕ, Bool, true, false, not, ◌&&◌, ◌||◌, List, [], ◌∷◌, ◌++◌, is_none, refl, sym, ap, ap₂, ◌∙◌}
 use Rattle.element_lang.specs.declared.tree.Local.{Local}
 use Rattle.element_lang.specs.Surface.{SurfaceExpr, SurfaceExprs, SurfaceStmt, lit, name, field, byte, shift, apply, no_expr, expr}
-use Rattle.element_lang.specs.Broken.{Sight, in_expr, in_exprs, is_bad_width, is_too_large, is_unknown, is_misfit, is_far_shift, joined, own_exprs, declares, are_free, uses_unknown, takes_misfit, writes_fixed, misfits_object, changes_fixed, repeats_badly, repeats_an_end, stmt_tests, lowest_broken}
+use Rattle.element_lang.specs.Broken.{Sight, in_expr, in_exprs, is_bad_width, is_too_large, is_unknown, is_misfit, is_far_shift, appended, own_exprs, declares, are_free, uses_unknown, takes_misfit, writes_fixed, misfits_object, changes_fixed, repeats_badly, repeats_an_end, stmt_tests, lowest_broken}
 use Rattle.element_text.proofs.Agreeing.{and_true, and_false, all_of, pulled, one_fails}
 use Rattle.element_text.proofs.AgreeingExprs.{is_odd, is_wrong}
 
@@ -58,7 +58,7 @@ wrong_parts locals es =
     ∙ ap (λ b. in_exprs is_too_large es || b) (in_eithers is_bad_width is_odd es))))
 
 -- in those of two lists
-pub in_joined : (p : SurfaceExpr → Bool) (es more : SurfaceExprs) → in_exprs p (joined es more) ≡ (in_exprs p es || in_exprs p more)
+pub in_joined : (p : SurfaceExpr → Bool) (es more : SurfaceExprs) → in_exprs p (appended es more) ≡ (in_exprs p es || in_exprs p more)
 in_joined p no_expr more = refl
 in_joined p (expr e es) more = ap (λ b. in_expr p e || b) (in_joined p es more) ∙ grouped (in_expr p e) (in_exprs p es) (in_exprs p more)
   where

@@ -10,7 +10,7 @@ use Rattle.state_store.specs.declared.object.ObjectDecl.{ObjectDecl}
 use Rattle.state_store.specs.Kept.{have_widths}
 use Rattle.element_lang.specs.Tree.{Tree}
 use Rattle.element_lang.specs.Rules.{is_width, same_widths, are_widths, is_size, are_good_rows, is_good_object, are_good_objects, declared_by, is_good_body, is_good}
-use Rattle.element_lang.specs.Surface.{literals, named_row, named_as, Declared, named_decl, named, named_body, row_of, object_of}
+use Rattle.element_lang.specs.Surface.{literals, named_row, named_as, Declared, named_decl, named, named_body, value_row, object_of}
 use Rattle.element_text.specs.Resolve.{when, MadeBody, made_body, decls_of, is_written_row, are_written, is_written, resolved}
 use Rattle.element_text.proofs.Optional.{bound_is, when_is}
 use Rattle.element_text.proofs.Operators.{same_lists}
@@ -32,12 +32,12 @@ literals_widths (w ∷ ws) (n ∷ ns) e =
     let parts = and_parts (nat_lt n (2 ^ w)) (have_widths ws ns) e in
     and_from (w == w) (same_widths (map (λ l. l.width) (literals ws ns)) ws) (eq-eqb w w refl) (literals_widths ws ns parts.1)
 
-row_kept : (keys values : List ℕ) (row : Row) → row_of (named_row keys values row) ≡ row
+row_kept : (keys values : List ℕ) (row : Row) → value_row (named_row keys values row) ≡ row
 row_kept keys values row =
     let both : List ℕ → List ℕ → Row = λ a b. record { keys = a; values = b } in
     ap₂ both (literals_values keys row.keys) (literals_values values row.values)
 
-rows_kept : (keys values : List ℕ) (rows : List Row) → map row_of (map (named_row keys values) rows) ≡ rows
+rows_kept : (keys values : List ℕ) (rows : List Row) → map value_row (map (named_row keys values) rows) ≡ rows
 rows_kept keys values [] = refl
 rows_kept keys values (row ∷ rows) = ap₂ (λ a b. a ∷ b) (row_kept keys values row) (rows_kept keys values rows)
 
@@ -85,7 +85,7 @@ object_kept Table d kind e =
     let r = and_parts widths_good counted q.0 in
     let written = map (named_row d.keys d.values) d.rows in
     let size_is : length written ≡ d.size = rows_counted d.keys d.values d.rows ∙ sym (eqb-true d.size (length d.rows) r.1) in
-    rebuilt d Table d.keys d.values (length written) 0 (map row_of written) kind refl refl size_is (sym (eqb-true d.start 0 q.1)) (rows_kept d.keys d.values d.rows)
+    rebuilt d Table d.keys d.values (length written) 0 (map value_row written) kind refl refl size_is (sym (eqb-true d.start 0 q.1)) (rows_kept d.keys d.values d.rows)
 object_kept Map d kind e =
     let widths_good = are_widths d.keys && are_widths d.values in
     let no_start = d.start == 0 in

@@ -9,11 +9,12 @@ use Rattle.packet_fields.specs.Table.{row}
 use Rattle.state_store.specs.declared.object.Kind.{Kind}
 use Rattle.state_store.specs.declared.object.Kind.TheVariants.{Table, Map, Vector, Int}
 use Rattle.state_store.specs.declared.object.ObjectDecl.{ObjectDecl}
+use Rattle.gal_bits.specs.Fitting.{sum_of}
 use Rattle.element_lang.specs.declared.tree.Local.{Local}
 use Rattle.element_lang.specs.Tree as trees
 use Rattle.element_lang.specs.Tree.{ExprTree, Exprs, StmtTree, BodyTree, Tree}
 use Rattle.element_lang.specs.Widths.{local_widths, width_of}
-use Rattle.element_lang.specs.Rules.{is_width, widths_of, same_widths, is_good_expr, are_good_exprs, fits_keys, fits_values, can_put, can_del, object_names, counted_from, are_fresh, binds, declared_in, declared_by, always_ends, ends_always, any_repeats, is_empty, is_count, is_good_stmt, is_good_body, sum_of, are_widths, is_size, are_good_rows, is_good_object, are_good_objects}
+use Rattle.element_lang.specs.Rules.{is_width, widths_of, same_widths, is_good_expr, are_good_exprs, fits_keys, fits_values, can_put, can_del, object_names, counted_from, are_fresh, binds, declared_in, declared_by, always_ends, ends_always, any_repeats, is_empty, is_count, is_good_stmt, is_good_body, are_widths, is_size, are_good_rows, is_good_object, are_good_objects}
 use Rattle.element_lang.specs.Surface.{name_of_local, name_of_object, local_name, object_name, named_expr, named_exprs, named_stmt, named_body}
 use Rattle.element_text.specs.Resolve.{when, Known, local_in, Env, Typed, TypedList, typed_expr, typed_exprs, object_from, is_free, with_local, declared, all_declared, numbers_from, values_of, Made, MadeBody, with_locals, is_done, made_condition, made_stmt, made_body}
 use Rattle.element_text.proofs.Optional.{bound_is, when_is}

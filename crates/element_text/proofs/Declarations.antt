@@ -5,8 +5,9 @@ use Rattle.std.specs.Str.{bytes_eq}
 use Rattle.std.proofs.lemmas.Bool.{and_parts, and_from, false≢true, leb-true}
 use Rattle.std.proofs.lemmas.List.{length-map}
 use Rattle.state_store.specs.declared.object.ObjectDecl.{ObjectDecl}
-use Rattle.element_lang.specs.Rules.{is_width, same_widths, are_widths, sum_of, is_good_object, are_good_objects}
-use Rattle.element_lang.specs.Surface.{SurfaceDecl, SurfaceRow, Literal, object_of, table_decl, map_decl, vector_decl, row_of}
+use Rattle.gal_bits.specs.Fitting.{sum_of}
+use Rattle.element_lang.specs.Rules.{is_width, same_widths, are_widths, is_good_object, are_good_objects}
+use Rattle.element_lang.specs.Surface.{SurfaceDecl, SurfaceRow, Literal, object_of, table_decl, map_decl, vector_decl, value_row}
 use Rattle.element_text.specs.Resolve.{is_written, is_good_decl, are_good_decls, is_written_row, are_written}
 use Rattle.element_grammar.specs.declared.surface.SurfaceRow as rows
 use Rattle.element_grammar.specs.Surface.{surface_literal, surface_row}

@@ -5,7 +5,7 @@ use Rattle.std.proofs.lemmas.List.{at_drop_more, length-map}
 use Rattle.std.proofs.lemmas.Bool.{and_parts, false≢true}
 use Rattle.element_lang.specs.Rules.{is_width}
 use Rattle.element_tokens.specs.declared.token.Span.{Span}
-use Rattle.element_tokens.specs.Tokens.{spelled}
+use Rattle.element_tokens.specs.Tokens.{span_text}
 use Rattle.element_text.specs.Resolve.{◌>>=◌, Env, is_free, declared, all_declared, numbers_from}
 use Rattle.element_text.proofs.Links.{the_value, first_link, next_link, test_holds}
 
@@ -20,29 +20,29 @@ declared_even (w ∷ ws) (v ∷ vs) env e =
 
 -- The locals that were declared and those that are left are all.
 pub record Declaring (text : List ℕ) (start env : Env) (numbers : List ℕ) (names all : List Span) (widths all_widths : List ℕ) : Type 0 where
-  pub told : all_declared env (map (spelled text) names) widths ≡ all_declared start (map (spelled text) all) all_widths
-  pub counted : numbers ++ numbers_from (length env.locals) (map (spelled text) names) ≡ numbers_from (length start.locals) (map (spelled text) all)
+  pub told : all_declared env (map (span_text text) names) widths ≡ all_declared start (map (span_text text) all) all_widths
+  pub counted : numbers ++ numbers_from (length env.locals) (map (span_text text) names) ≡ numbers_from (length start.locals) (map (span_text text) all)
 
 -- what is left, one place on
-split_both : (text : List ℕ) (env : Env) (all : List Span) (widths : List ℕ) (at : ℕ) (d : Span) → at < length all → at < length widths → all_declared env (map (spelled text) (drop at all)) (drop at widths) ≡ (declared env (spelled text (get_or all at d)) (get_or widths at 0) >>= (λ next. all_declared next (map (spelled text) (drop (at + 1) all)) (drop (at + 1) widths)))
+split_both : (text : List ℕ) (env : Env) (all : List Span) (widths : List ℕ) (at : ℕ) (d : Span) → at < length all → at < length widths → all_declared env (map (span_text text) (drop at all)) (drop at widths) ≡ (declared env (span_text text (get_or all at d)) (get_or widths at 0) >>= (λ next. all_declared next (map (span_text text) (drop (at + 1) all)) (drop (at + 1) widths)))
 split_both text env all widths at d within width_within =
-    at_drop_more (λ l. all_declared env (map (spelled text) l) (drop at widths)) all at d within
-    ∙ at_drop_more (λ l. all_declared env (spelled text (get_or all at d) ∷ map (spelled text) (drop (at + 1) all)) l) widths at 0 width_within
+    at_drop_more (λ l. all_declared env (map (span_text text) l) (drop at widths)) all at d within
+    ∙ at_drop_more (λ l. all_declared env (span_text text (get_or all at d) ∷ map (span_text text) (drop (at + 1) all)) l) widths at 0 width_within
 
 module _ {text : List ℕ} {start env : Env} {numbers : List ℕ} {all : List Span} {widths : List ℕ} (at : ℕ) (d : Span) (within : at < length all)
-    (h : Declaring text start env numbers (drop at all) all (drop at widths) widths) (there : IsSome (all_declared start (map (spelled text) all) widths)) where
+    (h : Declaring text start env numbers (drop at all) all (drop at widths) widths) (there : IsSome (all_declared start (map (span_text text) all) widths)) where
   -- there is a width for each name
   pub width_within : at < length widths
   width_within =
-      let even : length (map (spelled text) all) ≡ length widths = declared_even (map (spelled text) all) widths start there in
-      omega (arith, length-map all (spelled text), even, within)
+      let even : length (map (span_text text) all) ≡ length widths = declared_even (map (span_text text) all) widths start there in
+      omega (arith, length-map all (span_text text), even, within)
 
   -- the next name can be declared, with a width
-  pub declaring_there : IsSome (declared env (spelled text (get_or all at d)) (get_or widths at 0))
+  pub declaring_there : IsSome (declared env (span_text text (get_or all at d)) (get_or widths at 0))
   declaring_there =
-      first_link (declared env (spelled text (get_or all at d)) (get_or widths at 0)) _
+      first_link (declared env (span_text text (get_or all at d)) (get_or widths at 0)) _
       (ap is_some (sym (split_both text env all widths at d within width_within) ∙ h.told) ∙ there)
 
   pub declaring_wide : is_width (get_or widths at 0) ≡ true
   declaring_wide =
-      (and_parts (is_free env (spelled text (get_or all at d))) (is_width (get_or widths at 0)) (test_holds _ _ declaring_there)).1
+      (and_parts (is_free env (span_text text (get_or all at d))) (is_width (get_or widths at 0)) (test_holds _ _ declaring_there)).1

@@ -17,7 +17,7 @@ use Rattle.element_text.specs.declared.error.TextError.{TextError}
 use Rattle.element_text.specs.declared.error.TextError.TheVariants as errors
 use Rattle.element_text.specs.Names.{HasSurfaceNames}
 use Rattle.element_text.specs.Refused.{IsRefused}
-use Rattle.element_text.specs.Reads.{IsAnswer, IsOnlySource, IsOnlyRefused, HasOnlySurface, Keeps, KeepsSizes, IsTooLarge, IsMiddlebox}
+use Rattle.element_text.specs.Reads.{IsAnswer, IsOnlySource, IsOnlyRefused, HasOnlySurface, Keeps, KeepsSizes, IsTooLarge, IsResolved}
 use Rattle.element_text.proofs.TokenNames.{tokens_named}
 use Rattle.element_text.proofs.Naming.{spelled_names}
 use Rattle.element_text.proofs.Refusals.{utf8_whole, none_wrong, moved}
@@ -208,7 +208,7 @@ module _ (text : List ℕ) (placed : List Placed) (surface : Surface) (h : HasOn
   too_large m errors.NoMemory few k large = absurd large
 
   -- the one middlebox of the tree is the answer for the text
-  pub middlebox_answer : (r : Result Middlebox TextError) → length surface.objects ≤ MAX_OBJECTS → IsMiddlebox surface r → IsAnswer text r
+  pub middlebox_answer : (r : Result Middlebox TextError) → length surface.objects ≤ MAX_OBJECTS → IsResolved surface r → IsAnswer text r
   middlebox_answer (Ok m) few (k, names, sizes) = only_source (tree m) few k names sizes
   middlebox_answer (Err e) few (inl none) = inl none
   middlebox_answer (Err e) few (inr (m, k, large)) = inr (too_large m e few k large)

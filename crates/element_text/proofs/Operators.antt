@@ -6,7 +6,7 @@ use Rattle.gal_bits.specs.declared.op.Op.{Op}
 use Rattle.gal_bits.specs.declared.op.Op.TheVariants.{Add, Sub, Mul, Div, Rem, And, Or, Xor, Not, Shl, Shr, Eq, Ne, Lt, Le, Cast, Select, Adjust}
 use Rattle.element_lang.specs.Rules.{is_width, same_widths, fits_operator}
 use Rattle.element_lang.specs.Surface.{written_width}
-use Rattle.element_text.specs.Resolve.{when, width_of_one, width_of_two, width_of_choice, result_width}
+use Rattle.element_text.specs.Resolve.{when, width_of_one, width_of_two, width_of_choice, accepted_width}
 use Rattle.element_text.proofs.Optional.{if_bound, if_when, if_map, if_so}
 
 -- ## Lists of widths
@@ -86,7 +86,7 @@ Fitting op written ws w = (fits_operator op w ws ≡ true) × (written_width op 
 unwritten : (written : ℕ) (o : Option ℕ) (P : ℕ → Type 0) → IfSome o P → IfSome (when (written == 0) o) (λ w. P w × (0 ≡ written))
 unwritten written o P h = if_when (written == 0) o (λ w. P w × (0 ≡ written)) (λ e. if_so o P (λ w. P w × (0 ≡ written)) h (λ w p. (p, sym (eqb-true written 0 e))))
 
-pub result_fits : (op : Op) (written : ℕ) (ws : List ℕ) → IfSome (result_width op written ws) (Fitting op written ws)
+pub result_fits : (op : Op) (written : ℕ) (ws : List ℕ) → IfSome (accepted_width op written ws) (Fitting op written ws)
 result_fits Add written ws = unwritten written (width_of_two ws) (Pair ws) (pair_fits ws)
 result_fits Sub written ws = unwritten written (width_of_two ws) (Pair ws) (pair_fits ws)
 result_fits Mul written ws = unwritten written (width_of_two ws) (Pair ws) (pair_fits ws)
@@ -134,7 +134,7 @@ cast_of [] w e = absurd (false≢true (and_parts (is_width w) false e).1)
 cast_of (a ∷ []) w e = ap (λ b. when b (Some w)) (and_parts (is_width w) true e).0
 cast_of (a ∷ b ∷ ws) w e = absurd (omega (arith, eqb-true (length (a ∷ b ∷ ws)) 1 (and_parts (is_width w) (length (a ∷ b ∷ ws) == 1) e).1))
 
-pub fitting_result : (op : Op) (w : ℕ) (ws : List ℕ) → fits_operator op w ws ≡ true → result_width op (written_width op w) ws ≡ Some w
+pub fitting_result : (op : Op) (w : ℕ) (ws : List ℕ) → fits_operator op w ws ≡ true → accepted_width op (written_width op w) ws ≡ Some w
 fitting_result Add w ws e = two_of ws w e
 fitting_result Sub w ws e = two_of ws w e
 fitting_result Mul w ws e = two_of ws w e

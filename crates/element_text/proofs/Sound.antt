@@ -9,7 +9,7 @@ use Rattle.element_lang.specs.Tree.{Tree}
 use Rattle.element_lang.specs.Token.{IsName}
 use Rattle.element_lang.specs.Accepted.{HasNames}
 use Rattle.element_lang.specs.Rules.{same_widths, are_good_objects, declared_by, is_good_body, is_good}
-use Rattle.element_lang.specs.Surface.{Literal, SurfaceRow, SurfaceDecl, Declared, Surface, SurfaceBody, table_decl, map_decl, vector_decl, int_decl, literals, named_row, named_decl, named, unplaced_decl, unplaced, row_of, object_of}
+use Rattle.element_lang.specs.Surface.{Literal, SurfaceRow, SurfaceDecl, Declared, Surface, SurfaceBody, table_decl, map_decl, vector_decl, int_decl, literals, named_row, named_decl, named, unplaced_decl, unplaced, value_row, object_of}
 use Rattle.element_text.specs.Names.{declared_name, HasSurfaceNames}
 use Rattle.element_text.specs.Resolve.{Env, MadeBody, made_body, decls_of, is_written_row, are_written, is_written, are_good_decls, resolved}
 use Rattle.element_text.proofs.Optional.{if_bound, if_when, if_some}
@@ -30,13 +30,13 @@ literals_named (w ∷ ws) (l ∷ ls) e =
     let one : ℕ → Literal = λ v. record { value = l.value; width = v } in
     ap₂ (λ v rest. one v ∷ rest) first (literals_named ws ls parts.1)
 
-row_named : (keys values : List ℕ) (row : SurfaceRow) → is_written_row keys values row ≡ true → named_row keys values (row_of row) ≡ row
+row_named : (keys values : List ℕ) (row : SurfaceRow) → is_written_row keys values row ≡ true → named_row keys values (value_row row) ≡ row
 row_named keys values row e =
     let parts = and_parts (same_widths (map (λ l. l.width) row.keys) keys) (same_widths (map (λ l. l.width) row.values) values) e in
     let both : List Literal → List Literal → SurfaceRow = λ a b. record { keys = a; values = b } in
     ap₂ both (literals_named keys row.keys parts.0) (literals_named values row.values parts.1)
 
-rows_named : (keys values : List ℕ) (rows : List SurfaceRow) → are_written keys values rows ≡ true → map (named_row keys values) (map row_of rows) ≡ rows
+rows_named : (keys values : List ℕ) (rows : List SurfaceRow) → are_written keys values rows ≡ true → map (named_row keys values) (map value_row rows) ≡ rows
 rows_named keys values [] e = refl
 rows_named keys values (row ∷ rows) e =
     let parts = and_parts (is_written_row keys values row) (are_written keys values rows) e in

@@ -10,7 +10,7 @@ use Rattle.element_lang.specs.Tree.{ExprTree, Exprs, Tree}
 use Rattle.element_lang.specs.Widths.{local_widths, width_of}
 use Rattle.element_lang.specs.Rules.{is_width, is_shift, widths_of, fits_operator, is_good_expr, are_good_exprs}
 use Rattle.element_lang.specs.Surface.{SurfaceExpr, SurfaceExprs, lit, name, field, byte, shift, apply, no_expr, expr, name_of_local, local_name, named_expr, named_exprs}
-use Rattle.element_text.specs.Resolve.{when, Known, local_in, Typed, TypedList, result_width, typed_apply, typed_local, typed_byte, typed_shift, typed_expr, typed_exprs}
+use Rattle.element_text.specs.Resolve.{when, Known, local_in, Typed, TypedList, accepted_width, typed_apply, typed_local, typed_byte, typed_shift, typed_expr, typed_exprs}
 use Rattle.element_text.proofs.Optional.{if_bound, if_when, if_map, if_so}
 use Rattle.element_text.proofs.Scoping.{local_in_pushed, alone, none_of_two, not_alone, width_at}
 use Rattle.element_text.proofs.Operators.{Fitting, result_fits}
@@ -109,7 +109,7 @@ shift_typed m numbers op by arg t h =
 
 typed_operator : (m : Tree) (numbers : List ℕ) (op : Op) (written : ℕ) (args : SurfaceExprs) (ts : TypedList) → AreTyped m numbers args ts → IfSome (typed_apply op written ts) (IsTyped m numbers (apply op written args))
 typed_operator m numbers op written args ts h =
-    if_map (result_width op written ts.widths) (λ w. record { tree = trees.apply op w ts.trees; width = w }) (Fitting op written ts.widths) (IsTyped m numbers (apply op written args)) (result_fits op written ts.widths) (λ w f. record {
+    if_map (accepted_width op written ts.widths) (λ w. record { tree = trees.apply op w ts.trees; width = w }) (Fitting op written ts.widths) (IsTyped m numbers (apply op written args)) (result_fits op written ts.widths) (λ w f. record {
       named = ap (λ v. apply op v (named_exprs m ts.trees)) f.1 ∙ ap (apply op written) h.named;
       width = refl;
       good = and_from (are_good_exprs (local_widths m) numbers ts.trees) (fits_operator op w (widths_of (local_widths m) ts.trees)) h.good (ap (fits_operator op w) h.widths ∙ f.0);

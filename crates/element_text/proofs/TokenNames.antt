@@ -8,7 +8,7 @@ use Rattle.packet_fields.specs.declared.field.Field.{Field}
 use Rattle.packet_fields.specs.Table.{field_named}
 use Rattle.element_lang.specs.declared.mark.Mark.{Mark}
 use Rattle.element_lang.specs.Mark.{keyword, symbol_in_front}
-use Rattle.element_lang.specs.Token.{Token, fixed, number, name, field, Lexeme, Placed, IsName, AreTokens, HasTokens, gap, lexeme, lexeme_of, is_letter, is_digit, is_word_byte, is_number_byte, field_token, plain_word, word_token, word_lexeme, number_token, number_value, number_lexeme, symbol_of}
+use Rattle.element_lang.specs.Token.{Token, fixed, number, name, field, Lexeme, Placed, IsName, AreTokens, HasTokens, gap, lexeme, sized_lexeme, is_letter, is_digit, is_word_byte, is_number_byte, field_token, plain_word, word_token, word_lexeme, number_token, number_value, number_lexeme, symbol_of}
 use Rattle.element_lang.specs.Accepted.{plain}
 
 -- every name among these tokens is one when it stands alone
@@ -20,11 +20,11 @@ AreNamed (number n ∷ ts) = AreNamed ts
 AreNamed (field f ∷ ts) = AreNamed ts
 
 -- a name is a word
-some_token : (len : ℕ) (o : Option Token) (x : Lexeme) → lexeme_of len o ≡ Some x → o ≡ Some x.token
+some_token : (len : ℕ) (o : Option Token) (x : Lexeme) → sized_lexeme len o ≡ Some x → o ≡ Some x.token
 some_token len None x e = cc
 some_token len (Some t) x e = let same : ◌≡◌ {A = Lexeme} (record { token = t; len = len }) x = cc in ap (λ (y : Lexeme). Some y.token) same
 
-no_number : (len : ℕ) (o : Option ℕ) (x : Lexeme) (word : List ℕ) → lexeme_of len (number_token o) ≡ Some x → x.token ≡ name word → ⊥
+no_number : (len : ℕ) (o : Option ℕ) (x : Lexeme) (word : List ℕ) → sized_lexeme len (number_token o) ≡ Some x → x.token ≡ name word → ⊥
 no_number len None x word e n = cc
 no_number len (Some v) x word e n = let same : Some (number v) ≡ Some x.token = some_token len (Some (number v)) x e in cc
 
@@ -72,7 +72,7 @@ word_alone : (b : ℕ) (rest word : List ℕ) → is_letter b ≡ true → word 
     → IsName word
 word_alone b rest word letter is whole token =
     let first : take_while is_word_byte (b ∷ rest) ≡ b ∷ rest = ap (take_while is_word_byte) (sym is) ∙ whole ∙ is in
-    ap lexeme is ∙ lexeme_alone b rest letter first ∙ ap word_lexeme (sym is) ∙ ap (lexeme_of (length word)) token
+    ap lexeme is ∙ lexeme_alone b rest letter first ∙ ap word_lexeme (sym is) ∙ ap (sized_lexeme (length word)) token
 
 name_alone : (bs : List ℕ) (x : Lexeme) (w : List ℕ) → lexeme bs ≡ Some x → x.token ≡ name w → IsName w
 name_alone [] x w e n = cc

@@ -1,7 +1,7 @@
 -- When the answer of the reader is right: it is the only one.
 use Rattle.std.specs.Prelude.{◌≡◌, ◌≢◌, ◌⊎◌, ◌≤◌, ◌<◌, ◌-◌, ◌^◌, min, ℕ, List, IsTrue, IsUtf8, Result, Ok, Err, None}
 use Rattle.element_lang.specs.declared.sizes.What.TheVariants.{Depth, Entries, Writes}
-use Rattle.element_lang.specs.Bounds.{bound}
+use Rattle.element_lang.specs.Bounds.{limit_of}
 use Rattle.element_lang.specs.declared.tree.Middlebox.{Middlebox}
 use Rattle.element_lang.specs.Token.{Token, Placed, AreTokens, IsNoToken}
 use Rattle.element_lang.specs.Tree.{Tree}
@@ -45,21 +45,22 @@ pub record HasOnlyTokens (text : List ℕ) (placed : List Placed) : Type 0 where
 -- and these spell this surface tree only
 pub record HasOnlySurface (text : List ℕ) (placed : List Placed) (surface : Surface) : Type 0 where
   pub read : HasOnlyTokens text placed
-  pub depth : deepest 0 (plain placed) ≤ bound Depth
+  pub depth : deepest 0 (plain placed) ≤ limit_of Depth
   pub spells : Spells (plain placed) surface
   pub one : (other : Surface) → Spells (plain placed) other → other ≡ surface
 
 -- the middlebox has few enough entries and writes
 pub record KeepsSizes (m : Tree) : Type 0 where
-  pub entries : entries m ≤ bound Entries
-  pub writes : writes m ≤ bound Writes
+  pub entries : entries m ≤ limit_of Entries
+  pub writes : writes m ≤ limit_of Writes
 
 -- it has too many of one of them, entries first
 abbrev pub IsTooLarge : Tree → TextError → Type 0
 IsTooLarge m (TooLarge Entries have allowed) =
-    (have ≡ min (entries m) (2 ^ 64 - 1)) × (allowed ≡ bound Entries) × (allowed < have)
+    (have ≡ min (entries m) (2 ^ 64 - 1)) × (allowed ≡ limit_of Entries) × (allowed < have)
 IsTooLarge m (TooLarge Writes have allowed) =
-    (entries m ≤ bound Entries) × (have ≡ min (writes m) (2 ^ 64 - 1)) × (allowed ≡ bound Writes) × (allowed < have)
+    (entries m ≤ limit_of Entries) × (have ≡ min (writes m) (2 ^ 64 - 1)) × (allowed ≡ limit_of Writes)
+    × (allowed < have)
 IsTooLarge m _ = ⊥
 
 -- the middlebox keeps the rules and is this surface tree, once its names are put back
@@ -74,7 +75,7 @@ pub record IsUnbroken (surface : Surface) : Type 0 where
   pub none : first_broken surface ≡ None
 
 -- this is the one middlebox of the surface tree, where that keeps the sizes
-abbrev pub IsMiddlebox : Surface → Result Middlebox TextError → Type 0
-IsMiddlebox surface (Ok m) =
+abbrev pub IsResolved : Surface → Result Middlebox TextError → Type 0
+IsResolved surface (Ok m) =
     Keeps surface (tree m) × (HasSurfaceNames surface → HasNames (tree m)) × KeepsSizes (tree m)
-IsMiddlebox surface (Err e) = (e ≡ NoMemory) ⊎ ((m : Tree) × Keeps surface m × IsTooLarge m e)
+IsResolved surface (Err e) = (e ≡ NoMemory) ⊎ ((m : Tree) × Keeps surface m × IsTooLarge m e)

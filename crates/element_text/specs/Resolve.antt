@@ -19,7 +19,7 @@ use Rattle.element_lang.specs.Rules.{are_good_objects}
 use Rattle.element_lang.specs.Surface.{SurfaceExpr, SurfaceExprs, SurfaceStmt, SurfaceBody, Literal, SurfaceRow}
 use Rattle.element_lang.specs.Surface.{SurfaceDecl, Declared, Surface, lit, name, field, byte, shift, apply, no_expr}
 use Rattle.element_lang.specs.Surface.{expr, let_local, assign, set_field, look, put, del, choose, repeat, send, drop}
-use Rattle.element_lang.specs.Surface.{done, stmt, table_decl, map_decl, vector_decl, int_decl, row_of, object_of}
+use Rattle.element_lang.specs.Surface.{done, stmt, table_decl, map_decl, vector_decl, int_decl, value_row, object_of}
 
 infixl 10 ◌>>=◌
 abbrev pub ◌>>=◌ : {A B : Type 0} → Option A → (A → Option B) → Option B
@@ -96,14 +96,14 @@ unwritten_width Select args = width_of_choice args
 unwritten_width Adjust args = when (same_widths args (16 ∷ 16 ∷ 16 ∷ [])) (Some 16)
 
 -- the width of an operator's result, where the arguments have these widths; a width is written with a cast alone
-abbrev pub result_width : Op → ℕ → List ℕ → Option ℕ
-result_width Cast written args = width_of_one args >>= (λ w. when (is_width written) (Some written))
-result_width op written args = when (written == 0) (unwritten_width op args)
+abbrev pub accepted_width : Op → ℕ → List ℕ → Option ℕ
+accepted_width Cast written args = width_of_one args >>= (λ w. when (is_width written) (Some written))
+accepted_width op written args = when (written == 0) (unwritten_width op args)
 
 -- an operator on these arguments
 abbrev pub typed_apply : Op → ℕ → TypedList → Option Typed
 typed_apply op written args =
-    option_map (λ w. record { tree = trees.apply op w args.trees; width = w }) (result_width op written args.widths)
+    option_map (λ w. record { tree = trees.apply op w args.trees; width = w }) (accepted_width op written args.widths)
 
 abbrev pub typed_local : Known → Typed
 typed_local k = record { tree = trees.local k.number; width = k.decl.width }
@@ -272,7 +272,8 @@ is_good_row keys values row = are_good_literals keys row.keys && are_good_litera
 
 -- rows whose literals are so, and of which no two have the same key
 abbrev pub are_good_written_rows : List ℕ → List ℕ → List SurfaceRow → Bool
-are_good_written_rows keys values rows = are_written keys values rows && are_good_rows keys values [] (map row_of rows)
+are_good_written_rows keys values rows =
+    are_written keys values rows && are_good_rows keys values [] (map value_row rows)
 
 abbrev pub is_written : SurfaceDecl → Bool
 is_written (table_decl word keys values rows) = are_written keys values rows

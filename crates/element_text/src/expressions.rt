@@ -3,7 +3,7 @@ ghost use Rattle.std.specs.Prelude.{◌≡◌, ◌<◌, IfOk, IsSome, map, lengt
 ghost use Rattle.element_lang.specs.Rules as rules;
 ghost use Rattle.element_lang.specs.Broken as broken;
 ghost use Rattle.element_grammar.specs.Surface.{surface_expr, surface_exprs};
-ghost use Rattle.element_text.specs.Resolve.{result_width, typed_expr, typed_exprs, typed_apply, typed_byte};
+ghost use Rattle.element_text.specs.Resolve.{accepted_width, typed_expr, typed_exprs, typed_apply, typed_byte};
 ghost use Rattle.element_text.specs.Resolve.{typed_shift};
 ghost use Rattle.element_text.specs.Scopes.{known_of};
 ghost use Rattle.element_text.specs.Typed.{typed_of, typed_list_of, literal_of};
@@ -61,8 +61,8 @@ fn width_at(widths: &[Width], place: usize) -> Width
 
 // The width of an operator's result. It is written with a cast alone.
 fn width_of_result(op: Op, written: u64, widths: &[Width]) -> Width
-    requires { IsSome (result_width op written widths.now) }
-    ensures { result_width op written widths.now ≡ Some result }
+    requires { IsSome (accepted_width op written widths.now) }
+    ensures { accepted_width op written widths.now ≡ Some result }
 {
     match op {
         Op::Cast => width_of(written),

@@ -1,7 +1,7 @@
 //! The declared objects.
 ghost use Rattle.std.specs.Prelude.{◌≡◌, ◌≤◌, IfOk, map, length, true, []};
 ghost use Rattle.std.specs.List.{list_all};
-ghost use Rattle.element_lang.specs.Surface.{table_decl, map_decl, vector_decl, int_decl, object_of, row_of};
+ghost use Rattle.element_lang.specs.Surface.{table_decl, map_decl, vector_decl, int_decl, object_of, value_row};
 ghost use Rattle.element_grammar.specs.Surface.{surface_decl, surface_object, surface_literal, surface_row};
 ghost use Rattle.element_text.specs.Resolve.{is_good_decl, decls_of, are_written};
 
@@ -47,7 +47,7 @@ fn rows_of(
     requires keys { length keys.now ≤ 8 }
     requires values { length values.now ≤ 8 }
     requires written { are_written keys.now values.now (map surface_row source.now) ≡ true }
-    ensures { IfOk result (λ rows. rows ≡ map row_of (map surface_row source.now)) }
+    ensures { IfOk result (λ rows. rows ≡ map value_row (map surface_row source.now)) }
 {
     let mut rows = Rows::new(alloc);
     for next in source {

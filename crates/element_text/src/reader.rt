@@ -8,7 +8,7 @@ ghost use Rattle.element_tokens.specs.Tokens.{placed_of};
 ghost use Rattle.element_grammar.specs.Surface.{surface_tree};
 ghost use Rattle.element_text.specs.declared.error.TextError.{TextError};
 ghost use Rattle.element_text.specs.Refused.{IsRefused};
-ghost use Rattle.element_text.specs.Reads.{IsAnswer, IsMiddlebox, KeepsSizes, IsTooLarge, IsUnbroken, HasOnlyTokens};
+ghost use Rattle.element_text.specs.Reads.{IsAnswer, IsResolved, KeepsSizes, IsTooLarge, IsUnbroken, HasOnlyTokens};
 ghost use Rattle.element_text.specs.Reads.{HasOnlySurface};
 
 use crate::error::TextError;
@@ -59,7 +59,7 @@ fn within_sizes(m: Middlebox) -> Result<Middlebox, TextError>
 // The middlebox of a surface tree that breaks no rule.
 fn read_unbroken(alloc: Global, text: &[u8], source: &SurfaceTree) -> Result<Middlebox, TextError>
     requires { IsUnbroken (surface_tree text.now source.now) }
-    ensures { IsMiddlebox (surface_tree text.now source.now) result }
+    ensures { IsResolved (surface_tree text.now source.now) result }
 {
     let middlebox = resolve(alloc, text, source)?;
     within_sizes(middlebox)

@@ -7,7 +7,7 @@ ghost use Rattle.element_lang.specs.Surface.{named, unplaced};
 ghost use Rattle.element_lang.specs.Surface as surface;
 ghost use Rattle.element_lang.specs.View.{expr_tree, stmt_tree, body_tree, tree};
 ghost use Rattle.element_lang.specs.Accepted.{HasNames};
-ghost use Rattle.element_tokens.specs.Tokens.{spelled};
+ghost use Rattle.element_tokens.specs.Tokens.{span_text};
 ghost use Rattle.element_grammar.specs.Surface.{surface_expr, surface_exprs, surface_stmt, surface_body, surface_tree};
 ghost use Rattle.element_text.specs.Names.{HasSurfaceNames};
 ghost use Rattle.element_text.specs.Reads.{IsUnbroken};
@@ -56,9 +56,9 @@ fn let_local(
     value: &SurfaceExpr,
 ) -> Result<Stmt, NoMemory>
     requires { IsSome (made_stmt (env_of scope.old)
-        (surface.let_local (spelled text.now local) (surface_expr text.now value.now))) }
+        (surface.let_local (span_text text.now local) (surface_expr text.now value.now))) }
     ensures { IfOk result (λ made.
-        made_stmt (env_of scope.old) (surface.let_local (spelled text.now local) (surface_expr text.now value.now))
+        made_stmt (env_of scope.old) (surface.let_local (span_text text.now local) (surface_expr text.now value.now))
         ≡ some_stmt made scope.new) }
 {
     let value = expression(alloc, text, &scope.known, value)?;
@@ -78,9 +78,9 @@ fn assign(
     value: &SurfaceExpr,
 ) -> Result<Stmt, NoMemory>
     requires { IsSome (made_stmt (env_of scope.now)
-        (surface.assign (spelled text.now local) (surface_expr text.now value.now))) }
+        (surface.assign (span_text text.now local) (surface_expr text.now value.now))) }
     ensures { IfOk result (λ made.
-        made_stmt (env_of scope.now) (surface.assign (spelled text.now local) (surface_expr text.now value.now))
+        made_stmt (env_of scope.now) (surface.assign (span_text text.now local) (surface_expr text.now value.now))
         ≡ some_stmt made scope.now) }
 {
     let value = expression(alloc, text, &scope.known, value)?;
@@ -109,11 +109,11 @@ fn declare_all(
     names: &[Span],
     widths: &[u64],
 ) -> Result<Vec<u32>, NoMemory>
-    requires { IsSome (all_declared (env_of scope.old) (map (spelled text.now) names.now) widths.now) }
+    requires { IsSome (all_declared (env_of scope.old) (map (span_text text.now) names.now) widths.now) }
     ensures declared { IfOk result (λ _.
-        all_declared (env_of scope.old) (map (spelled text.now) names.now) widths.now ≡ Some (env_of scope.new)) }
+        all_declared (env_of scope.old) (map (span_text text.now) names.now) widths.now ≡ Some (env_of scope.new)) }
     ensures numbers { IfOk result (λ numbers.
-        numbers.items ≡ numbers_from (length scope.old.locals) (map (spelled text.now) names.now)) }
+        numbers.items ≡ numbers_from (length scope.old.locals) (map (span_text text.now) names.now)) }
 {
     let mut numbers = Vec::new(alloc);
     for (i, name) in names.iter().enumerate() {
@@ -133,11 +133,11 @@ fn look(
     object: Span,
     keys: &[SurfaceExpr],
 ) -> Result<Stmt, NoMemory>
-    requires { IsSome (made_stmt (env_of scope.old) (surface.look (spelled text.now found)
-        (map (spelled text.now) into.now) (spelled text.now object) (surface_exprs text.now keys.now))) }
+    requires { IsSome (made_stmt (env_of scope.old) (surface.look (span_text text.now found)
+        (map (span_text text.now) into.now) (span_text text.now object) (surface_exprs text.now keys.now))) }
     ensures { IfOk result (λ made.
-        made_stmt (env_of scope.old) (surface.look (spelled text.now found)
-        (map (spelled text.now) into.now) (spelled text.now object) (surface_exprs text.now keys.now))
+        made_stmt (env_of scope.old) (surface.look (span_text text.now found)
+        (map (span_text text.now) into.now) (span_text text.now object) (surface_exprs text.now keys.now))
         ≡ some_stmt made scope.new) }
 {
     let object = object_named(text, scope.objects.as_slice(), object)?;
@@ -163,10 +163,10 @@ fn put(
     keys: &[SurfaceExpr],
     values: &[SurfaceExpr],
 ) -> Result<Stmt, NoMemory>
-    requires { IsSome (made_stmt (env_of scope.old) (surface.put (spelled text.now ok) (spelled text.now object)
+    requires { IsSome (made_stmt (env_of scope.old) (surface.put (span_text text.now ok) (span_text text.now object)
         (surface_exprs text.now keys.now) (surface_exprs text.now values.now))) }
     ensures { IfOk result (λ made.
-        made_stmt (env_of scope.old) (surface.put (spelled text.now ok) (spelled text.now object)
+        made_stmt (env_of scope.old) (surface.put (span_text text.now ok) (span_text text.now object)
         (surface_exprs text.now keys.now) (surface_exprs text.now values.now))
         ≡ some_stmt made scope.new) }
 {
@@ -191,10 +191,10 @@ fn del(
     object: Span,
     keys: &[SurfaceExpr],
 ) -> Result<Stmt, NoMemory>
-    requires { IsSome (made_stmt (env_of scope.old) (surface.del (spelled text.now was) (spelled text.now object)
+    requires { IsSome (made_stmt (env_of scope.old) (surface.del (span_text text.now was) (span_text text.now object)
         (surface_exprs text.now keys.now))) }
     ensures { IfOk result (λ made.
-        made_stmt (env_of scope.old) (surface.del (spelled text.now was) (spelled text.now object)
+        made_stmt (env_of scope.old) (surface.del (span_text text.now was) (span_text text.now object)
         (surface_exprs text.now keys.now))
         ≡ some_stmt made scope.new) }
 {
@@ -296,10 +296,10 @@ fn repeat(
     source: &[At<SurfaceStmt>],
 ) -> Result<Stmt, NoMemory>
     requires { IsSome (made_stmt (env_of scope.old)
-        (surface.repeat (spelled text.now index) count (surface_body text.now source.now))) }
+        (surface.repeat (span_text text.now index) count (surface_body text.now source.now))) }
     ensures { IfOk result (λ made.
         made_stmt (env_of scope.old)
-        (surface.repeat (spelled text.now index) count (surface_body text.now source.now))
+        (surface.repeat (span_text text.now index) count (surface_body text.now source.now))
         ≡ some_stmt made scope.new) }
 {
     let before = scope.known.len();

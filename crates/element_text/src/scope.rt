@@ -1,6 +1,6 @@
 //! What is declared so far in a source, and which locals are in scope.
 ghost use Rattle.std.specs.Prelude.{◌≡◌, ◌+◌, ◌<◌, IfOk, IsSome, map, length, Some, slice_get};
-ghost use Rattle.element_tokens.specs.Tokens.{spelled};
+ghost use Rattle.element_tokens.specs.Tokens.{span_text};
 ghost use Rattle.element_text.specs.Resolve.{local_in, object_from, declared};
 ghost use Rattle.element_text.specs.Scopes.{known_as, known_of, env_of};
 
@@ -34,9 +34,9 @@ pub(crate) fn local_named(
     known: &IndexMap<Vec<u8>, KnownLocal>,
     name: Span,
 ) -> KnownLocal
-    requires { IsSome (local_in (map known_of known.now.entries) (spelled text.now name)) }
-    ensures { local_in (map known_of known.now.entries) (spelled text.now name)
-        ≡ Some (known_as (spelled text.now name) result) }
+    requires { IsSome (local_in (map known_of known.now.entries) (span_text text.now name)) }
+    ensures { local_in (map known_of known.now.entries) (span_text text.now name)
+        ≡ Some (known_as (span_text text.now name) result) }
 {
     *known.get(word_at(text, name)).unwrap()
 }
@@ -53,8 +53,8 @@ pub(crate) fn number_of(place: usize) -> Result<u32, NoMemory>
 
 /// The number of the object that has a name.
 pub(crate) fn object_named(text: &[u8], objects: &[ObjectDecl], name: Span) -> Result<u32, NoMemory>
-    requires { IsSome (object_from 0 objects.now (spelled text.now name)) }
-    ensures number { IfOk result (λ number. object_from 0 objects.now (spelled text.now name) ≡ Some number) }
+    requires { IsSome (object_from 0 objects.now (span_text text.now name)) }
+    ensures number { IfOk result (λ number. object_from 0 objects.now (span_text text.now name) ≡ Some number) }
     ensures within { IfOk result (λ number. number < length objects.now) }
 {
     let word = word_at(text, name);
@@ -83,9 +83,9 @@ impl Scope {
         name: Span,
         width: Width,
     ) -> Result<u32, NoMemory>
-        requires { IsSome (declared (env_of self.old) (spelled text.now name) width) }
+        requires { IsSome (declared (env_of self.old) (span_text text.now name) width) }
         ensures declared { IfOk result (λ _.
-            declared (env_of self.old) (spelled text.now name) width ≡ Some (env_of self.new)) }
+            declared (env_of self.old) (span_text text.now name) width ≡ Some (env_of self.new)) }
         ensures number { IfOk result (λ number. number ≡ length self.old.locals) }
         ensures count { IfOk result (λ _. length self.new.locals ≡ length self.old.locals + 1) }
     {

@@ -7,13 +7,13 @@ use Rattle.element_tokens.specs.declared.token.Token.TheVariants.{Fixed, Number,
 use Rattle.element_tokens.specs.declared.token.Placed.{Placed}
 
 -- the bytes of a span of the text
-abbrev pub spelled : List ℕ → Span → List ℕ
-spelled text span = take span.len (drop span.offset text)
+abbrev pub span_text : List ℕ → Span → List ℕ
+span_text text span = take span.len (drop span.offset text)
 
 abbrev pub token_of : List ℕ → Token → lang.Token
 token_of text (Fixed m) = lang.fixed m
 token_of text (Number n) = lang.number n
-token_of text (Name span) = lang.name (spelled text span)
+token_of text (Name span) = lang.name (span_text text span)
 token_of text (Field f) = lang.field f
 
 abbrev pub placed_of : List ℕ → Placed → lang.Placed

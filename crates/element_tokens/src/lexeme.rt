@@ -3,7 +3,7 @@ ghost use Rattle.std.specs.Prelude.{◌≡◌, ℕ, ◌+◌, ◌<◌, ◌≤◌,
 ghost use Rattle.std.specs.Option.{option_map};
 ghost use Rattle.element_lang.specs.Mark.{symbol_in_front};
 ghost use Rattle.element_lang.specs.Token as lang;
-ghost use Rattle.element_tokens.specs.Tokens.{spelled, token_of};
+ghost use Rattle.element_tokens.specs.Tokens.{span_text, token_of};
 ghost use Rattle.element_tokens.specs.Lexemes.{lexeme_of};
 
 use crate::number::number_value;
@@ -22,7 +22,7 @@ pub(crate) struct Lexeme {
 // The bytes of a span.
 fn bytes_of(text: &[u8], span: Span) -> &[u8]
     requires { span.offset + span.len ≤ length text.now }
-    ensures { result.now ≡ spelled text.now span }
+    ensures { result.now ≡ span_text text.now span }
 {
     &text[span.offset..span.offset + span.len]
 }
@@ -30,7 +30,7 @@ fn bytes_of(text: &[u8], span: Span) -> &[u8]
 // The token that a word is. A word with a dot that names no field is none.
 fn word_token(text: &[u8], span: Span) -> Option<Token>
     requires { span.offset + span.len ≤ length text.now }
-    ensures { option_map (token_of text.now) result ≡ lang.word_token (spelled text.now span) }
+    ensures { option_map (token_of text.now) result ≡ lang.word_token (span_text text.now span) }
 {
     let word = bytes_of(text, span);
     if word.contains(&b'.') {
@@ -74,7 +74,7 @@ fn number(bytes: &[u8]) -> Option<Lexeme>
 fn word(text: &[u8], span: Span) -> Option<Lexeme>
     requires { span.offset + span.len ≤ length text.now }
     ensures found { option_map (lexeme_of text.now) result
-        ≡ lang.word_lexeme (spelled text.now span) }
+        ≡ lang.word_lexeme (span_text text.now span) }
     ensures len { IfSome result (λ lexeme. lexeme.len ≡ span.len) }
 {
     let token = word_token(text, span)?;

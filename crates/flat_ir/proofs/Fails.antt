@@ -14,7 +14,7 @@ use Rattle.flat_ir.specs.Blocks.{HasLowParents}
 use Rattle.flat_ir.specs.Fits.{same_widths}
 use Rattle.flat_ir.specs.Tests.{all_below, is_before, are_before, rise_from}
 use Rattle.flat_ir.proofs.Parts.{false_from}
-use Rattle.flat_ir.proofs.Fitting.{same_list}
+use Rattle.gal_bits.specs.Fits.{same_list}
 use Rattle.flat_ir.proofs.Lines.{line_suc, whatever}
 
 -- a test that fails at a number below one

@@ -4,7 +4,7 @@ use Rattle.std.proofs.lemmas.Bool.{eqb-true}
 use Rattle.std.proofs.lemmas.List.{length-map}
 use Rattle.gal_bits.specs.declared.op.Op.{Op}
 use Rattle.gal_bits.specs.declared.op.Op.TheVariants.{Add, Sub, Mul, Div, Rem, And, Or, Xor, Not, Shl, Shr, Eq, Ne, Lt, Le, Cast, Select, Adjust}
-use Rattle.gal_bits.specs.Operators.{row_of}
+use Rattle.gal_bits.specs.Operators.{operator_row}
 use Rattle.state_store.specs.declared.object.Kind.{Kind}
 use Rattle.state_store.specs.declared.object.Kind.TheVariants.{Table, Map, Vector, Int}
 use Rattle.state_store.specs.declared.object.ObjectDecl.{ObjectDecl}
@@ -15,16 +15,8 @@ use Rattle.gal_bits.specs.Fitting.{is_width}
 use Rattle.flat_ir.specs.Fits.{same_widths, fits_operator, is_select, is_shift, fits_keys, fits_values, can_put, can_del, widths_of, fits}
 use Rattle.flat_ir.specs.WellFormed.{WritesNoTable, is_constant}
 use Rattle.flat_ir.specs.Operands.{CanRun, HasFewKeys}
+use Rattle.gal_bits.specs.Fits.{same_list}
 use Rattle.flat_ir.proofs.Parts.{left, right, not_true}
-
-pub same_list : (xs ys : List ℕ) → same_widths xs ys ≡ true → xs ≡ ys
-same_list [] [] h = refl
-same_list [] (y ∷ ys) h = absurd (true≢false (sym h))
-same_list (x ∷ xs) [] h = absurd (true≢false (sym h))
-same_list (x ∷ xs) (y ∷ ys) h =
-    let first : x ≡ y = eqb-true x y (left _ _ h) in
-    let rest : xs ≡ ys = same_list xs ys (right (x == y) (same_widths xs ys) h) in
-    cc
 
 -- ## What is written is no constant table
 
@@ -62,7 +54,7 @@ exactly : (ws xs : List ℕ) → same_widths ws xs ≡ true → length xs ≤ 3 
 exactly ws xs h le = let e = ap length (same_list ws xs h) in (e, omega (arith, e, le))
 
 -- an operator has as many arguments as it takes
-pub operator_count : (op : Op) (w : ℕ) (ws : List ℕ) → fits_operator op w ws ≡ true → (length ws ≡ (row_of op).arity) × (length ws ≤ 3)
+pub operator_count : (op : Op) (w : ℕ) (ws : List ℕ) → fits_operator op w ws ≡ true → (length ws ≡ (operator_row op).arity) × (length ws ≤ 3)
 operator_count Add w ws h = exactly ws (w ∷ w ∷ []) h (omega arith)
 operator_count Sub w ws h = exactly ws (w ∷ w ∷ []) h (omega arith)
 operator_count Mul w ws h = exactly ws (w ∷ w ∷ []) h (omega arith)
@@ -95,7 +87,7 @@ values_count (x ∷ ds) (suc o) d ws h is = values_count ds o d ws h is
 
 -- ## What can be computed from numbers and tables alone
 
-shift_count : (op : Op) → is_shift op ≡ true → (row_of op).arity ≡ 2
+shift_count : (op : Op) → is_shift op ≡ true → (operator_row op).arity ≡ 2
 shift_count Add h = refl
 shift_count Sub h = refl
 shift_count Mul h = refl

@@ -9,25 +9,26 @@ use Rattle.packet_fields.specs.Table.{row}
 use Rattle.state_store.specs.declared.object.ObjectDecl.{ObjectDecl}
 use Rattle.state_store.specs.Kept.{have_widths, IsKeptObject, IsKept}
 use Rattle.state_store.specs.Kinds.{is_table, is_map}
-use Rattle.state_store.specs.Store.{Object, Store, object_at, looked_up, put_answer}
+use Rattle.state_store.specs.Store.{Object, Store, object_at, looked_up, put_answer, is_stored}
 use Rattle.state_store.specs.Store as store
 use Rattle.gal_bits.specs.declared.op.Op.TheVariants.{Select}
 use Rattle.flat_ir.specs.declared.program.ValueId.{ValueId}
 use Rattle.flat_ir.specs.declared.program.FieldValue.{FieldValue}
-use Rattle.flat_ir.specs.Arrivals.{IsArrival}
+use Rattle.packet_fields.specs.Arrivals.{IsArrival}
 use Rattle.flat_ir.specs.Program.{Program, Work, step_at, value_widths, result_widths, width_of_value}
 use Rattle.flat_ir.specs.Program.Work.{const, field, apply, shift, select, byte, look, put, del}
 use Rattle.flat_ir.specs.Blocks.{Reading, is_live}
-use Rattle.flat_ir.specs.Run.{Change, Machine, do_step, bit, is_stored, made, change_of, with_changes, results, with_results, after}
+use Rattle.flat_ir.specs.Run.{Change, Machine, do_step, bit, made, change_of, with_changes, results, with_results, after}
 use Rattle.flat_ir.specs.Fits.{fits_keys, fits_values, can_put, can_del, widths_of, fits}
 use Rattle.flat_ir.specs.WellFormed.{IsWellFormed, IsWritten}
 use Rattle.flat_ir.specs.Writable.{IsWritable}
 use Rattle.flat_ir.specs.Laws.{AllFit, KeepsWidths}
 use Rattle.flat_ir.proofs.Parts.{left, right, not_true}
-use Rattle.flat_ir.proofs.Fitting.{same_list}
+use Rattle.gal_bits.specs.Fits.{operator_fits, same_list}
 use Rattle.flat_ir.proofs.Readings.{each_weaker}
 use Rattle.flat_ir.proofs.Runs.{set_own, set_other}
-use Rattle.flat_ir.proofs.Widths.{at_widths, one_width, zeros_have_widths, operator_fits, field_fits}
+use Rattle.packet_fields.specs.Fitting.{field_fits}
+use Rattle.state_store.specs.Widths.{at_widths, one_width, zeros_have_widths}
 use Rattle.state_store.specs.Keeping.{put_is_kept, del_is_kept}
 
 mapped : (f : Program) (reads : Reading) → AllFit f reads → (vs : List ValueId) → have_widths (widths_of f vs) (map reads vs) ≡ true

@@ -7,7 +7,7 @@ use Rattle.std.proofs.lemmas.Bool.{cases_eq, cases_lt, eq-eqb, ne_eqb, eqb-false
 use Rattle.std.proofs.lemmas.List.Elements.{All-nil, All-cons, All-head, All-tail, All-push, All-weaker, All-contains, Contains-push_cases}
 use Rattle.std.proofs.lemmas.List.Sorted.{All-permutation, length_permutation, sum_by_pushed, sum_by_popped}
 use Rattle.std.proofs.lemmas.List.Sums.{sum_by_push, count_by-le-length}
-use Rattle.slot_table.specs.Table.{Rows}
+use Rattle.slot_table.specs.Table.{Contents}
 use Rattle.flat_ir.specs.declared.spans.Span.{Span}
 use Rattle.flat_ir.specs.declared.taken.Taken.{Taken}
 use Rattle.flat_ir.specs.Spans.{last_step, covers, overlap, spans_of}
@@ -75,26 +75,26 @@ all_last P (x ∷ xs) y all = all_last P xs y (All-tail P x (xs ++ y ∷ []) all
 
 -- ---- a free register
 -- no span whose value is in the register reaches this span
-abbrev IsFreeOf : Rows → ℕ → Span → Span → Type 0
+abbrev IsFreeOf : Contents → ℕ → Span → Span → Type 0
 IsFreeOf rows register span s = register_in rows s.value ≡ Some register → last_step s < span.from
 
-abbrev Outlasts : Rows → Span → Taken → Type 0
+abbrev Outlasts : Contents → Span → Taken → Type 0
 Outlasts rows s entry = register_in rows s.value ≡ Some entry.register → last_step s ≤ entry.last.0
 
-free_again : (done : List Span) (rows : Rows) (old rest : List Taken) (span : Span) (last register : ℕ)
+free_again : (done : List Span) (rows : Contents) (old rest : List Taken) (span : Span) (last register : ℕ)
     → AreOutlasted done rows old → IsPermutation old (entry_of last register ∷ rest) → last < span.from → All (IsFreeOf rows register span) done
 free_again done rows old rest span last register out was before = All-weaker (λ s. All (Outlasts rows s) old) (IsFreeOf rows register span)
     (λ s all has. let lasts : last_step s ≤ last = All-head (Outlasts rows s) (entry_of last register) rest (All-permutation (Outlasts rows s) old (entry_of last register ∷ rest) was all) has in omega arith)
     done out
 
-free_new : (done : List Span) (rows : Rows) (count : ℕ) (span : Span) → AreBelow rows count → All (IsFreeOf rows count span) done
+free_new : (done : List Span) (rows : Contents) (count : ℕ) (span : Span) → AreBelow rows count → All (IsFreeOf rows count span) done
 free_new done rows count span below k d lt has = absurd (omega (arith, below _ count has))
 
 -- ---- what is given
 differs : (done : List Span) (value : ℕ) → spans_of done value ≡ 0 → All (λ s. s.value ≢ value) done
 differs done value none = All-weaker (λ s. (s.value == value) ≡ false) (λ s. s.value ≢ value) (λ s e. eqb-false s.value value e) done (none_counted (λ s. s.value == value) done none)
 
-more_given : (done : List Span) (rows : Rows) (n m : ℕ) (span : Span) (register : ℕ)
+more_given : (done : List Span) (rows : Contents) (n m : ℕ) (span : Span) (register : ℕ)
     → AreGiven done rows n → spans_of done span.value ≡ 0 → All (IsFreeOf rows register span) done → n ≤ m → register < m
     → AreGiven (done ++ span ∷ []) (given rows span.value register) m
 more_given done rows n m span register g new free grown below = record {
@@ -210,7 +210,7 @@ enough_new done old new span register e begun none pushed size =
 
 -- ---- what is taken
 -- what each span that came before, and this one, says of the registers that are taken
-outlast_more : (done : List Span) (rows : Rows) (rest new : List Taken) (span : Span) (register : ℕ)
+outlast_more : (done : List Span) (rows : Contents) (rest new : List Taken) (span : Span) (register : ℕ)
     → spans_of done span.value ≡ 0 → AreOutlasted done rows rest → All (IsFreeOf rows register span) done → All (λ entry. entry.register ≢ register) rest
     → IsPermutation (entry_of (last_step span) register ∷ rest) new
     → AreOutlasted (done ++ span ∷ []) (given rows span.value register) new
@@ -241,7 +241,7 @@ others : (rest : List Taken) (register : ℕ) → times_taken rest register ≡ 
 others rest register none = All-weaker (λ entry. (entry.register == register) ≡ false) (λ entry. entry.register ≢ register)
     (λ entry e. eqb-false entry.register register e) rest (none_counted (λ entry. entry.register == register) rest none)
 
-taken_again : (done : List Span) (rows : Rows) (old rest new : List Taken) (span : Span) (last register : ℕ)
+taken_again : (done : List Span) (rows : Contents) (old rest new : List Taken) (span : Span) (last register : ℕ)
     → spans_of done span.value ≡ 0 → AreTaken done rows old → IsPermutation old (entry_of last register ∷ rest) → last < span.from
     → IsPermutation (entry_of (last_step span) register ∷ rest) new → IsHeap taken_cmp new → length new ≡ length old
     → AreTaken (done ++ span ∷ []) (given rows span.value register) new
@@ -265,7 +265,7 @@ taken_again done rows old rest new span last register fresh t was before pushed 
           (others rest register none) pushed;
     }
 
-taken_new : (done : List Span) (rows : Rows) (old new : List Taken) (span : Span)
+taken_new : (done : List Span) (rows : Contents) (old new : List Taken) (span : Span)
     → spans_of done span.value ≡ 0 → AreTaken done rows old → AreBelow rows (length old)
     → IsPermutation (entry_of (last_step span) (length old) ∷ old) new → IsHeap taken_cmp new → length new ≡ length old + 1
     → AreTaken (done ++ span ∷ []) (given rows span.value (length old)) new
@@ -289,7 +289,7 @@ taken_new done rows old new span fresh t below pushed heap size =
     }
 
 -- ---- the step
-planned_again : (done : List Span) (rows : Rows) (old rest new : List Taken) (span : Span) (last register : ℕ)
+planned_again : (done : List Span) (rows : Contents) (old rest new : List Taken) (span : Span) (last register : ℕ)
     → IsPlanned done rows old → spans_of done span.value ≡ 0 → All (Begun span.from) done
     → IsPermutation old (entry_of last register ∷ rest) → last < span.from
     → IsPermutation (entry_of (last_step span) register ∷ rest) new → IsHeap taken_cmp new
@@ -307,7 +307,7 @@ planned_again done rows old rest new span last register p fresh begun was before
           (free_again done rows old rest span last register p.registers.outlast was before) (omega arith) (omega arith);
     }
 
-planned_new : (done : List Span) (rows : Rows) (old new : List Taken) (span : Span)
+planned_new : (done : List Span) (rows : Contents) (old new : List Taken) (span : Span)
     → IsPlanned done rows old → spans_of done span.value ≡ 0 → All (Begun span.from) done
     → All (λ entry. span.from ≤ entry.last.0) old
     → IsPermutation (entry_of (last_step span) (length old) ∷ old) new → IsHeap taken_cmp new
@@ -322,7 +322,7 @@ planned_new done rows old new span p fresh begun none pushed heap =
           (free_new done rows (length old) span p.given.below) (omega arith) (omega arith);
     }
 
-pub planned_more : (done : List Span) (rows : Rows) (old new : List Taken) (span : Span) (register : ℕ)
+pub planned_more : (done : List Span) (rows : Contents) (old new : List Taken) (span : Span) (register : ℕ)
     → IsPlanned done rows old → spans_of done span.value ≡ 0 → All (Begun span.from) done → IsTaken span old new register
     → IsPlanned (done ++ span ∷ []) (given rows span.value register) new
 planned_more done rows old new span register p fresh begun t = elim t.found [

@@ -9,7 +9,7 @@ use Rattle.std.proofs.lemmas.List.{take_more, take_all, get_or-take, length-take
 use Rattle.std.proofs.lemmas.List.Elements.{All-nil}
 use Rattle.std.proofs.lemmas.List.Sorted.{Contains-permutation, sum_by-IsPermutation}
 use Rattle.std.proofs.lemmas.List.Sums.{sum_by_more_le}
-use Rattle.slot_table.specs.Table.{Rows, Table, key_cmp, is_full}
+use Rattle.slot_table.specs.Table.{Contents, Table, key_cmp, is_table_full}
 use Rattle.flat_ir.specs.declared.spans.Span.{Span}
 use Rattle.flat_ir.specs.declared.taken.Taken.{Taken}
 use Rattle.flat_ir.specs.Spans.{last_step, covers, spans_of, ValuesDiffer}
@@ -42,13 +42,13 @@ planned_none heap = record {
   };
 }
 
-pub starts : (rows : Rows) (taken : List Taken) → rows ≡ empty → taken ≡ [] → IsHeap taken_cmp taken → IsPlanned [] rows taken
-starts rows taken e f heap = subst (λ (given_rows : Rows). IsPlanned [] given_rows taken) (sym e)
+pub starts : (rows : Contents) (taken : List Taken) → rows ≡ empty → taken ≡ [] → IsHeap taken_cmp taken → IsPlanned [] rows taken
+starts rows taken e f heap = subst (λ (given_rows : Contents). IsPlanned [] given_rows taken) (sym e)
     (subst (λ (entries : List Taken). IsPlanned [] empty entries) (sym f) (planned_none (subst (IsHeap taken_cmp) f heap)))
 
 -- ---- one more
 pub stored : (table : Table) (value register n : ℕ) → len table.rows ≤ n → n < table.capacity
-    → (if is_full table (value ∷ []) then table.rows else insert table.rows (value ∷ []) (register ∷ [])) ≡ given table.rows value register
+    → (if is_table_full table (value ∷ []) then table.rows else insert table.rows (value ∷ []) (register ∷ [])) ≡ given table.rows value register
 stored table value register n few room = rw (and_right (not (contains_key table.rows (value ∷ []))) (nat_le table.capacity (len table.rows)) (lt-leb table.capacity (len table.rows) (omega arith))) refl
 
 fresh : (spans sorted : List Span) (i : ℕ) (d : Span) → i < length sorted → ValuesDiffer spans → IsPermutation spans sorted
@@ -68,7 +68,7 @@ begun sorted i d lt rising k e below =
     let short : k < i = omega (arith, below, length-take i sorted) in
     subst (λ (s : Span). s.from ≤ (get_or sorted i d).from) (sym (get_or-take i sorted k e short)) (subst (λ (s : Span). (get_or sorted k e).from ≤ s.from) (get_or_default sorted i e d lt) (rising k i e (omega arith) lt))
 
-pub one_more : (spans sorted : List Span) (i : ℕ) (d : Span) (rows : Rows) (old new : List Taken) (register : ℕ)
+pub one_more : (spans sorted : List Span) (i : ℕ) (d : Span) (rows : Contents) (old new : List Taken) (register : ℕ)
     → i < length sorted → ValuesDiffer spans → IsPermutation spans sorted → IsNonDecreasingBy (λ s. s.from) sorted
     → IsPlanned (take i sorted) rows old → IsTaken (get_or sorted i d) old new register
     → IsPlanned (take (i + 1) sorted) (given rows (get_or sorted i d).value register) new
@@ -77,14 +77,14 @@ one_more spans sorted i d rows old new register lt differ same rising p t =
     (planned_more (take i sorted) rows old new (get_or sorted i d) register p (fresh spans sorted i d lt differ same) (begun sorted i d lt rising) t)
 
 -- ---- all of them
-pub record IsMade (spans : List Span) (rows : Rows) (count : ℕ) : Type 0 where
+pub record IsMade (spans : List Span) (rows : Contents) (count : ℕ) : Type 0 where
   pub none : (value : ℕ) → spans_of spans value ≡ 0 → register_in rows value ≡ None
   pub some : (value : ℕ) → register_in rows value ≡ None → spans_of spans value ≡ 0
   pub below : AreBelow rows count
   pub apart : AreApart spans rows
   pub greatest : IsGreatestOverlap spans count
 
-pub made : (spans sorted : List Span) (i : ℕ) (rows : Rows) (taken : List Taken) → length sorted ≤ i → IsPermutation spans sorted
+pub made : (spans sorted : List Span) (i : ℕ) (rows : Contents) (taken : List Taken) → length sorted ≤ i → IsPermutation spans sorted
     → IsPlanned (take i sorted) rows taken → IsMade spans rows (length taken)
 made spans sorted i rows taken all same so_far =
     let p : IsPlanned sorted rows taken = subst (λ (done : List Span). IsPlanned done rows taken) (take_all i sorted all) so_far in

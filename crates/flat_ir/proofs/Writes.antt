@@ -3,8 +3,8 @@ use Rattle.std.proofs.Common.{◌≡◌, ℕ, zero, suc, Bool, true, false, List
 use Rattle.std.proofs.lemmas.Bool.{true≢false}
 use Rattle.state_store.specs.declared.store.Put.{Put}
 use Rattle.state_store.specs.declared.store.Put.TheVariants.{Stored, Full, OutOfRange}
-use Rattle.state_store.specs.Store.{Object, Store, object_at, with_object, put_answer, put_row, is_out, is_full}
-use Rattle.flat_ir.specs.Run.{Change, is_stored, made, put_change, with_changes}
+use Rattle.state_store.specs.Store.{Object, Store, object_at, with_object, put_answer, put_row, is_out, is_full, is_stored}
+use Rattle.flat_ir.specs.Run.{Change, made, put_change, with_changes}
 
 -- to set an object to itself changes nothing
 set_self : (st : Store) (o : ℕ) → with_object st o (object_at st o) ≡ st

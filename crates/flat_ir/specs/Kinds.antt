@@ -1,6 +1,6 @@
 -- Kinds of instructions, as a split sees them.
 use Rattle.std.specs.Prelude.{Bool, true, false, not, ◌&&◌, ◌||◌, List, [], ◌∷◌}
-use Rattle.gal_bits.specs.Operators.{row_of}
+use Rattle.gal_bits.specs.Operators.{operator_row}
 use Rattle.flat_ir.specs.declared.program.ValueId.{ValueId}
 use Rattle.flat_ir.specs.Program.{Program, Work, Step, operands}
 use Rattle.flat_ir.specs.Program.Work.{const, field, apply, shift, select, byte, look, put, del}
@@ -10,7 +10,7 @@ use Rattle.flat_ir.specs.WellFormed.{is_constant}
 abbrev pub can_switch : Work → Bool
 can_switch (const width number) = true
 can_switch (field name) = true
-can_switch (apply op width args) = (row_of op).on_switch
+can_switch (apply op width args) = (operator_row op).on_switch
 can_switch (shift op width arg by) = true
 can_switch (select width cond first second) = true
 can_switch (byte index) = false

@@ -3,7 +3,7 @@ use Rattle.std.specs.Prelude.{ℕ, suc, Bool, true, false, List, [], ◌∷◌, 
 use Rattle.std.specs.Option.{option_map}
 use Rattle.gal_bits.specs.declared.op.Op.{Op}
 use Rattle.gal_bits.specs.declared.op.Op.TheVariants.{Select}
-use Rattle.gal_bits.specs.Operators.{row_of}
+use Rattle.gal_bits.specs.Operators.{operator_row}
 use Rattle.packet_fields.specs.Table.{row}
 use Rattle.state_store.specs.declared.object.ObjectDecl.{ObjectDecl}
 use Rattle.flat_ir.specs.declared.program.ValueId.{ValueId}
@@ -26,7 +26,7 @@ values_text (v ∷ vs) = codes " " ++ (value_text v ++ values_text vs)
 
 -- an operator's name, its width and its arguments
 abbrev pub operator_text : Op → ℕ → List ValueId → List ℕ
-operator_text op width args = (row_of op).name ++ (codes " " ++ (decimal width ++ values_text args))
+operator_text op width args = (operator_row op).name ++ (codes " " ++ (decimal width ++ values_text args))
 
 -- the name of the object of a number
 abbrev pub name_of : List ObjectDecl → ℕ → List ℕ

@@ -1,6 +1,6 @@
 -- Which instructions can be computed from numbers and tables alone.
 use Rattle.std.specs.Prelude.{◌≡◌, ◌≤◌, length}
-use Rattle.gal_bits.specs.Operators.{row_of}
+use Rattle.gal_bits.specs.Operators.{operator_row}
 use Rattle.flat_ir.specs.Program.{Work}
 use Rattle.flat_ir.specs.Program.Work.{const, field, apply, shift, select, byte, look, put, del}
 
@@ -18,8 +18,8 @@ HasFewKeys (del object keys) = Unit {0}
 
 -- an operator has as many arguments as it takes, and a key has at most 8 numbers
 abbrev pub CanRun : Work → Type 0
-CanRun (apply op width args) = (length args ≡ (row_of op).arity) × (length args ≤ 8)
-CanRun (shift op width arg by) = (row_of op).arity ≡ 2
+CanRun (apply op width args) = (length args ≡ (operator_row op).arity) × (length args ≤ 8)
+CanRun (shift op width arg by) = (operator_row op).arity ≡ 2
 CanRun (look object keys) = length keys ≤ 8
 CanRun (const width number) = Unit {0}
 CanRun (field name) = Unit {0}

@@ -3,21 +3,21 @@ use Rattle.std.specs.Prelude.{◌≡◌, ◌≢◌, ℕ, ◌<◌, ◌≤◌, tru
 use Rattle.std.specs.Coded.{Coded, code_by, coded×, coded_ℕ, coded_list}
 use Rattle.std.specs.Option.{option_map}
 use Rattle.std.specs.FinMap as map
-use Rattle.slot_table.specs.Table.{Rows}
+use Rattle.slot_table.specs.Table.{Contents}
 use Rattle.flat_ir.specs.declared.spans.Span.{Span}
 use Rattle.flat_ir.specs.Spans.{covers, overlap}
 
 -- rows from values to registers, and how many registers there are
 pub record Plan : Type 0 where
-  pub rows : Rows
+  pub rows : Contents
   pub count : ℕ
 
 abbrev pub plan_code : Coded Plan
 plan_code =
-    code_by (Rows × ℕ) (coded× (map.code (coded_list coded_ℕ) (coded_list coded_ℕ)) coded_ℕ)
+    code_by (Contents × ℕ) (coded× (map.code (coded_list coded_ℕ) (coded_list coded_ℕ)) coded_ℕ)
     (λ p. (p.rows, p.count)) (λ p. record { rows = p.0; count = p.1 }) (λ _. refl)
 
-abbrev pub register_in : Rows → ℕ → Option ℕ
+abbrev pub register_in : Contents → ℕ → Option ℕ
 register_in rows value = option_map (λ words. slice_index words 0) (map.get rows (value ∷ []))
 
 -- the register of a value, if it has one
@@ -25,11 +25,11 @@ abbrev pub register_of : Plan → ℕ → Option ℕ
 register_of plan value = register_in plan.rows value
 
 -- each register is below a number
-abbrev pub AreBelow : Rows → ℕ → Type 0
+abbrev pub AreBelow : Contents → ℕ → Type 0
 AreBelow rows count = (value register : ℕ) → register_in rows value ≡ Some register → register < count
 
 -- two values that are needed at one step have two registers
-abbrev pub AreApart : List Span → Rows → Type 0
+abbrev pub AreApart : List Span → Contents → Type 0
 AreApart spans rows = (a b : Span) (step : ℕ) → Contains spans a → Contains spans b → a.value ≢ b.value
     → covers step a ≡ true → covers step b ≡ true → register_in rows a.value ≢ register_in rows b.value
 

@@ -2,7 +2,7 @@
 use Rattle.std.specs.Prelude.{◌≡◌, ℕ, ◌<◌, ◌≤◌, ◌==◌, nat_le, List, length, count_by, Some, None, All}
 use Rattle.std.specs.BinaryHeap.{IsHeap}
 use Rattle.std.specs.FinMap as map
-use Rattle.slot_table.specs.Table.{Rows}
+use Rattle.slot_table.specs.Table.{Contents}
 use Rattle.flat_ir.specs.declared.spans.Span.{Span}
 use Rattle.flat_ir.specs.declared.taken.Taken.{Taken}
 use Rattle.flat_ir.specs.Spans.{last_step, overlap, spans_of}
@@ -18,12 +18,12 @@ abbrev pub times_taken : List Taken → ℕ → ℕ
 times_taken taken register = count_by (λ entry. entry.register == register) taken
 
 -- each register is taken at least as long as the spans of its values last
-abbrev pub AreOutlasted : List Span → Rows → List Taken → Type 0
+abbrev pub AreOutlasted : List Span → Contents → List Taken → Type 0
 AreOutlasted done rows taken = All (λ span. All (λ entry. register_in rows span.value ≡ Some entry.register
     → last_step span ≤ entry.last.0) taken) done
 
 -- the registers that are taken, each once
-pub record AreTaken (done : List Span) (rows : Rows) (taken : List Taken) : Type 0 where
+pub record AreTaken (done : List Span) (rows : Contents) (taken : List Taken) : Type 0 where
   pub heap : IsHeap taken_cmp taken
   pub once : (register : ℕ) → times_taken taken register ≤ 1
   pub below : All (λ entry. entry.register < length taken) taken
@@ -37,14 +37,14 @@ pub record AreEnough (done : List Span) (taken : List Taken) : Type 0 where
   pub some : (step : ℕ) × (overlap done step ≡ length taken)
 
 -- the registers that were given so far
-pub record AreGiven (done : List Span) (rows : Rows) (count : ℕ) : Type 0 where
+pub record AreGiven (done : List Span) (rows : Contents) (count : ℕ) : Type 0 where
   pub none : (value : ℕ) → spans_of done value ≡ 0 → register_in rows value ≡ None
   pub some : (value : ℕ) → register_in rows value ≡ None → spans_of done value ≡ 0
   pub below : AreBelow rows count
   pub apart : AreApart done rows
   pub few : map.len rows ≤ length done
 
-pub record IsPlanned (done : List Span) (rows : Rows) (taken : List Taken) : Type 0 where
+pub record IsPlanned (done : List Span) (rows : Contents) (taken : List Taken) : Type 0 where
   pub registers : AreTaken done rows taken
   pub enough : AreEnough done taken
   pub given : AreGiven done rows (length taken)

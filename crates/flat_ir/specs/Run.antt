@@ -7,9 +7,7 @@ use Rattle.packet_fields.specs.declared.packet.Packet.{Packet}
 use Rattle.packet_fields.specs.declared.verdict.Verdict.{Verdict}
 use Rattle.packet_fields.specs.declared.verdict.Verdict.TheVariants.{Drop, Send}
 use Rattle.packet_fields.specs.Fields.{field_value, with_field}
-use Rattle.state_store.specs.declared.store.Put.{Put}
-use Rattle.state_store.specs.declared.store.Put.TheVariants.{Stored, Full, OutOfRange}
-use Rattle.state_store.specs.Store.{Store, object_at, with_object, looked_up, put_answer, put_row, del_row}
+use Rattle.state_store.specs.Store.{Store, object_at, with_object, looked_up, put_answer, is_stored, put_row, del_row}
 use Rattle.state_store.specs.Store as store
 use Rattle.flat_ir.specs.declared.program.FieldValue.{FieldValue}
 use Rattle.flat_ir.specs.declared.program.ValueId.{ValueId}
@@ -20,11 +18,6 @@ use Rattle.flat_ir.specs.Blocks.{Reading, nothing, is_live}
 abbrev pub bit : Bool → ℕ
 bit true = 1
 bit false = 0
-
-abbrev pub is_stored : Put → Bool
-is_stored Stored = true
-is_stored Full = false
-is_stored OutOfRange = false
 
 -- a write of an object that took effect: the values under the key, or none where the row is gone
 pub record Change : Type 0 where

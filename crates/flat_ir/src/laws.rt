@@ -7,7 +7,7 @@ ghost use Rattle.state_store.specs.Kept.{IsKept};
 ghost use Rattle.state_store.specs.Store.{Store};
 ghost use Rattle.flat_ir.specs.declared.program.ValueId.{ValueId as Value};
 ghost use Rattle.flat_ir.specs.declared.program.Block.{Block};
-ghost use Rattle.flat_ir.specs.Arrivals.{IsArrival};
+ghost use Rattle.packet_fields.specs.Arrivals.{IsArrival};
 ghost use Rattle.flat_ir.specs.Program.{Program, Work, operands, step_at};
 ghost use Rattle.flat_ir.specs.Blocks.{Reading, block_at, holds, is_live, is_on, line, same, HasLowParents};
 ghost use Rattle.flat_ir.specs.Run.{Machine, after, change_of, do_step, results};

@@ -26,7 +26,8 @@ use Rattle.flatten.specs.declared.place.Ending.TheVariants.{No, Yes, Maybe}
 use Rattle.flatten.specs.Flatten.{Given, View, At, Valued, Listed, Flattener, result_of, or_nought, value_at, nought, one, nought_port, emit, give, opened, below, operation, merge_id, merge_ids, field_widths, merge_ended, ended_id, ends, join, follow, go_on, in_order, flat_expr, flat_exprs, bound, bound_to, assigned, finished, kept, in_scope, looping, second_side, flat_turn, flat_turns, flat_stmt, flat_body, constants}
 use Rattle.flatten.specs.Occurs.{same_field, is_in_expr, is_in_exprs, is_in_stmt, is_in_body}
 use Rattle.flatten.proofs.BothParts.{left, right}
-use Rattle.flatten.proofs.Fitting.{same_list, field_width_at}
+use Rattle.gal_bits.specs.Fits.{same_list}
+use Rattle.packet_fields.specs.FieldOrder.{field_width_at}
 use Rattle.packet_fields.specs.FieldOrder.{at_index}
 use Rattle.flatten.proofs.GoodSizes.{Wide, wide_in, wide_both, field_wide, binds_wide}
 use Rattle.flatten.proofs.Growth.{Grows, grows, then_grows, emit_grows, open_grows, expr_grows, exprs_grow, merge_id_grows, merge_ids_grow, merge_ended_grows, join_grows, Growing, second_grows, turn_grows, turns_grow, stmt_grows, body_grows}

@@ -3,6 +3,7 @@ use Rattle.std.proofs.Common.{◌≡◌, ℕ, zero, suc, ◌<◌, ◌≤◌, ◌
 use Rattle.std.proofs.Math.Seq.{get_or-append_seam}
 use Rattle.std.proofs.lemmas.Bool.{cases_lt, and_from, lt-ltb, or_cases}
 use Rattle.std.specs.List.{list_any, AllByRecursion as Each}
+use Rattle.std.proofs.lemmas.Option.{none-some, same_Some}
 use Rattle.flat_ir.specs.declared.program.ValueId.{ValueId}
 use Rattle.flat_ir.specs.declared.program.Block.{Block}
 use Rattle.flat_ir.specs.Program as flat
@@ -403,19 +404,13 @@ module _ (F : Program) where
     pub there : HasId x → HasId y → HasId r.id
     pub alike : x ≡ y → r.id ≡ x
 
-  some_same : {X : Type 0} (x y : X) → Some x ≡ Some y → x ≡ y
-  some_same x y e = cc
-
-  none_some : {X : Type 0} (x : X) → Some x ≡ None → ⊥
-  none_some x e = cc
-
   merge_option_formed : (p : Place) (v : ValueId) (w : ℕ) (x y : Option ValueId) (g : Given) → IsPart (merge_option p v w x y g).given → IsFormed g → Open g p.block → Ready p.block (length g.code) 1 v
       → HasOption (Sided p.block (length g.code) v true) w x → HasOption (Sided p.block (length g.code) v false) w y → ChosenOption p.block w x y (merge_option p v w x y g)
   merge_option_formed p v w None y g part h open_ rv rx ry = record { formed = h; ready = tt; there = λ i j. i; alike = λ e. refl }
-  merge_option_formed p v w (Some a) None g part h open_ rv rx ry = record { formed = h; ready = tt; there = λ i j. j; alike = λ e. absurd (none_some a e) }
+  merge_option_formed p v w (Some a) None g part h open_ rv rx ry = record { formed = h; ready = tt; there = λ i j. j; alike = λ e. absurd (none-some a (sym e)) }
   merge_option_formed p v w (Some a) (Some b) g part h open_ rv rx ry =
       let s = merge_id_formed p v w a b g part h open_ rv rx ry in
-      record { formed = s.formed; ready = s.ready; there = λ i j. tt; alike = λ e. ap Some (s.alike (some_same a b e)) }
+      record { formed = s.formed; ready = s.ready; there = λ i j. tt; alike = λ e. ap Some (s.alike (same_Some a b e)) }
 
   pub record ChosenAll (k : ℕ) (ws : List ℕ) (xs ys : List (Option ValueId)) (r : Scoped) : Type 0 where
     pub formed : IsFormed r.given

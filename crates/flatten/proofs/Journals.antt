@@ -17,7 +17,7 @@ use Rattle.flatten.specs.declared.entry.Entry.{Entry}
 use Rattle.flatten.specs.declared.entry.Change.{Change}
 use Rattle.flatten.specs.declared.place.Place.{Place}
 use Rattle.flatten.specs.Flatten.{Given, View, At, Scoped, join, same_id, give, merge_id, merge_option, merge_ids, kept, in_scope, leave}
-use Rattle.flatten.specs.Journal.{Past, before, undone, with_locals, locals_of, value_or_none, change_at, second_at, with_first, IsOther, AreRising, AreOn, AreSides, AreAssigned, merge_each, merge_rest, leave_each}
+use Rattle.flatten.specs.Journal.{Past, before, undone, with_locals, entry_locals, value_or_none, change_at, second_at, with_first, IsOther, AreRising, AreOn, AreSides, AreAssigned, merge_each, merge_rest, leave_each}
 use Rattle.flatten.specs.Pending.{placed, scoped, merged, valued}
 use Rattle.flatten.proofs.Meanings.{same_itself}
 
@@ -47,7 +47,7 @@ pub set_same : (xs : Ids) (x : ℕ) (id : Option ValueId) → value_or_none xs x
 set_same xs x id e = sym (set-get_or xs x None) ∙ ap (slice_set xs x) e
 
 -- the values of locals that none of the entries is of
-pub undone_other : (es : List Entry) (xs : Ids) (x : ℕ) → (Contains (locals_of es) x → ⊥) → value_or_none (undone es xs) x ≡ value_or_none xs x
+pub undone_other : (es : List Entry) (xs : Ids) (x : ℕ) → (Contains (entry_locals es) x → ⊥) → value_or_none (undone es xs) x ≡ value_or_none xs x
 undone_other [] xs x other = refl
 undone_other (e ∷ es) xs x other =
     get_or-set_other (undone es xs) e.local x e.before None (λ same. other (zero, omega arith, sym same))
@@ -88,15 +88,15 @@ sides_told es fs now xs are =
     }
 
 -- what is left of all locals of entries once they are sorted and each is there once
-pub assigned_told : (es fs : List Entry) (all sorted xs : List ℕ) → all ≡ locals_of es ++ locals_of fs → IsPermutation all sorted → IsSorted nat_cmp sorted → IsFiltered (DiffersFromLast eqb) [] sorted xs → AreAssigned es fs xs
+pub assigned_told : (es fs : List Entry) (all sorted xs : List ℕ) → all ≡ entry_locals es ++ entry_locals fs → IsPermutation all sorted → IsSorted nat_cmp sorted → IsFiltered (DiffersFromLast eqb) [] sorted xs → AreAssigned es fs xs
 assigned_told es fs all sorted xs is moved inorder left =
     let e : xs ≡ dedup eqb sorted = dedup_is eqb sorted xs left in
-    let among : (x : ℕ) → Contains (locals_of es ++ locals_of fs) x → Contains xs x =
+    let among : (x : ℕ) → Contains (entry_locals es ++ entry_locals fs) x → Contains xs x =
     λ x h. subst (λ l. Contains l x) (sym e) (Contains-dedup_nat sorted x (Contains-permutation all sorted x moved (subst (λ l. Contains l x) (sym is) h))) in
     record {
       rising = subst IsStrictlyIncreasing (sym e) (IsStrictlyIncreasing-dedup sorted inorder);
-      firsts = λ x h. among x (Contains-append_left (locals_of es) (locals_of fs) x h);
-      seconds = λ x h. among x (Contains-append_right (locals_of es) (locals_of fs) x h);
+      firsts = λ x h. among x (Contains-append_left (entry_locals es) (entry_locals fs) x h);
+      seconds = λ x h. among x (Contains-append_right (entry_locals es) (entry_locals fs) x h);
     }
 
 firsts_told : (first second : Ids) (xs : List ℕ) → map (with_first first) (map (second_at second) xs) ≡ map (change_at first second) xs

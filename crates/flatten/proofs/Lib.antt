@@ -5,8 +5,6 @@ pub mod Trees
 pub mod GoodSizes
 pub mod Branches
 pub mod BothParts
-pub mod Fitting
-pub mod KeptRuns
 pub mod Views
 pub mod Meanings
 pub mod Writes

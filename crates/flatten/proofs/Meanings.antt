@@ -39,13 +39,14 @@ use Rattle.flatten.specs.Flatten.{Given, View, At, Valued, Listed, Scoped, Merge
 use Rattle.flatten.specs.Occurs.{same_field, is_in_expr, is_in_exprs, is_in_stmt, is_in_body}
 use Rattle.flatten.proofs.BothParts.{left, right}
 use Rattle.flatten.proofs.Views.{Below, InRange, Meets, Agree, HasId, IsThere, range_more, range_at, range_set, meets_more, agree_more, agree_at, agree_set, there_set, there_new, Knows, known_at, knows_later, range_scope, agree_scope, there_scope}
-use Rattle.flatten.proofs.Fitting.{AtWidths, at_place}
+use Rattle.state_store.specs.Widths.{AtWidths, at_place}
 use Rattle.packet_fields.specs.FieldOrder.{at_index}
 use Rattle.flatten.proofs.Writes.{bit_same, put_tells, del_tells}
 use Rattle.std.proofs.lemmas.List.{get_or-set_other}
+use Rattle.std.proofs.lemmas.Option.{none-some, same_Some}
 use Rattle.packet_fields.specs.declared.field.Field.TheVariants.{MetaPort}
-use Rattle.flatten.proofs.KeptRuns.{Fits, value_fits, bound_fits, stmt_fits}
-use Rattle.flat_ir.specs.Arrivals.{IsArrival}
+use Rattle.element_lang.specs.KeptRuns.{Fits, value_fits, bound_fits, stmt_fits}
+use Rattle.packet_fields.specs.Arrivals.{IsArrival}
 
 -- ## Lines of blocks
 
@@ -386,20 +387,14 @@ module _ (F : Program) (st0 : Store) (packet : Packet) where
     pub second : get g v ≡ 0 → MayPass w g y r.given r.id
     pub alike : x ≡ y → r.id ≡ x
 
-  some_same : {X : Type 0} (x y : X) → Some x ≡ Some y → x ≡ y
-  some_same x y e = cc
-
-  none_some : {X : Type 0} (x : X) → Some x ≡ None → ⊥
-  none_some x e = cc
-
   merge_option_chosen : (p : Place) (v : ValueId) (w : ℕ) (x y : Option ValueId) (g : Given) → Below (length g.code) x → ChosenOption v w x y g (merge_option p v w x y g)
   merge_option_chosen p v w None y g lt =
       record { grows = grows_refl g; inside = tt; store = refl; there = λ h h'. h; first = λ on u lt is. tt; second = λ off u lt is. tt; alike = λ e. refl }
   merge_option_chosen p v w (Some a) None g lt =
-      record { grows = grows_refl g; inside = tt; store = refl; there = λ h h'. h'; first = λ on u lt is. tt; second = λ off u lt is. tt; alike = λ e. absurd (none_some a e) }
+      record { grows = grows_refl g; inside = tt; store = refl; there = λ h h'. h'; first = λ on u lt is. tt; second = λ off u lt is. tt; alike = λ e. absurd (none-some a (sym e)) }
   merge_option_chosen p v w (Some a) (Some b) g lt =
       let s = merge_id_chosen p v w a b g lt in
-      record { grows = s.grows; inside = s.inside; store = s.store; there = λ h h'. tt; first = s.first; second = s.second; alike = λ e. ap Some (s.alike (some_same a b e)) }
+      record { grows = s.grows; inside = s.inside; store = s.store; there = λ h h'. tt; first = s.first; second = s.second; alike = λ e. ap Some (s.alike (same_Some a b e)) }
 
   abbrev pub AllPass : List ℕ → Given → List (Option ValueId) → Given → List (Option ValueId) → Type 0
   AllPass ws g xs g' ys = (us : List ℕ) → AtWidths ws us → Agree (get g) xs us → Agree (get g') ys us

@@ -16,7 +16,7 @@ use Rattle.element_lang.specs.Widths.{local_widths}
 use Rattle.element_lang.specs.Rules.{is_good}
 use Rattle.element_lang.specs.Meaning.{Outcome, Running, Ended, do_body, start_state, store_after, verdict_after, source_run, source_store, source_verdict}
 use Rattle.flat_ir.specs.declared.program.ValueId.{ValueId}
-use Rattle.flat_ir.specs.Arrivals.{IsArrival}
+use Rattle.packet_fields.specs.Arrivals.{IsArrival}
 use Rattle.flat_ir.specs.Program as flat
 use Rattle.flat_ir.specs.Program.{Program}
 use Rattle.flat_ir.specs.Blocks.{Reading, block_at, HasLowParents}
@@ -26,7 +26,7 @@ use Rattle.flatten.specs.Occurs.{is_in_body}
 use Rattle.flatten.proofs.BothParts.{right}
 use Rattle.packet_fields.specs.FieldOrder.{at_index, index-lt, length-all_fields}
 use Rattle.flatten.proofs.Views.{Below, InRange, Meets, Agree, HasId, IsThere, below_more, meets_more, agree_more, range_none, agree_none}
-use Rattle.flatten.proofs.KeptRuns.{start_fits}
+use Rattle.element_lang.specs.KeptRuns.{start_fits}
 use Rattle.flatten.proofs.Meanings.{run, get, Grows, grows_refl, grows_trans, grows_emit, emit_length, emit_reads, emit_still, here_root, Based, based_later, Within, Shown, Going, Leaves, Stands, Sound, body_sound}
 use Rattle.flatten.proofs.Written.{FieldsStandAlone, IsPlace, HasPlaces, all_counted, written_all}
 
@@ -139,7 +139,7 @@ is_sent F packet reads by now e port small writes =
 
 -- ## The whole
 
-module _ (m : Tree) (st : Store) (packet : Packet) (good : is_good m ≡ true) (kept : IsKept m.objects st) (arrives : IsArrival packet) (small : (f : Field) → field_value packet.bytes packet.port f < 2 ^ (row f).width) where
+module _ (m : Tree) (st : Store) (packet : Packet) (good : is_good m ≡ true) (kept : IsKept m.objects st) (arrives : IsArrival packet) where
   abbrev occurs : Field → Bool
   occurs f = is_in_body f m.body
 
@@ -172,7 +172,7 @@ module _ (m : Tree) (st : Store) (packet : Packet) (good : is_good m ≡ true) (
 
     starts : Going F st packet m occurs g0 (start_view m) (start_state m st packet)
     starts = record {
-      fits = start_fits m st packet small kept;
+      fits = start_fits m st packet arrives kept;
       locals = agree_none (get F st packet g0) (length m.locals);
       fields = came.meets;
       still = λ f e. came_at (field_value packet.bytes packet.port) f;

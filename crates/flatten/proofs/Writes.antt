@@ -24,7 +24,7 @@ set_itself (o ∷ st) (suc n) = ap (λ l. o ∷ l) (set_itself st n)
 -- a put answers whether it has a place, and leaves the same store
 abbrev pub PutTells : Store → ℕ → List ℕ → List ℕ → Type 0
 PutTells st n key values =
-    (length (made true (put_change st n key values)) ≡ source.bit (source.is_stored (put_answer (object_at st n) key)))
+    (length (made true (put_change st n key values)) ≡ source.bit (store.is_stored (put_answer (object_at st n) key)))
     × (with_changes st (made true (put_change st n key values)) ≡ with_object st n (put_row (object_at st n) key values))
 
 put_by : (st : Store) (n : ℕ) (key values : List ℕ) (out full : Bool) → is_out (object_at st n).kind (object_at st n).size key ≡ out → is_full (object_at st n) key ≡ full → PutTells st n key values

@@ -5,6 +5,7 @@ use Rattle.gal_bits.specs.declared.op.Op.{Op}
 use Rattle.gal_bits.specs.declared.op.Op.TheVariants.{Select}
 use Rattle.packet_fields.specs.declared.field.Field.{Field}
 use Rattle.packet_fields.specs.Table.{row, all_fields, field_index}
+pub use Rattle.packet_fields.specs.Table.{field_widths}
 use Rattle.element_lang.specs.Tree.{ExprTree, Exprs, StmtTree, BodyTree, Tree}
 use Rattle.element_lang.specs.Tree.ExprTree.{lit, local, field, byte, shift, apply}
 use Rattle.element_lang.specs.Tree.Exprs.{no_expr, expr}
@@ -159,10 +160,6 @@ merge_ids p v (width ∷ ws) (a ∷ xs) (b ∷ ys) g =
     let r = merge_option p v width a b g in
     let rest = merge_ids p v ws xs ys r.given in
     record { given = rest.given; ids = r.id ∷ rest.ids }
-
--- the widths of the fields, in field order
-abbrev pub field_widths : List ℕ
-field_widths = map (λ f. (row f).width) all_fields
 
 -- all but whether the run has ended, which is taken from the second
 abbrev pub merge : List ℕ → Place → ValueId → View → View → Given → At

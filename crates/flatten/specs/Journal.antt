@@ -46,14 +46,14 @@ with_locals xs w = record w { locals = xs }
 -- ## What two sides assigned
 
 -- the locals of entries
-abbrev pub locals_of : List Entry → List ℕ
-locals_of = map (λ e. e.local)
+abbrev pub entry_locals : List Entry → List ℕ
+entry_locals = map (λ e. e.local)
 
 -- These are in rising order and have the locals of both lists of entries.
 pub record AreAssigned (first second : List Entry) (xs : List ℕ) : Type 0 where
   pub rising : IsStrictlyIncreasing xs
-  pub firsts : (x : ℕ) → Contains (locals_of first) x → Contains xs x
-  pub seconds : (x : ℕ) → Contains (locals_of second) x → Contains xs x
+  pub firsts : (x : ℕ) → Contains (entry_locals first) x → Contains xs x
+  pub seconds : (x : ℕ) → Contains (entry_locals second) x → Contains xs x
 
 abbrev pub value_or_none : List (Option ValueId) → ℕ → Option ValueId
 value_or_none xs x = get_or xs x None

@@ -5,7 +5,7 @@ use Rattle.state_store.specs.Kept.{IsKept}
 use Rattle.state_store.specs.Store.{Store}
 use Rattle.element_lang.specs.Tree.{Tree}
 use Rattle.element_lang.specs.Meaning.{source_store, source_verdict}
-use Rattle.flat_ir.specs.Arrivals.{IsArrival}
+use Rattle.packet_fields.specs.Arrivals.{IsArrival}
 use Rattle.flat_ir.specs.Program.{Program}
 use Rattle.flat_ir.specs.Run.{flat_store, flat_verdict}
 

@@ -6,7 +6,7 @@ ghost use Rattle.state_store.specs.Store.{Store};
 ghost use Rattle.element_lang.specs.Tree.{Tree};
 ghost use Rattle.element_lang.specs.Rules.{is_good};
 ghost use Rattle.element_lang.specs.Meaning.{source_store, source_verdict};
-ghost use Rattle.flat_ir.specs.Arrivals.{IsArrival};
+ghost use Rattle.packet_fields.specs.Arrivals.{IsArrival};
 ghost use Rattle.flat_ir.specs.Run.{flat_store, flat_verdict};
 ghost use Rattle.flat_ir.specs.WellFormed.{IsWellFormed};
 ghost use Rattle.flatten.specs.Flatten.{flat_of};

@@ -51,7 +51,7 @@ pub(crate) fn set(
 
 // The locals of entries, behind others.
 fn push_locals(locals: &mut Vec<u32>, entries: &[Entry]) -> Result<(), AllocError>
-    ensures { OnOk result (locals.new.items ≡ locals.old.items ++ pure.locals_of entries.now) }
+    ensures { OnOk result (locals.new.items ≡ locals.old.items ++ pure.entry_locals entries.now) }
 {
     for entry in entries {
         locals.push(entry.local)?;

@@ -249,11 +249,13 @@ impl Output {
         for turn in 0..count {
             let goes = self.goes_on(alloc, &mut stretch, w)?;
             if !goes {
-                return Ok(self.close(alloc, frame, stretch, w)?);
+                self.close(alloc, frame, stretch, w)?;
+                return Ok(());
             }
             self.turn(alloc, frame, stretch.place, index, turn, body, w)?;
         }
-        Ok(self.close(alloc, frame, stretch, w)?)
+        self.close(alloc, frame, stretch, w)?;
+        Ok(())
     }
 
     // One turn, whose number the local `index` has. What is declared in it is out of scope behind it.
@@ -311,10 +313,12 @@ impl Output {
         for s in body {
             let goes = self.goes_on(alloc, &mut stretch, w)?;
             if !goes {
-                return Ok(self.close(alloc, frame, stretch, w)?);
+                self.close(alloc, frame, stretch, w)?;
+                return Ok(());
             }
             self.stmt(alloc, frame, stretch.place, s, w)?;
         }
-        Ok(self.close(alloc, frame, stretch, w)?)
+        self.close(alloc, frame, stretch, w)?;
+        Ok(())
     }
 }

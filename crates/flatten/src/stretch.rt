@@ -1,10 +1,12 @@
 //! Pieces in order, where the run may have ended in front of each.
-ghost use Rattle.std.specs.Prelude.{◌≡◌, [], ℕ, List, length, IfOk, OnOk, if◌then◌else◌};
+ghost use Rattle.std.specs.Prelude.{◌≡◌, [], ℕ, List, length, IfOk, IfErr, OnOk, if◌then◌else◌};
 ghost use Rattle.flatten.specs.Flatten as pure;
 ghost use Rattle.flatten.specs.Open.{closed, outermost};
+ghost use Rattle.flatten.specs.Over.{IsOver};
 ghost use Rattle.flatten.specs.Pending.{placed};
 ghost use Rattle.flatten.specs.Tracked.{started};
 
+use crate::error::FlatError;
 use crate::frame::Frame;
 use crate::journal::{Journal, Tracked};
 use crate::output::Output;
@@ -81,7 +83,8 @@ impl Output {
         }
     }
 
-    /// The state behind all pieces: that in front of each open block, joined with what came of the block.
+    /// The state behind all pieces: that in front of each open block, joined with what came of the block. It stops in
+    /// front of the first block before which there are too many instructions.
     #[tactic(auto, using(crate::proofs::Steps::closed_last, crate::proofs::Steps::outermost_last))]
     pub fn close(
         &mut self,
@@ -89,15 +92,19 @@ impl Output {
         frame: &Frame,
         stretch: Stretch,
         w: &mut Tracked,
-    ) -> Result<(), NoMemory>
+    ) -> Result<(), FlatError>
         requires fields { frame.now.fields.items ≡ pure.field_widths }
         requires wide { length w.old.state.locals ≡ length frame.now.locals.items }
         ensures told { OnOk result (placed self.new w.new.state ≡ closed frame.now.locals.items stretch.pending.items
             (started w.old) (placed self.old w.old.state)) }
         ensures start { OnOk result (started w.new ≡ outermost stretch.pending.items (started w.old)) }
+        ensures large { IfErr result
+            (λ error. IsOver (closed frame.now.locals.items stretch.pending.items (started w.old)
+            (placed self.old w.old.state)).given error) }
     {
         let mut pending = stretch.pending;
         while let Some(open) = pending.pop() {
+            self.keeps_size()?;
             let first = w.unchanged(alloc)?;
             self.join(alloc, frame, open.place, open.ended, first, open.outer, w)?;
         }

@@ -1,11 +1,16 @@
 -- Which widths go with an operator.
-use Rattle.std.specs.Prelude.{ℕ, Bool, true, false, ◌&&◌, List, [], ◌∷◌, length, nat_le, ◌==◌, slice_index}
+use Rattle.std.specs.Prelude.{ℕ, ◌+◌, Bool, true, false, ◌&&◌, List, [], ◌∷◌, length, nat_le, ◌==◌, slice_index}
 use Rattle.gal_bits.specs.declared.op.Op.{Op}
 use Rattle.gal_bits.specs.declared.op.Op.TheVariants.{Add, Sub, Mul, Div, Rem, And, Or, Xor, Not, Shl, Shr, Eq, Ne, Lt, Le, Cast, Select, Adjust}
 
 -- a width is from 1 to 64
 abbrev pub is_width : ℕ → Bool
 is_width w = nat_le 1 w && nat_le w 64
+
+-- how many bits numbers of these widths have together
+abbrev pub sum_of : List ℕ → ℕ
+sum_of [] = 0
+sum_of (w ∷ ws) = w + sum_of ws
 
 abbrev pub same_widths : List ℕ → List ℕ → Bool
 same_widths [] [] = true

@@ -1,7 +1,7 @@
 //! The operators, each a row of one table.
 ghost use Rattle.std.specs.Prelude.{◌≡◌, ◌-◌, ◌*◌, ◌/◌, ◌%◌, ◌^◌, ◌<◌, ◌≤◌, ◌==◌, nat_lt, length, slice_index};
 ghost use Rattle.std.specs.Prelude.{if◌then◌else◌};
-ghost use Rattle.gal_bits.specs.Operators.{row_of, value_of};
+ghost use Rattle.gal_bits.specs.Operators.{operator_row, value_of};
 
 use crate::checksum::adjust;
 use crate::width::Width;
@@ -114,7 +114,7 @@ macro_rules! value_arms {
 
 /// How many numbers the operator takes. Those of a shift are the number and the count.
 pub fn arity(op: Op) -> usize
-    ensures value { result ≡ (row_of op).arity }
+    ensures value { result ≡ (operator_row op).arity }
     ensures range { (1 ≤ result) × (result ≤ 3) }
 {
     op_table!(arity_arms op)
@@ -122,14 +122,14 @@ pub fn arity(op: Op) -> usize
 
 /// The operator's name, in lower case.
 pub fn op_name(op: Op) -> &'static str
-    ensures { result.now ≡ (row_of op).name }
+    ensures { result.now ≡ (operator_row op).name }
 {
     op_table!(name_arms op)
 }
 
 /// Whether a switch can compute the operator.
 pub fn on_switch(op: Op) -> bool
-    ensures { result ≡ (row_of op).on_switch }
+    ensures { result ≡ (operator_row op).on_switch }
 {
     op_table!(switch_arms op)
 }
@@ -137,7 +137,7 @@ pub fn on_switch(op: Op) -> bool
 /// The operator's value, where `width` is that of the result.
 #[tactic(auto, using(crate::proofs::Cut::cut_cut, crate::proofs::Cut::cut_difference, crate::proofs::Cut::cut_complement, crate::proofs::Cut::cut_below), unfolding(crate::specs::Operators::value_of))]
 pub fn eval(op: Op, width: Width, args: &[u64]) -> u64
-    requires { length args.now ≡ (row_of op).arity }
+    requires { length args.now ≡ (operator_row op).arity }
     ensures value { result ≡ value_of op width args.now }
     ensures fits { result < 2 ^ width }
 {

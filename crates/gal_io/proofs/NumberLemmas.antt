@@ -1,11 +1,13 @@
 -- The value of digits, and numbers as they are printed.
-use Rattle.std.proofs.Common.{◌≡◌, ℕ, zero, suc, ◌+◌, ◌*◌, ◌^◌, ◌≤◌, ◌<◌, Bool, true, false, cond, leb, List, [], ◌∷◌, length, get_or, drop, Some, None, option_and_then, drop-cons, sym, ap, ◌∙◌, lit<, arith}
+use Rattle.std.proofs.Common.{◌≡◌, ℕ, zero, suc, ◌+◌, ◌*◌, ◌/◌, ◌%◌, ◌^◌, ◌≤◌, ◌<◌, Bool, true, false, cond, leb, List, [], ◌∷◌, ◌++◌, length, get_or, take, drop, Some, None, option_and_then, drop-cons, sym, ap, ◌∙◌, lit<, arith, add-one, length-append}
+use Rattle.std.proofs.Math.ListN.{set}
+use Rattle.std.proofs.Math.Seq.{take-suc-set}
 use Rattle.std.specs.Char.{digit_value}
 use Rattle.std.specs.Fmt.{decimal}
 use Rattle.std.specs.Str.{all_ascii_digits}
 use Rattle.std.specs.Str.Parse.{digits_value, digits_value_after}
 use Rattle.std.proofs.lemmas.Str.Parse.{IsNumeralModel, numerals_by_value, tells_all_ascii_digits}
-use Rattle.std.proofs.lemmas.Fmt.{decimal-digits_value, digits_decimal, digits_value-decimal, decimal_nonempty, first_decimal, decimal_digit}
+use Rattle.std.proofs.lemmas.Fmt.{decimal-digits_value, digits_decimal, digits_value-decimal, decimal_nonempty, first_decimal, decimal_digit, decimal_step, length-decimal-le}
 use Rattle.std.proofs.lemmas.Bool.Decides.{nat_tests}
 use Rattle.gal_io.specs.Number.{is_number, number_up_to}
 
@@ -62,3 +64,25 @@ read_again text most number h small fits =
     let is : is_number (decimal number) ≡ true = numeral_is (decimal number) (decimal_is_numeral number (omega arith)) in
     let value : digits_value 10 (decimal number) ≡ number = digits_value-decimal own number (omega arith) in
     rw (h, is, value) (grind (arith, nat_tests))
+
+-- ## Digits that are written
+
+pub few_digits : (number : ℕ) → number < 2 ^ 64 → length (decimal number) ≤ 20
+few_digits number fits = length-decimal-le 20 number (lit< tt) (omega arith) fits
+
+pub one_digit : (number : ℕ) (digits : List ℕ) → number < 10 → length digits ≡ 20 → take 1 (set digits 0 (48 + number)) ≡ decimal number
+one_digit number (first ∷ rest) small size = sym (decimal_digit number small)
+one_digit number [] small size = absurd (omega (arith, size))
+
+pub one_digit_count : (number : ℕ) → number < 10 → length (decimal number) ≡ 1
+one_digit_count number small = ap length (decimal_digit number small)
+
+pub more_digits : (number : ℕ) → 10 ≤ number → number < 2 ^ 64 → length (decimal number) ≡ length (decimal (number / 10)) + 1
+more_digits number large fits = ap length (decimal_step number large fits) ∙ length-append (decimal (number / 10)) ((48 + number % 10) ∷ [])
+
+pub last_digit : (number front : ℕ) (digits : List ℕ) → 10 ≤ number → number < 2 ^ 64 → length digits ≡ 20 → front ≡ length (decimal (number / 10))
+    → take front digits ≡ decimal (number / 10) → take (front + 1) (set digits front (48 + number % 10)) ≡ decimal number
+last_digit number front digits large fits size count before =
+    let within : front < length digits = omega (arith, few_digits number fits, more_digits number large fits) in
+    ap (λ n. take n (set digits front (48 + number % 10))) (add-one front)
+    ∙ take-suc-set digits front (48 + number % 10) within ∙ ap (λ ds. ds ++ ((48 + number % 10) ∷ [])) before ∙ sym (decimal_step number large fits)

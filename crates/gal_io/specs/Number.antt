@@ -18,6 +18,6 @@ abbrev pub number_up_to : ℕ → List ℕ → Option ℕ
 number_up_to most text = option_and_then (λ number. if nat_le number most then Some number else None) (number_of text)
 
 -- each number after a space
-abbrev pub spaced : List ℕ → List ℕ
-spaced [] = []
-spaced (n ∷ ns) = codes " " ++ (decimal n ++ spaced ns)
+abbrev pub spaced_numbers : List ℕ → List ℕ
+spaced_numbers [] = []
+spaced_numbers (n ∷ ns) = codes " " ++ (decimal n ++ spaced_numbers ns)

@@ -1,5 +1,5 @@
 //! Numbers in a text.
-ghost use Rattle.std.specs.Prelude.{◌≡◌, ◌≤◌, ℕ, IsTrue, IfSome, Some};
+ghost use Rattle.std.specs.Prelude.{◌≡◌, ◌≤◌, ℕ, IsTrue, IfSome, Some, length, take};
 ghost use Rattle.std.specs.Option.{SomeIff};
 ghost use Rattle.std.specs.Fmt.{decimal};
 ghost use Rattle.std.specs.Str.{all_ascii_digits};
@@ -43,4 +43,19 @@ pub fn number_up_to(digits: &[u8], most: u64) -> Option<u64>
     ensures read_back { (number : ℕ) → number ≤ most → digits.now ≡ decimal number → result ≡ Some number }
 {
     parse(digits, most)
+}
+
+/// Writes a number in decimal to the front of `digits`, and answers how many digits it has.
+#[tactic(auto, using(crate::proofs::NumberLemmas::one_digit, crate::proofs::NumberLemmas::one_digit_count, crate::proofs::NumberLemmas::last_digit, crate::proofs::NumberLemmas::more_digits, crate::proofs::NumberLemmas::few_digits))]
+pub(crate) fn write_decimal(number: u64, digits: &mut [u8; 20]) -> usize
+    ensures count { result ≡ length (decimal number) }
+    ensures digits { take result digits.new ≡ decimal number }
+{
+    if number < 10 {
+        digits[0] = b'0' + number as u8;
+        return 1;
+    }
+    let front = write_decimal(number / 10, digits);
+    digits[front] = b'0' + (number % 10) as u8;
+    front + 1
 }

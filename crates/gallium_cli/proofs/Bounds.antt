@@ -19,7 +19,7 @@ use Rattle.element_lang.specs.Rules.{declared_by}
 use Rattle.flat_ir.specs.Program.{Program}
 use Rattle.flat_ir.specs.WellFormed.{IsWellFormed}
 use Rattle.flatten.specs.Flatten.{flat_of}
-use Rattle.split_model.specs.Counts.{sum_of}
+use Rattle.gal_bits.specs.Fitting.{sum_of}
 use Rattle.split_model.specs.Bounds.{IsSmall, IsBounded}
 use Rattle.gallium_cli.specs.declared.refusal.Refusal.TheVariants.{LongProgram}
 use Rattle.gallium_cli.specs.Roles.{program, IsShort}
@@ -34,16 +34,9 @@ right : (a b : Bool) → (a && b) ≡ true → b ≡ true
 right true b h = h
 right false b h = absurd (true≢false (sym h))
 
--- both crates say the same sum
-same_sum : (ws : List ℕ) → sum_of ws ≡ rules.sum_of ws
-same_sum [] = refl
-same_sum (w ∷ ws) = ap (λ n. w + n) (same_sum ws)
-
 small_widths : (ws : List ℕ) → are_widths ws ≡ true → sum_of ws ≤ 128
 small_widths ws h =
-    let same = same_sum ws in
-    let low = leb-true (rules.sum_of ws) 128 (right _ (nat_le (rules.sum_of ws) 128) h) in
-    omega arith
+    leb-true (sum_of ws) 128 (right _ (nat_le (sum_of ws) 128) h)
 
 no_widths : (ws : List ℕ) → (length ws == 0) ≡ true → sum_of ws ≤ 128
 no_widths [] h = omega arith

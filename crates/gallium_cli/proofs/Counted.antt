@@ -3,7 +3,7 @@ use Rattle.std.proofs.Common.{◌≡◌, ◌⊎◌, Bool, true, false, List, [],
 use Rattle.std.proofs.Common.{subst, ◌∙◌}
 use Rattle.std.specs.Prelude.{OnOk}
 use Rattle.std.specs.Bool.{OnFalse}
-use Rattle.gal_io.specs.Count.{Counts, Rose, count_after}
+use Rattle.gal_io.specs.Count.{IsCountedIf, Rose, count_after}
 use Rattle.gal_io.specs.Files.{FilesState, Reads}
 use Rattle.gal_io.specs.declared.files.ReadEnd.TheVariants as ends
 use Rattle.gal_io.specs.Sink.{SinkState}
@@ -92,9 +92,9 @@ pub goes_still : (status : Status) (f g : FilesState) → IsNoFileFault status �
     → GoesOn status f g
 goes_still status f g none goes = record {
   told = goes.told;
-  faults = subst (λ b. Counts b f.faults g.faults) (sym none.0) goes.faults;
+  faults = subst (λ b. IsCountedIf b f.faults g.faults) (sym none.0) goes.faults;
   fault_name = subst (λ b. OnFalse b (g.fault_name ≡ f.fault_name)) (sym none.0) goes.fault_name;
-  overlong = subst (λ b. Counts b f.overlong g.overlong) (sym none.1) goes.overlong;
+  overlong = subst (λ b. IsCountedIf b f.overlong g.overlong) (sym none.1) goes.overlong;
   overlong_name = subst (λ b. OnFalse b (g.overlong_name ≡ f.overlong_name)) (sym none.1) goes.overlong_name;
 }
 
@@ -152,8 +152,8 @@ pub gate_counts : (refusal : Refusal) (gates : List Gate) (g f f' : FilesState) 
     → CountsFaults (status_of refusal) (work_of f f' p p o o)
 gate_counts refusal gates g f f' p o first goes = record {
   files = goes;
-  out = subst (λ b. Counts b o.faults o.faults) (sym (gates_no_write refusal gates g f' first)) refl;
-  switch = subst (λ b. Counts b p.faults p.faults) (sym (gates_no_switch refusal gates g f' first)) refl;
+  out = subst (λ b. IsCountedIf b o.faults o.faults) (sym (gates_no_write refusal gates g f' first)) refl;
+  switch = subst (λ b. IsCountedIf b p.faults p.faults) (sym (gates_no_switch refusal gates g f' first)) refl;
 }
 
 -- words with no form

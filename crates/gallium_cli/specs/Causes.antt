@@ -3,7 +3,7 @@ use Rattle.std.specs.Prelude.{◌≡◌, ◌≤◌, ◌⊎◌, ℕ, Bool, true, 
 use Rattle.std.specs.Prelude.{Option, Some, None, IfSome}
 use Rattle.std.specs.Option.{option_map}
 use Rattle.std.specs.Io.KnownBytes.{append_known}
-use Rattle.gal_io.specs.Count.{Rose, Counts}
+use Rattle.gal_io.specs.Count.{Rose, IsCountedIf}
 use Rattle.gal_io.specs.Files.{FilesState}
 use Rattle.gal_io.specs.Sink.{SinkState, Writes}
 use Rattle.state_store.specs.declared.object.ObjectDecl.{ObjectDecl}
@@ -136,8 +136,8 @@ is_switch_fault _ = false
 -- failed was made again.
 pub record CountsFaults (status : Status) (work : Work) : Type 0 where
   pub files : GoesOn status work.files work.files_after
-  pub out : Counts (is_write_fault status) work.out.faults work.out_after.faults
-  pub switch : Counts (is_switch_fault status) work.port.faults work.port_after.faults
+  pub out : IsCountedIf (is_write_fault status) work.out.faults work.out_after.faults
+  pub switch : IsCountedIf (is_switch_fault status) work.port.faults work.port_after.faults
 
 -- the status that is answered where the line of a refusal ends so
 abbrev pub after_line : Refusal → SinkEnd → Status

@@ -2,7 +2,7 @@
 use Rattle.std.specs.Prelude.{◌≡◌, ◌≤◌, ◌<◌, ◌≢◌, ◌+◌, ◌-◌, ◌^◌, ℕ, min, Bool, true, false, List, length, Some, Err}
 use Rattle.std.specs.Prelude.{IfSome}
 use Rattle.std.specs.Bool.{OnFalse}
-use Rattle.gal_io.specs.Count.{Rose, Counts}
+use Rattle.gal_io.specs.Count.{Rose, IsCountedIf}
 use Rattle.gal_io.specs.Files.{FilesState}
 use Rattle.resource_limits.specs.Limits as texts
 use Rattle.resource_limits.specs.declared.limits.LimitsError.{LimitsError}
@@ -93,9 +93,9 @@ is_too_long _ = false
 -- once, where the status is that, and all else but the number of reads is as before.
 pub record GoesOn (status : Status) (f f' : FilesState) : Type 0 where
   pub told : (name : List ℕ) → f'.told name ≡ f.told name
-  pub faults : Counts (is_read_fault status) f.faults f'.faults
+  pub faults : IsCountedIf (is_read_fault status) f.faults f'.faults
   pub fault_name : OnFalse (is_read_fault status) (f'.fault_name ≡ f.fault_name)
-  pub overlong : Counts (is_too_long status) f.overlong f'.overlong
+  pub overlong : IsCountedIf (is_too_long status) f.overlong f'.overlong
   pub overlong_name : OnFalse (is_too_long status) (f'.overlong_name ≡ f.overlong_name)
 
 -- the refusal of a source that isn't read

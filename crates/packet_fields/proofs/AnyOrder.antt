@@ -5,7 +5,7 @@ use Rattle.std.specs.List.{filter}
 use Rattle.packet_fields.specs.declared.field.Field.{Field}
 use Rattle.packet_fields.specs.Bits.{with_number_at}
 use Rattle.packet_fields.specs.Fields.{place, field_value, with_field}
-use Rattle.packet_fields.specs.Several.{Setting, with_fields, CanBeSet, IsUnset, AreDistinct, IsSetTo, Choice, with_chosen, with_each, in_field_order, choice_of, or_else, both, MayBeWritten, AreApart, IsAsChosen}
+use Rattle.packet_fields.specs.Several.{Setting, with_settings, CanBeSet, IsUnset, AreDistinct, IsSetTo, Choice, with_chosen, with_each, in_field_order, choice_of, or_else, both_choices, MayBeWritten, AreApart, IsAsChosen}
 use Rattle.packet_fields.specs.Shape.{shape_of}
 use Rattle.packet_fields.specs.Table.{row, all_fields, field_index}
 use Rattle.packet_fields.proofs.BitRows.{length-with_number_at, with_number_at_swapped}
@@ -66,7 +66,7 @@ pub with_field_swapped : (bytes : List ℕ) (f g : Field) (v w : ℕ) → (row f
 with_field_swapped bytes f g v w may may' other = swapped_by bytes f g v w may may' other (place (shape_of bytes) f) (place (shape_of bytes) g) refl refl
 
 -- ---- a list of fields
-pub unset-with_fields : (settings : List Setting) (bytes : List ℕ) (f : Field) (port : ℕ) → CanBeSet settings → IsUnset settings f → field_value (with_fields bytes settings) port f ≡ field_value bytes port f
+pub unset-with_fields : (settings : List Setting) (bytes : List ℕ) (f : Field) (port : ℕ) → CanBeSet settings → IsUnset settings f → field_value (with_settings bytes settings) port f ≡ field_value bytes port f
 unset-with_fields [] bytes f port can unset = refl
 unset-with_fields (s ∷ ss) bytes f port can unset =
     unset-with_fields ss (with_field bytes s.field s.value) f port can.2 unset.1 ∙ other-with_field bytes s.field f s.value port can.0 unset.0
@@ -79,14 +79,14 @@ same_number a b c p q = p ∙ q
 
 -- the first entry of a list sets the field, and no later one
 set_by_first : (s : Setting) (ss : List Setting) (bytes : List ℕ) (f : Field) (port : ℕ) → CanBeSet (s ∷ ss) → IsUnset ss s.field → s.field ≡ f → IsSome (place (shape_of bytes) f)
-    → field_value (with_fields bytes (s ∷ ss)) port f ≡ s.value
+    → field_value (with_settings bytes (s ∷ ss)) port f ≡ s.value
 set_by_first s ss bytes f port can unset is there =
-    ap (λ g. field_value (with_fields bytes (s ∷ ss)) port g) (sym is)
+    ap (λ g. field_value (with_settings bytes (s ∷ ss)) port g) (sym is)
     ∙ unset-with_fields ss (with_field bytes s.field s.value) s.field port can.2 unset
     ∙ same_by bytes s.field s.value port can.0 can.1 (place (shape_of bytes) s.field) refl (is_some_moved (place (shape_of bytes) f) (place (shape_of bytes) s.field) (ap (place (shape_of bytes)) is) there)
 
 pub set-with_fields : (settings : List Setting) (bytes : List ℕ) (f : Field) (value port : ℕ) → CanBeSet settings → AreDistinct settings → IsSetTo settings f value → IsSome (place (shape_of bytes) f)
-    → field_value (with_fields bytes settings) port f ≡ value
+    → field_value (with_settings bytes settings) port f ≡ value
 set-with_fields [] bytes f value port can distinct set there = absurd set
 set-with_fields (s ∷ ss) bytes f value port can distinct set there = elim set [
   | inl here ↦ set_by_first s ss bytes f port can distinct.0 here.0 there ∙ here.1
@@ -95,11 +95,11 @@ set-with_fields (s ∷ ss) bytes f value port can distinct set there = elim set 
 ]
 
 -- a field that a list leaves may be set before the list or behind it
-moved_front : (settings : List Setting) (bytes : List ℕ) (f : Field) (value : ℕ) → CanBeSet settings → IsUnset settings f → (row f).writable ≡ true → with_field (with_fields bytes settings) f value ≡ with_fields (with_field bytes f value) settings
+moved_front : (settings : List Setting) (bytes : List ℕ) (f : Field) (value : ℕ) → CanBeSet settings → IsUnset settings f → (row f).writable ≡ true → with_field (with_settings bytes settings) f value ≡ with_settings (with_field bytes f value) settings
 moved_front [] bytes f value can unset may = refl
 moved_front (s ∷ ss) bytes f value can unset may =
     moved_front ss (with_field bytes s.field s.value) f value can.2 unset.1 may
-    ∙ ap (λ x. with_fields x ss) (with_field_swapped bytes s.field f s.value value can.0 may unset.0)
+    ∙ ap (λ x. with_settings x ss) (with_field_swapped bytes s.field f s.value value can.0 may unset.0)
 
 picked_can : (settings : List Setting) (test : Setting → Bool) → CanBeSet settings → CanBeSet (filter test settings)
 picked_can [] test can = tt
@@ -111,11 +111,11 @@ picked_unset (s ∷ ss) test f unset = cond_both (test s) (s ∷ filter test ss)
 
 -- the first entry goes to the first part or to the second
 part_by : (b : Bool) (bytes : List ℕ) (s : Setting) (first second : List Setting) → CanBeSet first → IsUnset first s.field → (row s.field).writable ≡ true
-    → with_fields (with_fields bytes (cond b (s ∷ first) first)) (cond (not b) (s ∷ second) second) ≡ with_fields (with_fields (with_field bytes s.field s.value) first) second
+    → with_settings (with_settings bytes (cond b (s ∷ first) first)) (cond (not b) (s ∷ second) second) ≡ with_settings (with_settings (with_field bytes s.field s.value) first) second
 part_by true bytes s first second can unset may = refl
-part_by false bytes s first second can unset may = ap (λ x. with_fields x second) (moved_front first bytes s.field s.value can unset may)
+part_by false bytes s first second can unset may = ap (λ x. with_settings x second) (moved_front first bytes s.field s.value can unset may)
 
-pub two_parts : (settings : List Setting) (bytes : List ℕ) (test : Setting → Bool) → CanBeSet settings → AreDistinct settings → with_fields (with_fields bytes (filter test settings)) (filter (λ s. not (test s)) settings) ≡ with_fields bytes settings
+pub two_parts : (settings : List Setting) (bytes : List ℕ) (test : Setting → Bool) → CanBeSet settings → AreDistinct settings → with_settings (with_settings bytes (filter test settings)) (filter (λ s. not (test s)) settings) ≡ with_settings bytes settings
 two_parts [] bytes test can distinct = refl
 two_parts (s ∷ ss) bytes test can distinct =
     part_by (test s) bytes s (filter test ss) (filter (λ s. not (test s)) ss) (picked_can ss test can.2) (picked_unset ss test s.field distinct.0) can.0
@@ -235,7 +235,7 @@ chosen_may (s ∷ ss) can f value is = elim (cases_Bool (field_index s.field == 
   | inr other ↦ chosen_may ss can.2 f value (sym (cond-false (field_index s.field == field_index f) (Some s.value) (choice_of ss f) other) ∙ is)
 ]
 
-pub listed_in_order : (settings : List Setting) (bytes : List ℕ) → CanBeSet settings → AreDistinct settings → with_fields bytes settings ≡ in_field_order bytes (choice_of settings)
+pub listed_in_order : (settings : List Setting) (bytes : List ℕ) → CanBeSet settings → AreDistinct settings → with_settings bytes settings ≡ in_field_order bytes (choice_of settings)
 listed_in_order [] bytes can distinct = sym (nothing_chosen all_fields bytes)
 listed_in_order (s ∷ ss) bytes can distinct =
     let adds : Adds (choice_of ss) (choice_of (s ∷ ss)) s.field s.value = record {
@@ -248,11 +248,11 @@ listed_in_order (s ∷ ss) bytes can distinct =
     listed_in_order ss (with_field bytes s.field s.value) can.2 distinct.1
     ∙ set_in_place all_fields bytes (choice_of ss) (choice_of (s ∷ ss)) s.field s.value adds once (each_there s.field)
 
-with_fields-append : (first : List Setting) (bytes : List ℕ) (second : List Setting) → with_fields bytes (first ++ second) ≡ with_fields (with_fields bytes first) second
+with_fields-append : (first : List Setting) (bytes : List ℕ) (second : List Setting) → with_settings bytes (first ++ second) ≡ with_settings (with_settings bytes first) second
 with_fields-append [] bytes second = refl
 with_fields-append (s ∷ ss) bytes second = with_fields-append ss (with_field bytes s.field s.value) second
 
-pub lists_in_order : (bytes : List ℕ) (first second : List Setting) → CanBeSet (first ++ second) → AreDistinct (first ++ second) → with_fields (with_fields bytes first) second ≡ in_field_order bytes (choice_of (first ++ second))
+pub lists_in_order : (bytes : List ℕ) (first second : List Setting) → CanBeSet (first ++ second) → AreDistinct (first ++ second) → with_settings (with_settings bytes first) second ≡ in_field_order bytes (choice_of (first ++ second))
 lists_in_order bytes first second can distinct = sym (with_fields-append first bytes second) ∙ listed_in_order (first ++ second) bytes can distinct
 
 -- ---- one choice and then another
@@ -305,10 +305,10 @@ choices_by : (fs : List Field) (bytes : List ℕ) (c d : Choice) → MayBeWritte
 choices_by [] bytes c d may may' apart none = refl
 choices_by (g ∷ gs) bytes c d may may' apart none = choices_step gs bytes c d g may may' apart none.0 (λ b. choices_by gs b c d may may' apart none.1) (c g) refl
 
-pub choices_in_order : (bytes : List ℕ) (first second : Choice) → MayBeWritten first → MayBeWritten second → AreApart first second → in_field_order (in_field_order bytes first) second ≡ in_field_order bytes (both first second)
+pub choices_in_order : (bytes : List ℕ) (first second : Choice) → MayBeWritten first → MayBeWritten second → AreApart first second → in_field_order (in_field_order bytes first) second ≡ in_field_order bytes (both_choices first second)
 choices_in_order bytes first second may may' apart =
     choices_by all_fields bytes first second may may' apart once
-    ∙ same_choice all_fields bytes (so_far first second all_fields) (both first second) (λ f there. ap (λ (b : Bool). or_else (cond b (first f) None) (second f)) (has_it f all_fields there))
+    ∙ same_choice all_fields bytes (so_far first second all_fields) (both_choices first second) (λ f there. ap (λ (b : Bool). or_else (cond b (first f) None) (second f)) (has_it f all_fields there))
 
 -- ---- what the fields of a choice read
 shape-with_chosen : (bytes : List ℕ) (f : Field) (o : Option ℕ) → ((value : ℕ) → o ≡ Some value → (row f).writable ≡ true) → shape_of (with_chosen bytes f o) ≡ shape_of bytes

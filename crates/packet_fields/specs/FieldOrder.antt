@@ -1,12 +1,13 @@
 -- Lemmas on field order, for this crate and those above: each field stands at its place, and what a test says of the
 -- members of the list holds of every field.
 use Rattle.std.proofs.Common.{◌≡◌, ℕ, zero, suc, ◌<◌, ◌≤◌, ◌&&◌, Bool, true, List, [], ◌∷◌, get_or, length, nat_le}
-use Rattle.std.proofs.Common.{slice_get, Option, Some, refl, sym, ap, ◌∙◌, subst, lit<, arith}
+use Rattle.std.proofs.Common.{slice_get, slice_index, Option, Some, refl, sym, ap, ◌∙◌, subst, lit<, arith}
 use Rattle.std.proofs.lemmas.Bool.{leb-true, and_parts}
+use Rattle.std.proofs.lemmas.List.{get_or-map}
 use Rattle.std.proofs.lemmas.Option.{slice_get-get_or}
 use Rattle.packet_fields.specs.declared.field.Field.{Field}
 use Rattle.packet_fields.specs.declared.field.Field.TheVariants.{MetaPort}
-use Rattle.packet_fields.specs.Table.{row, all_fields, field_count, field_index}
+use Rattle.packet_fields.specs.Table.{row, all_fields, field_count, field_widths, field_index}
 
 -- the field at the place of a field is that field
 pub at_index : (f : Field) → get_or all_fields (field_index f) MetaPort ≡ f
@@ -64,3 +65,9 @@ pub width_range : (f : Field) → (1 ≤ (row f).width) × ((row f).width ≤ 48
 width_range f =
     let both = and_parts (nat_le 1 (row f).width) (nat_le (row f).width 48) (of_each has_width all_have_width f) in
     (leb-true _ _ both.0, leb-true _ _ both.1)
+
+pub field_width_at : (f : Field) → slice_index field_widths (field_index f) ≡ (row f).width
+field_width_at f =
+    let within : field_index f < length all_fields = omega (arith, index-lt f, length-all_fields) in
+    get_or-map (λ (g : Field). (row g).width) all_fields (field_index f) MetaPort 0 within
+    ∙ ap (λ (g : Field). (row g).width) (at_index f)

@@ -16,9 +16,9 @@ pub record Setting : Type 0 where
   pub value : ℕ
 
 -- the packet after the fields of a list are set, one after another
-abbrev pub with_fields : List ℕ → List Setting → List ℕ
-with_fields bytes [] = bytes
-with_fields bytes (s ∷ ss) = with_fields (with_field bytes s.field s.value) ss
+abbrev pub with_settings : List ℕ → List Setting → List ℕ
+with_settings bytes [] = bytes
+with_settings bytes (s ∷ ss) = with_settings (with_field bytes s.field s.value) ss
 
 -- each field of a list may be written, and its value has no more bits than the field
 abbrev pub CanBeSet : List Setting → Type 0
@@ -68,8 +68,8 @@ abbrev pub or_else : Option ℕ → Option ℕ → Option ℕ
 or_else None other = other
 or_else (Some value) other = Some value
 
-abbrev pub both : Choice → Choice → Choice
-both first second f = or_else (first f) (second f)
+abbrev pub both_choices : Choice → Choice → Choice
+both_choices first second f = or_else (first f) (second f)
 
 -- only fields that may be written are set
 abbrev pub MayBeWritten : Choice → Type 0

@@ -1,5 +1,5 @@
 -- The fields of a packet: one row for each, in field order.
-use Rattle.std.specs.Prelude.{ℕ, Bool, true, false, List, [], ◌∷◌, Option, codes, find}
+use Rattle.std.specs.Prelude.{ℕ, Bool, true, false, List, [], ◌∷◌, map, Option, codes, find}
 use Rattle.std.specs.Str.{bytes_eq}
 use Rattle.packet_fields.specs.declared.field.Field.{Field}
 use Rattle.packet_fields.specs.declared.field.Field.TheVariants.{MetaPort, MetaLen, HasIp, HasTcp, HasUdp, EthDst}
@@ -14,7 +14,7 @@ use Rattle.packet_fields.specs.declared.field.Header.TheVariants.{Meta, Ethernet
 
 -- a field's name, the header that it stands in, its first bit there, how many bits it has, and whether it may be
 -- written
-pub record Row : Type 0 where
+pub record FieldRow : Type 0 where
   pub name : List ℕ
   pub header : Header
   pub at : ℕ
@@ -22,7 +22,7 @@ pub record Row : Type 0 where
   pub writable : Bool
 
 -- the row of a field
-abbrev pub row : Field → Row
+abbrev pub row : Field → FieldRow
 row MetaPort = record { name = codes "meta.port"; header = Meta; at = 0; width = 8; writable = false }
 row MetaLen = record { name = codes "meta.len"; header = Meta; at = 0; width = 16; writable = false }
 row HasIp = record { name = codes "has.ip"; header = Meta; at = 0; width = 1; writable = false }
@@ -68,6 +68,10 @@ all_fields =
     ∷ IpVersion ∷ IpIhl ∷ IpTos ∷ IpLen ∷ IpId ∷ IpFlags ∷ IpFrag ∷ IpTtl ∷ IpProto ∷ IpSum ∷ IpSrc ∷ IpDst
     ∷ TcpSport ∷ TcpDport ∷ TcpSeq ∷ TcpAck ∷ TcpOff ∷ TcpRes ∷ TcpFlags ∷ TcpWin ∷ TcpSum ∷ TcpUrg ∷ UdpSport
     ∷ UdpDport ∷ UdpLen ∷ UdpSum ∷ []
+
+-- how wide the fields are, in field order
+abbrev pub field_widths : List ℕ
+field_widths = map (λ f. (row f).width) all_fields
 
 -- how many fields there are
 abbrev pub field_count : ℕ

@@ -5,8 +5,8 @@ ghost use Rattle.std.specs.List.{filter};
 ghost use Rattle.packet_fields.specs.declared.field.Field.{Field};
 ghost use Rattle.packet_fields.specs.Fields.{place, field_value, with_field};
 ghost use Rattle.packet_fields.specs.Several.{AreApart, AreBytes, AreDistinct, CanBeSet, Choice, IsAsChosen, IsSetTo};
-ghost use Rattle.packet_fields.specs.Several.{IsUnset, MayBeWritten, Setting, both, choice_of, in_field_order};
-ghost use Rattle.packet_fields.specs.Several.{with_fields};
+ghost use Rattle.packet_fields.specs.Several.{IsUnset, MayBeWritten, Setting, both_choices, choice_of, in_field_order};
+ghost use Rattle.packet_fields.specs.Several.{with_settings};
 ghost use Rattle.packet_fields.specs.Shape.{shape_of};
 ghost use Rattle.packet_fields.specs.Sizes.{largest_packet};
 ghost use Rattle.packet_fields.specs.Table.{row};
@@ -29,24 +29,24 @@ pub fn fields_in_any_order()
     ensures two { (bytes : List ℕ) (f g : Field) (v w : ℕ) → IsTrue (row f).writable → IsTrue (row g).writable → f ≢ g
         → with_field (with_field bytes f v) g w ≡ with_field (with_field bytes g w) f v }
     ensures list { (bytes : List ℕ) (settings : List Setting) → CanBeSet settings → AreDistinct settings
-        → with_fields bytes settings ≡ in_field_order bytes (choice_of settings) }
+        → with_settings bytes settings ≡ in_field_order bytes (choice_of settings) }
     ensures parts { (bytes : List ℕ) (settings : List Setting) (test : Setting → Bool)
         → CanBeSet settings → AreDistinct settings
-        → with_fields (with_fields bytes (filter test settings)) (filter (λ s. not (test s)) settings)
-        ≡ with_fields bytes settings }
+        → with_settings (with_settings bytes (filter test settings)) (filter (λ s. not (test s)) settings)
+        ≡ with_settings bytes settings }
     ensures choices { (bytes : List ℕ) (first second : Choice)
         → MayBeWritten first → MayBeWritten second → AreApart first second
-        → in_field_order (in_field_order bytes first) second ≡ in_field_order bytes (both first second) }
+        → in_field_order (in_field_order bytes first) second ≡ in_field_order bytes (both_choices first second) }
 {}
 
 /// A field that is there reads as it was set, and one that isn't set reads as before.
 pub fn fields_read_as_set()
     ensures set { (bytes : List ℕ) (settings : List Setting) (f : Field) (value port : ℕ)
         → CanBeSet settings → AreDistinct settings → IsSetTo settings f value → IsSome (place (shape_of bytes) f)
-        → field_value (with_fields bytes settings) port f ≡ value }
+        → field_value (with_settings bytes settings) port f ≡ value }
     ensures unset { (bytes : List ℕ) (settings : List Setting) (f : Field) (port : ℕ)
         → CanBeSet settings → IsUnset settings f
-        → field_value (with_fields bytes settings) port f ≡ field_value bytes port f }
+        → field_value (with_settings bytes settings) port f ≡ field_value bytes port f }
     ensures chosen { (bytes : List ℕ) (choice : Choice) → MayBeWritten choice
         → IsAsChosen bytes (in_field_order bytes choice) choice }
 {}

@@ -7,7 +7,7 @@ use Rattle.std.specs.List.{AllByRecursion, list_all}
 use Rattle.std.proofs.lemmas.Bool.{and_parts}
 use Rattle.std.proofs.lemmas.List.{append-nil}
 use Rattle.std.proofs.lemmas.Bool.Decides.{nat_tests}
-use Rattle.gal_io.specs.Number.{spaced}
+use Rattle.gal_io.specs.Number.{spaced_numbers}
 use Rattle.state_store.specs.declared.object.Row.{Row}
 use Rattle.state_store.specs.Kept.{have_widths}
 use Rattle.run_text.specs.Report.{key_text, order_text}
@@ -16,7 +16,7 @@ use Rattle.report_text.specs.Form.{are_widths}
 use Rattle.report_text.specs.Parse.{◌>>=◌, after, all_numbers, below, count_of, key_number, keys_at, labelled, most_of, number_at, number_below, numbers_at, order_at, order_of, row_of, values_at, whole}
 use Rattle.report_text.proofs.Pieces.{after_back, after_is, are_same, bound, is_cut, labelled_back, labelled_is, number_at_back, number_at_is, some_is, whole_is}
 
-spaced_cut : (ns : List ℕ) → is_cut (spaced ns) ≡ true
+spaced_cut : (ns : List ℕ) → is_cut (spaced_numbers ns) ≡ true
 spaced_cut [] = refl
 spaced_cut (n ∷ ns) = refl
 
@@ -25,13 +25,13 @@ spaced_cut (n ∷ ns) = refl
 abbrev pub AreBelow : ℕ → List ℕ → Type 0
 AreBelow bound = AllByRecursion (λ n. n < bound)
 
-numbers_back : (before ns : List ℕ) (bound : ℕ) → bound ≤ 2 ^ 32 → AreBelow bound ns → numbers_at before (length ns) bound (spaced ns) ≡ Some (before ++ ns, [])
+numbers_back : (before ns : List ℕ) (bound : ℕ) → bound ≤ 2 ^ 32 → AreBelow bound ns → numbers_at before (length ns) bound (spaced_numbers ns) ≡ Some (before ++ ns, [])
 unfolding number_below
 numbers_back before [] bound most h = ap (λ l. Some (l, [])) (sym (append-nil before))
 numbers_back before (n ∷ ns) bound most h =
     let inside : n < bound = h.0 in
     let small : ltb n bound ≡ true = grind (arith, nat_tests) in
-    rw (labelled_back largest n (codes " ") (spaced ns) (omega arith) (omega arith) (spaced_cut ns), small)
+    rw (labelled_back largest n (codes " ") (spaced_numbers ns) (omega arith) (omega arith) (spaced_cut ns), small)
     (numbers_back (before ++ n ∷ []) ns bound most h.1 ∙ ap (λ l. Some (l, [])) (append_assoc before (n ∷ []) ns))
 
 record AreNumbers (before : List ℕ) (count bound : ℕ) (line : List ℕ) (x : List ℕ × List ℕ) : Type 0 where
@@ -39,7 +39,7 @@ record AreNumbers (before : List ℕ) (count bound : ℕ) (line : List ℕ) (x :
   many : length read ≡ count
   below : AreBelow bound read
   all : x.0 ≡ before ++ read
-  is : line ≡ spaced read ++ x.1
+  is : line ≡ spaced_numbers read ++ x.1
 
 record IsBelow (bound : ℕ) (line : List ℕ) (x : ℕ × List ℕ) : Type 0 where
   below : x.0 < bound
@@ -68,7 +68,7 @@ numbers_are before (suc count) limit line x h =
       many = ap suc more.many;
       below = (one.below, more.below);
       all = more.all ∙ append_assoc before (y.0 ∷ []) more.read;
-      is = one.is ∙ ap (λ l. codes " " ++ (decimal y.0 ++ l)) more.is ∙ ap (λ l. codes " " ++ l) (sym (append_assoc (decimal y.0) (spaced more.read) x.1));
+      is = one.is ∙ ap (λ l. codes " " ++ (decimal y.0 ++ l)) more.is ∙ ap (λ l. codes " " ++ l) (sym (append_assoc (decimal y.0) (spaced_numbers more.read) x.1));
     })
 
 -- the order line, without its end
@@ -90,7 +90,7 @@ pub record HasOrder (count limit : ℕ) (line order : List ℕ) : Type 0 where
   pub below : AreBelow limit order
   pub is : line ≡ order_told order
 
-some_text : (ns : List ℕ) → 0 < length ns → order_text ns ≡ spaced ns
+some_text : (ns : List ℕ) → 0 < length ns → order_text ns ≡ spaced_numbers ns
 some_text [] h = absurd (omega arith)
 some_text (n ∷ ns) h = refl
 
@@ -102,7 +102,7 @@ order_by true count limit line rest order t e h =
     let l = numbers_are [] count limit rest x ex in
     let same : l.read ≡ order = sym l.all ∙ w.1 in
     let positive : 0 < count = grind (arith, nat_tests) in
-    let is : rest ≡ order_text l.read = l.is ∙ ap (λ r. spaced l.read ++ r) w.0 ∙ append-nil (spaced l.read) ∙ sym (some_text l.read (omega (arith, l.many))) in
+    let is : rest ≡ order_text l.read = l.is ∙ ap (λ r. spaced_numbers l.read ++ r) w.0 ∙ append-nil (spaced_numbers l.read) ∙ sym (some_text l.read (omega (arith, l.many))) in
     subst (HasOrder count limit line) same (record { many = l.many; below = l.below; is = e ∙ ap (λ r. codes "order" ++ r) is }))
 order_by false count limit line rest order t e h =
     elim (bytes_eq rest (codes " -")) as (λ b. bytes_eq rest (codes " -") ≡ b → cond b (Some []) None ≡ Some order → HasOrder count limit line order) [

@@ -11,7 +11,7 @@ use Rattle.std.proofs.lemmas.Fmt.{decimal_nonempty}
 use Rattle.hex.specs.Hex.{IsBytes, encode_lower, encode_with, hex_digit_value, lower_digits}
 use Rattle.hex.proofs.HexLemmas.{IsDigits-lower_digits}
 use Rattle.gal_io.specs.Lines.{fed_lines, lines, without_return, is_skipped}
-use Rattle.gal_io.specs.Number.{spaced}
+use Rattle.gal_io.specs.Number.{spaced_numbers}
 use Rattle.packet_fields.specs.declared.verdict.Verdict.{Verdict}
 use Rattle.packet_fields.specs.declared.verdict.Verdict.TheVariants.{Drop, Send}
 use Rattle.state_store.specs.declared.object.Row.{Row}
@@ -159,9 +159,9 @@ fate_plain n f small h = record { whole = number_plain n (path_with f) (omega ar
 
 -- ---- the order, parts and rows
 
-spaced_plain : (ns : List ℕ) → AllByRecursion (λ n. n < 2 ^ 64) ns → list_all plain (spaced ns) ≡ true
+spaced_plain : (ns : List ℕ) → AllByRecursion (λ n. n < 2 ^ 64) ns → list_all plain (spaced_numbers ns) ≡ true
 spaced_plain [] h = refl
-spaced_plain (n ∷ ns) h = number_plain n (spaced ns) h.0 (spaced_plain ns h.1)
+spaced_plain (n ∷ ns) h = number_plain n (spaced_numbers ns) h.0 (spaced_plain ns h.1)
 
 pub order_plain : (order : List ℕ) → AllByRecursion (λ n. n < 2 ^ 64) order → IsTold (order_told order)
 order_plain [] h = record { whole = refl; told = refl }
@@ -194,6 +194,6 @@ keys_said (n ∷ ns) rest h =
 
 pub row_plain : (row : Row) → AllByRecursion (λ n. n < 2 ^ 64) row.keys → AllByRecursion (λ n. n < 2 ^ 64) row.values → IsTold (row_told row)
 row_plain row hk hv = record {
-  whole = keys_plain row.keys (codes "->" ++ spaced row.values) hk (spaced_plain row.values hv);
-  told = keys_said row.keys (spaced row.values) hk;
+  whole = keys_plain row.keys (codes "->" ++ spaced_numbers row.values) hk (spaced_plain row.values hv);
+  told = keys_said row.keys (spaced_numbers row.values) hk;
 }

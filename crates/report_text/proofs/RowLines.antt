@@ -8,7 +8,7 @@ use Rattle.std.proofs.lemmas.List.{append-nil}
 use Rattle.std.proofs.lemmas.Nat.{pow_pos}
 use Rattle.std.proofs.Math.Pow.{pow_mono}
 use Rattle.std.proofs.lemmas.Bool.Decides.{nat_tests}
-use Rattle.gal_io.specs.Number.{spaced}
+use Rattle.gal_io.specs.Number.{spaced_numbers}
 use Rattle.state_store.specs.declared.object.Row.{Row}
 use Rattle.state_store.specs.Kept.{have_widths}
 use Rattle.run_text.specs.Report.{key_text}
@@ -37,7 +37,7 @@ most_fits w h = let top : 2 ^ w ≤ 2 ^ 64 = pow_mono h in omega (arith, most_is
 
 -- ---- keys
 
-spaced_cut : (ns : List ℕ) → is_cut (spaced ns) ≡ true
+spaced_cut : (ns : List ℕ) → is_cut (spaced_numbers ns) ≡ true
 spaced_cut [] = refl
 spaced_cut (n ∷ ns) = refl
 
@@ -96,7 +96,7 @@ keys_are before (w ∷ ws) line x wide h =
 
 -- ---- values
 
-values_back : (before ws vs : List ℕ) → are_widths ws ≡ true → have_widths ws vs ≡ true → values_at before ws (spaced vs) ≡ Some (before ++ vs, [])
+values_back : (before ws vs : List ℕ) → are_widths ws ≡ true → have_widths ws vs ≡ true → values_at before ws (spaced_numbers vs) ≡ Some (before ++ vs, [])
 values_back before [] [] wide h = ap (λ l. Some (l, [])) (sym (append-nil before))
 values_back before [] (k ∷ ks) wide h = cc h
 values_back before (w ∷ ws) [] wide h = cc h
@@ -105,14 +105,14 @@ values_back before (w ∷ ws) (k ∷ ks) wide h =
     let hp = and_parts (ltb k (2 ^ w)) (have_widths ws ks) h in
     let inside : k < 2 ^ w = grind (arith, nat_tests, hp.0) in
     let small = width_small w wp.0 in
-    rw (labelled_back (most_of w) k (codes " ") (spaced ks) (omega (arith, most_is w small)) (most_fits w small) (spaced_cut ks))
+    rw (labelled_back (most_of w) k (codes " ") (spaced_numbers ks) (omega (arith, most_is w small)) (most_fits w small) (spaced_cut ks))
     (values_back (before ++ k ∷ []) ws ks wp.1 hp.1 ∙ ap (λ l. Some (l, [])) (append_assoc before (k ∷ []) ks))
 
 record AreValues (before ws line : List ℕ) (x : List ℕ × List ℕ) : Type 0 where
   read : List ℕ
   fit : have_widths ws read ≡ true
   all : x.0 ≡ before ++ read
-  is : line ≡ spaced read ++ x.1
+  is : line ≡ spaced_numbers read ++ x.1
 
 values_are : (before ws line : List ℕ) (x : List ℕ × List ℕ) → are_widths ws ≡ true → values_at before ws line ≡ Some x → AreValues before ws line x
 values_are before [] line x wide h =
@@ -129,19 +129,19 @@ values_are before (w ∷ ws) line x wide h =
       read = y.0 ∷ more.read;
       fit = rw (tested, more.fit) refl;
       all = more.all ∙ append_assoc before (y.0 ∷ []) more.read;
-      is = one.1 ∙ ap (λ l. codes " " ++ (decimal y.0 ++ l)) more.is ∙ ap (λ l. codes " " ++ l) (sym (append_assoc (decimal y.0) (spaced more.read) x.1));
+      is = one.1 ∙ ap (λ l. codes " " ++ (decimal y.0 ++ l)) more.is ∙ ap (λ l. codes " " ++ l) (sym (append_assoc (decimal y.0) (spaced_numbers more.read) x.1));
     })
 
 -- ---- rows
 
 -- the line of a row, without its end
 abbrev pub row_told : Row → List ℕ
-row_told row = key_text row.keys ++ (codes "->" ++ spaced row.values)
+row_told row = key_text row.keys ++ (codes "->" ++ spaced_numbers row.values)
 
 pub row_back : (ks vs : List ℕ) (row : Row) → are_widths ks ≡ true → are_widths vs ≡ true → have_widths ks row.keys ≡ true → have_widths vs row.values ≡ true → row_of ks vs (row_told row) ≡ Some row
 unfolding row_of
 row_back ks vs row wk wv hk hv =
-    rw (keys_back [] ks row.keys (codes "->" ++ spaced row.values) wk hk, after_back (codes "->") (spaced row.values), values_back [] vs row.values wv hv) refl
+    rw (keys_back [] ks row.keys (codes "->" ++ spaced_numbers row.values) wk hk, after_back (codes "->") (spaced_numbers row.values), values_back [] vs row.values wv hv) refl
 
 pub record HasRow (ks vs line : List ℕ) (row : Row) : Type 0 where
   pub keys : have_widths ks row.keys ≡ true
@@ -158,8 +158,8 @@ row_is ks vs line row wk wv h =
     let kl = keys_are [] ks line k wk ek in
     let vl = values_are [] vs r v wv ev in
     let keys : key_text kl.read ≡ key_text k.0 = ap key_text (sym kl.all) in
-    let values : r ≡ spaced v.0 = vl.is ∙ ap (λ t. spaced vl.read ++ t) w.0 ∙ append-nil (spaced vl.read) ∙ ap spaced (sym vl.all) in
-    let is : line ≡ key_text k.0 ++ (codes "->" ++ spaced v.0) =
+    let values : r ≡ spaced_numbers v.0 = vl.is ∙ ap (λ t. spaced_numbers vl.read ++ t) w.0 ∙ append-nil (spaced_numbers vl.read) ∙ ap spaced_numbers (sym vl.all) in
+    let is : line ≡ key_text k.0 ++ (codes "->" ++ spaced_numbers v.0) =
     kl.is ∙ ap (λ t. t ++ k.1) keys ∙ ap (λ t. key_text k.0 ++ t) (after_is (codes "->") k.1 r er ∙ ap (λ t. codes "->" ++ t) values) in
     subst (HasRow ks vs line) w.1 (record {
       keys = subst (λ t. have_widths ks t ≡ true) (sym kl.all) kl.fit;

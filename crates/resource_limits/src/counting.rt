@@ -2,8 +2,9 @@
 ghost use Rattle.std.specs.Prelude.{◌≡◌, ℕ, ◌+◌, ◌<◌, ◌≤◌, ◌^◌, length, slice_index, All, IfOk};
 ghost use Rattle.state_store.specs.Kinds.{is_table};
 ghost use Rattle.flat_ir.specs.Program.{program_of};
+ghost use Rattle.gal_bits.specs.Fitting.{sum_of};
 ghost use Rattle.split_model.specs.Bounds.{IsBounded, IsSmall};
-ghost use Rattle.split_model.specs.Counts.{stage_or_zero, stages, sum_of, transfer_bytes};
+ghost use Rattle.split_model.specs.Counts.{stage_or_zero, stages, transfer_bytes};
 ghost use Rattle.split_model.specs.Crossing.{guards_write};
 ghost use Rattle.split_model.specs.Marked.{AreMarked};
 ghost use Rattle.resource_limits.specs.Counts.{counts_of, first_numbers};

@@ -2,7 +2,7 @@
 use Rattle.std.specs.Prelude.{ℕ, suc, Bool, true, false, List, [], ◌∷◌, ◌++◌, length, codes, decimal, Option, Some}
 use Rattle.std.specs.Prelude.{None, slice_get}
 use Rattle.hex.specs.Hex.{encode_lower}
-use Rattle.gal_io.specs.Number.{spaced}
+use Rattle.gal_io.specs.Number.{spaced_numbers}
 use Rattle.packet_fields.specs.declared.verdict.Verdict.{Verdict}
 use Rattle.packet_fields.specs.declared.verdict.Verdict.TheVariants.{Drop, Send}
 use Rattle.run_text.specs.declared.fate.Fate.{Fate}
@@ -53,7 +53,7 @@ fate_lines number (f ∷ fs) = fate_line number f ++ fate_lines (suc number) fs
 
 abbrev pub order_text : List ℕ → List ℕ
 order_text [] = codes " -"
-order_text (n ∷ ns) = spaced (n ∷ ns)
+order_text (n ∷ ns) = spaced_numbers (n ∷ ns)
 
 abbrev pub order_line : List ℕ → List ℕ
 order_line order = codes "order" ++ (order_text order ++ line_end)
@@ -79,7 +79,7 @@ key_text [] = []
 key_text (n ∷ ns) = decimal n ++ (codes " " ++ key_text ns)
 
 abbrev pub row_line : Row → List ℕ
-row_line row = key_text row.keys ++ (codes "->" ++ (spaced row.values ++ line_end))
+row_line row = key_text row.keys ++ (codes "->" ++ (spaced_numbers row.values ++ line_end))
 
 abbrev pub row_lines : List Row → List ℕ
 row_lines [] = []

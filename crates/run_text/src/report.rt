@@ -4,7 +4,7 @@ ghost use Rattle.hex.specs.Hex.{IsBytes};
 ghost use Rattle.run_text.specs.Report.{body_text, decided_text, drained_line, events_line, fate_line};
 ghost use Rattle.run_text.specs.Report.{fate_lines, fate_text, order_line, packets_line, released_text, report_of};
 ghost use Rattle.run_text.specs.Report.{tables_text, verdict_text, version_line};
-ghost use Rattle.gal_io.specs.Number.{spaced};
+ghost use Rattle.gal_io.specs.Number.{spaced_numbers};
 
 use crate::fate::Fate;
 use crate::parts::put_parts;
@@ -138,7 +138,7 @@ fn put_fates(alloc: Global, fates: &[Fate], text: &mut Text) -> Result<(), NoMem
 }
 
 fn put_numbers(numbers: &[u32], text: &mut Text) -> Result<(), NoMemory>
-    ensures { OnOk result (text.new ≡ text.old ++ spaced numbers.now) }
+    ensures { OnOk result (text.new ≡ text.old ++ spaced_numbers numbers.now) }
 {
     for number in numbers {
         text.push(b' ')?;

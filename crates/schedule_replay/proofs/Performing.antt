@@ -1,7 +1,7 @@
 -- The events of a schedule, one after the other.
 use Rattle.std.proofs.Common.{◌≡◌, ◌<◌, ◌≤◌, ◌+◌, ◌-◌, ◌*◌, ◌^◌, ℕ, suc, zero, Bool, true, false, List, [], ◌∷◌, ◌++◌, Option, Some, None, refl, sym, ap, subst, ◌∙◌, arith, length}
 use Rattle.std.specs.Prelude.{is_some, slice_get}
-use Rattle.gal_io.specs.Count.{Counts, count_after}
+use Rattle.gal_io.specs.Count.{IsCountedIf, count_after}
 use Rattle.std.specs.List.{AllByRecursion as Each}
 use Rattle.std.specs.Option.{option_map}
 use Rattle.std.proofs.lemmas.Option.{same_Some, none-some}
@@ -54,8 +54,8 @@ stays_more a b c one two = record {
 }
 
 -- what an error counts behind calls of which none failed, it counts over all of them
-pub counts_behind : (e : ReplayError) (first old new : ℕ) → old ≡ first → Counts (is_port_fault e) old new
-    → Counts (is_port_fault e) first new
+pub counts_behind : (e : ReplayError) (first old new : ℕ) → old ≡ first → IsCountedIf (is_port_fault e) old new
+    → IsCountedIf (is_port_fault e) first new
 counts_behind e first old new same counts = counts ∙ ap (count_after (is_port_fault e)) same
 
 -- ## One event more

@@ -2,7 +2,7 @@
 use Rattle.std.specs.Prelude.{◌≡◌, ◌≤◌, ◌+◌, ℕ, Bool, true, false, List, [], ◌∷◌, ◌++◌, ⊤, Option, Some, length, map}
 use Rattle.std.specs.Prelude.{take}
 use Rattle.std.specs.Option.{option_map}
-use Rattle.gal_io.specs.Count.{Counts}
+use Rattle.gal_io.specs.Count.{IsCountedIf}
 use Rattle.flat_ir.specs.Arrivals.{IsArrival}
 use Rattle.split_model.specs.Layouts.{down_layout}
 use Rattle.transfer_header.specs.Frames.{IsFrame}
@@ -119,7 +119,7 @@ is_port_fault errors.NoMemory = false
 
 -- what an error counts: one call that failed, or none
 abbrev pub CountsFault : ReplayError → PortState → PortState → Type 0
-CountsFault e old new = Counts (is_port_fault e) old.faults new.faults
+CountsFault e old new = IsCountedIf (is_port_fault e) old.faults new.faults
 
 -- ## Between events
 

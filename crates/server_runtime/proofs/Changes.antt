@@ -1,12 +1,12 @@
 -- The number of a put or a del says whether it took effect.
 use Rattle.std.proofs.Common.{◌≡◌, ◌==◌, ℕ, Bool, true, false, [], ◌∷◌, map, length, get_or, Some, None, is_some, refl, sym, ap, if◌then◌else◌}
 use Rattle.packet_fields.specs.declared.packet.Packet.{Packet}
-use Rattle.state_store.specs.Store.{object_at, put_answer, Store}
+use Rattle.state_store.specs.Store.{object_at, put_answer, Store, is_stored}
 use Rattle.state_store.specs.Store as store
 use Rattle.flat_ir.specs.Blocks.{Reading}
 use Rattle.flat_ir.specs.Program.{Work}
 use Rattle.flat_ir.specs.Program.Work.{const, field, apply, shift, select, byte, look, put, del}
-use Rattle.flat_ir.specs.Run.{change_of, is_stored, made, results, Change}
+use Rattle.flat_ir.specs.Run.{change_of, made, results, Change}
 use Rattle.server_runtime.specs.Turns.{changed_by}
 
 wanted_made : (first : ℕ) (live takes : Bool) (c : Change) → first ≡ length (made live (if takes then Some c else None))

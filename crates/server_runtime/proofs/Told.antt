@@ -10,7 +10,7 @@ use Rattle.gal_bits.specs.Fitting.{same_widths}
 use Rattle.state_store.specs.declared.object.ObjectDecl.{ObjectDecl}
 use Rattle.state_store.specs.Fitting.{can_del, can_put, fits_keys, fits_values}
 use Rattle.state_store.specs.Kept.{have_widths}
-use Rattle.state_store.specs.Store.{object_at, put_answer, Store}
+use Rattle.state_store.specs.Store.{object_at, put_answer, Store, is_stored}
 use Rattle.state_store.specs.Store as store
 use Rattle.flat_ir.specs.declared.program.ValueId.{ValueId}
 use Rattle.flat_ir.specs.Blocks.{Reading, is_live}
@@ -19,7 +19,7 @@ use Rattle.flat_ir.specs.Kinds.{is_input}
 use Rattle.flat_ir.specs.Laws.{AllFit, KeepsWidths}
 use Rattle.flat_ir.specs.Program.{Program, Work, step_at, width_of_value}
 use Rattle.flat_ir.specs.Program.Work.{const, field, apply, shift, select, byte, look, put, del}
-use Rattle.flat_ir.specs.Run.{change_of, do_step, is_stored, made, Change, Machine}
+use Rattle.flat_ir.specs.Run.{change_of, do_step, made, Change, Machine}
 use Rattle.flat_ir.specs.WellFormed.{IsWellFormed}
 use Rattle.split_model.specs.declared.split.Part.{Part}
 use Rattle.split_model.specs.Counts.{count_below}

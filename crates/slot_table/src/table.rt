@@ -1,7 +1,7 @@
 //! Tables.
 ghost use Rattle.std.specs.Prelude.{◌≡◌, ◌<◌, ◌≤◌, false, IfOk, length, if◌then◌else◌};
 ghost use Rattle.std.specs.FinMap as map;
-ghost use Rattle.slot_table.specs.Table.{Table, held, is_full, IsWords, IsLaidOut};
+ghost use Rattle.slot_table.specs.Table.{Table, held, is_table_full, IsWords, IsLaidOut};
 ghost use Rattle.slot_table.specs.declared.table.Slot.TheVariants.{Stored, Full};
 
 use crate::probing::{close, probe};
@@ -97,8 +97,8 @@ impl<const K: usize, const V: usize> SlotTable<K, V> {
     pub fn insert(&mut self, key: [u64; K], value: [u64; V]) -> Slot
         requires keys { IsWords K }
         requires values { IsWords V }
-        ensures answer { result ≡ (if is_full self.old key.entry then Full else Stored) }
-        ensures rows { self.new.rows ≡ (if is_full self.old key.entry then self.old.rows
+        ensures answer { result ≡ (if is_table_full self.old key.entry then Full else Stored) }
+        ensures rows { self.new.rows ≡ (if is_table_full self.old key.entry then self.old.rows
             else map.insert self.old.rows key.entry value.entry) }
         ensures unchanged { result ≡ Full → self.new ≡ self.old }
         ensures capacity { self.new.capacity ≡ self.old.capacity }

@@ -1,7 +1,7 @@
 -- Sums of widths.
 use Rattle.std.proofs.Common.{◌≡◌, ℕ, zero, suc, ◌+◌, ◌<◌, List, [], ◌∷◌, ap, arith, length, get_or, map, take, add-one}
+use Rattle.gal_bits.specs.Fitting.{sum_of}
 use Rattle.split_model.specs.declared.layout.Crossing.{Crossing}
-use Rattle.split_model.specs.Counts.{sum_of}
 
 wider : (cs : List Crossing) (i : ℕ) (c : Crossing) → i < length cs → c ≡ get_or cs i c
     → sum_of (map (λ (c : Crossing). c.width) (take (suc i) cs)) ≡ sum_of (map (λ (c : Crossing). c.width) (take i cs)) + c.width

@@ -1,12 +1,11 @@
 -- What the sizes of a source bound in its flat program, and how many stages a pass may have.
 use Rattle.std.specs.Prelude.{◌≡◌, ◌≤◌, ℕ, List, length, Some, All, IsTrue}
 use Rattle.std.specs.List.{list_all}
-use Rattle.gal_bits.specs.Fitting.{is_width}
+use Rattle.gal_bits.specs.Fitting.{is_width, sum_of}
 use Rattle.state_store.specs.declared.object.ObjectDecl.{ObjectDecl}
 use Rattle.flat_ir.specs.Program.{Program}
 use Rattle.flat_ir.specs.WellFormed.{IsWellFormed}
 use Rattle.split_model.specs.declared.split.Part.{Part}
-use Rattle.split_model.specs.Counts.{sum_of}
 use Rattle.split_model.specs.Split.{pre_stage, post_stage}
 
 -- an object has at most 1,048,576 rows, and keys and values of at most 128 bits, and a number of a value

@@ -1,6 +1,7 @@
 -- What a split takes of the switch.
 use Rattle.std.specs.Prelude.{ℕ, zero, suc, ◌+◌, ◌*◌, ◌/◌, max, Bool, ◌&&◌, ◌||◌, List, [], ◌∷◌, map}
 use Rattle.std.specs.Prelude.{length, Option, Some, None, if◌then◌else◌}
+use Rattle.gal_bits.specs.Fitting.{sum_of}
 use Rattle.state_store.specs.declared.object.ObjectDecl.{ObjectDecl}
 use Rattle.state_store.specs.Kinds.{is_table}
 use Rattle.flat_ir.specs.Program.{Program, step_at}
@@ -40,10 +41,6 @@ highest_below split (suc n) =
 
 abbrev pub stages : Program → List Part → ℕ
 stages f split = highest_below split (length f.code)
-
-abbrev pub sum_of : List ℕ → ℕ
-sum_of [] = 0
-sum_of (n ∷ ns) = n + sum_of ns
 
 -- an object is looked up in postprocessing
 abbrev pub is_post_shown : Program → List Part → ℕ → Bool

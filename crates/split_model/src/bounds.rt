@@ -1,10 +1,9 @@
 //! Whether a flat program is no larger than those that sources give.
 ghost use Rattle.std.specs.Prelude.{◌≡◌, ◌≤◌, ◌↔◌, All, IsTrue};
 ghost use Rattle.std.specs.List.{list_all};
-ghost use Rattle.gal_bits.specs.Fitting.{is_width};
+ghost use Rattle.gal_bits.specs.Fitting.{is_width, sum_of};
 ghost use Rattle.flat_ir.specs.Program.{program_of};
 ghost use Rattle.split_model.specs.Bounds.{IsSmall, IsBounded};
-ghost use Rattle.split_model.specs.Counts.{sum_of};
 
 use flat_ir::{Flat, is_well_formed};
 use state_store::ObjectDecl;

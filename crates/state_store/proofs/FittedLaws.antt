@@ -1,14 +1,13 @@
 -- What the calls of a table say of the rows that are packed in it.
 use Rattle.std.proofs.Common.{◌≡◌, ℕ, ◌+◌, ◌*◌, ◌^◌, ◌<◌, Bool, true, false, cond, not, ◌&&◌, nat_le, List, [], ◌∷◌, Option, Some, None, is_some, option_map, refl, sym, ap, ap₂, subst, ◌∙◌, true≢false}
 use Rattle.std.specs.FinMap.{get, len, empty, insert, remove, entries, contains_key}
-use Rattle.slot_table.specs.Table.{Rows, Table, is_full}
+use Rattle.slot_table.specs.Table.{Contents, Table, is_table_full}
 use Rattle.slot_table.specs.declared.table.Slot.{Slot}
 use Rattle.slot_table.specs.declared.table.Slot.TheVariants as slot
 use Rattle.state_store.specs.Fitted.{IsRoomy, ArePacked, HoldsPacked, contents_of, packing_of, Fitted, is_full_at, fits_row, keep_answer, kept_by, kept_row}
 use Rattle.state_store.specs.Kept.{have_widths}
 use Rattle.state_store.specs.Packing.{Packing, have_room, packed, parts, words, number, packed_list, unpacked_list}
 use Rattle.state_store.specs.Sizes.{key_words, value_words}
-use Rattle.state_store.specs.Store.{Contents}
 use Rattle.state_store.specs.declared.any_table.AnyTable.{AnyTable}
 use Rattle.state_store.specs.declared.packed_rows.Kept.{Kept}
 use Rattle.state_store.specs.declared.packed_rows.Kept.TheVariants.{Stored, Full, Misfit}
@@ -31,7 +30,7 @@ as_words count bits ws ns y wide e = ap (words count) (e ∙ ap (λ b. packed b 
 abbrev packing : List ℕ → List ℕ → ℕ → ℕ → Packing
 packing keys values key_words value_words = record { keys = keys; values = values; key_words = key_words; value_words = value_words }
 
-abbrev pub fitted_of : ℕ → Packing → Rows → Fitted
+abbrev pub fitted_of : ℕ → Packing → Contents → Fitted
 fitted_of capacity p rows = record { keys = p.keys; values = p.values; capacity = capacity; contents = contents_of p rows }
 
 -- ---- a look
@@ -40,7 +39,7 @@ unfolding unpacked_list
 found_parts values count bits x r None wide e is = absurd (cc)
 found_parts values count bits x r (Some w) wide e is = ap (λ l. Some l) (is ∙ ap (λ b. parts b values x) wide ∙ ap (parts (64 * count) values) (let same : x ≡ number w = cc in same))
 
-pub look_some : (p : Packing) (rows : Rows) (key r : List ℕ) (bits x : ℕ) → HoldsPacked p rows → have_widths p.keys key ≡ true → bits ≡ 64 * p.value_words
+pub look_some : (p : Packing) (rows : Contents) (key r : List ℕ) (bits x : ℕ) → HoldsPacked p rows → have_widths p.keys key ≡ true → bits ≡ 64 * p.value_words
     → Some x ≡ option_map number (get rows (packed_list p.key_words p.keys key)) → r ≡ parts bits p.values x → Some r ≡ get (contents_of p rows) key
 look_some p rows key r bits x held fit wide look is =
     found_parts p.values p.value_words bits x r (get rows (packed_list p.key_words p.keys key)) wide look is ∙ sym (get_of p held.roomy rows key held.packed fit)
@@ -49,12 +48,12 @@ nothing : (o : Option (List ℕ)) → None ≡ option_map number o → o ≡ Non
 nothing None e = refl
 nothing (Some w) e = absurd (cc)
 
-pub look_none : (p : Packing) (rows : Rows) (key : List ℕ) → HoldsPacked p rows → have_widths p.keys key ≡ true
+pub look_none : (p : Packing) (rows : Contents) (key : List ℕ) → HoldsPacked p rows → have_widths p.keys key ≡ true
     → None ≡ option_map number (get rows (packed_list p.key_words p.keys key)) → None ≡ get (contents_of p rows) key
 look_none p rows key held fit look =
     sym (get_of p held.roomy rows key held.packed fit ∙ ap (option_map (unpacked_list p.value_words p.values)) (nothing _ look))
 
-pub look_misfit : (p : Packing) (rows : Rows) (key : List ℕ) → HoldsPacked p rows → have_widths p.keys key ≡ false → None ≡ get (contents_of p rows) key
+pub look_misfit : (p : Packing) (rows : Contents) (key : List ℕ) → HoldsPacked p rows → have_widths p.keys key ≡ false → None ≡ get (contents_of p rows) key
 look_misfit p rows key held fit = sym (get_misfit p held.roomy rows key held.packed fit)
 
 mapped_some : (f : List ℕ → List ℕ) (o : Option (List ℕ)) → is_some (option_map f o) ≡ is_some o
@@ -62,20 +61,20 @@ mapped_some f None = refl
 mapped_some f (Some x) = refl
 
 -- a key is there where its words are
-pub there_same : (p : Packing) (rows : Rows) (key : List ℕ) → HoldsPacked p rows → have_widths p.keys key ≡ true → contains_key (contents_of p rows) key ≡ contains_key rows (packed_list p.key_words p.keys key)
+pub there_same : (p : Packing) (rows : Contents) (key : List ℕ) → HoldsPacked p rows → have_widths p.keys key ≡ true → contains_key (contents_of p rows) key ≡ contains_key rows (packed_list p.key_words p.keys key)
 there_same p rows key held fit = ap is_some (get_of p held.roomy rows key held.packed fit) ∙ mapped_some _ _
 
 -- ---- a del
-pub del_misfit : (p : Packing) (capacity : ℕ) (rows : Rows) (key : List ℕ) → HoldsPacked p rows → have_widths p.keys key ≡ false
+pub del_misfit : (p : Packing) (capacity : ℕ) (rows : Contents) (key : List ℕ) → HoldsPacked p rows → have_widths p.keys key ≡ false
     → fitted_of capacity p rows ≡ record (fitted_of capacity p rows) { contents = remove (contents_of p rows) key }
 del_misfit p capacity rows key held fit =
     ap (λ (m : Contents). record (fitted_of capacity p rows) { contents = m }) (sym (map_absent (contents_of p rows) key (sym (look_misfit p rows key held fit))))
 
-pub del_holds : (p p' : Packing) (rows rows' : Rows) (key words : List ℕ) → HoldsPacked p rows → p' ≡ p → rows' ≡ remove rows words → HoldsPacked p' rows'
+pub del_holds : (p p' : Packing) (rows rows' : Contents) (key words : List ℕ) → HoldsPacked p rows → p' ≡ p → rows' ≡ remove rows words → HoldsPacked p' rows'
 del_holds p p' rows rows' key words held same e =
     subst (λ q. HoldsPacked q rows') (sym same) (subst (HoldsPacked p) (sym e) (record { roomy = held.roomy; packed = remove_packed p held.roomy rows words held.packed }))
 
-pub del_after : (p p' : Packing) (capacity capacity' : ℕ) (rows rows' : Rows) (key : List ℕ) → HoldsPacked p rows → have_widths p.keys key ≡ true → p' ≡ p → capacity' ≡ capacity → rows' ≡ remove rows (packed_list p.key_words p.keys key)
+pub del_after : (p p' : Packing) (capacity capacity' : ℕ) (rows rows' : Contents) (key : List ℕ) → HoldsPacked p rows → have_widths p.keys key ≡ true → p' ≡ p → capacity' ≡ capacity → rows' ≡ remove rows (packed_list p.key_words p.keys key)
     → fitted_of capacity' p' rows' ≡ record (fitted_of capacity p rows) { contents = remove (contents_of p rows) key }
 del_after p p' capacity capacity' rows rows' key held fit same room e =
     ap (λ n. fitted_of n p' rows') room ∙ ap (λ q. fitted_of capacity q rows') same ∙ ap (λ m. fitted_of capacity p m) e
@@ -83,7 +82,7 @@ del_after p p' capacity capacity' rows rows' key held fit same room e =
 
 -- ---- a put
 pub full_same : (p : Packing) (table : Table) (key : List ℕ) → HoldsPacked p table.rows → have_widths p.keys key ≡ true
-    → is_full_at table.capacity (contents_of p table.rows) key ≡ is_full table (packed_list p.key_words p.keys key)
+    → is_full_at table.capacity (contents_of p table.rows) key ≡ is_table_full table (packed_list p.key_words p.keys key)
 full_same p table key held fit =
     ap₂ (λ b n. not b && nat_le table.capacity n) (there_same p table.rows key held fit) (len_of p held.roomy table.rows held.packed)
 
@@ -108,46 +107,46 @@ answered true = refl
 answered false = refl
 
 pub put_answer : (p : Packing) (table : Table) (key values : List ℕ) (s : Slot) (r : Kept) → HoldsPacked p table.rows → have_widths p.keys key ≡ true → have_widths p.values values ≡ true
-    → s ≡ cond (is_full table (packed_list p.key_words p.keys key)) slot.Full slot.Stored → r ≡ kept_by s → r ≡ keep_answer (fitted_of table.capacity p table.rows) key values
+    → s ≡ cond (is_table_full table (packed_list p.key_words p.keys key)) slot.Full slot.Stored → r ≡ kept_by s → r ≡ keep_answer (fitted_of table.capacity p table.rows) key values
 put_answer p table key values s r held fit fit' e is =
     let full = full_same p table key held fit in
-    is ∙ ap kept_by e ∙ answered (is_full table (packed_list p.key_words p.keys key)) ∙ ap (λ b. cond b Full Stored) (sym full)
+    is ∙ ap kept_by e ∙ answered (is_table_full table (packed_list p.key_words p.keys key)) ∙ ap (λ b. cond b Full Stored) (sym full)
     ∙ ap (λ b. cond b (cond (is_full_at table.capacity (contents_of p table.rows) key) Full Stored) Misfit) (sym (both _ _ fit fit'))
 
-either_holds : (p : Packing) (full : Bool) (rows : Rows) (key values : List ℕ) → HoldsPacked p rows → have_widths p.keys key ≡ true → have_widths p.values values ≡ true
+either_holds : (p : Packing) (full : Bool) (rows : Contents) (key values : List ℕ) → HoldsPacked p rows → have_widths p.keys key ≡ true → have_widths p.values values ≡ true
     → HoldsPacked p (cond full rows (insert rows (packed_list p.key_words p.keys key) (packed_list p.value_words p.values values)))
 either_holds p true rows key values held fit fit' = held
 either_holds p false rows key values held fit fit' = record { roomy = held.roomy; packed = insert_packed p held.roomy rows key values held.packed fit fit' }
 
-pub put_holds : (p p' : Packing) (full : Bool) (rows rows' : Rows) (key values : List ℕ) → HoldsPacked p rows → have_widths p.keys key ≡ true → have_widths p.values values ≡ true → p' ≡ p
+pub put_holds : (p p' : Packing) (full : Bool) (rows rows' : Contents) (key values : List ℕ) → HoldsPacked p rows → have_widths p.keys key ≡ true → have_widths p.values values ≡ true → p' ≡ p
     → rows' ≡ cond full rows (insert rows (packed_list p.key_words p.keys key) (packed_list p.value_words p.values values)) → HoldsPacked p' rows'
 put_holds p p' full rows rows' key values held fit fit' same e =
     subst (λ q. HoldsPacked q rows') (sym same) (subst (HoldsPacked p) (sym e) (either_holds p full rows key values held fit fit'))
 
-either_after : (p : Packing) (full : Bool) (capacity : ℕ) (rows : Rows) (key values : List ℕ) → HoldsPacked p rows → have_widths p.keys key ≡ true → have_widths p.values values ≡ true
+either_after : (p : Packing) (full : Bool) (capacity : ℕ) (rows : Contents) (key values : List ℕ) → HoldsPacked p rows → have_widths p.keys key ≡ true → have_widths p.values values ≡ true
     → fitted_of capacity p (cond full rows (insert rows (packed_list p.key_words p.keys key) (packed_list p.value_words p.values values)))
     ≡ cond full (fitted_of capacity p rows) (record (fitted_of capacity p rows) { contents = insert (contents_of p rows) key values })
 either_after p true capacity rows key values held fit fit' = refl
 either_after p false capacity rows key values held fit fit' =
     ap (λ (m : Contents). record (fitted_of capacity p rows) { contents = m }) (insert_of p held.roomy rows key values held.packed fit fit')
 
-pub put_after : (p p' : Packing) (table : Table) (capacity' : ℕ) (rows' : Rows) (key values : List ℕ) → HoldsPacked p table.rows → have_widths p.keys key ≡ true → have_widths p.values values ≡ true → p' ≡ p
+pub put_after : (p p' : Packing) (table : Table) (capacity' : ℕ) (rows' : Contents) (key values : List ℕ) → HoldsPacked p table.rows → have_widths p.keys key ≡ true → have_widths p.values values ≡ true → p' ≡ p
     → capacity' ≡ table.capacity
-    → rows' ≡ cond (is_full table (packed_list p.key_words p.keys key)) table.rows (insert table.rows (packed_list p.key_words p.keys key) (packed_list p.value_words p.values values))
+    → rows' ≡ cond (is_table_full table (packed_list p.key_words p.keys key)) table.rows (insert table.rows (packed_list p.key_words p.keys key) (packed_list p.value_words p.values values))
     → fitted_of capacity' p' rows' ≡ kept_row (fitted_of table.capacity p table.rows) key values
 put_after p p' table capacity' rows' key values held fit fit' same room e =
     let f = fitted_of table.capacity p table.rows in
     let more = record f { contents = insert (contents_of p table.rows) key values } in
     ap (λ n. fitted_of n p' rows') room ∙ ap (λ q. fitted_of table.capacity q rows') same ∙ ap (λ m. fitted_of table.capacity p m) e
-    ∙ either_after p (is_full table (packed_list p.key_words p.keys key)) table.capacity table.rows key values held fit fit'
+    ∙ either_after p (is_table_full table (packed_list p.key_words p.keys key)) table.capacity table.rows key values held fit fit'
     ∙ ap (λ b. cond b f more) (sym (full_same p table key held fit))
     ∙ ap (λ b. cond b (cond (is_full_at table.capacity (contents_of p table.rows) key) f more) f) (sym (both _ _ fit fit'))
 
 -- ---- no rows
-pub none_hold : (p : Packing) (rows : Rows) → rows ≡ empty → IsRoomy p → HoldsPacked p rows
+pub none_hold : (p : Packing) (rows : Contents) → rows ≡ empty → IsRoomy p → HoldsPacked p rows
 none_hold p rows e roomy = subst (HoldsPacked p) (sym e) (record { roomy = roomy; packed = subst (ArePacked p) (sym no_entries) tt })
 
-pub none_contents : (p : Packing) (rows : Rows) → rows ≡ empty → contents_of p rows ≡ empty
+pub none_contents : (p : Packing) (rows : Contents) → rows ≡ empty → contents_of p rows ≡ empty
 none_contents p rows e = ap (contents_of p) e ∙ map_empty _ (ap (λ es. Rattle.std.specs.FinMap.from_sorted (Rattle.std.proofs.Common.map (Rattle.state_store.specs.Fitted.unpacked_row p) es)) no_entries)
 
 -- a table with as many words as another

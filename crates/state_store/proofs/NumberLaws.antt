@@ -8,11 +8,11 @@ use Rattle.std.proofs.lemmas.Bool.Decides.{nat_tests}
 use Rattle.std.proofs.lemmas.List.{drop_all}
 use Rattle.std.proofs.lemmas.List.Elements.{All-nil, All-cons}
 use Rattle.std.proofs.lemmas.List.Sorted.{IsPermutation-map, IsPermutation-trans, IsPermutation-sym}
-use Rattle.slot_table.specs.Table.{Row, Rows, Slots, held, IsLaidOut}
+use Rattle.slot_table.specs.Table.{Entry, Contents, Slots, held, IsLaidOut}
 use Rattle.state_store.specs.declared.object.Row as Kept
 use Rattle.state_store.specs.Fitted.{IsRoomy, IsPackedRow, ArePacked, HoldsPacked, contents_of, unpacked_row}
 use Rattle.state_store.specs.Kept.{have_widths}
-use Rattle.state_store.specs.Listing.{row_in, rows_in, HoldsRows}
+use Rattle.state_store.specs.Listing.{row_of_numbers, rows_of_numbers, HoldsRows}
 use Rattle.state_store.specs.Packing.{Packing, have_room, packed, parts, words, number, packed_list, unpacked_list}
 use Rattle.state_store.specs.Places.{Entries}
 use Rattle.state_store.specs.Sizes.{slot_rows, row_numbers, option_list}
@@ -29,7 +29,7 @@ pub slot_pushed : (s : Slots) (i : ℕ) (o : Option (ℕ × ℕ)) (l l' w : Numb
     → l ++ map row_numbers (slot_rows (drop i s)) ≡ w → l' ++ map row_numbers (slot_rows (drop (i + 1) s)) ≡ w
 slot_pushed s i o l l' w lt e is so_far = go (held s i) o refl e is
   where
-    go : (r : Option Row) (o : Option (ℕ × ℕ)) → held s i ≡ r → o ≡ option_map row_numbers r → l' ≡ l ++ option_list o
+    go : (r : Option Entry) (o : Option (ℕ × ℕ)) → held s i ≡ r → o ≡ option_map row_numbers r → l' ≡ l ++ option_list o
         → l' ++ map row_numbers (slot_rows (drop (i + 1) s)) ≡ w
     go None None h e is =
         ap (λ x. x ++ map row_numbers (slot_rows (drop (i + 1) s))) (is ∙ append-nil l) ∙ ap (λ x. l ++ map row_numbers x) (sym (gap_at s i lt h)) ∙ so_far
@@ -65,7 +65,7 @@ number_cmp x y = ordering_then (nat_cmp x.0 y.0) (nat_cmp x.1 y.1)
 
 module _ (p : Packing) where
   -- two numbers as the words of a row
-  abbrev back : ℕ × ℕ → Row
+  abbrev back : ℕ × ℕ → Entry
   back n = (words p.key_words n.0, words p.value_words n.1)
 
   back_cmp : (x y : ℕ × ℕ) → entry_cmp (back x) (back y) ≡ number_cmp x y
@@ -82,14 +82,14 @@ module _ (p : Packing) where
       (λ d some. at_most (back x) (back y) (map back ys) d near rest.0 (first_or_behind d (back y) (map back ys) some), rest)
 
   -- words that were packed come back
-  one_back : (e : Row) → IsPackedRow p e → back (row_numbers e) ≡ e
+  one_back : (e : Entry) → IsPackedRow p e → back (row_numbers e) ≡ e
   one_back e is = ap₂ (λ (k v : List ℕ). (k, v)) (words_back p.key_words p.keys e.0 (unpacked_row p e).0 is.same_key) (words_back p.value_words p.values e.1 (unpacked_row p e).1 is.same_values)
 
   all_back : (es : Entries) → ArePacked p es → map back (map row_numbers es) ≡ es
   all_back [] all = refl
-  all_back (e ∷ es) all = ap₂ (λ (d : Row) ds. d ∷ ds) (one_back e all.0) (all_back es all.1)
+  all_back (e ∷ es) all = ap₂ (λ (d : Entry) ds. d ∷ ds) (one_back e all.0) (all_back es all.1)
 
-  sorted_back : (rows : Rows) (s : Slots) (l sorted : Numbers) → HoldsPacked p rows → IsLaidOut rows s → l ≡ map row_numbers (slot_rows s) → IsPermutation l sorted
+  sorted_back : (rows : Contents) (s : Slots) (l sorted : Numbers) → HoldsPacked p rows → IsLaidOut rows s → l ≡ map row_numbers (slot_rows s) → IsPermutation l sorted
       → IsSorted number_cmp sorted → map back sorted ≡ entries rows
   sorted_back rows s l sorted held laid e moved up =
       let there = subst (λ x. IsPermutation x (map row_numbers (entries rows))) (sym e) (IsPermutation-map row_numbers (slot_rows s) (entries rows) (slots_permute rows s laid)) in
@@ -98,10 +98,10 @@ module _ (p : Packing) where
       ascending_is (entries rows) (map back sorted) (entries_sorted rows) words (back_rises sorted up)
 
   -- the rows that the numbers hold
-  one_row : (n : ℕ × ℕ) → row_in (64 * p.key_words) (64 * p.value_words) p.keys p.values n ≡ row_of (unpacked_row p (back n))
+  one_row : (n : ℕ × ℕ) → row_of_numbers (64 * p.key_words) (64 * p.value_words) p.keys p.values n ≡ row_of (unpacked_row p (back n))
   one_row n = ap₂ (λ (k v : List ℕ). row_of (k, v)) (sym (unpacked_words p.key_words p.keys n.0)) (sym (unpacked_words p.value_words p.values n.1))
 
-  all_rows : (ns : Numbers) → rows_in (64 * p.key_words) (64 * p.value_words) p.keys p.values ns ≡ rows_from (map (unpacked_row p) (map back ns))
+  all_rows : (ns : Numbers) → rows_of_numbers (64 * p.key_words) (64 * p.value_words) p.keys p.values ns ≡ rows_from (map (unpacked_row p) (map back ns))
   all_rows [] = refl
   all_rows (n ∷ ns) = ap₂ (λ (r : Kept.Row) rs. r ∷ rs) (one_row n) (all_rows ns)
 
@@ -113,12 +113,12 @@ module _ (p : Packing) where
   values_below roomy [] all = All-nil _
   values_below roomy (n ∷ ns) all = All-cons (λ (x : ℕ × ℕ). x.1 < 2 ^ (64 * p.value_words)) n ns (number_below p.value_words p.values n.1 (unpacked_row p (back n)).1 roomy.values all.0.values_fit all.0.same_values) (values_below roomy ns all.1)
 
-  pub listed_rows : (rows : Rows) (s : Slots) (l sorted : Numbers) → HoldsPacked p rows → IsLaidOut rows s → l ≡ map row_numbers (slot_rows s) → IsPermutation l sorted
-      → IsSorted number_cmp sorted → rows_in (64 * p.key_words) (64 * p.value_words) p.keys p.values sorted ≡ rows_from (entries (contents_of p rows))
+  pub listed_rows : (rows : Contents) (s : Slots) (l sorted : Numbers) → HoldsPacked p rows → IsLaidOut rows s → l ≡ map row_numbers (slot_rows s) → IsPermutation l sorted
+      → IsSorted number_cmp sorted → rows_of_numbers (64 * p.key_words) (64 * p.value_words) p.keys p.values sorted ≡ rows_from (entries (contents_of p rows))
   listed_rows rows s l sorted held laid e moved up =
       all_rows sorted ∙ ap (λ es. rows_from (map (unpacked_row p) es)) (sorted_back rows s l sorted held laid e moved up) ∙ ap rows_from (sym (entries_of p held.roomy rows held.packed))
 
-  pub listed_holds : (rows : Rows) (s : Slots) (l sorted : Numbers) → 64 * p.key_words ≤ 128 → 64 * p.value_words ≤ 128 → HoldsPacked p rows → IsLaidOut rows s
+  pub listed_holds : (rows : Contents) (s : Slots) (l sorted : Numbers) → 64 * p.key_words ≤ 128 → 64 * p.value_words ≤ 128 → HoldsPacked p rows → IsLaidOut rows s
       → l ≡ map row_numbers (slot_rows s) → IsPermutation l sorted → IsSorted number_cmp sorted
       → HoldsRows (64 * p.key_words) (64 * p.value_words) p.keys p.values sorted
   listed_holds rows s l sorted key_le value_le held laid e moved up =

@@ -5,7 +5,7 @@ use Rattle.std.specs.Ordering.{eq_by_cmp, is_eq, is_lt}
 use Rattle.std.specs.FinMap.{find, is_sorted, get, len, insert, remove, entries, from_sorted, entries_sorted, same_entries_map, entries-from_sorted, entries-insert, get-entries, len-entries}
 use Rattle.std.specs.FinMap.Entries.{by_order, below_all}
 use Rattle.std.proofs.lemmas.Cmp.{nat_list_cmp_total}
-use Rattle.slot_table.specs.Table.{Row, Rows}
+use Rattle.slot_table.specs.Table.{Entry, Contents}
 use Rattle.state_store.specs.Fitted.{IsRoomy, IsPackedRow, ArePacked, unpacked_row, contents_of}
 use Rattle.state_store.specs.Kept.{have_widths}
 use Rattle.state_store.specs.Packing.{Packing, packed_list, unpacked_list}
@@ -43,13 +43,13 @@ module _ (p : Packing) (roomy : IsRoomy p) where
   }
 
   -- a key compares with packed ones as its words do
-  one_cmp : (k : List ℕ) (e : Row) → have_widths p.keys k ≡ true → IsPackedRow p e → key_cmp (key_of k) e.0 ≡ key_cmp k (unpacked_row p e).0
+  one_cmp : (k : List ℕ) (e : Entry) → have_widths p.keys k ≡ true → IsPackedRow p e → key_cmp (key_of k) e.0 ≡ key_cmp k (unpacked_row p e).0
   one_cmp k e fit is = ap (key_cmp (key_of k)) (sym is.same_key) ∙ packed_list_cmp p.key_words p.keys k (unpacked_row p e).0 roomy.keys fit is.key_fits
 
-  two_cmp : (d e : Row) → IsPackedRow p d → IsPackedRow p e → key_cmp d.0 e.0 ≡ key_cmp (unpacked_row p d).0 (unpacked_row p e).0
+  two_cmp : (d e : Entry) → IsPackedRow p d → IsPackedRow p e → key_cmp d.0 e.0 ≡ key_cmp (unpacked_row p d).0 (unpacked_row p e).0
   two_cmp d e is so = ap (λ w. key_cmp w e.0) (sym is.same_key) ∙ one_cmp (unpacked_row p d).0 e is.key_fits so
 
-  below_same : (d : Row) (es : Entries) → IsPackedRow p d → ArePacked p es → below_all key_cmp (unpacked_row p d).0 (unpacked es) ≡ below_all key_cmp d.0 es
+  below_same : (d : Entry) (es : Entries) → IsPackedRow p d → ArePacked p es → below_all key_cmp (unpacked_row p d).0 (unpacked es) ≡ below_all key_cmp d.0 es
   below_same d [] is all = refl
   below_same d (e ∷ es) is all = ap₂ (λ o b. is_lt o && b) (sym (two_cmp d e is all.0)) (below_same d es is all.1)
 
@@ -114,45 +114,45 @@ module _ (p : Packing) (roomy : IsRoomy p) where
       elim (is_eq (key_cmp k e.0)) as (λ b. ArePacked p (cond (not b) (e ∷ others k es) (others k es))) [ true ↦ others_packed k es all.1 | false ↦ (all.0, others_packed k es all.1) ]
 
   -- ---- maps
-  pub unpacked_sorted : (rows : Rows) → ArePacked p (entries rows) → IsSorted (unpacked (entries rows))
+  pub unpacked_sorted : (rows : Contents) → ArePacked p (entries rows) → IsSorted (unpacked (entries rows))
   unpacked_sorted rows all = subst T (sym (sorted_same (entries rows) all)) (entries_sorted rows)
 
-  pub entries_of : (rows : Rows) → ArePacked p (entries rows) → entries (contents_of p rows) ≡ unpacked (entries rows)
+  pub entries_of : (rows : Contents) → ArePacked p (entries rows) → entries (contents_of p rows) ≡ unpacked (entries rows)
   entries_of rows all = entries-from_sorted key_cmp (unpacked (entries rows)) (unpacked_sorted rows all)
 
-  pub get_of : (rows : Rows) (k : List ℕ) → ArePacked p (entries rows) → have_widths p.keys k ≡ true → get (contents_of p rows) k ≡ option_map numbers_of (get rows (key_of k))
+  pub get_of : (rows : Contents) (k : List ℕ) → ArePacked p (entries rows) → have_widths p.keys k ≡ true → get (contents_of p rows) k ≡ option_map numbers_of (get rows (key_of k))
   get_of rows k all fit = map_get (unpacked (entries rows)) k (unpacked_sorted rows all) ∙ find_same k (entries rows) fit all ∙ ap (option_map numbers_of) (sym (get-entries rows (key_of k)))
 
-  pub get_misfit : (rows : Rows) (k : List ℕ) → ArePacked p (entries rows) → have_widths p.keys k ≡ false → get (contents_of p rows) k ≡ None
+  pub get_misfit : (rows : Contents) (k : List ℕ) → ArePacked p (entries rows) → have_widths p.keys k ≡ false → get (contents_of p rows) k ≡ None
   get_misfit rows k all fit = map_get (unpacked (entries rows)) k (unpacked_sorted rows all) ∙ find_misfit k (entries rows) fit all
 
   length_same : (es : Entries) → length (unpacked es) ≡ length es
   length_same [] = refl
   length_same (e ∷ es) = ap suc (length_same es)
 
-  pub len_of : (rows : Rows) → ArePacked p (entries rows) → len (contents_of p rows) ≡ len rows
+  pub len_of : (rows : Contents) → ArePacked p (entries rows) → len (contents_of p rows) ≡ len rows
   len_of rows all = len-entries (contents_of p rows) ∙ ap length (entries_of rows all) ∙ length_same (entries rows) ∙ sym (len-entries rows)
 
-  pub insert_packed : (rows : Rows) (k v : List ℕ) → ArePacked p (entries rows) → have_widths p.keys k ≡ true → have_widths p.values v ≡ true → ArePacked p (entries (insert rows (key_of k) (values_of v)))
+  pub insert_packed : (rows : Contents) (k v : List ℕ) → ArePacked p (entries rows) → have_widths p.keys k ≡ true → have_widths p.values v ≡ true → ArePacked p (entries (insert rows (key_of k) (values_of v)))
   insert_packed rows k v all key value = subst (ArePacked p) (sym (entries-insert nat_list_cmp_total rows (key_of k) (values_of v))) (put_packed k v (entries rows) key value all)
 
-  pub insert_of : (rows : Rows) (k v : List ℕ) → ArePacked p (entries rows) → have_widths p.keys k ≡ true → have_widths p.values v ≡ true → contents_of p (insert rows (key_of k) (values_of v)) ≡ insert (contents_of p rows) k v
+  pub insert_of : (rows : Contents) (k v : List ℕ) → ArePacked p (entries rows) → have_widths p.keys k ≡ true → have_widths p.values v ≡ true → contents_of p (insert rows (key_of k) (values_of v)) ≡ insert (contents_of p rows) k v
   insert_of rows k v all key value =
       ap (λ es. from_sorted (unpacked es)) (entries-insert nat_list_cmp_total rows (key_of k) (values_of v))
       ∙ ap (λ es. from_sorted es) (put_same k v (entries rows) key value all)
       ∙ map_with (unpacked (entries rows)) k v (unpacked_sorted rows all)
 
   -- the entries of a map without a key
-  entries_without : (rows : Rows) (k : List ℕ) → entries (remove rows k) ≡ others k (entries rows)
+  entries_without : (rows : Contents) (k : List ℕ) → entries (remove rows k) ≡ others k (entries rows)
   entries_without rows k =
       let same : from_sorted {R = key_cmp} (others k (entries rows)) ≡ remove (from_sorted (entries rows)) k = map_without (entries rows) k (entries_sorted rows) in
       let whole : from_sorted {R = key_cmp} (entries rows) ≡ rows = same_entries_map _ rows (entries-from_sorted key_cmp (entries rows) (entries_sorted rows)) in
       ap entries (ap (λ m. remove m k) (sym whole) ∙ sym same) ∙ entries-from_sorted key_cmp (others k (entries rows)) (others_sorted (entries rows) k (entries_sorted rows))
 
-  pub remove_packed : (rows : Rows) (k : List ℕ) → ArePacked p (entries rows) → ArePacked p (entries (remove rows k))
+  pub remove_packed : (rows : Contents) (k : List ℕ) → ArePacked p (entries rows) → ArePacked p (entries (remove rows k))
   remove_packed rows k all = subst (ArePacked p) (sym (entries_without rows k)) (others_packed k (entries rows) all)
 
-  pub remove_of : (rows : Rows) (k : List ℕ) → ArePacked p (entries rows) → have_widths p.keys k ≡ true → contents_of p (remove rows (key_of k)) ≡ remove (contents_of p rows) k
+  pub remove_of : (rows : Contents) (k : List ℕ) → ArePacked p (entries rows) → have_widths p.keys k ≡ true → contents_of p (remove rows (key_of k)) ≡ remove (contents_of p rows) k
   remove_of rows k all key =
       ap (λ es. from_sorted (unpacked es)) (entries_without rows (key_of k))
       ∙ ap (λ es. from_sorted es) (others_same k (entries rows) key all)

@@ -12,7 +12,7 @@ use Rattle.std.proofs.lemmas.Cmp.{nat_list_cmp_total}
 use Rattle.std.proofs.lemmas.List.{take_all}
 use Rattle.std.proofs.lemmas.List.Sorted.{IsPermutation-refl, IsPermutation-cons, IsPermutation-trans, IsPermutation-sym, IsPermutation-middle, length_permutation}
 use Rattle.std.proofs.lemmas.Map.Lookups.{exact_bytes}
-use Rattle.slot_table.specs.Table.{Row, Rows, Slots, held, IsLaidOut}
+use Rattle.slot_table.specs.Table.{Entry, Contents, Slots, held, IsLaidOut}
 use Rattle.state_store.specs.Places.{Entries, with_entry}
 use Rattle.state_store.specs.Sizes.{slot_rows, with_slot}
 use Rattle.state_store.specs.Store.{key_cmp}
@@ -22,7 +22,7 @@ use Rattle.state_store.proofs.Entries.{is_equal, no_entries}
 abbrev pub IsOnce : Slots → Type 0
 IsOnce s = (i j : ℕ) (k v w : List ℕ) → held s i ≡ Some (k, v) → held s j ≡ Some (k, w) → i ≡ j
 
-tail_once : (x : Option Row) (s : Slots) → IsOnce (x ∷ s) → IsOnce s
+tail_once : (x : Option Entry) (s : Slots) → IsOnce (x ∷ s) → IsOnce s
 tail_once x s once i j k v w a b = let e = once (suc i) (suc j) k v w a b in omega arith
 
 same_key : (k q : List ℕ) → eq_by_cmp key_cmp k q ≡ true → k ≡ q
@@ -59,10 +59,10 @@ stands (Some row ∷ s) (suc i) k v once e = go (eq_by_cmp key_cmp k row.0) refl
         let twice : 0 ≡ suc i = once 0 (suc i) k row.1 v first e in absurd (omega arith)
     go false is rest = rest
 
-pub once_of : (rows : Rows) (s : Slots) → IsLaidOut rows s → IsOnce s
+pub once_of : (rows : Contents) (s : Slots) → IsLaidOut rows s → IsOnce s
 once_of rows s laid = laid.once
 
-pub find_is : (rows : Rows) (s : Slots) (k : List ℕ) → IsLaidOut rows s → find key_cmp k (slot_rows s) ≡ get rows k
+pub find_is : (rows : Contents) (s : Slots) (k : List ℕ) → IsLaidOut rows s → find key_cmp k (slot_rows s) ≡ get rows k
 find_is rows s k laid = go (get rows k) (find key_cmp k (slot_rows s)) refl refl
   where
     go : (there here : Option (List ℕ)) → get rows k ≡ there → find key_cmp k (slot_rows s) ≡ here → find key_cmp k (slot_rows s) ≡ get rows k
@@ -85,7 +85,7 @@ apart (Some row ∷ s) once = (go (find key_cmp row.0 (slot_rows s)) refl, apart
     go (Some v) e = let at = found s row.0 v e in let twice : 0 ≡ suc at.0 = once 0 (suc at.0) row.0 row.1 v refl at.1 in absurd (omega arith)
 
 -- the map of all rows
-pub map_is : (rows : Rows) (s : Slots) → IsLaidOut rows s → from_entries (slot_rows s) ≡ rows
+pub map_is : (rows : Contents) (s : Slots) → IsLaidOut rows s → from_entries (slot_rows s) ≡ rows
 map_is rows s laid = same_map nat_list_cmp_total exact_bytes _ rows (λ q. get-from_entries nat_list_cmp_total (slot_rows s) q ∙ find_is rows s q laid)
 
 -- a new entry stands somewhere among the others
@@ -109,18 +109,18 @@ moves (e ∷ es) apart =
     let none : find key_cmp e.0 (entries (from_entries {R = key_cmp} es)) ≡ None = sym (get-entries (from_entries es) e.0) ∙ get-from_entries nat_list_cmp_total es e.0 ∙ apart.0 in
     subst (IsPermutation (e ∷ es)) (sym (entries-insert nat_list_cmp_total (from_entries es) e.0 e.1)) (IsPermutation-trans _ _ _ inner (put_moves e.0 e.1 _ none))
 
-pub slots_permute : (rows : Rows) (s : Slots) → IsLaidOut rows s → IsPermutation (slot_rows s) (entries rows)
+pub slots_permute : (rows : Contents) (s : Slots) → IsLaidOut rows s → IsPermutation (slot_rows s) (entries rows)
 slots_permute rows s laid = subst (λ m. IsPermutation (slot_rows s) (entries m)) (map_is rows s laid) (moves (slot_rows s) (apart s laid.once))
 
-pub slots_count : (rows : Rows) (s : Slots) → IsLaidOut rows s → length (slot_rows s) ≡ len rows
+pub slots_count : (rows : Contents) (s : Slots) → IsLaidOut rows s → length (slot_rows s) ≡ len rows
 slots_count rows s laid = sym (length_permutation _ _ (slots_permute rows s laid)) ∙ sym (len-entries rows)
 
 -- ---- slot by slot
-pub row_at : (s : Slots) (i : ℕ) (row : Row) → i < length s → held s i ≡ Some row → slot_rows (drop i s) ≡ row ∷ slot_rows (drop (i + 1) s)
+pub row_at : (s : Slots) (i : ℕ) (row : Entry) → i < length s → held s i ≡ Some row → slot_rows (drop i s) ≡ row ∷ slot_rows (drop (i + 1) s)
 row_at [] i row lt e = absurd (omega arith)
 row_at (x ∷ s) zero row lt e = first x e
   where
-    first : (x : Option Row) → x ≡ Some row → slot_rows (x ∷ s) ≡ row ∷ slot_rows s
+    first : (x : Option Entry) → x ≡ Some row → slot_rows (x ∷ s) ≡ row ∷ slot_rows s
     first None e = absurd (cc)
     first (Some r) e = let is : r ≡ row = cc in ap (λ z. z ∷ slot_rows s) is
 row_at (x ∷ s) (suc i) row lt e = let n : suc i + 1 ≡ suc (i + 1) = omega arith in rw n (row_at s i row (omega arith) e)
@@ -129,13 +129,13 @@ pub gap_at : (s : Slots) (i : ℕ) → i < length s → held s i ≡ None → sl
 gap_at [] i lt e = absurd (omega arith)
 gap_at (x ∷ s) zero lt e = first x e
   where
-    first : (x : Option Row) → x ≡ None → slot_rows (x ∷ s) ≡ slot_rows s
+    first : (x : Option Entry) → x ≡ None → slot_rows (x ∷ s) ≡ slot_rows s
     first None e = refl
     first (Some r) e = absurd (cc)
 gap_at (x ∷ s) (suc i) lt e = let n : suc i + 1 ≡ suc (i + 1) = omega arith in rw n (gap_at s i (omega arith) e)
 
 -- ---- the rows of the first slots
-taken : (s : Slots) (i j : ℕ) (row : Row) → held (take i s) j ≡ Some row → (held s j ≡ Some row) × (j < i)
+taken : (s : Slots) (i j : ℕ) (row : Entry) → held (take i s) j ≡ Some row → (held s j ≡ Some row) × (j < i)
 taken [] zero j row e = absurd (cc)
 taken [] (suc i) j row e = absurd (cc)
 taken (x ∷ s) zero j row e = absurd (cc)
@@ -145,16 +145,16 @@ taken (x ∷ s) (suc i) (suc j) row e = let rest = taken s i j row e in (rest.0,
 taken_once : (s : Slots) (i : ℕ) → IsOnce s → IsOnce (take i s)
 taken_once s i once a b k v w p q = once a b k v w (taken s i a (k, v) p).0 (taken s i b (k, w) q).0
 
-taken_row : (s : Slots) (i : ℕ) (row : Row) → i < length s → held s i ≡ Some row → slot_rows (take (i + 1) s) ≡ slot_rows (take i s) ++ row ∷ []
+taken_row : (s : Slots) (i : ℕ) (row : Entry) → i < length s → held s i ≡ Some row → slot_rows (take (i + 1) s) ≡ slot_rows (take i s) ++ row ∷ []
 taken_row [] i row lt e = absurd (omega arith)
 taken_row (x ∷ s) zero row lt e = first x e
   where
-    first : (x : Option Row) → x ≡ Some row → slot_rows (x ∷ []) ≡ row ∷ []
+    first : (x : Option Entry) → x ≡ Some row → slot_rows (x ∷ []) ≡ row ∷ []
     first None e = absurd (cc)
     first (Some r) e = let is : r ≡ row = cc in ap (λ z. z ∷ []) is
 taken_row (x ∷ s) (suc i) row lt e = let n : suc i + 1 ≡ suc (i + 1) = omega arith in rw n (behind x (taken_row s i row (omega arith) e))
   where
-    behind : (x : Option Row) → slot_rows (take (i + 1) s) ≡ slot_rows (take i s) ++ row ∷ [] → slot_rows (x ∷ take (i + 1) s) ≡ slot_rows (x ∷ take i s) ++ row ∷ []
+    behind : (x : Option Entry) → slot_rows (take (i + 1) s) ≡ slot_rows (take i s) ++ row ∷ [] → slot_rows (x ∷ take (i + 1) s) ≡ slot_rows (x ∷ take i s) ++ row ∷ []
     behind None h = h
     behind (Some r) h = ap (λ l. r ∷ l) h
 
@@ -162,17 +162,17 @@ pub taken_gap : (s : Slots) (i : ℕ) → i < length s → held s i ≡ None →
 taken_gap [] i lt e = absurd (omega arith)
 taken_gap (x ∷ s) zero lt e = first x e
   where
-    first : (x : Option Row) → x ≡ None → slot_rows (x ∷ []) ≡ []
+    first : (x : Option Entry) → x ≡ None → slot_rows (x ∷ []) ≡ []
     first None e = refl
     first (Some r) e = absurd (cc)
 taken_gap (x ∷ s) (suc i) lt e = let n : suc i + 1 ≡ suc (i + 1) = omega arith in rw n (behind x (taken_gap s i (omega arith) e))
   where
-    behind : (x : Option Row) → slot_rows (take (i + 1) s) ≡ slot_rows (take i s) → slot_rows (x ∷ take (i + 1) s) ≡ slot_rows (x ∷ take i s)
+    behind : (x : Option Entry) → slot_rows (take (i + 1) s) ≡ slot_rows (take i s) → slot_rows (x ∷ take (i + 1) s) ≡ slot_rows (x ∷ take i s)
     behind None h = h
     behind (Some r) h = ap (λ l. r ∷ l) h
 
 -- a key hasn't been met before its slot
-fresh : (s : Slots) (i : ℕ) (row : Row) → IsOnce s → held s i ≡ Some row → find key_cmp row.0 (slot_rows (take i s)) ≡ None
+fresh : (s : Slots) (i : ℕ) (row : Entry) → IsOnce s → held s i ≡ Some row → find key_cmp row.0 (slot_rows (take i s)) ≡ None
 fresh s i row once e = go (find key_cmp row.0 (slot_rows (take i s))) refl
   where
     go : (o : Option (List ℕ)) → find key_cmp row.0 (slot_rows (take i s)) ≡ o → find key_cmp row.0 (slot_rows (take i s)) ≡ None
@@ -185,7 +185,7 @@ fresh s i row once e = go (find key_cmp row.0 (slot_rows (take i s))) refl
         absurd (omega arith)
 
 -- one row more is copied
-pub copied_more : (rows m : Rows) (s : Slots) (i : ℕ) (row : Row) → IsLaidOut rows s → i < length s → held s i ≡ Some row → m ≡ from_entries (slot_rows (take i s)) → insert m row.0 row.1 ≡ from_entries (slot_rows (take (i + 1) s))
+pub copied_more : (rows m : Contents) (s : Slots) (i : ℕ) (row : Entry) → IsLaidOut rows s → i < length s → held s i ≡ Some row → m ≡ from_entries (slot_rows (take i s)) → insert m row.0 row.1 ≡ from_entries (slot_rows (take (i + 1) s))
 copied_more rows m s i row laid lt e is =
     ap (λ x. insert x row.0 row.1) is ∙ sym (from_entries_push nat_list_cmp_total exact_bytes (slot_rows (take i s)) row.0 row.1 (fresh s i row laid.once e)) ∙ ap (λ l. from_entries l) (sym (taken_row s i row lt e))
 
@@ -197,7 +197,7 @@ halves (None ∷ s) (suc i) = halves s i
 halves (Some row ∷ s) (suc i) = let rest = halves s i in omega arith
 
 -- there is room for it
-pub copied_fewer : (rows m : Rows) (s : Slots) (i : ℕ) (row : Row) → IsLaidOut rows s → i < length s → held s i ≡ Some row → m ≡ from_entries (slot_rows (take i s)) → len m < len rows
+pub copied_fewer : (rows m : Contents) (s : Slots) (i : ℕ) (row : Entry) → IsLaidOut rows s → i < length s → held s i ≡ Some row → m ≡ from_entries (slot_rows (take i s)) → len m < len rows
 copied_fewer rows m s i row laid lt e is =
     let so_far : len m ≡ length (slot_rows (take i s)) = ap len is ∙ len-entries (from_entries (slot_rows (take i s))) ∙ length_permutation _ _ (moves (slot_rows (take i s)) (apart (take i s) (taken_once s i laid.once))) in
     let all = slots_count rows s laid in
@@ -205,17 +205,17 @@ copied_fewer rows m s i row laid lt e is =
     let next : length (slot_rows (drop i s)) ≡ suc (length (slot_rows (drop (i + 1) s))) = ap length (row_at s i row lt e) in
     omega arith
 
-pub copied_all : (rows m : Rows) (s : Slots) (i : ℕ) → IsLaidOut rows s → length s ≤ i → m ≡ from_entries (slot_rows (take i s)) → m ≡ rows
+pub copied_all : (rows m : Contents) (s : Slots) (i : ℕ) → IsLaidOut rows s → length s ≤ i → m ≡ from_entries (slot_rows (take i s)) → m ≡ rows
 copied_all rows m s i laid le is = is ∙ ap (λ l. from_entries (slot_rows l)) (take_all i s le) ∙ map_is rows s laid
 
-pub none_copied : (m : Rows) (s : Slots) → m ≡ empty → m ≡ from_entries (slot_rows (take 0 s))
+pub none_copied : (m : Contents) (s : Slots) → m ≡ empty → m ≡ from_entries (slot_rows (take 0 s))
 none_copied m [] e = e
 none_copied m (x ∷ s) e = e
 
-pub slot_copied : (rows m m' : Rows) (s : Slots) (i : ℕ) (o : Option Row) → IsLaidOut rows s → i < length s → o ≡ held s i → m ≡ from_entries (slot_rows (take i s)) → m' ≡ with_slot m o → m' ≡ from_entries (slot_rows (take (i + 1) s))
+pub slot_copied : (rows m m' : Contents) (s : Slots) (i : ℕ) (o : Option Entry) → IsLaidOut rows s → i < length s → o ≡ held s i → m ≡ from_entries (slot_rows (take i s)) → m' ≡ with_slot m o → m' ≡ from_entries (slot_rows (take (i + 1) s))
 slot_copied rows m m' s i None laid lt e is w = w ∙ is ∙ ap (λ l. from_entries l) (sym (taken_gap s i lt (sym e)))
 slot_copied rows m m' s i (Some row) laid lt e is w = w ∙ copied_more rows m s i row laid lt (sym e) is
 
-pub slot_fits : (rows m : Rows) (s : Slots) (i capacity : ℕ) (o : Option Row) → IsLaidOut rows s → i < length s → o ≡ held s i → m ≡ from_entries (slot_rows (take i s)) → len rows ≤ capacity → IfSome o (λ _. len m < capacity)
+pub slot_fits : (rows m : Contents) (s : Slots) (i capacity : ℕ) (o : Option Entry) → IsLaidOut rows s → i < length s → o ≡ held s i → m ≡ from_entries (slot_rows (take i s)) → len rows ≤ capacity → IfSome o (λ _. len m < capacity)
 slot_fits rows m s i capacity None laid lt e is within = tt
 slot_fits rows m s i capacity (Some row) laid lt e is within = let fewer = copied_fewer rows m s i row laid lt (sym e) is in omega arith

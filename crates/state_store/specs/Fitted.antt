@@ -3,7 +3,7 @@ use Rattle.std.specs.Prelude.{◌≡◌, ⊤, ℕ, Bool, true, ◌&&◌, ◌*◌
 use Rattle.std.specs.Coded.{Coded, code_by, coded×, coded_ℕ, coded_list}
 use Rattle.std.specs.FinMap as map
 use Rattle.std.specs.FinMap.{entries, from_sorted}
-use Rattle.slot_table.specs.Table.{Rows, Row, is_full}
+use Rattle.slot_table.specs.Table.{Contents, Entry, is_table_full}
 use Rattle.slot_table.specs.declared.table.Slot.{Slot}
 use Rattle.slot_table.specs.declared.table.Slot.TheVariants as slot
 use Rattle.state_store.specs.Codes.{contents_code}
@@ -11,15 +11,14 @@ use Rattle.state_store.specs.Kept.{have_widths}
 use Rattle.state_store.specs.Packing.{Packing, have_room, packed_list, unpacked_list}
 use Rattle.state_store.specs.Places.{Entries}
 use Rattle.state_store.specs.Sizes.{key_words, value_words}
-use Rattle.state_store.specs.Store.{Contents}
 use Rattle.state_store.specs.declared.any_table.AnyTable.{AnyTable}
 use Rattle.state_store.specs.declared.packed_rows.Kept.{Kept}
 use Rattle.state_store.specs.declared.packed_rows.Kept.TheVariants.{Stored, Full, Misfit}
 
-abbrev pub packed_row : Packing → Row → Row
+abbrev pub packed_row : Packing → Entry → Entry
 packed_row p row = (packed_list p.key_words p.keys row.0, packed_list p.value_words p.values row.1)
 
-abbrev pub unpacked_row : Packing → Row → Row
+abbrev pub unpacked_row : Packing → Entry → Entry
 unpacked_row p row = (unpacked_list p.key_words p.keys row.0, unpacked_list p.value_words p.values row.1)
 
 -- the words have room for numbers of the widths
@@ -28,7 +27,7 @@ pub record IsRoomy (p : Packing) : Type 0 where
   pub values : have_room (64 * p.value_words) p.values ≡ true
 
 -- a row of words that numbers of the widths were packed into
-pub record IsPackedRow (p : Packing) (row : Row) : Type 0 where
+pub record IsPackedRow (p : Packing) (row : Entry) : Type 0 where
   pub key_fits : have_widths p.keys (unpacked_row p row).0 ≡ true
   pub values_fit : have_widths p.values (unpacked_row p row).1 ≡ true
   pub same_key : packed_list p.key_words p.keys (unpacked_row p row).0 ≡ row.0
@@ -39,11 +38,11 @@ ArePacked p [] = ⊤
 ArePacked p (row ∷ rows) = IsPackedRow p row × ArePacked p rows
 
 -- what rows of words hold
-abbrev pub contents_of : Packing → Rows → Contents
+abbrev pub contents_of : Packing → Contents → Contents
 contents_of p rows = from_sorted (map (unpacked_row p) (entries rows))
 
 -- rows that were packed
-pub record HoldsPacked (p : Packing) (rows : Rows) : Type 0 where
+pub record HoldsPacked (p : Packing) (rows : Contents) : Type 0 where
   pub roomy : IsRoomy p
   pub packed : ArePacked p (entries rows)
 
@@ -68,7 +67,7 @@ fitted_code =
 
 -- the key is new, and there is no room for one more row
 abbrev pub is_full_at : ℕ → Contents → List ℕ → Bool
-is_full_at capacity contents key = is_full (record { rows = contents; capacity = capacity; slots = [] }) key
+is_full_at capacity contents key = is_table_full (record { rows = contents; capacity = capacity; slots = [] }) key
 
 -- what an insert into a table says of a row
 abbrev pub kept_by : Slot → Kept

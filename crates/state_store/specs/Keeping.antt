@@ -14,6 +14,7 @@ use Rattle.std.proofs.lemmas.Bool.Decides.{nat_tests}
 use Rattle.std.proofs.lemmas.Cmp.{nat_list_cmp_total}
 use Rattle.std.proofs.lemmas.List.{length-set}
 use Rattle.std.proofs.lemmas.Map.Lookups.{exact_bytes}
+use Rattle.std.proofs.lemmas.Option.{none-some, same_Some}
 use Rattle.state_store.specs.declared.object.Kind.{Kind}
 use Rattle.state_store.specs.declared.object.Kind.TheVariants.{Table, Map, Vector, Int}
 use Rattle.state_store.specs.declared.object.ObjectDecl.{ObjectDecl}
@@ -22,16 +23,10 @@ use Rattle.state_store.specs.Kinds.{is_table, is_map}
 use Rattle.state_store.specs.Store.{key_cmp, Contents, Object, Store, is_out, is_full, put_row, del_row, object_at}
 use Rattle.state_store.specs.Store.{zeros_from, start_contents, start_object, with_object}
 
-the_some : {X : Type 0} (a b : X) → Some a ≡ Some b → a ≡ b
-the_some a b e = cc
-
-none_some : {X : Type 0} (a : X) → None ≡ Some a → ⊥
-none_some a e = cc
-
 -- ## rows of widths
 -- every key and every value has these widths
-abbrev pub AreRows : List ℕ → List ℕ → Contents → Type 0
-AreRows keys values contents =
+abbrev pub HaveRowWidths : List ℕ → List ℕ → Contents → Type 0
+HaveRowWidths keys values contents =
     (key there : List ℕ) → get contents key ≡ Some there → (have_widths keys key && have_widths values there) ≡ true
 
 pub is_equal : (o : Ordering) → is_eq o ≡ true → o ≡ Equal
@@ -47,13 +42,14 @@ row_kept : (keys values key row found there : List ℕ) (before : Option (List �
     → cond same (Some row) before ≡ Some there → (have_widths keys found && have_widths values there) ≡ true
 row_kept keys values key row found there before true e key_fits row_fits old is =
     let one : key ≡ found = sym (exact_bytes found key (is_equal (key_cmp found key) e)) in
-    let other : row ≡ there = the_some row there is in
+    let other : row ≡ there = same_Some row there is in
     subst (λ vs. (have_widths keys found && have_widths values vs) ≡ true) other
     (subst (λ k. (have_widths keys k && have_widths values row) ≡ true) one (rw (key_fits, row_fits) refl))
 row_kept keys values key row found there before false e key_fits row_fits old is = old is
 
 pub with_row : (keys values key row : List ℕ) (contents : Contents) → have_widths keys key ≡ true
-    → have_widths values row ≡ true → AreRows keys values contents → AreRows keys values (insert contents key row)
+    → have_widths values row ≡ true → HaveRowWidths keys values contents
+    → HaveRowWidths keys values (insert contents key row)
 with_row keys values key row contents key_fits row_fits rows found there is =
     row_kept keys values key row found there (get contents found) (eq_by_cmp key_cmp found key) refl key_fits row_fits
     (rows found there) (sym (get-insert nat_list_cmp_total contents key row found) ∙ is)
@@ -62,18 +58,18 @@ with_row keys values key row contents key_fits row_fits rows found there is =
 row_stays : (keys values found there : List ℕ) (before : Option (List ℕ)) (same : Bool)
     → (before ≡ Some there → (have_widths keys found && have_widths values there) ≡ true)
     → cond same None before ≡ Some there → (have_widths keys found && have_widths values there) ≡ true
-row_stays keys values found there before true old is = absurd (none_some there is)
+row_stays keys values found there before true old is = absurd (none-some there is)
 row_stays keys values found there before false old is = old is
 
-without_row : (keys values key : List ℕ) (contents : Contents) → AreRows keys values contents
-    → AreRows keys values (remove contents key)
+without_row : (keys values key : List ℕ) (contents : Contents) → HaveRowWidths keys values contents
+    → HaveRowWidths keys values (remove contents key)
 without_row keys values key contents rows found there is =
     row_stays keys values found there (get contents found) (eq_by_cmp key_cmp found key) (rows found there)
     (sym (get-remove nat_list_cmp_total contents key found) ∙ is)
 
 -- an insertion adds at most one row, and a removal none
-pub one_more : (key row : List ℕ) (contents : Contents) → len (insert contents key row) ≤ len contents + 1
-one_more key row contents =
+pub one_row_more : (key row : List ℕ) (contents : Contents) → len (insert contents key row) ≤ len contents + 1
+one_row_more key row contents =
     subst (λ n. n ≤ len contents + 1) (sym (len-insert nat_list_cmp_total contents key row))
     (at_most (contains_key contents key) (len contents))
   where
@@ -204,10 +200,10 @@ change_is_kept : (os : List ObjectDecl) (store : Store) (n : ℕ) (d : ObjectDec
 change_is_kept os store n d o is fits whole kept = record {
   count = length-set store n o ∙ kept.count;
   each = λ number other got. at_number (IsKeptObject other) store n o number (kept.each number other got)
-      (λ same. subst (λ (x : ObjectDecl). IsKeptObject x o) (the_some d other (sym is ∙ ap (slice_get os) same ∙ got))
+      (λ same. subst (λ (x : ObjectDecl). IsKeptObject x o) (same_Some d other (sym is ∙ ap (slice_get os) same ∙ got))
       fits);
   whole = λ number other got. at_number (IsWhole other) store n o number (kept.whole number other got)
-      (λ same. subst (λ (x : ObjectDecl). IsWhole x o) (the_some d other (sym is ∙ ap (slice_get os) same ∙ got))
+      (λ same. subst (λ (x : ObjectDecl). IsWhole x o) (same_Some d other (sym is ∙ ap (slice_get os) same ∙ got))
       whole);
 }
 

@@ -13,3 +13,4 @@ pub mod Places
 pub mod Sizes
 pub mod Store
 pub mod Fitting
+pub mod Widths

@@ -4,12 +4,12 @@ use Rattle.state_store.specs.declared.object.Row.{Row}
 use Rattle.state_store.specs.Packing.{have_room, parts}
 
 -- the row that two numbers hold
-abbrev pub row_in : ℕ → ℕ → List ℕ → List ℕ → ℕ × ℕ → Row
-row_in key_bits value_bits keys values numbers =
+abbrev pub row_of_numbers : ℕ → ℕ → List ℕ → List ℕ → ℕ × ℕ → Row
+row_of_numbers key_bits value_bits keys values numbers =
     record { keys = parts key_bits keys numbers.0; values = parts value_bits values numbers.1 }
 
-abbrev pub rows_in : ℕ → ℕ → List ℕ → List ℕ → List (ℕ × ℕ) → List Row
-rows_in key_bits value_bits keys values numbers = map (row_in key_bits value_bits keys values) numbers
+abbrev pub rows_of_numbers : ℕ → ℕ → List ℕ → List ℕ → List (ℕ × ℕ) → List Row
+rows_of_numbers key_bits value_bits keys values numbers = map (row_of_numbers key_bits value_bits keys values) numbers
 
 -- the numbers have room for rows of these widths, and no more bits than that
 pub record HoldsRows (key_bits value_bits : ℕ) (keys values : List ℕ) (numbers : List (ℕ × ℕ)) : Type 0 where

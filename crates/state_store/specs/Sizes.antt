@@ -1,7 +1,7 @@
 -- A table with one word or two in a key and in a value.
 use Rattle.std.specs.Prelude.{ℕ, ◌*◌, List, [], ◌∷◌, Option, Some, None}
 use Rattle.std.specs.FinMap as map
-use Rattle.slot_table.specs.Table.{Table, Row, Rows, Slots}
+use Rattle.slot_table.specs.Table.{Table, Entry, Contents, Slots}
 use Rattle.state_store.specs.Places.{Entries}
 use Rattle.state_store.specs.Packing.{number, parts}
 use Rattle.state_store.specs.declared.any_table.AnyTable.{AnyTable}
@@ -28,7 +28,7 @@ value_words (TwoOne table) = 1
 value_words (TwoTwo table) = 2
 
 -- the words of a row as two numbers
-abbrev pub row_numbers : Row → ℕ × ℕ
+abbrev pub row_numbers : Entry → ℕ × ℕ
 row_numbers row = (number row.0, number row.1)
 
 -- the rows that slots hold, from the first slot on
@@ -38,7 +38,7 @@ slot_rows (None ∷ slots) = slot_rows slots
 slot_rows (Some row ∷ slots) = row ∷ slot_rows slots
 
 -- what a slot holds among other rows
-abbrev pub with_slot : Rows → Option Row → Rows
+abbrev pub with_slot : Contents → Option Entry → Contents
 with_slot rows None = rows
 with_slot rows (Some row) = map.insert rows row.0 row.1
 
@@ -48,7 +48,7 @@ option_list None = []
 option_list (Some row) = row ∷ []
 
 -- the lists that were packed into the two numbers of a slot
-abbrev pub listed : ℕ → ℕ → List ℕ → List ℕ → Option (ℕ × ℕ) → Entries
-listed key_words value_words keys values None = []
-listed key_words value_words keys values (Some row) =
+abbrev pub unpacked_entries : ℕ → ℕ → List ℕ → List ℕ → Option (ℕ × ℕ) → Entries
+unpacked_entries key_words value_words keys values None = []
+unpacked_entries key_words value_words keys values (Some row) =
     (parts (64 * key_words) keys row.0, parts (64 * value_words) values row.1) ∷ []

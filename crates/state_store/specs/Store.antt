@@ -1,25 +1,14 @@
 -- A store: for each object a finite map from key lists to value lists.
-use Rattle.std.specs.Prelude.{ℕ, zero, suc, Bool, false, not, ◌&&◌, List, [], ◌∷◌, length, slice_index, slice_get}
+use Rattle.std.specs.Prelude.{ℕ, zero, suc, Bool, true, false, not, ◌&&◌, List, [], ◌∷◌, length, slice_index, slice_get}
 use Rattle.std.specs.Prelude.{slice_set, replicate, Option, unwrap_or, nat_le, if◌then◌else◌}
-use Rattle.std.specs.Ordering.{nat_cmp}
-use Rattle.std.specs.declared.cmp.Ordering.{Ordering}
-use Rattle.std.specs.Cmp.Lexicographic.{slice_cmp}
 use Rattle.std.specs.FinMap as map
-use Rattle.std.specs.FinMap.{FinMap}
+pub use Rattle.slot_table.specs.Table.{key_cmp, Contents}
 use Rattle.state_store.specs.declared.object.Kind.{Kind}
 use Rattle.state_store.specs.declared.object.Kind.TheVariants.{Table, Map, Vector, Int}
 use Rattle.state_store.specs.declared.store.Put.{Put}
 use Rattle.state_store.specs.declared.store.Put.TheVariants.{Stored, Full, OutOfRange}
 use Rattle.state_store.specs.declared.object.Row.{Row}
 use Rattle.state_store.specs.declared.object.ObjectDecl.{ObjectDecl}
-
--- keys in order, the first number first
-abbrev pub key_cmp : List ℕ → List ℕ → Ordering
-key_cmp = slice_cmp nat_cmp
-
--- values by their keys
-abbrev pub Contents : Type 0
-Contents = FinMap key_cmp (List ℕ)
 
 -- an object at work
 pub record Object : Type 0 where
@@ -86,6 +75,12 @@ is_full object key = not (map.contains_key object.contents key) && nat_le object
 abbrev pub put_answer : Object → List ℕ → Put
 put_answer object key = if is_out object.kind object.size key then OutOfRange
     else (if is_full object key then Full else Stored)
+
+-- whether a put had a place for its row
+abbrev pub is_stored : Put → Bool
+is_stored Stored = true
+is_stored Full = false
+is_stored OutOfRange = false
 
 -- a put sets one row, and changes nothing where the key has no place
 abbrev pub put_row : Object → List ℕ → List ℕ → Object

@@ -2,7 +2,7 @@
 ghost use Rattle.std.specs.Prelude.{map as list_map, ◌++◌};
 ghost use Rattle.std.specs.Prelude.{◌≡◌, ℕ, ◌*◌, ◌<◌, ◌≤◌, ◌^◌, false, length, if◌then◌else◌, IfOk, IfSome, option_map};
 ghost use Rattle.std.specs.FinMap as map;
-ghost use Rattle.slot_table.specs.Table.{IsWords, IsLaidOut, held, is_full};
+ghost use Rattle.slot_table.specs.Table.{IsWords, IsLaidOut, held, is_table_full};
 ghost use Rattle.slot_table.specs.declared.table.Slot.TheVariants.{Stored, Full};
 ghost use Rattle.state_store.specs.Packing as packing;
 ghost use Rattle.state_store.specs.Sizes as of;
@@ -105,10 +105,11 @@ pub fn look(any: &AnyTable, key: u128) -> Option<u128>
 pub fn insert(any: &mut AnyTable, key: u128, value: u128) -> Slot
     requires key { key < 2 ^ (64 * of.key_words any.old) }
     requires value { value < 2 ^ (64 * of.value_words any.old) }
-    ensures answer { result ≡ (if is_full (of.table_of any.old) (packing.words (of.key_words any.old) key) then Full
-        else Stored) }
+    ensures answer { result
+        ≡ (if is_table_full (of.table_of any.old) (packing.words (of.key_words any.old) key) then Full else Stored) }
     ensures rows { (of.table_of any.new).rows
-        ≡ (if is_full (of.table_of any.old) (packing.words (of.key_words any.old) key) then (of.table_of any.old).rows
+        ≡ (if is_table_full (of.table_of any.old) (packing.words (of.key_words any.old) key)
+        then (of.table_of any.old).rows
         else map.insert (of.table_of any.old).rows (packing.words (of.key_words any.old) key)
         (packing.words (of.value_words any.old) value)) }
     ensures capacity { (of.table_of any.new).capacity ≡ (of.table_of any.old).capacity }

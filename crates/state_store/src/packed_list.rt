@@ -1,6 +1,6 @@
 //! Rows in the order of their keys, still packed.
 ghost use Rattle.std.specs.Prelude.{◌≡◌, ◌≤◌, ◌<◌, ◌^◌, IfOk, IsTrue, length, slice_get};
-ghost use Rattle.state_store.specs.Listing.{HoldsRows, row_in, rows_in};
+ghost use Rattle.state_store.specs.Listing.{HoldsRows, row_of_numbers, rows_of_numbers};
 ghost use Rattle.state_store.specs.Packing.{have_room};
 
 use crate::object::{Row, Rows};
@@ -23,11 +23,11 @@ pub struct PackedList {
 impl Model for PackedList {
     ghost use Rattle.std.specs.Prelude.{List};
     ghost use Rattle.state_store.specs.declared.object.Row.{Row};
-    ghost use Rattle.state_store.specs.Listing.{HoldsRows, rows_in};
+    ghost use Rattle.state_store.specs.Listing.{HoldsRows, rows_of_numbers};
 
     ghost Value = { List Row };
 
-    ghost view = { λ a. rows_in a.key_bits a.value_bits a.keys a.values a.numbers.items };
+    ghost view = { λ a. rows_of_numbers a.key_bits a.value_bits a.keys a.values a.numbers.items };
 
     ghost invariant = { λ a. HoldsRows a.key_bits a.value_bits a.keys a.values a.numbers.items };
 }
@@ -42,7 +42,7 @@ impl PackedList {
         numbers: Vec<(u128, u128)>,
     ) -> PackedList
         requires { HoldsRows key_bits value_bits keys values numbers.items }
-        ensures { result ≡ rows_in key_bits value_bits keys values numbers.items }
+        ensures { result ≡ rows_of_numbers key_bits value_bits keys values numbers.items }
     {
         PackedList {
             keys,
@@ -99,7 +99,7 @@ fn row(key_bits: u64, value_bits: u64, keys: &Widths, values: &Widths, numbers: 
     requires value_room { IsTrue (have_room value_bits values.now) }
     requires key { numbers.0 < 2 ^ key_bits }
     requires value { numbers.1 < 2 ^ value_bits }
-    ensures { result ≡ row_in key_bits value_bits keys.now values.now numbers }
+    ensures { result ≡ row_of_numbers key_bits value_bits keys.now values.now numbers }
 {
     Row {
         keys: parts(key_bits, keys, numbers.0),
@@ -117,7 +117,7 @@ fn unpacked(
     numbers: &[(u128, u128)],
 ) -> Result<Rows, NoMemory>
     requires { HoldsRows key_bits value_bits keys.now values.now numbers.now }
-    ensures { IfOk result (λ made. made ≡ rows_in key_bits value_bits keys.now values.now numbers.now) }
+    ensures { IfOk result (λ made. made ≡ rows_of_numbers key_bits value_bits keys.now values.now numbers.now) }
 {
     let mut rows = Rows::with_capacity(alloc, numbers.len())?;
     for pair in numbers {

@@ -4,7 +4,7 @@ ghost use Rattle.std.specs.Prelude.{IfSome, IsOk};
 ghost use Rattle.std.specs.FinMap as map;
 ghost use Rattle.std.specs.Prelude.{map as list_map};
 ghost use Rattle.state_store.specs.Fitted.{IsRoomy, keep_answer, kept_by, kept_row, packing_of, unpacked_row};
-ghost use Rattle.state_store.specs.Sizes.{key_words, listed, slot_rows, table_of, value_words};
+ghost use Rattle.state_store.specs.Sizes.{key_words, unpacked_entries, slot_rows, table_of, value_words};
 ghost use Rattle.state_store.specs.Store.{rows_from};
 ghost use Rattle.slot_table.specs.Table.{IsLaidOut};
 
@@ -209,7 +209,7 @@ fn push_slot(
     requires values { IfSome slot (λ row. row.1 < 2 ^ (64 * value_words table.now)) }
     ensures rows { IfOk result
         (λ _. rows.new.items ≡ rows.old.items
-        ++ listed (key_words table.now) (value_words table.now) keys.now values.now slot) }
+        ++ unpacked_entries (key_words table.now) (value_words table.now) keys.now values.now slot) }
     ensures capacity { vec_capacity rows.old ≤ vec_capacity rows.new }
     ensures none { slot ≡ None → IsOk result }
     ensures room { vec_len rows.old < vec_capacity rows.old → IsOk result }

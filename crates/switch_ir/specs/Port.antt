@@ -3,7 +3,7 @@ use Rattle.std.specs.Prelude.{◌≡◌, ◌≤◌, ◌<◌, ◌^◌, ℕ, suc, 
 use Rattle.std.specs.Prelude.{Option, Some, None, map, IfSome, IsSome, IsTrue}
 use Rattle.std.specs.Option.{option_map}
 use Rattle.std.specs.List.{AllByRecursion as Each}
-use Rattle.gal_io.specs.Count.{Counts}
+use Rattle.gal_io.specs.Count.{IsCountedIf}
 use Rattle.packet_fields.specs.declared.packet.Packet.{Packet}
 use Rattle.state_store.specs.declared.object.Row.{Row}
 use Rattle.state_store.specs.declared.object.ObjectDecl.{ObjectDecl}
@@ -82,7 +82,7 @@ LoadsBy port.NoMemory code old new = IsAsBefore old new
 
 pub record Loads (end : PortEnd) (code : Code) (old new : PortState) : Type 0 where
   pub state : LoadsBy end code old new
-  pub faults : Counts (has_failed end) old.faults new.faults
+  pub faults : IsCountedIf (has_failed end) old.faults new.faults
 
 -- ## Room for commands
 
@@ -94,7 +94,7 @@ RoomBy port.NoMemory commands old new = new.journal ≡ old.journal
 pub record MakesRoom (end : PortEnd) (commands : ℕ) (old new : PortState) : Type 0 where
   pub kept : Keeps old new
   pub room : RoomBy end commands old new
-  pub faults : Counts (has_failed end) old.faults new.faults
+  pub faults : IsCountedIf (has_failed end) old.faults new.faults
 
 -- ## Packets that arrive
 
@@ -132,7 +132,7 @@ EndsUp code told number packet up.NoMemory = ⊤
 pub record PassesUp (end : UpEnd) (number port : ℕ) (packet : List ℕ) (old new : PortState) : Type 0 where
   pub kept : Keeps old new
   pub journal : new.journal ≡ old.journal ++ up_entry number port packet end
-  pub faults : Counts (up_failed end) old.faults new.faults
+  pub faults : IsCountedIf (up_failed end) old.faults new.faults
   pub frame : (code : Code) → old.code ≡ Some code → IsUpFrame code number port packet end
   pub told : (code : Code) (told : Told) → old.code ≡ Some code → old.told ≡ Some told
       → EndsUp code told number (record { port = port; bytes = packet }) end
@@ -160,7 +160,7 @@ EndsDown code told frame down.NoMemory = ⊤
 pub record PassesDown (end : DownEnd) (frame : List ℕ) (old new : PortState) : Type 0 where
   pub kept : Keeps old new
   pub journal : new.journal ≡ old.journal ++ down_entry frame end
-  pub faults : Counts (down_failed end) old.faults new.faults
+  pub faults : IsCountedIf (down_failed end) old.faults new.faults
   pub told : (code : Code) (told : Told) → old.code ≡ Some code → old.told ≡ Some told → EndsDown code told frame end
 
 -- the bytes are a frame that may come down to the code that is loaded
@@ -182,7 +182,7 @@ pub record Commands (end : CommandEnd) (c : Command) (old new : PortState) : Typ
   pub told : new.told ≡ told_by end c old.told
   pub journal : new.journal ≡ old.journal ++ entry.Command c end ∷ []
   pub spare : suc new.spare ≡ old.spare
-  pub faults : Counts (command_failed end) old.faults new.faults
+  pub faults : IsCountedIf (command_failed end) old.faults new.faults
 
 -- an object that can change, with its declaration
 pub record IsReplicatedIn (code : Code) (o : ℕ) (d : ObjectDecl) : Type 0 where
@@ -242,7 +242,7 @@ EndsSeen told o rows.NoMemory = ⊤
 pub record ShowsRows (end : RowsEnd) (o : ℕ) (old new : PortState) : Type 0 where
   pub kept : Keeps old new
   pub journal : new.journal ≡ old.journal ++ rows_entry o end
-  pub faults : Counts (rows_failed end) old.faults new.faults
+  pub faults : IsCountedIf (rows_failed end) old.faults new.faults
   pub rows : (code : Code) (d : ObjectDecl) → old.code ≡ Some code → IsReplicatedIn code o d → GivesRowsOf d end
   pub told : (told : Told) → old.told ≡ Some told → EndsSeen told o end
 

@@ -1,6 +1,6 @@
 -- What a call of a switch in memory leaves, step by step.
 use Rattle.std.proofs.Common.{◌≡◌, ◌≤◌, ℕ, Bool, true, false, List, [], ◌∷◌, ◌++◌, Option, Some, None, refl, sym, ap, ◌∙◌, subst, arith}
-use Rattle.gal_io.specs.Count.{Counts, count_after}
+use Rattle.gal_io.specs.Count.{IsCountedIf, count_after}
 use Rattle.switch_ir.specs.declared.journal.Entry.{Entry}
 use Rattle.switch_ir.specs.declared.journal.Entry.TheVariants as entry
 use Rattle.switch_ir.specs.declared.port.UpEnd.{UpEnd}
@@ -11,7 +11,7 @@ use Rattle.switch_ir.specs.Code.{Code}
 use Rattle.switch_ir.specs.Port.{up_failed, up_entry, down_failed, down_entry, EndsDown, EndsUp, IsUpFrame, Keeps, PassesDown, PassesUp}
 use Rattle.switch_ir.specs.Tables.{Told}
 use Rattle.switch_machine.specs.Calls.{ended}
-use Rattle.switch_machine.specs.Counts.{Counts as Calls}
+use Rattle.switch_machine.specs.Counts.{IsCountedIf as Calls}
 use Rattle.switch_machine.specs.Ends.{DownPasses, UpPasses}
 use Rattle.switch_machine.specs.Machine.{MachineState, seen_of}
 use Rattle.switch_machine.proofs.KeptRows.{the_some}
@@ -51,12 +51,12 @@ module _ (old counted new : MachineState) (calls : Calls) (entries : List Entry)
   pub noted : new.journal.entries ≡ old.journal.entries ++ entries
   noted = ap (λ (m : MachineState). m.journal.entries) ends ∙ ap (λ (m : MachineState). m.journal.entries ++ entries) is_called
 
-  pub faults : Counts failed counted.faults new.faults → Counts failed old.faults new.faults
-  faults rises = subst (λ n. Counts failed n new.faults) (ap (λ (m : MachineState). m.faults) is_called) rises
+  pub faults : IsCountedIf failed counted.faults new.faults → IsCountedIf failed old.faults new.faults
+  faults rises = subst (λ n. IsCountedIf failed n new.faults) (ap (λ (m : MachineState). m.faults) is_called) rises
 
 pub passes_up : (old counted new : MachineState) (calls : Calls) (end : UpEnd) (number port : ℕ) (packet : List ℕ)
     → counted ≡ record old { calls = calls } → new ≡ ended counted (up_entry number port packet end) (up_failed end)
-    → Counts (up_failed end) counted.faults new.faults
+    → IsCountedIf (up_failed end) counted.faults new.faults
     → ((code : Code) → counted.code ≡ Some code → IsUpFrame code number port packet end)
     → ((code : Code) → counted.code ≡ Some code → EndsUp code counted.tables number (record { port = port; bytes = packet }) end)
     → PassesUp end number port packet (seen_of old) (seen_of new)
@@ -75,7 +75,7 @@ passes_up old counted new calls end number port packet is_called ends rises fram
 
 pub passes_down : (old counted new : MachineState) (calls : Calls) (end : DownEnd) (frame : List ℕ)
     → counted ≡ record old { calls = calls } → new ≡ ended counted (down_entry frame end) (down_failed end)
-    → Counts (down_failed end) counted.faults new.faults
+    → IsCountedIf (down_failed end) counted.faults new.faults
     → ((code : Code) → counted.code ≡ Some code → EndsDown code counted.tables frame end)
     → PassesDown end frame (seen_of old) (seen_of new)
 passes_down old counted new calls end frame is_called ends rises told =

@@ -1,6 +1,6 @@
 -- When the calls of a switch in memory fail, and how they are counted.
 use Rattle.std.specs.Prelude.{◌≡◌, ◌++◌, Bool, true, false, List, ⊤}
-use Rattle.gal_io.specs.Count.{Counts, count_after}
+use Rattle.gal_io.specs.Count.{IsCountedIf, count_after}
 use Rattle.switch_ir.specs.declared.journal.Entry.{Entry}
 use Rattle.switch_ir.specs.declared.port.PortEnd.{PortEnd}
 use Rattle.switch_ir.specs.declared.port.PortEnd.TheVariants as port
@@ -48,7 +48,7 @@ RowsEndAsPlanned planned rows.NoMemory = planned ≡ false
 pub record IsCountedAs (kind : CallKind) (failed : Bool) (old new : MachineState) : Type 0 where
   pub planned : new.planned ≡ old.planned
   pub calls : new.calls ≡ counted old.calls kind
-  pub faults : Counts failed old.faults new.faults
+  pub faults : IsCountedIf failed old.faults new.faults
 
 -- the state after a call of this kind is counted, and its fault where it fails
 abbrev pub called : MachineState → CallKind → Bool → MachineState

@@ -1,7 +1,7 @@
 //! A switch in memory.
 ghost use Rattle.std.specs.Prelude.{◌≡◌, ◌≤◌, ◌<◌, ◌-◌, ◌++◌, ◌∷◌, [], ℕ, false, max, None, Some};
 ghost use Rattle.std.specs.Prelude.{length, OnOk, OnErr, IfOk, IsSome};
-ghost use Rattle.gal_io.specs.Count.{Counts, count_after};
+ghost use Rattle.gal_io.specs.Count.{IsCountedIf, count_after};
 ghost use Rattle.packet_fields.specs.Sizes.{largest_packet};
 ghost use Rattle.state_store.specs.declared.object.ObjectDecl.{ObjectDecl};
 ghost use Rattle.writeback_table.specs.Pair.{visible_rows};
@@ -112,7 +112,7 @@ impl ModelSwitch {
     fn count_fault(&mut self, failed: bool)
         ensures counted { let old = machine_of self.old in
             machine_of self.new ≡ record old { faults = count_after failed old.faults } }
-        ensures rises { Counts failed (machine_of self.old).faults (machine_of self.new).faults }
+        ensures rises { IsCountedIf failed (machine_of self.old).faults (machine_of self.new).faults }
     {
         if failed {
             let _ = count(&mut self.faults);
@@ -123,7 +123,7 @@ impl ModelSwitch {
     fn fails(&mut self, kind: CallKind) -> bool
         ensures told { result ≡ fails_next (machine_of self.old) kind }
         ensures counted { machine_of self.new ≡ called (machine_of self.old) kind result }
-        ensures rises { Counts result (machine_of self.old).faults (machine_of self.new).faults }
+        ensures rises { IsCountedIf result (machine_of self.old).faults (machine_of self.new).faults }
     {
         let fails = self.is_to_fail(kind);
         self.count_fault(fails);
@@ -221,7 +221,7 @@ impl ModelSwitch {
         ensures ok { IfOk result (λ end. machine_of self.new
             ≡ ended (machine_of self.old) (up_entry number port packet.now end) (up_failed end)) }
         ensures rises { IfOk result (λ end.
-            Counts (up_failed end) (machine_of self.old).faults (machine_of self.new).faults) }
+            IsCountedIf (up_failed end) (machine_of self.old).faults (machine_of self.new).faults) }
         ensures err { OnErr result (machine_of self.new ≡ machine_of self.old) }
     {
         let end = self.up_end(alloc, number, port, packet, fails)?;
@@ -263,7 +263,7 @@ impl ModelSwitch {
         ensures ok { IfOk result (λ end. machine_of self.new
             ≡ ended (machine_of self.old) (down_entry frame.now end) (down_failed end)) }
         ensures rises { IfOk result (λ end.
-            Counts (down_failed end) (machine_of self.old).faults (machine_of self.new).faults) }
+            IsCountedIf (down_failed end) (machine_of self.old).faults (machine_of self.new).faults) }
         ensures err { OnErr result (machine_of self.new ≡ machine_of self.old) }
     {
         let end = self.down_end(alloc, frame, fails)?;

@@ -9,7 +9,7 @@ use Rattle.std.specs.Ordering.{eq_by_cmp, is_eq}
 use Rattle.std.proofs.lemmas.Bool.Decides.{nat_tests}
 use Rattle.std.proofs.lemmas.Cmp.{nat_list_cmp_total}
 use Rattle.std.proofs.lemmas.Map.Lookups.{exact_bytes}
-use Rattle.state_store.specs.Store.{Object, key_cmp, look}
+use Rattle.state_store.specs.Store.{Object, key_cmp, look, is_stored}
 use Rattle.state_store.specs.declared.store.Put.{Put}
 use Rattle.state_store.specs.declared.store.Put.TheVariants.{Stored, Full, OutOfRange}
 use Rattle.state_store.specs.Laws.{IsStoredAlone, IsRemovedAlone}
@@ -17,7 +17,7 @@ use Rattle.writeback_table.specs.declared.command.To.{To}
 use Rattle.writeback_table.specs.declared.command.To.TheVariants.{Value, Gone}
 use Rattle.writeback_table.specs.declared.command.Update.{Update}
 use Rattle.writeback_table.specs.declared.command.Command.TheVariants.{Stage, Main}
-use Rattle.writeback_table.specs.Pair.{Pair, Staged, values_of, change_to, changed, is_stored, takes_to, takes, can_stage}
+use Rattle.writeback_table.specs.Pair.{Pair, Staged, values_of, change_to, changed, takes_to, takes, can_stage}
 use Rattle.writeback_table.specs.Commands.{clear_of}
 use Rattle.writeback_table.proofs.Slots.{slot_after, slot_through, slot_room, over}
 use Rattle.writeback_table.specs.Batches.{changed_at, changed_by, TakesAll, count_of}

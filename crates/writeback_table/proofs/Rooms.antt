@@ -1,7 +1,7 @@
 -- A command that finds no room changes nothing.
 use Rattle.std.proofs.Common.{◌≡◌, ℕ, Bool, true, false, cond, List, refl, sym, ap, ◌∙◌}
 use Rattle.std.specs.FinMap.{insert}
-use Rattle.state_store.specs.Store.{Object, is_out, is_full, put_row}
+use Rattle.state_store.specs.Store.{Object, is_out, is_full, put_row, is_stored}
 use Rattle.state_store.specs.declared.store.Put.TheVariants.{Stored, Full, OutOfRange}
 use Rattle.writeback_table.specs.declared.command.Applied.{Applied}
 use Rattle.writeback_table.specs.declared.command.Applied.TheVariants.{Done, NoRoom}
@@ -9,7 +9,7 @@ use Rattle.writeback_table.specs.declared.command.To.{To}
 use Rattle.writeback_table.specs.declared.command.To.TheVariants.{Value, Gone}
 use Rattle.writeback_table.specs.declared.command.Command.{Command}
 use Rattle.writeback_table.specs.declared.command.Command.TheVariants.{Stage, On, Main, Off, Clear}
-use Rattle.writeback_table.specs.Pair.{Pair, change_to, is_stored, takes_to, can_stage, values_of, has_room, applied}
+use Rattle.writeback_table.specs.Pair.{Pair, change_to, takes_to, can_stage, values_of, has_room, applied}
 
 no_room : (b : Bool) → cond b Done NoRoom ≡ NoRoom → b ≡ false
 no_room true e = cc

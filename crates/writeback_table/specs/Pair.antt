@@ -3,10 +3,8 @@ use Rattle.std.specs.Prelude.{ℕ, Bool, true, false, ◌||◌, List, [], ◌∷
 use Rattle.std.specs.Prelude.{replicate, if◌then◌else◌}
 use Rattle.std.specs.FinMap as map
 use Rattle.std.specs.FinMap.{FinMap}
-use Rattle.state_store.specs.Store.{Contents, Object, key_cmp, put_answer, put_row, del_row, rows_from}
+use Rattle.state_store.specs.Store.{Contents, Object, key_cmp, put_answer, is_stored, put_row, del_row, rows_from}
 use Rattle.state_store.specs.declared.object.Row.{Row}
-use Rattle.state_store.specs.declared.store.Put.{Put}
-use Rattle.state_store.specs.declared.store.Put.TheVariants.{Stored, Full, OutOfRange}
 use Rattle.writeback_table.specs.declared.command.To.{To}
 use Rattle.writeback_table.specs.declared.command.To.TheVariants.{Value, Gone}
 use Rattle.writeback_table.specs.declared.command.Update.{Update}
@@ -65,11 +63,6 @@ change_to object key Gone = del_row object key
 
 abbrev pub changed : Object → Update → Object
 changed object update = change_to object update.key update.to
-
-abbrev pub is_stored : Put → Bool
-is_stored Stored = true
-is_stored Full = false
-is_stored OutOfRange = false
 
 -- whether an object has room for a change, as it always has for a row less
 abbrev pub takes_to : Object → List ℕ → To → Bool

@@ -1,4 +1,5 @@
-use Rattle.element_interp.proofs.KeptRuns.{starts_kept, runs_kept, serials_kept}
+use Rattle.element_lang.specs.KeptRuns.{runs_kept}
+use Rattle.element_interp.proofs.KeptRuns.{starts_kept, serials_kept}
 use Rattle.element_interp.proofs.laws.stores_are_kept.Goals as goal
 
 pub returns-clause-start : goal.returns-clause-start

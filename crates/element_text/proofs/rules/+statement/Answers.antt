@@ -3,7 +3,7 @@ use Rattle.element_lang.specs.Tree as trees
 use Rattle.element_lang.specs.Tree.{StmtTree}
 use Rattle.element_lang.specs.View.{stmt_tree, body_tree}
 use Rattle.element_grammar.specs.Surface.{surface_expr, surface_stmt, surface_body}
-use Rattle.element_tokens.specs.Tokens.{spelled}
+use Rattle.element_tokens.specs.Tokens.{span_text}
 use Rattle.element_text.specs.Scopes.{env_of}
 use Rattle.element_text.specs.Resolve.{Env, Made, MadeBody, declared, with_locals, made_stmt}
 use Rattle.element_text.proofs.Numbering.{Within, within_to, within_locals, declared_within, numbering_more, numbering_end}
@@ -48,7 +48,7 @@ repeat-returns t c =
     let text = c.args.text.now in
     let env = env_of c.args.scope.now in
     let inside = env_of c.declare.new.self in
-    let index = spelled text c.args.index in
+    let index = span_text text c.args.index in
     let body = surface_body text c.args.source.now in
     let outer = c.args.scope.now.known.entries in
     let scope = c.block.new.scope in

@@ -2,7 +2,7 @@ use Rattle.std.proofs.Common.{length, drop, sym, ap, subst, ◌∙◌, arith}
 use Rattle.std.proofs.lemmas.List.{length-map}
 use Rattle.packet_fields.specs.declared.packet.Packet.{Packet}
 use Rattle.state_store.specs.Kept.{IsKept}
-use Rattle.flat_ir.specs.Arrivals.{IsArrival}
+use Rattle.packet_fields.specs.Arrivals.{IsArrival}
 use Rattle.flat_ir.specs.Program.{program_of, step_of}
 use Rattle.flat_ir.specs.Run.{after, verdict}
 use Rattle.flat_ir.specs.Registers.{reads_of}

@@ -1,5 +1,5 @@
 use Rattle.std.proofs.Common.{◌≡◌, ◌+◌, drop}
-use Rattle.split_model.specs.Counts.{sum_of}
+use Rattle.gal_bits.specs.Fitting.{sum_of}
 use Rattle.split_model.proofs.bounds.sum_is_low.Given as goal
 
 abbrev pub invariant-loop-width : goal.invariant-loop-width

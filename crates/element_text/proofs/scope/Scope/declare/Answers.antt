@@ -5,7 +5,7 @@ use Rattle.std.proofs.lemmas.Bool.{and_parts}
 use Rattle.state_store.specs.declared.object.ObjectDecl.{ObjectDecl}
 use Rattle.element_lang.specs.declared.tree.Local.{Local}
 use Rattle.element_lang.specs.Rules.{is_width}
-use Rattle.element_tokens.specs.Tokens.{spelled}
+use Rattle.element_tokens.specs.Tokens.{span_text}
 use Rattle.element_text.specs.declared.scope.KnownLocal.{KnownLocal}
 use Rattle.element_text.specs.Resolve.{Known, Env, is_free, local_in, with_local}
 use Rattle.element_text.specs.Scopes.{known_of, env_of}
@@ -16,7 +16,7 @@ use Rattle.element_text.proofs.scope.Scope.declare.Goals as goal
 pub returns-clause-declared : goal.returns-clause-declared
 returns-clause-declared c =
     let env = env_of c.args.self.now in
-    let word = spelled c.args.text.now c.args.name in
+    let word = span_text c.args.text.now c.args.name in
     let l : Local = record { name = word; width = c.args.width } in
     let test = is_free env word && is_width c.args.width in
     let free = and_parts (is_free env word) (is_width c.args.width) (test_holds test (Some (with_local env l)) c.requires) in

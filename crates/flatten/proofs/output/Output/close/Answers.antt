@@ -1,7 +1,7 @@
 use Rattle.std.proofs.Common.{◌≡◌, ◌++◌, ◌∷◌, [], ◌∙◌, rules}
 use Rattle.flatten.specs.Journal.{before}
 use Rattle.flatten.specs.Tracked.{started}
-use Rattle.flatten.proofs.Steps.{close_start, close_told, as_wide}
+use Rattle.flatten.proofs.Steps.{close_start, close_told, as_wide, over_join}
 use Rattle.flatten.proofs.output.Output.close.Goals as goal
 
 pub loop-open-preserved : goal.loop-open-preserved

@@ -1,6 +1,6 @@
 use Rattle.std.proofs.Common.{◌≡◌, ◌+◌, ◌*◌, ◌≤◌, map, take}
+use Rattle.gal_bits.specs.Fitting.{sum_of}
 use Rattle.split_model.specs.declared.layout.Crossing.{Crossing}
-use Rattle.split_model.specs.Counts.{sum_of}
 use Rattle.split_model.proofs.layout.Layout.bytes.Given as goal
 
 abbrev pub invariant-loop-crossing : goal.invariant-loop-crossing

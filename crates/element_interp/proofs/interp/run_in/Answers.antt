@@ -3,7 +3,7 @@ use Rattle.element_lang.specs.View.{body_tree, tree}
 use Rattle.element_interp.specs.Runnable.{IsRunnableBody}
 use Rattle.element_interp.proofs.GoodRuns.{good_runs}
 use Rattle.element_interp.proofs.KeptRuns.{run_kept}
-use Rattle.element_interp.proofs.interp.run.Goals as goal
+use Rattle.element_interp.proofs.interp.run_in.Goals as goal
 
 pub run_body-requires : goal.run_body-requires
 run_body-requires c = subst (λ ss. IsRunnableBody (body_tree ss)) (sym c.deref.ensures.value) (good_runs (tree c.args.m.now) c.requires.good)
