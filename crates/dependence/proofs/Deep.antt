@@ -11,11 +11,6 @@ use Rattle.flat_ir.specs.Sets.{Reads, IsMarked, IsAt}
 use Rattle.flat_ir.specs.Stages.{deepest, depth_of, IsDepths}
 use Rattle.dependence.specs.Placed.{IsPlaced}
 
-pub deepest_append : (members : List Bool) (depths : List ℕ) (vs ws : List ValueId)
-    → deepest members depths (vs ++ ws) ≡ max (deepest members depths vs) (deepest members depths ws)
-deepest_append members depths [] ws = omega arith
-deepest_append members depths (v ∷ vs) ws = let r = deepest_append members depths vs ws in omega arith
-
 if_low : (b : Bool) (n top : ℕ) → n ≤ top → (if b then n else 0) ≤ top
 if_low true n top l = l
 if_low false n top l = omega arith

@@ -52,14 +52,6 @@ noted_twice row n = elim (cases_Bool (is_last row n)) [
 
 -- ## All lists
 
-pub noted_append : (rows : List (List ℕ)) (n : ℕ) (vs ws : List ValueId) → noted_all rows n (vs ++ ws) ≡ noted_all (noted_all rows n vs) n ws
-noted_append rows n [] ws = refl
-noted_append rows n (v ∷ vs) ws = noted_append (noted_at rows n v.instruction) n vs ws
-
-pub noted_more : (rows : List (List ℕ)) (n : ℕ) (vs : List ValueId) (k : ℕ) (d : ValueId) → k < length vs
-    → noted_all rows n (take (k + 1) vs) ≡ noted_at (noted_all rows n (take k vs)) n (get_or vs k d).instruction
-noted_more rows n vs k d l = ap (λ x. noted_all rows n x) (take_more vs k d l) ∙ noted_append rows n (take k vs) (get_or vs k d ∷ [])
-
 pub noted_count : (rows : List (List ℕ)) (n : ℕ) (vs : List ValueId) → length (noted_all rows n vs) ≡ length rows
 noted_count rows n [] = refl
 noted_count rows n (v ∷ vs) = noted_count (noted_at rows n v.instruction) n vs ∙ length-set rows v.instruction (noted (slice_index_or rows v.instruction []) n)

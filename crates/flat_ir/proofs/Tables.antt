@@ -9,7 +9,8 @@ use Rattle.flat_ir.specs.Program.{Program, Work, step_at}
 use Rattle.flat_ir.specs.Program.Work.{const, field, apply, shift, select, byte, look, put, del}
 use Rattle.flat_ir.specs.Blocks.{Reading, is_live}
 use Rattle.flat_ir.specs.Run.{change_of, made, with_changes, is_stored, after}
-use Rattle.flat_ir.specs.WellFormed.{IsWellFormed, WritesNoTable, is_constant}
+use Rattle.flat_ir.specs.WellFormed.{IsWellFormed, WritesNoTable}
+use Rattle.state_store.specs.Kinds.{is_constant}
 use Rattle.flat_ir.specs.Laws.{KeepsTables}
 use Rattle.flat_ir.proofs.Fitting.{writes_no_table}
 
