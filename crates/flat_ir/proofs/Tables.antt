@@ -2,7 +2,7 @@
 use Rattle.std.proofs.Common.{◌≡◌, ◌≢◌, ℕ, zero, suc, Bool, true, false, List, map, Option, Some, None, is_some, refl, sym, ap, ◌∙◌, arith, if◌then◌else◌}
 use Rattle.std.proofs.lemmas.Bool.{false≢true}
 use Rattle.packet_fields.specs.declared.packet.Packet.{Packet}
-use Rattle.state_store.specs.Store.{Object, Store, object_at, with_object, put_answer, put_row, del_row}
+use Rattle.state_store.specs.Store.{Object, Store, object_at, put_answer, put_row, del_row}
 use Rattle.state_store.specs.Store as store
 use Rattle.state_store.specs.Laws.{IsChangedAlone}
 use Rattle.flat_ir.specs.Program.{Program, Work, step_at}

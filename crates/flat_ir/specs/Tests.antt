@@ -1,4 +1,4 @@
--- Well-formedness as tests.
+-- Only proofs need this. Well-formedness as tests.
 use Rattle.std.specs.Prelude.{ℕ, zero, suc, Bool, true, false, ◌&&◌, ◌||◌, ◌==◌, List, [], ◌∷◌, length, nat_lt, nat_le}
 use Rattle.std.specs.List.{list_all}
 use Rattle.packet_fields.specs.Table.{row, field_index}

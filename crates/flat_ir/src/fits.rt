@@ -1,6 +1,6 @@
 //! Whether counts, widths and kinds fit.
 ghost use Rattle.std.specs.Prelude.{◌≡◌, ◌^◌, length, nat_lt, slice_get, slice_index};
-ghost use Rattle.flat_ir.specs.Program.{work_of, program_of, step_at, is_named, width_of_value};
+ghost use Rattle.flat_ir.specs.Program.{work_of, program_of, is_named, width_of_value};
 ghost use Rattle.gal_bits.specs.Fitting.{is_width};
 ghost use Rattle.flat_ir.specs.Fits.{same_widths, fits_operator, is_shift, is_select, fits_keys, fits_values, can_put};
 ghost use Rattle.flat_ir.specs.Fits.{can_del, widths_of, fits};

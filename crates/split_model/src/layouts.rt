@@ -170,7 +170,9 @@ impl Crossings {
         ensures all { IfOk result (λ count.
             layout.new ≡ layout.old ++ crossings_of way (program_of f.now) s.now (first_results i count)) }
     {
-        let count = f.code.as_slice()[i as usize].kind.result_count(f.objects.as_slice());
+        let count = f.code.as_slice()[i as usize]
+            .kind
+            .result_count(f.objects.as_slice());
         for place in 0..count {
             let value = ValueId {
                 instruction: i,

@@ -16,5 +16,5 @@ loop-place-preserved c =
 pub returns : goal.returns
 returns c =
     let all = operands (work_of c.args.kind.now) in
-    let past : length all ≤ c.loop-place.place = omega (arith, c.operand_count.ensures) in
+    let past : length all ≤ c.loop-place.place = omega (arith, c.operand_count-place-end.ensures) in
     sym (ap (λ vs. noted_all c.loop-place.self c.args.user vs) (at_end all c.loop-place.place past)) ∙ c.loop-place.invariant

@@ -1,6 +1,5 @@
-use Rattle.std.proofs.Common.{◌<◌, ◌≤◌, ◌||◌, ◌∙◌, sym, ap, arith, length, take, get_or}
+use Rattle.std.proofs.Common.{◌<◌, ◌≤◌, ◌||◌, ◌∙◌, sym, ap, arith, length, take}
 use Rattle.std.proofs.lemmas.Option.{get_or_from_slice_get, slice_get_within}
-use Rattle.flat_ir.specs.declared.program.ValueId.{ValueId}
 use Rattle.flat_ir.specs.Program.{work_of, operands}
 use Rattle.split_model.specs.Crossing.{is_among, is_value}
 use Rattle.split_model.proofs.Marking.{same_test, among_more, among_all}
@@ -19,5 +18,5 @@ loop-place-preserved c =
 pub returns : goal.returns
 returns c =
     let all = operands (work_of c.args.kind.now) in
-    let past : length all ≤ c.loop-place.place = omega (arith, c.operand_count.ensures) in
+    let past : length all ≤ c.loop-place.place = omega (arith, c.operand_count-place-end.ensures) in
     λ n test h. same_test n _ _ c.loop-place.self (λ v. among_all all c.loop-place.place v (test v) past) (c.loop-place.invariant n test h)
