@@ -1,5 +1,5 @@
 -- From the values that decide on writes to their instructions.
-use Rattle.std.proofs.Common.{◌≡◌, ℕ, zero, suc, ◌+◌, ◌<◌, ◌≤◌, Bool, true, false, ◌||◌, List, [], ◌∷◌, inl, inr, refl, sym, ap, ◌∙◌, subst, arith, length, get_or, take, set, replicate, length-set}
+use Rattle.std.proofs.Common.{◌≡◌, ℕ, zero, suc, ◌+◌, ◌<◌, ◌≤◌, Bool, true, false, List, [], ◌∷◌, inl, inr, refl, sym, ap, ◌∙◌, subst, arith, length, get_or, take, set, replicate, length-set}
 use Rattle.std.specs.Prelude.{◌==◌}
 use Rattle.std.proofs.lemmas.Bool.{or_cases, or_left, or_right, and_parts, and_from, eqb-true, eq-eqb, false≢true}
 use Rattle.std.proofs.lemmas.List.{length-replicate, take_all}
@@ -45,7 +45,7 @@ one_marked f found i d marks within guards inside are =
         | inl p ↦ are.sound j p
         | inr q ↦ record { value = value; own = sym q; guards = guards }
       ];
-      complete = λ v h. elim (or_cases (is_among v (take i found)) (is_value v value) (list_any_more (is_value v) found i d within ∙ h)) [
+      complete = λ v h. elim (or_cases (is_among v (take i found)) (is_value v value) (sym (list_any_more (is_value v) found i d within) ∙ h)) [
         | inl p ↦ marked_set_kept marks value.instruction v.instruction (are.complete v p)
         | inr q ↦
             let same : v.instruction ≡ value.instruction = eqb-true v.instruction value.instruction (and_parts (v.instruction == value.instruction) (v.result == value.result) q).0 in

@@ -4,4 +4,4 @@ use Rattle.dependence.proofs.Guarding.{AreMarkedFor}
 use Rattle.dependence.proofs.guard.guards.Given as goal
 
 abbrev pub invariant-loop-value : goal.invariant-loop-value
-invariant-loop-value l = AreMarkedFor (program_of l.f) (take l.value-index l.found.items) l.guards
+invariant-loop-value l = AreMarkedFor (program_of l.f) (take l.value-index l.value-items) l.guards

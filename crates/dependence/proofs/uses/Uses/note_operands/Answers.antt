@@ -1,6 +1,6 @@
-use Rattle.std.proofs.Common.{◌≡◌, ◌∙◌, ◌≤◌, sym, ap, arith, length}
+use Rattle.std.proofs.Common.{◌∙◌, ◌+◌, drop, ◌≤◌, sym, ap, arith, length}
 use Rattle.flat_ir.specs.Program.{work_of, operands}
-use Rattle.dependence.specs.Noted.{noted_all, noted_at}
+use Rattle.dependence.specs.Noted.{noted_all}
 use Rattle.dependence.proofs.Ahead.{ahead, at_end}
 use Rattle.dependence.proofs.uses.Uses.note_operands.Goals as goal
 
@@ -9,7 +9,7 @@ loop-place-preserved c =
     let all = operands (work_of c.args.kind.now) in
     let user = c.args.user in
     let value = c.operand.result in
-    ap (λ rows. noted_all rows user _) c.in_ok-note.ensures
+    ap (λ rows. noted_all rows user (drop (c.loop-place.place + 1) all)) c.in_ok-note.ensures
     ∙ sym (ap (λ vs. noted_all c.loop-place.self user vs) (ahead all c.loop-place.place value c.operand.ensures))
     ∙ c.loop-place.invariant
 
