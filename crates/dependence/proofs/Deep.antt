@@ -1,5 +1,5 @@
 -- Depths, found in rising order.
-use Rattle.std.proofs.Common.{◌≡◌, ℕ, suc, ◌+◌, ◌<◌, ◌≤◌, max, Bool, true, false, List, [], ◌∷◌, ◌++◌, inl, inr, refl, sym, ap, ◌∙◌, subst, arith, length}
+use Rattle.std.proofs.Common.{◌≡◌, ℕ, suc, ◌+◌, ◌<◌, ◌≤◌, Bool, true, false, List, [], ◌∷◌, ◌++◌, inl, inr, refl, sym, ap, ◌∙◌, subst, arith, length}
 use Rattle.std.specs.Prelude.{slice_get, slice_index, slice_index_or, if◌then◌else◌}
 use Rattle.std.proofs.lemmas.Option.{same_Some, slice_get_within}
 use Rattle.std.proofs.lemmas.List.{length_push, get_or_append_left, get_or_push, get_or_past}
@@ -10,11 +10,6 @@ use Rattle.flat_ir.specs.Kinds.{is_input}
 use Rattle.flat_ir.specs.Sets.{Reads, IsMarked, IsAt}
 use Rattle.flat_ir.specs.Stages.{deepest, depth_of, IsDepths}
 use Rattle.dependence.specs.Placed.{IsPlaced}
-
-pub deepest_append : (members : List Bool) (depths : List ℕ) (vs ws : List ValueId)
-    → deepest members depths (vs ++ ws) ≡ max (deepest members depths vs) (deepest members depths ws)
-deepest_append members depths [] ws = omega arith
-deepest_append members depths (v ∷ vs) ws = let r = deepest_append members depths vs ws in omega arith
 
 if_low : (b : Bool) (n top : ℕ) → n ≤ top → (if b then n else 0) ≤ top
 if_low true n top l = l

@@ -1,4 +1,4 @@
-mod Constants
+mod Ahead
 mod Marking
 mod Placing
 mod Rising

@@ -1,9 +1,9 @@
 -- Users that are noted one after the other.
-use Rattle.std.proofs.Common.{◌≡◌, ℕ, zero, suc, ◌+◌, ◌-◌, ◌<◌, ◌≤◌, Bool, true, false, ◌&&◌, ◌||◌, cond, List, [], ◌∷◌, ◌++◌, inl, inr, refl, sym, ap, ◌∙◌, subst, arith, length, get_or, take, set, replicate, length-set, length-append}
+use Rattle.std.proofs.Common.{◌≡◌, ℕ, zero, suc, ◌+◌, ◌-◌, ◌<◌, ◌≤◌, Bool, true, false, ◌&&◌, ◌||◌, cond, List, [], ◌∷◌, ◌++◌, inl, inr, refl, sym, ap, ◌∙◌, subst, arith, length, set, replicate, length-set, length-append}
 use Rattle.std.specs.Prelude.{slice_index_or, slice_index, ◌==◌, if◌then◌else◌, All}
 use Rattle.std.specs.List.{list_any, list_all, filter, range_with_len}
 use Rattle.std.proofs.lemmas.Bool.{cases_lt, cases_eq, cases_Bool, eq-eqb, eqb-true, false≢true}
-use Rattle.std.proofs.lemmas.List.{take_more, length-replicate, get_or-set_same, get_or-set_other}
+use Rattle.std.proofs.lemmas.List.{length-replicate, get_or-set_same, get_or-set_other}
 use Rattle.std.proofs.lemmas.List.Elements.{filter-append, All-filter}
 use Rattle.std.proofs.lemmas.List.FromFn.{length-range_with_len, get_or-range_with_len}
 use Rattle.flat_ir.specs.declared.program.ValueId.{ValueId}
@@ -51,14 +51,6 @@ noted_twice row n = elim (cases_Bool (is_last row n)) [
 ]
 
 -- ## All lists
-
-pub noted_append : (rows : List (List ℕ)) (n : ℕ) (vs ws : List ValueId) → noted_all rows n (vs ++ ws) ≡ noted_all (noted_all rows n vs) n ws
-noted_append rows n [] ws = refl
-noted_append rows n (v ∷ vs) ws = noted_append (noted_at rows n v.instruction) n vs ws
-
-pub noted_more : (rows : List (List ℕ)) (n : ℕ) (vs : List ValueId) (k : ℕ) (d : ValueId) → k < length vs
-    → noted_all rows n (take (k + 1) vs) ≡ noted_at (noted_all rows n (take k vs)) n (get_or vs k d).instruction
-noted_more rows n vs k d l = ap (λ x. noted_all rows n x) (take_more vs k d l) ∙ noted_append rows n (take k vs) (get_or vs k d ∷ [])
 
 pub noted_count : (rows : List (List ℕ)) (n : ℕ) (vs : List ValueId) → length (noted_all rows n vs) ≡ length rows
 noted_count rows n [] = refl

@@ -1,4 +1,4 @@
--- Marks on the instructions of several values.
+-- Only proofs need this. Marks on the instructions of several values.
 use Rattle.std.specs.Prelude.{Bool, false, List, slice_index_or}
 use Rattle.std.specs.List.{list_all}
 use Rattle.flat_ir.specs.declared.program.ValueId.{ValueId}

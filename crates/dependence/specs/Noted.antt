@@ -1,4 +1,4 @@
--- Users of each instruction, noted one after the other.
+-- Only proofs need this. Users of each instruction, noted one after the other.
 use Rattle.std.specs.Prelude.{◌≡◌, ℕ, ◌==◌, ◌-◌, ◌<◌, ◌&&◌, ◌∷◌, ◌++◌, Bool, List, [], nat_lt, length}
 use Rattle.std.specs.Prelude.{slice_index, slice_index_or, slice_set, if◌then◌else◌}
 use Rattle.std.specs.List.{filter, range_with_len}

@@ -1,4 +1,4 @@
--- What the scans rest on, of a program that is well formed.
+-- Only proofs need this. What the scans rest on, of a program that is well formed.
 use Rattle.std.specs.Prelude.{ℕ, ◌<◌, ◌≤◌, length}
 use Rattle.flat_ir.specs.Program.{Program, Step, operands}
 use Rattle.flat_ir.specs.Blocks.{block_at}

@@ -1,4 +1,4 @@
--- The set of postprocessing, found from the last instruction to the first.
+-- Only proofs need this. The set of postprocessing, found from the last instruction to the first.
 use Rattle.std.specs.Prelude.{◌≡◌, ℕ, ◌≤◌, List, Bool, length}
 use Rattle.flat_ir.specs.Program.{Program}
 use Rattle.flat_ir.specs.Sets.{IsMarked, IsPostClosed}

@@ -6,7 +6,6 @@ ghost use Rattle.flat_ir.specs.WellFormed.{IsWellFormed};
 ghost use Rattle.flat_ir.specs.Stages.{deepest, depth_of, IsDepths};
 
 use crate::marks::{Depths, Marks};
-use crate::operand::is_input;
 use flat_ir::{Flat, Instr, InstrKind, ValueId};
 use gal_io::NoMemory;
 use std::alloc::Global;
@@ -20,46 +19,15 @@ fn depth_at(members: &Marks, depths: &Depths, value: ValueId) -> u32
     if members.at(i) { depths.at(i) } else { 0 }
 }
 
-// The greatest depth among these values.
-fn deepest(members: &Marks, depths: &Depths, values: &[ValueId]) -> u32
-    ensures { result ≡ deepest members.now depths.now values.now }
-{
-    let mut found = 0;
-    for value in values {
-        found = found.max(depth_at(members, depths, *value));
-    }
-    found
-}
-
-// The greatest depth among what a put reads.
-#[tactic(auto, using(crate::proofs::Deep::deepest_append))]
-fn deepest_of_both(members: &Marks, depths: &Depths, keys: &[ValueId], values: &[ValueId]) -> u32
-    ensures { result ≡ deepest members.now depths.now (keys.now ++ values.now) }
-{
-    let first = deepest(members, depths, keys);
-    first.max(deepest(members, depths, values))
-}
-
 // The greatest depth among the operands.
 fn deepest_operand(members: &Marks, depths: &Depths, kind: &InstrKind) -> u32
     ensures { result ≡ deepest members.now depths.now (operands (work_of kind.now)) }
 {
-    match kind {
-        InstrKind::Const(..) | InstrKind::Field(_) => 0,
-        InstrKind::Apply { args, .. } => deepest(members, depths, args),
-        InstrKind::Shift { arg, .. } => deepest(members, depths, &[*arg]),
-        InstrKind::Select {
-            cond,
-            first,
-            second,
-            ..
-        } => { deepest(members, depths, &[*cond, *first, *second]) }
-        InstrKind::Byte(index) => deepest(members, depths, &[*index]),
-        InstrKind::Look { keys, .. } | InstrKind::Del { keys, .. } => deepest(
-            members, depths, keys,
-        ),
-        InstrKind::Put { keys, values, .. } => deepest_of_both(members, depths, keys, values),
+    let mut found = 0;
+    for place in 0..kind.operand_count() {
+        found = found.max(depth_at(members, depths, kind.operand(place)));
     }
+    found
 }
 
 // The depth of a member, by the depths so far.
@@ -67,7 +35,7 @@ fn depth_of(one: &Instr, members: &Marks, depths: &Depths) -> u32
     requires { (j : ℕ) → slice_index depths.now j < 2 ^ 32 - 1 }
     ensures { result ≡ depth_of members.now depths.now (step_of one.now) }
 {
-    if is_input(&one.kind) {
+    if one.kind.is_input() {
         0
     } else {
         deepest_operand(members, depths, &one.kind) + 1

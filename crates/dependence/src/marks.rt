@@ -99,14 +99,6 @@ impl Depths {
         }
     }
 
-    /// So many zeros.
-    pub fn zeros(alloc: Global, count: usize) -> Result<Depths, NoMemory>
-        ensures { IfOk result (λ depths. depths ≡ replicate count 0) }
-    {
-        let items = vec![in alloc; 0u32; count]?;
-        Ok(Depths { items })
-    }
-
     pub fn as_slice(&self) -> &[u32]
         ensures { result.now ≡ self.now }
     {

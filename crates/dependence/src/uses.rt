@@ -105,48 +105,14 @@ impl Uses {
         Ok(())
     }
 
-    // Notes it as a user of the instructions of these values.
-    fn note_all(&mut self, user: usize, values: &[ValueId]) -> Result<(), NoMemory>
-        ensures { OnOk result (self.new ≡ noted_all self.old user values.now) }
-    {
-        for value in values {
-            self.note(user, value.instruction as usize)?;
-        }
-        Ok(())
-    }
-
-    // Notes it as a user of what a put reads.
-    fn note_both(
-        &mut self,
-        user: usize,
-        keys: &[ValueId],
-        values: &[ValueId],
-    ) -> Result<(), NoMemory>
-        ensures { OnOk result (self.new ≡ noted_all self.old user (keys.now ++ values.now)) }
-    {
-        self.note_all(user, keys)?;
-        self.note_all(user, values)?;
-        Ok(())
-    }
-
     // Notes it as a user of what it reads.
     fn note_operands(&mut self, user: usize, kind: &InstrKind) -> Result<(), NoMemory>
         ensures { OnOk result (self.new ≡ noted_all self.old user (operands (work_of kind.now))) }
     {
-        match kind {
-            InstrKind::Const(..) | InstrKind::Field(_) => Ok(()),
-            InstrKind::Apply { args, .. } => self.note_all(user, args),
-            InstrKind::Shift { arg, .. } => self.note_all(user, &[*arg]),
-            InstrKind::Select {
-                cond,
-                first,
-                second,
-                ..
-            } => self.note_all(user, &[*cond, *first, *second]),
-            InstrKind::Byte(index) => self.note_all(user, &[*index]),
-            InstrKind::Look { keys, .. } | InstrKind::Del { keys, .. } => self.note_all(user, keys),
-            InstrKind::Put { keys, values, .. } => self.note_both(user, keys, values),
+        for place in 0..kind.operand_count() {
+            self.note(user, kind.operand(place).instruction as usize)?;
         }
+        Ok(())
     }
 
     /// Whether each user of an instruction is in one of two sets.

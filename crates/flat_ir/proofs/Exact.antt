@@ -7,12 +7,12 @@ use Rattle.packet_fields.specs.Table.{row, field_index}
 use Rattle.flat_ir.specs.declared.program.ValueId.{ValueId}
 use Rattle.flat_ir.specs.declared.program.Block.{Block}
 use Rattle.flat_ir.specs.declared.program.FieldValue.{FieldValue}
-use Rattle.flat_ir.specs.Program.{Program, Work, step_at, operands, is_named, width_of_value}
+use Rattle.flat_ir.specs.Program.{Program, Work, step_at, operands, is_named, is_value, width_of_value}
 use Rattle.flat_ir.specs.Program.Work.{const, field, apply, shift, select, byte, look, put, del}
 use Rattle.flat_ir.specs.Blocks.{same, block_at, line, HasLowParents}
 use Rattle.flat_ir.specs.Fits.{fits}
 use Rattle.flat_ir.specs.WellFormed.{IsWellFormed, IsSeenFrom, IsInArm, SeesOperands, EachCondition, AreInOrder, IsOutput, IsWritten}
-use Rattle.flat_ir.specs.Tests.{all_below, low_parents, is_seen, is_good_block, same_value, is_arm, is_in_arm, may_read, may_take, reads_well, is_before, are_before, is_good_instr, is_output, is_written, rise_from, is_good_out, well_formed}
+use Rattle.flat_ir.specs.Tests.{all_below, low_parents, is_seen, is_good_block, is_arm, is_in_arm, may_read, may_take, reads_well, is_before, are_before, is_good_instr, is_output, is_written, rise_from, is_good_out, well_formed}
 use Rattle.flat_ir.proofs.Parts.{left, right, both}
 use Rattle.flat_ir.proofs.Readings.{each_append, each_first, each_second, each_weaker}
 
@@ -79,13 +79,13 @@ module _ (f : Program) (i k : ℕ) where
 abbrev value_made : ℕ → ℕ → ValueId
 value_made i r = record { instruction = i; result = r }
 
-value_same : (v w : ValueId) → same_value v w ≡ true → v ≡ w
+pub value_same : (v w : ValueId) → is_value v w ≡ true → v ≡ w
 value_same v w h =
     let first : v.instruction ≡ w.instruction = eqb-true v.instruction w.instruction (left (v.instruction == w.instruction) (v.result == w.result) h) in
     let second : v.result ≡ w.result = eqb-true v.result w.result (right (v.instruction == w.instruction) (v.result == w.result) h) in
     ap (λ n. value_made n v.result) first ∙ ap (λ n. value_made w.instruction n) second
 
-same_itself : (v : ValueId) → same_value v v ≡ true
+pub same_itself : (v : ValueId) → is_value v v ≡ true
 same_itself v = both (v.instruction == v.instruction) (v.result == v.result) (eq-eqb v.instruction v.instruction refl) (eq-eqb v.result v.result refl)
 
 polarity_same : (a b : Bool) → same a b ≡ true → a ≡ b
@@ -102,14 +102,14 @@ block_made k cond polarity = record { parent = k; cond = cond; polarity = polari
 
 block_same : (b : Block) (k : ℕ) (cond : ValueId) (polarity : Bool) → is_arm b k cond polarity ≡ true → b ≡ record { parent = k; cond = cond; polarity = polarity }
 block_same b k cond polarity h =
-    let rest = right (b.parent == k) (same_value b.cond cond && same b.polarity polarity) h in
-    let first : b.parent ≡ k = eqb-true b.parent k (left (b.parent == k) (same_value b.cond cond && same b.polarity polarity) h) in
-    let second : b.cond ≡ cond = value_same b.cond cond (left (same_value b.cond cond) (same b.polarity polarity) rest) in
-    let third : b.polarity ≡ polarity = polarity_same b.polarity polarity (right (same_value b.cond cond) (same b.polarity polarity) rest) in
+    let rest = right (b.parent == k) (is_value b.cond cond && same b.polarity polarity) h in
+    let first : b.parent ≡ k = eqb-true b.parent k (left (b.parent == k) (is_value b.cond cond && same b.polarity polarity) h) in
+    let second : b.cond ≡ cond = value_same b.cond cond (left (is_value b.cond cond) (same b.polarity polarity) rest) in
+    let third : b.polarity ≡ polarity = polarity_same b.polarity polarity (right (is_value b.cond cond) (same b.polarity polarity) rest) in
     ap (λ n. block_made n b.cond b.polarity) first ∙ ap (λ v. block_made k v b.polarity) second ∙ ap (block_made k cond) third
 
 is_itself : (k : ℕ) (cond : ValueId) (polarity : Bool) → is_arm (record { parent = k; cond = cond; polarity = polarity }) k cond polarity ≡ true
-is_itself k cond polarity = both (k == k) (same_value cond cond && same polarity polarity) (eq-eqb k k refl) (both (same_value cond cond) (same polarity polarity) (same_itself cond) (same_polarity polarity))
+is_itself k cond polarity = both (k == k) (is_value cond cond && same polarity polarity) (eq-eqb k k refl) (both (is_value cond cond) (same polarity polarity) (same_itself cond) (same_polarity polarity))
 
 module _ (f : Program) (k : ℕ) (cond : ValueId) (polarity : Bool) (v : ValueId) where
   arm_from : (n : ℕ) → (step_at f v.instruction).block ≡ n → is_in_arm f.blocks n k cond polarity ≡ true → IsInArm f k cond polarity v

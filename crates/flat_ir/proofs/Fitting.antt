@@ -8,12 +8,12 @@ use Rattle.gal_bits.specs.Operators.{operator_row}
 use Rattle.state_store.specs.declared.object.Kind.{Kind}
 use Rattle.state_store.specs.declared.object.Kind.TheVariants.{Table, Map, Vector, Int}
 use Rattle.state_store.specs.declared.object.ObjectDecl.{ObjectDecl}
-use Rattle.state_store.specs.Kinds.{is_table, is_map}
+use Rattle.state_store.specs.Kinds.{is_table, is_map, is_constant}
 use Rattle.flat_ir.specs.Program.{Program, Work, width_of_value}
 use Rattle.flat_ir.specs.Program.Work.{const, field, apply, shift, select, byte, look, put, del}
 use Rattle.gal_bits.specs.Fitting.{is_width}
 use Rattle.flat_ir.specs.Fits.{same_widths, fits_operator, is_select, is_shift, fits_keys, fits_values, can_put, can_del, widths_of, fits}
-use Rattle.flat_ir.specs.WellFormed.{WritesNoTable, is_constant}
+use Rattle.flat_ir.specs.WellFormed.{WritesNoTable}
 use Rattle.flat_ir.specs.Operands.{CanRun, HasFewKeys}
 use Rattle.gal_bits.specs.Fits.{same_list}
 use Rattle.flat_ir.proofs.Parts.{left, right, not_true}

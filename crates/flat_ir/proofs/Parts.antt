@@ -1,5 +1,5 @@
 -- Tests that hold, and their parts.
-use Rattle.std.proofs.Common.{◌≡◌, Bool, true, false, not, ◌&&◌, None, Some, refl, sym, true≢false}
+use Rattle.std.proofs.Common.{◌≡◌, Bool, true, false, not, ◌&&◌, refl, sym, true≢false}
 
 pub left : (a b : Bool) → (a && b) ≡ true → a ≡ true
 left true b h = refl
@@ -16,12 +16,6 @@ both false b h k = h
 pub not_true : (b : Bool) → not b ≡ true → b ≡ false
 not_true true h = absurd (true≢false (sym h))
 not_true false h = refl
-
-pub the_some : {X : Type 0} → (x y : X) → Some x ≡ Some y → x ≡ y
-the_some x y e = cc
-
-pub none_some : {X : Type 0} → (x : X) → None ≡ Some x → ⊥
-none_some x e = cc
 
 pub false_from : (b : Bool) → (b ≡ true → ⊥) → b ≡ false
 false_from true h = absurd (h refl)

@@ -2,14 +2,15 @@
 use Rattle.std.proofs.Common.{◌≡◌, ◌≢◌, ℕ, zero, suc, Bool, true, false, List, map, Option, Some, None, is_some, refl, sym, ap, ◌∙◌, arith, if◌then◌else◌}
 use Rattle.std.proofs.lemmas.Bool.{false≢true}
 use Rattle.packet_fields.specs.declared.packet.Packet.{Packet}
-use Rattle.state_store.specs.Store.{Object, Store, object_at, with_object, put_answer, put_row, del_row, is_stored}
+use Rattle.state_store.specs.Store.{Object, Store, object_at, put_answer, put_row, del_row, is_stored}
 use Rattle.state_store.specs.Store as store
 use Rattle.state_store.specs.Laws.{IsChangedAlone}
 use Rattle.flat_ir.specs.Program.{Program, Work, step_at}
 use Rattle.flat_ir.specs.Program.Work.{const, field, apply, shift, select, byte, look, put, del}
 use Rattle.flat_ir.specs.Blocks.{Reading, is_live}
 use Rattle.flat_ir.specs.Run.{change_of, made, with_changes, after}
-use Rattle.flat_ir.specs.WellFormed.{IsWellFormed, WritesNoTable, is_constant}
+use Rattle.flat_ir.specs.WellFormed.{IsWellFormed, WritesNoTable}
+use Rattle.state_store.specs.Kinds.{is_constant}
 use Rattle.flat_ir.specs.Laws.{KeepsTables}
 use Rattle.flat_ir.proofs.Fitting.{writes_no_table}
 

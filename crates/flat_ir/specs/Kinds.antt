@@ -4,7 +4,7 @@ use Rattle.gal_bits.specs.Operators.{operator_row}
 use Rattle.flat_ir.specs.declared.program.ValueId.{ValueId}
 use Rattle.flat_ir.specs.Program.{Program, Work, Step, operands}
 use Rattle.flat_ir.specs.Program.Work.{const, field, apply, shift, select, byte, look, put, del}
-use Rattle.flat_ir.specs.WellFormed.{is_constant}
+use Rattle.state_store.specs.Kinds.{is_constant}
 
 -- the switch has this kind of work
 abbrev pub can_switch : Work → Bool

@@ -9,7 +9,7 @@ use Rattle.flat_ir.specs.Program.Work.{const, field, apply, shift, select, byte,
 use Rattle.std.specs.List.{AllByRecursion as Each}
 use Rattle.flat_ir.specs.Blocks.{Reading, is_live, is_on}
 use Rattle.flat_ir.specs.Run.{Machine, after, flat_run, flat_store, flat_changes, with_changes, results}
-use Rattle.flat_ir.specs.WellFormed.{is_constant}
+use Rattle.state_store.specs.Kinds.{is_constant}
 
 -- Each value of a run is its instruction's result of the run's own values, in the store at its turn; and the block is
 -- live at its turn just where it is live by the run's values.

@@ -1,6 +1,8 @@
 pub mod Arrivals
 pub mod Blocks
 pub mod Fits
+pub mod Guarding
+pub mod Guards
 pub mod Kinds
 pub mod Laws
 pub mod Listing

@@ -1,4 +1,4 @@
--- A plan that is made span by span, in the order of their first steps.
+-- Only proofs need this. A plan that is made span by span, in the order of their first steps.
 use Rattle.std.specs.Prelude.{◌≡◌, ℕ, ◌<◌, ◌≤◌, ◌==◌, nat_le, List, length, count_by, Some, None, All}
 use Rattle.std.specs.BinaryHeap.{IsHeap}
 use Rattle.std.specs.FinMap as map

@@ -1,7 +1,8 @@
 -- A flat program as plain data.
-use Rattle.std.specs.Prelude.{ℕ, Bool, false, ◌&&◌, nat_lt, List, [], ◌∷◌, ◌++◌, map, length, slice_get, slice_index}
+use Rattle.std.specs.Prelude.{ℕ, zero, suc, ◌==◌, Bool, false, ◌&&◌, ◌||◌, nat_lt, List, [], ◌∷◌, ◌++◌, map, length, slice_get, slice_index}
 use Rattle.std.specs.Prelude.{slice_index_or, unwrap_or}
 use Rattle.std.specs.Option.{option_map}
+use Rattle.std.specs.List.{list_any}
 use Rattle.gal_bits.specs.declared.op.Op.{Op}
 use Rattle.packet_fields.specs.declared.field.Field.{Field}
 use Rattle.packet_fields.specs.Table.{row}
@@ -44,6 +45,21 @@ pub record Program : Type 0 where
 -- the instruction of a number; past the end, a constant in the root
 abbrev pub step_at : Program → ℕ → Step
 step_at f i = slice_index_or f.code i (record { block = 0; looped = false; work = const 1 0 })
+
+-- some number below n passes the test
+abbrev pub any_below : ℕ → (ℕ → Bool) → Bool
+any_below zero test = false
+any_below (suc n) test = any_below n test || test n
+
+-- some instruction passes the test
+abbrev pub any_step : Program → (ℕ → Bool) → Bool
+any_step f test = any_below (length f.code) test
+
+abbrev pub is_value : ValueId → ValueId → Bool
+is_value v w = (v.instruction == w.instruction) && (v.result == w.result)
+
+abbrev pub is_among : ValueId → List ValueId → Bool
+is_among v vs = list_any (is_value v) vs
 
 -- the values that an instruction reads
 abbrev pub operands : Work → List ValueId

@@ -1,11 +1,10 @@
 -- Sets of instructions, as one mark an instruction, that the parts of a split may take.
-use Rattle.std.specs.Prelude.{◌≡◌, ◌⊎◌, ℕ, zero, suc, ◌==◌, ◌<◌, Bool, true, false, List, [], ◌∷◌, slice_get, Some}
+use Rattle.std.specs.Prelude.{◌≡◌, ◌⊎◌, ℕ, ◌<◌, Bool, true, false, List, [], ◌∷◌, slice_get, Some}
 use Rattle.std.specs.Prelude.{slice_index_or, length, IsTrue}
-use Rattle.std.specs.List.{list_any}
 use Rattle.flat_ir.specs.declared.program.ValueId.{ValueId}
 use Rattle.flat_ir.specs.Program.{Program, Step, operands}
-use Rattle.flat_ir.specs.Blocks.{line, block_at}
-use Rattle.flat_ir.specs.Kinds.{needed, fits_switch, is_write, is_mutable_look, is_field}
+use Rattle.flat_ir.specs.Guards.{guards_write}
+use Rattle.flat_ir.specs.Kinds.{needed, fits_switch, is_mutable_look, is_field}
 
 -- one of these values is a result of instruction j
 abbrev pub Reads : List ValueId → ℕ → Type 0
@@ -16,22 +15,11 @@ Reads (v ∷ vs) j = (v.instruction ≡ j) ⊎ Reads vs j
 abbrev pub IsAt : Program → ℕ → Step → Type 0
 IsAt f i one = slice_get f.code i ≡ Some one
 
--- a result of instruction j is the condition of a block; the root has none
-abbrev pub is_condition_of : Program → ℕ → ℕ → Bool
-is_condition_of f j zero = false
-is_condition_of f j (suc k) = (block_at f.blocks k).cond.instruction == j
-
--- a result of instruction j is the condition of a block or of one above it
-abbrev pub decides_on : Program → ℕ → ℕ → Bool
-decides_on f j k = list_any (is_condition_of f j) (line f.blocks k)
-
 -- a result of instruction j decides whether a write takes effect
 pub record IsGuard (f : Program) (j : ℕ) : Type 0 where
-  pub number : ℕ
-  pub write : Step
-  pub there : IsAt f number write
-  pub writes : is_write write.work ≡ true
-  pub chain : decides_on f j write.block ≡ true
+  pub value : ValueId
+  pub own : value.instruction ≡ j
+  pub guards : guards_write f value ≡ true
 
 -- instruction i is in the set
 abbrev pub IsMarked : List Bool → ℕ → Type 0

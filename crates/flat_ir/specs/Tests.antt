@@ -1,11 +1,11 @@
--- Well-formedness as tests.
+-- Only proofs need this. Well-formedness as tests.
 use Rattle.std.specs.Prelude.{ℕ, zero, suc, Bool, true, false, ◌&&◌, ◌||◌, ◌==◌, List, [], ◌∷◌, length, nat_lt, nat_le}
 use Rattle.std.specs.List.{list_all}
 use Rattle.packet_fields.specs.Table.{row, field_index}
 use Rattle.flat_ir.specs.declared.program.ValueId.{ValueId}
 use Rattle.flat_ir.specs.declared.program.Block.{Block}
 use Rattle.flat_ir.specs.declared.program.FieldValue.{FieldValue}
-use Rattle.flat_ir.specs.Program.{Program, Work, step_at, is_named, width_of_value}
+use Rattle.flat_ir.specs.Program.{Program, Work, step_at, is_named, is_value, width_of_value}
 use Rattle.flat_ir.specs.Program.Work.{const, field, apply, shift, select, byte, look, put, del}
 use Rattle.flat_ir.specs.Blocks.{same, block_at, line, is_above}
 use Rattle.flat_ir.specs.Fits.{fits}
@@ -27,11 +27,8 @@ is_good_block f k =
     let b = block_at f.blocks k in
     is_named f b.cond && (width_of_value f b.cond == 1 && is_seen f b.parent b.cond)
 
-abbrev pub same_value : ValueId → ValueId → Bool
-same_value v w = v.instruction == w.instruction && v.result == w.result
-
 abbrev pub is_arm : Block → ℕ → ValueId → Bool → Bool
-is_arm b k cond polarity = b.parent == k && (same_value b.cond cond && same b.polarity polarity)
+is_arm b k cond polarity = b.parent == k && (is_value b.cond cond && same b.polarity polarity)
 
 -- block n is an arm of a select in block k
 abbrev pub is_in_arm : List Block → ℕ → ℕ → ValueId → Bool → Bool

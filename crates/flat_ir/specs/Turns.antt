@@ -1,4 +1,4 @@
--- How the registers and the store of a run stand.
+-- Only proofs need this. How the registers and the store of a run stand.
 use Rattle.std.specs.Prelude.{◌≡◌, ℕ, []}
 use Rattle.packet_fields.specs.declared.packet.Packet.{Packet}
 use Rattle.state_store.specs.Store.{Store}

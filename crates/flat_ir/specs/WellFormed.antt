@@ -3,7 +3,7 @@ use Rattle.std.specs.Prelude.{◌≡◌, ◌⊎◌, ℕ, zero, suc, ◌<◌, ◌
 use Rattle.std.specs.Prelude.{slice_get, IsTrue}
 use Rattle.std.specs.List.{AllByRecursion as Each}
 use Rattle.packet_fields.specs.Table.{row, field_index}
-use Rattle.state_store.specs.Kinds.{is_table}
+use Rattle.state_store.specs.Kinds.{is_table, is_constant}
 use Rattle.state_store.specs.declared.object.ObjectDecl.{ObjectDecl}
 use Rattle.state_store.specs.Store.{Store, object_at, start_object}
 use Rattle.flat_ir.specs.declared.program.ValueId.{ValueId}
@@ -88,12 +88,6 @@ pub record IsWellFormed (f : Program) : Type 0 where
 
 -- ## What follows from it
 
--- the object of this number is a constant table
-abbrev pub is_constant : List ObjectDecl → ℕ → Bool
-is_constant [] o = false
-is_constant (d ∷ ds) zero = is_table d.kind
-is_constant (d ∷ ds) (suc o) = is_constant ds o
-
 -- a put or a del is none of a constant table
 abbrev pub WritesNoTable : Program → Work → Type 0
 WritesNoTable f (put object keys values) = is_constant f.objects object ≡ false
@@ -107,6 +101,6 @@ WritesNoTable f (byte index) = Unit {0}
 WritesNoTable f (look object keys) = Unit {0}
 
 -- a store in which the constant tables have their declared rows
-pub record HasTables (f : Program) (st : Store) : Type 0 where
+pub record HasConstantTables (f : Program) (st : Store) : Type 0 where
   pub tables : (o : ℕ) (d : ObjectDecl) → slice_get f.objects o ≡ Some d → is_table d.kind ≡ true
       → object_at st o ≡ start_object d

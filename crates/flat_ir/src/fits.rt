@@ -1,95 +1,20 @@
 //! Whether counts, widths and kinds fit.
-ghost use Rattle.std.specs.Prelude.{◌≡◌, ◌^◌, List, length, nat_lt, slice_get, slice_index};
-ghost use Rattle.state_store.specs.declared.object.ObjectDecl.{ObjectDecl as Declared};
-ghost use Rattle.flat_ir.specs.Program.{work_of, program_of, step_at, value_widths, result_widths, result_count};
-ghost use Rattle.flat_ir.specs.Program.{is_named, width_of_value};
+ghost use Rattle.std.specs.Prelude.{◌≡◌, ◌^◌, length, nat_lt, slice_get, slice_index};
+ghost use Rattle.flat_ir.specs.Program.{work_of, program_of, is_named, width_of_value};
 ghost use Rattle.gal_bits.specs.Fitting.{is_width};
 ghost use Rattle.flat_ir.specs.Fits.{same_widths, fits_operator, is_shift, is_select, fits_keys, fits_values, can_put};
 ghost use Rattle.flat_ir.specs.Fits.{can_del, widths_of, fits};
 
 use crate::program::{Flat, InstrKind, ValueId};
 use gal_bits::{Op, Width, eval};
-use packet_fields::width;
-use state_store::{Kind, ObjectDecl};
-
-// The width of a value of an object's rows, 0 where there is none.
-fn value_width(objects: &[ObjectDecl], object: u32, place: u32) -> u64
-    ensures { result ≡ slice_index (value_widths objects.now object) place }
-{
-    match objects.get(object as usize) {
-        Some(declared) => at(declared.values.as_slice(), place),
-        None => 0,
-    }
-}
-
-// The number at a place, 0 past the end.
-fn at(numbers: &[u64], place: u32) -> u64
-    ensures { result ≡ slice_index numbers.now place }
-{
-    let place = place as usize;
-    if place < numbers.len() {
-        numbers[place]
-    } else {
-        0
-    }
-}
-
-// The width of the first result.
-fn first_width(kind: &InstrKind) -> u64
-    ensures { (objects : List Declared) → result ≡ slice_index (result_widths objects (work_of kind.now)) 0 }
-{
-    match kind {
-        InstrKind::Const(width, _) => u64::from(width.bits()),
-        InstrKind::Field(field) => u64::from(width(*field).bits()),
-        InstrKind::Apply { width, .. } => u64::from(width.bits()),
-        InstrKind::Shift { width, .. } => u64::from(width.bits()),
-        InstrKind::Select { width, .. } => u64::from(width.bits()),
-        InstrKind::Byte(_) => 8,
-        InstrKind::Look { .. } => 1,
-        InstrKind::Put { .. } => 1,
-        InstrKind::Del { .. } => 1,
-    }
-}
-
-// The width of a result, 0 where there is none.
-fn result_width(objects: &[ObjectDecl], kind: &InstrKind, place: u32) -> u64
-    ensures { result ≡ slice_index (result_widths objects.now (work_of kind.now)) place }
-{
-    if place == 0 {
-        return first_width(kind);
-    }
-    match kind {
-        InstrKind::Look { object, .. } => value_width(objects, *object, place - 1),
-        _ => 0,
-    }
-}
-
-// How many values the rows of an object have.
-fn value_count(objects: &[ObjectDecl], object: u32) -> usize
-    ensures { result ≡ length (value_widths objects.now object) }
-{
-    match objects.get(object as usize) {
-        Some(declared) => declared.values.len(),
-        None => 0,
-    }
-}
-
-// Whether an instruction has a result at a place.
-fn has_result(objects: &[ObjectDecl], kind: &InstrKind, place: u32) -> bool
-    ensures { result ≡ nat_lt place (result_count objects.now (work_of kind.now)) }
-{
-    match kind {
-        InstrKind::Look { object, .. } => place as usize <= value_count(objects, *object),
-        _ => place == 0,
-    }
-}
+use state_store::Kind;
 
 /// Whether there is such a value.
 pub(crate) fn is_named(f: &Flat, value: ValueId) -> bool
     ensures { result ≡ is_named (program_of f.now) value }
 {
     match f.code.as_slice().get(value.instruction as usize) {
-        Some(instr) => has_result(f.objects.as_slice(), &instr.kind, value.result),
+        Some(instr) => value.result < instr.kind.result_count(f.objects.as_slice()),
         None => false,
     }
 }
@@ -99,7 +24,7 @@ pub(crate) fn width_of_value(f: &Flat, value: ValueId) -> u64
     ensures { result ≡ width_of_value (program_of f.now) value }
 {
     match f.code.as_slice().get(value.instruction as usize) {
-        Some(instr) => result_width(f.objects.as_slice(), &instr.kind, value.result),
+        Some(instr) => instr.kind.result_width(f.objects.as_slice(), value.result),
         None => u64::from(value.result == 0),
     }
 }
@@ -186,7 +111,7 @@ fn can_put(f: &Flat, object: u32) -> bool
     ensures { result ≡ can_put (slice_get f.now.objects object) }
 {
     match f.objects.as_slice().get(object as usize) {
-        Some(declared) => !matches!(declared.kind, Kind::Table),
+        Some(declared) => !declared.kind.is_table(),
         None => false,
     }
 }

@@ -4,6 +4,7 @@
 mod blocks;
 mod eval;
 mod fits;
+mod guards;
 mod kinds;
 mod laws;
 mod listing;
@@ -18,6 +19,7 @@ mod work;
 
 pub use blocks::is_live;
 pub use eval::{eval_flat, leave, write_fields};
+pub use guards::write_guards;
 pub use laws::{
     a_run_goes_on, a_run_is_its_changes, a_run_is_its_values, a_run_keeps_the_tables,
     a_run_keeps_widths, a_turn_keeps_widths, lines_of_blocks, readings_that_agree,

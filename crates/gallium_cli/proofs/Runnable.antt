@@ -15,7 +15,8 @@ use Rattle.element_lang.specs.Rules.{is_good}
 use Rattle.flat_ir.specs.Program.{Program, Work, step_at}
 use Rattle.flat_ir.specs.Program.Work.{const, field, apply, shift, select, byte, look, put, del}
 use Rattle.flat_ir.specs.Fits.{fits, widths_of}
-use Rattle.flat_ir.specs.WellFormed.{IsWellFormed, is_constant}
+use Rattle.flat_ir.specs.WellFormed.{IsWellFormed}
+use Rattle.state_store.specs.Kinds.{is_constant}
 use Rattle.flatten.specs.Flatten.{flat_of}
 use Rattle.split_model.specs.declared.split.Part.{Part}
 use Rattle.split_model.specs.declared.split.Slow.TheVariants.{Server}

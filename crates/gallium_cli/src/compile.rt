@@ -136,7 +136,6 @@ fn heading(alloc: Global, number: usize, words: &[u8]) -> Result<Text, NoMemory>
 fn compiled(alloc: Global, f: &Flat, split: &Split, writeback: u32) -> Result<Text, NoMemory>
     requires bounded { IsBounded (program_of f.now) }
     requires parts { length split.now ≡ length f.now.code }
-    requires few { writeback ≤ 65536 }
     ensures { IfOk result (λ text. text ≡ compiled_text (program_of f.now) split.now writeback) }
 {
     let counts = count(alloc, f, split, writeback)?;

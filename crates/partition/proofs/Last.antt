@@ -5,12 +5,11 @@ use Rattle.std.specs.List.{filter}
 use Rattle.std.proofs.lemmas.List.Elements.{All-nil, All-cons, All-append, filter-append}
 use Rattle.std.proofs.lemmas.Bool.{cases_Bool, cases_eq, eqb-true}
 use Rattle.state_store.specs.declared.object.ObjectDecl.{ObjectDecl}
-use Rattle.state_store.specs.Kinds.{is_table}
+use Rattle.state_store.specs.Kinds.{is_table, is_constant}
 use Rattle.flat_ir.specs.declared.program.ValueId.{ValueId}
 use Rattle.flat_ir.specs.Program.{Program, step_at, operands, is_named, width_of_value, result_count}
-use Rattle.flat_ir.specs.WellFormed.{IsWellFormed, is_constant}
+use Rattle.flat_ir.specs.WellFormed.{IsWellFormed}
 use Rattle.flat_ir.specs.Sets.{IsMarked}
-use Rattle.gal_bits.specs.Fitting.{sum_of}
 use Rattle.split_model.specs.declared.split.Part.{Part}
 use Rattle.split_model.specs.declared.split.Slow.{Slow}
 use Rattle.split_model.specs.declared.split.Slow.TheVariants.{Carried, Server, Post}
@@ -19,7 +18,7 @@ use Rattle.split_model.specs.Split.{part_at, is_pre, is_carried, is_post, is_car
 use Rattle.split_model.specs.Shown.{looks_at, is_shown, is_replicated}
 use Rattle.split_model.specs.Crossing.{is_value, is_among, is_read_by, is_at_hand, crosses_up, crosses_down}
 use Rattle.split_model.specs.Layouts.{first_results, values_below, values_of, crossing, up_values, down_values, up_layout, down_layout}
-use Rattle.split_model.specs.Counts.{count_below, accesses, writes, is_post_shown, object_bits, bits_from, layout_bytes, transfer_bytes}
+use Rattle.split_model.specs.Counts.{count_below, accesses, writes, total, is_post_shown, object_bits, bits_from, layout_bytes, transfer_bytes}
 use Rattle.split_model.specs.Greatest.{pre_marks, IsGreatestSplit}
 use Rattle.resource_limits.specs.declared.limits.Limits.{Limits}
 use Rattle.resource_limits.specs.Limits.{AreInRange}
@@ -109,7 +108,7 @@ module _ (split : List Part) (of : IsBlank split) (f : Program) where
 -- ## It hands down whether the packet is sent, and its port
 
 abbrev pub bits_of : Program → List ValueId → ℕ
-bits_of f vs = sum_of (map (λ (c : Crossing). c.width) (map (crossing f) vs))
+bits_of f vs = total (map (crossing f) vs)
 
 bits_append : (f : Program) (vs ws : List ValueId) → bits_of f (vs ++ ws) ≡ bits_of f vs + bits_of f ws
 bits_append f [] ws = omega arith

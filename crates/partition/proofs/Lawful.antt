@@ -4,14 +4,15 @@ use Rattle.std.specs.Prelude.{slice_get, slice_index, slice_index_or, IsTrue}
 use Rattle.std.specs.List.{list_all, list_any, AllByRecursion as Each}
 use Rattle.std.proofs.lemmas.List.{length-map}
 use Rattle.std.proofs.lemmas.Option.{get_or_from_slice_get}
-use Rattle.std.proofs.lemmas.Bool.{cases_Bool, or_left, or_right, eq-eqb, eqb-true, lt-ltb}
+use Rattle.std.proofs.lemmas.Bool.{cases_Bool, cases_lt, and_from, or_left, or_right, eq-eqb, eqb-true, lt-ltb}
 use Rattle.flat_ir.specs.declared.program.ValueId.{ValueId}
-use Rattle.flat_ir.specs.Program.{Program, Step, Work, step_at, operands}
+use Rattle.flat_ir.specs.Program.{Program, Step, Work, any_below, is_value, step_at, operands}
 use Rattle.flat_ir.specs.Program.Work.{const, field, apply, shift, select, byte, look, put, del}
 use Rattle.flat_ir.specs.Blocks.{line, block_at, same}
 use Rattle.flat_ir.specs.Kinds.{needed, fits_switch, can_switch, is_write, is_input, is_field, is_mutable_look}
 use Rattle.flat_ir.specs.WellFormed.{IsWellFormed}
-use Rattle.flat_ir.specs.Sets.{IsMarked, IsAt, Reads, EachIs, IsPostClosed, IsPreClosed, IsCarriedClosed, is_condition_of}
+use Rattle.flat_ir.specs.Sets.{IsMarked, IsAt, Reads, EachIs, IsPostClosed, IsPreClosed, IsCarriedClosed}
+use Rattle.flat_ir.specs.Guards.{is_condition, decides_on}
 use Rattle.flat_ir.specs.Stages.{IsDepths, IsStaged}
 use Rattle.split_model.specs.declared.split.Part.{Part}
 use Rattle.split_model.specs.declared.split.Slow.{Slow}
@@ -108,15 +109,25 @@ no_reads : (t : ℕ → Bool) (vs : List ValueId) → ((j : ℕ) → Reads vs j 
 no_reads t [] h = refl
 no_reads t (v ∷ vs) h = rw (h v.instruction (inl refl)) (no_reads t vs (λ j r. h j (inr r)))
 
-no_conditions : (f : Program) (split : List Part) (ks : List ℕ) → ((j : ℕ) → list_any (is_condition_of f j) ks ≡ true → is_post split j ≡ false)
+value_self : (v : ValueId) → is_value v v ≡ true
+value_self v = and_from (v.instruction == v.instruction) (v.result == v.result) (eq-eqb v.instruction v.instruction refl) (eq-eqb v.result v.result refl)
+
+no_conditions : (f : Program) (split : List Part) (ks : List ℕ) → ((v : ValueId) → list_any (is_condition f v) ks ≡ true → is_post split v.instruction ≡ false)
     → list_any (is_post_condition f split) ks ≡ false
 no_conditions f split [] h = refl
-no_conditions f split (zero ∷ ks) h = no_conditions f split ks h
+no_conditions f split (zero ∷ ks) h = no_conditions f split ks (λ v q. h v q)
 no_conditions f split (suc k ∷ ks) h =
-    let c : ℕ = (block_at f.blocks k).cond.instruction in
-    or_no (is_post split c) (list_any (is_post_condition f split) ks)
-    (h c (or_left (is_condition_of f c (suc k)) (list_any (is_condition_of f c) ks) (eq-eqb c c refl)))
-    (no_conditions f split ks (λ j q. h j (or_right (is_condition_of f j (suc k)) (list_any (is_condition_of f j) ks) q)))
+    let c : ValueId = (block_at f.blocks k).cond in
+    or_no (is_post split c.instruction) (list_any (is_post_condition f split) ks)
+    (h c (or_left (is_value c c) (list_any (is_condition f c) ks) (value_self c)))
+    (no_conditions f split ks (λ v q. h v (or_right (is_condition f v (suc k)) (list_any (is_condition f v) ks) q)))
+
+any_passes : (n : ℕ) (test : ℕ → Bool) (i : ℕ) → i < n → test i ≡ true → any_below n test ≡ true
+any_passes zero test i h t = absurd (omega arith)
+any_passes (suc n) test i h t = elim (cases_lt i n) [
+  | inl lt ↦ or_left (any_below n test) (test n) (any_passes n test i lt t)
+  | inr ge ↦ let e : i ≡ n = omega arith in or_right (any_below n test) (test n) (ap test (sym e) ∙ t)
+]
 
 write_not_switch : (work : Work) → is_write work ≡ true → can_switch work ≡ true → ⊥
 write_not_switch (const width number) h k = cc
@@ -227,9 +238,14 @@ module _ (f : Program) (split : List Part) (is : IsClosed f split) (i : ℕ) (lt
       let back : is_post split i ≡ true = sym (post_at split i) ∙ is.post.readers i j (step_at f i) (post_at split j ∙ p) at r (carried_at split i ∙ of.0) in
       (let not : is_post split i ≡ false = of.1 in cc))
 
-  guards_none : is_write (step_at f i).work ≡ true → (j : ℕ) → list_any (is_condition_of f j) (line f.blocks (step_at f i).block) ≡ true → is_post split j ≡ false
-  guards_none w j chain = no_more (is_post split j) (λ p.
-      is.post.guards j (post_at split j ∙ p) (record { number = i; write = step_at f i; there = at; writes = w; chain = chain }))
+  guards_none : is_write (step_at f i).work ≡ true → (v : ValueId) → decides_on f v (step_at f i).block ≡ true → is_post split v.instruction ≡ false
+  guards_none w v chain = no_more (is_post split v.instruction) (λ p.
+      is.post.guards v.instruction (post_at split v.instruction ∙ p) (record {
+        value = v;
+        own = refl;
+        guards = any_passes (length f.code) (λ n. is_write (step_at f n).work && decides_on f v (step_at f n).block) i lt
+            (and_from (is_write (step_at f i).work) (decides_on f v (step_at f i).block) w chain);
+      }))
 
   keeps_6 : rule_6 f split i ≡ false
   keeps_6 = or_no (is_server split i && list_any (λ (v : ValueId). is_post split v.instruction) (operands (step_at f i).work))

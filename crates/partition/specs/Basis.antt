@@ -1,4 +1,4 @@
--- What all splits of a program go by.
+-- Only proofs need this. What all splits of a program go by.
 use Rattle.std.specs.Prelude.{length}
 use Rattle.flat_ir.specs.declared.program.Flat.{Flat}
 use Rattle.flat_ir.specs.Program.{program_of}

@@ -1,4 +1,4 @@
--- Stages above a limit.
+-- Only proofs need this. Stages above a limit.
 use Rattle.std.specs.Prelude.{ℕ, Bool, ◌||◌, nat_lt}
 use Rattle.split_model.specs.declared.split.Part.{Part}
 use Rattle.split_model.specs.Split.{stage_after}

@@ -1,4 +1,4 @@
--- What preprocessing has of the first instructions.
+-- Only proofs need this. What preprocessing has of the first instructions.
 use Rattle.flat_ir.specs.Program.{Program}
 use Rattle.flat_ir.specs.Sets.{IsPreClosed, IsCarriedClosed, IsGreatest}
 use Rattle.flat_ir.specs.Stages.{IsDepths}

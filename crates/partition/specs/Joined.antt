@@ -1,4 +1,4 @@
--- Parts from sets and stages.
+-- Only proofs need this. Parts from sets and stages.
 use Rattle.std.specs.Prelude.{◌≡◌, ℕ, Bool, List}
 use Rattle.split_model.specs.declared.split.Part.{Part}
 use Rattle.split_model.specs.Greatest.{pre_marks, carried_marks, post_marks, pre_stages, post_stages}

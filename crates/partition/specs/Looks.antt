@@ -1,4 +1,4 @@
--- Objects that preprocessing looks up more than once.
+-- Only proofs need this. Objects that preprocessing looks up more than once.
 use Rattle.std.specs.Prelude.{◌≡◌, ◌⊎◌, ℕ, ◌<◌, true, List, Bool, length}
 use Rattle.flat_ir.specs.Program.{Program, Work, step_at}
 use Rattle.flat_ir.specs.Sets.{IsMarked}

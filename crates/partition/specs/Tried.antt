@@ -1,4 +1,4 @@
--- What one try gives, and two.
+-- Only proofs need this. What one try gives, and two.
 use Rattle.std.specs.Prelude.{◌≡◌, ℕ, ◌-◌, Bool, true, false, List, Option, Some, None, ◌⊎◌}
 use Rattle.flat_ir.specs.Program.{Program}
 use Rattle.split_model.specs.declared.split.Part.{Part}

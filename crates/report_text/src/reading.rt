@@ -2,7 +2,6 @@
 ghost use Rattle.std.specs.Prelude.{◌≡◌, ◌<◌, ◌^◌, length, IfOk, IfSome, OnOk, MatchOption, true, false, None, Some};
 ghost use Rattle.std.specs.Prelude.{drop};
 ghost use Rattle.std.specs.Prelude.{slice_get, if◌then◌else◌, Option};
-ghost use Rattle.state_store.specs.Kinds.{is_table};
 ghost use Rattle.report_text.specs.Parse.{count_of, fate_of, order_of, counts_of, events_of, versions_of};
 ghost use Rattle.report_text.specs.Machine.{State, at_start, closed_by, count_by, counts_read, drained_read, ended};
 ghost use Rattle.report_text.specs.Machine.{fate_read, has_keys, is_after, line_read, next_from, order_read};
@@ -19,7 +18,7 @@ use crate::stage::{Side, Stage};
 use gal_bits::{Values, Widths};
 use gal_io::{NoMemory, is_skipped};
 use run_text::{Fate, Fates, Order, Part, Parts, Run};
-use state_store::{Kind, ObjectDecl, Row, Rows};
+use state_store::{ObjectDecl, Row, Rows};
 use std::alloc::Global;
 use std::marker::Model;
 use std::mem;
@@ -58,12 +57,6 @@ impl Model for Reading {
     } };
 }
 
-fn is_table(object: &ObjectDecl) -> bool
-    ensures { result ≡ is_table object.now.kind }
-{
-    object.kind == Kind::Table
-}
-
 // The first object from this number on that is no table.
 #[tactic(auto, using(crate::proofs::Loops::next_on, crate::proofs::Loops::next_stop))]
 fn next_object(objects: &[ObjectDecl], from: usize) -> Option<u32>
@@ -71,7 +64,7 @@ fn next_object(objects: &[ObjectDecl], from: usize) -> Option<u32>
     ensures { result ≡ next_from from (drop from objects.now) }
 {
     for number in from..objects.len() {
-        if !is_table(&objects[number]) {
+        if !objects[number].kind.is_table() {
             return Some(number as u32);
         }
     }
@@ -82,7 +75,7 @@ fn next_object(objects: &[ObjectDecl], from: usize) -> Option<u32>
 fn shown_count(object: &ObjectDecl, line: &[u8]) -> Option<u32>
     ensures { result ≡ shown_count object.now line.now }
 {
-    if is_table(object) {
+    if object.kind.is_table() {
         return None;
     }
     read_count(b"switch ", object.name.as_slice(), line)

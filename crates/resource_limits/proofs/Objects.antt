@@ -1,8 +1,7 @@
 -- Declared objects, by their place.
 use Rattle.std.proofs.Common.{◌≡◌, ℕ, zero, suc, ◌<◌, List, [], ◌∷◌, refl, arith, length, get_or}
 use Rattle.state_store.specs.declared.object.ObjectDecl.{ObjectDecl}
-use Rattle.state_store.specs.Kinds.{is_table}
-use Rattle.flat_ir.specs.WellFormed.{is_constant}
+use Rattle.state_store.specs.Kinds.{is_table, is_constant}
 
 pub constant_in : (ds : List ObjectDecl) (o : ℕ) (d : ObjectDecl) → o < length ds → is_constant ds o ≡ is_table (get_or ds o d).kind
 constant_in [] o d h = absurd (omega arith)

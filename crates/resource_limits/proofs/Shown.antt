@@ -5,7 +5,7 @@ use Rattle.std.proofs.lemmas.List.{drop_more}
 use Rattle.std.proofs.lemmas.Bool.Decides.{nat_tests}
 use Rattle.state_store.specs.declared.object.ObjectDecl.{ObjectDecl}
 use Rattle.flat_ir.specs.Program.{Program}
-use Rattle.flat_ir.specs.WellFormed.{is_constant}
+use Rattle.state_store.specs.Kinds.{is_constant}
 use Rattle.split_model.specs.declared.split.Part.{Part}
 use Rattle.split_model.specs.Split.{any_below}
 use Rattle.split_model.specs.Shown.{is_shown}

@@ -3,9 +3,8 @@ use Rattle.std.specs.Prelude.{◌≡◌, ℕ, ◌==◌, Bool, false, not, ◌&&�
 use Rattle.std.specs.Prelude.{Option, Some, None, nat_lt, slice_index, if◌then◌else◌}
 use Rattle.state_store.specs.declared.object.Kind.{Kind}
 use Rattle.state_store.specs.declared.object.ObjectDecl.{ObjectDecl}
-use Rattle.state_store.specs.Kinds.{is_table}
+use Rattle.state_store.specs.Kinds.{is_table, is_constant}
 use Rattle.flat_ir.specs.Program.{Program, step_at}
-use Rattle.flat_ir.specs.WellFormed.{is_constant}
 use Rattle.split_model.specs.declared.split.Part.{Part}
 use Rattle.split_model.specs.Split.{is_pre, is_post}
 use Rattle.split_model.specs.Shown.{looks_at, writes_to, is_shown}

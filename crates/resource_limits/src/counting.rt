@@ -1,6 +1,5 @@
 //! What a split takes of the switch.
 ghost use Rattle.std.specs.Prelude.{◌≡◌, ℕ, ◌+◌, ◌<◌, ◌≤◌, ◌^◌, length, slice_index, All, IfOk};
-ghost use Rattle.state_store.specs.Kinds.{is_table};
 ghost use Rattle.flat_ir.specs.Program.{program_of};
 ghost use Rattle.gal_bits.specs.Fitting.{sum_of};
 ghost use Rattle.split_model.specs.Bounds.{IsBounded, IsSmall};
@@ -84,21 +83,11 @@ fn sums(alloc: Global, before: &[u32], after: &[u32]) -> Result<Tally, NoMemory>
     Ok(Tally::of(sums))
 }
 
-// Whether an object of this kind never changes.
-fn is_table(kind: Kind) -> bool
-    ensures { result ≡ is_table kind }
-{
-    match kind {
-        Kind::Table => true,
-        Kind::Map | Kind::Vector | Kind::Int => false,
-    }
-}
-
 // The changes of an object of this kind, where preprocessing looks it up and it isn't a constant table.
 fn told_of(kind: Kind, looks: u32, changes: u32) -> u32
     ensures { result ≡ told_of kind looks changes }
 {
-    if is_table(kind) || looks == 0 {
+    if kind.is_table() || looks == 0 {
         0
     } else {
         changes
@@ -145,7 +134,7 @@ fn object_bits(d: &ObjectDecl, before: bool, after: bool, writeback: u32) -> u64
 {
     let bits = bits_of(&d.keys) + bits_of(&d.values);
     let rows = u64::from(d.size) * bits;
-    if is_table(d.kind) {
+    if d.kind.is_table() {
         if before || after { rows } else { 0 }
     } else if before {
         rows + u64::from(writeback) * (bits + 1)

@@ -12,7 +12,7 @@ ghost use Rattle.flat_ir.specs.WellFormed.{IsWellFormed};
 ghost use Rattle.split_model.specs.declared.split.Part.{Part};
 ghost use Rattle.split_model.specs.Counts.{count_below};
 ghost use Rattle.split_model.specs.Crossing.{crosses_up};
-ghost use Rattle.split_model.specs.Laws.{FitAcross, IsLoaded};
+ghost use Rattle.split_model.specs.Laws.{FitAcross, HasDeclaredTables};
 ghost use Rattle.split_model.specs.Legal.{IsLegal};
 ghost use Rattle.split_model.specs.Passes.{served, server_run};
 ghost use Rattle.server_runtime.specs.Serving.{is_followed, packet_frame, updates_of, IsUpdateIn, IsWholeRun};
@@ -43,7 +43,7 @@ pub fn what_the_switch_is_told_fits()
 pub fn a_served_packet_is_the_whole_run()
     ensures { (f : Program) (split : List Part) (st tables_up tables : Store) (number : ℕ) (packet : Packet)
         → IsWellFormed f → IsLegal f split → IsArrival packet → IsKept f.objects st → number < 2 ^ 32
-        → IsLoaded f split tables_up → IsLoaded f split tables
+        → HasDeclaredTables f split tables_up → HasDeclaredTables f split tables
         → IsWholeRun f split st tables number packet (packet_frame f split tables_up number packet) }
 {
     a_server_keeps_widths();

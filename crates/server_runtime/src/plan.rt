@@ -15,7 +15,7 @@ ghost use Rattle.server_runtime.specs.Serving.{followed_writes, is_followed};
 
 use flat_ir::{FieldValue, Flat, InstrKind, ValueId};
 use gal_io::NoMemory;
-use split_model::{Layout, Split, down_layout, replicated, result_count, up_layout};
+use split_model::{Layout, Split, down_layout, replicated, up_layout};
 use std::alloc::Global;
 use std::marker::Model;
 use transfer_header::Regs;
@@ -96,7 +96,7 @@ fn firsts_of(alloc: Global, f: &Flat) -> Result<Vec<u32>, NoMemory>
     let mut next = 0;
     for instr in f.code.as_slice() {
         firsts.push(next)?;
-        next += result_count(f.objects.as_slice(), &instr.kind);
+        next += instr.kind.result_count(f.objects.as_slice());
     }
     firsts.push(next)?;
     Ok(firsts)

@@ -7,19 +7,19 @@ use Rattle.state_store.specs.declared.object.ObjectDecl.{ObjectDecl}
 use Rattle.state_store.specs.declared.object.Kind.{Kind}
 use Rattle.state_store.specs.declared.object.Kind.TheVariants.{Table, Map, Vector, Int}
 use Rattle.state_store.specs.Kept.{IsKept}
-use Rattle.state_store.specs.Kinds.{is_table}
+use Rattle.state_store.specs.Kinds.{is_table, is_constant}
 use Rattle.state_store.specs.Store.{Store, object_at}
 use Rattle.flat_ir.specs.Program.{Program, Work, step_at, operands}
 use Rattle.flat_ir.specs.Program.Work.{const, field, apply, shift, select, byte, look, put, del}
 use Rattle.flat_ir.specs.Blocks.{Reading, nothing, is_live}
 use Rattle.flat_ir.specs.Kinds.{is_mutable_look}
 use Rattle.flat_ir.specs.Run.{after, flat_run}
-use Rattle.flat_ir.specs.WellFormed.{IsWellFormed, HasTables, is_constant}
+use Rattle.flat_ir.specs.WellFormed.{IsWellFormed, HasConstantTables}
 use Rattle.flat_ir.specs.Laws.{KeepsTables, Same}
 use Rattle.split_model.specs.declared.split.Part.{Part}
 use Rattle.split_model.specs.declared.split.Slow.TheVariants.{Server}
 use Rattle.split_model.specs.Counts.{is_post_shown}
-use Rattle.split_model.specs.Laws.{CarriedStand, HasReplicated, IsLoaded}
+use Rattle.split_model.specs.Laws.{CarriedStand, ShowsReplicated, HasDeclaredTables}
 use Rattle.split_model.specs.Legal.{IsLegal}
 use Rattle.split_model.specs.Passes.{Shows, pre_values}
 use Rattle.split_model.specs.Shown.{is_shown, looks_at}
@@ -37,11 +37,11 @@ declared_at (d ∷ ds) zero e = (d, refl, e)
 declared_at (d ∷ ds) (suc o) e = declared_at ds o e
 
 -- a store and loaded tables agree on each constant object that a pass looks up
-pub tables_agree : (f : Program) (split : List Part) (st tables : Store) → HasTables f st → IsLoaded f split tables → (o : ℕ) → is_constant f.objects o ≡ true → (is_shown f split o || is_post_shown f split o) ≡ true → object_at tables o ≡ object_at st o
+pub tables_agree : (f : Program) (split : List Part) (st tables : Store) → HasConstantTables f st → HasDeclaredTables f split tables → (o : ℕ) → is_constant f.objects o ≡ true → (is_shown f split o || is_post_shown f split o) ≡ true → object_at tables o ≡ object_at st o
 tables_agree f split st tables has loaded o e shown =
     let d = declared_at f.objects o e in loaded.rows o d.0 d.1 d.2 shown ∙ sym (has.tables o d.0 d.1 d.2)
 
-pub replicated_show : (f : Program) (split : List Part) (st tables : Store) → HasTables f st → IsLoaded f split tables → HasReplicated f split st tables → Shows f split tables st
+pub replicated_show : (f : Program) (split : List Part) (st tables : Store) → HasConstantTables f st → HasDeclaredTables f split tables → ShowsReplicated f split st tables → Shows f split tables st
 replicated_show f split st tables has loaded replicated o shown =
     ⊎_elim
     (λ constant. tables_agree f split st tables has loaded o constant (or_left (is_shown f split o) (is_post_shown f split o) shown))
@@ -89,7 +89,7 @@ module _ (f : Program) (split : List Part) (st tables : Store) (packet : Packet)
   abbrev work_at : ℕ → Work
   work_at i = (step_at f i).work
 
-  module _ (agree : Agreements) (its : AreItsValues f st packet) (keeps : KeepsTables f st packet) (well : IsWellFormed f) (legal : IsLegal f split) (has : HasTables f st) (loaded : IsLoaded f split tables) where
+  module _ (agree : Agreements) (its : AreItsValues f st packet) (keeps : KeepsTables f st packet) (well : IsWellFormed f) (legal : IsLegal f split) (has : HasConstantTables f st) (loaded : HasDeclaredTables f split tables) where
     -- at any time of the run the constant tables are those of the pass
     pub constants : (n : ℕ) → n ≤ length f.code → (o : ℕ) → is_constant f.objects o ≡ true → (is_shown f split o || is_post_shown f split o) ≡ true → object_at tables o ≡ object_at (after f st packet n).store o
     constants n le o e shown = tables_agree f split st tables has loaded o e shown ∙ sym (keeps o n e le)
@@ -124,7 +124,7 @@ a_table Map e = absurd (false≢true e)
 a_table Vector e = absurd (false≢true e)
 a_table Int e = absurd (false≢true e)
 
-pub kept_has_tables : (f : Program) (st : Store) → IsKept f.objects st → HasTables f st
+pub kept_has_tables : (f : Program) (st : Store) → IsKept f.objects st → HasConstantTables f st
 kept_has_tables f st kept = record {
   tables = λ o d e table.
       let x = object_at st o in

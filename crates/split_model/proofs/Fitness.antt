@@ -2,6 +2,7 @@
 use Rattle.std.proofs.Common.{◌≡◌, ◌<◌, ◌≤◌, ◌^◌, ℕ, zero, suc, Bool, true, false, ◌||◌, List, [], ◌∷◌, length, slice_index, Option, Some, None, refl, sym, ap, ◌∙◌, subst, arith, ⊎_elim, if◌then◌else◌}
 use Rattle.std.proofs.lemmas.Bool.{cond-true, cases_lt, false≢true}
 use Rattle.std.proofs.lemmas.Nat.{pow_pos}
+use Rattle.std.proofs.lemmas.Option.{none-some}
 use Rattle.packet_fields.specs.declared.packet.Packet.{Packet}
 use Rattle.state_store.specs.Kept.{IsKept}
 use Rattle.state_store.specs.Store.{Store}
@@ -62,9 +63,6 @@ served_within f split st packet up other alike fit = record {
 
 -- ## Passes
 
-none_some : (n : ℕ) → None ≡ Some n → ⊥
-none_some n e = cc
-
 module _ (f : Program) (packet : Packet) (tables : Store) (turns : Turns f packet) (kept : IsKept f.objects tables) where
   -- an instruction's results of numbers that fit
   made_fits : (r : Reading) → AllFit f r → (v : ValueId) → v.instruction < length f.code → slice_index (results r false tables packet (step_at f v.instruction).work) v.result < 2 ^ width_of_value f v
@@ -124,8 +122,8 @@ module _ (f : Program) (packet : Packet) (tables : Store) (turns : Turns f packe
 
 pub pre_within : (f : Program) (split : List Part) → length split ≡ length f.code → (i own : ℕ) → pre_stage split i ≡ Some own → i < length f.code
 pre_within f split count i own e =
-    ⊎_elim (λ lt. lt) (λ le. absurd (none_some own (sym (ap (λ (p : Part). p.pre) (beyond split i (record { pre = None; slow = Server }) (subst (λ n. n ≤ i) (sym count) le))) ∙ e))) (cases_lt i (length f.code))
+    ⊎_elim (λ lt. lt) (λ le. absurd (none-some own (sym (ap (λ (p : Part). p.pre) (beyond split i (record { pre = None; slow = Server }) (subst (λ n. n ≤ i) (sym count) le))) ∙ e))) (cases_lt i (length f.code))
 
 pub post_within : (f : Program) (split : List Part) → length split ≡ length f.code → (i own : ℕ) → post_stage split i ≡ Some own → i < length f.code
 post_within f split count i own e =
-    ⊎_elim (λ lt. lt) (λ le. absurd (none_some own (sym (ap (λ (p : Part). stage_after p.slow) (beyond split i (record { pre = None; slow = Server }) (subst (λ n. n ≤ i) (sym count) le))) ∙ e))) (cases_lt i (length f.code))
+    ⊎_elim (λ lt. lt) (λ le. absurd (none-some own (sym (ap (λ (p : Part). stage_after p.slow) (beyond split i (record { pre = None; slow = Server }) (subst (λ n. n ≤ i) (sym count) le))) ∙ e))) (cases_lt i (length f.code))

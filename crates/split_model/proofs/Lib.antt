@@ -1,12 +1,10 @@
 mod Below
 mod Carrying
-mod Constants
 mod Crossings
 mod Descents
 mod Exactness
 mod Example
 mod Fitness
-mod Guarding
 mod Marking
 mod Numbering
 mod Passing

@@ -1,8 +1,8 @@
 -- Sets of values, as marks.
-use Rattle.std.proofs.Common.{◌≡◌, ℕ, ◌+◌, ◌<◌, ◌≤◌, Bool, ◌&&◌, ◌||◌, List, ◌++◌, ap, sym, ◌∙◌, length, get_or, take}
+use Rattle.std.proofs.Common.{◌≡◌, ℕ, ◌+◌, ◌<◌, ◌≤◌, Bool, ◌&&◌, ◌||◌, List, ap, sym, ◌∙◌, length, get_or, take}
 use Rattle.std.specs.List.{list_any}
 use Rattle.std.proofs.lemmas.List.{take_all}
-use Rattle.std.proofs.lemmas.List.Folds.{list_any-append, list_any_more}
+use Rattle.std.proofs.lemmas.List.Folds.{list_any_more}
 use Rattle.flat_ir.specs.declared.program.ValueId.{ValueId}
 use Rattle.flat_ir.specs.declared.program.FieldValue.{FieldValue}
 use Rattle.split_model.specs.declared.split.Part.{Part}
@@ -22,15 +22,6 @@ among_more vs i d v t h =
 
 pub among_all : (vs : List ValueId) (i : ℕ) (v : ValueId) (t : Bool) → length vs ≤ i → (t || is_among v (take i vs)) ≡ (t || is_among v vs)
 among_all vs i v t h = ap (λ l. t || is_among v l) (take_all i vs h)
-
--- a list of values, and another one
-pub among_both : (xs ys : List ValueId) (v : ValueId) (t : Bool) → ((t || is_among v xs) || is_among v ys) ≡ (t || is_among v (xs ++ ys))
-among_both xs ys v t = or_assoc t (is_among v xs) (is_among v ys) ∙ ap (λ b. t || b) (sym (list_any-append (is_value v) xs ys))
-
--- values of the same list
-pub same_values : (n : ℕ) (test : ValueId → Bool) (marks : List Bool) (vs ws : List ValueId) → vs ≡ ws
-    → AreMarked n (λ v. test v || is_among v vs) marks → AreMarked n (λ v. test v || is_among v ws) marks
-same_values n test marks vs ws same are = same_test n _ _ marks (λ v. ap (λ l. test v || is_among v l) same) are
 
 -- one field more
 pub written_more : (split : List Part) (fs gs : List FieldValue) (i : ℕ) (d : FieldValue) (v : ValueId) → gs ≡ fs → i < length gs

@@ -13,7 +13,8 @@ use Rattle.flat_ir.specs.Kinds.{is_write, is_input}
 use Rattle.flat_ir.specs.Laws.{Same}
 use Rattle.flat_ir.specs.Run.{Machine, after, flat_run, results, made, change_of, with_changes, with_results, do_step}
 use Rattle.flat_ir.specs.WellFormed.{IsWellFormed, EachCondition}
-use Rattle.split_model.specs.Crossing.{is_among, is_read_by, is_condition, guards_write, crosses_up, crosses_down, is_written_value}
+use Rattle.flat_ir.specs.Guards.{is_condition}
+use Rattle.split_model.specs.Crossing.{is_among, is_read_by, guards_write, crosses_up, crosses_down, is_written_value}
 use Rattle.split_model.specs.declared.split.Part.{Part}
 use Rattle.split_model.specs.declared.split.Slow.{Slow}
 use Rattle.split_model.specs.declared.split.Slow.TheVariants.{Carried, Server, Post}

@@ -7,7 +7,7 @@ use Rattle.state_store.specs.Store.{Object, Store, object_at, put_row, del_row}
 use Rattle.state_store.specs.Laws.{IsChangedAlone}
 use Rattle.flat_ir.specs.Program.{Program}
 use Rattle.flat_ir.specs.Run.{Change, with_changes, with_values, flat_store, flat_changes, flat_verdict}
-use Rattle.flat_ir.specs.WellFormed.{is_constant}
+use Rattle.state_store.specs.Kinds.{is_constant}
 use Rattle.flat_ir.specs.Laws.{IsItsChanges, KeepsTables}
 use Rattle.split_model.specs.declared.split.Part.{Part}
 use Rattle.split_model.specs.Passes.{is_fast, Shows, replicated_changes}

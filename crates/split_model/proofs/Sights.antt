@@ -17,7 +17,8 @@ use Rattle.flat_ir.specs.Laws.{Same}
 use Rattle.split_model.specs.Split.{any_below}
 use Rattle.flat_ir.specs.Kinds.{can_switch, is_write, is_input}
 use Rattle.split_model.proofs.Below.{each_weaker}
-use Rattle.split_model.specs.Crossing.{is_value, is_among, is_condition}
+use Rattle.flat_ir.specs.Guards.{is_condition}
+use Rattle.split_model.specs.Crossing.{is_value, is_among}
 
 pub none_below : (n : ℕ) (test : ℕ → Bool) (i : ℕ) → any_below n test ≡ false → i < n → test i ≡ false
 none_below zero test i none lt = absurd (omega (arith, lt))

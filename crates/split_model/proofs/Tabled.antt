@@ -9,9 +9,9 @@ use Rattle.flat_ir.specs.Blocks.{Reading}
 use Rattle.flat_ir.specs.Laws.{Same}
 use Rattle.flat_ir.specs.Program.{Program, step_at}
 use Rattle.flat_ir.specs.Run.{results, with_writes}
-use Rattle.flat_ir.specs.WellFormed.{is_constant}
+use Rattle.state_store.specs.Kinds.{is_constant}
 use Rattle.split_model.specs.declared.split.Part.{Part}
-use Rattle.split_model.specs.Laws.{IsLoaded, IsPostedAlike}
+use Rattle.split_model.specs.Laws.{HasDeclaredTables, IsPostedAlike}
 use Rattle.split_model.specs.Legal.{IsLegal}
 use Rattle.split_model.specs.Passes.{given_down, post_values, post_fields}
 use Rattle.split_model.specs.Shown.{looks_at}
@@ -23,7 +23,7 @@ use Rattle.split_model.proofs.Rules.{post_kind, post_look}
 use Rattle.split_model.proofs.Sights.{seen_same, writes_same}
 use Rattle.split_model.proofs.Stages.{pass_alike}
 
-module _ (agree : Agreements) (f : Program) (split : List Part) (legal : IsLegal f split) (tables other : Store) (packet : Packet) (down : Reading) (loaded : IsLoaded f split tables) (loaded' : IsLoaded f split other) where
+module _ (agree : Agreements) (f : Program) (split : List Part) (legal : IsLegal f split) (tables other : Store) (packet : Packet) (down : Reading) (loaded : HasDeclaredTables f split tables) (loaded' : HasDeclaredTables f split other) where
   -- an object that it looks up is a constant table, which both have
   same_table : (i o : ℕ) → i < length f.code → is_post split i ≡ true → is_constant f.objects o ≡ true → looks_at o (step_at f i).work ≡ true → object_at other o ≡ object_at tables o
   same_table i o within post constant looks =

@@ -13,10 +13,10 @@ use Rattle.flat_ir.specs.Blocks.{Reading, nothing, is_live}
 use Rattle.flat_ir.specs.Laws.{KeepsTables, Same}
 use Rattle.flat_ir.specs.Program.{Program, Work, step_at, operands, is_named}
 use Rattle.flat_ir.specs.Run.{after, flat_run, flat_verdict, results, with_writes}
-use Rattle.flat_ir.specs.WellFormed.{IsWellFormed, HasTables, IsOutput, IsWritten}
+use Rattle.flat_ir.specs.WellFormed.{IsWellFormed, HasConstantTables, IsOutput, IsWritten}
 use Rattle.split_model.specs.Crossing.{is_among, is_read_by, is_at_hand, is_written_value, crosses_down, crosses_up}
 use Rattle.split_model.specs.declared.split.Part.{Part}
-use Rattle.split_model.specs.Laws.{CarriedStand, IsLoaded, IsWhole}
+use Rattle.split_model.specs.Laws.{CarriedStand, HasDeclaredTables, IsWhole}
 use Rattle.split_model.specs.Legal.{IsLegal}
 use Rattle.split_model.specs.Passes.{pre_values, IsHanded, served, server_run, given_down, post_values, leaving, post_verdict}
 use Rattle.split_model.specs.Split.{post_stage, is_post}
@@ -42,7 +42,7 @@ module _ (f : Program) (split : List Part) (st tables : Store) (packet : Packet)
   abbrev work_at : ℕ → Work
   work_at i = (step_at f i).work
 
-  module _ (agree : Agreements) (lines : Lines f) (stays : Stays f st packet) (its : AreItsValues f st packet) (keeps : KeepsTables f st packet) (well : IsWellFormed f) (legal : IsLegal f split) (has : HasTables f st) (loaded : IsLoaded f split tables) (carried : (v : ValueId) → crosses_up f split v ≡ true → c v ≡ F v) (handed : IsHanded (crosses_down f split) S D) where
+  module _ (agree : Agreements) (lines : Lines f) (stays : Stays f st packet) (its : AreItsValues f st packet) (keeps : KeepsTables f st packet) (well : IsWellFormed f) (legal : IsLegal f split) (has : HasConstantTables f st) (loaded : HasDeclaredTables f split tables) (carried : (v : ValueId) → crosses_up f split v ≡ true → c v ≡ F v) (handed : IsHanded (crosses_down f split) S D) where
     -- what the server hands on is the run's
     knows_run : (v : ValueId) → v.instruction < length f.code → is_named f v ≡ true → is_post split v.instruction ≡ false → (crosses_down f split v || is_written_value f split v) ≡ true → S v ≡ F v
     knows_run v within named apart want =
@@ -124,7 +124,7 @@ module _ (f : Program) (split : List Part) (st tables : Store) (packet : Packet)
         ∙ ap (λ n. if F f.send == 0 then Drop else Send (n % 2 ^ 8) (with_writes f.fields L packet.bytes)) (out_same f.port (named_within f f.port well.port.named) well.port.named ends.1.0)
         ∙ ap (λ bytes. if F f.send == 0 then Drop else Send (F f.port % 2 ^ 8) bytes) (writes_same L F f.fields packet.bytes writes_all)
 
-pub is_whole : (f : Program) (split : List Part) (st tables_up tables : Store) (packet : Packet) (up down : Reading) (agree : Agreements) (lines : Lines f) (stays : Stays f st packet) (its : AreItsValues f st packet) (keeps : KeepsTables f st packet) (stand : CarriedStand f split st tables_up packet) (well : IsWellFormed f) (legal : IsLegal f split) (has : HasTables f st) (loaded : IsLoaded f split tables) (handed : IsHanded (crosses_up f split) (pre_values f split tables_up packet) up) → IsWhole f split st tables packet up down
+pub is_whole : (f : Program) (split : List Part) (st tables_up tables : Store) (packet : Packet) (up down : Reading) (agree : Agreements) (lines : Lines f) (stays : Stays f st packet) (its : AreItsValues f st packet) (keeps : KeepsTables f st packet) (stand : CarriedStand f split st tables_up packet) (well : IsWellFormed f) (legal : IsLegal f split) (has : HasConstantTables f st) (loaded : HasDeclaredTables f split tables) (handed : IsHanded (crosses_up f split) (pre_values f split tables_up packet) up) → IsWhole f split st tables packet up down
 is_whole f split st tables_up tables packet up down agree lines stays its keeps stand well legal has loaded handed =
     let F = (flat_run f st packet).reads in
     let carried : (v : ValueId) → crosses_up f split v ≡ true → up v ≡ F v = λ v e. handed v e ∙ stand v (carried_up f split v e) in

@@ -1,5 +1,5 @@
 -- What a split takes of the switch.
-use Rattle.std.specs.Prelude.{ℕ, zero, suc, ◌+◌, ◌*◌, ◌/◌, max, Bool, ◌&&◌, ◌||◌, List, [], ◌∷◌, map}
+use Rattle.std.specs.Prelude.{ℕ, zero, suc, ◌+◌, ◌*◌, ◌/◌, max, Bool, ◌&&◌, ◌||◌, List, [], ◌∷◌}
 use Rattle.std.specs.Prelude.{length, Option, Some, None, if◌then◌else◌}
 use Rattle.gal_bits.specs.Fitting.{sum_of}
 use Rattle.state_store.specs.declared.object.ObjectDecl.{ObjectDecl}
@@ -63,9 +63,18 @@ bits_from f split writeback o (d ∷ ds) = object_bits f split writeback o d + b
 abbrev pub table_bits : Program → List Part → ℕ → ℕ
 table_bits f split writeback = bits_from f split writeback 0 f.objects
 
+-- how many bytes hold so many bits
+abbrev pub bytes_for : ℕ → ℕ
+bytes_for bits = (bits + 7) / 8
+
+-- how many bits the values of a layout have together
+abbrev pub total : List Crossing → ℕ
+total [] = 0
+total (c ∷ cs) = c.width + total cs
+
 -- the bytes that hold a layout's values
 abbrev pub layout_bytes : List Crossing → ℕ
-layout_bytes layout = (sum_of (map (λ (c : Crossing). c.width) layout) + 7) / 8
+layout_bytes layout = bytes_for (total layout)
 
 -- the longer of the headers up and down
 abbrev pub transfer_bytes : Program → List Part → ℕ

@@ -1,36 +1,21 @@
 -- Which values are handed up and down.
-use Rattle.std.specs.Prelude.{ℕ, zero, suc, ◌==◌, Bool, false, not, ◌&&◌, ◌||◌, List, [], ◌∷◌}
+use Rattle.std.specs.Prelude.{ℕ, ◌==◌, Bool, false, not, ◌&&◌, ◌||◌, List, [], ◌∷◌}
 use Rattle.std.specs.List.{list_any}
 use Rattle.packet_fields.specs.declared.field.Field.{Field}
 use Rattle.packet_fields.specs.Table.{field_index}
 use Rattle.flat_ir.specs.declared.program.ValueId.{ValueId}
 use Rattle.flat_ir.specs.declared.program.FieldValue.{FieldValue}
+pub use Rattle.flat_ir.specs.Guards.{guards_write}
 use Rattle.flat_ir.specs.Program.{Program, Work, step_at, operands, is_named}
+pub use Rattle.flat_ir.specs.Program.{is_value, is_among}
 use Rattle.flat_ir.specs.Program.Work.{const, field, apply, shift, select, byte, look, put, del}
-use Rattle.flat_ir.specs.Blocks.{line, block_at}
 use Rattle.split_model.specs.declared.split.Part.{Part}
 use Rattle.split_model.specs.Split.{is_carried, is_server, is_post, any_step}
-use Rattle.flat_ir.specs.Kinds.{is_write, is_const, is_input}
-
-abbrev pub is_value : ValueId → ValueId → Bool
-is_value a b = (a.instruction == b.instruction) && (a.result == b.result)
-
-abbrev pub is_among : ValueId → List ValueId → Bool
-is_among v vs = list_any (is_value v) vs
+use Rattle.flat_ir.specs.Kinds.{is_const, is_input}
 
 -- an instruction of which a test holds reads the value
 abbrev pub is_read_by : Program → (ℕ → Bool) → ValueId → Bool
 is_read_by f who v = any_step f (λ i. who i && is_among v (operands (step_at f i).work))
-
--- the value is a block's condition
-abbrev pub is_condition : Program → ValueId → ℕ → Bool
-is_condition f v zero = false
-is_condition f v (suc k) = is_value v (block_at f.blocks k).cond
-
--- it decides whether a write takes effect
-abbrev pub guards_write : Program → ValueId → Bool
-guards_write f v = any_step f
-    (λ i. is_write (step_at f i).work && list_any (is_condition f v) (line f.blocks (step_at f i).block))
 
 -- the server writes the field, with this value or with some value
 abbrev pub is_server_write : List Part → FieldValue → Bool

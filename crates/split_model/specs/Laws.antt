@@ -29,13 +29,13 @@ pub record IsExact (f : Program) (split : List Part) (st tables : Store) (packet
   pub changes : is_fast f split st packet ≡ true → flat_changes f st packet ≡ []
 
 -- the constant tables that a pass looks up have their declared rows
-pub record IsLoaded (f : Program) (split : List Part) (tables : Store) : Type 0 where
+pub record HasDeclaredTables (f : Program) (split : List Part) (tables : Store) : Type 0 where
   pub rows : (o : ℕ) (d : ObjectDecl) → slice_get f.objects o ≡ Some d → is_table d.kind ≡ true
       → (is_shown f split o || is_post_shown f split o) ≡ true → object_at tables o ≡ start_object d
 
 -- the tables have the store's replicated objects
-abbrev pub HasReplicated : Program → List Part → Store → Store → Type 0
-HasReplicated f split st tables = (o : ℕ) → is_replicated f split o ≡ true → object_at tables o ≡ object_at st o
+abbrev pub ShowsReplicated : Program → List Part → Store → Store → Type 0
+ShowsReplicated f split st tables = (o : ℕ) → is_replicated f split o ≡ true → object_at tables o ≡ object_at st o
 
 -- the carried values of a pass over any tables are those of the whole run over any store
 abbrev pub CarriedStand : Program → List Part → Store → Store → Packet → Type 0

@@ -1,7 +1,7 @@
 -- What a split says of each instruction.
-use Rattle.std.specs.Prelude.{ℕ, zero, suc, Bool, true, false, ◌||◌, List, length, Option, Some, None, is_some}
+use Rattle.std.specs.Prelude.{ℕ, Bool, true, false, List, Option, Some, None, is_some}
 use Rattle.std.specs.Prelude.{slice_index_or}
-use Rattle.flat_ir.specs.Program.{Program}
+pub use Rattle.flat_ir.specs.Program.{any_below, any_step}
 use Rattle.split_model.specs.declared.split.Slow.{Slow}
 use Rattle.split_model.specs.declared.split.Slow.TheVariants.{Carried, Server, Post}
 use Rattle.split_model.specs.declared.split.Part.{Part}
@@ -42,12 +42,3 @@ is_server split i = is_served (part_at split i).slow
 
 abbrev pub is_post : List Part → ℕ → Bool
 is_post split i = is_some (post_stage split i)
-
--- some number below n passes the test
-abbrev pub any_below : ℕ → (ℕ → Bool) → Bool
-any_below zero test = false
-any_below (suc n) test = any_below n test || test n
-
--- some instruction passes the test
-abbrev pub any_step : Program → (ℕ → Bool) → Bool
-any_step f test = any_below (length f.code) test

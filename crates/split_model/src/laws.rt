@@ -9,15 +9,15 @@ ghost use Rattle.flat_ir.specs.declared.program.ValueId.{ValueId};
 ghost use Rattle.flat_ir.specs.Program.{Program};
 ghost use Rattle.flat_ir.specs.Blocks.{Reading, nothing};
 ghost use Rattle.flat_ir.specs.Laws.{AllFit, KeepsWidths};
-ghost use Rattle.flat_ir.specs.WellFormed.{HasTables, IsWellFormed};
+ghost use Rattle.flat_ir.specs.WellFormed.{HasConstantTables, IsWellFormed};
 ghost use Rattle.split_model.specs.declared.split.Part.{Part};
 ghost use Rattle.split_model.specs.Crossing.{crosses_down, crosses_up, is_written_value};
 ghost use Rattle.split_model.specs.Split.{post_stage, pre_stage};
 ghost use Rattle.split_model.specs.Legal.{IsLegal};
 ghost use Rattle.split_model.specs.Passes.{IsHanded, Shows, pre_values, post_values, served};
 ghost use Rattle.split_model.specs.Passes.{done_below, given_down, pass};
-ghost use Rattle.split_model.specs.Laws.{CarriedStand, FitAcross, GoesByStages, HasEveryPart, HasReplicated};
-ghost use Rattle.split_model.specs.Laws.{IsExact, IsLoaded};
+ghost use Rattle.split_model.specs.Laws.{CarriedStand, FitAcross, GoesByStages, HasEveryPart, ShowsReplicated};
+ghost use Rattle.split_model.specs.Laws.{IsExact, HasDeclaredTables};
 ghost use Rattle.split_model.specs.Laws.{IsPostedAlike, IsSentAlike, IsSentDown, IsServedAlike, IsServedWithin};
 ghost use Rattle.split_model.specs.Laws.{IsShownAlone, IsWhole};
 
@@ -30,13 +30,13 @@ use state_store::rows_change_alone;
 
 /// A store that keeps what was declared has the declared constant tables.
 pub fn kept_stores_have_tables()
-    ensures { (f : Program) (st : Store) → IsKept f.objects st → HasTables f st }
+    ensures { (f : Program) (st : Store) → IsKept f.objects st → HasConstantTables f st }
 {}
 
 /// Tables that have the declared constant ones, and the store's replicated objects, show the store.
 pub fn replicated_objects_show()
     ensures { (f : Program) (split : List Part) (st tables : Store)
-        → HasTables f st → IsLoaded f split tables → HasReplicated f split st tables → Shows f split tables st }
+        → HasConstantTables f st → HasDeclaredTables f split tables → ShowsReplicated f split st tables → Shows f split tables st }
 {}
 
 /// Preprocessing over tables that show a store finishes exactly the packets that are fast over it, with their verdicts.
@@ -52,7 +52,7 @@ pub fn preprocessing_is_exact()
 /// Carried values hang on the packet and on the constant tables alone.
 pub fn carried_values_stand()
     ensures { (f : Program) (split : List Part) (st tables : Store) (packet : Packet)
-        → IsWellFormed f → IsLegal f split → HasTables f st → IsLoaded f split tables
+        → IsWellFormed f → IsLegal f split → HasConstantTables f st → HasDeclaredTables f split tables
         → CarriedStand f split st tables packet }
 {
     a_run_is_its_values();
@@ -63,7 +63,7 @@ pub fn carried_values_stand()
 /// What preprocessing hands up fits the widths of the values, over any tables that have the declared constant ones.
 pub fn what_is_handed_up_fits()
     ensures { (f : Program) (split : List Part) (st tables : Store) (packet : Packet)
-        → IsWellFormed f → IsLegal f split → IsArrival packet → IsKept f.objects st → IsLoaded f split tables
+        → IsWellFormed f → IsLegal f split → IsArrival packet → IsKept f.objects st → HasDeclaredTables f split tables
         → FitAcross f (crosses_up f split) (pre_values f split tables packet) }
 {
     a_run_keeps_widths();
@@ -144,7 +144,7 @@ pub fn postprocessing_reads_what_crosses()
 /// Postprocessing reads constant tables alone: over any tables that have the declared ones it computes the same.
 pub fn postprocessing_reads_constant_tables()
     ensures { (f : Program) (split : List Part) (tables other : Store) (packet : Packet) (down : Reading)
-        → IsLegal f split → IsLoaded f split tables → IsLoaded f split other
+        → IsLegal f split → HasDeclaredTables f split tables → HasDeclaredTables f split other
         → IsPostedAlike f split tables other packet down }
 {
     readings_that_agree();
@@ -165,7 +165,7 @@ pub fn what_comes_down_serves()
 /// pass over any tables that have the declared constant ones, and the numbers of other values play no part.
 pub fn a_split_is_the_whole()
     ensures { (f : Program) (split : List Part) (st tables_up tables : Store) (packet : Packet) (up down : Reading)
-        → IsWellFormed f → IsLegal f split → HasTables f st → IsLoaded f split tables_up → IsLoaded f split tables
+        → IsWellFormed f → IsLegal f split → HasConstantTables f st → HasDeclaredTables f split tables_up → HasDeclaredTables f split tables
         → IsHanded (crosses_up f split) (pre_values f split tables_up packet) up
         → IsWhole f split st tables packet up down }
 {

@@ -8,7 +8,7 @@ ghost use Rattle.split_model.specs.Layouts.{up_layout, down_layout};
 ghost use Rattle.split_model.specs.Marked.{crosses, crossings_of, AreFound, AreMarked};
 
 use crate::guards::guard_values;
-use crate::kinds::{is_input, result_count, result_width};
+use crate::kinds::result_width;
 use crate::layout::{Crossing, Layout};
 use crate::readers::{Reader, read_by, written_values};
 use crate::split::Split;
@@ -98,7 +98,7 @@ impl Crossings {
     {
         let instruction = value.instruction as usize;
         s.is_carried(instruction)
-            && !is_input(&f.code.as_slice()[instruction].kind)
+            && !f.code.as_slice()[instruction].kind.is_input()
             && (self.server.has(value)
                 || self.guards.has(value)
                 || self.go_down(f, s, value)
@@ -170,7 +170,9 @@ impl Crossings {
         ensures all { IfOk result (λ count.
             layout.new ≡ layout.old ++ crossings_of way (program_of f.now) s.now (first_results i count)) }
     {
-        let count = result_count(f.objects.as_slice(), &f.code.as_slice()[i as usize].kind);
+        let count = f.code.as_slice()[i as usize]
+            .kind
+            .result_count(f.objects.as_slice());
         for place in 0..count {
             let value = ValueId {
                 instruction: i,

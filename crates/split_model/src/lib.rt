@@ -15,7 +15,6 @@ mod values;
 
 pub use bounds::is_bounded;
 pub use guards::guard_values;
-pub use kinds::result_count;
 pub use laws::{
     a_pass_is_done_by_stages, a_server_keeps_widths, a_server_reads_what_crosses,
     a_split_is_the_whole, carried_values_stand, kept_stores_have_tables, legal_passes_go_by_stages,

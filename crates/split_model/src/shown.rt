@@ -1,33 +1,10 @@
 //! Which objects the switch has to be told of.
 ghost use Rattle.std.specs.Prelude.{◌≡◌};
 ghost use Rattle.flat_ir.specs.Program.{program_of, work_of};
-ghost use Rattle.flat_ir.specs.WellFormed.{is_constant};
-ghost use Rattle.state_store.specs.Kinds.{is_table};
 ghost use Rattle.split_model.specs.Shown.{is_replicated, is_shown, looks_at};
 
 use crate::split::Split;
 use flat_ir::{Flat, InstrKind};
-use state_store::{Kind, ObjectDecl};
-
-// Whether an object of this kind never changes.
-fn is_table(kind: Kind) -> bool
-    ensures { result ≡ is_table kind }
-{
-    match kind {
-        Kind::Table => true,
-        Kind::Map | Kind::Vector | Kind::Int => false,
-    }
-}
-
-// Whether the object of this number is a constant table.
-fn is_constant(objects: &[ObjectDecl], number: u32) -> bool
-    ensures { result ≡ is_constant objects.now number }
-{
-    match objects.get(number as usize) {
-        None => false,
-        Some(object) => is_table(object.kind),
-    }
-}
 
 // Whether it looks up a row of the object.
 fn looks_at(object: u32, kind: &InstrKind) -> bool
@@ -55,5 +32,5 @@ fn is_shown(f: &Flat, s: &Split, object: u32) -> bool
 pub fn replicated(f: &Flat, s: &Split, object: u32) -> bool
     ensures { result ≡ is_replicated (program_of f.now) s.now object }
 {
-    !is_constant(f.objects.as_slice(), object) && is_shown(f, s, object)
+    !f.objects.is_constant(object) && is_shown(f, s, object)
 }

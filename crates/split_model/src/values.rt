@@ -13,7 +13,7 @@ use std::marker::Model;
 pub fn is_value(one: ValueId, other: ValueId) -> bool
     ensures { result ≡ is_value one other }
 {
-    one.instruction == other.instruction && one.result == other.result
+    one == other
 }
 
 /// A set of values, by a mark for each of the first 9 results of each instruction. No instruction has more.
@@ -83,22 +83,8 @@ impl ValueSet {
     pub(crate) fn insert_operands(&mut self, kind: &InstrKind)
         ensures { Adds (λ v. is_among v (operands (work_of kind.now))) self.old self.new }
     {
-        match kind {
-            InstrKind::Const(..) | InstrKind::Field(_) => {}
-            InstrKind::Apply { args, .. } => self.insert_all(args),
-            InstrKind::Shift { arg, .. } => self.insert_all(&[*arg]),
-            InstrKind::Select {
-                cond,
-                first,
-                second,
-                ..
-            } => self.insert_all(&[*cond, *first, *second]),
-            InstrKind::Byte(index) => self.insert_all(&[*index]),
-            InstrKind::Look { keys, .. } | InstrKind::Del { keys, .. } => self.insert_all(keys),
-            InstrKind::Put { keys, values, .. } => {
-                self.insert_all(keys);
-                self.insert_all(values);
-            }
+        for place in 0..kind.operand_count() {
+            self.insert(kind.operand(place));
         }
     }
 }

@@ -8,7 +8,8 @@ use Rattle.state_store.specs.declared.object.ObjectDecl.{ObjectDecl}
 use Rattle.flat_ir.specs.Program.{Program, Work, step_at}
 use Rattle.flat_ir.specs.Program.Work.{const, field, apply, shift, select, byte, look, put, del}
 use Rattle.flat_ir.specs.Fits.{fits, fits_keys, widths_of}
-use Rattle.flat_ir.specs.WellFormed.{IsWellFormed, is_constant}
+use Rattle.flat_ir.specs.WellFormed.{IsWellFormed}
+use Rattle.state_store.specs.Kinds.{is_constant}
 use Rattle.split_model.specs.declared.split.Part.{Part}
 use Rattle.split_model.specs.Split.{any_below, is_pre}
 use Rattle.split_model.specs.Shown.{is_replicated, is_shown, looks_at}

@@ -1,4 +1,5 @@
 mod AtWork
+mod Constants
 mod Entries
 mod FittedLaws
 mod Halves

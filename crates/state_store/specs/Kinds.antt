@@ -1,13 +1,20 @@
 -- Kinds of objects, as tests.
-use Rattle.std.specs.Prelude.{Bool, true, false}
+use Rattle.std.specs.Prelude.{ℕ, zero, suc, Bool, true, false, List, [], ◌∷◌}
 use Rattle.state_store.specs.declared.object.Kind.{Kind}
 use Rattle.state_store.specs.declared.object.Kind.TheVariants.{Table, Map, Vector, Int}
+use Rattle.state_store.specs.declared.object.ObjectDecl.{ObjectDecl}
 
 abbrev pub is_table : Kind → Bool
 is_table Table = true
 is_table Map = false
 is_table Vector = false
 is_table Int = false
+
+-- the object of this number is a constant table
+abbrev pub is_constant : List ObjectDecl → ℕ → Bool
+is_constant [] o = false
+is_constant (d ∷ ds) zero = is_table d.kind
+is_constant (d ∷ ds) (suc o) = is_constant ds o
 
 abbrev pub is_map : Kind → Bool
 is_map Map = true

@@ -1,5 +1,6 @@
 //! What a middlebox declares as its state, and rows of it.
 ghost use Rattle.std.specs.Prelude.{◌≡◌, ◌==◌, ◌++◌, ◌∷◌, [], length, IfOk, OnOk, OnErr};
+ghost use Rattle.state_store.specs.Kinds.{is_table, is_constant};
 
 use gal_bits::{Values, Widths};
 use gal_io::{Bytes, NoMemory};
@@ -17,6 +18,18 @@ pub enum Kind {
     Vector,
     /// One number, under the empty key.
     Int,
+}
+
+impl Kind {
+    /// Whether the rows of such an object are declared and never change.
+    pub fn is_table(self) -> bool
+        ensures { result ≡ is_table self }
+    {
+        match self {
+            Kind::Table => true,
+            Kind::Map | Kind::Vector | Kind::Int => false,
+        }
+    }
 }
 
 /// A row: the numbers of its key, and those of its value.
@@ -189,5 +202,15 @@ impl Objects {
             items.push(object.copy(alloc)?)?;
         }
         Ok(Objects { items })
+    }
+
+    /// Whether the object of this number is there, and is a table.
+    pub fn is_constant(&self, number: u32) -> bool
+        ensures { result ≡ is_constant self.now number }
+    {
+        match self.as_slice().get(number as usize) {
+            Some(object) => object.kind.is_table(),
+            None => false,
+        }
     }
 }

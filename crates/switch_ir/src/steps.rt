@@ -12,7 +12,7 @@ ghost use Rattle.switch_ir.specs.Emitting.{stage_in};
 use crate::code::{PassStep, Steps};
 use flat_ir::{Flat, ValueId};
 use gal_io::NoMemory;
-use split_model::{Reader, Split, ValueSet, is_at_hand, is_value, read_by, result_count};
+use split_model::{Reader, Split, ValueSet, is_at_hand, is_value, read_by};
 use std::alloc::Global;
 
 /// Which instructions: those that the pass over an arriving packet computes, or those that the pass over a packet that
@@ -85,7 +85,7 @@ fn number_behind(f: &Flat, i: usize, number: u32) -> u32
     ensures numbered { result ≡ length (values_below (program_of f.now) (i + 1)) }
     ensures low { result ≤ 9 * (i + 1) }
 {
-    number + result_count(f.objects.as_slice(), &f.code.as_slice()[i].kind)
+    number + f.code.as_slice()[i].kind.result_count(f.objects.as_slice())
 }
 
 // Puts instruction `i` last, where it has a stage.

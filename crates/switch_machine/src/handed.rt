@@ -1,7 +1,6 @@
 //! What postprocessing begins with.
 ghost use Rattle.std.specs.Prelude.{◌≡◌, ◌≤◌, ◌<◌, ℕ, length, slice_index_or, find, IfOk};
 ghost use Rattle.split_model.specs.declared.layout.Crossing.{Crossing as Entry};
-ghost use Rattle.split_model.specs.Crossing.{is_value};
 ghost use Rattle.flat_ir.specs.Blocks.{nothing};
 ghost use Rattle.switch_machine.specs.Rows.{lists, over};
 ghost use Rattle.switch_machine.specs.Handed.{holds_value, index_prop, registers_prop, HaveRegisters, IsIndexOf};
@@ -9,7 +8,7 @@ ghost use Rattle.switch_machine.specs.Handed.{holds_value, index_prop, registers
 use crate::run::{Known, Nothing, Run};
 use flat_ir::{Numbers, ValueId};
 use gal_io::NoMemory;
-use split_model::{Crossing, Layout};
+use split_model::{Crossing, Layout, is_value};
 use std::alloc::Global;
 use transfer_header::Regs;
 
@@ -71,13 +70,6 @@ fn place_of(places: &[usize], instruction: u32, end: usize) -> usize
     } else {
         end
     }
-}
-
-// Whether two values are the same one.
-fn is_value(value: ValueId, other: ValueId) -> bool
-    ensures { result ≡ is_value value other }
-{
-    value.instruction == other.instruction && value.result == other.result
 }
 
 // The first of these entries that is of the value.

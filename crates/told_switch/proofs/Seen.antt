@@ -13,7 +13,7 @@ use Rattle.state_store.specs.Kinds.{is_table}
 use Rattle.state_store.specs.Store.{Contents, Object, Store, is_full, is_out, key_cmp, no_object, object_at, put_row, rows_from, rows_of, start_object}
 use Rattle.flat_ir.specs.Program.{Program}
 use Rattle.split_model.specs.declared.split.Part.{Part}
-use Rattle.split_model.specs.Laws.{HasReplicated, IsLoaded}
+use Rattle.split_model.specs.Laws.{ShowsReplicated, HasDeclaredTables}
 use Rattle.split_model.specs.Shown.{is_replicated}
 use Rattle.writeback_table.specs.declared.command.Command.{Command}
 use Rattle.writeback_table.specs.declared.command.Command.TheVariants.{Stage, On, Main, Off, Clear}
@@ -143,7 +143,7 @@ AreSeen f split writeback st commands = (o : ℕ) → is_replicated f split o �
 
 module _ (f : Program) (split : List Part) (writeback : ℕ) (is : IsSplit f split writeback) (commands : List Command) (told : Told) (through : IsThrough (emitted f split writeback) commands told) where
   -- constant tables have their declared rows
-  pub is_loaded : IsLoaded f split (seen_tables told)
+  pub is_loaded : HasDeclaredTables f split (seen_tables told)
   is_loaded = record {
     rows = λ o d at table looked.
         let there = declared_there f split o d looked at in
@@ -163,7 +163,7 @@ module _ (f : Program) (split : List Part) (writeback : ℕ) (is : IsSplit f spl
       ap (λ b. visible b (pair_at told.pairs o)) through.bit ∙ ap (visible (bit_through false commands)) (pair_is o shown)
       ∙ sym (seen_all o (first_pair (whole_of f split writeback) o) commands)
 
-  pub has_replicated : (st : Store) → AreSeen f split writeback st commands → IsKept f.objects st → HasReplicated f split st (seen_tables told)
+  pub has_replicated : (st : Store) → AreSeen f split writeback st commands → IsKept f.objects st → ShowsReplicated f split st (seen_tables told)
   has_replicated st seen kept o shown =
       let d = is_declared f split writeback o is shown in
       let at : slice_get f.objects o ≡ Some d.0 = (declared_parts f split o d.0 d.1.declared).1 in

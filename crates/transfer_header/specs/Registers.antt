@@ -1,9 +1,8 @@
 -- Registers: a number for each value of a program, in order of instruction and result.
-use Rattle.std.specs.Prelude.{◌≡◌, ◌≢◌, ℕ, ◌^◌, ◌<◌, Bool, true, List, length, slice_index}
+use Rattle.std.specs.Prelude.{◌≡◌, ◌≢◌, ℕ, ◌<◌, List, length, slice_index}
 use Rattle.std.specs.List.{All, AllPairs}
 use Rattle.flat_ir.specs.Blocks.{Reading}
-use Rattle.flat_ir.specs.declared.program.ValueId.{ValueId}
-use Rattle.flat_ir.specs.Program.{Program, width_of_value}
+use Rattle.flat_ir.specs.Program.{Program}
 use Rattle.split_model.specs.declared.layout.Crossing.{Crossing}
 use Rattle.split_model.specs.Layouts.{number_of}
 use Rattle.transfer_header.specs.Values.{Agree, value_by}
@@ -19,10 +18,6 @@ reads_of f registers v = slice_index registers (number_of f v)
 -- of the values of a layout, the registers hold the numbers of a reading
 abbrev pub Holds : List Crossing → List ℕ → Reading → Type 0
 Holds layout registers reads = Agree layout (value_in registers) (value_by reads)
-
--- the values that cross have no more bits than their widths
-abbrev pub KeepsWidths : Program → (ValueId → Bool) → Reading → Type 0
-KeepsWidths f crosses reads = (v : ValueId) → crosses v ≡ true → reads v < 2 ^ width_of_value f v
 
 -- the values of a layout stand at rising numbers, and each has a register
 pub record FitsLayout (layout : List Crossing) (registers : List ℕ) : Type 0 where

@@ -9,7 +9,7 @@ use Rattle.split_model.specs.Crossing.{is_value}
 use Rattle.split_model.specs.Layouts.{crossing}
 use Rattle.transfer_header.specs.Bits.{bits_in, bytes_for, number_from}
 use Rattle.transfer_header.specs.Values.{total}
-use Rattle.transfer_header.specs.Registers.{KeepsWidths}
+use Rattle.split_model.specs.Laws.{FitAcross}
 
 -- the number of the packet, in the four bytes behind the kind, and the port behind them
 abbrev pub number_in : List ℕ → ℕ
@@ -43,4 +43,4 @@ pub record AreToldByPlace
     (f : Program) (crosses : ValueId → Bool) (layout : List Crossing) (values : Crossing → ℕ) (frame : List ℕ)
     : Type 0 where
   pub numbers : (v : ValueId) → crosses v ≡ true → reads_in layout frame v ≡ values (crossing f v)
-  pub narrow : KeepsWidths f crosses (reads_in layout frame)
+  pub narrow : FitAcross f crosses (reads_in layout frame)

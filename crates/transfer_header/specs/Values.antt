@@ -3,12 +3,8 @@ use Rattle.std.specs.Prelude.{◌≡◌, ℕ, ◌+◌, ◌%◌, ◌^◌, ◌<◌
 use Rattle.std.specs.List.{All}
 use Rattle.flat_ir.specs.Blocks.{Reading}
 use Rattle.split_model.specs.declared.layout.Crossing.{Crossing}
+pub use Rattle.split_model.specs.Counts.{total}
 use Rattle.transfer_header.specs.Bits.{bits_of}
-
--- how many bits the values of a layout have together
-abbrev pub total : List Crossing → ℕ
-total [] = 0
-total (c ∷ cs) = c.width + total cs
 
 -- their bits, one value behind the other
 unfoldable pub value_bits : List Crossing → (Crossing → ℕ) → List ℕ

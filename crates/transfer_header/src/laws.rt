@@ -8,11 +8,12 @@ ghost use Rattle.flat_ir.specs.Program.{Program, is_named};
 ghost use Rattle.split_model.specs.declared.split.Part.{Part};
 ghost use Rattle.split_model.specs.declared.layout.Crossing.{Crossing};
 ghost use Rattle.split_model.specs.Crossing.{crosses_up, crosses_down};
+ghost use Rattle.split_model.specs.Laws.{FitAcross};
 ghost use Rattle.split_model.specs.Layouts.{values_of, number_of, up_layout, down_layout};
 ghost use Rattle.split_model.specs.Passes.{IsHanded};
 ghost use Rattle.transfer_header.specs.declared.frame.Head.{Head};
 ghost use Rattle.transfer_header.specs.Values.{low_bits, value_by, Agree, AreNarrow};
-ghost use Rattle.transfer_header.specs.Registers.{reads_of, value_in, FitsLayout, Holds, KeepsWidths};
+ghost use Rattle.transfer_header.specs.Registers.{reads_of, value_in, FitsLayout, Holds};
 ghost use Rattle.transfer_header.specs.Frames.{frame_of, AreSame, IsFrame, IsFrameOf, IsUnpacked};
 ghost use Rattle.transfer_header.specs.Told.{reads_in, AreToldByPlace, IsToldByPlace};
 
@@ -61,10 +62,10 @@ pub fn frames_are_told_by_place()
         → IsToldByPlace layout head.number head.port (drop head.packet_at frame) frame }
     ensures narrow_up { (f : Program) (split : List Part) (kind : ℕ) (frame : List ℕ)
         → IsFrame kind (up_layout f split) frame
-        → KeepsWidths f (crosses_up f split) (reads_in (up_layout f split) frame) }
+        → FitAcross f (crosses_up f split) (reads_in (up_layout f split) frame) }
     ensures narrow_down { (f : Program) (split : List Part) (kind : ℕ) (frame : List ℕ)
         → IsFrame kind (down_layout f split) frame
-        → KeepsWidths f (crosses_down f split) (reads_in (down_layout f split) frame) }
+        → FitAcross f (crosses_down f split) (reads_in (down_layout f split) frame) }
 {}
 
 /// Among all values of a program each stands at its number, so that no two have the same.
@@ -93,13 +94,13 @@ pub fn what_crosses_is_held()
 /// The values of a layout have no more bits than their widths exactly where this is so of all that crosses.
 pub fn what_crosses_is_narrow()
     ensures up { (f : Program) (split : List Part) (reads : Reading)
-        → (AreNarrow (up_layout f split) (value_by reads)) ↔ (KeepsWidths f (crosses_up f split) reads) }
+        → (AreNarrow (up_layout f split) (value_by reads)) ↔ (FitAcross f (crosses_up f split) reads) }
     ensures down { (f : Program) (split : List Part) (reads : Reading)
-        → (AreNarrow (down_layout f split) (value_by reads)) ↔ (KeepsWidths f (crosses_down f split) reads) }
+        → (AreNarrow (down_layout f split) (value_by reads)) ↔ (FitAcross f (crosses_down f split) reads) }
     ensures registers_up { (f : Program) (split : List Part) (registers : List ℕ)
         → (AreNarrow (up_layout f split) (value_in registers))
-        ↔ (KeepsWidths f (crosses_up f split) (reads_of f registers)) }
+        ↔ (FitAcross f (crosses_up f split) (reads_of f registers)) }
     ensures registers_down { (f : Program) (split : List Part) (registers : List ℕ)
         → (AreNarrow (down_layout f split) (value_in registers))
-        ↔ (KeepsWidths f (crosses_down f split) (reads_of f registers)) }
+        ↔ (FitAcross f (crosses_down f split) (reads_of f registers)) }
 {}

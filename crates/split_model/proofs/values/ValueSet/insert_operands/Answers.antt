@@ -1,37 +1,22 @@
-use Rattle.std.proofs.Common.{◌≡◌, ◌∙◌, ◌||◌, ◌++◌, inl, inr, ap, sym}
-use Rattle.flat_ir.specs.declared.program.InstrKind.{InstrKind}
+use Rattle.std.proofs.Common.{◌<◌, ◌≤◌, ◌||◌, ◌∙◌, sym, ap, arith, length, take}
+use Rattle.std.proofs.lemmas.Option.{get_or_from_slice_get, slice_get_within}
 use Rattle.flat_ir.specs.Program.{work_of, operands}
-use Rattle.split_model.specs.Crossing.{is_among}
-use Rattle.split_model.proofs.Marking.{same_test, among_both, same_values}
+use Rattle.split_model.specs.Crossing.{is_among, is_value}
+use Rattle.split_model.proofs.Marking.{same_test, among_more, among_all}
 use Rattle.split_model.proofs.values.ValueSet.insert_operands.Goals as goal
 
-pub returns-in-Apply : goal.returns-in-Apply
-returns-in-Apply c = λ n test h. same_values n test _ _ _ (c.deref.ensures.value ∙ sym (ap (λ (k : InstrKind). operands (work_of k)) c.in-Apply.is)) (c.insert_all.ensures n test h)
+pub loop-place-preserved : goal.loop-place-preserved
+loop-place-preserved c =
+    let all = operands (work_of c.args.kind.now) in
+    let place = c.loop-place.place in
+    let value = c.operand.result in
+    let within : place < length all = slice_get_within all place value c.operand.ensures in
+    let same = get_or_from_slice_get all place value value c.operand.ensures in
+    λ n test h. same_test n _ _ c.insert.new.self (λ v. ap (λ w. (test v || is_among v (take place all)) || is_value v w) (sym same) ∙ among_more all place value v (test v) within)
+    (c.insert.ensures n (λ v. test v || is_among v (take place all)) (c.loop-place.invariant n test h))
 
-pub returns-in-Shift : goal.returns-in-Shift
-returns-in-Shift c = λ n test h. same_values n test _ _ _ (sym (ap (λ (k : InstrKind). operands (work_of k)) c.in-Shift.is)) (c.insert_all-in-Shift.ensures n test h)
-
-pub returns-in-Select : goal.returns-in-Select
-returns-in-Select c = λ n test h. same_values n test _ _ _ (sym (ap (λ (k : InstrKind). operands (work_of k)) c.in-Select.is)) (c.insert_all-in-Select.ensures n test h)
-
-pub returns-in-Byte : goal.returns-in-Byte
-returns-in-Byte c = λ n test h. same_values n test _ _ _ (sym (ap (λ (k : InstrKind). operands (work_of k)) c.in-Byte.is)) (c.insert_all-in-Byte.ensures n test h)
-
-pub returns-in-Put : goal.returns-in-Put
-returns-in-Put c =
-    let keys = c.deref-in-Put.result.now in
-    let values = c.deref-in-Put-2.result.now in
-    let all : keys ++ values ≡ operands (work_of c.args.kind.now) =
-    (ap (λ l. l ++ values) c.deref-in-Put.ensures.value ∙ ap (λ l. c.in-Put.keys.items ++ l) c.deref-in-Put-2.ensures.value
-    ∙ sym (ap (λ (k : InstrKind). operands (work_of k)) c.in-Put.is)) in
-    λ n test h. same_values n test _ _ _ all (same_test n _ _ _ (λ v. among_both keys values v (test v))
-    (c.insert_all-in-Put-2.ensures n (λ v. test v || is_among v keys) (c.insert_all-in-Put.ensures n test h)))
-
-pub returns-in-Look : goal.returns-in-Look
-returns-in-Look c =
-    let all : c.deref-in-Look.result.now ≡ operands (work_of c.args.kind.now) =
-    c.deref-in-Look.ensures.value ∙ elim c.in-Look.is [
-      | inl look ↦ sym (ap (λ (k : InstrKind). operands (work_of k)) look.1)
-      | inr del ↦ sym (ap (λ (k : InstrKind). operands (work_of k)) del.1)
-    ] in
-    λ n test h. same_values n test _ _ _ all (c.insert_all-in-Look.ensures n test h)
+pub returns : goal.returns
+returns c =
+    let all = operands (work_of c.args.kind.now) in
+    let past : length all ≤ c.loop-place.place = omega (arith, c.operand_count-place-end.ensures) in
+    λ n test h. same_test n _ _ c.loop-place.self (λ v. among_all all c.loop-place.place v (test v) past) (c.loop-place.invariant n test h)

@@ -1,12 +1,12 @@
 use Rattle.std.proofs.Common.{◌≤◌, length}
 use Rattle.flat_ir.specs.Program.{program_of}
-use Rattle.split_model.specs.Marked.{AreGuardsFrom}
-use Rattle.split_model.proofs.guards.guard_values.Given as goal
+use Rattle.flat_ir.specs.Guarding.{AreGuardsFrom}
+use Rattle.flat_ir.proofs.guards.write_guards.Given as goal
 
 abbrev pub invariant-loop-b : goal.invariant-loop-b
 invariant-loop-b l = record {
   inside : l.b ≤ length l.f.blocks;
-  from : AreGuardsFrom (program_of l.f) l.b l.covering.items l.guards;
+  from : AreGuardsFrom (program_of l.f) l.b l.covering.items l.found.items;
 }
 
 abbrev pub decreases-loop-b : goal.decreases-loop-b
