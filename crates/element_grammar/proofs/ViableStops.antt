@@ -1,17 +1,15 @@
 -- Where the machine stops, the tokens before it can go on to a source, and no source has the token there.
 use Rattle.std.proofs.Common.{◌≡◌, ℕ, suc, List, [], ◌∷◌, ◌++◌, length, Option, Some, None, refl, sym, ap, subst, ◌∙◌}
+use Rattle.std.proofs.lemmas.Option.{same_Some}
 use Rattle.element_lang.specs.Token.{Token}
 use Rattle.element_grammar.specs.Machine.{Awaited, operand, otherwise, Move, push, skip, refuse, move_at, after, step, end, when_it_fits, left_at}
 use Rattle.element_grammar.proofs.Viable.{Completes, completion}
 use Rattle.element_grammar.proofs.ViableMoves.{Keeps, keeps}
 
-some_is : {a b : List Awaited} → Some a ≡ Some b → a ≡ b
-some_is e = cc
-
 back_over : (m : Move) (a : Awaited) (t : Token) (below stack : List Awaited) (ts : List Token) → Keeps m a t
     → after m below (step below t) ≡ Some stack → (step below t ≡ Some stack → Completes below (t ∷ ts)) → Completes stack ts → Completes (a ∷ below) (t ∷ ts)
 back_over (push parts) a t below stack ts k e again c =
-    k below ts (let P : List Awaited → Type 0 = λ l. Completes l ts in subst P (sym (some_is e)) c)
+    k below ts (let P : List Awaited → Type 0 = λ l. Completes l ts in subst P (sym (same_Some _ _ e)) c)
 back_over skip a t below stack ts k e again c = k below (t ∷ ts) (again e)
 back_over refuse a t below stack ts k e again c = cc
 

@@ -1,5 +1,6 @@
 -- A surface tree that breaks no rule has one middlebox, which keeps them.
 use Rattle.std.proofs.Common.{◌≡◌, Option, Some, None, refl, sym, ◌∙◌}
+use Rattle.std.proofs.lemmas.Option.{same_Some}
 use Rattle.element_lang.specs.declared.broken.Broken.{Broken}
 use Rattle.element_lang.specs.Tree.{Tree}
 use Rattle.element_lang.specs.Surface.{Surface}
@@ -9,11 +10,8 @@ use Rattle.element_text.proofs.Sound.{resolved_named, resolved_good}
 use Rattle.element_text.proofs.Unplaced.{resolved_whole}
 use Rattle.element_text.proofs.Agree.{unbroken, broken}
 
-some_is : {a b : Tree} → Some a ≡ Some b → a ≡ b
-some_is e = cc
-
 pub one_kept : (surface : Surface) (m n : Tree) → Keeps surface m → Keeps surface n → m ≡ n
-one_kept surface m n k l = some_is (sym (resolved_whole surface m k.good k.named) ∙ resolved_whole surface n l.good l.named)
+one_kept surface m n k l = same_Some _ _ (sym (resolved_whole surface m k.good k.named) ∙ resolved_whole surface n l.good l.named)
 
 pub unbroken_kept : (surface : Surface) (m : Tree) → Keeps surface m → first_broken surface ≡ None
 unbroken_kept surface m k = go (first_broken surface) refl

@@ -1,6 +1,7 @@
 -- What a text is whose tokens spell a surface tree: a source, or refused for its objects, its rules or its sizes, and only one of these.
 use Rattle.std.proofs.Common.{◌≡◌, ◌≢◌, inl, inr, Result, Ok, Err, ℕ, ◌-◌, ◌<◌, ◌≤◌, ◌^◌, min, List, length, Some, refl, sym, ap, subst, ◌∙◌, arith}
 use Rattle.std.proofs.Math.Nat.{min-le_left}
+use Rattle.std.proofs.lemmas.Option.{same_Some}
 use Rattle.element_lang.specs.declared.sizes.TheConstants.{MAX_DEPTH, MAX_OBJECTS, MAX_ENTRIES, MAX_WRITES}
 use Rattle.element_lang.specs.declared.sizes.What.TheVariants.{Depth, Objects, Entries, Writes}
 use Rattle.element_lang.specs.declared.broken.Broken.{Broken}
@@ -142,11 +143,8 @@ module _ (text : List ℕ) (placed : List Placed) (surface : Surface) (h : HasOn
   one_late (objects have is above) (writes_above m other few k entered also more) = absurd (omega (arith, is, few, above))
   one_late (rule number at few first) (objects other also more) = absurd (omega (arith, also, few, more))
   one_late (rule number at few first) (rule other there fewer second) =
-      let same : record { rule = number; at = at } ≡ record { rule = other; at = there } = some_is (sym first ∙ second) in
+      let same : record { rule = number; at = at } ≡ record { rule = other; at = there } = same_Some _ _ (sym first ∙ second) in
       ap (λ (b : Broken). errors.Rule b.rule (offset_at text placed (length placed - b.at))) same
-    where
-      some_is : {a b : Broken} → Some a ≡ Some b → a ≡ b
-      some_is e = cc
   one_late (rule number at few first) (entries_above m have fewer k is above) = absurd (broken_kept m _ k first)
   one_late (rule number at few first) (writes_above m have fewer k entered is above) = absurd (broken_kept m _ k first)
   one_late (entries_above m have few k is above) (objects other also more) = absurd (omega (arith, also, few, more))

@@ -1,13 +1,11 @@
 -- A text has one list of tokens, or one place where no token starts.
 use Rattle.std.proofs.Common.{◌≡◌, ◌+◌, ℕ, false, List, [], ◌∷◌, length, drop, Some, None, refl, sym, ap, subst, ◌∙◌}
+use Rattle.std.proofs.lemmas.Option.{same_Some}
 use Rattle.element_lang.specs.Token.{Lexeme, Placed, gap, lexeme, HasTokens, AreTokens, IsNoToken}
 
 none_in_empty : (bs : List ℕ) (x : Lexeme) → [] ≡ bs → lexeme bs ≡ Some x → ⊥
 none_in_empty [] x e f = cc
 none_in_empty (b ∷ bs) x e f = cc
-
-lexeme_is : {x y : Lexeme} → Some x ≡ Some y → x ≡ y
-lexeme_is e = cc
 
 -- what stands behind the same lexeme
 behind : (offset : ℕ) (bs : List ℕ) (x y : Lexeme) (us : List Placed) (stop : ℕ) (rest : List ℕ) → y ≡ x
@@ -23,7 +21,7 @@ one_list (t ∷ ts) [] offset bs stop stop' (x, f, m, h) (a, b) = absurd (none_i
 one_list (t ∷ ts) (u ∷ us) offset bs stop stop' (x, f, m, h) (y, g, n, k) =
     let start : ℕ = offset + gap false bs in
     let here : List ℕ = drop (gap false bs) bs in
-    let same : y ≡ x = lexeme_is (sym g ∙ f) in
+    let same : y ≡ x = same_Some y x (sym g ∙ f) in
     let others : ts ≡ us = one_list ts us (start + x.len) (drop x.len here) stop stop' h (behind start here x y us stop' [] same k) in
     let first : t ≡ u = m ∙ ap (λ (x : Lexeme). record { token = x.token; offset = start }) (sym same) ∙ sym n in
     ap (λ t. t ∷ ts) first ∙ ap (λ ts. u ∷ ts) others
@@ -39,7 +37,7 @@ refused (u ∷ us) [] offset bs stop stop' b rest none (x, f, m, h) (a, e) = non
 refused (u ∷ us) (t ∷ ts) offset bs stop stop' b rest none (x, f, m, h) (y, g, n, k) =
     let start : ℕ = offset + gap false bs in
     let here : List ℕ = drop (gap false bs) bs in
-    refused us ts (start + x.len) (drop x.len here) stop stop' b rest none h (behind start here x y ts stop' [] (lexeme_is (sym g ∙ f)) k)
+    refused us ts (start + x.len) (drop x.len here) stop stop' b rest none h (behind start here x y ts stop' [] (same_Some y x (sym g ∙ f)) k)
 
 pub no_list : (text : List ℕ) (offset : ℕ) → IsNoToken text offset → (ts : List Placed) → AreTokens text ts → ⊥
 no_list text offset (us, b, rest, h, none) ts k = refused us ts 0 text offset (length text) b rest none h k
@@ -52,7 +50,7 @@ places_same (u ∷ us) [] offset bs stop stop' b b' rest rest' none none' (x, f,
 places_same (u ∷ us) (t ∷ ts) offset bs stop stop' b b' rest rest' none none' (x, f, m, h) (y, g, n, k) =
     let start : ℕ = offset + gap false bs in
     let here : List ℕ = drop (gap false bs) bs in
-    let same : y ≡ x = lexeme_is (sym g ∙ f) in
+    let same : y ≡ x = same_Some y x (sym g ∙ f) in
     let P : Lexeme → Type 0 = λ y. HasTokens (start + y.len) (drop y.len here) ts stop' (b' ∷ rest') in
     places_same us ts (start + x.len) (drop x.len here) stop stop' b b' rest rest' none none' h (subst P same k)
 

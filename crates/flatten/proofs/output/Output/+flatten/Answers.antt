@@ -126,6 +126,22 @@ turns-returns-in_err-turn-clause-large t c =
     c.in_err-turn.ensures.large in
     search (rules, over)
 
+pub turns-returns-in_err-close-clause-large : goal.turns-returns-in_err-close-clause-large
+turns-returns-in_err-close-clause-large t c =
+    let ws = c.args.frame.now.locals.items in
+    let go = pure.flat_body ws (body_tree c.args.body.now) in
+    let l = c.loop-turn in
+    let n = c.goes_on.new in
+    let i = l.turn in
+    let split = turns_split ws c.args.count i c.args.index go l.stretch.place l.self l.w.state c.loop-turn-test.true in
+    let total = pure.flat_turns ws c.args.count 0 c.args.index go c.args.place c.args.self.now c.args.w.now.state in
+    let whole : closed ws n.stretch.pending.items (started n.w) (placed n.self n.w.state) ≡ total =
+    subst (λ (b : Bool). closed ws n.stretch.pending.items (started n.w) (if b then all_turns ws go c.args.count i c.args.index n.stretch.place n.self n.w.state else placed n.self n.w.state) ≡ closed ws l.stretch.pending.items (started l.w) (pure.go_on ws l.w.state.ended l.stretch.place (all_turns ws go c.args.count i c.args.index) l.self l.w.state))
+    c.if-not-goes.true (c.in_ok-goes.ensures.told ws (all_turns ws go c.args.count i c.args.index))
+    ∙ ap (closed ws l.stretch.pending.items (started l.w)) (sym split) ∙ l.invariant.told in
+    let over : IsOver total.given c.in_err-close.field-0.0 = subst (λ r. IsOver r.given c.in_err-close.field-0.0) whole c.in_err-close.ensures.large in
+    search (rules, over)
+
 pub stmt-returns-in_err-turns-in-Repeat-clause-large : goal.stmt-returns-in_err-turns-in-Repeat-clause-large
 stmt-returns-in_err-turns-in-Repeat-clause-large t c =
     let ws = c.args.frame.now.locals.items in

@@ -1,5 +1,6 @@
 use Rattle.std.proofs.Common.{◌≡◌, ◌++◌, ◌∷◌, [], ◌∙◌, rules}
 use Rattle.flatten.specs.Journal.{before}
+use Rattle.flatten.specs.Pending.{placed}
 use Rattle.flatten.specs.Tracked.{started}
 use Rattle.flatten.proofs.Steps.{close_start, close_told, as_wide, over_join}
 use Rattle.flatten.proofs.output.Output.close.Goals as goal
@@ -20,3 +21,9 @@ loop-open-preserved c =
       wide = as_wide all ps w u start ∙ c.loop-open.invariant.wide;
       fields = c.loop-open.invariant.fields;
     }
+
+pub returns-in_err-keeps_size-clause-large : goal.returns-in_err-keeps_size-clause-large
+returns-in_err-keeps_size-clause-large c =
+    let l = c.loop-open in
+    let over = over_join c.args.frame.now.locals.items l.pending.items (started l.w) (placed l.self l.w.state) _ c.in_err-keeps_size.field-0.0 l.invariant.told c.in_err-keeps_size.ensures.large in
+    search (rules, over)
