@@ -13,7 +13,6 @@ use Rattle.flat_ir.specs.Sets.{IsMarked}
 use Rattle.split_model.specs.declared.split.Part.{Part}
 use Rattle.split_model.specs.declared.split.Slow.{Slow}
 use Rattle.split_model.specs.declared.split.Slow.TheVariants.{Carried, Server, Post}
-use Rattle.split_model.specs.declared.layout.Crossing.{Crossing}
 use Rattle.split_model.specs.Split.{part_at, is_pre, is_carried, is_post, is_carried_up, stage_after}
 use Rattle.split_model.specs.Shown.{looks_at, is_shown, is_replicated}
 use Rattle.split_model.specs.Crossing.{is_value, is_among, is_read_by, is_at_hand, crosses_up, crosses_down}

@@ -6,7 +6,7 @@ use Rattle.switch_ir.proofs.steps.number_behind.Goals as goal
 pub returns-clause-numbered : goal.returns-clause-numbered
 returns-clause-numbered c =
     let f = c.args.f.now in
-    let here = work_is f c.as_slice-2.result.now c.args.i c.index-as_slice-i.result c.as_slice-2.ensures c.requires.within c.index-as_slice-i.is in
+    let here = work_is f c.as_slice.result.now c.args.i c.index-as_slice-i.result c.as_slice.ensures c.requires.within c.index-as_slice-i.is in
     values_more (program_of f) c.args.i c.args.number c.result_count.result c.requires.numbered
-    (c.result_count.ensures.value ∙ ap (result_count c.as_slice.result.now) here
-    ∙ ap (λ objects. result_count objects (step_at (program_of f) c.args.i).work) c.as_slice.ensures)
+    (c.result_count.ensures.value ∙ ap (result_count c.as_slice-2.result.now) here
+    ∙ ap (λ objects. result_count objects (step_at (program_of f) c.args.i).work) c.as_slice-2.ensures)
