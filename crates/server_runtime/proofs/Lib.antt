@@ -1,4 +1,5 @@
 pub mod Changes
+pub mod Frames
 pub mod Handed
 pub mod Lengths
 pub mod Numbers

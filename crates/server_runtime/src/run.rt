@@ -1,5 +1,5 @@
 //! The server's run of a packet.
-ghost use Rattle.std.specs.Prelude.{◌≡◌, ◌↔◌, ◌≤◌, [], length, vec_capacity};
+ghost use Rattle.std.specs.Prelude.{◌≡◌, ◌↔◌, ◌≤◌, ◌-◌, ◌++◌, [], length, take, drop, vec_capacity};
 ghost use Rattle.std.specs.Prelude.{Err, IfOk, IsOk, OnErr};
 ghost use Rattle.packet_fields.specs.Shape.{shape_of};
 ghost use Rattle.packet_fields.specs.Sizes.{largest_packet};
@@ -82,25 +82,34 @@ fn take_turns(
     evaluated
 }
 
-// The packet's bytes with the fields set that the server sets.
+// A frame, where the fields are set in its packet that the server sets. They are set in the frame's own bytes, of which
+// the packet's are the last ones.
 fn set_fields(
     whole: &SplitProgram,
     values: &Regs,
     arrival: &Arrival<'_>,
-    mut packet: Vec<u8>,
-) -> Vec<u8>
+    mut frame: Vec<u8>,
+) -> Bytes
     requires prepared { IsPrepared whole.now }
     requires all { AreAll (program_of whole.now.flat) values.now }
-    requires copy { packet.items ≡ arrival.now.bytes.now }
     requires size { length arrival.now.bytes.now ≤ largest_packet }
     requires shape { arrival.now.shape ≡ shape_of arrival.now.bytes.now }
+    requires within { length arrival.now.bytes.now ≤ length frame.items }
+    requires last { drop (length frame.items - length arrival.now.bytes.now) frame.items ≡ arrival.now.bytes.now }
     ensures { let f = program_of whole.now.flat in
-        result.items
-        ≡ with_writes (server_fields f whole.now.split) (register_reads f values.now) arrival.now.bytes.now }
+        let packet = arrival.now.bytes.now in
+        result ≡ take (length frame.items - length packet) frame.items
+        ++ with_writes (server_fields f whole.now.split) (register_reads f values.now) packet }
 {
     let numbers = Registers { whole, values };
-    write_fields(&whole.fields, &numbers, &arrival.shape, &mut packet);
-    packet
+    let packet_at = frame.len() - arrival.bytes.len();
+    write_fields(
+        &whole.fields,
+        &numbers,
+        &arrival.shape,
+        &mut frame[packet_at..],
+    );
+    Bytes::from(frame)
 }
 
 // The server's run of a packet. This takes no memory besides `room`.
@@ -118,7 +127,6 @@ fn run(
     requires fit { AllFit (program_of whole.now.flat) (register_reads (program_of whole.now.flat) values.old) }
     requires arrives { IsArrival (packet_of arrival.now) }
     requires shape { arrival.now.shape ≡ shape_of arrival.now.bytes.now }
-    requires packet { room.packet.items ≡ arrival.now.bytes.now }
     requires frame { HasRoom whole.now.down (length arrival.now.bytes.now) room.frame }
     requires empty { room.updates.items ≡ [] }
     requires updates { whole.now.writes ≤ vec_capacity room.updates }
@@ -133,14 +141,17 @@ fn run(
     layouts_fit();
     what_crosses_is_held();
     what_the_switch_is_told_fits();
-    let Room {
-        packet,
-        frame,
-        mut updates,
-    } = room;
+    let Room { frame, mut updates } = room;
     let evaluated = take_turns(whole, arrival, values, store, &mut updates);
-    let packet = set_fields(whole, values, arrival, packet);
-    let down = pack_down_in(frame, &whole.down, number, arrival.port, values, &packet);
+    let frame = pack_down_in(
+        frame,
+        &whole.down,
+        number,
+        arrival.port,
+        values,
+        arrival.bytes,
+    );
+    let down = set_fields(whole, values, arrival, frame);
     Ran {
         number,
         down,
@@ -186,7 +197,7 @@ pub(crate) fn answer(
     let whole = &plan.whole;
     let head = read(whole, frame, values)?;
     let bytes = &frame[head.packet_at..];
-    let room = Room::take(alloc, whole, bytes)?;
+    let room = Room::take(alloc, whole, bytes.len())?;
     let arrival = Arrival {
         port: head.port,
         bytes,
