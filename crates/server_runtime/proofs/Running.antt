@@ -1,79 +1,133 @@
 -- One turn of the server more.
-use Rattle.std.proofs.Common.{◌≡◌, ◌+◌, ◌≤◌, ◌||◌, ℕ, zero, suc, Bool, true, false, List, ◌++◌, length, refl, sym, ap, subst, ◌∙◌, arith, add-one, ⊎_elim, length-append, if◌then◌else◌}
+use Rattle.std.proofs.Common.{◌≡◌, ◌+◌, ◌-◌, ◌≤◌, ◌<◌, ◌&&◌, ◌||◌, ℕ, zero, suc, Bool, true, false, cond, List, [], ◌∷◌, ◌++◌, length, slice_index, refl, sym, ap, subst, ◌∙◌, arith, add-one, ⊎_elim, length-append, Some, slice_get, IsTrue, if◌then◌else◌}
+use Rattle.std.specs.List.{AllByRecursion as Each}
+use Rattle.std.proofs.lemmas.Bool.{lt-ltb}
 use Rattle.std.proofs.lemmas.List.{append-nil}
 use Rattle.std.proofs.Math.Nat.{eq-or-lt_of_le}
 use Rattle.packet_fields.specs.declared.packet.Packet.{Packet}
 use Rattle.state_store.specs.Store.{Store}
-use Rattle.flat_ir.specs.Blocks.{is_live, Reading}
-use Rattle.flat_ir.specs.Kinds.{is_input}
-use Rattle.flat_ir.specs.Program.{step_at, Program}
-use Rattle.flat_ir.specs.Run.{do_step, Machine}
+use Rattle.flat_ir.specs.declared.program.ValueId.{ValueId}
+use Rattle.flat_ir.specs.Blocks.{is_live, line, Reading}
+use Rattle.flat_ir.specs.Laws.{Same, SameFor}
+use Rattle.flat_ir.specs.Program.{is_named, operands, result_count, step_at, Program, Work}
+use Rattle.flat_ir.specs.Run.{change_of, do_step, results, Machine}
+use Rattle.flat_ir.specs.Spans.{spans_of}
 use Rattle.flat_ir.specs.Turns.{turn}
+use Rattle.flat_ir.specs.WellFormed.{EachCondition, IsWellFormed}
 use Rattle.split_model.specs.declared.split.Part.{Part}
 use Rattle.split_model.specs.Counts.{count_below}
+use Rattle.split_model.specs.Layouts.{number_of, values_below, values_of}
 use Rattle.split_model.specs.Passes.{served}
-use Rattle.split_model.specs.Split.{is_server}
+use Rattle.transfer_header.specs.Registers.{content_of, HasRegister, Registers}
+use Rattle.transfer_header.specs.Steps.{all_written, is_among, reading_after, registers_after, AreKeptApart, AreSpansOf, Contents, IsDoneAlike, IsReady}
 use Rattle.writeback_table.specs.declared.command.Update.{Update}
+use Rattle.server_runtime.specs.Registers.{register_reads, with_row, HaveRegisters}
+use Rattle.server_runtime.specs.Running.{contents_at, row_of, server_steps}
 use Rattle.server_runtime.specs.Serving.{followed_writes, is_followed, updates_of}
-use Rattle.server_runtime.specs.Turns.{server_turn, turn_by, HasTurned, IsRunning}
+use Rattle.server_runtime.specs.Spans.{is_taken, is_turn, numbers_of, server_spans, values_at, writes_at}
+use Rattle.server_runtime.specs.Turns.{registers_by, turn_by, HasTurned, IsServing}
+use Rattle.server_runtime.proofs.Alike.{IsTurnedAlike}
+use Rattle.server_runtime.proofs.Contents.{among_results, turn_alike}
+use Rattle.server_runtime.proofs.Spanned.{has_span}
 use Rattle.server_runtime.proofs.Told.{updates_append}
-
-turn_more : (f : Program) (split : List Part) (packet : Packet) (i : ℕ) (m : Machine) (reads reads' : Reading) (st st' : Store) (updates more : List Update)
-    → IsRunning f split m reads st updates → (b : Bool) → IsRunning f split (turn_by b f packet i reads st) reads' st' more
-    → IsRunning f split (if b then do_step (is_live f.blocks m.reads (step_at f i).block) packet i (step_at f i).work m else m) reads' st' (updates ++ more)
-turn_more f split packet i m reads reads' st st' updates more so true taken = record {
-  values = taken.values ∙ (λ p. (turn f packet i (so.values p) (so.store p)).reads);
-  store = taken.store ∙ (λ p. (turn f packet i (so.values p) (so.store p)).store);
-  told = ap (λ l. l ++ more) so.told
-      ∙ ap (λ l. updates_of f split m.changes ++ l) (taken.told ∙ (λ p. updates_of f split (turn f packet i (so.values p) (so.store p)).changes))
-      ∙ sym (updates_append f split m.changes (turn f packet i m.reads m.store).changes);
-}
-turn_more f split packet i m reads reads' st st' updates more so false taken = record {
-  values = taken.values ∙ so.values;
-  store = taken.store ∙ so.store;
-  told = ap (λ l. l ++ more) so.told ∙ ap (λ l. updates_of f split m.changes ++ l) taken.told ∙ append-nil (updates_of f split m.changes);
-}
-
--- from the machine after i instructions to the one after i + 1
-served_more : (f : Program) (split : List Part) (up : Reading) (start : Store) (packet : Packet) (i : ℕ) (reads reads' : Reading) (st st' : Store) (updates more : List Update)
-    → IsRunning f split (served f split up start packet i) reads st updates
-    → IsRunning f split (server_turn f split packet i reads st) reads' st' more
-    → IsRunning f split (served f split up start packet (i + 1)) reads' st' (updates ++ more)
-served_more f split up start packet i reads reads' st st' updates more so taken =
-    rw (add-one i) (turn_more f split packet i (served f split up start packet i) reads reads' st st' updates more so (is_input (step_at f i).work || is_server split i) taken)
-
-pub turned_more : (f : Program) (split : List Part) (up : Reading) (start : Store) (packet : Packet) (i : ℕ) (reads reads' : Reading) (st st' : Store) (updates updates' : List Update)
-    → IsRunning f split (served f split up start packet i) reads st updates
-    → HasTurned f split (server_turn f split packet i reads st) reads' st' updates updates'
-    → IsRunning f split (served f split up start packet (i + 1)) reads' st' updates'
-turned_more f split up start packet i reads reads' st st' updates updates' so turned =
-    let more = updates_of f split (server_turn f split packet i reads st).changes in
-    subst (IsRunning f split (served f split up start packet (i + 1)) reads' st') (sym turned.told)
-    (served_more f split up start packet i reads reads' st st' updates more so (record { values = turned.values; store = turned.store; told = refl }))
-
--- ## Room for what the switch is told
 
 count_mono : (test : ℕ → Bool) (i n : ℕ) → i ≤ n → count_below i test ≤ count_below n test
 count_mono test i zero le = let e : i ≡ 0 = omega (arith, le) in rw e (omega arith)
 count_mono test i (suc n) le =
     ⊎_elim (λ e. rw e (omega arith)) (λ less. omega (arith, count_mono test i n (omega (arith, less)))) (eq-or-lt_of_le {n = i} {m = suc n} le)
 
-more_fits : (f : Program) (split : List Part) (up : Reading) (start : Store) (packet : Packet) (i : ℕ) (reads : Reading) (st : Store) (updates more : List Update)
-    → IsRunning f split (served f split up start packet (i + 1)) reads st (updates ++ more) → i + 1 ≤ length f.code
-    → length (updates_of f split (served f split up start packet (i + 1)).changes) ≤ count_below (i + 1) (λ j. is_followed f split (step_at f j).work)
-    → length updates + length more ≤ followed_writes f split
-more_fits f split up start packet i reads st updates more so within few =
-    omega (arith, length-append updates more, ap length so.told, few, count_mono (λ j. is_followed f split (step_at f j).work) (i + 1) (length f.code) within)
+module _ (f : Program) (well : IsWellFormed f) (split : List Part) (up : Reading) (start : Store) (packet : Packet)
+    (numbers : (v : ValueId) → IsTrue (is_named f v) → slice_get (values_of f) (number_of f v) ≡ Some v)
+    (same_operands : (r r' : Reading) (work : Work) → Each (Same r r') (operands work) → SameFor r r' work)
+    (same_results : (r r' : Reading) (live : Bool) (st : Store) (packet : Packet) (work : Work) → SameFor r r' work → results r live st packet work ≡ results r' live st packet work)
+    (same_changes : (r r' : Reading) (st : Store) (work : Work) → SameFor r r' work → change_of r st work ≡ change_of r' st work)
+    (same_live : (f : Program) (r r' : Reading) (k : ℕ) → Each (EachCondition f (Same r r')) (line f.blocks k) → is_live f.blocks r k ≡ is_live f.blocks r' k)
+    (i : ℕ) (lt : i < length f.code) (registers : Registers) (st : Store) (updates : List Update)
+    (so : IsServing f split up start packet i registers st updates)
+    (alike : IsDoneAlike (server_steps f split up start packet) (server_spans f split) registers (contents_at f split up start packet i) (suc i))
+  where
+    abbrev m : Machine
+    m = served f split up start packet i
 
-pub room_for_turn : (f : Program) (split : List Part) (up : Reading) (start : Store) (packet : Packet) (i : ℕ) (reads : Reading) (st : Store) (updates : List Update)
-    → IsRunning f split (served f split up start packet i) reads st updates → i + 1 ≤ length f.code
-    → length (updates_of f split (served f split up start packet (i + 1)).changes) ≤ count_below (i + 1) (λ j. is_followed f split (step_at f j).work)
-    → length updates + length (updates_of f split (server_turn f split packet i reads st).changes) ≤ followed_writes f split
-room_for_turn f split up start packet i reads st updates so within few =
-    let m = server_turn f split packet i reads st in
-    more_fits f split up start packet i m.reads m.store updates (updates_of f split m.changes)
-    (served_more f split up start packet i reads m.reads st m.store updates (updates_of f split m.changes) so (record { values = refl; store = refl; told = refl }))
-    within few
+    abbrev next : Bool → Machine
+    next b = cond b (do_step (is_live f.blocks m.reads (step_at f i).block) packet i (step_at f i).work m) m
+
+    taken_is : is_taken f split i ≡ is_turn f split i
+    taken_is = ap (λ b. b && is_turn f split i) (lt-ltb i (length f.code) lt)
+
+    -- from what the registers hold the turn is that of the run
+    turns : is_turn f split i ≡ true → IsTurnedAlike f packet i m.store (register_reads f registers) m.reads
+    turns mine =
+        turn_alike f numbers well split up start packet same_operands same_results same_changes same_live i lt (content_of registers) (taken_is ∙ mine) alike.reads
+
+    store_by : (b : Bool) → is_turn f split i ≡ b → (turn_by b f packet i (register_reads f registers) st).store ≡ (next b).store
+    store_by true mine = ap (λ s. (turn f packet i (register_reads f registers) s).store) so.store ∙ (turns mine).store
+    store_by false mine = so.store
+
+    changes_by : (b : Bool) → is_turn f split i ≡ b
+        → updates_of f split m.changes ++ updates_of f split (turn_by b f packet i (register_reads f registers) st).changes ≡ updates_of f split (next b).changes
+    changes_by true mine =
+        ap (λ cs. updates_of f split m.changes ++ updates_of f split cs) (ap (λ s. (turn f packet i (register_reads f registers) s).changes) so.store ∙ (turns mine).changes)
+        ∙ sym (updates_append f split m.changes (turn f packet i m.reads m.store).changes)
+    changes_by false mine = append-nil (updates_of f split m.changes)
+
+    -- the registers behind the step
+    abbrev behind : Bool → Registers
+    behind b =
+        all_written registers (cond b (numbers_of f (values_at f i)) [])
+        (λ n. cond b (slice_index (row_of f packet i (register_reads f registers) m.store) (n - length (values_below f i))) 0)
+
+    behind_is : (b : Bool) → behind b ≡ registers_by b f packet i registers m.store
+    behind_is true = refl
+    behind_is false = refl
+
+    module _ (after : Registers) (st' : Store) (updates' : List Update)
+        (turned : HasTurned f split packet i (is_turn f split i) registers st after st' updates updates') where
+      after_is : registers_after (server_steps f split up start packet) registers (suc i) ≡ after
+      after_is =
+          ap behind taken_is ∙ behind_is (is_turn f split i)
+          ∙ ap (registers_by (is_turn f split i) f packet i registers) (sym so.store) ∙ sym turned.registers
+
+      pub serving_more : reading_after (server_steps f split up start packet) (contents_at f split up start packet i) (suc i) ≡ contents_at f split up start packet (suc i)
+          → IsServing f split up start packet (i + 1) after st' updates'
+      serving_more goes =
+          subst (λ n. IsServing f split up start packet n after st' updates') (sym (add-one i)) (record {
+            ready = subst (λ contents. IsReady (server_spans f split) after contents (suc i + 1)) goes
+                (subst (λ r. IsReady (server_spans f split) r (reading_after (server_steps f split up start packet) (contents_at f split up start packet i) (suc i)) (suc i + 1)) after_is alike.next);
+            store = turned.store ∙ store_by (is_turn f split i) refl;
+            told = turned.told ∙ ap (λ l. l ++ updates_of f split (turn_by (is_turn f split i) f packet i (register_reads f registers) st).changes) so.told
+                ∙ changes_by (is_turn f split i) refl;
+          })
+
+    -- there is room for what the switch is told
+    pub room_for_turn : length (updates_of f split (served f split up start packet (i + 1)).changes) ≤ count_below (i + 1) (λ j. is_followed f split (step_at f j).work)
+        → length updates + length (updates_of f split (turn_by (is_turn f split i) f packet i (register_reads f registers) st).changes) ≤ followed_writes f split
+    room_for_turn few =
+        let more = updates_of f split (turn_by (is_turn f split i) f packet i (register_reads f registers) st).changes in
+        let all : length (updates_of f split m.changes ++ more) ≡ length (updates_of f split (served f split up start packet (i + 1)).changes) =
+        ap length (changes_by (is_turn f split i) refl) ∙ ap (λ n. length (updates_of f split (served f split up start packet n).changes)) (sym (add-one i))
+        in
+        omega (
+          arith,
+          length-append (updates_of f split m.changes) more,
+          all,
+          ap length so.told,
+          few,
+          count_mono (λ j. is_followed f split (step_at f j).work) (i + 1) (length f.code) (omega (arith, lt)),
+        )
+
+-- the values of an instruction that the server evaluates have registers
+pub have_registers : (f : Program) (split : List Part) (i : ℕ) (registers : Registers) → i < length f.code
+    → ((step n : ℕ) → is_among n (writes_at f split step) ≡ true → spans_of (server_spans f split) n ≡ 1)
+    → AreKeptApart (server_spans f split) registers → is_turn f split i ≡ true → HaveRegisters f i registers
+have_registers f split i registers lt written kept mine place low =
+    let n = length (values_below f i) + place in
+    let taken : is_taken f split i ≡ true = ap (λ b. b && is_turn f split i) (lt-ltb i (length f.code) lt) ∙ mine in
+    let among : is_among n (writes_at f split (suc i)) ≡ true =
+    ap (λ (b : Bool). is_among n (cond b (numbers_of f (values_at f i)) [])) taken ∙ among_results f i (result_count f.objects (step_at f i).work) place low
+    in
+    let h = has_span (server_spans f split) n (omega (arith, written (suc i) n among)) in
+    subst (HasRegister registers) h.same (kept.has h.span h.there)
 
 -- ## How many instructions are evaluated
 

@@ -1,5 +1,7 @@
 pub mod Plans
+pub mod Spans
 pub mod Registers
+pub mod Running
 pub mod Serving
 pub mod Turns
 pub mod Views

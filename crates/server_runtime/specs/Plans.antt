@@ -1,9 +1,9 @@
 -- A split program, and what is known of it beforehand.
-use Rattle.std.specs.Prelude.{◌≡◌, ℕ, ◌<◌, ◌^◌, Bool, false, List, length, slice_index_or}
+use Rattle.std.specs.Prelude.{◌≡◌, ℕ, ◌<◌, ◌≤◌, ◌^◌, Bool, false, List, length, slice_index_or}
 use Rattle.flat_ir.specs.Program.{Program, program_of}
 use Rattle.split_model.specs.declared.split.Part.{Part}
 use Rattle.split_model.specs.Bounds.{IsBounded}
-use Rattle.split_model.specs.Layouts.{down_layout, up_layout}
+use Rattle.split_model.specs.Layouts.{down_layout, up_layout, values_of}
 use Rattle.split_model.specs.Legal.{IsLegal}
 use Rattle.split_model.specs.Passes.{server_fields}
 use Rattle.split_model.specs.Shown.{is_replicated}
@@ -28,6 +28,7 @@ pub record IsPrepared (w : SplitProgram) : Type 0 where
   pub down : w.down ≡ down_layout (program_of w.flat) w.split
   pub few : length w.down < 2 ^ 32
   pub firsts : AreFirsts (program_of w.flat) w.firsts.items
+  pub values : length (values_of (program_of w.flat)) ≤ 36864
   pub fields : w.fields.items ≡ server_fields (program_of w.flat) w.split
   pub followed : AreReplicated (program_of w.flat) w.split w.followed.items
   pub writes : w.writes ≡ followed_writes (program_of w.flat) w.split

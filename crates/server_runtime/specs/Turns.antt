@@ -1,44 +1,54 @@
 -- The server's turns.
-use Rattle.std.specs.Prelude.{◌≡◌, ◌≤◌, ℕ, Bool, true, false, ◌==◌, ◌||◌, List, [], ◌∷◌, ◌++◌, map, length, drop}
+use Rattle.std.specs.Prelude.{◌≡◌, ◌<◌, ◌≤◌, ◌+◌, ℕ, Bool, true, false, ◌==◌, List, [], ◌∷◌, ◌++◌, map, length, drop}
 use Rattle.std.specs.Prelude.{Option, Some, None, if◌then◌else◌}
 use Rattle.std.specs.List.{AllByRecursion as Each}
 use Rattle.packet_fields.specs.declared.packet.Packet.{Packet}
+use Rattle.packet_fields.specs.Shape.{shape_of}
+use Rattle.packet_fields.specs.Sizes.{largest_packet}
 use Rattle.state_store.specs.Store.{Store}
+use Rattle.flat_ir.specs.declared.work.Arrival.{Arrival}
 use Rattle.flat_ir.specs.Arrivals.{IsArrival}
 use Rattle.flat_ir.specs.Laws.{AllFit}
-use Rattle.flat_ir.specs.Program.{Program, Work, step_at}
+use Rattle.flat_ir.specs.Program.{Program, Work}
 use Rattle.flat_ir.specs.Program.Work.{const, field, apply, shift, select, byte, look, put, del}
 use Rattle.flat_ir.specs.Blocks.{Reading}
-use Rattle.flat_ir.specs.Kinds.{is_input}
 use Rattle.flat_ir.specs.Run.{made, Change, Machine}
 use Rattle.flat_ir.specs.Turns.{turn}
 use Rattle.split_model.specs.declared.split.Part.{Part}
 use Rattle.split_model.specs.Layouts.{down_layout, up_layout}
-use Rattle.split_model.specs.Passes.{sent_down, server_run}
+use Rattle.split_model.specs.Passes.{sent_down, served, server_run}
 use Rattle.split_model.specs.Shown.{is_replicated}
-use Rattle.split_model.specs.Split.{is_server}
 use Rattle.transfer_header.specs.declared.frame.Head.{Head}
 use Rattle.transfer_header.specs.Frames.{down_frame, IsFrame}
+use Rattle.transfer_header.specs.Registers.{Registers}
+use Rattle.transfer_header.specs.Steps.{IsReady}
 use Rattle.transfer_header.specs.Told.{number_in, packet_in, reads_in}
 use Rattle.writeback_table.specs.declared.command.Update.{Update}
+use Rattle.server_runtime.specs.declared.plan.SplitProgram.{SplitProgram}
 use Rattle.server_runtime.specs.declared.run.Ran.{Ran}
-use Rattle.server_runtime.specs.Registers.{register_reads}
+use Rattle.server_runtime.specs.Plans.{IsPrepared}
+use Rattle.server_runtime.specs.Registers.{contents_of, handed, register_reads, with_row}
+use Rattle.server_runtime.specs.Running.{contents_at, row_of}
 use Rattle.server_runtime.specs.Serving.{evaluated_steps, followed_writes, updates_of, IsUpdateIn}
+use Rattle.server_runtime.specs.Spans.{server_spans}
 
--- registers, a store and what the switch is told are those of a machine
-pub record IsRunning (f : Program) (split : List Part) (m : Machine) (reads : Reading) (st : Store)
-    (updates : List Update) : Type 0 where
-  pub values : reads ≡ m.reads
-  pub store : st ≡ m.store
-  pub told : updates ≡ updates_of f split m.changes
+-- What a server has after the first n instructions of a run from these numbers: in registers the numbers that are
+-- still to be read, and the store and what the switch is told of the run.
+pub record IsServing (f : Program) (split : List Part) (up : Reading) (start : Store) (packet : Packet) (n : ℕ)
+    (registers : Registers) (st : Store) (updates : List Update) : Type 0 where
+  pub ready : IsReady (server_spans f split) registers (contents_at f split up start packet n) (n + 1)
+  pub store : st ≡ (served f split up start packet n).store
+  pub told : updates ≡ updates_of f split (served f split up start packet n).changes
 
 -- the server's turn at instruction i, from these registers and this store
 abbrev pub turn_by : Bool → Program → Packet → ℕ → Reading → Store → Machine
 turn_by true f packet i reads st = turn f packet i reads st
 turn_by false f packet i reads st = record { reads = reads; store = st; changes = [] }
 
-abbrev pub server_turn : Program → List Part → Packet → ℕ → Reading → Store → Machine
-server_turn f split packet i reads st = turn_by (is_input (step_at f i).work || is_server split i) f packet i reads st
+-- the registers behind it
+abbrev pub registers_by : Bool → Program → Packet → ℕ → Registers → Store → Registers
+registers_by true f packet i registers st = with_row f i (row_of f packet i (register_reads f registers) st) registers
+registers_by false f packet i registers st = registers
 
 -- what a put or a del changes where it takes effect
 abbrev pub wanted : Reading → Work → Option Change
@@ -61,20 +71,34 @@ told_of f split update = if is_replicated f split update.object then update ∷ 
 abbrev pub changed_by : Reading → ℕ → Work → List Change
 changed_by reads number work = if number == 1 then made true (wanted reads work) else []
 
--- a turn was taken: registers and store are those of the machine behind it, and the switch was told of its changes
-pub record HasTurned (f : Program) (split : List Part) (m : Machine) (reads : Reading) (st : Store)
-    (before after : List Update) : Type 0 where
-  pub values : reads ≡ m.reads
-  pub store : st ≡ m.store
-  pub told : after ≡ before ++ updates_of f split m.changes
+-- a turn is taken of a prepared program, at an instruction that it has, and at a packet whose headers were found
+pub record IsAtTurn (whole : SplitProgram) (arrival : Arrival) (i : ℕ) : Type 0 where
+  pub prepared : IsPrepared whole
+  pub within : i < length whole.flat.code
+  pub size : length arrival.bytes.now ≤ largest_packet
+  pub shape : arrival.shape ≡ shape_of arrival.bytes.now
+
+-- a turn was taken or not: of what it read it left registers and a store, and the switch was told of its changes
+pub record HasTurned (f : Program) (split : List Part) (packet : Packet) (i : ℕ) (taken : Bool)
+    (before : Registers) (st : Store) (after : Registers) (st' : Store) (updates updates' : List Update) : Type 0 where
+  pub registers : after ≡ registers_by taken f packet i before st
+  pub store : st' ≡ (turn_by taken f packet i (register_reads f before) st).store
+  pub told : updates' ≡ updates ++ updates_of f split (turn_by taken f packet i (register_reads f before) st).changes
+
+-- the updates have room for what a turn tells the switch
+abbrev pub HasRoomFor : Program → List Part → Packet → ℕ → Bool → Registers → Store → ℕ → ℕ → Type 0
+HasRoomFor f split packet i taken registers st told room =
+    told + length (updates_of f split (turn_by taken f packet i (register_reads f registers) st).changes) ≤ room
 
 -- What is read of a frame that came up: its number and packet, and its numbers in registers, which fit.
-pub record IsRead (f : Program) (split : List Part) (frame registers : List ℕ) (head : Head) : Type 0 where
+pub record IsRead (f : Program) (split : List Part) (frame : List ℕ) (registers : Registers) (head : Head)
+    : Type 0 where
   pub number : head.number ≡ number_in frame
   pub packet : record { port = head.port; bytes = drop head.packet_at frame } ≡ packet_in (up_layout f split) frame
   pub within : head.packet_at ≤ length frame
-  pub reads : register_reads f registers ≡ reads_in (up_layout f split) frame
-  pub fit : AllFit f (register_reads f registers)
+  pub reads : handed f split registers ≡ reads_in (up_layout f split) frame
+  pub ready : IsReady (server_spans f split) registers (contents_of f (handed f split registers)) 1
+  pub fit : AllFit f (handed f split registers)
   pub arrives : IsArrival (packet_in (up_layout f split) frame)
 
 -- What comes of a packet of number `n` that went up with these numbers: a store, a frame that goes down, and changes

@@ -8,6 +8,7 @@ mod room;
 mod run;
 mod served;
 mod server;
+mod spans;
 mod turn;
 
 pub use laws::{a_served_packet_is_the_whole_run, what_the_switch_is_told_fits};

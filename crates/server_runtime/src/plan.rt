@@ -5,14 +5,15 @@ ghost use Rattle.flat_ir.specs.Program.{is_named, program_of, work_of, Program};
 ghost use Rattle.flat_ir.specs.WellFormed.{IsWellFormed};
 ghost use Rattle.split_model.specs.declared.split.Part.{Part};
 ghost use Rattle.split_model.specs.Bounds.{IsBounded};
-ghost use Rattle.split_model.specs.Layouts.{number_of, values_below};
+ghost use Rattle.split_model.specs.Layouts.{number_of, values_below, values_of};
 ghost use Rattle.split_model.specs.Legal.{IsLegal};
 ghost use Rattle.split_model.specs.Passes.{server_fields};
 ghost use Rattle.split_model.specs.Shown.{is_replicated};
 ghost use Rattle.server_runtime.specs.Plans.{AreReplicated, IsPrepared};
-ghost use Rattle.server_runtime.specs.Registers.{AreAll, AreFirsts};
+ghost use Rattle.server_runtime.specs.Registers.{AreFirsts};
 ghost use Rattle.server_runtime.specs.Serving.{followed_writes, is_followed};
 
+use crate::spans::registers_of;
 use flat_ir::{FieldValue, Flat, InstrKind, ValueId};
 use gal_io::NoMemory;
 use split_model::{Layout, Split, down_layout, replicated, up_layout};
@@ -38,22 +39,25 @@ pub(crate) struct SplitProgram {
     pub writes: usize,
 }
 
-/// A legally split program. Contracts see the program and the split.
+/// A legally split program, and the registers in which it is run. Contracts see the program and the split.
 #[derive(Debug, Drop)]
 pub(crate) struct Plan {
     pub whole: SplitProgram,
+    pub values: Regs,
 }
 
 impl Model for Plan {
     ghost use Rattle.flat_ir.specs.Program.{program_of};
     ghost use Rattle.server_runtime.specs.Plans as plans;
     ghost use Rattle.server_runtime.specs.Plans.{IsPrepared};
+    ghost use Rattle.server_runtime.specs.Registers.{AreServing};
 
     ghost Value = { plans.Plan };
 
     ghost view = { λ plan. record { program = program_of plan.whole.flat; split = plan.whole.split } };
 
-    ghost invariant = { λ plan. IsPrepared plan.whole };
+    ghost invariant = { λ plan. IsPrepared plan.whole
+        × AreServing (program_of plan.whole.flat) plan.whole.split plan.values };
 }
 
 impl Plan {
@@ -76,21 +80,16 @@ impl Plan {
             followed,
             writes,
         };
-        Ok(Plan { whole })
-    }
-
-    /// A register for each value of the program.
-    pub(crate) fn registers(&self, alloc: Global) -> Result<Regs, NoMemory>
-        ensures { IfOk result (λ values. AreAll self.now.program values) }
-    {
-        Regs::new(alloc, self.whole.firsts[self.whole.flat.code.len()])
+        let values = registers_of(alloc, &whole)?;
+        Ok(Plan { whole, values })
     }
 }
 
 // The number of each instruction's first value, and behind them how many values there are.
 fn firsts_of(alloc: Global, f: &Flat) -> Result<Vec<u32>, NoMemory>
     requires { length f.now.code ≤ 4096 }
-    ensures { IfOk result (λ firsts. AreFirsts (program_of f.now) firsts.items) }
+    ensures firsts { IfOk result (λ firsts. AreFirsts (program_of f.now) firsts.items) }
+    ensures few { IfOk result (λ firsts. length (values_of (program_of f.now)) ≤ 36864) }
 {
     let mut firsts = Vec::with_capacity(alloc, f.code.len() + 1)?;
     let mut next = 0;
@@ -160,10 +159,19 @@ impl SplitProgram {
     /// The number of an instruction's first value.
     pub(crate) fn first(&self, instruction: usize) -> u32
         requires prepared { IsPrepared self.now }
-        requires within { instruction < length self.now.flat.code }
+        requires within { instruction ≤ length self.now.flat.code }
         ensures { result ≡ length (values_below (program_of self.now.flat) instruction) }
     {
         self.firsts[instruction]
+    }
+
+    /// The number of a value that the program has.
+    pub(crate) fn number_of(&self, value: ValueId) -> u32
+        requires prepared { IsPrepared self.now }
+        requires named { IsTrue (is_named (program_of self.now.flat) value) }
+        ensures { result ≡ number_of (program_of self.now.flat) value }
+    {
+        self.firsts[value.instruction as usize] + value.result
     }
 
     /// The number of a value, if the program has it.

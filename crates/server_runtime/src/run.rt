@@ -1,5 +1,5 @@
 //! The server's run of a packet.
-ghost use Rattle.std.specs.Prelude.{◌≡◌, ◌↔◌, ◌≤◌, [], length, vec_capacity};
+ghost use Rattle.std.specs.Prelude.{◌≡◌, ◌↔◌, ◌≤◌, ◌-◌, ◌++◌, [], length, take, drop, vec_capacity};
 ghost use Rattle.std.specs.Prelude.{Err, IfOk, IsOk, OnErr};
 ghost use Rattle.packet_fields.specs.Shape.{shape_of};
 ghost use Rattle.packet_fields.specs.Sizes.{largest_packet};
@@ -10,29 +10,32 @@ ghost use Rattle.flat_ir.specs.Program.{program_of};
 ghost use Rattle.flat_ir.specs.Registers.{packet_of};
 ghost use Rattle.flat_ir.specs.Run.{with_writes};
 ghost use Rattle.split_model.specs.Layouts.{up_layout};
-ghost use Rattle.split_model.specs.Passes.{server_fields, server_run};
+ghost use Rattle.split_model.specs.Passes.{server_fields};
 ghost use Rattle.transfer_header.specs.Frames.{HasRoom, IsFrame};
+ghost use Rattle.transfer_header.specs.Steps.{IsReady};
 ghost use Rattle.transfer_header.specs.Told.{number_in, packet_in, reads_in};
 ghost use Rattle.server_runtime.specs.Plans.{IsPrepared};
-ghost use Rattle.server_runtime.specs.Registers.{register_reads, AreAll};
+ghost use Rattle.server_runtime.specs.Registers.{contents_of, handed, register_reads, AreServing};
 ghost use Rattle.server_runtime.specs.Serving.{evaluated_steps, followed_writes};
-ghost use Rattle.server_runtime.specs.Turns.{IsOutcome, IsRead, IsRunning};
+ghost use Rattle.server_runtime.specs.Spans.{server_spans};
+ghost use Rattle.server_runtime.specs.Turns.{IsOutcome, IsRead, IsServing};
 
-use crate::laws::what_the_switch_is_told_fits;
+use crate::laws::{a_server_run_goes_by_steps, what_the_switch_is_told_fits};
 use crate::plan::{Plan, SplitProgram};
-use crate::registers::{Registers, clear};
+use crate::registers::Registers;
 use crate::room::Room;
 use crate::served::ServeError;
 use crate::turn::take_turn;
-use flat_ir::{Arrival, write_fields};
+use flat_ir::{Arrival, readings_that_agree, write_fields};
 use gal_io::Bytes;
 use packet_fields::Shape;
 use split_model::a_server_keeps_widths;
 use state_store::Store;
 use std::alloc::Global;
 use transfer_header::{
-    Head, Malformed, Regs, frames_are_told_by_place, frames_of_low_bits, layouts_fit, pack_down_in,
-    unpack_up, values_have_their_numbers, what_crosses_is_held,
+    Head, Malformed, Regs, a_step_in_registers, frames_are_told_by_place, frames_of_low_bits,
+    layouts_fit, needed_values_fit, pack_down_in, unpack_up, values_have_their_numbers,
+    what_crosses_is_held,
 };
 use writeback_table::{Update, Updates};
 
@@ -59,21 +62,24 @@ fn take_turns(
     updates: &mut Vec<Update>,
 ) -> u32
     requires prepared { IsPrepared whole.now }
-    requires all { AreAll (program_of whole.now.flat) values.old }
     requires kept { IsKept whole.now.flat.objects store.old }
-    requires fit { AllFit (program_of whole.now.flat) (register_reads (program_of whole.now.flat) values.old) }
+    requires ready { let f = program_of whole.now.flat in
+        IsReady (server_spans f whole.now.split) values.old (contents_of f (handed f whole.now.split values.old)) 1 }
+    requires fit { let f = program_of whole.now.flat in AllFit f (handed f whole.now.split values.old) }
     requires arrives { IsArrival (packet_of arrival.now) }
     requires shape { arrival.now.shape ≡ shape_of arrival.now.bytes.now }
     requires empty { updates.old.items ≡ [] }
     requires room { followed_writes (program_of whole.now.flat) whole.now.split ≤ vec_capacity updates.old }
     ensures run { let f = program_of whole.now.flat in
-        IsRunning f whole.now.split
-        (server_run f whole.now.split (register_reads f values.old) store.old (packet_of arrival.now))
-        (register_reads f values.new) store.new updates.new.items }
-    ensures count { length values.new ≡ length values.old }
+        IsServing f whole.now.split (handed f whole.now.split values.old) store.old (packet_of arrival.now)
+        (length f.code) values.new store.new updates.new.items }
     ensures evaluated { result ≡ evaluated_steps (program_of whole.now.flat) whole.now.split }
 {
     a_server_keeps_widths();
+    a_server_run_goes_by_steps();
+    a_step_in_registers();
+    readings_that_agree();
+    values_have_their_numbers();
     what_the_switch_is_told_fits();
     let mut evaluated = 0;
     for i in 0..whole.flat.code.len() {
@@ -82,25 +88,33 @@ fn take_turns(
     evaluated
 }
 
-// The packet's bytes with the fields set that the server sets.
+// A frame, where the fields are set in its packet that the server sets. They are set in the frame's own bytes, of which
+// the packet's are the last ones.
 fn set_fields(
     whole: &SplitProgram,
     values: &Regs,
     arrival: &Arrival<'_>,
-    mut packet: Vec<u8>,
-) -> Vec<u8>
+    mut frame: Vec<u8>,
+) -> Bytes
     requires prepared { IsPrepared whole.now }
-    requires all { AreAll (program_of whole.now.flat) values.now }
-    requires copy { packet.items ≡ arrival.now.bytes.now }
     requires size { length arrival.now.bytes.now ≤ largest_packet }
     requires shape { arrival.now.shape ≡ shape_of arrival.now.bytes.now }
+    requires within { length arrival.now.bytes.now ≤ length frame.items }
+    requires last { drop (length frame.items - length arrival.now.bytes.now) frame.items ≡ arrival.now.bytes.now }
     ensures { let f = program_of whole.now.flat in
-        result.items
-        ≡ with_writes (server_fields f whole.now.split) (register_reads f values.now) arrival.now.bytes.now }
+        let packet = arrival.now.bytes.now in
+        result ≡ take (length frame.items - length packet) frame.items
+        ++ with_writes (server_fields f whole.now.split) (register_reads f values.now) packet }
 {
     let numbers = Registers { whole, values };
-    write_fields(&whole.fields, &numbers, &arrival.shape, &mut packet);
-    packet
+    let packet_at = frame.len() - arrival.bytes.len();
+    write_fields(
+        &whole.fields,
+        &numbers,
+        &arrival.shape,
+        &mut frame[packet_at..],
+    );
+    Bytes::from(frame)
 }
 
 // The server's run of a packet. This takes no memory besides `room`.
@@ -113,34 +127,41 @@ fn run(
     room: Room,
 ) -> Ran
     requires prepared { IsPrepared whole.now }
-    requires all { AreAll (program_of whole.now.flat) values.old }
     requires kept { IsKept whole.now.flat.objects store.old }
-    requires fit { AllFit (program_of whole.now.flat) (register_reads (program_of whole.now.flat) values.old) }
+    requires ready { let f = program_of whole.now.flat in
+        IsReady (server_spans f whole.now.split) values.old (contents_of f (handed f whole.now.split values.old)) 1 }
+    requires fit { let f = program_of whole.now.flat in AllFit f (handed f whole.now.split values.old) }
     requires arrives { IsArrival (packet_of arrival.now) }
     requires shape { arrival.now.shape ≡ shape_of arrival.now.bytes.now }
-    requires packet { room.packet.items ≡ arrival.now.bytes.now }
     requires frame { HasRoom whole.now.down (length arrival.now.bytes.now) room.frame }
     requires empty { room.updates.items ≡ [] }
     requires updates { whole.now.writes ≤ vec_capacity room.updates }
     ensures outcome { let f = program_of whole.now.flat in
-        IsOutcome f whole.now.split store.old number (packet_of arrival.now) (register_reads f values.old)
+        IsOutcome f whole.now.split store.old number (packet_of arrival.now) (handed f whole.now.split values.old)
         store.new result }
-    ensures count { length values.new ≡ length values.old }
+    ensures serving { AreServing (program_of whole.now.flat) whole.now.split values.new }
     ensures kept { IsKept whole.now.flat.objects store.new }
 {
     a_server_keeps_widths();
+    a_server_run_goes_by_steps();
+    a_step_in_registers();
     frames_of_low_bits();
     layouts_fit();
+    needed_values_fit();
+    values_have_their_numbers();
     what_crosses_is_held();
     what_the_switch_is_told_fits();
-    let Room {
-        packet,
-        frame,
-        mut updates,
-    } = room;
+    let Room { frame, mut updates } = room;
     let evaluated = take_turns(whole, arrival, values, store, &mut updates);
-    let packet = set_fields(whole, values, arrival, packet);
-    let down = pack_down_in(frame, &whole.down, number, arrival.port, values, &packet);
+    let frame = pack_down_in(
+        frame,
+        &whole.down,
+        number,
+        arrival.port,
+        values,
+        arrival.bytes,
+    );
+    let down = set_fields(whole, values, arrival, frame);
     Ran {
         number,
         down,
@@ -152,45 +173,51 @@ fn run(
 // Reads a frame that came up: its head, with the numbers that it hands up put into registers. All others are 0.
 fn read(whole: &SplitProgram, frame: &[u8], values: &mut Regs) -> Result<Head, Malformed>
     requires prepared { IsPrepared whole.now }
-    requires all { AreAll (program_of whole.now.flat) values.old }
+    requires serving { AreServing (program_of whole.now.flat) whole.now.split values.old }
     ensures ok { IfOk result (λ head. IsRead (program_of whole.now.flat) whole.now.split frame.now values.new head) }
     ensures exact { (IsOk result) ↔ (IsFrame 1 (up_layout (program_of whole.now.flat) whole.now.split) frame.now) }
-    ensures count { length values.new ≡ length values.old }
+    ensures serving { AreServing (program_of whole.now.flat) whole.now.split values.new }
 {
+    a_server_run_goes_by_steps();
     frames_are_told_by_place();
     layouts_fit();
+    needed_values_fit();
     values_have_their_numbers();
-    clear(values);
+    values.clear();
     unpack_up(&whole.up, frame, values)
 }
 
 /// What comes of a frame that came up. All memory is taken before the store changes.
 pub(crate) fn answer(
     alloc: Global,
-    plan: &Plan,
-    values: &mut Regs,
+    plan: &mut Plan,
     store: &mut Store,
     frame: &[u8],
 ) -> Result<Ran, ServeError>
-    requires all { AreAll plan.now.program values.old }
-    requires kept { IsKept plan.now.program.objects store.old }
-    ensures ok { IfOk result (λ ran. let layout = up_layout plan.now.program plan.now.split in
-        IsOutcome plan.now.program plan.now.split store.old (number_in frame.now) (packet_in layout frame.now)
+    requires kept { IsKept plan.old.program.objects store.old }
+    ensures ok { IfOk result (λ ran. let layout = up_layout plan.old.program plan.old.split in
+        IsOutcome plan.old.program plan.old.split store.old (number_in frame.now) (packet_in layout frame.now)
         (reads_in layout frame.now) store.new ran) }
     ensures malformed { (result ≡ Err ServeError.Malformed)
-        ↔ (¬ (IsFrame 1 (up_layout plan.now.program plan.now.split) frame.now)) }
+        ↔ (¬ (IsFrame 1 (up_layout plan.old.program plan.old.split) frame.now)) }
     ensures err { OnErr result (store.new ≡ store.old) }
-    ensures count { length values.new ≡ length values.old }
-    ensures kept { IsKept plan.now.program.objects store.new }
+    ensures plan { plan.new ≡ plan.old }
+    ensures kept { IsKept plan.old.program.objects store.new }
 {
-    let whole = &plan.whole;
-    let head = read(whole, frame, values)?;
+    let head = read(&plan.whole, frame, &mut plan.values)?;
     let bytes = &frame[head.packet_at..];
-    let room = Room::take(alloc, whole, bytes)?;
+    let room = Room::take(alloc, &plan.whole, bytes.len())?;
     let arrival = Arrival {
         port: head.port,
         bytes,
         shape: Shape::of(bytes),
     };
-    Ok(run(whole, &arrival, head.number, values, store, room))
+    Ok(run(
+        &plan.whole,
+        &arrival,
+        head.number,
+        &mut plan.values,
+        store,
+        room,
+    ))
 }

@@ -7,7 +7,6 @@ ghost use Rattle.split_model.specs.Layouts.{up_layout};
 ghost use Rattle.split_model.specs.Legal.{IsLegal};
 ghost use Rattle.transfer_header.specs.Frames.{IsFrame};
 ghost use Rattle.state_store.specs.Once.{kept_prop};
-ghost use Rattle.server_runtime.specs.Registers.{AreAll};
 ghost use Rattle.server_runtime.specs.Serving.{version_after};
 
 use crate::plan::Plan;
@@ -18,7 +17,6 @@ use gal_io::NoMemory;
 use split_model::Split;
 use state_store::Store;
 use std::alloc::Global;
-use transfer_header::Regs;
 use writeback_table::Updates;
 
 /// The server's part of a split program at work, with the store that it keeps.
@@ -29,9 +27,7 @@ pub struct Server {
     store: Store,
     version: u32,
     evaluated: u32,
-    values: Regs,
     ghost kept: { IsKept plan.program.objects store } by { kept_prop plan.program.objects store },
-    ghost all: { AreAll plan.program values },
 }
 
 // How many versions there are with these changes.
@@ -59,14 +55,12 @@ impl Server {
             ≡ record { program = program_of f.now; split = s.now; store = store; version = 0; evaluated = 0 }) }
     {
         let plan = Plan::of(alloc, f, s)?;
-        let values = plan.registers(alloc)?;
         Ok(Server {
             alloc,
             plan,
             store,
             version: 0,
             evaluated: 0,
-            values,
         })
     }
 
@@ -81,13 +75,7 @@ impl Server {
             ↔ (¬ (IsFrame 1 (up_layout before.program before.split) frame.now)) }
         ensures err { OnErr result (server_of self.new ≡ server_of self.old) }
     {
-        let ran = answer(
-            self.alloc,
-            &self.plan,
-            &mut self.values,
-            &mut self.store,
-            frame,
-        )?;
+        let ran = answer(self.alloc, &mut self.plan, &mut self.store, frame)?;
         self.evaluated = ran.evaluated;
         self.version = version_after(self.version, &ran.updates);
         Ok(Served {

@@ -1,20 +1,18 @@
 //! The server's turn at an instruction.
 ghost use Rattle.std.specs.Prelude.{◌≡◌, ◌+◌, ◌<◌, ◌≤◌, ◌||◌, ◌++◌, ◌∷◌, [], true, false};
 ghost use Rattle.std.specs.Prelude.{length, map, vec_capacity, vec_len, IsTrue, if◌then◌else◌};
-ghost use Rattle.packet_fields.specs.Shape.{shape_of};
-ghost use Rattle.packet_fields.specs.Sizes.{largest_packet};
 ghost use Rattle.state_store.specs.Kept.{IsKept};
 ghost use Rattle.flat_ir.specs.Fits.{fits};
 ghost use Rattle.flat_ir.specs.Kinds.{is_input, is_look};
 ghost use Rattle.flat_ir.specs.Program.{program_of, result_count, step_at, step_of, work_of};
 ghost use Rattle.flat_ir.specs.Registers.{packet_of};
-ghost use Rattle.flat_ir.specs.Run.{looked, made, with_results};
-ghost use Rattle.flat_ir.specs.Turns.{turn};
+ghost use Rattle.flat_ir.specs.Run.{looked, made};
 ghost use Rattle.split_model.specs.Split.{is_server};
 ghost use Rattle.server_runtime.specs.Plans.{IsPrepared};
-ghost use Rattle.server_runtime.specs.Registers.{register_reads, AreAll};
+ghost use Rattle.server_runtime.specs.Registers.{register_reads, with_row, HaveRegisters};
 ghost use Rattle.server_runtime.specs.Serving.{is_evaluated, updates_of};
-ghost use Rattle.server_runtime.specs.Turns.{changed_by, server_turn, told_of, wanted, HasTurned};
+ghost use Rattle.server_runtime.specs.Spans.{is_turn};
+ghost use Rattle.server_runtime.specs.Turns.{changed_by, told_of, wanted, HasRoomFor, HasTurned, IsAtTurn};
 
 use crate::plan::SplitProgram;
 use crate::registers::{Registers, set_number, set_results};
@@ -119,22 +117,14 @@ fn give_number(
     store: &mut Store,
     updates: &mut Vec<Update>,
 )
-    requires prepared { IsPrepared whole.now }
-    requires within { instruction < length whole.now.flat.code }
+    requires at { IsAtTurn whole.now arrival.now instruction }
     requires instr { step_of instr.now ≡ step_at (program_of whole.now.flat) instruction }
     requires number { is_look (work_of instr.now.kind) ≡ false }
-    requires all { AreAll (program_of whole.now.flat) values.old }
-    requires size { length arrival.now.bytes.now ≤ largest_packet }
-    requires shape { arrival.now.shape ≡ shape_of arrival.now.bytes.now }
-    requires room { let f = program_of whole.now.flat in
-        vec_len updates.old + length (updates_of f whole.now.split
-        (turn f (packet_of arrival.now) instruction (register_reads f values.old) store.old).changes)
-        ≤ vec_capacity updates.old }
-    ensures turn { let f = program_of whole.now.flat in
-        HasTurned f whole.now.split
-        (turn f (packet_of arrival.now) instruction (register_reads f values.old) store.old)
-        (register_reads f values.new) store.new updates.old.items updates.new.items }
-    ensures count { length values.new ≡ length values.old }
+    requires has { HaveRegisters (program_of whole.now.flat) instruction values.old }
+    requires room { HasRoomFor (program_of whole.now.flat) whole.now.split (packet_of arrival.now) instruction true
+        values.old store.old (vec_len updates.old) (vec_capacity updates.old) }
+    ensures turn { HasTurned (program_of whole.now.flat) whole.now.split (packet_of arrival.now) instruction true
+        values.old store.old values.new store.new updates.old.items updates.new.items }
     ensures room { vec_capacity updates.old ≤ vec_capacity updates.new }
 {
     let numbers = Registers { whole, values };
@@ -155,14 +145,13 @@ fn look_up(
     requires prepared { IsPrepared whole.now }
     requires within { instruction < length whole.now.flat.code }
     requires few { length keys.now ≤ 8 }
-    requires all { AreAll (program_of whole.now.flat) values.old }
+    requires has { HaveRegisters (program_of whole.now.flat) instruction values.old }
     requires count { let f = program_of whole.now.flat in
         length (looked store.now object (map (register_reads f values.old) keys.now))
         ≡ result_count f.objects (step_at f instruction).work }
-    ensures values { let f = program_of whole.now.flat in
-        let reads = register_reads f values.old in
-        register_reads f values.new ≡ with_results instruction (looked store.now object (map reads keys.now)) reads }
-    ensures count { length values.new ≡ length values.old }
+    ensures { let f = program_of whole.now.flat in
+        values.new
+        ≡ with_row f instruction (looked store.now object (map (register_reads f values.old) keys.now)) values.old }
 {
     let results = look(store, &Registers { whole, values }, object, keys);
     set_results(whole, values, instruction, &results);
@@ -178,22 +167,14 @@ fn evaluate(
     store: &mut Store,
     updates: &mut Vec<Update>,
 )
-    requires prepared { IsPrepared whole.now }
-    requires within { instruction < length whole.now.flat.code }
+    requires at { IsAtTurn whole.now arrival.now instruction }
     requires instr { step_of instr.now ≡ step_at (program_of whole.now.flat) instruction }
-    requires all { AreAll (program_of whole.now.flat) values.old }
+    requires has { HaveRegisters (program_of whole.now.flat) instruction values.old }
     requires kept { IsKept whole.now.flat.objects store.old }
-    requires size { length arrival.now.bytes.now ≤ largest_packet }
-    requires shape { arrival.now.shape ≡ shape_of arrival.now.bytes.now }
-    requires room { let f = program_of whole.now.flat in
-        vec_len updates.old + length (updates_of f whole.now.split
-        (turn f (packet_of arrival.now) instruction (register_reads f values.old) store.old).changes)
-        ≤ vec_capacity updates.old }
-    ensures turn { let f = program_of whole.now.flat in
-        HasTurned f whole.now.split
-        (turn f (packet_of arrival.now) instruction (register_reads f values.old) store.old)
-        (register_reads f values.new) store.new updates.old.items updates.new.items }
-    ensures count { length values.new ≡ length values.old }
+    requires room { HasRoomFor (program_of whole.now.flat) whole.now.split (packet_of arrival.now) instruction true
+        values.old store.old (vec_len updates.old) (vec_capacity updates.old) }
+    ensures turn { HasTurned (program_of whole.now.flat) whole.now.split (packet_of arrival.now) instruction true
+        values.old store.old values.new store.new updates.old.items updates.new.items }
     ensures room { vec_capacity updates.old ≤ vec_capacity updates.new }
 {
     match &instr.kind {
@@ -222,21 +203,16 @@ pub(crate) fn take_turn(
     store: &mut Store,
     updates: &mut Vec<Update>,
 ) -> u32
-    requires prepared { IsPrepared whole.now }
-    requires within { instruction < length whole.now.flat.code }
-    requires all { AreAll (program_of whole.now.flat) values.old }
+    requires at { IsAtTurn whole.now arrival.now instruction }
+    requires has { let f = program_of whole.now.flat in
+        is_turn f whole.now.split instruction ≡ true → HaveRegisters f instruction values.old }
     requires kept { IsKept whole.now.flat.objects store.old }
-    requires size { length arrival.now.bytes.now ≤ largest_packet }
-    requires shape { arrival.now.shape ≡ shape_of arrival.now.bytes.now }
     requires room { let f = program_of whole.now.flat in
-        vec_len updates.old + length (updates_of f whole.now.split
-        (server_turn f whole.now.split (packet_of arrival.now) instruction (register_reads f values.old)
-        store.old).changes) ≤ vec_capacity updates.old }
+        HasRoomFor f whole.now.split (packet_of arrival.now) instruction (is_turn f whole.now.split instruction)
+        values.old store.old (vec_len updates.old) (vec_capacity updates.old) }
     ensures turn { let f = program_of whole.now.flat in
-        HasTurned f whole.now.split
-        (server_turn f whole.now.split (packet_of arrival.now) instruction (register_reads f values.old) store.old)
-        (register_reads f values.new) store.new updates.old.items updates.new.items }
-    ensures count { length values.new ≡ length values.old }
+        HasTurned f whole.now.split (packet_of arrival.now) instruction (is_turn f whole.now.split instruction)
+        values.old store.old values.new store.new updates.old.items updates.new.items }
     ensures room { vec_capacity updates.old ≤ vec_capacity updates.new }
     ensures evaluated { result
         ≡ (if is_evaluated (program_of whole.now.flat) whole.now.split instruction then 1 else 0) }

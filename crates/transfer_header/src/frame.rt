@@ -57,7 +57,8 @@ pub fn pack_up(
         → IfOk result (λ made. made ≡ up_frame layout.now number port reads packet.now) }
 {
     let room = FrameRoom::new(alloc, layout, packet.len())?;
-    Ok(pack(room, UP, layout, number, port, values, packet))
+    let frame = pack(room, UP, layout, number, port, values, packet);
+    Ok(Bytes::from(frame))
 }
 
 /// The frame that comes down from the server with a packet: as `pack_up`, with a byte 2 in front.
@@ -78,10 +79,12 @@ pub fn pack_down(
         → IfOk result (λ made. made ≡ down_frame layout.now number port reads packet.now) }
 {
     let room = FrameRoom::new(alloc, layout, packet.len())?;
-    Ok(pack_down_in(room, layout, number, port, values, packet))
+    let frame = pack_down_in(room, layout, number, port, values, packet);
+    Ok(Bytes::from(frame))
 }
 
-/// The frame that comes down with a packet, as `pack_down`, in memory that was taken before. This takes no memory.
+/// The bytes of the frame that comes down with a packet, as `pack_down`, in memory that was taken before. This takes no
+/// memory. The packet's bytes are the last ones, and may still be changed there.
 pub fn pack_down_in(
     room: FrameRoom,
     layout: &Layout,
@@ -89,15 +92,15 @@ pub fn pack_down_in(
     port: u8,
     values: &Regs,
     packet: &[u8],
-) -> Bytes
+) -> Vec<u8>
     requires fits { FitsLayout layout.now values.now }
     requires enough { HasRoom layout.now (length packet.now) room }
     requires short { length packet.now ≤ largest_packet }
-    ensures bytes { result ≡ frame_of 2 layout.now number port (value_in values.now) packet.now }
+    ensures bytes { result.items ≡ frame_of 2 layout.now number port (value_in values.now) packet.now }
     ensures frame { AreNarrow layout.now (value_in values.now)
-        → IsFrameOf 2 layout.now number port (value_in values.now) packet.now result }
+        → IsFrameOf 2 layout.now number port (value_in values.now) packet.now result.items }
     ensures reading { (reads : Reading) → Holds layout.now values.now reads
-        → result ≡ down_frame layout.now number port reads packet.now }
+        → result.items ≡ down_frame layout.now number port reads packet.now }
 {
     pack(room, DOWN, layout, number, port, values, packet)
 }
@@ -137,17 +140,17 @@ fn pack(
     port: u8,
     values: &Regs,
     packet: &[u8],
-) -> Bytes
+) -> Vec<u8>
     requires fits { FitsLayout layout.now values.now }
     requires enough { HasRoom layout.now (length packet.now) room }
-    ensures { result ≡ frame_of kind layout.now number port (value_in values.now) packet.now }
+    ensures { result.items ≡ frame_of kind layout.now number port (value_in values.now) packet.now }
 {
     let [first, second, third, fourth] = number.to_be_bytes();
     let mut frame = room.into_bytes();
     append(&mut frame, &[kind, first, second, third, fourth, port]);
     let mut frame = pack_values(frame, layout, values);
     append(&mut frame, packet);
-    Bytes::from(frame)
+    frame
 }
 
 // Puts bytes behind others, in memory that was taken before.

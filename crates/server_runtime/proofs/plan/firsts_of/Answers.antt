@@ -3,7 +3,7 @@ use Rattle.std.proofs.lemmas.List.{length_push}
 use Rattle.flat_ir.specs.Program.{program_of, result_count, work_of, Step}
 use Rattle.split_model.specs.Layouts.{values_below}
 use Rattle.server_runtime.proofs.Numbers.{below_more, count_at, each_more}
-use Rattle.server_runtime.proofs.Steps.{step_is}
+use Rattle.server_runtime.proofs.Steps.{code_length, step_is}
 use Rattle.server_runtime.proofs.plan.firsts_of.Goals as goal
 
 pub loop-instr-preserved : goal.loop-instr-preserved
@@ -24,3 +24,9 @@ loop-instr-preserved c =
       next = ap (λ k. k + c.result_count-next.result) now.next ∙ below_more f n c.result_count-next.result count;
       low = omega (arith, now.low, c.result_count-next.ensures.few);
     }
+
+pub returns-clause-few : goal.returns-clause-few
+returns-clause-few c =
+    let f = program_of c.args.f.now in
+    let end : c.loop-instr.instr-index ≡ length f.code = omega (arith, c.loop-instr.auto.instr-index-end, c.loop-instr-test.false, ap length c.as_slice-instr-items.ensures, code_length c.args.f.now) in
+    omega (arith, c.loop-instr.invariant.next, c.loop-instr.invariant.low, ap (λ n. length (values_below f n)) end, end, c.requires, code_length c.args.f.now)

@@ -1,29 +1,15 @@
-use Rattle.std.proofs.Common.{◌≡◌, ◌<◌, ◌+◌, ◌∷◌, [], length, get_or, ap, ◌∙◌, arith}
-use Rattle.std.proofs.lemmas.List.{get_or-set_other, get_or-set_same}
+use Rattle.std.proofs.Common.{◌≡◌, ◌+◌, length, sym, ◌∙◌, subst, arith}
 use Rattle.flat_ir.specs.Program.{program_of}
-use Rattle.server_runtime.proofs.Numbers.{below_all}
-use Rattle.server_runtime.proofs.Readings.{all_set}
-use Rattle.server_runtime.proofs.Steps.{code_length}
+use Rattle.split_model.specs.Layouts.{values_below}
+use Rattle.transfer_header.specs.Registers.{HasRegister}
+use Rattle.server_runtime.proofs.Rows.{row_of_one}
 use Rattle.server_runtime.proofs.registers.set_number.Goals as goal
 
 pub set-requires : goal.set-requires
 set-requires c =
-    omega (arith, c.first.ensures, c.requires.all, c.requires.count, below_all (program_of c.args.whole.now.flat) c.args.instruction (omega (arith, c.requires.within, code_length c.args.whole.now.flat)))
+    let at : length (values_below (program_of c.args.whole.now.flat) c.args.instruction) + 0 ≡ c.first.result = omega (arith, c.first.ensures) in
+    subst (HasRegister c.args.values.now) at (c.requires.has 0 (omega (arith, c.requires.count)))
 
-pub returns-clause-values : goal.returns-clause-values
-returns-clause-values c =
-    let old = c.args.values.now in
-    let first = c.first.result in
-    let number = c.args.number in
-    let inside : c.args.instruction < length (program_of c.args.whole.now.flat).code = omega (arith, c.requires.within, code_length c.args.whole.now.flat) in
-    let within : first < length old =
-    omega (arith, c.first.ensures, c.requires.all, c.requires.count, below_all (program_of c.args.whole.now.flat) c.args.instruction inside)
-    in
-    all_set (program_of c.args.whole.now.flat) c.args.instruction first (number ∷ []) old c.set.new.self inside c.first.ensures (omega (arith, c.requires.count))
-    (record {
-      below = λ n lt. ap (λ l. get_or l n 0) c.set.ensures ∙ get_or-set_other old first n number 0 (λ e. omega (arith, e, lt));
-      given = λ k lt.
-          let e : k ≡ 0 = omega (arith, lt) in
-          rw e (let at : first + 0 ≡ first = omega arith in rw at (ap (λ l. get_or l first 0) c.set.ensures ∙ get_or-set_same old first number 0 within));
-      above = λ n le. ap (λ l. get_or l n 0) c.set.ensures ∙ get_or-set_other old first n number 0 (λ e. omega (arith, e, le));
-    })
+pub returns : goal.returns
+returns c =
+    c.set.ensures.all ∙ row_of_one (program_of c.args.whole.now.flat) c.args.instruction c.args.values.now c.first.result c.args.number c.first.ensures c.requires.count

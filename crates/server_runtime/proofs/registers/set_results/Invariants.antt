@@ -1,11 +1,12 @@
-use Rattle.std.proofs.Common.{◌≡◌, ◌≤◌, ◌<◌, ◌+◌, ℕ, length, get_or}
+use Rattle.std.proofs.Common.{◌≡◌, ℕ}
+use Rattle.flat_ir.specs.Program.{program_of}
 use Rattle.flat_ir.specs.Registers.{results_of}
+use Rattle.transfer_header.specs.Registers.{place_of}
+use Rattle.server_runtime.proofs.Rows.{row_part}
 use Rattle.server_runtime.proofs.registers.set_results.Given as goal
 
 abbrev pub invariant-loop-place : goal.invariant-loop-place
 invariant-loop-place l = record {
-  count : length l.values ≡ length l.initial.values;
-  below : (n : ℕ) → n < l.first → get_or l.values n 0 ≡ get_or l.initial.values n 0;
-  given : (k : ℕ) → k < l.place → get_or l.values (l.first + k) 0 ≡ get_or (results_of l.results) k 0;
-  above : (n : ℕ) → l.first + l.place ≤ n → get_or l.values n 0 ≡ get_or l.initial.values n 0;
+  written : l.values ≡ row_part (program_of l.whole.flat) l.instruction l.initial.values (results_of l.results) l.place;
+  places : (value : ℕ) → place_of l.values value ≡ place_of l.initial.values value;
 }

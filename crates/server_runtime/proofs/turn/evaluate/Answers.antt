@@ -16,7 +16,7 @@ pub what_fits_can_run-requires : goal.what_fits_can_run-requires
 what_fits_can_run-requires c =
     let flat = c.args.whole.now.flat in
     subst (λ (s : Step). IsTrue (fits (program_of flat) s.work)) (sym c.requires.instr)
-    (c.requires.prepared.bounded.formed.fit c.args.instruction (omega (arith, c.requires.within, code_length flat)))
+    (c.requires.at.prepared.bounded.formed.fit c.args.instruction (omega (arith, c.requires.at.within, code_length flat)))
 
 pub look_up-requires-clause-few : goal.look_up-requires-clause-few
 look_up-requires-clause-few c =
@@ -30,7 +30,7 @@ look_up-requires-clause-count c =
     let reads = register_reads f c.args.values.now in
     let st = c.args.store.now in
     let object = c.in-Look.object in
-    let fit = subst (λ (s : Step). IsTrue (fits f s.work)) (sym c.requires.instr) (c.requires.prepared.bounded.formed.fit c.args.instruction (omega (arith, c.requires.within, code_length flat))) in
+    let fit = subst (λ (s : Step). IsTrue (fits f s.work)) (sym c.requires.instr) (c.requires.at.prepared.bounded.formed.fit c.args.instruction (omega (arith, c.requires.at.within, code_length flat))) in
     ap (λ (ks : List ValueId). length (looked st object (map reads ks))) c.deref.ensures.value
     ∙ results_count f reads true st (packet_of c.args.arrival.now) (look_work object c.in-Look.keys.items) c.requires.kept (subst (λ (k : InstrKind). IsTrue (fits f (work_of k))) c.in-Look.is fit)
     ∙ ap (λ (k : InstrKind). result_count flat.objects (work_of k)) (sym c.in-Look.is)

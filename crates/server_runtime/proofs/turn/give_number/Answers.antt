@@ -2,7 +2,6 @@ use Rattle.std.proofs.Common.{◌≤◌, length, sym, ap, ◌∙◌, subst, arit
 use Rattle.flat_ir.specs.Fits.{fits}
 use Rattle.flat_ir.specs.Program.{program_of, result_count, step_of, Step}
 use Rattle.flat_ir.specs.Registers.{packet_of}
-use Rattle.server_runtime.specs.Registers.{register_reads}
 use Rattle.server_runtime.proofs.Results.{one_result}
 use Rattle.server_runtime.proofs.Steps.{code_length}
 use Rattle.server_runtime.proofs.Turned.{number_turned, room_for}
@@ -12,13 +11,13 @@ pub compute_number-number-requires-clause-fits : goal.compute_number-number-requ
 compute_number-number-requires-clause-fits c =
     let flat = c.args.whole.now.flat in
     subst (λ (s : Step). IsTrue (fits (program_of flat) s.work)) (sym c.requires.instr)
-    (c.requires.prepared.bounded.formed.fit c.args.instruction (omega (arith, c.requires.within, code_length flat)))
+    (c.requires.at.prepared.bounded.formed.fit c.args.instruction (omega (arith, c.requires.at.within, code_length flat)))
 
 pub compute_number-number-requires-clause-there : goal.compute_number-number-requires-clause-there
 compute_number-number-requires-clause-there c =
     let flat = c.args.whole.now.flat in
     subst (λ (s : Step). s.block ≤ length flat.blocks) (sym c.requires.instr)
-    (c.requires.prepared.bounded.formed.blocks c.args.instruction (omega (arith, c.requires.within, code_length flat)))
+    (c.requires.at.prepared.bounded.formed.blocks c.args.instruction (omega (arith, c.requires.at.within, code_length flat)))
 
 pub tell-requires-clause-room : goal.tell-requires-clause-room
 tell-requires-clause-room c =
@@ -26,7 +25,7 @@ tell-requires-clause-room c =
     omega (
       arith,
       c.requires.room,
-      ap length (room_for f c.args.whole.now.split (packet_of c.args.arrival.now) c.args.instruction (register_reads f c.args.values.now) c.args.store.now
+      ap length (room_for f c.args.whole.now.split (packet_of c.args.arrival.now) c.args.instruction c.args.values.now c.args.store.now
           (step_of c.args.instr.now) c.compute_number-number.result c.requires.instr c.compute_number-number.ensures.number),
     )
 
@@ -38,6 +37,6 @@ set_number-requires-clause-count c =
 pub returns-clause-turn : goal.returns-clause-turn
 returns-clause-turn c =
     let f = program_of c.args.whole.now.flat in
-    number_turned f c.args.whole.now.split (packet_of c.args.arrival.now) c.args.instruction (register_reads f c.args.values.now) c.args.store.now
-    (step_of c.args.instr.now) c.compute_number-number.result (register_reads f c.set_number.new.values) c.compute_number-number.new.store c.args.updates.now.items c.tell.new.updates.items
-    c.requires.instr c.compute_number-number.ensures.number c.compute_number-number.ensures.after c.set_number.ensures.values c.tell.ensures.told
+    number_turned f c.args.whole.now.split (packet_of c.args.arrival.now) c.args.instruction c.args.values.now c.args.store.now
+    (step_of c.args.instr.now) c.compute_number-number.result c.set_number.new.values c.compute_number-number.new.store c.args.updates.now.items c.tell.new.updates.items
+    c.requires.instr c.compute_number-number.ensures.number c.compute_number-number.ensures.after c.set_number.ensures c.tell.ensures.told

@@ -7,4 +7,4 @@ use Rattle.transfer_header.proofs.frame.pack_up.Goals as goal
 pub returns-clause-reading : goal.returns-clause-reading
 returns-clause-reading c reads holds =
     let a = c.args in
-    c.pack.ensures ∙ frames_of_same 1 a.layout.now a.number a.port (value_in a.values.now) (value_by reads) a.packet.now holds
+    c.from.ensures ∙ c.pack-frame.ensures ∙ frames_of_same 1 a.layout.now a.number a.port (value_in a.values.now) (value_by reads) a.packet.now holds

@@ -1,0 +1,296 @@
+//! Registers for a server's run: as few as its values need at once.
+ghost use Rattle.std.specs.Prelude.{◌≡◌, ◌+◌, ◌<◌, ◌≤◌, ◌++◌, ◌^◌, [], ℕ, suc, length, map, max, slice_index};
+ghost use Rattle.std.specs.Prelude.{All, IfOk, OnOk, IsTrue, if◌then◌else◌};
+ghost use Rattle.std.specs.List.{AllByRecursion as Each};
+ghost use Rattle.flat_ir.specs.Blocks.{line};
+ghost use Rattle.flat_ir.specs.Kinds.{is_write};
+ghost use Rattle.flat_ir.specs.Program.{is_named, operands, program_of, work_of};
+ghost use Rattle.split_model.specs.Layouts.{values_of};
+ghost use Rattle.split_model.specs.Passes.{server_fields};
+ghost use Rattle.transfer_header.specs.Steps.{is_among};
+ghost use Rattle.server_runtime.specs.Plans.{IsPrepared};
+ghost use Rattle.server_runtime.specs.Registers.{AreServing};
+ghost use Rattle.server_runtime.specs.Spans.{conditions_of, last_read, numbers_of, reads_at};
+ghost use Rattle.server_runtime.specs.Spans.{server_spans, values_at, values_kept, values_read, writes_at};
+
+use crate::laws::a_server_run_goes_by_steps;
+use crate::plan::SplitProgram;
+use crate::turn::is_mine;
+use flat_ir::{Instr, InstrKind, RegPlan, Span, Spans, ValueId, lines_of_blocks};
+use gal_io::NoMemory;
+use split_model::Layout;
+use std::alloc::Global;
+use transfer_header::{Regs, a_plan_keeps_apart, values_have_their_numbers};
+
+// Puts the numbers of some values last.
+fn push_numbers(
+    whole: &SplitProgram,
+    values: &[ValueId],
+    numbers: &mut Vec<u32>,
+) -> Result<(), NoMemory>
+    requires prepared { IsPrepared whole.now }
+    requires named { Each (λ v. IsTrue (is_named (program_of whole.now.flat) v)) values.now }
+    ensures { OnOk result (
+        numbers.new.items ≡ numbers.old.items ++ numbers_of (program_of whole.now.flat) values.now) }
+{
+    for value in values {
+        numbers.push(whole.number_of(*value))?;
+    }
+    Ok(())
+}
+
+// Puts the numbers of the conditions of a block and of those above it last.
+fn push_conditions(whole: &SplitProgram, block: u32, numbers: &mut Vec<u32>) -> Result<(), NoMemory>
+    requires prepared { IsPrepared whole.now }
+    requires there { block ≤ length whole.now.flat.blocks }
+    ensures { let f = program_of whole.now.flat in
+        OnOk result (
+        numbers.new.items ≡ numbers.old.items ++ numbers_of f (conditions_of f (line f.blocks block))) }
+{
+    lines_of_blocks();
+    let mut number = block;
+    while number > 0 {
+        let at = whole.flat.blocks.as_slice()[number as usize - 1];
+        numbers.push(whole.number_of(at.cond))?;
+        number = at.parent;
+    }
+    Ok(())
+}
+
+// Puts the numbers of an instruction's operands last.
+fn push_operands(
+    whole: &SplitProgram,
+    kind: &InstrKind,
+    numbers: &mut Vec<u32>,
+) -> Result<(), NoMemory>
+    requires prepared { IsPrepared whole.now }
+    requires named { Each (λ v. IsTrue (is_named (program_of whole.now.flat) v)) (operands (work_of kind.now)) }
+    ensures { OnOk result (numbers.new.items
+        ≡ numbers.old.items ++ numbers_of (program_of whole.now.flat) (operands (work_of kind.now))) }
+{
+    match kind {
+        InstrKind::Const(..) | InstrKind::Field(_) => Ok(()),
+        InstrKind::Apply { args, .. } => push_numbers(whole, args, numbers),
+        InstrKind::Shift { arg, .. } => push_numbers(whole, &[*arg], numbers),
+        InstrKind::Select {
+            cond,
+            first,
+            second,
+            ..
+        } => push_numbers(whole, &[*cond, *first, *second], numbers),
+        InstrKind::Byte(index) => push_numbers(whole, &[*index], numbers),
+        InstrKind::Look { keys, .. } => push_numbers(whole, keys, numbers),
+        InstrKind::Del { keys, .. } => push_numbers(whole, keys, numbers),
+        InstrKind::Put { keys, values, .. } => {
+            push_numbers(whole, keys, numbers)?;
+            push_numbers(whole, values, numbers)
+        }
+    }
+}
+
+// Puts the numbers of the conditions last that decide whether a write takes effect.
+fn push_guards(whole: &SplitProgram, instr: &Instr, numbers: &mut Vec<u32>) -> Result<(), NoMemory>
+    requires prepared { IsPrepared whole.now }
+    requires there { instr.now.block ≤ length whole.now.flat.blocks }
+    ensures { let f = program_of whole.now.flat in
+        OnOk result (numbers.new.items ≡ numbers.old.items
+        ++ numbers_of f (if is_write (work_of instr.now.kind) then conditions_of f (line f.blocks instr.now.block)
+        else [])) }
+{
+    if !instr.kind.is_write() {
+        return Ok(());
+    }
+    push_conditions(whole, instr.block, numbers)
+}
+
+// The numbers of the values that instruction `i` reads.
+#[tactic(auto, using(crate::proofs::Listed::read_numbers))]
+fn numbers_read(alloc: Global, whole: &SplitProgram, i: usize) -> Result<Vec<u32>, NoMemory>
+    requires prepared { IsPrepared whole.now }
+    requires within { i < length whole.now.flat.code }
+    ensures { let f = program_of whole.now.flat in
+        IfOk result (λ numbers. numbers.items ≡ numbers_of f (values_read f i)) }
+{
+    let instr = &whole.flat.code.as_slice()[i];
+    let mut numbers = Vec::new(alloc);
+    push_operands(whole, &instr.kind, &mut numbers)?;
+    push_guards(whole, instr, &mut numbers)?;
+    Ok(numbers)
+}
+
+// Puts the numbers of a layout's values last.
+fn push_layout(layout: &Layout, numbers: &mut Vec<u32>) -> Result<(), NoMemory>
+    ensures { OnOk result (numbers.new.items ≡ numbers.old.items ++ map (λ c. c.number) layout.now) }
+{
+    for crossing in layout.as_slice() {
+        numbers.push(crossing.number)?;
+    }
+    Ok(())
+}
+
+// Puts the numbers of the values last that the server sets fields to.
+fn push_written(whole: &SplitProgram, numbers: &mut Vec<u32>) -> Result<(), NoMemory>
+    requires prepared { IsPrepared whole.now }
+    ensures { let f = program_of whole.now.flat in
+        OnOk result (numbers.new.items
+        ≡ numbers.old.items ++ numbers_of f (map (λ w. w.value) (server_fields f whole.now.split))) }
+{
+    for written in &whole.fields {
+        numbers.push(whole.number_of(written.value))?;
+    }
+    Ok(())
+}
+
+// The numbers of the values that are read once all instructions are done.
+#[tactic(auto, using(crate::proofs::Listed::kept_numbers))]
+fn numbers_kept(alloc: Global, whole: &SplitProgram) -> Result<Vec<u32>, NoMemory>
+    requires prepared { IsPrepared whole.now }
+    ensures { let f = program_of whole.now.flat in
+        IfOk result (λ numbers. numbers.items ≡ numbers_of f (values_kept f whole.now.split)) }
+{
+    let mut numbers = Vec::new(alloc);
+    push_layout(&whole.down, &mut numbers)?;
+    push_written(whole, &mut numbers)?;
+    Ok(numbers)
+}
+
+// Notes that a step reads some values.
+fn note(numbers: &[u32], step: u32, last: &mut Vec<u32>)
+    requires within { All (λ n. n < length last.old.items) numbers.now }
+    ensures last { (n : ℕ) → n < length last.old.items → slice_index last.new.items n
+        ≡ (if is_among n numbers.now then step else slice_index last.old.items n) }
+    ensures count { length last.new.items ≡ length last.old.items }
+{
+    for number in numbers {
+        last[*number as usize] = step;
+    }
+}
+
+// Notes what instruction `i` reads, where the server evaluates it.
+fn note_turn(
+    alloc: Global,
+    whole: &SplitProgram,
+    i: usize,
+    last: &mut Vec<u32>,
+) -> Result<(), NoMemory>
+    requires prepared { IsPrepared whole.now }
+    requires within { i < length whole.now.flat.code }
+    requires count { length last.old.items ≡ length (values_of (program_of whole.now.flat)) }
+    ensures last { OnOk result ((n : ℕ) → n < length last.old.items → slice_index last.new.items n
+        ≡ (if reads_at (program_of whole.now.flat) whole.now.split (suc i) n then suc i
+        else slice_index last.old.items n)) }
+    ensures count { length last.new.items ≡ length last.old.items }
+{
+    if !is_mine(whole, i, &whole.flat.code.as_slice()[i].kind) {
+        return Ok(());
+    }
+    values_have_their_numbers();
+    let numbers = numbers_read(alloc, whole, i)?;
+    note(&numbers, i as u32 + 1, last);
+    Ok(())
+}
+
+// The step that reads each value last, 0 where none does.
+fn last_reads(alloc: Global, whole: &SplitProgram) -> Result<Vec<u32>, NoMemory>
+    requires { IsPrepared whole.now }
+    ensures last { let f = program_of whole.now.flat in
+        IfOk result (λ last. (n : ℕ) → n < length (values_of f)
+        → slice_index last.items n ≡ last_read f whole.now.split n) }
+    ensures count { IfOk result (λ last. length last.items ≡ length (values_of (program_of whole.now.flat))) }
+{
+    values_have_their_numbers();
+    let count = whole.flat.code.len();
+    let mut last = vec![in alloc; 0u32; whole.first(count) as usize]?;
+    for i in 0..count {
+        note_turn(alloc, whole, i, &mut last)?;
+    }
+    let numbers = numbers_kept(alloc, whole)?;
+    note(&numbers, count as u32 + 1, &mut last);
+    Ok(last)
+}
+
+// The numbers of the values that are handed up.
+#[tactic(auto, using(crate::proofs::Listed::crossing_numbers))]
+fn numbers_handed(alloc: Global, whole: &SplitProgram) -> Result<Vec<u32>, NoMemory>
+    requires { IsPrepared whole.now }
+    ensures { IfOk result (λ numbers.
+        numbers.items ≡ writes_at (program_of whole.now.flat) whole.now.split 0) }
+{
+    let mut numbers = Vec::new(alloc);
+    push_layout(&whole.up, &mut numbers)?;
+    Ok(numbers)
+}
+
+// The numbers of the values of instruction `i`.
+fn numbers_at(alloc: Global, whole: &SplitProgram, i: usize) -> Result<Vec<u32>, NoMemory>
+    requires prepared { IsPrepared whole.now }
+    requires within { i < length whole.now.flat.code }
+    ensures { let f = program_of whole.now.flat in
+        IfOk result (λ numbers. numbers.items ≡ numbers_of f (values_at f i)) }
+{
+    let first = whole.first(i);
+    let count = whole.first(i + 1) - first;
+    let mut numbers = Vec::new(alloc);
+    for place in 0..count {
+        numbers.push(first + place)?;
+    }
+    Ok(numbers)
+}
+
+// The numbers of the values of instruction `i`, where the server evaluates it.
+fn numbers_written(alloc: Global, whole: &SplitProgram, i: usize) -> Result<Vec<u32>, NoMemory>
+    requires prepared { IsPrepared whole.now }
+    requires within { i < length whole.now.flat.code }
+    ensures { IfOk result (λ numbers.
+        numbers.items ≡ writes_at (program_of whole.now.flat) whole.now.split (suc i)) }
+{
+    if !is_mine(whole, i, &whole.flat.code.as_slice()[i].kind) {
+        return Ok(Vec::new(alloc));
+    }
+    numbers_at(alloc, whole, i)
+}
+
+// Puts the spans of values last that are written at a step.
+fn push_spans(spans: &mut Spans, from: u32, numbers: &[u32], last: &[u32]) -> Result<(), NoMemory>
+    requires { All (λ n. n < length last.now) numbers.now }
+    ensures { OnOk result (spans.new ≡ spans.old
+        ++ map (λ n. record { value = n; from = from; to = max from (slice_index last.now n) }) numbers.now) }
+{
+    for number in numbers {
+        spans.push(Span {
+            value: *number,
+            from,
+            to: from.max(last[*number as usize]),
+        })?;
+    }
+    Ok(())
+}
+
+// The spans of the values of a run.
+fn spans_of(alloc: Global, whole: &SplitProgram) -> Result<Spans, NoMemory>
+    requires { IsPrepared whole.now }
+    ensures { IfOk result (λ spans. spans ≡ server_spans (program_of whole.now.flat) whole.now.split) }
+{
+    values_have_their_numbers();
+    let last = last_reads(alloc, whole)?;
+    let mut spans = Spans::new(alloc);
+    let handed = numbers_handed(alloc, whole)?;
+    push_spans(&mut spans, 0, &handed, &last)?;
+    for i in 0..whole.flat.code.len() {
+        let numbers = numbers_written(alloc, whole, i)?;
+        push_spans(&mut spans, i as u32 + 1, &numbers, &last)?;
+    }
+    Ok(spans)
+}
+
+/// Registers in which the values of a run are computed, with a zero in each.
+pub(crate) fn registers_of(alloc: Global, whole: &SplitProgram) -> Result<Regs, NoMemory>
+    requires { IsPrepared whole.now }
+    ensures { IfOk result (λ values. AreServing (program_of whole.now.flat) whole.now.split values) }
+{
+    a_plan_keeps_apart();
+    a_server_run_goes_by_steps();
+    let spans = spans_of(alloc, whole)?;
+    let plan = RegPlan::of(alloc, &spans)?;
+    Regs::planned(alloc, plan)
+}
