@@ -16,7 +16,7 @@ use Rattle.split_model.specs.Layouts.{crossing, values_of}
 use Rattle.transfer_header.specs.declared.frame.Head.{Head}
 use Rattle.transfer_header.specs.Bits.{bits_of, bits_in, bytes_for, number_from, packed}
 use Rattle.transfer_header.specs.Values.{total, value_bits, low_bits, AreNarrow}
-use Rattle.transfer_header.specs.Registers.{value_in}
+use Rattle.transfer_header.specs.Registers.{Registers, value_in}
 use Rattle.transfer_header.specs.Frames.{frame_of, IsFrameOf, IsUnpacked}
 use Rattle.transfer_header.specs.Told.{port_in, value_among, reads_in, IsToldByPlace, AreToldByPlace}
 use Rattle.transfer_header.proofs.BitLists.{length-bits_of, bits_of-low, bits_of-add, number_from-bits_of, bits_in-nil, bits_in-cons, bits_in-append, bits_in-packed}
@@ -70,7 +70,7 @@ told_by_place kind layout number port values packet frame is =
       carries = ap (λ p. P p (drop (6 + bytes_for (total layout)) frame)) there ∙ ap (P port) behind;
     }
 
-pub unpacked_by_place : (kind : ℕ) (layout : List Crossing) (frame before after : List ℕ) (head : Head) → IsUnpacked kind layout frame before after head → IsToldByPlace layout head.number head.port (drop head.packet_at frame) frame
+pub unpacked_by_place : (kind : ℕ) (layout : List Crossing) (frame : List ℕ) (before after : Registers) (head : Head) → IsUnpacked kind layout frame before after head → IsToldByPlace layout head.number head.port (drop head.packet_at frame) frame
 unpacked_by_place kind layout frame before after head is = told_by_place kind layout head.number head.port (value_in after) (drop head.packet_at frame) frame is.is
 
 -- ---- the values

@@ -1,5 +1,5 @@
 -- Laws of the values of a layout.
-use Rattle.std.proofs.Common.{◌≡◌, ◌≢◌, ℕ, zero, suc, ◌+◌, ◌*◌, ◌^◌, ◌<◌, ◌≤◌, List, [], ◌∷◌, ◌++◌, get_or, set, length, take, drop, refl, sym, ap, ◌∙◌, subst, arith, length-append, length-take, get_or-take, append_assoc, get_or-set_same, get_or-set_other, length-set, mod-eq_of_lt}
+use Rattle.std.proofs.Common.{◌≡◌, ◌≢◌, ℕ, ◌+◌, ◌*◌, ◌^◌, ◌<◌, ◌≤◌, List, [], ◌∷◌, ◌++◌, get_or, length, take, drop, Option, refl, sym, ap, ◌∙◌, subst, arith, length-append, length-take, get_or-take, append_assoc, mod-eq_of_lt}
 use Rattle.std.proofs.Math.Nat.{min-eq_left}
 use Rattle.std.proofs.Math.Seq.{take-add}
 use Rattle.std.proofs.lemmas.List.{append-nil, get_or_read, take_more, take_at, drop_at, take-append-drop}
@@ -8,7 +8,8 @@ use Rattle.std.specs.List.{All, AllPairs}
 use Rattle.split_model.specs.declared.layout.Crossing.{Crossing}
 use Rattle.transfer_header.specs.Bits.{bits_of, number_from, bits_in, bytes_for}
 use Rattle.transfer_header.specs.Values.{total, value_bits, AreNarrow, Agree}
-use Rattle.transfer_header.specs.Registers.{value_in, ChangesOnly}
+use Rattle.flat_ir.specs.Plan.{Plan}
+use Rattle.transfer_header.specs.Registers.{Registers, place_by, place_of, content_of, HasRegister, value_in, ChangesOnly}
 use Rattle.transfer_header.proofs.BitLists.{AreBits, are_bits_of, length-bits_of, length-bits_in, number_from-bits_of}
 
 -- ---- how many bits they have
@@ -61,7 +62,7 @@ value_bits-more layout i c values within is =
     ∙ ap (λ (q : Crossing). value_bits (take i layout) values ++ bits_of q.width (values q)) (sym is)
 
 -- one value more is packed, behind other bits
-pub more_packed : (layout : List Crossing) (registers front before after : List ℕ) (i width number : ℕ) (c : Crossing) → i < length layout → c ≡ get_or layout i c → width ≡ c.width → number ≡ value_in registers c
+pub more_packed : (layout : List Crossing) (registers : Registers) (front before after : List ℕ) (i width number : ℕ) (c : Crossing) → i < length layout → c ≡ get_or layout i c → width ≡ c.width → number ≡ value_in registers c
     → before ≡ front ++ value_bits (take i layout) (value_in registers) → after ≡ before ++ bits_of width number → after ≡ front ++ value_bits (take (i + 1) layout) (value_in registers)
 more_packed layout registers front before after i width number c within is wide read so_far put =
     let values : Crossing → ℕ = value_in registers in
@@ -94,83 +95,92 @@ agree_by_bits (c ∷ cs) values others fits fits' same =
     All-cons (λ (q : Crossing). values q ≡ others q) c cs number
     (agree_by_bits cs values others (All-tail (λ (q : Crossing). values q < 2 ^ q.width) c cs fits) (All-tail (λ (q : Crossing). others q < 2 ^ q.width) c cs fits') rest)
 
--- ---- numbers that rise
-abbrev pub IsRising : List Crossing → Type 0
-IsRising layout = AllPairs (λ (a b : Crossing). a.number < b.number) layout
-
-index_below : (layout : List Crossing) → IsRising layout → (i : ℕ) (d : Crossing) → i < length layout → i ≤ (get_or layout i d).number
-index_below layout rising zero d within = omega arith
-index_below layout rising (suc i) d within = omega (arith, index_below layout rising i d (omega arith), rising i (suc i) d (omega arith) within)
-
--- there are at most as many of them as numbers
-pub length_rising : (layout : List Crossing) (count : ℕ) → IsRising layout → All (λ (c : Crossing). c.number < count) layout → length layout ≤ count
-length_rising [] count rising among = omega arith
-length_rising (c ∷ cs) count rising among =
-    omega (arith, index_below (c ∷ cs) rising (length cs) c (omega arith), among (length cs) c (omega arith))
-
 -- ---- a register that is written
+-- what a call that gives a value a number says
+pub record IsSet (before after : Registers) (value to : ℕ) : Type 0 where
+  pub plan : after.plan ≡ before.plan
+  pub count : length after.numbers ≡ length before.numbers
+  pub number : content_of after value ≡ to
+  pub others : (other : ℕ) → place_of before value ≢ place_of before other → content_of after other ≡ content_of before other
+
+-- places hang on the plan and on how many numbers there are
+pub same_places : (before after : Registers) → after.plan ≡ before.plan → length after.numbers ≡ length before.numbers → (value : ℕ) → place_of after value ≡ place_of before value
+same_places before after plan count value =
+    ap (λ (p : Option Plan). place_by p (length after.numbers) value) plan ∙ ap (λ n. place_by before.plan n value) count
+
+abbrev pub AreApartIn : Registers → List Crossing → Type 0
+AreApartIn registers layout = AllPairs (λ (a b : Crossing). place_of registers a.number ≢ place_of registers b.number) layout
+
+pub still_apart_in : (before after : Registers) (layout : List Crossing) → ((value : ℕ) → place_of after value ≡ place_of before value) → AreApartIn before layout → AreApartIn after layout
+still_apart_in before after layout same apart i j d order within e =
+    apart i j d order within (sym (same (get_or layout i d).number) ∙ e ∙ same (get_or layout j d).number)
+
 -- the register of a place is none of those in front of it
-front_agrees : (layout : List Crossing) (registers : List ℕ) (i : ℕ) (c : Crossing) (number : ℕ) → IsRising layout → i < length layout → c ≡ get_or layout i c
-    → Agree (take i layout) (value_in (set registers c.number number)) (value_in registers)
-front_agrees layout registers i c number rising within is k d below =
+front_agrees : (layout : List Crossing) (before after : Registers) (i : ℕ) (c : Crossing) (number : ℕ) → AreApartIn before layout → i < length layout → c ≡ get_or layout i c → IsSet before after c.number number
+    → Agree (take i layout) (value_in after) (value_in before)
+front_agrees layout before after i c number apart within is written k d below =
     let len : length (take i layout) ≡ i = length-take i layout ∙ min-eq_left (omega arith) in
     let early : k < i = omega arith in
     let here : get_or (take i layout) k d ≡ get_or layout k d = get_or-take i layout k d early in
-    let order : (get_or layout k d).number < (get_or layout i d).number = rising k i d early within in
     let own : get_or layout i d ≡ c = sym (get_or_read layout i c within is d) in
-    let other : (get_or (take i layout) k d).number ≢ c.number = omega (arith, ap (λ (q : Crossing). q.number) here, ap (λ (q : Crossing). q.number) own, order) in
-    get_or-set_other registers c.number (get_or (take i layout) k d).number number 0 other
+    written.others (get_or (take i layout) k d).number
+    (λ e. apart k i d early within
+    (ap (λ (q : Crossing). place_of before q.number) (sym here) ∙ sym e ∙ ap (λ (q : Crossing). place_of before q.number) (sym own)))
 
-pub bits_written : (layout : List Crossing) (registers header : List ℕ) (i at : ℕ) (c : Crossing) (number : ℕ) → IsRising layout → i < length layout → c ≡ get_or layout i c → c.number < length registers
-    → value_bits (take i layout) (value_in registers) ≡ take at (bits_in header) → bits_of c.width number ≡ take c.width (drop at (bits_in header))
-    → value_bits (take (i + 1) layout) (value_in (set registers c.number number)) ≡ take (at + c.width) (bits_in header)
-bits_written layout registers header i at c number rising within is among so_far read =
-    let now : Crossing → ℕ = value_in (set registers c.number number) in
+pub bits_written : (layout : List Crossing) (before after : Registers) (header : List ℕ) (i at : ℕ) (c : Crossing) (number : ℕ) → AreApartIn before layout → i < length layout → c ≡ get_or layout i c → IsSet before after c.number number
+    → value_bits (take i layout) (value_in before) ≡ take at (bits_in header) → bits_of c.width number ≡ take c.width (drop at (bits_in header))
+    → value_bits (take (i + 1) layout) (value_in after) ≡ take (at + c.width) (bits_in header)
+bits_written layout before after header i at c number apart within is written so_far read =
+    let now : Crossing → ℕ = value_in after in
     value_bits-more layout i c now within is
-    ∙ ap (λ x. x ++ bits_of c.width (now c)) (value_bits-same (take i layout) now (value_in registers) (front_agrees layout registers i c number rising within is) ∙ so_far)
-    ∙ ap (λ x. take at (bits_in header) ++ bits_of c.width x) (get_or-set_same registers c.number number 0 among)
+    ∙ ap (λ x. x ++ bits_of c.width (now c)) (value_bits-same (take i layout) now (value_in before) (front_agrees layout before after i c number apart within is written) ∙ so_far)
+    ∙ ap (λ x. take at (bits_in header) ++ bits_of c.width x) written.number
     ∙ ap (λ x. take at (bits_in header) ++ x) read
     ∙ sym (take-add at c.width (bits_in header))
 
-pub narrow_written : (layout : List Crossing) (registers : List ℕ) (i : ℕ) (c : Crossing) (number : ℕ) → IsRising layout → i < length layout → c ≡ get_or layout i c → c.number < length registers
-    → AreNarrow (take i layout) (value_in registers) → number < 2 ^ c.width → AreNarrow (take (i + 1) layout) (value_in (set registers c.number number))
-narrow_written layout registers i c number rising within is among so_far fits =
-    let now : Crossing → ℕ = value_in (set registers c.number number) in
-    let own : now c ≡ number = get_or-set_same registers c.number number 0 among in
+pub narrow_written : (layout : List Crossing) (before after : Registers) (i : ℕ) (c : Crossing) (number : ℕ) → AreApartIn before layout → i < length layout → c ≡ get_or layout i c → IsSet before after c.number number
+    → AreNarrow (take i layout) (value_in before) → number < 2 ^ c.width → AreNarrow (take (i + 1) layout) (value_in after)
+narrow_written layout before after i c number apart within is written so_far fits =
+    let now : Crossing → ℕ = value_in after in
     All-more (λ (q : Crossing). now q < 2 ^ q.width) layout i c within
-    (λ k d below. subst (λ x. x < 2 ^ (get_or (take i layout) k d).width) (sym (front_agrees layout registers i c number rising within is k d below)) (so_far k d below))
-    (subst (λ (q : Crossing). now q < 2 ^ q.width) is (subst (λ x. x < 2 ^ c.width) (sym own) fits))
+    (λ k d below. subst (λ x. x < 2 ^ (get_or (take i layout) k d).width) (sym (front_agrees layout before after i c number apart within is written k d below)) (so_far k d below))
+    (subst (λ (q : Crossing). now q < 2 ^ q.width) is (subst (λ x. x < 2 ^ c.width) (sym written.number) fits))
 
 -- a value ends within the bits of its layout
 pub value_within : (items layout : List Crossing) (i at width : ℕ) (c : Crossing) → items ≡ layout → i < length items → c ≡ get_or items i c → width ≡ c.width → at ≡ total (take i items) → at + width ≤ total layout
 value_within items layout i at width c all within is same so_far = omega (arith, total-more items i c within is, total-take items (i + 1), ap total all)
 
-pub among_at : (items layout : List Crossing) (i registers : ℕ) (c : Crossing) → items ≡ layout → i < length items → c ≡ get_or items i c → All (λ (q : Crossing). q.number < registers) layout → c.number < registers
-among_at items layout i registers c all within is among =
-    subst (λ (q : Crossing). q.number < registers) (sym is) (subst (λ (x : List Crossing). All (λ (q : Crossing). q.number < registers) x) (sym all) among i c within)
+pub has_at : (items layout : List Crossing) (i : ℕ) (registers : Registers) (c : Crossing) → items ≡ layout → i < length items → c ≡ get_or items i c → All (λ (q : Crossing). HasRegister registers q.number) layout → HasRegister registers c.number
+has_at items layout i registers c all within is among =
+    subst (λ (q : Crossing). HasRegister registers q.number) (sym is) (subst (λ (x : List Crossing). All (λ (q : Crossing). HasRegister registers q.number) x) (sym all) among i c within)
 
 -- no other register is written
-pub nothing_changed : (layout : List Crossing) (registers : List ℕ) → ChangesOnly layout registers registers
-nothing_changed layout registers = record { count = refl; others = λ n apart. refl }
+pub nothing_changed : (layout : List Crossing) (registers : Registers) → ChangesOnly layout registers registers
+nothing_changed layout registers = record { plan = refl; count = refl; others = λ n apart. refl }
 
 length_first : (layout : List Crossing) (i : ℕ) → i ≤ length layout → length (take i layout) ≡ i
 length_first layout i within = length-take i layout ∙ min-eq_left within
 
-pub one_changed : (layout : List Crossing) (before now : List ℕ) (i : ℕ) (c : Crossing) (number : ℕ) → i < length layout → c ≡ get_or layout i c
-    → ChangesOnly (take i layout) before now → ChangesOnly (take (i + 1) layout) before (set now c.number number)
-one_changed layout before now i c number within is so_far = record {
-  count = length-set now c.number number ∙ so_far.count;
-  others = λ n apart.
+pub one_changed : (layout : List Crossing) (before now after : Registers) (i : ℕ) (c : Crossing) (number : ℕ) → i < length layout → c ≡ get_or layout i c → IsSet now after c.number number
+    → ChangesOnly (take i layout) before now → ChangesOnly (take (i + 1) layout) before after
+one_changed layout before now after i c number within is written so_far = record {
+  plan = written.plan ∙ so_far.plan;
+  count = written.count ∙ so_far.count;
+  others = λ value apart.
       let last : get_or (take (i + 1) layout) i c ≡ c = get_or-take (i + 1) layout i c (omega arith) ∙ sym is in
-      let own : (get_or (take (i + 1) layout) i c).number ≢ n = apart i c (omega (arith, length_first layout (i + 1) (omega arith))) in
-      get_or-set_other now c.number n number 0 (λ e. own (ap (λ (q : Crossing). q.number) last ∙ sym e))
-      ∙ so_far.others n (λ k d below. front n apart k d below);
+      let own : place_of before (get_or (take (i + 1) layout) i c).number ≢ place_of before value = apart i c (omega (arith, length_first layout (i + 1) (omega arith))) in
+      written.others value
+      (λ e. own (ap (λ (q : Crossing). place_of before q.number) last ∙ sym (same c.number) ∙ e ∙ same value))
+      ∙ so_far.others value (λ k d below. front value apart k d below);
 }
   where
-    front : (n : ℕ) → All (λ (q : Crossing). q.number ≢ n) (take (i + 1) layout) → All (λ (q : Crossing). q.number ≢ n) (take i layout)
-    front n apart k d below =
+    same : (value : ℕ) → place_of now value ≡ place_of before value
+    same = same_places before now so_far.plan so_far.count
+
+    front : (value : ℕ) → All (λ (q : Crossing). place_of before q.number ≢ place_of before value) (take (i + 1) layout) → All (λ (q : Crossing). place_of before q.number ≢ place_of before value) (take i layout)
+    front value apart k d below =
         let early : k < i = omega (arith, length_first layout i (omega arith)) in
-        subst (λ (q : Crossing). q.number ≢ n) (get_or-take (i + 1) layout k d (omega arith) ∙ sym (get_or-take i layout k d early))
+        subst (λ (q : Crossing). place_of before q.number ≢ place_of before value) (get_or-take (i + 1) layout k d (omega arith) ∙ sym (get_or-take i layout k d early))
         (apart k d (omega (arith, length_first layout (i + 1) (omega arith))))
 
 -- memory for the bytes of a layout's values has room for the bits of each, behind whole bytes

@@ -1,7 +1,12 @@
 pub mod BitLists
 pub mod ByPlace
 mod Examples
+pub mod Elements
+pub mod Fitting
 pub mod LayoutValues
+pub mod Members
 pub mod Numbers
 pub mod Parts
+pub mod Passing
 pub mod WholeFrames
+pub mod Writes

@@ -1,7 +1,7 @@
 -- The numbers of a program's values.
 use Rattle.std.proofs.Common.{◌≡◌, ℕ, zero, suc, ◌+◌, ◌-◌, ◌<◌, Bool, true, cond, List, [], ◌∷◌, ◌++◌, get_or, length, map, refl, sym, ap, subst, ◌∙◌, inl, inr, arith, length-append}
-use Rattle.std.specs.Prelude.{Some, slice_get, IsTrue, nat_lt, not, ◌&&◌}
-use Rattle.std.specs.List.{All, AllPairs, filter}
+use Rattle.std.specs.Prelude.{Some, None, slice_get, IsTrue, nat_lt, not, ◌&&◌}
+use Rattle.std.specs.List.{All, filter}
 use Rattle.std.proofs.lemmas.Bool.{cases_lt, cond_both, and_parts, ltb-true}
 use Rattle.std.proofs.lemmas.List.{length-map, get_or_append_left, get_or-append_right, get_or-append-add, get_or_push, get_or-map}
 use Rattle.std.proofs.lemmas.List.Elements.{All-map, All-filter, All-head, All-tail, filter_passes}
@@ -15,7 +15,9 @@ use Rattle.split_model.specs.Layouts.{first_results, values_below, values_of, nu
 use Rattle.split_model.specs.Split.{is_carried, is_post}
 use Rattle.split_model.specs.Crossing.{crosses_up, crosses_down}
 use Rattle.flat_ir.specs.Kinds.{is_input}
-use Rattle.transfer_header.specs.Registers.{FitsLayout}
+use Rattle.transfer_header.specs.Registers.{Registers, IsRising, FitsLayout}
+use Rattle.transfer_header.proofs.Elements.{AllPairs-map}
+use Rattle.transfer_header.proofs.Fitting.{fits_own}
 
 abbrev count_of : Program → ℕ → ℕ
 count_of f n = result_count f.objects (step_at f n).work
@@ -83,23 +85,21 @@ value_at_number f v named =
     let there = stands f (length f.code) v.instruction v.result v range.0 range.1 in
     slice_get-get_or (values_of f) (number_of f v) v there.0 ∙ ap (λ (x : ValueId). Some x) there.1
 
-AllPairs-map : {X Y : Type 0} (R : Y → Y → Type 0) (g : X → Y) (h : Y → X) (xs : List X) → AllPairs (λ a b. R (g a) (g b)) xs → AllPairs R (map g xs)
-AllPairs-map R g h xs each i j d order within =
-    let len : length (map g xs) ≡ length xs = length-map xs g in
-    let first : get_or (map g xs) i d ≡ g (get_or xs i (h d)) = get_or-map g xs i (h d) d (omega (arith, len)) in
-    let second : get_or (map g xs) j d ≡ g (get_or xs j (h d)) = get_or-map g xs j (h d) d (omega (arith, len)) in
-    subst (λ y. R y (get_or (map g xs) j d)) (sym first) (subst (R (g (get_or xs i (h d)))) (sym second) (each i j (h d) order (omega (arith, len))))
+-- the numbers of whatever values rise
+pub crossings_rise : (f : Program) (test : ValueId → Bool) → IsRising (map (crossing f) (filter test (values_of f)))
+crossings_rise f test =
+    AllPairs-map (λ (a b : Crossing). a.number < b.number) (crossing f) (λ (c : Crossing). c.value) (filter test (values_of f))
+    (AllPairs-filter (λ v w. number_of f v < number_of f w) test (values_of f)
+    (λ i j d order within. omega (arith, number-get_or f (length f.code) i d (omega arith), number-get_or f (length f.code) j d within)))
 
 -- whatever values of a program cross, registers for all its values have theirs
-pub crossings_fit : (f : Program) (test : ValueId → Bool) (registers : List ℕ) → length registers ≡ length (values_of f) → FitsLayout (map (crossing f) (filter test (values_of f))) registers
-crossings_fit f test registers len = record {
-  rising = AllPairs-map (λ (a b : Crossing). a.number < b.number) (crossing f) (λ (c : Crossing). c.value) (filter test (values_of f))
-      (AllPairs-filter (λ v w. number_of f v < number_of f w) test (values_of f)
-      (λ i j d order within. omega (arith, number-get_or f (length f.code) i d (omega arith), number-get_or f (length f.code) j d within)));
-  among = All-map (λ (c : Crossing). c.number < length registers) (crossing f) (filter test (values_of f))
-      (All-filter test (λ v. number_of f v < length registers) (values_of f)
-      (λ k d within. omega (arith, number-get_or f (length f.code) k d within, len)));
-}
+pub crossings_fit : (f : Program) (test : ValueId → Bool) (registers : Registers) → registers.plan ≡ None → length registers.numbers ≡ length (values_of f)
+    → FitsLayout (map (crossing f) (filter test (values_of f))) registers
+crossings_fit f test registers none len =
+    fits_own (map (crossing f) (filter test (values_of f))) registers none (crossings_rise f test)
+    (All-map (λ (c : Crossing). c.number < length registers.numbers) (crossing f) (filter test (values_of f))
+    (All-filter test (λ v. number_of f v < length registers.numbers) (values_of f)
+    (λ k d within. omega (arith, number-get_or f (length f.code) k d within, len))))
 
 -- ---- what crosses, and the values of a layout
 -- what holds of each element that a filter keeps holds of each element that passes

@@ -10,7 +10,7 @@ use Rattle.split_model.specs.declared.layout.Crossing.{Crossing}
 use Rattle.transfer_header.specs.Bits.{bits_in, bytes_for, filled, packed}
 use Rattle.transfer_header.specs.Frames.{frame_of, AreSame, IsFrameOf, IsFrame, IsUnpacked, IsReadBack}
 use Rattle.transfer_header.specs.Values.{total, value_bits, Agree}
-use Rattle.transfer_header.specs.Registers.{value_in}
+use Rattle.transfer_header.specs.Registers.{Registers, value_in}
 use Rattle.transfer_header.proofs.BitLists.{AreBytes, bits_in-packed, length-cut, is_packed}
 use Rattle.transfer_header.proofs.LayoutValues.{length-value_bits, are_value_bits, value_bits-same, agree_by_bits}
 
@@ -143,7 +143,7 @@ length_range frame bits all same within =
     length-take (6 + (bits + 7) / 8 - 6) (drop 6 frame) ∙ min-eq_left (omega (arith, length-drop 6 frame)) ∙ omega arith
 
 -- ---- there and back
-pub read_back : (kind : ℕ) (layout : List Crossing) (number port : ℕ) (values : Crossing → ℕ) (packet frame before after : List ℕ) (head : Head)
+pub read_back : (kind : ℕ) (layout : List Crossing) (number port : ℕ) (values : Crossing → ℕ) (packet frame : List ℕ) (before after : Registers) (head : Head)
     → IsUnpacked kind layout frame before after head → IsFrameOf kind layout number port values packet frame → IsReadBack layout number port values packet frame after head
 read_back kind layout number port values packet frame before after head told is =
     frames_are_same kind layout head.number number head.port port (value_in after) values (drop head.packet_at frame) packet frame told.is is

@@ -7,7 +7,7 @@ use Rattle.split_model.specs.declared.layout.Crossing.{Crossing}
 use Rattle.transfer_header.specs.declared.frame.Head.{Head}
 use Rattle.transfer_header.specs.Bits.{packed, bytes_for}
 use Rattle.transfer_header.specs.Values.{total, value_bits, value_by, AreNarrow, Agree}
-use Rattle.transfer_header.specs.Registers.{value_in, ChangesOnly}
+use Rattle.transfer_header.specs.Registers.{Registers, value_in, ChangesOnly}
 
 -- the bytes of a frame: its kind, a packet's number in four bytes, a port, the values of a layout, and the packet
 abbrev pub frame_of : ℕ → List Crossing → ℕ → ℕ → (Crossing → ℕ) → List ℕ → List ℕ
@@ -47,7 +47,7 @@ pub record IsFrame (kind : ℕ) (layout : List Crossing) (frame : List ℕ) : Ty
 -- What is told of a frame is what it is the frame of: its number and port, the values, which are put into registers,
 -- and the packet, by the place of its first byte. The other registers stay.
 pub record IsUnpacked
-    (kind : ℕ) (layout : List Crossing) (frame before after : List ℕ) (head : Head)
+    (kind : ℕ) (layout : List Crossing) (frame : List ℕ) (before after : Registers) (head : Head)
     : Type 0 where
   pub is : IsFrameOf kind layout head.number head.port (value_in after) (drop head.packet_at frame) frame
   pub place : head.packet_at ≡ 6 + bytes_for (total layout)
@@ -64,6 +64,6 @@ pub record AreSame
   pub same_packet : packet ≡ packet'
 
 -- what is told of a frame is these parts
-abbrev pub IsReadBack : List Crossing → ℕ → ℕ → (Crossing → ℕ) → List ℕ → List ℕ → List ℕ → Head → Type 0
+abbrev pub IsReadBack : List Crossing → ℕ → ℕ → (Crossing → ℕ) → List ℕ → List ℕ → Registers → Head → Type 0
 IsReadBack layout number port values packet frame registers head =
     AreSame layout head.number number head.port port (value_in registers) values (drop head.packet_at frame) packet

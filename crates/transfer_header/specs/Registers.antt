@@ -1,35 +1,97 @@
--- Registers: a number for each value of a program, in order of instruction and result.
-use Rattle.std.specs.Prelude.{◌≡◌, ◌≢◌, ℕ, ◌^◌, ◌<◌, Bool, true, List, length, slice_index}
+-- Registers: numbers of a program's values, in order of instruction and result, or as a plan places them.
+use Rattle.std.specs.Prelude.{◌≡◌, ◌≢◌, ℕ, ◌^◌, ◌<◌, nat_lt, if◌then◌else◌, Bool, true, List, length, slice_index}
+use Rattle.std.specs.Prelude.{slice_set, Option, Some, None, IsSome, refl}
+use Rattle.std.specs.Coded.{Coded, code_by, coded×, coded_ℕ, coded_list, coded_option}
 use Rattle.std.specs.List.{All, AllPairs}
 use Rattle.flat_ir.specs.Blocks.{Reading}
 use Rattle.flat_ir.specs.declared.program.ValueId.{ValueId}
+use Rattle.flat_ir.specs.Plan.{Plan, plan_code, register_of}
 use Rattle.flat_ir.specs.Program.{Program, width_of_value}
 use Rattle.split_model.specs.declared.layout.Crossing.{Crossing}
 use Rattle.split_model.specs.Layouts.{number_of}
 use Rattle.transfer_header.specs.Values.{Agree, value_by}
 
+-- ## Numbers and their places
+
+-- numbers, and a plan of which value has which of them; without a plan each value has the one at its own place
+pub record Registers : Type 0 where
+  pub plan : Option Plan
+  pub numbers : List ℕ
+
+abbrev pub registers_code : Coded Registers
+registers_code =
+    code_by (Option Plan × List ℕ) (coded× (coded_option plan_code) (coded_list coded_ℕ))
+    (λ r. (r.plan, r.numbers)) (λ p. record { plan = p.0; numbers = p.1 }) (λ _. refl)
+
+abbrev pub place_by : Option Plan → ℕ → ℕ → Option ℕ
+place_by None count value = if nat_lt value count then Some value else None
+place_by (Some plan) count value = register_of plan value
+
+-- where the number of a value stands, if it has one
+abbrev pub place_of : Registers → ℕ → Option ℕ
+place_of registers value = place_by registers.plan (length registers.numbers) value
+
+abbrev pub HasRegister : Registers → ℕ → Type 0
+HasRegister registers value = IsSome (place_of registers value)
+
+abbrev pub number_by : List ℕ → Option ℕ → ℕ
+number_by numbers None = 0
+number_by numbers (Some place) = slice_index numbers place
+
+-- the number in a value's register, 0 where it has none
+abbrev pub content_of : Registers → ℕ → ℕ
+content_of registers value = number_by registers.numbers (place_of registers value)
+
+abbrev pub set_by : List ℕ → Option ℕ → ℕ → List ℕ
+set_by numbers None to = numbers
+set_by numbers (Some place) to = slice_set numbers place to
+
+-- the registers with another number for a value
+abbrev pub written : Registers → ℕ → ℕ → Registers
+written registers value to = record {
+  plan = registers.plan;
+  numbers = set_by registers.numbers (place_of registers value) to;
+}
+
+-- each value that has a register has a number
+abbrev pub ArePlaced : Registers → Type 0
+ArePlaced registers = (value place : ℕ) → place_of registers value ≡ Some place → place < length registers.numbers
+
+pub record AreRegisters (registers : Registers) : Type 0 where
+  pub placed : ArePlaced registers
+  pub few : length registers.numbers < 2 ^ 32
+
+-- ## The values of a program and of a layout
+
 -- the number of a value of a layout
-abbrev pub value_in : List ℕ → Crossing → ℕ
-value_in registers c = slice_index registers c.number
+abbrev pub value_in : Registers → Crossing → ℕ
+value_in registers c = content_of registers c.number
 
 -- the number of each value of a program
-abbrev pub reads_of : Program → List ℕ → Reading
-reads_of f registers v = slice_index registers (number_of f v)
+abbrev pub reads_of : Program → Registers → Reading
+reads_of f registers v = content_of registers (number_of f v)
 
 -- of the values of a layout, the registers hold the numbers of a reading
-abbrev pub Holds : List Crossing → List ℕ → Reading → Type 0
+abbrev pub Holds : List Crossing → Registers → Reading → Type 0
 Holds layout registers reads = Agree layout (value_in registers) (value_by reads)
 
 -- the values that cross have no more bits than their widths
 abbrev pub KeepsWidths : Program → (ValueId → Bool) → Reading → Type 0
 KeepsWidths f crosses reads = (v : ValueId) → crosses v ≡ true → reads v < 2 ^ width_of_value f v
 
--- the values of a layout stand at rising numbers, and each has a register
-pub record FitsLayout (layout : List Crossing) (registers : List ℕ) : Type 0 where
-  pub rising : AllPairs (λ a b. a.number < b.number) layout
-  pub among : All (λ c. c.number < length registers) layout
+-- the values of a layout stand at rising numbers
+abbrev pub IsRising : List Crossing → Type 0
+IsRising layout = AllPairs (λ a b. a.number < b.number) layout
+
+-- each value of a layout has a register, and no two have the same
+pub record FitsLayout (layout : List Crossing) (registers : Registers) : Type 0 where
+  pub rising : IsRising layout
+  pub among : All (λ c. HasRegister registers c.number) layout
+  pub apart : AllPairs (λ a b. place_of registers a.number ≢ place_of registers b.number) layout
 
 -- only the registers of a layout's values may have changed
-pub record ChangesOnly (layout : List Crossing) (before after : List ℕ) : Type 0 where
-  pub count : length after ≡ length before
-  pub others : (n : ℕ) → All (λ c. c.number ≢ n) layout → slice_index after n ≡ slice_index before n
+pub record ChangesOnly (layout : List Crossing) (before after : Registers) : Type 0 where
+  pub plan : after.plan ≡ before.plan
+  pub count : length after.numbers ≡ length before.numbers
+  pub others : (value : ℕ) → All (λ c. place_of before c.number ≢ place_of before value) layout
+      → content_of after value ≡ content_of before value

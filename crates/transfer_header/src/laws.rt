@@ -1,9 +1,13 @@
 //! What holds of frames and registers, as the definitions give it. These functions do nothing: their contracts are the
 //! laws.
-ghost use Rattle.std.specs.Prelude.{◌≡◌, ◌↔◌, ℕ, ◌^◌, ◌<◌, ◌≤◌, List, Some, slice_get, length, drop, IsTrue};
+ghost use Rattle.std.specs.Prelude.{◌≡◌, ◌≢◌, ◌↔◌, ℕ, ◌^◌, ◌<◌, ◌≤◌, List, Some, None, slice_get, length, drop, map, All};
+ghost use Rattle.std.specs.Prelude.{IsTrue};
 ghost use Rattle.packet_fields.specs.Sizes.{largest_packet};
 ghost use Rattle.flat_ir.specs.declared.program.ValueId.{ValueId};
+ghost use Rattle.flat_ir.specs.declared.spans.Span.{Span};
 ghost use Rattle.flat_ir.specs.Blocks.{Reading};
+ghost use Rattle.flat_ir.specs.Spans.{spans_of};
+ghost use Rattle.flat_ir.specs.Plan.{Plan, register_of, AreApart, AreBelow, IsGreatestOverlap};
 ghost use Rattle.flat_ir.specs.Program.{Program, is_named};
 ghost use Rattle.split_model.specs.declared.split.Part.{Part};
 ghost use Rattle.split_model.specs.declared.layout.Crossing.{Crossing};
@@ -12,7 +16,11 @@ ghost use Rattle.split_model.specs.Layouts.{values_of, number_of, up_layout, dow
 ghost use Rattle.split_model.specs.Passes.{IsHanded};
 ghost use Rattle.transfer_header.specs.declared.frame.Head.{Head};
 ghost use Rattle.transfer_header.specs.Values.{low_bits, value_by, Agree, AreNarrow};
-ghost use Rattle.transfer_header.specs.Registers.{reads_of, value_in, FitsLayout, Holds, KeepsWidths};
+ghost use Rattle.transfer_header.specs.Registers.{Registers, place_of, content_of, written, ArePlaced, reads_of};
+ghost use Rattle.transfer_header.specs.Registers.{value_in, IsRising, FitsLayout, Holds, KeepsWidths};
+ghost use Rattle.transfer_header.specs.Plans.{IsPlanOf};
+ghost use Rattle.transfer_header.specs.Steps.{Steps, Contents, LooksAtReadsAlone, AreSpansOf, IsNeeded, AreKeptApart};
+ghost use Rattle.transfer_header.specs.Steps.{IsReady, IsDoneAlike, IsAlike, all_written, pairs_written};
 ghost use Rattle.transfer_header.specs.Frames.{frame_of, AreSame, IsFrame, IsFrameOf, IsUnpacked};
 ghost use Rattle.transfer_header.specs.Told.{reads_in, AreToldByPlace, IsToldByPlace};
 
@@ -56,7 +64,8 @@ pub fn frames_are_told_by_place()
     ensures down { (f : Program) (split : List Part) (kind number port : ℕ) (values : Crossing → ℕ)
         (packet frame : List ℕ) → IsFrameOf kind (down_layout f split) number port values packet frame
         → AreToldByPlace f (crosses_down f split) (down_layout f split) values frame }
-    ensures unpacked { (kind : ℕ) (layout : List Crossing) (frame before after : List ℕ) (head : Head)
+    ensures unpacked { (kind : ℕ) (layout : List Crossing) (frame : List ℕ) (before after : Registers)
+        (head : Head)
         → IsUnpacked kind layout frame before after head
         → IsToldByPlace layout head.number head.port (drop head.packet_at frame) frame }
     ensures narrow_up { (f : Program) (split : List Part) (kind : ℕ) (frame : List ℕ)
@@ -72,20 +81,25 @@ pub fn values_have_their_numbers()
     ensures { (f : Program) (v : ValueId) → IsTrue (is_named f v) → slice_get (values_of f) (number_of f v) ≡ Some v }
 {}
 
-/// Registers for all values of a program have one for each value that crosses, whatever the split.
+/// Registers for all values of a program have one for each value that crosses, whatever the split. What crosses stands
+/// in a layout at rising numbers.
 pub fn layouts_fit()
-    ensures up { (f : Program) (split : List Part) (registers : List ℕ)
-        → length registers ≡ length (values_of f) → FitsLayout (up_layout f split) registers }
-    ensures down { (f : Program) (split : List Part) (registers : List ℕ)
-        → length registers ≡ length (values_of f) → FitsLayout (down_layout f split) registers }
+    ensures up { (f : Program) (split : List Part) (registers : Registers)
+        → registers.plan ≡ None → length registers.numbers ≡ length (values_of f)
+        → FitsLayout (up_layout f split) registers }
+    ensures down { (f : Program) (split : List Part) (registers : Registers)
+        → registers.plan ≡ None → length registers.numbers ≡ length (values_of f)
+        → FitsLayout (down_layout f split) registers }
+    ensures rising { (f : Program) (split : List Part)
+        → (IsRising (up_layout f split)) × (IsRising (down_layout f split)) }
 {}
 
 /// Registers hold a reading's numbers of what crosses exactly where they hand it on.
 pub fn what_crosses_is_held()
-    ensures up { (f : Program) (split : List Part) (registers : List ℕ) (reads : Reading)
+    ensures up { (f : Program) (split : List Part) (registers : Registers) (reads : Reading)
         → (Holds (up_layout f split) registers reads)
         ↔ (IsHanded (crosses_up f split) reads (reads_of f registers)) }
-    ensures down { (f : Program) (split : List Part) (registers : List ℕ) (reads : Reading)
+    ensures down { (f : Program) (split : List Part) (registers : Registers) (reads : Reading)
         → (Holds (down_layout f split) registers reads)
         ↔ (IsHanded (crosses_down f split) reads (reads_of f registers)) }
 {}
@@ -96,10 +110,62 @@ pub fn what_crosses_is_narrow()
         → (AreNarrow (up_layout f split) (value_by reads)) ↔ (KeepsWidths f (crosses_up f split) reads) }
     ensures down { (f : Program) (split : List Part) (reads : Reading)
         → (AreNarrow (down_layout f split) (value_by reads)) ↔ (KeepsWidths f (crosses_down f split) reads) }
-    ensures registers_up { (f : Program) (split : List Part) (registers : List ℕ)
+    ensures registers_up { (f : Program) (split : List Part) (registers : Registers)
         → (AreNarrow (up_layout f split) (value_in registers))
         ↔ (KeepsWidths f (crosses_up f split) (reads_of f registers)) }
-    ensures registers_down { (f : Program) (split : List Part) (registers : List ℕ)
+    ensures registers_down { (f : Program) (split : List Part) (registers : Registers)
         → (AreNarrow (down_layout f split) (value_in registers))
         ↔ (KeepsWidths f (crosses_down f split) (reads_of f registers)) }
+{}
+
+/// A write leaves the numbers of all values in other registers.
+pub fn a_write_keeps_others()
+    ensures { (registers : Registers) (value to other : ℕ) → place_of registers value ≢ place_of registers other
+        → content_of (written registers value to) other ≡ content_of registers other }
+{}
+
+/// In the registers of a plan that was made of spans, values that are needed at one step are apart.
+pub fn a_plan_keeps_apart()
+    ensures { (spans : List Span) (plan : Plan) (registers : Registers)
+        → ((value : ℕ) → (register_of plan value ≡ None) ↔ (spans_of spans value ≡ 0))
+        → AreApart spans plan.rows → registers.plan ≡ Some plan → AreKeptApart spans registers }
+{}
+
+/// What gives registers to what has a span, and no more of them than values that are needed at one step, is a plan of
+/// the spans, and in its registers such values are apart.
+pub fn plans_of_spans()
+    ensures made { (spans : List Span) (plan : Plan)
+        → ((value : ℕ) → (register_of plan value ≡ None) ↔ (spans_of spans value ≡ 0))
+        → AreBelow plan.rows plan.count → AreApart spans plan.rows → IsGreatestOverlap spans plan.count
+        → IsPlanOf spans plan }
+    ensures apart { (spans : List Span) (plan : Plan) (registers : Registers)
+        → IsPlanOf spans plan → registers.plan ≡ Some plan → AreKeptApart spans registers }
+{}
+
+/// Such registers serve for the values of a layout that are all needed at one step.
+pub fn needed_values_fit()
+    ensures { (layout : List Crossing) (spans : List Span) (registers : Registers) (step : ℕ)
+        → AreKeptApart spans registers → IsRising layout → All (λ c. IsNeeded spans step c.number) layout
+        → FitsLayout layout registers }
+{}
+
+/// A step in registers that are used again reads what it would read if each value had a register of its own, and the
+/// next step is ready.
+pub fn a_step_in_registers()
+    ensures { (steps : Steps) (spans : List Span) (registers : Registers) (contents : Contents) (step : ℕ)
+        → LooksAtReadsAlone steps → AreSpansOf steps spans → IsReady spans registers contents step
+        → IsDoneAlike steps spans registers contents step }
+{}
+
+/// Each step of a pass does so.
+pub fn a_pass_in_registers()
+    ensures { (steps : Steps) (spans : List Span) (start : Registers)
+        → LooksAtReadsAlone steps → AreSpansOf steps spans → AreKeptApart spans start → ArePlaced start
+        → IsAlike steps spans start }
+{}
+
+/// To write a list of values and their numbers is to write the values with these numbers.
+pub fn a_list_is_written()
+    ensures { (registers : Registers) (pairs : List (ℕ × ℕ)) (numbers : Contents) → All (λ p. p.1 ≡ numbers p.0) pairs
+        → pairs_written registers pairs ≡ all_written registers (map (λ p. p.0) pairs) numbers }
 {}

@@ -1,4 +1,4 @@
-use Rattle.std.proofs.Common.{◌≡◌, ◌+◌, ◌-◌, ◌/◌, ◌<◌, ℕ, List, take, drop, length, length-drop, slice_index_or, sym, refl, ◌∙◌, arith}
+use Rattle.std.proofs.Common.{◌≡◌, ◌+◌, ◌-◌, ◌/◌, ◌<◌, ℕ, List, take, drop, length-drop, slice_index_or, sym, refl, ◌∙◌, arith}
 use Rattle.std.proofs.lemmas.Bool.{true≢false}
 use Rattle.std.proofs.lemmas.List.Elements.{All-from_get_or, All-take, All-drop}
 use Rattle.split_model.specs.declared.layout.Crossing.{Crossing}
@@ -7,14 +7,14 @@ use Rattle.transfer_header.specs.Values.{total, value_bits}
 use Rattle.transfer_header.specs.Registers.{value_in}
 use Rattle.transfer_header.specs.Frames.{IsFrame}
 use Rattle.transfer_header.proofs.BitLists.{AreBytes}
-use Rattle.transfer_header.proofs.LayoutValues.{length_rising}
+use Rattle.transfer_header.proofs.Fitting.{length_fitting}
 use Rattle.transfer_header.proofs.WholeFrames.{header_is, frame_is, outline, zeros_behind, not_filled, is_filled_at, range_is, length_range, read_back, a_frame}
 use Rattle.transfer_header.proofs.frame.unpack.Goals as goal
 use Rattle.transfer_header.proofs.frame.unpack.Goals.{then-frame-packet_at-via-then-frame-packet_at, then-frame-packet_at-via-else-frame-packet_at+then-frame-packet_at-gt-MAX_PACKET_BYTES, then-frame-packet_at-via-else-frame-packet_at+else-frame-packet_at-gt-MAX_PACKET_BYTES+then-frame-kind}
 
 -- each value has a register of its own
 pub prove-unreachable-requires : goal.prove-unreachable-requires
-prove-unreachable-requires c = omega (arith, length_rising c.args.layout.now (length c.args.into.now) c.requires.rising c.requires.among)
+prove-unreachable-requires c = omega (arith, length_fitting c.args.layout.now c.args.into.now c.len-2.ensures.placed c.requires)
 
 -- ---- too short, too long, or of another kind
 pub returns-then-frame-packet_at-clause-exact : goal.returns-then-frame-packet_at-clause-exact
