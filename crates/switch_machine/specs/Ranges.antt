@@ -1,12 +1,13 @@
 -- Where the values of a pass's instructions stand.
-use Rattle.std.specs.Prelude.{◌≡◌, ◌≢◌, ◌<◌, ◌≤◌, ◌+◌, ◌-◌, ◌^◌, ◌==◌, ℕ, suc, max, min, List, [], ◌∷◌, ◌++◌, map}
+use Rattle.std.specs.Prelude.{◌≡◌, ◌≢◌, ◌<◌, ◌≤◌, ◌+◌, ◌-◌, ◌^◌, ◌==◌, ℕ, suc, true, max, min, List, [], ◌∷◌, ◌++◌, map}
 use Rattle.std.specs.Prelude.{if◌then◌else◌, Contains}
-use Rattle.std.specs.Coded.{Coded-set, coded_ℕ, le_prop}
-use Rattle.std.specs.List.{AllByRecursion as Each}
+use Rattle.std.specs.Coded.{Coded-set, coded_bool, coded_ℕ, le_prop}
+use Rattle.std.specs.List.{AllByRecursion as Each, AllByRecursion-prop}
 use Rattle.split_model.specs.declared.layout.Crossing.{Crossing}
+use Rattle.split_model.specs.Crossing.{is_value}
 use Rattle.switch_ir.specs.declared.code.Table.{Table}
 use Rattle.switch_ir.specs.Passes.{Step, PassCode, Code}
-use Rattle.switch_ir.specs.Spans.{results_in, Written}
+use Rattle.switch_ir.specs.Spans.{results_in, written_in, Written}
 use Rattle.switch_machine.specs.declared.numbering.ValueRange.{ValueRange}
 use Rattle.switch_machine.specs.Numbers.{no_values, range_at}
 
@@ -69,6 +70,17 @@ pub record AreInOrder (had : List Written) : Type 0 where
 abbrev pub AreOthers : List Crossing → List Step → Type 0
 AreOthers handed steps = Each (λ (c : Crossing). Each (λ (s : Step). c.value.instruction ≢ s.instruction) steps) handed
 
+-- what goes up has the number of no other value
+abbrev pub AreAlike : List Crossing → List Written → Type 0
+AreAlike up had = Each (λ (c : Crossing). Each (λ (w : Written). w.number ≡ c.number → is_value w.value c.value ≡ true) had) up
+
+-- The values of both passes of code stand in order. No value is known by the number of another.
+pub record AreOrdered (code : Code) : Type 0 where
+  pub pre : AreInOrder (written_in code.tables [] code.pre)
+  pub post : AreInOrder (written_in code.tables code.down code.post)
+  pub others : AreOthers code.down (code.post.given ++ code.post.steps)
+  pub up : AreAlike code.up (written_in code.tables [] code.pre)
+
 -- these have at most one proof
 pub ranges_prop : (es : List Entry) (ranges : List ValueRange) → IsProp (AreRanges es ranges)
 ranges_prop es ranges a b = λ i. record {
@@ -81,4 +93,20 @@ order_prop had a b = λ i. record {
   within = λ w there. le_prop (a.within w there) (b.within w there) i;
   same = λ x y here there is. Coded-set coded_ℕ _ _ (a.same x y here there is) (b.same x y here there is) i;
   lower = λ x y here there lt. le_prop (a.lower x y here there lt) (b.lower x y here there lt) i;
+}
+
+never_prop : IsProp ⊥
+never_prop a b = absurd a
+
+pub ordered_prop : (code : Code) → IsProp (AreOrdered code)
+ordered_prop code a b = λ i. record {
+  pre = order_prop (written_in code.tables [] code.pre) a.pre b.pre i;
+  post = order_prop (written_in code.tables code.down code.post) a.post b.post i;
+  others = AllByRecursion-prop (λ c. Each (λ (s : Step). c.value.instruction ≢ s.instruction) (code.post.given ++ code.post.steps))
+      (λ c. AllByRecursion-prop (λ (s : Step). c.value.instruction ≢ s.instruction) (λ s f g. λ j same. never_prop (f same) (g same) j) (code.post.given ++ code.post.steps))
+      code.down a.others b.others i;
+  up = AllByRecursion-prop (λ c. Each (λ (w : Written). w.number ≡ c.number → is_value w.value c.value ≡ true) (written_in code.tables [] code.pre))
+      (λ c. AllByRecursion-prop (λ (w : Written). w.number ≡ c.number → is_value w.value c.value ≡ true)
+          (λ w f g. λ j same. Coded-set coded_bool _ _ (f same) (g same) j) (written_in code.tables [] code.pre))
+      code.up a.up b.up i;
 }

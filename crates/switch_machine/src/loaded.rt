@@ -5,7 +5,7 @@ ghost use Rattle.transfer_header.specs.Registers.{content_of, place_of, ArePlace
 ghost use Rattle.switch_ir.specs.Code.{code_of, pass_of};
 ghost use Rattle.switch_ir.specs.Once.{can_be_run_prop};
 ghost use Rattle.switch_ir.specs.Sound.{CanBeRun};
-ghost use Rattle.switch_machine.specs.Ranges.{post_entries, pre_entries, ranges_prop, AreRanges};
+ghost use Rattle.switch_machine.specs.Ranges.{entries, ordered_prop, ranges_prop, AreOrdered, AreRanges};
 ghost use Rattle.switch_machine.specs.Staged.{stages_prop, AreStages};
 ghost use Rattle.switch_machine.specs.Workplaces.{plan_prop, IsPlanned};
 
@@ -67,8 +67,9 @@ pub(crate) struct Loaded {
     ghost pre_stages: { AreStages (pass_of code.pre).steps code.pre.highest pre } by { stages_prop (pass_of code.pre).steps code.pre.highest pre },
     ghost post_stages: { AreStages (pass_of code.post).steps code.post.highest post } by { stages_prop (pass_of code.post).steps code.post.highest post },
     ghost given_stage: { AreStages (pass_of code.post).given 0 given } by { stages_prop (pass_of code.post).given 0 given },
-    ghost pre_ranges: { AreRanges (pre_entries (code_of code)) pre_numbering } by { ranges_prop (pre_entries (code_of code)) pre_numbering },
-    ghost post_ranges: { AreRanges (post_entries (code_of code)) post_numbering } by { ranges_prop (post_entries (code_of code)) post_numbering },
+    ghost ordered: { AreOrdered (code_of code) } by { ordered_prop (code_of code) },
+    ghost pre_ranges: { AreRanges (entries code.tables [] (pass_of code.pre)) pre_numbering } by { ranges_prop (entries code.tables [] (pass_of code.pre)) pre_numbering },
+    ghost post_ranges: { AreRanges (entries code.tables code.down (pass_of code.post)) post_numbering } by { ranges_prop (entries code.tables code.down (pass_of code.post)) post_numbering },
     ghost pre_plan: { IsPlanned code.pre.plan up.registers } by { plan_prop code.pre.plan up.registers },
     ghost post_plan: { IsPlanned code.post.plan down.registers } by { plan_prop code.post.plan down.registers },
 }
@@ -76,15 +77,17 @@ pub(crate) struct Loaded {
 impl Loaded {
     /// A copy of some code.
     pub fn new(alloc: Global, code: &SwitchCode) -> Result<Loaded, NoMemory>
-        requires { CanBeRun (code_of code.now) }
+        requires can { CanBeRun (code_of code.now) }
+        requires ordered { AreOrdered (code_of code.now) }
         ensures { IfOk result (λ loaded. code_of loaded.code ≡ code_of code.now) }
     {
         let copy = code.copy(alloc)?;
         let pre = Stages::of(alloc, &copy.pre.steps, copy.pre.highest)?;
         let post = Stages::of(alloc, &copy.post.steps, copy.post.highest)?;
         let given = Stages::of(alloc, &copy.post.given, 0)?;
-        let pre_numbering = Numbering::of_pre(alloc, &copy)?;
-        let post_numbering = Numbering::of_post(alloc, &copy)?;
+        let tables = copy.tables.as_slice();
+        let pre_numbering = Numbering::of(alloc, tables, &[], &copy.pre)?;
+        let post_numbering = Numbering::of(alloc, tables, copy.down.as_slice(), &copy.post)?;
         let up = Workplace::new(alloc, &copy.pre.plan)?;
         let down = Workplace::new(alloc, &copy.post.plan)?;
         Ok(Loaded {

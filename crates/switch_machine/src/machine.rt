@@ -22,6 +22,7 @@ ghost use Rattle.switch_machine.specs.Ends.{DownPasses, UpPasses};
 ghost use Rattle.switch_machine.specs.Kept.{safe_prop, AreSafe};
 ghost use Rattle.switch_machine.specs.Loading.{code_in};
 ghost use Rattle.switch_machine.specs.Machine.{fails_next, seen_of};
+ghost use Rattle.switch_machine.specs.Ranges.{AreOrdered};
 
 use crate::calls::{CallKind, Calls, count, is_planned};
 use crate::down::go_down;
@@ -149,7 +150,8 @@ impl ModelSwitch {
     }
 
     fn try_load(&mut self, alloc: Global, code: &SwitchCode) -> Result<(), NoMemory>
-        requires { CanBeRun (code_of code.now) }
+        requires can { CanBeRun (code_of code.now) }
+        requires ordered { AreOrdered (code_of code.now) }
         ensures ok { let old = machine_of self.old in
             OnOk result ((told : Told) × IsStart (code_of code.now) told
             × (machine_of self.new ≡ record old {

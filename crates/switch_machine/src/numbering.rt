@@ -1,18 +1,22 @@
 //! The numbers of a pass's values.
-ghost use Rattle.std.specs.Prelude.{◌≡◌, ◌==◌, ◌<◌, ◌≤◌, ◌+◌, ◌^◌, ℕ, length, map, IfOk, if◌then◌else◌};
+ghost use Rattle.std.specs.Prelude.{◌≡◌, ◌==◌, ◌<◌, ◌≤◌, ◌+◌, ◌-◌, ◌^◌, ℕ, [], length, map, max, IfOk, if◌then◌else◌, suc};
+ghost use Rattle.std.specs.Prelude.{unwrap_or};
+ghost use Rattle.std.specs.Option.{option_map};
+ghost use Rattle.state_store.specs.declared.object.ObjectDecl.{ObjectDecl as Declared};
 ghost use Rattle.flat_ir.specs.Program.{work_of};
-ghost use Rattle.switch_ir.specs.Code.{code_of, step_of};
+ghost use Rattle.switch_ir.specs.Code.{pass_of, step_of};
+ghost use Rattle.switch_ir.specs.Spans.{results_in};
 ghost use Rattle.switch_ir.specs.Tables.{declared_at};
 ghost use Rattle.switch_machine.specs.Numbers.{no_values, number_in, range_at};
-ghost use Rattle.switch_machine.specs.Ranges.{crossing_entry, entered, from_first, post_entries, pre_entries};
-ghost use Rattle.switch_machine.specs.Ranges.{row_values, step_entry, value_count, AreBelow, AreCrossingsBelow, AreRanges};
+ghost use Rattle.switch_machine.specs.Ranges.{crossing_entry, entered, entries, from_first, step_entry, with_entry};
+ghost use Rattle.switch_machine.specs.Ranges.{AreBelow, AreCrossingsBelow, AreRanges};
 
 use flat_ir::{InstrKind, ValueId};
 use gal_io::NoMemory;
 use split_model::Crossing;
 use std::alloc::Global;
 use std::marker::Model;
-use switch_ir::{PassStep, SwitchCode, Table};
+use switch_ir::{Pass, PassStep, Table};
 
 /// Where the values of an instruction stand among all values of the program: the number of the first, and how many
 /// there are.
@@ -79,30 +83,19 @@ impl Numbering {
         }
     }
 
-    /// Of the values of preprocessing.
-    pub fn of_pre(alloc: Global, code: &SwitchCode) -> Result<Numbering, NoMemory>
-        ensures { IfOk result (AreRanges (pre_entries (code_of code.now))) }
+    /// Of the values of a pass to which those of a layout are handed.
+    pub fn of(
+        alloc: Global,
+        tables: &[Table],
+        handed: &[Crossing],
+        pass: &Pass,
+    ) -> Result<Numbering, NoMemory>
+        ensures { IfOk result (AreRanges (entries tables.now handed.now (pass_of pass.now))) }
     {
-        let tables = code.tables.as_slice();
-        let steps = code.pre.steps.as_slice();
-        let mut numbering = Numbering::new(alloc, above_steps(steps))?;
-        numbering.put_steps(tables, steps);
-        Ok(numbering)
-    }
-
-    /// Of the values of postprocessing: those that are handed down, those that it is given, and those that it computes.
-    pub fn of_post(alloc: Global, code: &SwitchCode) -> Result<Numbering, NoMemory>
-        ensures { IfOk result (AreRanges (post_entries (code_of code.now))) }
-    {
-        let tables = code.tables.as_slice();
-        let crossings = code.down.as_slice();
-        let given = code.post.given.as_slice();
-        let steps = code.post.steps.as_slice();
-        let count = above_crossings(crossings)
-            .max(above_steps(given))
-            .max(above_steps(steps));
-        let mut numbering = Numbering::new(alloc, count)?;
-        numbering.put_crossings(crossings);
+        let given = pass.given.as_slice();
+        let steps = pass.steps.as_slice();
+        let mut numbering = Numbering::new(alloc, above_all(handed, given, steps))?;
+        numbering.put_crossings(handed);
         numbering.put_steps(tables, given);
         numbering.put_steps(tables, steps);
         Ok(numbering)
@@ -117,14 +110,16 @@ impl Numbering {
         Ok(Numbering { items })
     }
 
-    // Notes where the values of an instruction stand.
-    fn put(&mut self, instruction: u32, range: ValueRange)
-        requires there { instruction < length self.old }
-        requires within { range.first + range.count < 2 ^ 32 }
-        ensures ranges { (i : ℕ) → range_at self.new i ≡ (if i == instruction then range else range_at self.old i) }
+    // Notes that so many values of an instruction stand from the first on. There may be more.
+    fn put(&mut self, instruction: u32, first: u32, count: u32)
+        requires { instruction < length self.old }
+        ensures ranges { (i : ℕ) → range_at self.new i ≡ (if i == instruction
+            then from_first first (max (range_at self.old i).count count) else range_at self.old i) }
         ensures count { length self.new ≡ length self.old }
     {
-        self.items[instruction as usize] = range;
+        let place = instruction as usize;
+        let known = self.items[place].count;
+        self.items[place] = ValueRange::from_first(first, known.max(count));
     }
 
     // Notes where the values of some instructions stand.
@@ -136,7 +131,7 @@ impl Numbering {
     {
         for step in steps {
             let count = value_count(tables, &step.kind);
-            self.put(step.instruction, ValueRange::from_first(step.first, count));
+            self.put(step.instruction, step.first, count);
         }
     }
 
@@ -150,8 +145,7 @@ impl Numbering {
         for crossing in crossings {
             let place = crossing.value.result;
             let first = crossing.number.saturating_sub(place);
-            let range = ValueRange::from_first(first, place.saturating_add(1));
-            self.put(crossing.value.instruction, range);
+            self.put(crossing.value.instruction, first, place.saturating_add(1));
         }
     }
 }
@@ -178,9 +172,22 @@ fn above_crossings(crossings: &[Crossing]) -> usize
     count
 }
 
+// A number above that of each instruction of a pass.
+fn above_all(handed: &[Crossing], given: &[PassStep], steps: &[PassStep]) -> usize
+    ensures handed { AreCrossingsBelow result handed.now }
+    ensures given { AreBelow result (map step_of given.now) }
+    ensures steps { AreBelow result (map step_of steps.now) }
+{
+    let first = above_crossings(handed);
+    let second = above_steps(given);
+    let third = above_steps(steps);
+    first.max(second).max(third)
+}
+
 // How many values a row of an object has, if it is looked up.
 fn row_values(tables: &[Table], object: u32) -> u32
-    ensures exact { result ≡ row_values (declared_at tables.now object) }
+    ensures exact { result
+        ≡ length (unwrap_or (option_map (λ (d : Declared). d.values) (declared_at tables.now object)) []) }
     ensures few { result ≤ 8 }
 {
     for table in tables {
@@ -193,7 +200,7 @@ fn row_values(tables: &[Table], object: u32) -> u32
 
 // How many values an instruction has.
 fn value_count(tables: &[Table], kind: &InstrKind) -> u32
-    ensures { result ≡ value_count tables.now (work_of kind.now) }
+    ensures { result ≡ results_in tables.now (work_of kind.now) }
 {
     match kind {
         InstrKind::Look { object, .. } => 1 + row_values(tables, *object),

@@ -1,5 +1,5 @@
 //! How a pass is computed.
-ghost use Rattle.std.specs.Prelude.{◌≡◌, ℕ, ◌≤◌, ◌<◌, ◌+◌, ◌^◌, ◌++◌, [], false, map, slice_index, OnOk};
+ghost use Rattle.std.specs.Prelude.{◌≡◌, ℕ, ◌≤◌, ◌<◌, ◌+◌, ◌^◌, ◌++◌, ◌∷◌, [], false, List, length, map, OnOk};
 ghost use Rattle.std.specs.List.{AllByRecursion as Each};
 ghost use Rattle.packet_fields.specs.Shape.{shape_of};
 ghost use Rattle.packet_fields.specs.Sizes.{largest_packet};
@@ -66,7 +66,7 @@ fn put_results(
     results: &Results,
     computed: &mut Vec<(u32, u64)>,
 ) -> Result<(), NoMemory>
-    requires { range.first + range.count ≤ 2 ^ 32 }
+    requires { range.first + range.count < 2 ^ 32 }
     ensures { OnOk result (computed.new.items ≡ computed.old.items ++ gives range (results_of results.now)) }
 {
     for place in 0..range.count {
@@ -81,7 +81,7 @@ fn put_result(
     number: u64,
     computed: &mut Vec<(u32, u64)>,
 ) -> Result<(), NoMemory>
-    requires { range.first + range.count ≤ 2 ^ 32 }
+    requires { range.first + range.count < 2 ^ 32 }
     ensures { OnOk result (computed.new.items ≡ computed.old.items ++ gives range (number ∷ [])) }
 {
     for place in 0..range.count {
@@ -144,6 +144,7 @@ pub(crate) fn write_stage(computed: &mut Vec<(u32, u64)>, registers: &mut Regs)
     requires { Each (λ pair. HasRegister registers.old pair.0) computed.old.items }
     ensures written { registers.new ≡ pairs_written registers.old computed.old.items }
     ensures places { (n : ℕ) → place_of registers.new n ≡ place_of registers.old n }
+    ensures plan { registers.new.plan ≡ registers.old.plan }
     ensures empty { computed.new.items ≡ [] }
 {
     for (value, number) in &*computed {
