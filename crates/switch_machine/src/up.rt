@@ -23,8 +23,9 @@ use flat_ir::{Arrival, leave, readings_that_agree};
 use gal_io::NoMemory;
 use packet_fields::Shape;
 use std::alloc::Global;
-use switch_ir::UpEnd;
-use transfer_header::{a_plan_keeps_apart, frames_of_low_bits, needed_values_fit, pack_up};
+use switch_ir::{UpEnd, passes_have_spans};
+use transfer_header::{frames_of_low_bits, needed_values_fit, pack_up, plans_of_spans};
+use writeback_table::what_a_lookup_sees;
 
 // Computes preprocessing.
 fn run_up(
@@ -41,8 +42,10 @@ fn run_up(
         ≡ up_values (code_of loaded.new.code) (seen_tables tables.now) (packet_of arrival.now) v)
         (kept_up (code_of loaded.new.code))) }
 {
-    a_plan_keeps_apart();
+    passes_have_spans();
+    plans_of_spans();
     needed_values_fit();
+    what_a_lookup_sees();
     loaded.up.clear();
     run_pass(
         &loaded.code.pre,

@@ -1,0 +1,1 @@
+-- Postprocessing in its registers.
