@@ -1,5 +1,11 @@
 -- Code by its parts.
-use Rattle.std.proofs.Common.{◌≡◌, List, length}
+use Rattle.std.proofs.Common.{◌≡◌, List, length, sym, subst}
+use Rattle.flat_ir.specs.Plan.{Plan}
+use Rattle.split_model.specs.declared.layout.Crossing.{Crossing}
+use Rattle.transfer_header.specs.Plans.{IsPlanOf}
+use Rattle.switch_ir.specs.declared.code.Table.{Table}
+use Rattle.switch_ir.specs.Passes.{PassCode}
+use Rattle.switch_ir.specs.Spans.{pass_spans}
 use Rattle.flat_ir.specs.Program.{Program}
 use Rattle.split_model.specs.declared.split.Part.{Part}
 use Rattle.split_model.specs.Layouts.{values_of, up_layout, down_layout}
@@ -18,3 +24,14 @@ by_parts f split code pre post up down tables values = λ i. record {
   writeback = code.writeback;
   values = values i;
 }
+
+-- a plan of a pass and its copy
+pub copied_plan : (tables tables' : List Table) (handed handed' up up' : List Crossing) (pass pass' : PassCode) (plan plan' : Plan)
+    → tables' ≡ tables → handed' ≡ handed → up' ≡ up → pass' ≡ pass → plan' ≡ plan
+    → IsPlanOf (pass_spans tables handed up pass) plan → IsPlanOf (pass_spans tables' handed' up' pass') plan'
+copied_plan tables tables' handed handed' up up' pass pass' plan plan' same_tables same_handed same_up same_pass same_plan is =
+    subst (λ (p : Plan). IsPlanOf (pass_spans tables' handed' up' pass') p) (sym same_plan)
+    (subst (λ (p : PassCode). IsPlanOf (pass_spans tables' handed' up' p) plan) (sym same_pass)
+    (subst (λ (l : List Crossing). IsPlanOf (pass_spans tables' handed' l pass) plan) (sym same_up)
+    (subst (λ (l : List Crossing). IsPlanOf (pass_spans tables' l up pass) plan) (sym same_handed)
+    (subst (λ (t : List Table). IsPlanOf (pass_spans t handed up pass) plan) (sym same_tables) is))))

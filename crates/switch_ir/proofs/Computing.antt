@@ -11,7 +11,7 @@ use Rattle.flat_ir.specs.Run.{with_writes}
 use Rattle.split_model.specs.declared.split.Part.{Part}
 use Rattle.split_model.specs.declared.split.Slow.TheVariants.{Server}
 use Rattle.split_model.specs.Legal.{IsLegal}
-use Rattle.split_model.specs.Passes.{down_verdict, meets_rest, pass, pre_values, given_down, post_fields, post_values}
+use Rattle.split_model.specs.Passes.{down_verdict, meets_rest, pre_values, given_down, post_fields, post_values}
 use Rattle.split_model.specs.Split.{pre_stage, post_stage, stage_after}
 use Rattle.transfer_header.specs.Values.{value_by}
 use Rattle.switch_ir.specs.Code.{Code}

@@ -8,3 +8,11 @@ mod Computing
 mod Places
 mod Marks
 mod Codes
+mod Noting
+mod Lines
+mod Spanned
+mod Staging
+mod Going
+mod Needing
+mod Planning
+mod Listing

@@ -1,7 +1,6 @@
 -- What is emitted can be run.
-use Rattle.std.proofs.Common.{◌≡◌, ℕ, zero, suc, ◌+◌, ◌==◌, ◌<◌, ◌≤◌, Bool, true, false, not, ◌&&◌, List, [], ◌∷◌, ◌++◌, length, Option, Some, None, refl, sym, ap, subst, arith, get_or, slice_get, replicate, if◌then◌else◌}
+use Rattle.std.proofs.Common.{◌≡◌, ℕ, zero, suc, ◌+◌, ◌==◌, ◌<◌, ◌≤◌, Bool, true, false, not, ◌&&◌, List, [], ◌∷◌, ◌++◌, length, Option, Some, None, refl, sym, ap, subst, arith, get_or, slice_get, if◌then◌else◌}
 use Rattle.std.proofs.lemmas.Bool.{eqb-true}
-use Rattle.std.proofs.lemmas.List.{length-replicate}
 use Rattle.std.specs.List.{AllByRecursion as Each, All, filter}
 use Rattle.state_store.specs.declared.object.ObjectDecl.{ObjectDecl}
 use Rattle.state_store.specs.Kept.{IsKeptObject}
@@ -11,11 +10,14 @@ use Rattle.flat_ir.specs.Operands.{CanRun}
 use Rattle.flat_ir.specs.Program.{Program, step_at}
 use Rattle.flat_ir.specs.WellFormed.{IsWellFormed, IsWritten}
 use Rattle.split_model.specs.declared.split.Part.{Part}
-use Rattle.split_model.specs.Bounds.{IsSmall}
-use Rattle.split_model.specs.Layouts.{values_of, up_layout, down_layout}
+use Rattle.split_model.specs.Bounds.{IsSmall, IsBounded}
+use Rattle.split_model.specs.Layouts.{up_layout, down_layout}
 use Rattle.split_model.specs.declared.layout.Crossing.{Crossing}
 use Rattle.split_model.specs.Split.{is_pre, is_post, pre_stage, post_stage}
-use Rattle.transfer_header.specs.Registers.{FitsLayout}
+use Rattle.split_model.specs.Legal.{IsLegal}
+use Rattle.transfer_header.specs.Registers.{IsRising}
+use Rattle.transfer_header.specs.Steps.{IsNeeded}
+use Rattle.switch_ir.specs.Spans.{pre_spans, post_spans, GoByStages}
 use Rattle.switch_ir.specs.declared.code.Table.{Table}
 use Rattle.switch_ir.specs.Code.{Code}
 use Rattle.switch_ir.specs.Emitted.{placed, steps_below, given_stage, is_among, rest_below, is_looked_up, tables_from, emitted, AllRun, IsEmitted}
@@ -48,10 +50,10 @@ steps_can f stage (suc n) can le =
 
 -- ## Blocks and fields
 
-abbrev IsBlock : Program → ℕ → Type 0
+abbrev pub IsBlock : Program → ℕ → Type 0
 IsBlock f b = b ≤ length f.blocks
 
-rest_there : (f : Program) (split : List Part) → IsWellFormed f → (n : ℕ) → n ≤ length f.code → Each (IsBlock f) (rest_below f split n)
+pub rest_there : (f : Program) (split : List Part) → IsWellFormed f → (n : ℕ) → n ≤ length f.code → Each (IsBlock f) (rest_below f split n)
 rest_there f split well zero le = tt
 rest_there f split well (suc n) le =
     by_test (not (is_pre split n) && not (is_among (step_at f n).block (rest_below f split n))) (rest_there f split well n (omega (arith, le)))
@@ -72,7 +74,7 @@ each_at P [] j d h lt = absurd (omega (arith, lt))
 each_at P (x ∷ xs) zero d h lt = h.0
 each_at P (x ∷ xs) (suc j) d h lt = each_at P xs j d h.1 (omega (arith, lt))
 
-each_weaker : {X : Type 0} (P Q : X → Type 0) → ((x : X) → P x → Q x) → (xs : List X) → Each P xs → Each Q xs
+pub each_weaker : {X : Type 0} (P Q : X → Type 0) → ((x : X) → P x → Q x) → (xs : List X) → Each P xs → Each Q xs
 each_weaker P Q go [] h = tt
 each_weaker P Q go (x ∷ xs) h = (go x h.0, each_weaker P Q go xs h.1)
 
@@ -113,10 +115,10 @@ tables_rise f split o (d ∷ ds) = by_test (is_looked_up f split o) (tables_rise
     by_test false later = later
 
 -- what is declared for a table is declared in the program
-abbrev IsPlaced : ℕ → List ObjectDecl → ℕ → ObjectDecl → Type 0
+abbrev pub IsPlaced : ℕ → List ObjectDecl → ℕ → ObjectDecl → Type 0
 IsPlaced o ds n d = (k : ℕ) × (n ≡ o + k) × (slice_get ds k ≡ Some d)
 
-declared_among : (f : Program) (split : List Part) (o : ℕ) (ds : List ObjectDecl) (n : ℕ) (d : ObjectDecl)
+pub declared_among : (f : Program) (split : List Part) (o : ℕ) (ds : List ObjectDecl) (n : ℕ) (d : ObjectDecl)
     → declared_at (tables_from f split o ds) n ≡ Some d → IsPlaced o ds n d
 declared_among f split o [] n d e = cc
 declared_among f split o (x ∷ xs) n d e = by_test (is_looked_up f split o) (declared_among f split (suc o) xs n d) e
@@ -146,10 +148,11 @@ all_at P (x ∷ xs) (suc k) d all e = all_at P xs k d (λ j c lt. all (suc j) c 
 
 -- ## All of it
 
-abbrev Fit : (Program → List Part → List Crossing) → Type 0
-Fit layout = (f : Program) (split : List Part) (registers : List ℕ) → length registers ≡ length (values_of f) → FitsLayout (layout f split) registers
-
-module _ (up_fits : Fit up_layout) (down_fits : Fit down_layout) (code : Code) (made : IsEmitted code) where
+module _ (code : Code) (made : IsEmitted code)
+    (stages : (f : Program) (split : List Part) (writeback : ℕ) → IsBounded f → IsLegal f split → GoByStages (emitted f split writeback))
+    (rising : (f : Program) (split : List Part) → IsRising (up_layout f split) × IsRising (down_layout f split))
+    (up_needed : (f : Program) (split : List Part) → IsLegal f split → (writeback : ℕ) → All (λ (c : Crossing). IsNeeded (pre_spans (emitted f split writeback)) (emitted f split writeback).pre.highest c.number) (up_layout f split))
+    (down_needed : (f : Program) (split : List Part) (writeback : ℕ) → All (λ (c : Crossing). IsNeeded (post_spans (emitted f split writeback)) 0 c.number) (down_layout f split)) where
   abbrev f : Program
   f = made.program
 
@@ -167,12 +170,6 @@ module _ (up_fits : Fit up_layout) (down_fits : Fit down_layout) (code : Code) (
         size = (all_at IsSmall f.objects found.0 d made.bounded.small here).size;
       }
 
-  abbrev zeros : List ℕ
-  zeros = replicate (length (values_of f)) 0
-
-  enough : length zeros ≡ length (values_of f)
-  enough = length-replicate (length (values_of f)) 0
-
   sound : CanBeRun (emitted f split code.writeback)
   sound = record {
     pre = steps_can f (pre_stage split) (length f.code) made.runs (omega arith);
@@ -182,8 +179,11 @@ module _ (up_fits : Fit up_layout) (down_fits : Fit down_layout) (code : Code) (
     rest = rest_there f split well (length f.code) (omega arith);
     pre_fields = writable f f.fields well.fields;
     post_fields = each_filter IsWritable (λ (w : FieldValue). is_post split w.value.instruction) f.fields (writable f f.fields well.fields);
-    up = up_fits f split zeros enough;
-    down = down_fits f split zeros enough;
+    stages = stages f split code.writeback made.bounded made.legal;
+    up = (rising f split).0;
+    up_needed = up_needed f split made.legal code.writeback;
+    down = (rising f split).1;
+    down_needed = down_needed f split code.writeback;
     rising = tables_rise f split 0 f.objects;
     tables = λ o d is. sound_at o d (declared_among f split 0 f.objects o d is);
     writeback = made.writeback;

@@ -21,7 +21,7 @@ use Rattle.split_model.specs.Legal.{IsLegal}
 use Rattle.split_model.specs.Passes.{pre_values, pre_verdict, meets_rest, post_values, post_fields, down_verdict}
 use Rattle.split_model.specs.Shown.{is_shown}
 use Rattle.transfer_header.specs.Values.{value_by}
-use Rattle.switch_ir.specs.Code.{Step, PassCode, Code}
+use Rattle.switch_ir.specs.Passes.{Step, PassCode, Code}
 use Rattle.switch_ir.specs.Meaning.{up_values, up_verdict, goes_up, down_values, down_end}
 use Rattle.switch_ir.specs.declared.code.Table.{Table}
 

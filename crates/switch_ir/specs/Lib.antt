@@ -1,9 +1,12 @@
+pub mod Passes
 pub mod Code
 pub mod Meaning
 pub mod Emitted
 pub mod Emitting
 pub mod Journal
 pub mod Tables
+pub mod Spans
+pub mod LastReads
 pub mod Port
 pub mod Sound
 pub mod Once

@@ -10,7 +10,7 @@ use Rattle.flat_ir.specs.Blocks.{Reading, nothing, is_live}
 use Rattle.flat_ir.specs.Run.{results, sent}
 use Rattle.split_model.specs.declared.layout.Crossing.{Crossing}
 use Rattle.split_model.specs.Crossing.{is_value}
-use Rattle.switch_ir.specs.Code.{Step, PassCode, Code}
+use Rattle.switch_ir.specs.Passes.{Step, PassCode, Code}
 
 -- ## A pass in stages
 

@@ -1,17 +1,21 @@
 -- That code can be run has at most one proof.
-use Rattle.std.specs.Prelude.{◌≤◌, ℕ, List, length, replicate}
-use Rattle.std.specs.List.{AllByRecursion, AllByRecursion-prop}
+use Rattle.std.specs.Prelude.{◌≡◌, ◌≤◌, ◌<◌, ℕ, true, List, [], length}
+use Rattle.std.specs.List.{All, AllByRecursion, AllByRecursion-prop}
 use Rattle.std.specs.Coded.{Coded-set, coded_bool, coded_ℕ, le_prop, ×_prop, Unit-prop}
 use Rattle.state_store.specs.declared.object.ObjectDecl.{ObjectDecl}
 use Rattle.state_store.specs.Once.{kept_object_prop}
 use Rattle.state_store.specs.Store.{start_object}
 use Rattle.flat_ir.specs.declared.program.FieldValue.{FieldValue}
 use Rattle.flat_ir.specs.Operands.{CanRun}
-use Rattle.flat_ir.specs.Program.{Work}
+use Rattle.flat_ir.specs.declared.spans.Span.{Span}
+use Rattle.flat_ir.specs.Program.{Work, operands}
 use Rattle.flat_ir.specs.Program.Work.{const, field, apply, shift, select, byte, look, put, del}
 use Rattle.split_model.specs.declared.layout.Crossing.{Crossing}
-use Rattle.transfer_header.specs.Registers.{FitsLayout}
-use Rattle.switch_ir.specs.Code.{Step, Code}
+use Rattle.split_model.specs.Crossing.{is_among}
+use Rattle.transfer_header.specs.Registers.{IsRising}
+use Rattle.transfer_header.specs.Steps.{IsNeeded}
+use Rattle.switch_ir.specs.Passes.{Step, PassCode, Code}
+use Rattle.switch_ir.specs.Spans.{written_in, pre_spans, post_spans, GoesByStages, GoByStages, Written}
 use Rattle.switch_ir.specs.Sound.{CanStep, IsWritable, IsSound, CanBeRun}
 
 can_run_prop : (work : Work) → IsProp (CanRun work)
@@ -37,10 +41,34 @@ sound_prop d a b = λ i. record {
   size = le_prop a.size b.size i;
 }
 
-fits_prop : (layout : List Crossing) (registers : List ℕ) → IsProp (FitsLayout layout registers)
-fits_prop layout registers a b = λ i. record {
-  rising = λ k n d lt within. le_prop (a.rising k n d lt within) (b.rising k n d lt within) i;
-  among = λ k d within. le_prop (a.among k d within) (b.among k d within) i;
+never_prop : IsProp ⊥
+never_prop a b = absurd a
+
+stages_prop : (had : List Written) (pass : PassCode) → IsProp (GoesByStages had pass)
+stages_prop had pass a b = λ i. record {
+  apart = λ k n d lt within same. never_prop (a.apart k n d lt within same) (b.apart k n d lt within same) i;
+  given = AllByRecursion-prop (λ s. s.stage ≡ 0) (λ s. Coded-set coded_ℕ _ _) pass.given a.given b.given i;
+  low = AllByRecursion-prop (λ s. s.stage ≤ pass.highest) (λ s. le_prop) pass.steps a.low b.low i;
+  lower = AllByRecursion-prop (λ s. AllByRecursion (λ w. is_among w.value (operands s.work) ≡ true → w.stage < s.stage) had)
+      (λ s. AllByRecursion-prop (λ w. is_among w.value (operands s.work) ≡ true → w.stage < s.stage)
+      (λ w f g. λ j read. le_prop (f read) (g read) j) had) pass.steps a.lower b.lower i;
+}
+
+rising_prop : (layout : List Crossing) → IsProp (IsRising layout)
+rising_prop layout a b = λ i k n d lt within. le_prop (a k n d lt within) (b k n d lt within) i
+
+needed_prop : (spans : List Span) (step : ℕ) (layout : List Crossing) → IsProp (All (λ c. IsNeeded spans step c.number) layout)
+needed_prop spans step layout a b = λ i k d within. Coded-set coded_bool _ _ (a k d within) (b k d within) i
+
+numbers_prop : (count : ℕ) (had : List Written) → IsProp (AllByRecursion (λ w. w.number < count) had)
+numbers_prop count = AllByRecursion-prop (λ w. w.number < count) (λ w. le_prop)
+
+by_stages_prop : (code : Code) → IsProp (GoByStages code)
+by_stages_prop code a b = λ i. record {
+  pre = stages_prop (written_in code.tables [] code.pre) code.pre a.pre b.pre i;
+  post = stages_prop (written_in code.tables code.down code.post) code.post a.post b.post i;
+  pre_numbers = numbers_prop code.values (written_in code.tables [] code.pre) a.pre_numbers b.pre_numbers i;
+  post_numbers = numbers_prop code.values (written_in code.tables code.down code.post) a.post_numbers b.post_numbers i;
 }
 
 pub can_be_run_prop : (code : Code) → IsProp (CanBeRun code)
@@ -52,8 +80,11 @@ can_be_run_prop code a b = λ i. record {
   rest = AllByRecursion-prop (λ b. b ≤ length code.pre.blocks) (λ b. le_prop) code.pre.rest a.rest b.rest i;
   pre_fields = writable_prop code.pre.fields a.pre_fields b.pre_fields i;
   post_fields = writable_prop code.post.fields a.post_fields b.post_fields i;
-  up = fits_prop code.up (replicate code.values 0) a.up b.up i;
-  down = fits_prop code.down (replicate code.values 0) a.down b.down i;
+  stages = by_stages_prop code a.stages b.stages i;
+  up = rising_prop code.up a.up b.up i;
+  up_needed = needed_prop (pre_spans code) code.pre.highest code.up a.up_needed b.up_needed i;
+  down = rising_prop code.down a.down b.down i;
+  down_needed = needed_prop (post_spans code) 0 code.down a.down_needed b.down_needed i;
   rising = λ k n d lt within. le_prop (a.rising k n d lt within) (b.rising k n d lt within) i;
   tables = λ o d is. sound_prop d (a.tables o d is) (b.tables o d is) i;
   writeback = le_prop a.writeback b.writeback i;

@@ -1,15 +1,17 @@
 -- What a switch can rely on in its code.
-use Rattle.std.specs.Prelude.{◌≡◌, ◌<◌, ◌≤◌, ℕ, Some, length, replicate}
-use Rattle.std.specs.List.{AllByRecursion as Each, AllPairs}
+use Rattle.std.specs.Prelude.{◌≡◌, ◌<◌, ◌≤◌, ℕ, Some, length}
+use Rattle.std.specs.List.{AllByRecursion as Each, All, AllPairs}
 use Rattle.state_store.specs.declared.object.ObjectDecl.{ObjectDecl}
 use Rattle.state_store.specs.Kept.{IsKeptObject}
 use Rattle.state_store.specs.Store.{start_object}
 use Rattle.flat_ir.specs.Blocks.{HasLowParents}
 use Rattle.flat_ir.specs.Operands.{CanRun}
 pub use Rattle.flat_ir.specs.Writable.{IsWritable}
-use Rattle.transfer_header.specs.Registers.{FitsLayout}
+use Rattle.transfer_header.specs.Registers.{IsRising}
+use Rattle.transfer_header.specs.Steps.{IsNeeded}
 use Rattle.switch_ir.specs.declared.code.Table.{Table}
-use Rattle.switch_ir.specs.Code.{Step, Code}
+use Rattle.switch_ir.specs.Passes.{Step, Code}
+use Rattle.switch_ir.specs.Spans.{pre_spans, post_spans, GoByStages}
 use Rattle.switch_ir.specs.Tables.{declared_at}
 
 -- the instruction can be computed from numbers and tables
@@ -32,9 +34,13 @@ pub record CanBeRun (code : Code) : Type 0 where
   -- a pass sets fields that can be written
   pub pre_fields : Each IsWritable code.pre.fields
   pub post_fields : Each IsWritable code.post.fields
-  -- there is a register for each value of a layout
-  pub up : FitsLayout code.up (replicate code.values 0)
-  pub down : FitsLayout code.down (replicate code.values 0)
+  -- its passes go by stages
+  pub stages : GoByStages code
+  -- what goes up is needed after the last stage, and what comes down before the first
+  pub up : IsRising code.up
+  pub up_needed : All (λ c. IsNeeded (pre_spans code) code.pre.highest c.number) code.up
+  pub down : IsRising code.down
+  pub down_needed : All (λ c. IsNeeded (post_spans code) 0 c.number) code.down
   -- what is looked up stands in order of declaration, is small, and starts as it was declared
   pub rising : AllPairs (λ (a b : Table). a.number < b.number) code.tables
   pub tables : (o : ℕ) (d : ObjectDecl) → declared_at code.tables o ≡ Some d → IsSound d

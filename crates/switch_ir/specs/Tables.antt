@@ -9,7 +9,7 @@ use Rattle.writeback_table.specs.declared.command.Command.{Command}
 use Rattle.writeback_table.specs.declared.command.Command.TheVariants.{Stage, On, Main, Off, Clear}
 use Rattle.writeback_table.specs.Pair.{Pair, visible, applied, has_room}
 use Rattle.writeback_table.specs.Commands.{bit_after}
-use Rattle.switch_ir.specs.Code.{Code}
+use Rattle.switch_ir.specs.Passes.{Code}
 use Rattle.switch_ir.specs.declared.code.Table.{Table}
 
 -- the tables of each object, by its number, and the bit

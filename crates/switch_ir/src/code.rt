@@ -1,9 +1,11 @@
 //! The code of a switch.
 ghost use Rattle.std.specs.Prelude.{◌≡◌, ◌==◌, ◌++◌, ◌∷◌, [], map, length, IfOk, OnOk, OnErr};
 ghost use Rattle.flat_ir.specs.Program.{work_of};
-ghost use Rattle.switch_ir.specs.Code.{step_of, pass_of, code_of};
+ghost use Rattle.transfer_header.specs.Plans.{IsPlanOf, plan_prop};
+ghost use Rattle.switch_ir.specs.Passes.{step_of, pass_of};
+ghost use Rattle.switch_ir.specs.Spans.{pass_spans};
 
-use flat_ir::{Blocks, InstrKind, Out};
+use flat_ir::{Blocks, InstrKind, Out, RegPlan};
 use gal_io::NoMemory;
 use split_model::Layout;
 use state_store::ObjectDecl;
@@ -114,12 +116,15 @@ pub struct Pass {
     pub out: Out,
     /// The highest stage, 0 where no instruction has one.
     pub highest: u32,
+    /// The registers of its values.
+    pub plan: RegPlan,
 }
 
 impl Pass {
     /// Another one that does the same.
     pub fn copy(&self, alloc: Global) -> Result<Self, NoMemory>
-        ensures { IfOk result (λ made. pass_of made ≡ pass_of self.now) }
+        ensures same { IfOk result (λ made. pass_of made ≡ pass_of self.now) }
+        ensures plan { IfOk result (λ made. made.plan ≡ self.now.plan) }
     {
         Ok(Pass {
             steps: self.steps.copy(alloc)?,
@@ -128,6 +133,7 @@ impl Pass {
             rest: self.rest.to_vec(alloc)?,
             out: self.out.copy(alloc)?,
             highest: self.highest,
+            plan: self.plan.copy(alloc)?,
         })
     }
 }
@@ -231,9 +237,14 @@ pub struct SwitchCode {
     pub writeback: u32,
     /// How many values the flat program has.
     pub values: u32,
+    // Each plan is one of the spans of its pass.
+    ghost pre_plan: { IsPlanOf (pass_spans tables [] up (pass_of pre)) pre.plan } by { plan_prop (pass_spans tables [] up (pass_of pre)) pre.plan },
+    ghost post_plan: { IsPlanOf (pass_spans tables down [] (pass_of post)) post.plan } by { plan_prop (pass_spans tables down [] (pass_of post)) post.plan },
 }
 
 impl SwitchCode {
+    ghost use Rattle.switch_ir.specs.Code.{code_of};
+
     /// Code that does the same, in memory of its own.
     pub fn copy(&self, alloc: Global) -> Result<Self, NoMemory>
         ensures { IfOk result (λ made. code_of made ≡ code_of self.now) }

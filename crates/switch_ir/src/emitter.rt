@@ -11,14 +11,16 @@ ghost use Rattle.switch_ir.specs.Code.{code_of, pass_of};
 ghost use Rattle.switch_ir.specs.Emitted.{emitted, pre_code, post_code, AllRun, Computes, IsEmitted};
 
 use crate::code::{Pass, Steps, SwitchCode};
-use crate::laws::what_is_emitted_computes_the_split;
+use crate::laws::{what_is_emitted_computes_the_split, what_is_emitted_goes_by_stages};
 use crate::looked_up::looked_up;
 use crate::rest::rest;
+use crate::spans::{no_plan, plan_of, values_are_few};
 use crate::steps::{Role, given_steps, highest, steps, values};
 use flat_ir::{FieldValue, Flat, Out, what_fits_can_run};
 use gal_io::NoMemory;
-use split_model::{Split, down_layout, up_layout};
+use split_model::{Layout, Split, down_layout, up_layout};
 use std::alloc::Global;
+use transfer_header::values_have_their_numbers;
 
 /// The code of the switch's part of a split program, with room for `writeback` rows in each write-back table.
 pub fn emit(alloc: Global, f: &Flat, s: &Split, writeback: u32) -> Result<SwitchCode, NoMemory>
@@ -32,12 +34,19 @@ pub fn emit(alloc: Global, f: &Flat, s: &Split, writeback: u32) -> Result<Switch
         → IfOk result (λ code. IsEmitted (code_of code)) }
 {
     what_is_emitted_computes_the_split();
+    what_is_emitted_goes_by_stages();
+    values_are_few(f);
+    values_have_their_numbers();
     all_run(f);
-    let pre = pre_pass(alloc, f, s)?;
-    let post = post_pass(alloc, f, s)?;
+    let count = values(f);
+    let mut pre = pre_pass(alloc, f, s)?;
+    let mut post = post_pass(alloc, f, s)?;
     let up = up_layout(alloc, f, s)?;
     let down = down_layout(alloc, f, s)?;
     let tables = looked_up(alloc, f, s)?;
+    let none = Layout::new(alloc);
+    pre.plan = plan_of(alloc, &pre, &none, &up, &tables, f.code.len())?;
+    post.plan = plan_of(alloc, &post, &down, &none, &tables, f.code.len())?;
     Ok(SwitchCode {
         pre,
         post,
@@ -45,7 +54,7 @@ pub fn emit(alloc: Global, f: &Flat, s: &Split, writeback: u32) -> Result<Switch
         down,
         tables,
         writeback,
-        values: values(f),
+        values: count,
     })
 }
 
@@ -59,7 +68,7 @@ fn all_run(f: &Flat)
     }
 }
 
-// The pass over a packet that arrives.
+// The pass over a packet that arrives, but for its plan.
 fn pre_pass(alloc: Global, f: &Flat, s: &Split) -> Result<Pass, NoMemory>
     requires { IsBounded (program_of f.now) }
     ensures { IfOk result (λ pass. pass_of pass ≡ pre_code (program_of f.now) s.now) }
@@ -75,10 +84,11 @@ fn pre_pass(alloc: Global, f: &Flat, s: &Split) -> Result<Pass, NoMemory>
         rest: left,
         out,
         highest: highest(f, s, Role::Pre),
+        plan: no_plan(alloc)?,
     })
 }
 
-// The pass over a packet that comes down.
+// The pass over a packet that comes down, but for its plan.
 fn post_pass(alloc: Global, f: &Flat, s: &Split) -> Result<Pass, NoMemory>
     requires { IsBounded (program_of f.now) }
     ensures { IfOk result (λ pass. pass_of pass ≡ post_code (program_of f.now) s.now) }
@@ -98,6 +108,7 @@ fn post_pass(alloc: Global, f: &Flat, s: &Split) -> Result<Pass, NoMemory>
             fields,
         },
         highest: highest(f, s, Role::Post),
+        plan: no_plan(alloc)?,
     })
 }
 

@@ -4,14 +4,16 @@
 mod code;
 mod emitter;
 mod journal;
+mod last_reads;
 mod laws;
 mod looked_up;
 mod port;
 mod rest;
+mod spans;
 mod steps;
 
 pub use code::{Pass, PassStep, Steps, SwitchCode, Table, Tables};
 pub use emitter::emit;
 pub use journal::{Entry, Journal};
-pub use laws::{what_is_emitted_can_be_run, what_is_emitted_computes_the_split};
+pub use laws::{passes_have_spans, what_is_emitted_can_be_run, what_is_emitted_computes_the_split};
 pub use port::{CommandEnd, DownEnd, PortEnd, RowsEnd, SwitchPort, UpEnd};

@@ -1,4 +1,4 @@
-use Rattle.std.proofs.Common.{◌≡◌, ◌<◌, ◌∙◌, length, ◌&&◌, ◌∷◌, [], not, Some, None, ap, sym, arith}
+use Rattle.std.proofs.Common.{◌<◌, ◌∙◌, length, ◌&&◌, ◌∷◌, [], not, Some, None, ap, sym, arith}
 use Rattle.std.proofs.lemmas.Bool.{cond-true, cond-false}
 use Rattle.std.proofs.lemmas.List.{length-map}
 use Rattle.flat_ir.specs.Program.{program_of, step_at, step_of}

@@ -1,5 +1,4 @@
 use Rattle.std.proofs.Common.{◌≡◌}
-use Rattle.flat_ir.specs.Program.{program_of}
 use Rattle.switch_ir.specs.Emitted.{highest_of}
 use Rattle.switch_ir.specs.Emitting.{stage_in}
 use Rattle.switch_ir.proofs.steps.highest.Given as goal

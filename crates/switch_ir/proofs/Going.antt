@@ -1,0 +1,257 @@
+-- Both passes of the code of a legally split program go by stages.
+use Rattle.std.proofs.Common.{◌≡◌, ◌≢◌, ℕ, zero, suc, ◌<◌, ◌≤◌, Bool, true, false, not, ◌&&◌, ◌||◌, List, [], ◌∷◌, ◌++◌, length, map, Option, Some, None, is_some, refl, sym, ap, ◌∙◌, inl, inr, arith, get_or, slice_get, if◌then◌else◌}
+use Rattle.std.specs.List.{AllByRecursion as Each, AllPairs, filter}
+use Rattle.std.specs.Prelude.{nat_lt}
+use Rattle.std.proofs.lemmas.Bool.{cases_lt, and_parts, ltb-true, false≢true}
+use Rattle.std.proofs.lemmas.List.Elements.{All-map}
+use Rattle.std.proofs.lemmas.List.Kept.{AllPairs-cons}
+use Rattle.std.proofs.lemmas.Option.{slice_get_past}
+use Rattle.flat_ir.specs.declared.program.ValueId.{ValueId}
+use Rattle.flat_ir.specs.Program.{Program, Work, step_at, operands, result_count, is_named}
+use Rattle.flat_ir.specs.Program.Work.{const, field, apply, shift, select, byte, look, put, del}
+use Rattle.split_model.specs.declared.layout.Crossing.{Crossing}
+use Rattle.split_model.specs.declared.split.Part.{Part}
+use Rattle.split_model.specs.Crossing.{is_among as is_value_among, is_at_hand, is_read_by, crosses_down}
+use Rattle.split_model.specs.Laws.{GoesByStages as ProgramGoesByStages}
+use Rattle.split_model.specs.Layouts.{values_of, number_of, crossing, down_layout}
+use Rattle.split_model.specs.Split.{is_post, pre_stage, post_stage}
+use Rattle.transfer_header.specs.Registers.{IsRising}
+use Rattle.switch_ir.specs.declared.code.Table.{Table}
+use Rattle.switch_ir.specs.Emitted.{steps_of, only_value, is_given, is_read_after, given_stage, tables_from, emitted}
+use Rattle.switch_ir.specs.LastReads.{AreInside, IsInside}
+use Rattle.switch_ir.specs.Passes.{Step}
+use Rattle.switch_ir.specs.Spans.{Written, written_by, handed_in, GoByStages}
+use Rattle.switch_ir.proofs.Handing.{HasNumbers}
+use Rattle.switch_ir.proofs.Soundness.{each_append, each_weaker}
+use Rattle.switch_ir.proofs.Spanned.{each_get}
+use Rattle.switch_ir.proofs.Staging.{apart_append, IsStepOf, IsValueOf, steps_are, values_are, steps_apart, low_steps, reads_lower, reads_given, named}
+
+abbrev AreApart : List Written → Type 0
+AreApart had = AllPairs (λ (a b : Written). a.number ≢ b.number) had
+
+each_both : {X Y : Type 0} (Q : X → Y → Type 0) → (ss : List X) (xs ys : List Y) → Each (λ s. Each (Q s) xs) ss → Each (λ s. Each (Q s) ys) ss → Each (λ s. Each (Q s) (xs ++ ys)) ss
+each_both Q [] xs ys h k = tt
+each_both Q (s ∷ ss) xs ys h k = (each_append (Q s) xs ys h.0 k.0, each_both Q ss xs ys h.1 k.1)
+
+clash : (b : Bool) → not b ≡ true → b ≡ true → ⊥
+clash b other is = false≢true (sym (ap not is) ∙ other)
+
+same_some : {X : Type 0} (x y : X) → Some x ≡ Some y → x ≡ y
+same_some x y e = cc
+
+handed_apart : (layout : List Crossing) → IsRising layout → AreApart (handed_in layout)
+handed_apart [] rising = λ i j d lt within. absurd (omega (arith, within))
+handed_apart (c ∷ cs) rising =
+    AllPairs-cons (λ (a b : Written). a.number ≢ b.number) (record { value = c.value; number = c.number; stage = 0 }) (handed_in cs)
+    (All-map (λ (b : Written). c.number ≢ b.number) (λ (q : Crossing). record { value = q.value; number = q.number; stage = 0 }) cs
+    (λ k d lt e. omega (arith, e, rising 0 (suc k) d (omega arith) (omega (arith, lt)))))
+    (handed_apart cs (λ i j d lt within. rising (suc i) (suc j) d (omega (arith, lt)) (omega (arith, within))))
+
+module _ (numbers : HasNumbers) (f : Program) (split : List Part) where
+  abbrev tables : List Table
+  tables = tables_from f split 0 f.objects
+
+  -- ---- values with their numbers
+  abbrev IsNumbered : Written → Type 0
+  IsNumbered w = (is_named f w.value ≡ true) × (w.number ≡ number_of f w.value)
+
+  by_value : (a b : Written) → IsNumbered a → IsNumbered b → (a.value ≡ b.value → ⊥) → a.number ≢ b.number
+  by_value a b na nb differ e =
+      let same : number_of f a.value ≡ number_of f b.value = sym na.1 ∙ e ∙ nb.1 in
+      differ (same_some a.value b.value (sym (numbers f a.value na.0) ∙ ap (slice_get (values_of f)) same ∙ numbers f b.value nb.0))
+
+  in_values : (w : Written) → IsNumbered w → w.number < length (values_of f)
+  in_values w is = elim (cases_lt w.number (length (values_of f))) [
+    | inl lt ↦ lt
+    | inr past ↦ absurd (none_some (sym (slice_get_past (values_of f) w.number past) ∙ ap (slice_get (values_of f)) is.1 ∙ numbers f w.value is.0))
+  ]
+    where
+      none_some : None ≡ Some w.value → ⊥
+      none_some e = cc
+
+  numbered : (stage : ℕ → Option ℕ) (w : Written) → IsValueOf f split stage w → IsNumbered w
+  numbered stage w is = (named f split stage w is, is.3)
+
+  -- ---- what is handed down
+  abbrev IsHandedDown : Written → Type 0
+  IsHandedDown w = (crosses_down f split w.value ≡ true) × (w.number ≡ number_of f w.value) × (w.stage ≡ 0)
+
+  handed_among : (vs : List ValueId) → Each IsHandedDown (handed_in (map (crossing f) (filter (crosses_down f split) vs)))
+  handed_among [] = tt
+  handed_among (v ∷ vs) = by_test (crosses_down f split v) refl (handed_among vs)
+    where
+      by_test : (b : Bool) → crosses_down f split v ≡ b → Each IsHandedDown (handed_in (map (crossing f) (filter (crosses_down f split) vs)))
+          → Each IsHandedDown (handed_in (map (crossing f) (if b then v ∷ filter (crosses_down f split) vs else filter (crosses_down f split) vs)))
+      by_test true own rest = ((own, refl, refl), rest)
+      by_test false own rest = rest
+
+  abbrev handed : List Written
+  handed = handed_in (down_layout f split)
+
+  handed_are : Each IsHandedDown handed
+  handed_are = handed_among (values_of f)
+
+  crossing_parts : (v : ValueId) → crosses_down f split v ≡ true → (is_named f v && not (is_post split v.instruction)) ≡ true
+  crossing_parts v e =
+      let read = is_value_among v (f.send ∷ f.port ∷ []) || (not (is_at_hand f split (step_at f v.instruction).work) && is_read_by f (is_post split) v) in
+      (and_parts (is_named f v && not (is_post split v.instruction)) read e).0
+
+  handed_named : (v : ValueId) → crosses_down f split v ≡ true → is_named f v ≡ true
+  handed_named v e = (and_parts (is_named f v) (not (is_post split v.instruction)) (crossing_parts v e)).0
+
+  handed_not_post : (v : ValueId) → crosses_down f split v ≡ true → not (is_post split v.instruction) ≡ true
+  handed_not_post v e = (and_parts (is_named f v) (not (is_post split v.instruction)) (crossing_parts v e)).1
+
+  handed_numbered : (w : Written) → IsHandedDown w → IsNumbered w
+  handed_numbered w is = (handed_named w.value is.0, is.1)
+
+  -- and has a place among the first 9 results
+  pub handed_inside : ((work : Work) → result_count f.objects work ≤ 9) → AreInside (length f.code) (handed_in (down_layout f split))
+  handed_inside few =
+      each_weaker IsHandedDown (IsInside (length f.code))
+      (λ w is.
+      let range = and_parts (nat_lt w.value.instruction (length f.code)) (nat_lt w.value.result (result_count f.objects (step_at f w.value.instruction).work)) (handed_named w.value is.0) in
+      let below = ltb-true w.value.result (result_count f.objects (step_at f w.value.instruction).work) range.1 in
+      (ltb-true w.value.instruction (length f.code) range.0, omega (arith, below, few (step_at f w.value.instruction).work)))
+      handed handed_are
+
+  -- ---- what is given
+  abbrev given : List Written
+  given = written_by tables (steps_of f (given_stage f split))
+
+  is_first : (b : Bool) (t : ℕ) → (if b then Some 0 else None) ≡ Some t → (b ≡ true) × (t ≡ 0)
+  is_first true t e = (refl, sym (same_some 0 t e))
+  is_first false t e = cc
+
+  record IsGivenAt (i : ℕ) : Type 0 where
+    hand : is_at_hand f split (step_at f i).work ≡ true
+    later : not (is_post split i) ≡ true
+    crosses : not (crosses_down f split (only_value i)) ≡ true
+
+  given_at : (i t : ℕ) → given_stage f split i ≡ Some t → IsGivenAt i
+  given_at i t e =
+      let is = (is_first (is_given f split i) t e).0 in
+      let rest = not (crosses_down f split (only_value i)) && is_read_after f split (only_value i) in
+      let a = and_parts (is_at_hand f split (step_at f i).work) (not (is_post split i) && rest) is in
+      let b = and_parts (not (is_post split i)) rest a.1 in
+      let c = and_parts (not (crosses_down f split (only_value i))) (is_read_after f split (only_value i)) b.1 in
+      record { hand = a.0; later = b.0; crosses = c.0 }
+
+  one_result : (work : Work) → is_at_hand f split work ≡ true → result_count f.objects work ≡ 1
+  one_result (const width number) e = omega arith
+  one_result (field name) e = omega arith
+  one_result (apply op width args) e = absurd (false≢true e)
+  one_result (shift op width arg by) e = absurd (false≢true e)
+  one_result (select width cond first second) e = absurd (false≢true e)
+  one_result (byte index) e = absurd (false≢true e)
+  one_result (look object keys) e = absurd (false≢true e)
+  one_result (put object keys values) e = absurd (false≢true e)
+  one_result (del object keys) e = absurd (false≢true e)
+
+  only_one : (v : ValueId) → is_at_hand f split (step_at f v.instruction).work ≡ true → v.result < result_count f.objects (step_at f v.instruction).work → only_value v.instruction ≡ v
+  only_one v hand lt =
+      let first : 0 ≡ v.result = omega (arith, lt, one_result (step_at f v.instruction).work hand) in
+      λ i. record { instruction = v.instruction; result = first i }
+
+  -- ---- groups that have no value in common
+  abbrev steps : List Written
+  steps = written_by tables (steps_of f (post_stage split))
+
+  given_values : Each (IsValueOf f split (given_stage f split)) given
+  given_values = values_are f split (given_stage f split) (length f.code) (omega arith)
+
+  steps_values : Each (IsValueOf f split (post_stage split)) steps
+  steps_values = values_are f split (post_stage split) (length f.code) (omega arith)
+
+  stepped_post : (w : Written) → IsValueOf f split (post_stage split) w → is_post split w.value.instruction ≡ true
+  stepped_post w is = ap (λ (o : Option ℕ). is_some o) is.0
+
+  given_from_steps : (i j : ℕ) (d : Written) → i < length given → j < length steps → (get_or given i d).number ≢ (get_or steps j d).number
+  given_from_steps i j d lt within =
+      let a = get_or given i d in
+      let b = get_or steps j d in
+      let of = each_get (IsValueOf f split (given_stage f split)) given i d given_values lt in
+      let on = each_get (IsValueOf f split (post_stage split)) steps j d steps_values within in
+      by_value a b (numbered (given_stage f split) a of) (numbered (post_stage split) b on)
+      (λ e. clash (is_post split a.value.instruction) (given_at a.value.instruction a.stage of.0).later
+      (ap (λ (v : ValueId). is_post split v.instruction) e ∙ stepped_post b on))
+
+  handed_from_steps : (i j : ℕ) (d : Written) → i < length handed → j < length steps → (get_or handed i d).number ≢ (get_or steps j d).number
+  handed_from_steps i j d lt within =
+      let a = get_or handed i d in
+      let b = get_or steps j d in
+      let of = each_get IsHandedDown handed i d handed_are lt in
+      let on = each_get (IsValueOf f split (post_stage split)) steps j d steps_values within in
+      by_value a b (handed_numbered a of) (numbered (post_stage split) b on)
+      (λ e. clash (is_post split a.value.instruction) (handed_not_post a.value of.0)
+      (ap (λ (v : ValueId). is_post split v.instruction) e ∙ stepped_post b on))
+
+  handed_from_given : (i j : ℕ) (d : Written) → i < length handed → j < length given → (get_or handed i d).number ≢ (get_or given j d).number
+  handed_from_given i j d lt within =
+      let a = get_or handed i d in
+      let b = get_or given j d in
+      let of = each_get IsHandedDown handed i d handed_are lt in
+      let on = each_get (IsValueOf f split (given_stage f split)) given j d given_values within in
+      let at = given_at b.value.instruction b.stage on.0 in
+      by_value a b (handed_numbered a of) (numbered (given_stage f split) b on)
+      (λ e. clash (crosses_down f split b.value)
+      (ap (λ (v : ValueId). not (crosses_down f split v)) (sym (only_one b.value at.hand on.2)) ∙ at.crosses)
+      (ap (crosses_down f split) (sym e) ∙ of.0))
+
+  split_groups : (i j : ℕ) (d : Written) → i < length handed → j < length (given ++ steps) → (get_or handed i d).number ≢ (get_or (given ++ steps) j d).number
+  split_groups i j d lt within = both given steps (λ k x. handed_from_given i k x lt) (λ k x. handed_from_steps i k x lt) j d within
+    where
+      both : (xs ys : List Written) → ((k : ℕ) (x : Written) → k < length xs → (get_or handed i x).number ≢ (get_or xs k x).number)
+          → ((k : ℕ) (x : Written) → k < length ys → (get_or handed i x).number ≢ (get_or ys k x).number)
+          → (k : ℕ) (x : Written) → k < length (xs ++ ys) → (get_or handed i x).number ≢ (get_or (xs ++ ys) k x).number
+      both [] ys first last k x below = last k x below
+      both (z ∷ xs) ys first last zero x below = first 0 x (omega arith)
+      both (z ∷ xs) ys first last (suc k) x below = both xs ys (λ m y lt'. first (suc m) y (omega (arith, lt'))) last k x (omega (arith, below))
+
+  -- ---- all of it
+  given_first : Each (λ s. s.stage ≡ 0) (steps_of f (given_stage f split))
+  given_first =
+      each_weaker (IsStepOf f split (given_stage f split)) (λ s. s.stage ≡ 0)
+      (λ s is. (is_first (is_given f split s.instruction) s.stage is.0).1) (steps_of f (given_stage f split))
+      (steps_are f split (given_stage f split) (length f.code) (omega arith))
+
+  given_zero : Each (λ w. w.stage ≡ 0) given
+  given_zero =
+      each_weaker (IsValueOf f split (given_stage f split)) (λ w. w.stage ≡ 0)
+      (λ w is. (is_first (is_given f split w.value.instruction) w.stage is.0).1) given given_values
+
+  handed_zero : Each (λ w. w.stage ≡ 0) handed
+  handed_zero = each_weaker IsHandedDown (λ w. w.stage ≡ 0) (λ w is. is.2) handed handed_are
+
+  post_are : Each (IsStepOf f split (post_stage split)) (steps_of f (post_stage split))
+  post_are = steps_are f split (post_stage split) (length f.code) (omega arith)
+
+  pub goes : IsRising (down_layout f split) → ProgramGoesByStages f (pre_stage split) → ProgramGoesByStages f (post_stage split) → (writeback : ℕ) → GoByStages (emitted f split writeback)
+  goes rising pre_by post_by writeback = record {
+    pre = record {
+      apart = steps_apart f split (pre_stage split) (length f.code);
+      given = tt;
+      low = low_steps f split (pre_stage split) (length f.code);
+      lower = reads_lower f split (pre_stage split) pre_by (steps_of f (pre_stage split)) (written_by tables (steps_of f (pre_stage split)))
+          (steps_are f split (pre_stage split) (length f.code) (omega arith)) (values_are f split (pre_stage split) (length f.code) (omega arith));
+    };
+    post = record {
+      apart = apart_append handed (given ++ steps) (handed_apart (down_layout f split) rising)
+          (apart_append given steps (steps_apart f split (given_stage f split) (length f.code)) (steps_apart f split (post_stage split) (length f.code)) given_from_steps)
+          split_groups;
+      given = given_first;
+      low = low_steps f split (post_stage split) (length f.code);
+      lower = each_both (λ (s : Step) (w : Written). is_value_among w.value (operands s.work) ≡ true → w.stage < s.stage) (steps_of f (post_stage split)) handed (given ++ steps)
+          (reads_given f split (post_stage split) post_by (steps_of f (post_stage split)) handed post_are handed_zero)
+          (each_both (λ (s : Step) (w : Written). is_value_among w.value (operands s.work) ≡ true → w.stage < s.stage) (steps_of f (post_stage split)) given steps
+          (reads_given f split (post_stage split) post_by (steps_of f (post_stage split)) given post_are given_zero)
+          (reads_lower f split (post_stage split) post_by (steps_of f (post_stage split)) steps post_are steps_values));
+    };
+    pre_numbers = each_weaker (IsValueOf f split (pre_stage split)) (λ w. w.number < length (values_of f)) (λ w is. in_values w (numbered (pre_stage split) w is))
+        (written_by tables (steps_of f (pre_stage split))) (values_are f split (pre_stage split) (length f.code) (omega arith));
+    post_numbers = each_append (λ (w : Written). w.number < length (values_of f)) handed (given ++ steps)
+        (each_weaker IsHandedDown (λ w. w.number < length (values_of f)) (λ w is. in_values w (handed_numbered w is)) handed handed_are)
+        (each_append (λ (w : Written). w.number < length (values_of f)) given steps
+        (each_weaker (IsValueOf f split (given_stage f split)) (λ w. w.number < length (values_of f)) (λ w is. in_values w (numbered (given_stage f split) w is)) given given_values)
+        (each_weaker (IsValueOf f split (post_stage split)) (λ w. w.number < length (values_of f)) (λ w is. in_values w (numbered (post_stage split) w is)) steps steps_values));
+  }
