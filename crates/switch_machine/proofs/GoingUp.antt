@@ -1,5 +1,5 @@
 -- Preprocessing in its registers.
-use Rattle.std.proofs.Common.{◌≡◌, ◌≤◌, ◌<◌, ◌^◌, ◌+◌, ◌++◌, ◌==◌, ◌&&◌, ℕ, suc, Bool, true, false, List, [], ◌∷◌, length, map, get_or, Option, Some, None, refl, sym, ap, ◌∙◌, subst, arith}
+use Rattle.std.proofs.Common.{◌≡◌, ◌≤◌, ◌<◌, ◌^◌, ◌+◌, ◌++◌, ◌==◌, ◌&&◌, ℕ, suc, Bool, true, false, List, [], ◌∷◌, length, map, get_or, Option, Some, None, if◌then◌else◌, refl, sym, ap, ◌∙◌, subst, arith}
 use Rattle.std.specs.Prelude.{All, Contains}
 use Rattle.std.specs.List.{list_any, AllByRecursion as Each}
 use Rattle.std.proofs.lemmas.Bool.{and_parts, eqb-true}
@@ -14,10 +14,16 @@ use Rattle.split_model.specs.declared.layout.Crossing.{Crossing}
 use Rattle.split_model.specs.Crossing.{is_value}
 use Rattle.transfer_header.specs.Registers.{Registers, content_of, value_in, ArePlaced, Holds}
 use Rattle.transfer_header.specs.Steps.{Contents, AreKeptApart, AreSpansOf}
+use Rattle.switch_ir.specs.declared.port.UpEnd.{UpEnd}
+use Rattle.switch_ir.specs.declared.port.UpEnd.TheVariants.{Failed, Finished, NoMemory, Up}
+use Rattle.switch_ir.specs.Meaning.{leaves, up_values}
 use Rattle.switch_ir.specs.Passes.{Code, Step}
+use Rattle.switch_ir.specs.Port.{EndsUp}
 use Rattle.switch_ir.specs.Sound.{CanBeRun}
 use Rattle.switch_ir.specs.Spans.{last_read, pre_spans, results_in, span_of, written_in, Written}
 use Rattle.switch_ir.specs.Spans.{steps_of as steps_by_values}
+use Rattle.switch_ir.specs.Tables.{Told, seen_tables}
+use Rattle.switch_machine.specs.Ends.{EndsBy}
 use Rattle.switch_machine.specs.declared.numbering.ValueRange.{ValueRange}
 use Rattle.switch_machine.specs.Keeping.{kept_up, values_in}
 use Rattle.switch_machine.specs.Numbers.{content_at, number_in, reads_by}
@@ -79,3 +85,13 @@ module _ (code : Code) (can : CanBeRun code) (ordered : AreOrdered code) (few : 
       (λ c h. sym (ap (content_at (content_of registers)) (up_number c h))
       ∙ each_has (λ v. reads_by ranges (content_of registers) v ≡ reads v) (values_in code.up) same c.value (made_has (λ (x : Crossing). x.value) code.up c h)))
       lt
+
+-- what becomes of a packet by the values of preprocessing is what becomes of it over the tables
+pub ends_up : (code : Code) (told : Told) (number : ℕ) (packet : Packet) (end : UpEnd)
+    → EndsBy code (up_values code (seen_tables told) packet) number packet end → EndsUp code told number packet end
+ends_up code told number packet (Finished verdict) h =
+    let reads = up_values code (seen_tables told) packet in
+    ap (λ b. if b then None else Some (leaves code.pre reads packet)) h.0 ∙ ap (λ v. Some v) (sym h.1)
+ends_up code told number packet (Up frame) h = h
+ends_up code told number packet Failed h = h
+ends_up code told number packet NoMemory h = h

@@ -1,7 +1,6 @@
 //! Code that is loaded.
-ghost use Rattle.std.specs.Prelude.{◌≡◌, ℕ, [], Some, IfOk};
-ghost use Rattle.flat_ir.specs.Plan.{Plan};
-ghost use Rattle.transfer_header.specs.Registers.{content_of, place_of, ArePlaced};
+ghost use Rattle.std.specs.Prelude.{◌≡◌, ◌<◌, ◌^◌, ℕ, [], IfOk};
+ghost use Rattle.transfer_header.specs.Registers.{content_of, ArePlaced};
 ghost use Rattle.switch_ir.specs.Code.{code_of, pass_of};
 ghost use Rattle.switch_ir.specs.Once.{can_be_run_prop};
 ghost use Rattle.switch_ir.specs.Sound.{CanBeRun};
@@ -67,6 +66,7 @@ pub(crate) struct Loaded {
     ghost pre_stages: { AreStages (pass_of code.pre).steps code.pre.highest pre } by { stages_prop (pass_of code.pre).steps code.pre.highest pre },
     ghost post_stages: { AreStages (pass_of code.post).steps code.post.highest post } by { stages_prop (pass_of code.post).steps code.post.highest post },
     ghost given_stage: { AreStages (pass_of code.post).given 0 given } by { stages_prop (pass_of code.post).given 0 given },
+    ghost few: { code.values < 2 ^ 32 },
     ghost ordered: { AreOrdered (code_of code) } by { ordered_prop (code_of code) },
     ghost pre_ranges: { AreRanges (entries code.tables [] (pass_of code.pre)) pre_numbering } by { ranges_prop (entries code.tables [] (pass_of code.pre)) pre_numbering },
     ghost post_ranges: { AreRanges (entries code.tables code.down (pass_of code.post)) post_numbering } by { ranges_prop (entries code.tables code.down (pass_of code.post)) post_numbering },

@@ -1,5 +1,5 @@
 //! The pass over a packet that arrives.
-ghost use Rattle.std.specs.Prelude.{◌≡◌, ◌≤◌, false, length, IfOk, OnOk};
+ghost use Rattle.std.specs.Prelude.{◌≡◌, ◌≤◌, ◌<◌, false, length, IfOk, OnOk};
 ghost use Rattle.std.specs.List.{AllByRecursion as Each};
 ghost use Rattle.packet_fields.specs.Shape.{shape_of};
 ghost use Rattle.packet_fields.specs.Sizes.{largest_packet};
@@ -67,6 +67,7 @@ fn end_up(
 ) -> Result<UpEnd, NoMemory>
     requires size { length arrival.now.bytes.now ≤ largest_packet }
     requires shape { arrival.now.shape ≡ shape_of arrival.now.bytes.now }
+    requires port { arrival.now.port < 256 }
     requires fits { FitsLayout loaded.old.code.up loaded.old.up.registers }
     ensures code { code_of loaded.new.code ≡ code_of loaded.old.code }
     ensures passes { IfOk result (UpPasses false) }
@@ -83,7 +84,8 @@ fn end_up(
         registers: &loaded.up.registers,
     };
     let pass = &loaded.code.pre;
-    if leaves_work(pass, &run, &mut loaded.marks)? {
+    let leaves = leaves_work(pass, &run, &mut loaded.marks)?;
+    if leaves {
         let registers = &loaded.up.registers;
         let frame = pack_up(
             alloc,
