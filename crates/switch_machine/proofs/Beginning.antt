@@ -131,7 +131,7 @@ module _ (ranges : List ValueRange) (apart : AreNumberedApart ranges) (layout : 
   all_among = subst (λ (ws : List ℕ). Each (λ (p : ℕ × ℕ). is_among p.0 ws ≡ true) pairs) firsts_are (among_firsts pairs)
 
   module _ (keeps : (rs : Registers) (value to other : ℕ) → place_of rs value ≢ place_of rs other
-          → content_of (written rs value to) other ≡ content_of rs other)
+      → content_of (written rs value to) other ≡ content_of rs other)
       (placed : ArePlaced registers)
       (has : (n : ℕ) → is_among n begins ≡ true → HasRegister registers n)
       (places : (n m : ℕ) → is_among n begins ≡ true → is_among m begins ≡ true → n ≢ m → place_of registers n ≢ place_of registers m) where

@@ -253,7 +253,7 @@ module _ (ranges : List ValueRange) (pass : PassCode) (kept : List ValueId) (giv
   own_begins t registers contents same [] there = tt
   own_begins t registers contents same (n ∷ front) there = (
     ap (λ b. cond b (content_of start n) (stage_number ranges (own t) (before t) tables packet n)) there.0
-    ∙ ap (λ (rs : Registers). content_of rs n) (sym (same (at_start t n there.0).0)),
+        ∙ ap (λ (rs : Registers). content_of rs n) (sym (same (at_start t n there.0).0)),
     own_begins t registers contents same front there.1,
   )
 
@@ -286,11 +286,11 @@ module _ (ranges : List ValueRange) (pass : PassCode) (kept : List ValueId) (giv
   }
 
   module _ (lists : (registers : Registers) (pairs : List (ℕ × ℕ)) (numbers : Contents) → All (λ (p : ℕ × ℕ). p.1 ≡ numbers p.0) pairs
-          → pairs_written registers pairs ≡ all_written registers (map (λ (p : ℕ × ℕ). p.0) pairs) numbers)
+      → pairs_written registers pairs ≡ all_written registers (map (λ (p : ℕ × ℕ). p.0) pairs) numbers)
       (one_step : (every : Steps) (spans : List Span) (registers : Registers) (contents : Contents) (step : ℕ)
-          → LooksAtReadsAlone every → AreSpansOf every spans → IsReady spans registers contents step → IsDoneAlike every spans registers contents step)
+      → LooksAtReadsAlone every → AreSpansOf every spans → IsReady spans registers contents step → IsDoneAlike every spans registers contents step)
       (agree : (r r' : Reading) (work : Work) → Each (Same r r') (operands work)
-          → results r false tables packet work ≡ results r' false tables packet work) where
+      → results r false tables packet work ≡ results r' false tables packet work) where
     pub done : (t : ℕ) (registers : Registers) → StandsAt t registers → IsDoneAlike steps set.spans registers (one_each steps t) t
     done t registers at = one_step steps set.spans registers (one_each steps t) t alone of_spans at.ready
 

@@ -205,14 +205,16 @@ module _ (ranges : List ValueRange) (reads : Reading) (tables : Store) (packet :
       let range = range_at ranges s.instruction in
       let given = results reads false tables packet s.work in
       each_two (IsGiven ranges (s ∷ ss) reads tables packet) (first_gives range given k) ((range.first + k, slice_index given k) ∷ [])
-      (first_given s ss k (omega (arith, le)))
-      (record {
-        value = record { instruction = s.instruction; result = k };
-        number = numbered ranges s.instruction k (omega (arith, le));
-        is = cond-true (s.instruction == s.instruction) (slice_index given k)
-            (after_own ss reads tables packet (record { instruction = s.instruction; result = k })) (eq-eqb s.instruction s.instruction refl);
-        other = λ i apart. apart.0;
-      }, tt)
+      (first_given s ss k (omega (arith, le))) (
+        record {
+          value = record { instruction = s.instruction; result = k };
+          number = numbered ranges s.instruction k (omega (arith, le));
+          is = cond-true (s.instruction == s.instruction) (slice_index given k)
+              (after_own ss reads tables packet (record { instruction = s.instruction; result = k })) (eq-eqb s.instruction s.instruction refl);
+          other = λ i apart. apart.0;
+        },
+        tt,
+      )
 
   pub all_given : (ss : List Step) → AreOnce ss → Each (IsGiven ranges ss reads tables packet) (stage_gives ranges ss reads tables packet)
   all_given [] once = tt

@@ -117,9 +117,9 @@ pub once_of : (tables : List Table) (ss : List Step) → Pairs Apart (written_by
 once_of tables [] pairs one = tt
 once_of tables (s ∷ ss) pairs one = (
   has_each (λ (other : Step). s.instruction ≢ other.instruction) ss (λ other h same.
-  pairs_between Apart (results_of s (results_in tables s.work)) (written_by tables ss) pairs (value_at s 0) (value_at other 0)
-  (has_result s (results_in tables s.work) 0 (some_results tables s.work)) (has_written tables ss other 0 h (some_results tables other.work))
-  (ap (λ n. n + 0) (one s other (inl refl) (inr h) same))),
+      pairs_between Apart (results_of s (results_in tables s.work)) (written_by tables ss) pairs (value_at s 0) (value_at other 0)
+      (has_result s (results_in tables s.work) 0 (some_results tables s.work)) (has_written tables ss other 0 h (some_results tables other.work))
+      (ap (λ n. n + 0) (one s other (inl refl) (inr h) same))),
   once_of tables ss (pairs_right Apart (results_of s (results_in tables s.work)) (written_by tables ss) pairs) (λ a b here there. one a b (inr here) (inr there)),
 )
 
@@ -235,9 +235,12 @@ module _ (tables : List Table) (handed up : List Crossing) (pass : PassCode)
 
   one_first : OneFirst all_steps
   one_first s other here there same =
-      omega (arith, order.same (value_at s 0) (value_at other 0)
-      (to_contains had (value_at s 0) (has_all s 0 here (some_results tables s.work)))
-      (to_contains had (value_at other 0) (has_all other 0 there (some_results tables other.work))) same)
+      omega (
+        arith,
+        order.same (value_at s 0) (value_at other 0)
+            (to_contains had (value_at s 0) (has_all s 0 here (some_results tables s.work)))
+            (to_contains had (value_at other 0) (has_all other 0 there (some_results tables other.work))) same,
+      )
 
   all_once : AreOnce all_steps
   all_once = once_of tables all_steps (subst (Pairs Apart) (sym (written_append tables pass.given pass.steps)) (pairs_right Apart (handed_in handed) computed pairs)) one_first
@@ -590,7 +593,6 @@ module _ (tables : List Table) (handed up : List Crossing) (pass : PassCode)
               last = λ t e. is.last t (reads_theirs t span.value e w.value w.there w.number);
             }
 
-
         none_spanned : (n : ℕ) → list_any (λ (w : Written). w.number == n) had ≡ false → spans_of spans n ≡ 0
         none_spanned n none = elim (cases_eq (spans_of spans n) 0) [
           | inl is ↦ is
@@ -632,7 +634,7 @@ module _ (tables : List Table) (handed up : List Crossing) (pass : PassCode)
           (λ n h. has_register t n (list_any-append (λ (w : ℕ). w == n) (first_writes begins t) (stage_writes ranges (of_stage t pass.steps))
           ∙ or_right (is_among n (first_writes begins t)) (is_among n (stage_writes ranges (of_stage t pass.steps))) (has_among n (stage_writes ranges (of_stage t pass.steps)) h)))
 
-      begin_register : (n : ℕ) → is_among n begins ≡ true → HasRegister registers n
+      pub begin_register : (n : ℕ) → is_among n begins ≡ true → HasRegister registers n
       begin_register n e = has_register 0 n (in_first 0 n refl e)
 
       needed_first : (n : ℕ) → is_among n begins ≡ true → (h : HasSpan spans n) → covers 0 h.span ≡ true

@@ -107,6 +107,6 @@ ordered_prop code a b = λ i. record {
       code.down a.others b.others i;
   up = AllByRecursion-prop (λ c. Each (λ (w : Written). w.number ≡ c.number → is_value w.value c.value ≡ true) (written_in code.tables [] code.pre))
       (λ c. AllByRecursion-prop (λ (w : Written). w.number ≡ c.number → is_value w.value c.value ≡ true)
-          (λ w f g. λ j same. Coded-set coded_bool _ _ (f same) (g same) j) (written_in code.tables [] code.pre))
+      (λ w f g. λ j same. Coded-set coded_bool _ _ (f same) (g same) j) (written_in code.tables [] code.pre))
       code.up a.up b.up i;
 }

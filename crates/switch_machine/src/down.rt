@@ -24,7 +24,9 @@ use flat_ir::{Arrival, leave, readings_that_agree};
 use gal_io::NoMemory;
 use packet_fields::{Shape, Verdict};
 use std::alloc::Global;
-use transfer_header::{a_plan_keeps_apart, a_write_keeps_others, needed_values_fit, unpack_down};
+use switch_ir::passes_have_spans;
+use transfer_header::{a_write_keeps_others, needed_values_fit, plans_of_spans, unpack_down};
+use writeback_table::what_a_lookup_sees;
 
 /// The verdict of postprocessing on a frame.
 pub(crate) fn go_down(
@@ -40,7 +42,7 @@ pub(crate) fn go_down(
         EndsDown (code_of loaded.old.code) tables.now frame.now (Ended verdict)) }
 {
     loaded.down.clear();
-    a_plan_keeps_apart();
+    plans_of_spans();
     needed_values_fit();
     let Ok(head) = unpack_down(&loaded.code.down, frame, &mut loaded.down.registers) else {
         unreachable!()
@@ -64,7 +66,6 @@ fn finish(
     requires size { length arrival.now.bytes.now ≤ largest_packet }
     requires shape { arrival.now.shape ≡ shape_of arrival.now.bytes.now }
     requires safe { KeepsTables (code_of loaded.old.code) tables.now }
-    requires fits { FitsLayout loaded.old.code.down loaded.old.down.registers }
     requires placed { ArePlaced loaded.old.down.registers }
     requires empty { loaded.old.down.computed.items ≡ [] }
     ensures code { code_of loaded.new.code ≡ code_of loaded.old.code }
@@ -87,7 +88,6 @@ fn finish(
 fn give(loaded: &mut Loaded, alloc: Global, arrival: &Arrival<'_>) -> Result<(), NoMemory>
     requires size { length arrival.now.bytes.now ≤ largest_packet }
     requires shape { arrival.now.shape ≡ shape_of arrival.now.bytes.now }
-    requires fits { FitsLayout loaded.old.code.down loaded.old.down.registers }
     requires placed { ArePlaced loaded.old.down.registers }
     requires empty { loaded.old.down.computed.items ≡ [] }
     ensures code { code_of loaded.new.code ≡ code_of loaded.old.code }
@@ -98,7 +98,8 @@ fn give(loaded: &mut Loaded, alloc: Global, arrival: &Arrival<'_>) -> Result<(),
     ensures placed { OnOk result (ArePlaced loaded.new.down.registers) }
     ensures empty { OnOk result (loaded.new.down.computed.items ≡ []) }
 {
-    a_plan_keeps_apart();
+    passes_have_spans();
+    plans_of_spans();
     a_write_keeps_others();
     let none = SwitchTables::none(alloc);
     let place = &mut loaded.down;
@@ -132,14 +133,18 @@ fn run_down(
         ≡ pass_values (code_of loaded.old.code).post given (seen_tables tables.now) (packet_of arrival.now) v)
         (kept_down (code_of loaded.old.code))) }
 {
-    a_plan_keeps_apart();
+    passes_have_spans();
+    plans_of_spans();
+    what_a_lookup_sees();
+    let code = &loaded.code;
+    let place = &mut loaded.down;
     run_pass(
-        &loaded.code.post,
+        &code.post,
         &loaded.post,
         &loaded.post_numbering,
         tables,
         arrival,
-        &mut loaded.down.registers,
-        &mut loaded.down.computed,
+        &mut place.registers,
+        &mut place.computed,
     )
 }

@@ -250,12 +250,7 @@ impl ModelSwitch {
     }
 
     // How the pass over a packet that comes down ends, where it fails or doesn't.
-    fn down_end(
-        &mut self,
-        alloc: Global,
-        frame: &[u8],
-        fails: bool,
-    ) -> Result<DownEnd, NoMemory>
+    fn down_end(&mut self, alloc: Global, frame: &[u8], fails: bool) -> Result<DownEnd, NoMemory>
         requires loaded { IsSome (machine_of self.old).code }
         requires frame { IsDownFrame (seen_of (machine_of self.old)) frame.now }
         ensures kept { machine_of self.new ≡ machine_of self.old }

@@ -186,7 +186,14 @@ pub(crate) fn run_pass<L: Lookup>(
             numbering,
             registers: &*registers,
         };
-        read_stage(stages.stage(stage), numbering, &run, tables, arrival, computed)?;
+        read_stage(
+            stages.stage(stage),
+            numbering,
+            &run,
+            tables,
+            arrival,
+            computed,
+        )?;
         write_stage(computed, registers);
     }
     Ok(())

@@ -28,11 +28,7 @@ use transfer_header::{frames_of_low_bits, needed_values_fit, pack_up, plans_of_s
 use writeback_table::what_a_lookup_sees;
 
 // Computes preprocessing.
-fn run_up(
-    loaded: &mut Loaded,
-    tables: &SwitchTables,
-    arrival: &Arrival<'_>,
-) -> Result<(), NoMemory>
+fn run_up(loaded: &mut Loaded, tables: &SwitchTables, arrival: &Arrival<'_>) -> Result<(), NoMemory>
     requires size { length arrival.now.bytes.now ≤ largest_packet }
     requires shape { arrival.now.shape ≡ shape_of arrival.now.bytes.now }
     requires safe { KeepsTables (code_of loaded.old.code) tables.now }
