@@ -27,18 +27,32 @@ module _ (code : Code) (told : Told) (safe : KeepsTables code told) where
       → (KeepsRows e (pair_at told.pairs k) → KeepsRows e (applied (pair_at told.pairs k) c))
       → (o : ℕ) (d : ObjectDecl) → declared_at code.tables o ≡ Some d → KeepsRows d (pair_at (with_command told.pairs k c) o)
   named k e c here keeps o d there =
-      at_pair (KeepsRows d) told.pairs k o (applied (pair_at told.pairs k) c) (safe o d there)
+      at_pair (KeepsRows d) told.pairs k o (applied (pair_at told.pairs k) c) (safe.rows o d there)
       (λ same.
       let one : e ≡ d = the_some e d (sym here ∙ ap (declared_at code.tables) same ∙ there) in
-      subst (λ (x : ObjectDecl). KeepsRows x (applied (pair_at told.pairs k) c)) one (keeps (safe k e here)))
+      subst (λ (x : ObjectDecl). KeepsRows x (applied (pair_at told.pairs k) c)) one (keeps (safe.rows k e here)))
+
+  others : (k : ℕ) (e : ObjectDecl) (c : Command) → declared_at code.tables k ≡ Some e → (o : ℕ) → declared_at code.tables o ≡ None
+      → pair_at (with_command told.pairs k c) o ≡ no_pair
+  others k e c here o none =
+      at_pair (λ p. p ≡ no_pair) told.pairs k o (applied (pair_at told.pairs k) c) (safe.none o none)
+      (λ same. absurd (none_some e (sym none ∙ ap (declared_at code.tables) (sym same) ∙ here)))
 
   pub command_keeps : (c : Command) → IsCommandOf code c → KeepsTables code (told_after c told)
-  command_keeps (Stage u) h = named u.object h.0 (Stage u) h.1.declared (staging h.0 (pair_at told.pairs u.object) u h.2)
-  command_keeps On h = safe
-  command_keeps (Main u) h =
-      named u.object h.0 (Main u) h.1.declared (changing h.0 (pair_at told.pairs u.object) u h.1.changes h.2)
-  command_keeps Off h = safe
-  command_keeps (Clear k key) h = named k h.0 (Clear k key) h.1.declared (clearing h.0 (pair_at told.pairs k) k key)
+  command_keeps (Stage u) h = record {
+    rows = named u.object h.0 (Stage u) h.1.declared (staging h.0 (pair_at told.pairs u.object) u h.2);
+    none = others u.object h.0 (Stage u) h.1.declared;
+  }
+  command_keeps On h = record { rows = safe.rows; none = safe.none }
+  command_keeps (Main u) h = record {
+    rows = named u.object h.0 (Main u) h.1.declared (changing h.0 (pair_at told.pairs u.object) u h.1.changes h.2);
+    none = others u.object h.0 (Main u) h.1.declared;
+  }
+  command_keeps Off h = record { rows = safe.rows; none = safe.none }
+  command_keeps (Clear k key) h = record {
+    rows = named k h.0 (Clear k key) h.1.declared (clearing h.0 (pair_at told.pairs k) k key);
+    none = others k h.0 (Clear k key) h.1.declared;
+  }
 
 -- the code that is loaded is one, so what holds of it holds of each
 pub safe_of : (code : Code) (told : Told) → KeepsTables code told → AreSafe (Some code) told
@@ -50,10 +64,13 @@ room_low false room le = le
 
 pub start_safe : (code : Code) (told : Told) → CanBeRun code → IsStart code told → AreSafe (Some code) told
 start_safe code told can start =
-    safe_of code told (λ o d here.
-    subst (KeepsRows d) (sym (start.pairs o ∙ ap (start_pair code.writeback) here))
-    (starting d (staging_room code.writeback d) (can.tables o d here).start
-    (room_low (is_table d.kind) code.writeback can.writeback)))
+    safe_of code told (record {
+      rows = λ o d here.
+          subst (KeepsRows d) (sym (start.pairs o ∙ ap (start_pair code.writeback) here))
+          (starting d (staging_room code.writeback d) (can.tables o d here).start
+          (room_low (is_table d.kind) code.writeback can.writeback));
+      none = λ o here. start.pairs o ∙ ap (start_pair code.writeback) here;
+    })
 
 pub nothing_safe : (told : Told) → AreSafe None told
 nothing_safe told code is = absurd (none_some code is)

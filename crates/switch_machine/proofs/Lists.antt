@@ -1,5 +1,5 @@
 -- What is ahead in a list.
-use Rattle.std.proofs.Common.{◌≡◌, ℕ, zero, suc, ◌+◌, ◌<◌, ◌≤◌, List, [], ◌∷◌, length, ◌-◌, get_or, take, drop, Result, Ok, Err, IfOk, refl, sym, ap, ◌∙◌, arith, add-one, drop-cons, length-drop}
+use Rattle.std.proofs.Common.{◌≡◌, ℕ, zero, suc, ◌+◌, ◌<◌, ◌≤◌, List, [], ◌∷◌, length, ◌-◌, get_or, take, drop, Result, Ok, Err, IfOk, OnOk, refl, sym, ap, ◌∙◌, arith, add-one, drop-cons, length-drop}
 use Rattle.std.proofs.Math.Seq.{take-length}
 
 -- the member at a place, and what is behind it
@@ -20,3 +20,8 @@ whole_rest n xs = ap (λ k. take k (drop n xs)) (sym (length-drop n xs)) ∙ tak
 pub ok_weaker : {X E : Type 0} (P Q : X → Type 0) (r : Result X E) → ((x : X) → P x → Q x) → IfOk r P → IfOk r Q
 ok_weaker P Q (Ok x) go h = go x h
 ok_weaker P Q (Err e) go h = tt
+
+-- what holds anyway
+pub on_ok : {X E : Type 0} (P : Type 0) (r : Result X E) → P → OnOk r P
+on_ok P (Ok x) p = p
+on_ok P (Err e) p = tt

@@ -117,7 +117,7 @@ module _ (d : ObjectDecl) (pair : Pair) (kept : KeepsRows d pair)
       let this : row ≡ Some values = sym (staged key row is) ∙ found in
       subst (λ (r : Option (List ℕ)). (have_widths d.keys key && staged_fits d r) ≡ true) this (kept.staged key row is)
 
-  fits : (bit : Bool) (key values : List ℕ) → seen bit pair key ≡ Some values → IsRow d key values
+  pub fits : (bit : Bool) (key values : List ℕ) → seen bit pair key ≡ Some values → IsRow d key values
   fits false key values found = kept.main.rows key values (sym (main key) ∙ found)
   fits true key values found = over_main key values (get pair.staged key) refl found
 

@@ -4,10 +4,11 @@ use Rattle.std.specs.Coded.{Coded-set, coded_bool, le_prop}
 use Rattle.std.specs.FinMap as map
 use Rattle.state_store.specs.declared.object.ObjectDecl.{ObjectDecl}
 use Rattle.state_store.specs.Kept.{have_widths, IsKeptObject}
+use Rattle.writeback_table.specs.Codes.{pair_code}
 use Rattle.writeback_table.specs.Pair.{Pair}
 use Rattle.switch_ir.specs.Code.{Code}
 use Rattle.state_store.specs.Once.{kept_object_prop}
-use Rattle.switch_ir.specs.Tables.{Told, pair_at, declared_at}
+use Rattle.switch_ir.specs.Tables.{Told, declared_at, no_pair, pair_at}
 
 -- a staged row has the declared widths, where it isn't gone
 abbrev pub staged_fits : ObjectDecl → Option (List ℕ) → Bool
@@ -22,10 +23,10 @@ pub record KeepsRows (d : ObjectDecl) (pair : Pair) : Type 0 where
   pub few : map.len pair.staged ≤ pair.room
   pub room : pair.room ≤ 65536
 
--- the tables of each object that the code looks up
-abbrev pub KeepsTables : Code → Told → Type 0
-KeepsTables code told = (o : ℕ) (d : ObjectDecl) → declared_at code.tables o ≡ Some d
-    → KeepsRows d (pair_at told.pairs o)
+-- the tables of each object that the code looks up, and no others
+pub record KeepsTables (code : Code) (told : Told) : Type 0 where
+  pub rows : (o : ℕ) (d : ObjectDecl) → declared_at code.tables o ≡ Some d → KeepsRows d (pair_at told.pairs o)
+  pub none : (o : ℕ) → declared_at code.tables o ≡ None → pair_at told.pairs o ≡ no_pair
 
 -- those of the code that is loaded, if any is
 abbrev pub AreSafe : Option Code → Told → Type 0
@@ -42,4 +43,7 @@ rows_prop d pair a b = λ i. record {
 
 pub safe_prop : (loaded : Option Code) (told : Told) → IsProp (AreSafe loaded told)
 safe_prop loaded told a b =
-    λ i code here o d is. rows_prop d (pair_at told.pairs o) (a code here o d is) (b code here o d is) i
+    λ i code here. record {
+      rows = λ o d is. rows_prop d (pair_at told.pairs o) ((a code here).rows o d is) ((b code here).rows o d is) i;
+      none = λ o is. Coded-set pair_code _ _ ((a code here).none o is) ((b code here).none o is) i;
+    }

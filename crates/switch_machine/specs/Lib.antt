@@ -2,11 +2,14 @@ pub mod Calls
 pub mod Codes
 pub mod Counts
 pub mod Ends
-pub mod Handed
+pub mod Keeping
 pub mod Kept
 pub mod Live
 pub mod Loading
 pub mod Machine
-pub mod Rows
+pub mod Numbers
+pub mod Planned
+pub mod Ranges
 pub mod Staged
 pub mod Views
+pub mod Workplaces

@@ -1,40 +1,50 @@
 //! The pass over a packet that comes down from the server.
-ghost use Rattle.std.specs.Prelude.{◌≡◌, ◌≤◌, length, IfOk};
+ghost use Rattle.std.specs.Prelude.{◌≡◌, ◌≤◌, ℕ, [], length, IfOk, OnOk};
+ghost use Rattle.std.specs.List.{AllByRecursion as Each};
 ghost use Rattle.packet_fields.specs.Shape.{shape_of};
 ghost use Rattle.packet_fields.specs.Sizes.{largest_packet};
+ghost use Rattle.flat_ir.specs.Blocks.{Reading};
 ghost use Rattle.flat_ir.specs.Registers.{packet_of};
 ghost use Rattle.transfer_header.specs.Frames.{IsFrame};
-ghost use Rattle.transfer_header.specs.Registers.{value_in};
+ghost use Rattle.transfer_header.specs.Registers.{content_of, place_of, value_in, ArePlaced, FitsLayout};
 ghost use Rattle.switch_ir.specs.Code.{code_of};
-ghost use Rattle.switch_ir.specs.Meaning.{down_end};
-ghost use Rattle.switch_ir.specs.Tables.{seen_tables};
-ghost use Rattle.switch_machine.specs.Handed.{HaveRegisters};
+ghost use Rattle.switch_ir.specs.Meaning.{down_end, down_given, pass_values};
 ghost use Rattle.switch_ir.specs.Port.{EndsDown};
+ghost use Rattle.switch_ir.specs.Tables.{seen_tables};
 ghost use Rattle.switch_ir.specs.declared.port.DownEnd.TheVariants.{Verdict as Ended};
+ghost use Rattle.switch_machine.specs.Keeping.{begins_down, kept_down};
+ghost use Rattle.switch_machine.specs.Kept.{KeepsTables};
+ghost use Rattle.switch_machine.specs.Numbers.{reads_by};
+ghost use Rattle.switch_machine.specs.Planned.{BeginsWith};
 
-use crate::handed::Handed;
 use crate::loaded::Loaded;
-use crate::run::{Run, given_numbers, run_pass};
+use crate::run::{Nothing, Run, read_stage, run_pass, write_stage};
 use crate::tables::SwitchTables;
-use flat_ir::{Arrival, leave};
+use flat_ir::{Arrival, leave, readings_that_agree};
 use gal_io::NoMemory;
 use packet_fields::{Shape, Verdict};
 use std::alloc::Global;
-use transfer_header::{Regs, unpack_down};
+use switch_ir::passes_have_spans;
+use transfer_header::{a_write_keeps_others, needed_values_fit, plans_of_spans, unpack_down};
+use writeback_table::what_a_lookup_sees;
 
 /// The verdict of postprocessing on a frame.
 pub(crate) fn go_down(
     alloc: Global,
-    loaded: &Loaded,
+    loaded: &mut Loaded,
     tables: &SwitchTables,
     frame: &[u8],
 ) -> Result<Verdict, NoMemory>
-    requires { IsFrame 2 loaded.now.code.down frame.now }
-    ensures { IfOk result (λ verdict. EndsDown (code_of loaded.now.code) tables.now frame.now (Ended verdict)) }
+    requires frame { IsFrame 2 loaded.old.code.down frame.now }
+    requires safe { KeepsTables (code_of loaded.old.code) tables.now }
+    ensures code { code_of loaded.new.code ≡ code_of loaded.old.code }
+    ensures told { IfOk result (λ verdict.
+        EndsDown (code_of loaded.old.code) tables.now frame.now (Ended verdict)) }
 {
-    let code = &loaded.code;
-    let mut registers = Regs::new(alloc, code.values)?;
-    let Ok(head) = unpack_down(&code.down, frame, &mut registers) else {
+    loaded.down.clear();
+    plans_of_spans();
+    needed_values_fit();
+    let Ok(head) = unpack_down(&loaded.code.down, frame, &mut loaded.down.registers) else {
         unreachable!()
     };
     let packet = &frame[head.packet_at..];
@@ -43,37 +53,98 @@ pub(crate) fn go_down(
         bytes: packet,
         shape: Shape::of(packet),
     };
-    finish(alloc, loaded, tables, &registers, &arrival)
+    finish(alloc, loaded, tables, &arrival)
 }
 
-// The verdict of postprocessing from the numbers in registers.
+// The verdict of postprocessing from the numbers that were handed down.
 fn finish(
     alloc: Global,
-    loaded: &Loaded,
+    loaded: &mut Loaded,
     tables: &SwitchTables,
-    registers: &Regs,
     arrival: &Arrival<'_>,
 ) -> Result<Verdict, NoMemory>
     requires size { length arrival.now.bytes.now ≤ largest_packet }
     requires shape { arrival.now.shape ≡ shape_of arrival.now.bytes.now }
-    requires registers { HaveRegisters loaded.now.code.down registers.now }
-    ensures { IfOk result (λ verdict. verdict
-        ≡ down_end (code_of loaded.now.code) (value_in registers.now) (seen_tables tables.now)
+    requires safe { KeepsTables (code_of loaded.old.code) tables.now }
+    requires placed { ArePlaced loaded.old.down.registers }
+    requires empty { loaded.old.down.computed.items ≡ [] }
+    ensures code { code_of loaded.new.code ≡ code_of loaded.old.code }
+    ensures end { IfOk result (λ verdict. verdict
+        ≡ down_end (code_of loaded.old.code) (value_in loaded.old.down.registers) (seen_tables tables.now)
         (packet_of arrival.now)) }
 {
-    let code = &loaded.code;
-    let inputs = given_numbers(alloc, &code.post, arrival)?;
-    let handed = Handed {
-        layout: &code.down,
-        places: &loaded.places,
-        registers,
-        inputs: &inputs,
-    };
-    let known = run_pass(alloc, &code.post, &loaded.post, &handed, tables, arrival)?;
+    give(loaded, alloc, arrival)?;
+    run_down(loaded, tables, arrival)?;
+    readings_that_agree();
     let run = Run {
-        given: &handed,
-        known: &known,
+        numbering: &loaded.post_numbering,
+        registers: &loaded.down.registers,
     };
     let copy = arrival.bytes.to_vec(alloc)?;
-    Ok(leave(&code.post.out, arrival, &run, copy))
+    Ok(leave(&loaded.code.post.out, arrival, &run, copy))
+}
+
+// Puts the consts and fields that postprocessing is given into their registers.
+fn give(loaded: &mut Loaded, alloc: Global, arrival: &Arrival<'_>) -> Result<(), NoMemory>
+    requires size { length arrival.now.bytes.now ≤ largest_packet }
+    requires shape { arrival.now.shape ≡ shape_of arrival.now.bytes.now }
+    requires placed { ArePlaced loaded.old.down.registers }
+    requires empty { loaded.old.down.computed.items ≡ [] }
+    ensures code { code_of loaded.new.code ≡ code_of loaded.old.code }
+    ensures begins { OnOk result (BeginsWith loaded.new.post_numbering
+        (begins_down loaded.new.post_numbering (code_of loaded.old.code))
+        (down_given (code_of loaded.old.code) (value_in loaded.old.down.registers) (packet_of arrival.now))
+        loaded.new.down.registers) }
+    ensures placed { OnOk result (ArePlaced loaded.new.down.registers) }
+    ensures empty { OnOk result (loaded.new.down.computed.items ≡ []) }
+{
+    passes_have_spans();
+    plans_of_spans();
+    a_write_keeps_others();
+    let none = SwitchTables::none(alloc);
+    let place = &mut loaded.down;
+    read_stage(
+        loaded.given.stage(0),
+        &loaded.post_numbering,
+        &Nothing,
+        &none,
+        arrival,
+        &mut place.computed,
+    )?;
+    write_stage(&mut place.computed, &mut place.registers);
+    Ok(())
+}
+
+// Computes postprocessing.
+fn run_down(
+    loaded: &mut Loaded,
+    tables: &SwitchTables,
+    arrival: &Arrival<'_>,
+) -> Result<(), NoMemory>
+    requires size { length arrival.now.bytes.now ≤ largest_packet }
+    requires shape { arrival.now.shape ≡ shape_of arrival.now.bytes.now }
+    requires safe { KeepsTables (code_of loaded.old.code) tables.now }
+    requires placed { ArePlaced loaded.old.down.registers }
+    requires empty { loaded.old.down.computed.items ≡ [] }
+    ensures code { code_of loaded.new.code ≡ code_of loaded.old.code }
+    ensures values { (given : Reading) → BeginsWith loaded.old.post_numbering
+        (begins_down loaded.old.post_numbering (code_of loaded.old.code)) given loaded.old.down.registers
+        → OnOk result (Each (λ v. reads_by loaded.new.post_numbering (content_of loaded.new.down.registers) v
+        ≡ pass_values (code_of loaded.old.code).post given (seen_tables tables.now) (packet_of arrival.now) v)
+        (kept_down (code_of loaded.old.code))) }
+{
+    passes_have_spans();
+    plans_of_spans();
+    what_a_lookup_sees();
+    let code = &loaded.code;
+    let place = &mut loaded.down;
+    run_pass(
+        &code.post,
+        &loaded.post,
+        &loaded.post_numbering,
+        tables,
+        arrival,
+        &mut place.registers,
+        &mut place.computed,
+    )
 }

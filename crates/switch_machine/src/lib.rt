@@ -3,10 +3,10 @@
 
 mod calls;
 mod down;
-mod handed;
 mod live;
 mod loaded;
 mod machine;
+mod numbering;
 mod run;
 mod stages;
 mod tables;

@@ -1,5 +1,5 @@
 //! Which blocks are live.
-ghost use Rattle.std.specs.Prelude.{◌≡◌, ◌<◌, ◌≤◌, ◌&&◌, false, length, slice_index_or, IfOk};
+ghost use Rattle.std.specs.Prelude.{◌≡◌, ◌<◌, ◌≤◌, ◌&&◌, false, length, slice_index_or, IfOk, OnOk};
 ghost use Rattle.std.specs.List.{list_any, AllByRecursion as Each};
 ghost use Rattle.flat_ir.specs.Blocks.{is_live, is_on, same, HasLowParents};
 ghost use Rattle.switch_ir.specs.Code.{pass_of};
@@ -7,7 +7,6 @@ ghost use Rattle.switch_machine.specs.Live.{AreLive};
 
 use flat_ir::{Block, Numbers, lines_of_blocks};
 use gal_io::NoMemory;
-use std::alloc::Global;
 use switch_ir::Pass;
 
 // Whether the condition of a block has its polarity.
@@ -29,36 +28,37 @@ fn is_live_below<R: Numbers>(marks: &[bool], block: &Block, numbers: &R) -> bool
 
 // Marks of the root, which is live, and of each block, in one walk: a block is live where its parent is live and its
 // condition has its polarity.
-fn live_blocks<R: Numbers>(
-    alloc: Global,
+fn mark_live<R: Numbers>(
     blocks: &[Block],
     numbers: &R,
-) -> Result<Vec<bool>, NoMemory>
+    marks: &mut Vec<bool>,
+) -> Result<(), NoMemory>
     requires { HasLowParents blocks.now }
-    ensures { IfOk result (λ marks. AreLive blocks.now (R.reads numbers.now) marks.items) }
+    ensures { OnOk result (AreLive blocks.now (R.reads numbers.now) marks.new.items) }
 {
     lines_of_blocks();
-    let mut marks = Vec::with_capacity(alloc, blocks.len() + 1)?;
+    marks.clear();
     marks.push(true)?;
     for block in blocks {
-        let live = is_live_below(&marks, block, numbers);
+        let live = is_live_below(&*marks, block, numbers);
         marks.push(live)?;
     }
-    Ok(marks)
+    Ok(())
 }
 
-/// Whether a block is live in which the pass leaves work to the server. It takes one step a block.
+/// Whether a block is live in which the pass leaves work to the server. It takes one step a block, and memory only
+/// where that of `marks` doesn't do.
 pub(crate) fn leaves_work<R: Numbers>(
-    alloc: Global,
     pass: &Pass,
     numbers: &R,
+    marks: &mut Vec<bool>,
 ) -> Result<bool, NoMemory>
     requires low { HasLowParents (pass_of pass.now).blocks }
     requires there { Each (λ b. b ≤ length (pass_of pass.now).blocks) (pass_of pass.now).rest }
     ensures { IfOk result (λ leaves. leaves
         ≡ list_any (is_live (pass_of pass.now).blocks (R.reads numbers.now)) (pass_of pass.now).rest) }
 {
-    let marks = live_blocks(alloc, pass.blocks.as_slice(), numbers)?;
+    mark_live(pass.blocks.as_slice(), numbers, marks)?;
     for block in &pass.rest {
         if marks[*block as usize] {
             return Ok(true);

@@ -1,46 +1,105 @@
 //! Code that is loaded.
-ghost use Rattle.std.specs.Prelude.{◌≡◌, IfOk};
+ghost use Rattle.std.specs.Prelude.{◌≡◌, ◌<◌, ◌^◌, ℕ, [], IfOk};
+ghost use Rattle.transfer_header.specs.Registers.{content_of, ArePlaced};
 ghost use Rattle.switch_ir.specs.Code.{code_of, pass_of};
 ghost use Rattle.switch_ir.specs.Once.{can_be_run_prop};
 ghost use Rattle.switch_ir.specs.Sound.{CanBeRun};
-ghost use Rattle.switch_machine.specs.Handed.{index_prop, IsIndexOf};
+ghost use Rattle.switch_machine.specs.Ranges.{entries, ordered_prop, ranges_prop, AreOrdered, AreRanges};
 ghost use Rattle.switch_machine.specs.Staged.{stages_prop, AreStages};
+ghost use Rattle.switch_machine.specs.Workplaces.{plan_prop, IsPlanned};
 
-use crate::handed::places;
+use crate::numbering::Numbering;
 use crate::stages::Stages;
+use flat_ir::RegPlan;
 use gal_io::NoMemory;
 use std::alloc::Global;
 use switch_ir::SwitchCode;
+use transfer_header::Regs;
 
-/// Code with the instructions of its passes stage by stage, and the places of the values that are handed down.
+/// Where a pass is computed: its registers, and what a stage has computed so far, by the number of each value.
+#[derive(Debug, Drop)]
+pub(crate) struct Workplace {
+    pub registers: Regs,
+    pub computed: Vec<(u32, u64)>,
+}
+
+impl Workplace {
+    /// One with the registers of a plan.
+    fn new(alloc: Global, plan: &RegPlan) -> Result<Workplace, NoMemory>
+        ensures { IfOk result (λ made. IsPlanned plan.now made.registers) }
+    {
+        let registers = Regs::planned(alloc, plan.copy(alloc)?)?;
+        Ok(Workplace {
+            registers,
+            computed: Vec::new(alloc),
+        })
+    }
+
+    /// Forgets what was computed. This takes no memory.
+    pub fn clear(&mut self)
+        ensures plan { self.new.registers.plan ≡ self.old.registers.plan }
+        ensures contents { (n : ℕ) → content_of self.new.registers n ≡ 0 }
+        ensures placed { ArePlaced self.new.registers }
+        ensures empty { self.new.computed.items ≡ [] }
+    {
+        self.registers.clear();
+        self.computed.clear();
+    }
+}
+
+/// Code with all that its passes take: their instructions stage by stage, the numbers of their values, and where they
+/// are computed.
 #[derive(Debug, Drop)]
 pub(crate) struct Loaded {
     pub code: SwitchCode,
     pub pre: Stages,
     pub post: Stages,
-    /// For each instruction a place in the layout down before which none of its values stands.
-    pub places: Vec<usize>,
+    /// What postprocessing is given from the code and the packet, in one stage.
+    pub given: Stages,
+    pub pre_numbering: Numbering,
+    pub post_numbering: Numbering,
+    pub up: Workplace,
+    pub down: Workplace,
+    /// Which blocks are live.
+    pub marks: Vec<bool>,
     ghost can: { CanBeRun (code_of code) } by { can_be_run_prop (code_of code) },
     ghost pre_stages: { AreStages (pass_of code.pre).steps code.pre.highest pre } by { stages_prop (pass_of code.pre).steps code.pre.highest pre },
     ghost post_stages: { AreStages (pass_of code.post).steps code.post.highest post } by { stages_prop (pass_of code.post).steps code.post.highest post },
-    ghost index: { IsIndexOf code.down places.items } by { index_prop code.down places.items },
+    ghost given_stage: { AreStages (pass_of code.post).given 0 given } by { stages_prop (pass_of code.post).given 0 given },
+    ghost few: { code.values < 2 ^ 32 },
+    ghost ordered: { AreOrdered (code_of code) } by { ordered_prop (code_of code) },
+    ghost pre_ranges: { AreRanges (entries code.tables [] (pass_of code.pre)) pre_numbering } by { ranges_prop (entries code.tables [] (pass_of code.pre)) pre_numbering },
+    ghost post_ranges: { AreRanges (entries code.tables code.down (pass_of code.post)) post_numbering } by { ranges_prop (entries code.tables code.down (pass_of code.post)) post_numbering },
+    ghost pre_plan: { IsPlanned code.pre.plan up.registers } by { plan_prop code.pre.plan up.registers },
+    ghost post_plan: { IsPlanned code.post.plan down.registers } by { plan_prop code.post.plan down.registers },
 }
 
 impl Loaded {
     /// A copy of some code.
     pub fn new(alloc: Global, code: &SwitchCode) -> Result<Loaded, NoMemory>
-        requires { CanBeRun (code_of code.now) }
+        requires can { CanBeRun (code_of code.now) }
+        requires ordered { AreOrdered (code_of code.now) }
         ensures { IfOk result (λ loaded. code_of loaded.code ≡ code_of code.now) }
     {
         let copy = code.copy(alloc)?;
-        let pre = Stages::of(alloc, &copy.pre)?;
-        let post = Stages::of(alloc, &copy.post)?;
-        let places = places(alloc, &copy.down)?;
+        let pre = Stages::of(alloc, &copy.pre.steps, copy.pre.highest)?;
+        let post = Stages::of(alloc, &copy.post.steps, copy.post.highest)?;
+        let given = Stages::of(alloc, &copy.post.given, 0)?;
+        let tables = copy.tables.as_slice();
+        let pre_numbering = Numbering::of(alloc, tables, &[], &copy.pre)?;
+        let post_numbering = Numbering::of(alloc, tables, copy.down.as_slice(), &copy.post)?;
+        let up = Workplace::new(alloc, &copy.pre.plan)?;
+        let down = Workplace::new(alloc, &copy.post.plan)?;
         Ok(Loaded {
             code: copy,
             pre,
             post,
-            places,
+            given,
+            pre_numbering,
+            post_numbering,
+            up,
+            down,
+            marks: Vec::new(alloc),
         })
     }
 }

@@ -22,6 +22,7 @@ ghost use Rattle.switch_machine.specs.Ends.{DownPasses, UpPasses};
 ghost use Rattle.switch_machine.specs.Kept.{safe_prop, AreSafe};
 ghost use Rattle.switch_machine.specs.Loading.{code_in};
 ghost use Rattle.switch_machine.specs.Machine.{fails_next, seen_of};
+ghost use Rattle.switch_machine.specs.Ranges.{AreOrdered};
 
 use crate::calls::{CallKind, Calls, count, is_planned};
 use crate::down::go_down;
@@ -46,6 +47,8 @@ pub struct ModelSwitch {
     faults: u64,
     planned: Vec<(CallKind, u64)>,
     calls: Calls,
+    /// How many registers the last pass was computed in.
+    registers: u32,
     ghost safe: { AreSafe (code_in loaded) tables } by { safe_prop (code_in loaded) tables },
 }
 
@@ -70,6 +73,7 @@ impl ModelSwitch {
             faults: 0,
             planned: Vec::new(alloc),
             calls: Calls::none(),
+            registers: 0,
         }
     }
 
@@ -96,6 +100,11 @@ impl ModelSwitch {
         ensures { result ≡ (machine_of self.now).faults }
     {
         self.faults
+    }
+
+    /// How many registers the last pass was computed in, 0 before the first one.
+    pub fn registers(&self) -> u32 {
+        self.registers
     }
 
     // Counts a call, and answers whether it is to fail.
@@ -141,7 +150,8 @@ impl ModelSwitch {
     }
 
     fn try_load(&mut self, alloc: Global, code: &SwitchCode) -> Result<(), NoMemory>
-        requires { CanBeRun (code_of code.now) }
+        requires can { CanBeRun (code_of code.now) }
+        requires ordered { AreOrdered (code_of code.now) }
         ensures ok { let old = machine_of self.old in
             OnOk result ((told : Told) × IsStart (code_of code.now) told
             × (machine_of self.new ≡ record old {
@@ -179,27 +189,29 @@ impl ModelSwitch {
 
     // How the pass over a packet that arrives ends, where it fails or doesn't.
     fn up_end(
-        &self,
+        &mut self,
         alloc: Global,
         number: u32,
         port: u8,
         packet: &[u8],
         fails: bool,
     ) -> Result<UpEnd, NoMemory>
-        requires loaded { IsSome (machine_of self.now).code }
+        requires loaded { IsSome (machine_of self.old).code }
         requires size { length packet.now ≤ largest_packet }
+        ensures kept { machine_of self.new ≡ machine_of self.old }
         ensures passes { IfOk result (UpPasses fails) }
-        ensures frame { (code : Code) → (machine_of self.now).code ≡ Some code
+        ensures frame { (code : Code) → (machine_of self.old).code ≡ Some code
             → IfOk result (IsUpFrame code number port packet.now) }
-        ensures told { (code : Code) → (machine_of self.now).code ≡ Some code
-            → IfOk result (EndsUp code self.now.tables number (record { port = port; bytes = packet.now })) }
+        ensures told { (code : Code) → (machine_of self.old).code ≡ Some code
+            → IfOk result (EndsUp code self.old.tables number (record { port = port; bytes = packet.now })) }
     {
         if fails {
             return Ok(UpEnd::Failed);
         }
-        let Some(loaded) = &self.loaded else {
+        let Some(loaded) = &mut self.loaded else {
             unreachable!()
         };
+        self.registers = loaded.up.registers.len();
         go_up(alloc, loaded, &self.tables, number, port, packet)
     }
 
@@ -238,19 +250,21 @@ impl ModelSwitch {
     }
 
     // How the pass over a packet that comes down ends, where it fails or doesn't.
-    fn down_end(&self, alloc: Global, frame: &[u8], fails: bool) -> Result<DownEnd, NoMemory>
-        requires loaded { IsSome (machine_of self.now).code }
-        requires frame { IsDownFrame (seen_of (machine_of self.now)) frame.now }
+    fn down_end(&mut self, alloc: Global, frame: &[u8], fails: bool) -> Result<DownEnd, NoMemory>
+        requires loaded { IsSome (machine_of self.old).code }
+        requires frame { IsDownFrame (seen_of (machine_of self.old)) frame.now }
+        ensures kept { machine_of self.new ≡ machine_of self.old }
         ensures passes { IfOk result (DownPasses fails) }
-        ensures told { (code : Code) → (machine_of self.now).code ≡ Some code
-            → IfOk result (EndsDown code self.now.tables frame.now) }
+        ensures told { (code : Code) → (machine_of self.old).code ≡ Some code
+            → IfOk result (EndsDown code self.old.tables frame.now) }
     {
         if fails {
             return Ok(DownEnd::Failed);
         }
-        let Some(loaded) = &self.loaded else {
+        let Some(loaded) = &mut self.loaded else {
             unreachable!()
         };
+        self.registers = loaded.down.registers.len();
         Ok(DownEnd::Verdict(go_down(alloc, loaded, &self.tables, frame)?))
     }
 

@@ -1,13 +1,13 @@
 //! The instructions of a pass, stage by stage.
 ghost use Rattle.std.specs.Prelude.{◌≡◌, ℕ, ◌+◌, ◌≤◌, ◌<◌, ◌==◌, ◌++◌, ◌∷◌, [], length, map, slice_index_or, IfOk};
 ghost use Rattle.std.specs.Prelude.{OnOk, if◌then◌else◌};
-ghost use Rattle.switch_ir.specs.Code.{step_of, pass_of};
+ghost use Rattle.switch_ir.specs.Code.{step_of};
 ghost use Rattle.switch_machine.specs.Staged.{stage_at, AreStages};
 
 use gal_io::NoMemory;
 use std::alloc::Global;
 use std::marker::Model;
-use switch_ir::{Pass, PassStep, Steps};
+use switch_ir::{PassStep, Steps};
 
 /// The instructions of a pass, in a list for each stage.
 #[derive(Debug, Drop)]
@@ -25,12 +25,12 @@ impl Model for Stages {
 }
 
 impl Stages {
-    /// The stages of a pass.
-    pub fn of(alloc: Global, pass: &Pass) -> Result<Stages, NoMemory>
-        ensures { IfOk result (λ stages. AreStages (pass_of pass.now).steps pass.now.highest stages) }
+    /// The stages of some instructions, up to the highest.
+    pub fn of(alloc: Global, steps: &Steps, highest: u32) -> Result<Stages, NoMemory>
+        ensures { IfOk result (λ stages. AreStages (map step_of steps.now) highest stages) }
     {
-        let mut stages = empty_stages(alloc, pass.highest as usize + 1)?;
-        for step in pass.steps.as_slice() {
+        let mut stages = empty_stages(alloc, highest as usize + 1)?;
+        for step in steps.as_slice() {
             place(alloc, &mut stages, step)?;
         }
         Ok(Stages { items: stages })

@@ -1,87 +1,124 @@
 //! The pass over a packet that arrives.
-ghost use Rattle.std.specs.Prelude.{◌≡◌, ◌≤◌, false, length, replicate, IfOk};
+ghost use Rattle.std.specs.Prelude.{◌≡◌, ◌≤◌, ◌<◌, false, length, IfOk, OnOk};
+ghost use Rattle.std.specs.List.{AllByRecursion as Each};
+ghost use Rattle.packet_fields.specs.Shape.{shape_of};
 ghost use Rattle.packet_fields.specs.Sizes.{largest_packet};
-ghost use Rattle.transfer_header.specs.Frames.{up_frame};
-ghost use Rattle.transfer_header.specs.Registers.{FitsLayout, Holds};
-ghost use Rattle.switch_ir.specs.Code.{code_of, pass_of};
+ghost use Rattle.flat_ir.specs.Blocks.{Reading};
+ghost use Rattle.flat_ir.specs.Registers.{packet_of};
+ghost use Rattle.transfer_header.specs.Registers.{content_of, FitsLayout};
+ghost use Rattle.switch_ir.specs.Code.{code_of};
+ghost use Rattle.switch_ir.specs.Meaning.{up_values};
 ghost use Rattle.switch_ir.specs.Port.{EndsUp, IsUpFrame};
-ghost use Rattle.switch_ir.specs.declared.port.UpEnd.TheVariants.{Up};
-ghost use Rattle.switch_machine.specs.Ends.{UpPasses};
+ghost use Rattle.switch_ir.specs.Tables.{seen_tables};
+ghost use Rattle.switch_machine.specs.Ends.{EndsBy, UpPasses};
+ghost use Rattle.switch_machine.specs.Keeping.{kept_up};
+ghost use Rattle.switch_machine.specs.Kept.{KeepsTables};
+ghost use Rattle.switch_machine.specs.Numbers.{reads_by};
 
 use crate::live::leaves_work;
 use crate::loaded::Loaded;
-use crate::run::{Nothing, Run, run_pass};
+use crate::run::{Run, run_pass};
 use crate::tables::SwitchTables;
-use flat_ir::{Arrival, Numbers, leave};
-use gal_io::{Bytes, NoMemory};
+use flat_ir::{Arrival, leave, readings_that_agree};
+use gal_io::NoMemory;
 use packet_fields::Shape;
-use split_model::Layout;
 use std::alloc::Global;
-use switch_ir::{SwitchCode, UpEnd};
-use transfer_header::{Regs, frames_of_low_bits, pack_up};
+use switch_ir::{UpEnd, passes_have_spans};
+use transfer_header::{frames_of_low_bits, needed_values_fit, pack_up, plans_of_spans};
+use writeback_table::what_a_lookup_sees;
 
-// Puts the numbers of the values of a layout into registers.
-fn hold<R: Numbers>(layout: &Layout, numbers: &R, registers: &mut Regs)
-    requires { FitsLayout layout.now registers.old }
-    ensures holds { Holds layout.now registers.new (R.reads numbers.now) }
-    ensures count { length registers.new ≡ length registers.old }
+// Computes preprocessing.
+fn run_up(loaded: &mut Loaded, tables: &SwitchTables, arrival: &Arrival<'_>) -> Result<(), NoMemory>
+    requires size { length arrival.now.bytes.now ≤ largest_packet }
+    requires shape { arrival.now.shape ≡ shape_of arrival.now.bytes.now }
+    requires safe { KeepsTables (code_of loaded.old.code) tables.now }
+    ensures code { code_of loaded.new.code ≡ code_of loaded.old.code }
+    ensures fits { OnOk result (FitsLayout loaded.new.code.up loaded.new.up.registers) }
+    ensures values { OnOk result (Each (λ v. reads_by loaded.new.pre_numbering (content_of loaded.new.up.registers) v
+        ≡ up_values (code_of loaded.new.code) (seen_tables tables.now) (packet_of arrival.now) v)
+        (kept_up (code_of loaded.new.code))) }
 {
-    for crossing in layout.as_slice() {
-        registers.set(crossing.number, numbers.number(crossing.value));
-    }
+    passes_have_spans();
+    plans_of_spans();
+    needed_values_fit();
+    what_a_lookup_sees();
+    loaded.up.clear();
+    run_pass(
+        &loaded.code.pre,
+        &loaded.pre,
+        &loaded.pre_numbering,
+        tables,
+        arrival,
+        &mut loaded.up.registers,
+        &mut loaded.up.computed,
+    )
 }
 
-// The frame that goes up with these numbers.
-fn frame_of<R: Numbers>(
+// What becomes of the packet once preprocessing is computed.
+fn end_up(
     alloc: Global,
-    code: &SwitchCode,
+    loaded: &mut Loaded,
     number: u32,
-    port: u8,
-    numbers: &R,
-    packet: &[u8],
-) -> Result<Bytes, NoMemory>
-    requires fits { FitsLayout code.now.up (replicate code.now.values 0) }
-    requires size { length packet.now ≤ largest_packet }
-    ensures bytes { IfOk result (λ frame. frame ≡ up_frame code.now.up number port (R.reads numbers.now) packet.now) }
-    ensures frame { IfOk result (λ frame. IsUpFrame (code_of code.now) number port packet.now (Up frame)) }
+    arrival: &Arrival<'_>,
+) -> Result<UpEnd, NoMemory>
+    requires size { length arrival.now.bytes.now ≤ largest_packet }
+    requires shape { arrival.now.shape ≡ shape_of arrival.now.bytes.now }
+    requires port { arrival.now.port < 256 }
+    requires fits { FitsLayout loaded.old.code.up loaded.old.up.registers }
+    ensures code { code_of loaded.new.code ≡ code_of loaded.old.code }
+    ensures passes { IfOk result (UpPasses false) }
+    ensures frame { IfOk result
+        (IsUpFrame (code_of loaded.old.code) number arrival.now.port arrival.now.bytes.now) }
+    ensures ends { (reads : Reading) → Each (λ v. reads_by loaded.old.pre_numbering
+        (content_of loaded.old.up.registers) v ≡ reads v) (kept_up (code_of loaded.old.code))
+        → IfOk result (EndsBy (code_of loaded.old.code) reads number (packet_of arrival.now)) }
 {
+    readings_that_agree();
     frames_of_low_bits();
-    let mut registers = Regs::new(alloc, code.values)?;
-    hold(&code.up, numbers, &mut registers);
-    pack_up(alloc, &code.up, number, port, &registers, packet)
+    let run = Run {
+        numbering: &loaded.pre_numbering,
+        registers: &loaded.up.registers,
+    };
+    let pass = &loaded.code.pre;
+    let leaves = leaves_work(pass, &run, &mut loaded.marks)?;
+    if leaves {
+        let registers = &loaded.up.registers;
+        let frame = pack_up(
+            alloc,
+            &loaded.code.up,
+            number,
+            arrival.port,
+            registers,
+            arrival.bytes,
+        )?;
+        return Ok(UpEnd::Up(frame));
+    }
+    let copy = arrival.bytes.to_vec(alloc)?;
+    Ok(UpEnd::Finished(leave(&pass.out, arrival, &run, copy)))
 }
 
 /// What the code does with a packet that arrives.
 pub(crate) fn go_up(
     alloc: Global,
-    loaded: &Loaded,
+    loaded: &mut Loaded,
     tables: &SwitchTables,
     number: u32,
     port: u8,
     packet: &[u8],
 ) -> Result<UpEnd, NoMemory>
-    requires { length packet.now ≤ largest_packet }
+    requires size { length packet.now ≤ largest_packet }
+    requires safe { KeepsTables (code_of loaded.old.code) tables.now }
+    ensures code { code_of loaded.new.code ≡ code_of loaded.old.code }
     ensures passes { IfOk result (UpPasses false) }
-    ensures frame { IfOk result (λ end. IsUpFrame (code_of loaded.now.code) number port packet.now end) }
+    ensures frame { IfOk result (IsUpFrame (code_of loaded.old.code) number port packet.now) }
     ensures told { IfOk result (λ end.
-        EndsUp (code_of loaded.now.code) tables.now number (record { port = port; bytes = packet.now }) end) }
+        EndsUp (code_of loaded.old.code) tables.now number (record { port = port; bytes = packet.now }) end) }
 {
-    let code = &loaded.code;
     let arrival = Arrival {
         port,
         bytes: packet,
         shape: Shape::of(packet),
     };
-    let known = run_pass(alloc, &code.pre, &loaded.pre, &Nothing, tables, &arrival)?;
-    let run = Run {
-        given: &Nothing,
-        known: &known,
-    };
-    let leaves = leaves_work(alloc, &code.pre, &run)?;
-    if leaves {
-        let frame = frame_of(alloc, code, number, port, &run, packet)?;
-        return Ok(UpEnd::Up(frame));
-    }
-    let copy = packet.to_vec(alloc)?;
-    Ok(UpEnd::Finished(leave(&code.pre.out, &arrival, &run, copy)))
+    run_up(loaded, tables, &arrival)?;
+    end_up(alloc, loaded, number, &arrival)
 }

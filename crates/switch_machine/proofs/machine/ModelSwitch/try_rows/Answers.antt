@@ -12,5 +12,5 @@ returns-clause-rows c code d is replicated =
     let law = c.what_a_lookup_sees.ensures in
     let sound = (can_of c.args.self.now.loaded code is).tables c.args.object d replicated.declared in
     subst (AreRowsOf d) (sym c.in_ok-rows.ensures)
-    (rows_of d pair (c.args.self.now.safe code is c.args.object d replicated.declared) (law.main pair) (law.staged pair) (law.others pair)
+    (rows_of d pair ((c.args.self.now.safe code is).rows c.args.object d replicated.declared) (law.main pair) (law.staged pair) (law.others pair)
     tables.bit sound.size)

@@ -1,0 +1,86 @@
+-- Postprocessing in its registers.
+use Rattle.std.proofs.Common.{◌≡◌, ◌≢◌, ◌≤◌, ◌<◌, ◌^◌, ◌++◌, ◌==◌, ℕ, suc, true, false, List, [], length, refl, sym, ap, ◌∙◌, subst, arith}
+use Rattle.std.specs.Prelude.{Contains}
+use Rattle.std.specs.List.{AllByRecursion as Each}
+use Rattle.packet_fields.specs.declared.packet.Packet.{Packet}
+use Rattle.state_store.specs.Store.{Store}
+use Rattle.flat_ir.specs.declared.program.ValueId.{ValueId}
+use Rattle.flat_ir.specs.Blocks.{Reading, nothing}
+use Rattle.flat_ir.specs.Run.{results}
+use Rattle.transfer_header.specs.Registers.{Registers, content_of, place_of, value_in, written, ArePlaced, HasRegister}
+use Rattle.transfer_header.specs.Steps.{Contents, is_among, pairs_written, AreKeptApart, AreSpansOf}
+use Rattle.switch_ir.specs.Meaning.{down_given}
+use Rattle.switch_ir.specs.Passes.{Code, Step}
+use Rattle.switch_ir.specs.Sound.{CanBeRun}
+use Rattle.switch_ir.specs.Spans.{post_spans, results_in, written_in, Written}
+use Rattle.switch_ir.specs.Spans.{steps_of as steps_by_values}
+use Rattle.switch_machine.specs.declared.numbering.ValueRange.{ValueRange}
+use Rattle.switch_machine.specs.Keeping.{begins_down, kept_down}
+use Rattle.switch_machine.specs.Numbers.{stage_gives, stage_writes}
+use Rattle.switch_machine.specs.Planned.{BeginsWith, HaveRegisters, IsSetUp}
+use Rattle.switch_machine.specs.Ranges.{entries, AreOrdered, AreRanges}
+use Rattle.switch_machine.specs.Staged.{of_stage}
+use Rattle.switch_machine.proofs.Beginning.{begins_with}
+use Rattle.switch_machine.proofs.Each.{each_map}
+use Rattle.switch_machine.proofs.Fitting.{results_one}
+use Rattle.switch_machine.proofs.Members.{each_has, has_among, has_each, of_contains}
+use Rattle.switch_machine.proofs.Numbered.{writes_are}
+use Rattle.switch_machine.proofs.PassValues.{apart, begin_apart, begin_register, given_once, handed_fresh, handed_known}
+use Rattle.switch_machine.proofs.SettingUp.{all_have, given_fit, last_left, set_up, steps_fit}
+use Rattle.std.proofs.lemmas.Bool.{or_right}
+use Rattle.std.proofs.lemmas.List.Folds.{list_any-append}
+use Rattle.switch_machine.specs.Keeping.{numbers_in}
+
+module _ (code : Code) (can : CanBeRun code) (ordered : AreOrdered code) (few : code.values < 2 ^ 32)
+    (ranges : List ValueRange) (are : AreRanges (entries code.tables code.down code.post) ranges)
+    (law : (number : ℕ → Contents → Contents) → AreSpansOf (steps_by_values code.tables code.down [] code.post number) (post_spans code))
+    (registers : Registers) (kept_apart : AreKeptApart (post_spans code) registers) where
+  abbrev had : List Written
+  had = written_in code.tables code.down code.post
+
+  small : (w : Written) → Contains had w → suc w.number < 2 ^ 32
+  small w there = omega (arith, each_has (λ (x : Written). x.number < code.values) had can.stages.post_numbers w (of_contains had w there), few)
+
+  pub down_have : HaveRegisters ranges code.post registers
+  down_have = all_have code.tables code.down [] code.post ordered.post small can.stages.post ordered.others ranges are law registers kept_apart
+
+  pub down_set : (given : Reading) (seen : Store) (packet : Packet) → ArePlaced registers → BeginsWith ranges (begins_down ranges code) given registers
+      → ((reads : Reading) (s : Step) → length (results reads false seen packet s.work) ≤ results_in code.tables s.work)
+      → IsSetUp ranges code.post (kept_down code) given seen packet registers
+  down_set given seen packet placed begin long =
+      set_up code.tables code.down [] code.post ordered.post small can.stages.post ordered.others ranges are law registers kept_apart (kept_down code) (last_left [] code.post)
+      given seen packet placed begin
+      (steps_fit code.tables code.down [] code.post ordered.post small can.stages.post ordered.others ranges are law registers kept_apart seen packet long)
+
+  no_number : ℕ → Contents → Contents
+  no_number t contents n = 0
+
+  has_one : (n : ℕ) → is_among n (begins_down ranges code) ≡ true → HasRegister registers n
+  has_one n e =
+      begin_register code.tables code.down [] code.post ordered.post small can.stages.post ordered.others ranges are [] tt no_number (post_spans code) (law no_number) registers kept_apart n e
+
+  -- each value that is given has a register
+  pub given_have : (packet : Packet)
+      → Each (λ (p : ℕ × ℕ). HasRegister registers p.0) (stage_gives ranges (of_stage 0 code.post.given) nothing [] packet)
+  given_have packet =
+      let own = of_stage 0 code.post.given in
+      let pairs = stage_gives ranges own nothing [] packet in
+      each_map (HasRegister registers) (λ (p : ℕ × ℕ). p.0) pairs
+      (subst (Each (HasRegister registers)) (sym (writes_are ranges nothing [] packet own))
+      (has_each (HasRegister registers) (stage_writes ranges own)
+      (λ n h. has_one n (list_any-append (λ (w : ℕ). w == n) (numbers_in code.down) (stage_writes ranges own)
+      ∙ or_right (is_among n (numbers_in code.down)) (is_among n (stage_writes ranges own)) (has_among n (stage_writes ranges own) h)))))
+
+  -- what postprocessing begins with once it is given
+  pub given_begins : ((rs : Registers) (value to other : ℕ) → place_of rs value ≢ place_of rs other → content_of (written rs value to) other ≡ content_of rs other)
+      → (packet : Packet) → ArePlaced registers
+      → BeginsWith ranges (begins_down ranges code) (down_given code (value_in registers) packet)
+      (pairs_written registers (stage_gives ranges (of_stage 0 code.post.given) nothing [] packet))
+  given_begins keeps packet placed =
+      begins_with ranges (apart code.tables code.down [] code.post ordered.post small can.stages.post ordered.others ranges are) code.down code.post.given packet registers
+      (handed_known code.tables code.down [] code.post ordered.post small can.stages.post ordered.others ranges are)
+      (given_once code.tables code.down [] code.post ordered.post small can.stages.post ordered.others ranges are)
+      (handed_fresh code.tables code.down [] code.post ordered.post small can.stages.post ordered.others ranges are)
+      (given_fit code.tables code.down [] code.post ordered.post small can.stages.post ordered.others ranges are law registers kept_apart packet (λ reads s. results_one code.tables reads packet s.work))
+      keeps placed has_one
+      (begin_apart code.tables code.down [] code.post ordered.post small can.stages.post ordered.others ranges are [] tt no_number (post_spans code) (law no_number) registers kept_apart)

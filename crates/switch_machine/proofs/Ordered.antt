@@ -1,0 +1,171 @@
+-- The numbers of values that stand in order.
+use Rattle.std.proofs.Common.{◌≡◌, ◌≢◌, ◌⊎◌, ℕ, zero, suc, ◌+◌, ◌-◌, ◌^◌, ◌==◌, ◌<◌, ◌≤◌, max, min, Bool, true, false, cond, List, [], ◌∷◌, ◌++◌, length, map, get_or, Option, Some, None, refl, sym, ap, ◌∙◌, subst, inl, inr, arith}
+use Rattle.std.specs.Prelude.{nat_lt, Contains}
+use Rattle.std.specs.List.{AllByRecursion as Each}
+use Rattle.std.proofs.lemmas.Bool.{cases_Bool, cases_eq, cases_lt, cond-true, cond-false, eq-eqb, eqb-true, lt-ltb, ne_eqb}
+use Rattle.flat_ir.specs.declared.program.ValueId.{ValueId}
+use Rattle.switch_ir.specs.Spans.{Written}
+use Rattle.switch_machine.specs.declared.numbering.ValueRange.{ValueRange}
+use Rattle.switch_machine.specs.Numbers.{no_values, number_in, range_at}
+use Rattle.switch_machine.specs.Planned.{AreNumberedApart}
+use Rattle.switch_machine.specs.Ranges.{entered, with_entry, AreInOrder, AreRanges, Entry}
+use Rattle.switch_machine.proofs.Numbered.{known}
+
+module _ (had : List Written) (order : AreInOrder had) (small : (w : Written) → Contains had w → suc w.number < 2 ^ 32) where
+  -- the last value of a range is one of these
+  pub record IsLast (i first count : ℕ) : Type 0 where
+    pub value : Written
+    pub there : Contains had value
+    pub instruction : value.value.instruction ≡ i
+    pub count_is : suc value.value.result ≡ count
+    pub number_is : value.number ≡ first + value.value.result
+
+  abbrev pub IsRight : ℕ → ValueRange → Type 0
+  IsRight i range = (range.count ≡ 0) ⊎ IsLast i range.first range.count
+
+  abbrev IsEntry : Entry → Type 0
+  IsEntry e = IsLast e.instruction e.first e.count
+
+  fits : (i first count : ℕ) → IsLast i first count → min count (2 ^ 32 - 1 - first) ≡ count
+  fits i first count last = omega (arith, small last.value last.there, last.count_is, last.number_is)
+
+  same_first : (i first count first' count' : ℕ) → IsLast i first count → IsLast i first' count' → first ≡ first'
+  same_first i first count first' count' a b =
+      omega (arith, order.same a.value b.value a.there b.there (a.instruction ∙ sym b.instruction), a.number_is, b.number_is)
+
+  greater : (i first count first' count' : ℕ) → IsLast i first count → IsLast i first' count' → IsLast i first' (max count count')
+  greater i first count first' count' a b =
+      let e = same_first i first count first' count' a b in
+      elim (cases_lt count count') [
+        | inl lt ↦ subst (λ (n : ℕ). IsLast i first' n) (omega (arith, lt)) b
+        | inr le ↦ subst (λ (n : ℕ). IsLast i first' n) (omega (arith, le)) (subst (λ (n : ℕ). IsLast i n count) e a)
+      ]
+
+  clipped : (i first count : ℕ) → IsLast i first count → IsLast i first (min count (2 ^ 32 - 1 - first))
+  clipped i first count last = subst (λ (n : ℕ). IsLast i first n) (sym (fits i first count last)) last
+
+  -- an entry more
+  one_entry : (e : Entry) → IsEntry e → (range : ValueRange) → IsRight e.instruction range → IsRight e.instruction (with_entry e range)
+  one_entry e is range (inl none) =
+      inr (clipped e.instruction e.first (max range.count e.count) (subst (λ (n : ℕ). IsLast e.instruction e.first n) (omega (arith, none)) is))
+  one_entry e is range (inr last) =
+      inr (clipped e.instruction e.first (max range.count e.count) (greater e.instruction range.first range.count e.first e.count last is))
+
+  entered_right : (es : List Entry) → Each IsEntry es → (before : ℕ → ValueRange) → ((i : ℕ) → IsRight i (before i)) → (i : ℕ) → IsRight i (entered es before i)
+  entered_right [] all before right i = right i
+  entered_right (e ∷ es) all before right i =
+      entered_right es all.1 (λ j. cond (j == e.instruction) (with_entry e (before j)) (before j)) next i
+    where
+      next : (j : ℕ) → IsRight j (cond (j == e.instruction) (with_entry e (before j)) (before j))
+      next j = elim (cases_eq j e.instruction) [
+        | inl same ↦ subst (IsRight j) (sym (cond-true (j == e.instruction) (with_entry e (before j)) (before j) (eq-eqb j e.instruction same)))
+            (subst (λ k. IsRight k (with_entry e (before k))) (sym same) (one_entry e all.0 (before e.instruction) (right e.instruction)))
+        | inr other ↦ subst (IsRight j) (sym (cond-false (j == e.instruction) (with_entry e (before j)) (before j) (ne_eqb j e.instruction other))) (right j)
+      ]
+
+  -- no entry makes a range smaller
+  grows : (es : List Entry) → Each IsEntry es → (before : ℕ → ValueRange) → ((i : ℕ) → IsRight i (before i)) → (i : ℕ) → (before i).count ≤ (entered es before i).count
+  grows [] all before right i = omega arith
+  grows (e ∷ es) all before right i =
+      omega (arith, here (cases_eq i e.instruction), grows es all.1 (λ j. cond (j == e.instruction) (with_entry e (before j)) (before j)) next i)
+    where
+      next : (j : ℕ) → IsRight j (cond (j == e.instruction) (with_entry e (before j)) (before j))
+      next j = elim (cases_eq j e.instruction) [
+        | inl same ↦ subst (IsRight j) (sym (cond-true (j == e.instruction) (with_entry e (before j)) (before j) (eq-eqb j e.instruction same)))
+            (subst (λ k. IsRight k (with_entry e (before k))) (sym same) (one_entry e all.0 (before e.instruction) (right e.instruction)))
+        | inr other ↦ subst (IsRight j) (sym (cond-false (j == e.instruction) (with_entry e (before j)) (before j) (ne_eqb j e.instruction other))) (right j)
+      ]
+
+      larger : (range : ValueRange) → IsRight e.instruction range → range.count ≤ (with_entry e range).count
+      larger range (inl none) = omega (arith, none)
+      larger range (inr last) =
+          omega (arith, fits e.instruction e.first (max range.count e.count) (greater e.instruction range.first range.count e.first e.count last all.0))
+
+      here : (i ≡ e.instruction) ⊎ (i ≢ e.instruction) → (before i).count ≤ (cond (i == e.instruction) (with_entry e (before i)) (before i)).count
+      here (inl same) =
+          subst (λ (r : ValueRange). (before i).count ≤ r.count) (sym (cond-true (i == e.instruction) (with_entry e (before i)) (before i) (eq-eqb i e.instruction same)))
+          (larger (before i) (subst (λ k. IsRight k (before i)) same (right i)))
+      here (inr other) =
+          subst (λ (r : ValueRange). (before i).count ≤ r.count) (sym (cond-false (i == e.instruction) (with_entry e (before i)) (before i) (ne_eqb i e.instruction other)))
+          (omega arith)
+
+  module _ (es : List Entry) (all : Each IsEntry es) (ranges : List ValueRange) (are : AreRanges es ranges) where
+    nothing_right : (i : ℕ) → IsRight i no_values
+    nothing_right i = inl refl
+
+    -- each range is right
+    pub right_at : (i : ℕ) → IsRight i (range_at ranges i)
+    right_at i = moved (entered_right es all (λ _. no_values) nothing_right i)
+      where
+        moved : IsRight i (entered es (λ _. no_values) i) → IsRight i (range_at ranges i)
+        moved (inl none) = inl (are.count i ∙ none)
+        moved (inr last) =
+            inr (subst (λ (n : ℕ). IsLast i (range_at ranges i).first n) (sym (are.count i)) (subst (λ (n : ℕ). IsLast i n (entered es (λ _. no_values) i).count) (sym (are.first i)) last))
+
+    -- and has room for the values of each entry
+    pub has_entry : Each (λ (e : Entry). e.count ≤ (range_at ranges e.instruction).count) es
+    has_entry = go es all (λ _. no_values) nothing_right (λ i. are.count i)
+      where
+        go : (rest : List Entry) → Each IsEntry rest → (before : ℕ → ValueRange) → ((i : ℕ) → IsRight i (before i))
+            → ((i : ℕ) → (range_at ranges i).count ≡ (entered rest before i).count)
+            → Each (λ (e : Entry). e.count ≤ (range_at ranges e.instruction).count) rest
+        go [] those before right is = tt
+        go (e ∷ rest) those before right is =
+            let after : ℕ → ValueRange = λ j. cond (j == e.instruction) (with_entry e (before j)) (before j) in (
+              omega (arith, is e.instruction, grows rest those.1 after (next e those before right) e.instruction, now e those before right),
+              go rest those.1 after (next e those before right) is,
+            )
+          where
+            next : (e : Entry) → Each IsEntry (e ∷ rest) → (before : ℕ → ValueRange) → ((i : ℕ) → IsRight i (before i))
+                → (j : ℕ) → IsRight j (cond (j == e.instruction) (with_entry e (before j)) (before j))
+            next e those before right j = elim (cases_eq j e.instruction) [
+              | inl same ↦ subst (IsRight j) (sym (cond-true (j == e.instruction) (with_entry e (before j)) (before j) (eq-eqb j e.instruction same)))
+                  (subst (λ k. IsRight k (with_entry e (before k))) (sym same) (one_entry e those.0 (before e.instruction) (right e.instruction)))
+              | inr other ↦ subst (IsRight j) (sym (cond-false (j == e.instruction) (with_entry e (before j)) (before j) (ne_eqb j e.instruction other))) (right j)
+            ]
+
+            room : (e : Entry) → IsEntry e → (range : ValueRange) → IsRight e.instruction range → e.count ≤ (with_entry e range).count
+            room e is range (inl none) =
+                omega (arith, none, fits e.instruction e.first e.count is, fits e.instruction e.first (max range.count e.count) (subst (λ (n : ℕ). IsLast e.instruction e.first n) (omega (arith, none)) is))
+            room e is range (inr last) =
+                omega (arith, fits e.instruction e.first (max range.count e.count) (greater e.instruction range.first range.count e.first e.count last is))
+
+            now : (e : Entry) → Each IsEntry (e ∷ rest) → (before : ℕ → ValueRange) → ((i : ℕ) → IsRight i (before i))
+                → e.count ≤ (cond (e.instruction == e.instruction) (with_entry e (before e.instruction)) (before e.instruction)).count
+            now e those before right =
+                subst (λ (r : ValueRange). e.count ≤ r.count)
+                (sym (cond-true (e.instruction == e.instruction) (with_entry e (before e.instruction)) (before e.instruction) (eq-eqb e.instruction e.instruction refl)))
+                (room e those.0 (before e.instruction) (right e.instruction))
+
+    -- a value that is had has its number
+    pub has_number : (w : Written) → Contains had w → w.value.result < (range_at ranges w.value.instruction).count
+        → number_in ranges w.value ≡ Some w.number
+    has_number w there lt = by_right (right_at w.value.instruction)
+      where
+        range : ValueRange
+        range = range_at ranges w.value.instruction
+
+        by_right : IsRight w.value.instruction range → number_in ranges w.value ≡ Some w.number
+        by_right (inl none) = absurd (omega (arith, none, lt))
+        by_right (inr last) =
+            cond-true (nat_lt w.value.result range.count) (Some (range.first + w.value.result)) None (lt-ltb w.value.result range.count lt)
+            ∙ ap (λ n. Some n) (omega (arith, order.same w last.value there last.there (sym last.instruction), last.number_is))
+
+    below : (i j : ℕ) → i < j → IsRight i (range_at ranges i) → IsRight j (range_at ranges j) → (r r' : ℕ)
+        → r < (range_at ranges i).count → r' < (range_at ranges j).count → (range_at ranges i).first + r < (range_at ranges j).first + r'
+    below i j lt (inl none) right r r' within within' = absurd (omega (arith, none, within))
+    below i j lt (inr last) (inl none) r r' within within' = absurd (omega (arith, none, within'))
+    below i j lt (inr a) (inr b) r r' within within' =
+        omega (arith, order.lower a.value b.value a.there b.there (omega (arith, lt, a.instruction, b.instruction)), a.number_is, b.number_is, a.count_is, within)
+
+    pub numbered_apart : AreNumberedApart ranges
+    numbered_apart v w n is there =
+        let a = known ranges v n is in
+        let b = known ranges w n there in
+        elim (cases_lt v.instruction w.instruction) [
+          | inl lt ↦ absurd (omega (arith, below v.instruction w.instruction lt (right_at v.instruction) (right_at w.instruction) v.result w.result a.0 b.0, a.1, b.1))
+          | inr le ↦ elim (cases_eq v.instruction w.instruction) [
+            | inl same ↦ same
+            | inr other ↦ absurd (omega (arith, below w.instruction v.instruction (omega (arith, le, other)) (right_at w.instruction) (right_at v.instruction) w.result v.result b.0 a.0, a.1, b.1))
+          ]
+        ]

@@ -1,9 +1,0 @@
-use Rattle.std.proofs.Common.{◌≡◌, ℕ, suc, ◌≤◌, false, length, get_or}
-use Rattle.flat_ir.specs.Blocks.{is_live}
-use Rattle.switch_machine.proofs.live.live_blocks.Given as goal
-
-abbrev pub invariant-loop-block : goal.invariant-loop-block
-invariant-loop-block g l = record {
-  count : length l.marks.items ≡ suc l.block-index;
-  exact : (b : ℕ) → b ≤ l.block-index → get_or l.marks.items b false ≡ is_live l.blocks (g.R.Numbers.reads l.numbers) b;
-}
