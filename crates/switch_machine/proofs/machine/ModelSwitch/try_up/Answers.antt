@@ -1,6 +1,7 @@
 use Rattle.std.proofs.Common.{◌≡◌, [], ◌∷◌, ◌∙◌, ap, sym}
 use Rattle.switch_ir.specs.Port.{up_entry, up_failed}
 use Rattle.switch_ir.specs.declared.journal.Entry.TheVariants as entry
+use Rattle.switch_machine.specs.Calls.{ended}
 use Rattle.switch_machine.specs.Views.{machine_of}
 use Rattle.switch_machine.proofs.Passing.{up_is, ended_by}
 use Rattle.switch_machine.proofs.machine.ModelSwitch.try_up.Goals as goal
@@ -14,10 +15,11 @@ returns-clause-ok c =
     let copy = c.in_ok-packet.packet in
     let answer = c.in_ok-answer.answer in
     let is = up_is c.args.fails end number port packet c.in_ok-end.ensures.passes in
-    ended_by (machine_of c.args.self.now) (machine_of c.note.new.self) (machine_of c.count_fault.new.self)
+    ended_by (machine_of c.up_end.new.self) (machine_of c.note.new.self) (machine_of c.count_fault.new.self)
     (entry.Up number port copy answer ∷ []) (up_entry number port packet end) c.args.fails (up_failed end)
     c.in_ok-note.ensures.ok c.count_fault.ensures.counted
     (is.1
     ∙ ap (λ bytes. entry.Up number port bytes end ∷ []) (sym c.in_ok-packet.ensures)
     ∙ ap (λ told. entry.Up number port copy told ∷ []) (sym c.in_ok-answer.ensures))
     is.0
+    ∙ ap (λ m. ended m (up_entry number port packet end) (up_failed end)) c.up_end.ensures.kept
