@@ -1,5 +1,5 @@
 -- Numbers that are handed down.
-use Rattle.std.proofs.Common.{◌≡◌, ◌<◌, ℕ, suc, Bool, true, false, List, [], ◌∷◌, refl, ap, arith, if◌then◌else◌}
+use Rattle.std.proofs.Common.{◌≡◌, ℕ, suc, Bool, true, false, List, [], ◌∷◌, refl, ap, arith, if◌then◌else◌}
 use Rattle.packet_fields.specs.declared.packet.Packet.{Packet}
 use Rattle.state_store.specs.Store.{Store}
 use Rattle.flat_ir.specs.declared.program.ValueId.{ValueId}

@@ -1,4 +1,4 @@
-use Rattle.std.proofs.Common.{◌≡◌, ◌∙◌, ap, sym, subst}
+use Rattle.std.proofs.Common.{◌∙◌, ap, sym, subst}
 use Rattle.flat_ir.specs.Registers.{packet_of}
 use Rattle.transfer_header.specs.Registers.{content_of, value_in}
 use Rattle.switch_ir.specs.Code.{code_of}

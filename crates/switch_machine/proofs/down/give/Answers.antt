@@ -1,4 +1,4 @@
-use Rattle.std.proofs.Common.{◌≡◌, ◌∙◌, ◌++◌, ◌≤◌, ℕ, [], List, ap, sym, subst, map, arith}
+use Rattle.std.proofs.Common.{◌∙◌, ◌++◌, ℕ, [], List, ap, sym, subst, map, arith}
 use Rattle.std.specs.List.{AllByRecursion as Each}
 use Rattle.flat_ir.specs.Blocks.{nothing}
 use Rattle.flat_ir.specs.Registers.{packet_of}
