@@ -4,6 +4,7 @@ mod EmittedOrder
 mod Fitting
 mod GoingDown
 mod GoingUp
+mod HandedDown
 mod InRegisters
 mod KeptRows
 mod KeptTables

@@ -1,0 +1,38 @@
+use Rattle.std.proofs.Common.{◌≡◌, ◌-◌, ◌∙◌, ap, take, drop, length}
+use Rattle.packet_fields.specs.declared.packet.Packet.{Packet}
+use Rattle.transfer_header.specs.Registers.{value_in}
+use Rattle.switch_ir.specs.Code.{code_of}
+use Rattle.switch_ir.specs.Meaning.{down_end}
+use Rattle.switch_ir.specs.Port.{EndsDown}
+use Rattle.switch_ir.specs.Spans.{post_spans}
+use Rattle.switch_ir.specs.Tables.{seen_tables}
+use Rattle.switch_ir.specs.declared.port.DownEnd.TheVariants.{Verdict as Ended}
+use Rattle.switch_machine.proofs.HandedDown.{down_same}
+use Rattle.switch_machine.proofs.Lists.{ok_weaker, whole_rest}
+use Rattle.switch_machine.proofs.down.go_down.Goals as goal
+
+pub unpack_down-requires : goal.unpack_down-requires
+unpack_down-requires c =
+    let loaded = c.args.loaded.now in
+    let code = code_of loaded.code in
+    let registers = c.clear.new.self.registers in
+    let apart = c.plans_of_spans.ensures.apart (post_spans code) loaded.code.post.plan registers loaded.code.post_plan (c.clear.ensures.plan ∙ loaded.post_plan) in
+    c.needed_values_fit.ensures code.down (post_spans code) registers 0 apart loaded.can.down loaded.can.down_needed
+
+pub returns-clause-told : goal.returns-clause-told
+returns-clause-told c =
+    let code = code_of c.args.loaded.now.code in
+    let tables = seen_tables c.args.tables.now in
+    let frame = c.args.frame.now in
+    let at = c.in-Ok.head.packet_at in
+    let told = value_in c.unpack_down.new.into in
+    let rest = take (length frame - at) (drop at frame) in
+    let arrived : Packet = record { port = c.in-Ok.head.port; bytes = rest } in
+    ok_weaker (λ verdict. verdict ≡ down_end code told tables arrived) (λ verdict. EndsDown code c.args.tables.now frame (Ended verdict)) c.finish.result
+    (λ verdict is number port values packet frame_is.
+    let same = c.in-Ok.ensures.read_back number port values packet frame_is in
+    is
+    ∙ down_same code told values tables arrived same.same_values
+    ∙ ap (λ p. down_end code values tables (record { port = p; bytes = rest })) same.same_port
+    ∙ ap (λ bytes. down_end code values tables (record { port = port; bytes = bytes })) (whole_rest at frame ∙ same.same_packet))
+    c.finish.ensures.end
