@@ -1,6 +1,6 @@
 -- What postprocessing begins with.
-use Rattle.std.proofs.Common.{◌≡◌, ◌≢◌, ◌⊎◌, ℕ, zero, suc, ◌+◌, ◌==◌, ◌<◌, ◌≤◌, Bool, true, false, cond, ◌&&◌, ◌||◌, List, [], ◌∷◌, ◌++◌, length, map, Option, Some, None, refl, sym, ap, ◌∙◌, subst, inl, inr, arith}
-use Rattle.std.specs.List.{list_any, AllByRecursion as Each}
+use Rattle.std.proofs.Common.{◌≡◌, ◌≢◌, ℕ, ◌==◌, Bool, true, false, cond, ◌||◌, List, [], ◌∷◌, ◌++◌, map, Option, Some, None, refl, sym, ap, ◌∙◌, subst, inl, inr, arith}
+use Rattle.std.specs.List.{AllByRecursion as Each}
 use Rattle.std.proofs.lemmas.Bool.{cases_Bool, cond-true, cond-false, eq-eqb, eqb-true, and_from, and_parts, or_left, or_right, or_cases, true≢false}
 use Rattle.std.proofs.lemmas.List.Folds.{list_any-append}
 use Rattle.packet_fields.specs.declared.packet.Packet.{Packet}
@@ -18,7 +18,7 @@ use Rattle.switch_machine.specs.Numbers.{number_in, range_at, stage_gives, stage
 use Rattle.switch_machine.specs.Planned.{AreNumberedApart, BeginsWith, FitRanges}
 use Rattle.switch_machine.specs.Staged.{of_stage}
 use Rattle.switch_machine.proofs.KeptRows.{the_some, none_some}
-use Rattle.switch_machine.proofs.Numbered.{after_own, all_given, each_of_stage, known, number_is, once_of_stage, own_is, unknown_stays, writes_are, IsGiven}
+use Rattle.switch_machine.proofs.Numbered.{all_given, each_of_stage, known, number_is, once_of_stage, own_is, unknown_stays, writes_are, IsGiven}
 use Rattle.switch_machine.proofs.Writing.{written_one}
 
 pub same_value : (a b : ValueId) → a.instruction ≡ b.instruction → a.result ≡ b.result → is_value a b ≡ true

@@ -1,29 +1,29 @@
 -- The values of code that is emitted stand in order.
-use Rattle.std.proofs.Common.{◌≡◌, ◌≢◌, ◌⊎◌, ℕ, zero, suc, ◌+◌, ◌-◌, ◌==◌, ◌<◌, ◌≤◌, ◌&&◌, ◌||◌, not, Bool, true, false, cond, List, [], ◌∷◌, ◌++◌, length, map, Option, Some, None, is_some, unwrap_or, slice_get, refl, sym, ap, ◌∙◌, subst, inl, inr, arith}
-use Rattle.std.specs.Prelude.{nat_lt, Contains}
+use Rattle.std.proofs.Common.{◌≡◌, ◌≢◌, ◌⊎◌, ℕ, zero, suc, ◌+◌, ◌-◌, ◌==◌, ◌<◌, ◌≤◌, ◌&&◌, not, Bool, true, false, cond, List, [], ◌∷◌, ◌++◌, length, map, Option, Some, None, is_some, unwrap_or, slice_get, refl, sym, ap, ◌∙◌, subst, inl, inr, arith}
+use Rattle.std.specs.Prelude.{nat_lt}
 use Rattle.std.specs.List.{filter, AllByRecursion as Each}
 use Rattle.std.specs.Option.{option_map}
-use Rattle.std.proofs.lemmas.Bool.{cases_Bool, cases_eq, cases_lt, and_parts, eqb-true, ltb-true, true≢false}
+use Rattle.std.proofs.lemmas.Bool.{cases_eq, cases_lt, and_parts, eqb-true, ltb-true, true≢false}
 use Rattle.std.proofs.lemmas.List.{length-append}
 use Rattle.state_store.specs.declared.object.ObjectDecl.{ObjectDecl}
 use Rattle.flat_ir.specs.declared.program.ValueId.{ValueId}
-use Rattle.flat_ir.specs.Program.{Program, Work, is_named, result_count, result_widths, step_at, value_widths}
+use Rattle.flat_ir.specs.Program.{Program, Work, is_named, result_count, step_at, value_widths}
 use Rattle.flat_ir.specs.Program.Work.{const, field, apply, shift, select, byte, look, put, del}
 use Rattle.split_model.specs.declared.layout.Crossing.{Crossing}
 use Rattle.split_model.specs.declared.split.Part.{Part}
 use Rattle.split_model.specs.Crossing.{crosses_down, crosses_up, is_at_hand, is_value}
-use Rattle.split_model.specs.Layouts.{crossing, down_layout, down_values, first_results, number_of, up_layout, up_values, values_below, values_of}
+use Rattle.split_model.specs.Layouts.{crossing, down_layout, first_results, number_of, up_layout, values_below, values_of}
 use Rattle.split_model.specs.Split.{is_post, post_stage, pre_stage}
 use Rattle.switch_ir.specs.declared.code.Table.{Table}
-use Rattle.switch_ir.specs.Emitted.{emitted, given_stage, is_given, is_looked_up, only_value, placed, post_code, pre_code, step_for, steps_below, steps_of, tables_from, IsEmitted}
-use Rattle.switch_ir.specs.Passes.{Step, PassCode, Code}
+use Rattle.switch_ir.specs.Emitted.{emitted, given_stage, is_given, is_looked_up, only_value, placed, post_code, pre_code, steps_below, steps_of, tables_from, IsEmitted}
+use Rattle.switch_ir.specs.Passes.{Step, Code}
 use Rattle.switch_ir.specs.Spans.{handed_in, results_in, written_by, written_in, Written}
 use Rattle.switch_ir.specs.Tables.{declared_at}
-use Rattle.switch_machine.specs.Ranges.{AreAlike, AreInOrder, AreOrdered, AreOthers}
+use Rattle.switch_machine.specs.Ranges.{AreInOrder, AreOrdered}
 use Rattle.switch_machine.proofs.Beginning.{same_value, value_same}
 use Rattle.switch_machine.proofs.KeptRows.{the_some, none_some}
-use Rattle.switch_machine.proofs.Members.{each_has, filter_has, has_each, has_made, has_parts, of_contains, Has}
-use Rattle.switch_machine.proofs.PassValues.{written_of, written_two}
+use Rattle.switch_machine.proofs.Members.{filter_has, has_each, has_made, has_parts, of_contains, Has}
+use Rattle.switch_machine.proofs.PassValues.{written_of}
 
 -- ## Numbers of values
 

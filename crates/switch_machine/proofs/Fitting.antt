@@ -1,24 +1,23 @@
 -- How many results an instruction gives.
-use Rattle.std.proofs.Common.{◌≡◌, ◌≤◌, ◌+◌, ℕ, zero, suc, Bool, true, false, ◌&&◌, List, [], ◌∷◌, length, map, replicate, nat_lt, Option, Some, None, unwrap_or, slice_get, refl, sym, ap, ◌∙◌, subst, arith, ◌^◌}
+use Rattle.std.proofs.Common.{◌≡◌, ◌≤◌, ℕ, zero, suc, Bool, true, false, List, [], ◌∷◌, length, map, replicate, nat_lt, Option, Some, None, unwrap_or, refl, sym, ap, ◌∙◌, subst, arith, ◌^◌}
 use Rattle.std.specs.FinMap as finmap
-use Rattle.std.specs.List.{AllByRecursion as Each}
 use Rattle.std.specs.Option.{option_map}
 use Rattle.std.proofs.lemmas.Bool.{and_parts, true≢false}
 use Rattle.packet_fields.specs.declared.packet.Packet.{Packet}
 use Rattle.state_store.specs.declared.object.ObjectDecl.{ObjectDecl}
 use Rattle.state_store.specs.Kept.{have_widths}
-use Rattle.state_store.specs.Store.{key_cmp, Object, Store, look, looked_up, no_object, object_at}
+use Rattle.state_store.specs.Store.{key_cmp, Object, look, looked_up, no_object, object_at}
 use Rattle.flat_ir.specs.Blocks.{Reading}
 use Rattle.flat_ir.specs.Program.{Work}
 use Rattle.flat_ir.specs.Program.Work.{const, field, apply, shift, select, byte, look as look_up, put, del}
 use Rattle.flat_ir.specs.Run.{results}
 use Rattle.writeback_table.specs.Pair.{Pair, seen}
 use Rattle.switch_ir.specs.declared.code.Table.{Table}
-use Rattle.switch_ir.specs.Passes.{Code, Step}
+use Rattle.switch_ir.specs.Passes.{Code}
 use Rattle.switch_ir.specs.Spans.{results_in}
 use Rattle.switch_ir.specs.Tables.{Told, declared_at, no_pair, pair_at, seen_object, seen_tables}
 use Rattle.switch_machine.specs.Kept.{KeepsTables}
-use Rattle.switch_machine.proofs.KeptRows.{the_some, none_some}
+use Rattle.switch_machine.proofs.KeptRows.{none_some}
 use Rattle.switch_machine.proofs.TableRows.{nothing_found}
 use Rattle.switch_machine.proofs.VisibleRows.{fits}
 

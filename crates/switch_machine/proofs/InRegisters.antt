@@ -1,8 +1,8 @@
 -- A pass stage by stage, in registers.
-use Rattle.std.proofs.Common.{◌≡◌, ◌≢◌, ℕ, zero, suc, ◌+◌, ◌==◌, ◌<◌, ◌≤◌, Bool, true, false, cond, ◌||◌, ◌&&◌, List, [], ◌∷◌, ◌++◌, length, map, get_or, Option, Some, None, IsSome, refl, sym, ap, ◌∙◌, subst, inl, inr, arith, slice_index, slice_set}
+use Rattle.std.proofs.Common.{◌≡◌, ℕ, zero, suc, ◌+◌, ◌==◌, ◌<◌, ◌≤◌, Bool, true, false, cond, ◌||◌, ◌&&◌, List, [], ◌∷◌, ◌++◌, length, map, Option, Some, None, refl, sym, ap, ◌∙◌, subst, inl, inr, arith, slice_index, slice_set}
 use Rattle.std.specs.Prelude.{All, Contains}
-use Rattle.std.specs.List.{list_any, AllByRecursion as Each}
-use Rattle.std.proofs.lemmas.Bool.{cases_Bool, cases_eq, cond-true, cond-false, eq-eqb, ne_eqb, eqb-true, or_left, or_right, and_from, true≢false}
+use Rattle.std.specs.List.{AllByRecursion as Each}
+use Rattle.std.proofs.lemmas.Bool.{cases_Bool, cases_eq, eq-eqb, ne_eqb, or_left, or_right, and_from, true≢false}
 use Rattle.std.proofs.lemmas.List.Elements.{All-contains}
 use Rattle.std.proofs.lemmas.List.Folds.{list_any-append}
 use Rattle.std.proofs.lemmas.List.Sums.{sum_by-cons}
@@ -11,21 +11,21 @@ use Rattle.state_store.specs.Store.{Store}
 use Rattle.flat_ir.specs.declared.program.ValueId.{ValueId}
 use Rattle.flat_ir.specs.declared.spans.Span.{Span}
 use Rattle.flat_ir.specs.Blocks.{Reading}
-use Rattle.flat_ir.specs.Laws.{Same, SameFor}
+use Rattle.flat_ir.specs.Laws.{Same}
 use Rattle.flat_ir.specs.Program.{Work, operands}
 use Rattle.flat_ir.specs.Run.{results}
-use Rattle.flat_ir.specs.Spans.{covers, spans_of}
-use Rattle.transfer_header.specs.Registers.{Registers, content_of, number_by, place_of, set_by, written, HasRegister}
-use Rattle.transfer_header.specs.Steps.{Contents, Steps, all_written, is_among, one_each, pairs_written, reading_after, registers_after}
+use Rattle.flat_ir.specs.Spans.{spans_of}
+use Rattle.transfer_header.specs.Registers.{Registers, content_of, number_by, place_of, set_by, written}
+use Rattle.transfer_header.specs.Steps.{Contents, Steps, all_written, is_among, one_each, pairs_written, registers_after}
 use Rattle.transfer_header.specs.Steps.{AreSpansOf, IsDoneAlike, IsReady, IsSpanOf, LooksAtReadsAlone}
 use Rattle.switch_ir.specs.Code.{Step, PassCode}
 use Rattle.switch_ir.specs.Meaning.{after_stages, pass_values}
 use Rattle.switch_machine.specs.declared.numbering.ValueRange.{ValueRange}
-use Rattle.switch_machine.specs.Numbers.{content_at, gives, is_number, is_read, number_in, range_at, reads_by, stage_gives, stage_number, stage_reads, stage_writes, AreOnce}
-use Rattle.switch_machine.specs.Planned.{first_writes, steps_of, FitRanges, IsSetUp}
+use Rattle.switch_machine.specs.Numbers.{content_at, gives, is_number, is_read, number_in, range_at, reads_by, stage_gives, stage_number, stage_reads, stage_writes}
+use Rattle.switch_machine.specs.Planned.{first_writes, steps_of, IsSetUp}
 use Rattle.switch_machine.specs.Staged.{of_stage}
 use Rattle.switch_machine.proofs.Each.{each_at}
-use Rattle.switch_machine.proofs.Numbered.{after_own, all_given, each_of_stage, number_is, once_of_stage, own_is, unknown_stays, writes_are, IsGiven}
+use Rattle.switch_machine.proofs.Numbered.{all_given, each_of_stage, number_is, once_of_stage, own_is, unknown_stays, writes_are, IsGiven}
 
 -- ## Spans of values
 

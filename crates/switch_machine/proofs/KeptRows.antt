@@ -1,5 +1,5 @@
 -- The tables of an object keep what was declared under each command.
-use Rattle.std.proofs.Common.{◌≡◌, ◌≤◌, ◌<◌, ◌+◌, ◌-◌, ℕ, zero, suc, Bool, true, false, cond, not, ◌&&◌, ◌||◌, List, [], ◌∷◌, length, nat_le, nat_lt, Option, Some, None, refl, sym, ap, ◌∙◌, subst, arith, true≢false, slice_get, slice_set}
+use Rattle.std.proofs.Common.{◌≡◌, ◌≤◌, ◌+◌, ◌-◌, ℕ, Bool, true, false, cond, ◌&&◌, ◌||◌, List, nat_lt, Option, Some, None, refl, sym, ◌∙◌, subst, arith, true≢false}
 use Rattle.std.specs.Ordering.{eq_by_cmp, is_eq}
 use Rattle.std.specs.declared.cmp.Ordering.{Ordering}
 use Rattle.std.specs.declared.cmp.Ordering.TheVariants.{Less, Equal, Greater}
@@ -8,18 +8,16 @@ use Rattle.std.proofs.lemmas.Bool.{and_parts}
 use Rattle.std.proofs.lemmas.Bool.Decides.{nat_tests}
 use Rattle.std.proofs.lemmas.Cmp.{nat_list_cmp_total}
 use Rattle.std.proofs.lemmas.Map.Lookups.{exact_bytes}
-use Rattle.state_store.specs.declared.object.Kind.TheVariants.{Table}
 use Rattle.state_store.specs.declared.object.ObjectDecl.{ObjectDecl}
 use Rattle.state_store.specs.Keeping.{put_keeps, del_keeps}
 use Rattle.state_store.specs.Kept.{have_widths, IsKeptObject}
 use Rattle.state_store.specs.Kinds.{is_table}
-use Rattle.state_store.specs.Store.{key_cmp, Contents, Object, is_out, is_full, look, put_row, del_row, start_object}
+use Rattle.state_store.specs.Store.{key_cmp, Object, start_object}
 use Rattle.writeback_table.specs.declared.command.To.{To}
 use Rattle.writeback_table.specs.declared.command.To.TheVariants.{Value, Gone}
 use Rattle.writeback_table.specs.declared.command.Update.{Update}
-use Rattle.writeback_table.specs.declared.command.Command.{Command}
-use Rattle.writeback_table.specs.declared.command.Command.TheVariants.{Stage, On, Main, Off, Clear}
-use Rattle.writeback_table.specs.Pair.{Pair, Staged, applied, can_stage, change_to, values_of, with_change}
+use Rattle.writeback_table.specs.declared.command.Command.TheVariants.{Stage, Main, Clear}
+use Rattle.writeback_table.specs.Pair.{Pair, applied, can_stage, change_to, values_of}
 use Rattle.writeback_table.specs.Widths.{fits_update, has_value_widths}
 use Rattle.switch_machine.specs.Kept.{staged_fits, KeepsRows}
 

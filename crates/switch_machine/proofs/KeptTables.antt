@@ -1,13 +1,12 @@
 -- The tables of code keep what it declares, from their start on and under each of its commands.
-use Rattle.std.proofs.Common.{◌≡◌, ◌≤◌, ℕ, zero, suc, Bool, true, false, List, [], ◌∷◌, Option, Some, None, refl, sym, ap, ◌∙◌, subst, arith, slice_get, slice_set, unwrap_or, if◌then◌else◌}
+use Rattle.std.proofs.Common.{◌≡◌, ◌≤◌, ℕ, zero, suc, Bool, true, false, List, [], ◌∷◌, Option, Some, None, refl, sym, ap, ◌∙◌, subst, arith, slice_set, if◌then◌else◌}
 use Rattle.state_store.specs.declared.object.ObjectDecl.{ObjectDecl}
 use Rattle.state_store.specs.Kinds.{is_table}
-use Rattle.writeback_table.specs.declared.command.Update.{Update}
 use Rattle.writeback_table.specs.declared.command.Command.{Command}
 use Rattle.writeback_table.specs.declared.command.Command.TheVariants.{Stage, On, Main, Off, Clear}
 use Rattle.writeback_table.specs.Pair.{Pair, applied}
 use Rattle.switch_ir.specs.Code.{Code}
-use Rattle.switch_ir.specs.Port.{IsCommandOf, IsKeyOf, IsReplicatedIn, IsUpdateOf}
+use Rattle.switch_ir.specs.Port.{IsCommandOf}
 use Rattle.switch_ir.specs.Sound.{CanBeRun}
 use Rattle.switch_ir.specs.Tables.{Told, IsStart, declared_at, no_pair, pair_at, staging_room, start_pair, told_after, with_command}
 use Rattle.switch_machine.specs.Kept.{KeepsRows, KeepsTables, AreSafe}

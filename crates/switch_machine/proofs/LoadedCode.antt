@@ -1,5 +1,5 @@
 -- What holds of the code that is loaded.
-use Rattle.std.proofs.Common.{◌≡◌, Option, Some, None, IfSome, refl, subst}
+use Rattle.std.proofs.Common.{◌≡◌, Option, Some, None, IfSome, subst}
 use Rattle.writeback_table.specs.declared.command.Command.{Command}
 use Rattle.switch_ir.specs.Code.{Code}
 use Rattle.switch_ir.specs.Port.{IsCommandOf}

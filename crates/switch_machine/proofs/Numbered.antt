@@ -1,7 +1,7 @@
 -- Values by their numbers.
-use Rattle.std.proofs.Common.{◌≡◌, ◌≢◌, ℕ, zero, suc, ◌+◌, ◌-◌, ◌==◌, ◌<◌, ◌≤◌, Bool, true, false, cond, ◌&&◌, ◌||◌, ◌⊎◌, List, [], ◌∷◌, ◌++◌, length, map, get_or, Option, Some, None, refl, sym, ap, ◌∙◌, subst, inl, inr, arith, slice_index}
+use Rattle.std.proofs.Common.{◌≡◌, ◌≢◌, ℕ, zero, suc, ◌+◌, ◌-◌, ◌==◌, ◌<◌, ◌≤◌, Bool, true, false, cond, ◌&&◌, ◌||◌, ◌⊎◌, List, [], ◌∷◌, ◌++◌, length, map, Some, None, refl, sym, ap, ◌∙◌, inl, inr, arith, slice_index}
 use Rattle.std.specs.Prelude.{nat_lt}
-use Rattle.std.specs.List.{list_any, AllByRecursion as Each}
+use Rattle.std.specs.List.{AllByRecursion as Each}
 use Rattle.std.proofs.lemmas.Bool.{cases_Bool, cases_eq, cond-true, cond-false, eq-eqb, ne_eqb, eqb-true, ltb-true, ltb-false, lt-ltb, or_left, or_right, or_cases, true≢false}
 use Rattle.std.proofs.lemmas.List.Folds.{list_any-append}
 use Rattle.packet_fields.specs.declared.packet.Packet.{Packet}
@@ -11,10 +11,10 @@ use Rattle.flat_ir.specs.Blocks.{Reading}
 use Rattle.flat_ir.specs.Run.{results}
 use Rattle.transfer_header.specs.Steps.{is_among}
 use Rattle.switch_ir.specs.Code.{Step}
-use Rattle.switch_ir.specs.Meaning.{after_stage, after_stages}
+use Rattle.switch_ir.specs.Meaning.{after_stage}
 use Rattle.switch_machine.specs.declared.numbering.ValueRange.{ValueRange}
-use Rattle.switch_machine.specs.Numbers.{first_gives, first_values, gives, number_at, number_in, range_at, stage_gives, stage_number, stage_writes, values, AreOnce}
-use Rattle.switch_machine.specs.Planned.{AreNumberedApart, FitRanges}
+use Rattle.switch_machine.specs.Numbers.{first_gives, first_values, gives, number_in, range_at, stage_gives, stage_number, stage_writes, values, AreOnce}
+use Rattle.switch_machine.specs.Planned.{AreNumberedApart}
 use Rattle.switch_machine.specs.Staged.{of_stage}
 use Rattle.switch_machine.proofs.KeptRows.{the_some, none_some}
 

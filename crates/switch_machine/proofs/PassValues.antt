@@ -1,6 +1,6 @@
 -- The values of a pass: what it reads and writes by the ranges of their numbers is what it reads and writes.
-use Rattle.std.proofs.Common.{◌≡◌, ◌≢◌, ◌⊎◌, ℕ, zero, suc, ◌+◌, ◌-◌, ◌^◌, ◌==◌, ◌<◌, ◌≤◌, ◌&&◌, ◌||◌, Bool, true, false, cond, List, [], ◌∷◌, ◌++◌, length, map, append_assoc, Option, Some, None, IsSome, refl, sym, ap, ◌∙◌, subst, inl, inr, arith}
-use Rattle.std.specs.Prelude.{nat_le, All, Contains}
+use Rattle.std.proofs.Common.{◌≡◌, ◌≢◌, ◌⊎◌, ℕ, zero, suc, ◌+◌, ◌-◌, ◌^◌, ◌==◌, ◌<◌, ◌≤◌, ◌&&◌, Bool, true, false, cond, List, [], ◌∷◌, ◌++◌, map, append_assoc, Option, Some, None, refl, sym, ap, ◌∙◌, subst, inl, inr, arith}
+use Rattle.std.specs.Prelude.{nat_le, Contains}
 use Rattle.std.specs.List.{list_any, AllByRecursion as Each}
 use Rattle.std.proofs.lemmas.Bool.{cases_Bool, cases_eq, eq-eqb, eqb-true, and_from, and_parts, or_left, or_right, or_cases, true≢false, le-leb}
 use Rattle.std.proofs.lemmas.List.Elements.{All-weaker, All-contains}
@@ -17,7 +17,7 @@ use Rattle.transfer_header.specs.Registers.{Registers, place_of, HasRegister}
 use Rattle.transfer_header.specs.Steps.{Contents, Steps, is_among, AreKeptApart, AreSpansOf, IsNowhere, IsSpanOf}
 use Rattle.switch_ir.specs.declared.code.Table.{Table}
 use Rattle.switch_ir.specs.Passes.{Step, PassCode}
-use Rattle.switch_ir.specs.Spans.{handed_in, is_read_at, is_read_last, reads_at, results_in, results_of, writes_at, written_by, written_in, GoesByStages, Written}
+use Rattle.switch_ir.specs.Spans.{handed_in, is_read_at, is_read_last, results_in, results_of, writes_at, written_by, written_in, GoesByStages, Written}
 use Rattle.switch_ir.specs.Spans.{steps_of as steps_by_values}
 use Rattle.switch_machine.specs.declared.numbering.ValueRange.{ValueRange}
 use Rattle.switch_machine.specs.Keeping.{numbers_in}
@@ -27,8 +27,7 @@ use Rattle.switch_machine.specs.Ranges.{crossing_entry, entries, step_entry, Are
 use Rattle.switch_machine.specs.Staged.{of_stage}
 use Rattle.switch_machine.proofs.Beginning.{same_value, value_same}
 use Rattle.switch_machine.proofs.InRegisters.{has_span, HasSpan}
-use Rattle.switch_machine.proofs.KeptRows.{the_some, none_some}
-use Rattle.switch_machine.proofs.Members.{any_has, among_has, each_has, filter_has, has_among, has_any, has_each, has_filter, has_left, has_made, has_parts, has_right, made_has, of_contains, pairs_between, pairs_left, pairs_right, to_contains, to_pairs, Has, Pairs, Passes}
+use Rattle.switch_machine.proofs.Members.{any_has, among_has, each_has, filter_has, has_among, has_any, has_each, has_filter, has_left, has_made, has_parts, has_right, made_has, of_contains, pairs_between, pairs_right, to_contains, to_pairs, Has, Pairs, Passes}
 use Rattle.switch_machine.proofs.Numbered.{among_values, known, values_among}
 use Rattle.switch_machine.proofs.Ordered.{has_entry, has_number, numbered_apart, right_at, IsLast, IsRight}
 

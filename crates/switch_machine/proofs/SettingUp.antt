@@ -1,6 +1,6 @@
 -- Registers are set up for the passes of code.
-use Rattle.std.proofs.Common.{◌≡◌, ◌≤◌, ◌<◌, ◌^◌, ◌+◌, ◌++◌, ◌||◌, ◌&&◌, ◌==◌, ◌%◌, ◌⊎◌, if◌then◌else◌, ℕ, zero, suc, Bool, true, false, List, [], ◌∷◌, length, map, Option, Some, None, IsSome, refl, sym, ap, ◌∙◌, subst, inl, inr, arith}
-use Rattle.std.specs.Prelude.{All, Contains}
+use Rattle.std.proofs.Common.{◌≡◌, ◌≤◌, ◌<◌, ◌^◌, ◌++◌, ◌||◌, ◌==◌, ◌%◌, ◌⊎◌, if◌then◌else◌, ℕ, zero, suc, Bool, true, false, List, [], ◌∷◌, length, map, refl, sym, ap, ◌∙◌, inl, inr, arith}
+use Rattle.std.specs.Prelude.{Contains}
 use Rattle.std.specs.List.{list_any, AllByRecursion as Each}
 use Rattle.std.proofs.lemmas.Bool.{or_left, or_right}
 use Rattle.packet_fields.specs.declared.packet.Packet.{Packet}
@@ -10,7 +10,6 @@ use Rattle.state_store.specs.Store.{Store}
 use Rattle.flat_ir.specs.declared.program.ValueId.{ValueId}
 use Rattle.flat_ir.specs.declared.program.Block.{Block}
 use Rattle.flat_ir.specs.declared.program.FieldValue.{FieldValue}
-use Rattle.flat_ir.specs.declared.spans.Span.{Span}
 use Rattle.flat_ir.specs.Blocks.{Reading, block_at, is_live, line}
 use Rattle.flat_ir.specs.Laws.{Same}
 use Rattle.flat_ir.specs.Program.{Program}
@@ -19,20 +18,20 @@ use Rattle.flat_ir.specs.Run.{results, with_writes}
 use Rattle.split_model.specs.declared.layout.Crossing.{Crossing}
 use Rattle.split_model.specs.Crossing.{is_value}
 use Rattle.split_model.specs.Crossing.{is_among as is_among_values}
-use Rattle.transfer_header.specs.Registers.{Registers, content_of, ArePlaced}
+use Rattle.transfer_header.specs.Registers.{Registers, ArePlaced}
 use Rattle.transfer_header.specs.Steps.{Contents, AreKeptApart, AreSpansOf}
 use Rattle.switch_ir.specs.declared.code.Table.{Table}
 use Rattle.switch_ir.specs.Meaning.{leaves}
-use Rattle.switch_ir.specs.Passes.{Code, PassCode, Step}
+use Rattle.switch_ir.specs.Passes.{PassCode, Step}
 use Rattle.switch_ir.specs.Spans.{is_condition, is_read_last, is_tested, pass_spans, results_in, written_in, GoesByStages, Written}
 use Rattle.switch_ir.specs.Spans.{steps_of as steps_by_values}
 use Rattle.switch_machine.specs.declared.numbering.ValueRange.{ValueRange}
-use Rattle.switch_machine.specs.Keeping.{conditions, kept_down, kept_up, left_with, lines_of, values_in}
-use Rattle.switch_machine.specs.Numbers.{number_in, range_at}
+use Rattle.switch_machine.specs.Keeping.{conditions, left_with, lines_of, values_in}
+use Rattle.switch_machine.specs.Numbers.{range_at}
 use Rattle.switch_machine.specs.Planned.{BeginsWith, FitRanges, HaveRegisters, IsSetUp}
 use Rattle.switch_machine.specs.Ranges.{entries, AreInOrder, AreOthers, AreRanges}
 use Rattle.switch_machine.proofs.Beginning.{same_value}
-use Rattle.switch_machine.proofs.Members.{any_has, each_has, has_any, has_each, has_left, has_made, has_parts, has_right, Has}
+use Rattle.switch_machine.proofs.Members.{has_any, has_each, has_left, has_made, has_parts, has_right, Has}
 use Rattle.switch_machine.proofs.PassValues.{apart, begins, begins_fresh, have_registers, once, range_is, spans_mine}
 
 module _ (tables : List Table) (handed up : List Crossing) (pass : PassCode)

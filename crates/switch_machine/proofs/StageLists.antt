@@ -2,7 +2,7 @@
 use Rattle.std.proofs.Common.{◌≡◌, ℕ, suc, ◌≤◌, List, length, sym, ap, subst}
 use Rattle.std.specs.List.{AllByRecursion as Each}
 use Rattle.switch_ir.specs.declared.code.PassStep.{PassStep}
-use Rattle.switch_ir.specs.Code.{Step, step_of}
+use Rattle.switch_ir.specs.Code.{Step}
 use Rattle.switch_ir.specs.Sound.{CanStep}
 use Rattle.switch_machine.specs.Numbers.{stage_gives}
 use Rattle.switch_machine.specs.Staged.{of_stage, stage_at, AreStages}

@@ -1,14 +1,13 @@
 -- Tables by the numbers of their objects.
-use Rattle.std.proofs.Common.{◌≡◌, ◌≢◌, ℕ, zero, suc, ◌==◌, ◌<◌, ◌≤◌, Bool, true, false, List, [], ◌∷◌, length, map, replicate, Option, Some, None, is_some, unwrap_or, slice_get, ◌+◌, ◌++◌, refl, sym, ap, ◌∙◌, subst, ⊎_elim, arith}
+use Rattle.std.proofs.Common.{◌≡◌, ℕ, zero, suc, ◌==◌, ◌<◌, ◌≤◌, Bool, true, false, List, [], ◌∷◌, length, map, Option, Some, None, unwrap_or, ◌+◌, ◌++◌, refl, sym, ap, ◌∙◌, subst, ⊎_elim, arith}
 use Rattle.std.proofs.lemmas.Bool.{cond-false, ne_eqb, cases_lt}
 use Rattle.std.proofs.lemmas.List.{length-map}
 use Rattle.std.proofs.lemmas.Option.{slice_get_past}
 use Rattle.std.specs.FinMap as finmap
 use Rattle.std.specs.List.{AllByRecursion as Each}
 use Rattle.state_store.specs.declared.object.ObjectDecl.{ObjectDecl}
-use Rattle.state_store.specs.declared.object.Row.{Row}
-use Rattle.state_store.specs.Store.{key_cmp, Contents, Object, look, looked_up, no_object, object_at, rows_from}
-use Rattle.writeback_table.specs.Pair.{Pair, Staged, visible, visible_rows, with_staged}
+use Rattle.state_store.specs.Store.{key_cmp, look, no_object, object_at, rows_from}
+use Rattle.writeback_table.specs.Pair.{Pair, visible_rows, with_staged}
 use Rattle.switch_ir.specs.declared.code.Table.{Table}
 use Rattle.switch_ir.specs.Code.{Code}
 use Rattle.switch_ir.specs.Tables.{Told, IsStart, declared_at, no_pair, pair_at, seen_object, seen_tables, start_pair}

@@ -1,14 +1,13 @@
 -- The rows that lookups see of an object that keeps what was declared.
-use Rattle.std.proofs.Common.{◌≡◌, ◌≤◌, ◌<◌, ◌+◌, ◌-◌, ◌^◌, ℕ, Bool, true, false, cond, ◌&&◌, List, [], ◌∷◌, length, map, Option, Some, None, refl, sym, ap, ◌∙◌, subst, arith, true≢false}
+use Rattle.std.proofs.Common.{◌≡◌, ◌≤◌, ◌+◌, ◌-◌, ℕ, Bool, true, false, cond, ◌&&◌, List, [], ◌∷◌, length, map, Option, Some, None, refl, sym, ap, ◌∙◌, subst, arith, true≢false}
 use Rattle.std.specs.Prelude.{T}
 use Rattle.std.specs.Ordering.{eq_by_cmp, is_eq, is_lt}
 use Rattle.std.specs.declared.cmp.Ordering.{Ordering}
 use Rattle.std.specs.declared.cmp.Ordering.TheVariants.{Less, Equal, Greater}
 use Rattle.std.specs.Cmp.{tied_itself}
-use Rattle.std.specs.FinMap.{FinMap, find, is_sorted, get, insert, remove, entries, entries_sorted, len, contains_key, get-entries, len-entries, len-insert, len-remove}
+use Rattle.std.specs.FinMap.{find, is_sorted, get, entries, entries_sorted, len, contains_key, get-entries, len-entries, len-insert, len-remove}
 use Rattle.std.specs.FinMap.Entries.{below_all}
 use Rattle.std.specs.List.{AllByRecursion as Each}
-use Rattle.std.proofs.lemmas.Bool.{and_parts}
 use Rattle.std.proofs.lemmas.Cmp.{nat_list_cmp_total}
 use Rattle.std.proofs.lemmas.Map.Lookups.{exact_bytes}
 use Rattle.state_store.specs.declared.object.ObjectDecl.{ObjectDecl}
@@ -16,10 +15,10 @@ use Rattle.state_store.specs.declared.object.Row.{Row}
 use Rattle.state_store.specs.Kept.{have_widths}
 use Rattle.state_store.specs.Places.{IsSorted}
 use Rattle.state_store.specs.Store.{Contents, key_cmp, look, rows_from}
-use Rattle.writeback_table.specs.Pair.{Pair, Staged, seen, visible, visible_rows, with_row, with_staged}
-use Rattle.switch_ir.specs.Port.{entry_of, fits_row, AreRowsOf}
+use Rattle.writeback_table.specs.Pair.{Pair, seen, visible, visible_rows, with_row, with_staged}
+use Rattle.switch_ir.specs.Port.{entry_of, AreRowsOf}
 use Rattle.switch_machine.specs.Kept.{staged_fits, KeepsRows}
-use Rattle.switch_machine.proofs.KeptRows.{the_some, none_some}
+use Rattle.switch_machine.proofs.KeptRows.{none_some}
 
 -- ## Entries of a map
 

@@ -1,5 +1,5 @@
 -- A pass that is computed in registers.
-use Rattle.std.specs.Prelude.{◌≡◌, ◌≤◌, ◌==◌, ℕ, zero, suc, Bool, true, false, ◌||◌, ◌&&◌, List, [], ◌++◌, length}
+use Rattle.std.specs.Prelude.{◌≡◌, ◌≤◌, ◌==◌, ℕ, zero, suc, true, false, ◌||◌, ◌&&◌, List, [], ◌++◌, length}
 use Rattle.std.specs.Prelude.{None, Some}
 use Rattle.std.specs.List.{AllByRecursion as Each}
 use Rattle.packet_fields.specs.declared.packet.Packet.{Packet}
@@ -8,7 +8,7 @@ use Rattle.flat_ir.specs.declared.program.ValueId.{ValueId}
 use Rattle.flat_ir.specs.declared.spans.Span.{Span}
 use Rattle.flat_ir.specs.Blocks.{Reading}
 use Rattle.flat_ir.specs.Run.{results}
-use Rattle.transfer_header.specs.Registers.{Registers, content_of, place_of, HasRegister, ArePlaced}
+use Rattle.transfer_header.specs.Registers.{Registers, content_of, HasRegister, ArePlaced}
 use Rattle.transfer_header.specs.Steps.{Contents, Steps, is_among, AreSpansOf, AreKeptApart}
 use Rattle.switch_ir.specs.Code.{Step, PassCode}
 use Rattle.switch_machine.specs.declared.numbering.ValueRange.{ValueRange}

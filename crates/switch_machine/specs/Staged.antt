@@ -10,7 +10,7 @@ use Rattle.switch_ir.specs.Code.{Step, step_of}
 use Rattle.switch_ir.specs.Once.{can_step_prop}
 use Rattle.switch_ir.specs.Sound.{CanStep}
 use Rattle.switch_machine.specs.declared.numbering.ValueRange.{ValueRange}
-use Rattle.switch_machine.specs.Numbers.{stage_gives, stage_writes}
+use Rattle.switch_machine.specs.Numbers.{stage_gives}
 
 -- those of some instructions that are computed in stage t
 abbrev pub of_stage : ℕ → List Step → List Step

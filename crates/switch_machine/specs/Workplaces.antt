@@ -1,5 +1,5 @@
 -- Where passes are computed.
-use Rattle.std.specs.Prelude.{◌≡◌, Option, Some}
+use Rattle.std.specs.Prelude.{◌≡◌, Some}
 use Rattle.std.specs.Coded.{Coded-set, coded_option}
 use Rattle.flat_ir.specs.Plan.{Plan, plan_code}
 use Rattle.transfer_header.specs.Registers.{Registers}

@@ -1,4 +1,4 @@
-use Rattle.std.proofs.Common.{◌≡◌, ℕ, ◌+◌, ◌∙◌, ◌++◌, ◌∷◌, [], List, ap, sym, add-one, append_assoc}
+use Rattle.std.proofs.Common.{ℕ, ◌+◌, ◌∙◌, ◌++◌, ◌∷◌, [], List, ap, sym, add-one, append_assoc}
 use Rattle.flat_ir.specs.Registers.{results_of}
 use Rattle.switch_machine.specs.Numbers.{first_gives}
 use Rattle.switch_machine.proofs.run.put_results.Goals as goal

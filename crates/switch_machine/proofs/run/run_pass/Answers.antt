@@ -1,17 +1,17 @@
-use Rattle.std.proofs.Common.{◌≡◌, ◌≤◌, ◌∙◌, ◌+◌, ◌++◌, ℕ, suc, [], false, List, Option, IsSome, refl, ap, map, sym, subst, length, get_or, arith, add-one}
+use Rattle.std.proofs.Common.{◌≡◌, ◌≤◌, ◌∙◌, ◌++◌, ℕ, suc, false, List, Option, IsSome, refl, ap, map, sym, subst, arith}
 use Rattle.std.specs.List.{AllByRecursion as Each}
 use Rattle.flat_ir.specs.Blocks.{Reading}
 use Rattle.flat_ir.specs.Laws.{Same}
 use Rattle.flat_ir.specs.Program.{Work, operands}
 use Rattle.flat_ir.specs.Registers.{packet_of}
 use Rattle.flat_ir.specs.Run.{results}
-use Rattle.transfer_header.specs.Registers.{content_of, place_of, HasRegister}
+use Rattle.transfer_header.specs.Registers.{content_of, HasRegister}
 use Rattle.transfer_header.specs.Steps.{pairs_written}
 use Rattle.switch_ir.specs.declared.code.PassStep.{PassStep}
 use Rattle.switch_ir.specs.Code.{pass_of, step_of}
 use Rattle.switch_ir.specs.Sound.{CanStep}
 use Rattle.switch_machine.specs.Numbers.{reads_by, stage_gives, stage_writes}
-use Rattle.switch_machine.specs.Staged.{of_stage, stage_at}
+use Rattle.switch_machine.specs.Staged.{of_stage}
 use Rattle.switch_machine.proofs.Each.{each_map, each_weaker}
 use Rattle.switch_machine.proofs.InRegisters.{done, kept_is, stands_first, stands_next, StandsAt}
 use Rattle.switch_machine.proofs.Numbered.{writes_are}

@@ -1,8 +1,4 @@
-use Rattle.std.proofs.Common.{◌≡◌, ◌++◌, ◌∙◌, ℕ, List, ap, sym, subst}
-use Rattle.std.specs.List.{AllByRecursion as Each}
-use Rattle.flat_ir.specs.declared.program.ValueId.{ValueId}
-use Rattle.flat_ir.specs.Blocks.{Reading}
-use Rattle.flat_ir.specs.Program.{Program}
+use Rattle.std.proofs.Common.{◌++◌, ◌∙◌, sym, subst}
 use Rattle.flat_ir.specs.Registers.{packet_of}
 use Rattle.transfer_header.specs.Frames.{IsFrameOf}
 use Rattle.transfer_header.specs.Registers.{content_of, value_in}

@@ -1,4 +1,4 @@
-use Rattle.std.proofs.Common.{◌≡◌, ◌∙◌, IfOk, ap, sym, subst}
+use Rattle.std.proofs.Common.{IfOk, subst}
 use Rattle.packet_fields.specs.declared.packet.Packet.{Packet}
 use Rattle.switch_ir.specs.Code.{code_of}
 use Rattle.switch_ir.specs.Meaning.{up_values}

@@ -1,4 +1,4 @@
-use Rattle.std.proofs.Common.{◌≡◌, ◌∙◌, [], Result, Ok, Err, OnOk}
+use Rattle.std.proofs.Common.{◌∙◌, []}
 use Rattle.flat_ir.specs.Blocks.{nothing}
 use Rattle.flat_ir.specs.Registers.{packet_of}
 use Rattle.switch_ir.specs.Code.{code_of}

@@ -1,5 +1,4 @@
 use Rattle.std.proofs.Common.{sym, subst}
-use Rattle.switch_ir.specs.Tables.{told_after}
 use Rattle.switch_machine.specs.Kept.{AreSafe}
 use Rattle.switch_machine.specs.Loading.{code_in}
 use Rattle.switch_machine.proofs.KeptTables.{safe_after}

@@ -1,4 +1,4 @@
-use Rattle.std.proofs.Common.{◌≡◌, [], ◌∷◌, ◌∙◌, ap, sym}
+use Rattle.std.proofs.Common.{[], ◌∷◌, ◌∙◌, ap, sym}
 use Rattle.switch_ir.specs.Port.{down_entry, down_failed}
 use Rattle.switch_ir.specs.declared.journal.Entry.TheVariants as entry
 use Rattle.switch_machine.specs.Calls.{ended}

@@ -1,4 +1,4 @@
-use Rattle.std.proofs.Common.{◌≡◌, ◌<◌, ◌∙◌, ℕ, ◌==◌, max, cond, sym, ap, subst, length, map, arith}
+use Rattle.std.proofs.Common.{◌∙◌, ℕ, ◌==◌, max, cond, ap, length, map, arith}
 use Rattle.switch_ir.specs.Code.{step_of}
 use Rattle.switch_machine.specs.Numbers.{range_at}
 use Rattle.switch_machine.specs.Ranges.{entered, from_first, step_entry}

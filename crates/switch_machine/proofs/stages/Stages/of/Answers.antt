@@ -1,4 +1,4 @@
-use Rattle.std.proofs.Common.{◌≡◌, ◌≤◌, ◌<◌, ◌∙◌, ℕ, [], ap, map, sym, length, drop, arith, add-one, ◌++◌}
+use Rattle.std.proofs.Common.{◌≤◌, ◌∙◌, ap, map, sym, length, arith, add-one, ◌++◌}
 use Rattle.std.proofs.lemmas.List.{append-nil}
 use Rattle.switch_ir.specs.Code.{step_of}
 use Rattle.switch_machine.specs.Staged.{of_stage, stage_at}

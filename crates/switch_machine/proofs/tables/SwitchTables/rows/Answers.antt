@@ -1,4 +1,4 @@
-use Rattle.std.proofs.Common.{◌≡◌, ◌≤◌, ◌∙◌, sym, ap, subst, length, arith}
+use Rattle.std.proofs.Common.{◌≤◌, ◌∙◌, sym, ap, subst, length, arith}
 use Rattle.writeback_table.specs.Pair.{visible_rows}
 use Rattle.switch_ir.specs.Tables.{Told}
 use Rattle.switch_machine.proofs.TableRows.{pair_past, nothing_visible}

@@ -1,4 +1,4 @@
-use Rattle.std.proofs.Common.{◌≡◌, ◌∙◌, ◌+◌, ℕ, ◌≤◌, ◌∷◌, [], false, None, ap, subst, refl, length, arith}
+use Rattle.std.proofs.Common.{◌≡◌, ◌+◌, ℕ, ◌≤◌, ◌∷◌, [], false, None, ap, subst, refl, length, arith}
 use Rattle.std.proofs.lemmas.List.{length-append}
 use Rattle.switch_ir.specs.Code.{code_of}
 use Rattle.switch_ir.specs.Tables.{declared_at}

@@ -1,4 +1,4 @@
-use Rattle.std.proofs.Common.{◌≡◌, ◌≤◌, ◌∙◌, sym, ap, subst, length, is_some, unwrap_or, replicate, [], arith}
+use Rattle.std.proofs.Common.{◌≤◌, ◌∙◌, sym, ap, subst, length, is_some, unwrap_or, [], arith}
 use Rattle.state_store.specs.Store.{Object, look, looked_up}
 use Rattle.switch_ir.specs.Tables.{Told}
 use Rattle.switch_machine.proofs.TableRows.{object_past, nothing_found}
