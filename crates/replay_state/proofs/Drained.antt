@@ -1,0 +1,238 @@
+-- Drain picks the first event that applies, until a state is drained.
+use Rattle.std.proofs.Common.{◌≡◌, ℕ, ◌-◌, ◌<◌, ◌≤◌, Bool, true, false, ◌&&◌, ltb, eqb, List, [], ◌∷◌, ◌++◌, Option, Some, None, ◌⊎◌, inl, inr, refl, sym, ◌∙◌, ap, subst, arith, zero, suc, length}
+use Rattle.std.specs.Prelude.{slice_get, not, ◌↔◌}
+use Rattle.std.proofs.lemmas.Bool.{cases_Bool, cases_lt, ltb-true, ltb-false, le-leb, eq-eqb, eqb-true, and_parts}
+use Rattle.std.proofs.lemmas.Option.{same_Some, none-some}
+use Rattle.state_store.specs.Kept.{IsKept}
+use Rattle.state_store.specs.Store.{Store}
+use Rattle.writeback_table.specs.declared.command.Command.{Command}
+use Rattle.writeback_table.specs.declared.command.Command.TheVariants as command
+use Rattle.replay_state.specs.Answers.{Answers, Setup}
+use Rattle.replay_state.specs.State.{State, Held, visible, commands_in, first_state}
+use Rattle.replay_state.specs.Step.{Event, applies, waits, may_go, step, steps}
+use Rattle.replay_state.specs.Drain.{is_quiet, is_drained, first_of, drain_order, next_event, maybe_step, after_drain, drain_bound, IsFirstOf, IsNoneOf}
+use Rattle.replay_state.specs.Serial.{AreSound}
+use Rattle.replay_state.proofs.Lists.{get_within, none_within, get_member, weight_remove}
+use Rattle.replay_state.proofs.Counts.{visible_all}
+use Rattle.replay_state.proofs.Fates.{held_fate, in_held, is_at}
+use Rattle.replay_state.proofs.Effects.{Fine}
+use Rattle.replay_state.proofs.Keeping.{Kept, kept_step, kept_first}
+use Rattle.replay_state.proofs.Serialised.{quiet_parts, kept_of}
+use Rattle.replay_state.proofs.Draining.{cost, lowers, cost_steps}
+
+-- ---- the first event that passes a test
+
+pub picked : (test : Event → Bool) (es : List Event) (e : Event) → first_of test es ≡ Some e → IsFirstOf test es e
+picked test [] e h = cc
+picked test (x ∷ xs) e h = elim (cases_Bool (test x)) [
+  | inl t ↦ inl (t, same_Some _ _ (rw t at h))
+  | inr t ↦ inr (t, picked test xs e (rw t at h))
+]
+
+pub none_picked : (test : Event → Bool) (es : List Event) → first_of test es ≡ None → IsNoneOf test es
+none_picked test [] h = tt
+none_picked test (x ∷ xs) h = elim (cases_Bool (test x)) [
+  | inl t ↦ absurd (none-some x (sym (rw t at h)))
+  | inr t ↦ (t, none_picked test xs (rw t at h))
+]
+
+pub none_left : (test : Event → Bool) (es : List Event) → IsNoneOf test es → first_of test es ≡ None
+none_left test [] h = refl
+none_left test (x ∷ xs) h = rw h.0 (none_left test xs h.1)
+
+pub passes_test : (test : Event → Bool) (es : List Event) (e : Event) → IsFirstOf test es e → test e ≡ true
+passes_test test [] e h = absurd h
+passes_test test (x ∷ xs) e (inl h) = subst (λ z. test z ≡ true) h.1 h.0
+passes_test test (x ∷ xs) e (inr h) = passes_test test xs e h.1
+
+pub picks_first : (setup : Setup) (w : State) (e : Event) → next_event setup w ≡ Some e → IsFirstOf (applies setup w) drain_order e
+picks_first setup w e h = picked (applies setup w) drain_order e h
+
+-- ---- where none applies, nothing is left to do
+
+pub record IsDone (setup : Setup) (w : State) : Type 0 where
+  pub passes : length w.passes ≤ 0
+  pub up : length w.up ≤ 0
+  pub held : length w.held ≤ 0
+  pub down : length w.down ≤ 0
+  pub acked : w.acked ≡ length (commands_in w.batches)
+  pub all : length w.progress ≡ setup.total
+
+waits_for_none : (o : Option Command) → waits [] o ≡ false
+waits_for_none None = refl
+waits_for_none (Some (command.Stage u)) = refl
+waits_for_none (Some command.On) = refl
+waits_for_none (Some (command.Main u)) = refl
+waits_for_none (Some command.Off) = refl
+waits_for_none (Some (command.Clear o k)) = refl
+
+true_false : {b : Bool} → b ≡ true → b ≡ false → ⊥
+true_false {b = b} h k = let e : true ≡ false = sym h ∙ k in cc
+
+first_half : (x y : Bool) → (x && y) ≡ false → y ≡ true → x ≡ false
+first_half true y h k = absurd (true_false k h)
+first_half false y h k = refl
+
+none_held : (w : State) → Fine w → w.acked ≡ length (commands_in w.batches) → may_go (visible w.batches w.acked) (slice_get w.held 0) ≡ false → length w.held ≤ 0
+none_held w c whole t = elim (cases_lt 0 (length w.held)) [
+  | inl some ↦
+      let g = get_within w.held 0 some in
+      let p = g.0.0 in
+      let need = g.0.1 in
+      let r = weight_remove (in_held p) w.held 0 (p, need) g.1 in
+      let one = is_at p in
+      let u = c.places.helds p in
+      let f = held_fate (slice_get w.progress p) (omega arith) in
+      let same = c.needs.helds p need f.0 f.1 f.2 f.3 (get_member w.held 0 (p, need) g.1) f.4 in
+      let low = c.each p (Held f.0 f.1 f.2 f.3) f.4 in
+      let newest : visible w.batches w.acked ≡ w.version = ap (visible w.batches) whole ∙ visible_all w.batches ∙ c.counts.versions in
+      let go = le-leb need (visible w.batches w.acked) (omega arith) in
+      absurd (true_false (subst (λ o. may_go (visible w.batches w.acked) o ≡ true) (sym g.1) go) t)
+  | inr none ↦ none
+]
+
+pub done_where_none : (setup : Setup) (w : State) → Fine w → length w.progress ≤ setup.total → IsNoneOf (applies setup w) drain_order → IsDone setup w
+done_where_none setup w c few none =
+    let t1 = none.0 in let r1 = none.1 in
+    let t2 = r1.0 in let r2 = r1.1 in
+    let t3 = r2.0 in let r3 = r2.1 in
+    let t4 = r3.0 in let r4 = r3.1 in
+    let t5 = r4.0 in let r5 = r4.1 in
+    let t6 = r5.0 in let r6 = r5.1 in
+    let t7 = r6.0 in let r7 = r6.1 in
+    let t8 = r7.0 in
+    let i1 = c.counts.acked_in in let i2 = c.counts.done_in in let i3 = c.counts.sent_in in
+    let no_passes = ltb-false _ _ t1 in
+    let empty : w.passes ≡ [] = none_within w.passes (omega arith) in
+    let next = slice_get (commands_in w.batches) w.done in
+    let free : not (waits w.passes next) ≡ true = ap (λ l. not (waits l next)) empty ∙ ap not (waits_for_none next) in
+    let n2 = ltb-false _ _ t2 in
+    let n3 = ltb-false _ _ (first_half (ltb w.done w.sent) (not (waits w.passes next)) t3 free) in
+    let n4 = ltb-false _ _ t4 in
+    let whole : w.acked ≡ length (commands_in w.batches) = omega arith in
+    let n8 = ltb-false _ _ t8 in
+    record {
+      passes = no_passes;
+      up = ltb-false _ _ t7;
+      held = none_held w c whole t6;
+      down = ltb-false _ _ t5;
+      acked = whole;
+      all = omega arith;
+    }
+
+both : (x y : Bool) → x ≡ true → y ≡ true → (x && y) ≡ true
+both true y h k = k
+both false y h k = cc
+
+pub done_is_drained : (setup : Setup) (w : State) → IsDone setup w → is_drained setup w ≡ true
+done_is_drained setup w d =
+    let h0 = d.passes in let h1 = d.up in let h2 = d.held in let h3 = d.down in
+    both _ _ (eq-eqb _ _ d.all)
+    (both _ _ (both _ _ (both _ _ (both _ _ (eq-eqb (length w.passes) 0 (omega arith)) (eq-eqb (length w.up) 0 (omega arith))) (eq-eqb (length w.held) 0 (omega arith))) (eq-eqb (length w.down) 0 (omega arith))) (eq-eqb _ _ d.acked))
+
+not_below : (m n : ℕ) → n ≤ m → ltb m n ≡ false
+not_below m n h = elim (cases_Bool (ltb m n)) [
+  | inl t ↦ let lt = ltb-true m n t in absurd (omega arith)
+  | inr f ↦ f
+]
+
+pub drained_has_none : (setup : Setup) (w : State) → Fine w → is_drained setup w ≡ true → next_event setup w ≡ None
+drained_has_none setup w c drained =
+    let parts = and_parts (eqb (length w.progress) setup.total) (is_quiet w) drained in
+    let all : length w.progress ≡ setup.total = eqb-true (length w.progress) setup.total parts.0 in
+    let q = quiet_parts w parts.1 in
+    let i1 = c.counts.acked_in in let i2 = c.counts.done_in in let i3 = c.counts.sent_in in
+    let acked = q.acked in
+    let passes : length w.passes ≡ 0 = ap (λ l. length l) q.passes in
+    let up : length w.up ≡ 0 = ap (λ l. length l) q.up in
+    let down : length w.down ≡ 0 = ap (λ l. length l) q.down in
+    let held : may_go (visible w.batches w.acked) (slice_get w.held 0) ≡ false = ap (λ l. may_go (visible w.batches w.acked) (slice_get l 0)) q.held in
+    let waiting = waits w.passes (slice_get (commands_in w.batches) w.done) in
+    none_left (applies setup w) drain_order (
+      not_below 0 (length w.passes) (omega arith),
+      (
+        not_below w.acked w.done (omega arith),
+        (
+          ap (λ b. b && not waiting) (not_below w.done w.sent (omega arith)),
+          (
+            not_below w.sent (length (commands_in w.batches)) (omega arith),
+            (
+              not_below 0 (length w.down) (omega arith),
+              (
+                held,
+                (
+                  not_below 0 (length w.up) (omega arith),
+                  (not_below (length w.progress) setup.total (omega arith), tt),
+                ),
+              ),
+            ),
+          ),
+        ),
+      ),
+    )
+
+none_or_some : {X : Type 0} (o : Option X) → (o ≡ None) ⊎ ((x : X) × (o ≡ Some x))
+none_or_some None = inl refl
+none_or_some (Some x) = inr (x, refl)
+
+-- ---- drain
+
+module _ (setup : Setup) (a : Answers) (start : Store) (law : AreSound setup a) (first : IsKept setup.objects start) where
+  none_done : (w : State) → Kept setup a start w → next_event setup w ≡ None → IsDone setup w
+  none_done w k h = done_where_none setup w k.fine k.few (none_picked (applies setup w) drain_order h)
+
+  some_lowers : (w : State) (e : Event) → Kept setup a start w → next_event setup w ≡ Some e → cost setup (step setup a w e) < cost setup w
+  some_lowers w e k h =
+      let t = passes_test (applies setup w) drain_order e (picks_first setup w e h) in
+      rw t (lowers setup a start law first w e k t)
+
+  stays : (n : ℕ) (w : State) → next_event setup w ≡ None → IsDone setup w → IsDone setup (after_drain setup a n w)
+  stays zero w none h = h
+  stays (suc n) w none h = rw none (stays n w none h)
+
+  drained_from : (n : ℕ) (w : State) → Kept setup a start w → cost setup w ≤ n → IsDone setup (after_drain setup a n w)
+  drained_from zero w k le = elim (none_or_some (next_event setup w)) [
+    | inl none ↦ none_done w k none
+    | inr some ↦ let low = some_lowers w some.0 k some.1 in absurd (omega arith)
+  ]
+  drained_from (suc n) w k le = elim (none_or_some (next_event setup w)) [
+    | inl none ↦ rw none (stays n w none (none_done w k none))
+    | inr some ↦
+        let low = some_lowers w some.0 k some.1 in
+        rw some.1 (drained_from n (step setup a w some.0) (kept_step setup a start law first w some.0 k) (omega arith))
+  ]
+
+  cost_first : cost setup (first_state start) ≡ drain_bound setup
+  cost_first = let e : setup.total - 0 ≡ setup.total = omega arith in rw e (omega arith)
+
+  pub drain_ends : (events : List Event) → is_drained setup (after_drain setup a (drain_bound setup) (steps setup a (first_state start) events)) ≡ true
+  drain_ends events =
+      let w = steps setup a (first_state start) events in
+      let k = kept_of setup a start events law first in
+      let le = cost_steps setup a start law first (first_state start) events (kept_first setup a start law first) in
+      let bound = cost_first in
+      done_is_drained setup (after_drain setup a (drain_bound setup) w) (drained_from (drain_bound setup) w k (omega arith))
+
+  pub drain_stops : (events : List Event) → (next_event setup (steps setup a (first_state start) events) ≡ None) ↔ (is_drained setup (steps setup a (first_state start) events) ≡ true)
+  drain_stops events =
+      let w = steps setup a (first_state start) events in
+      let k = kept_of setup a start events law first in
+      ((λ none. done_is_drained setup w (none_done w k none)), (λ drained. drained_has_none setup w k.fine drained))
+
+-- drain is a schedule of its own
+pub drain_steps : (setup : Setup) (a : Answers) (n : ℕ) (w : State) → (more : List Event) × (length more ≤ n) × (after_drain setup a n w ≡ steps setup a w more)
+drain_steps setup a zero w = ([], omega arith, refl)
+drain_steps setup a (suc n) w = elim (none_or_some (next_event setup w)) [
+  | inl none ↦
+      let r = drain_steps setup a n w in
+      let le = r.1 in
+      subst (λ o. (more : List Event) × (length more ≤ suc n) × (after_drain setup a n (maybe_step setup a w o) ≡ steps setup a w more)) (sym none) (r.0, omega arith, r.2)
+  | inr some ↦
+      let r = drain_steps setup a n (step setup a w some.0) in
+      let le = r.1 in
+      subst (λ o. (more : List Event) × (length more ≤ suc n) × (after_drain setup a n (maybe_step setup a w o) ≡ steps setup a w more)) (sym some.1) (some.0 ∷ r.0, omega arith, r.2)
+]
+
+pub steps_append : (setup : Setup) (a : Answers) (w : State) (es more : List Event) → steps setup a w (es ++ more) ≡ steps setup a (steps setup a w es) more
+steps_append setup a w [] more = refl
+steps_append setup a w (e ∷ es) more = steps_append setup a (step setup a w e) es more

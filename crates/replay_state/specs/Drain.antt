@@ -1,0 +1,53 @@
+-- Quiet and drained states, and the events that end a run one after the other.
+use Rattle.std.specs.Prelude.{◌≡◌, ◌⊎◌, ⊤, ℕ, zero, suc, ◌+◌, ◌*◌, ◌==◌, Bool, true, false, ◌&&◌, List, [], ◌∷◌, length, if◌then◌else◌}
+use Rattle.std.specs.Prelude.{Option, Some, None}
+use Rattle.replay_state.specs.Answers.{Answers, Setup}
+use Rattle.replay_state.specs.State.{State, commands_in}
+use Rattle.replay_state.specs.Step.{Event, Admit, Stage, Serve, Send, Apply, Ack, Hold, Down, applies, step}
+
+-- nothing is on its way, and every command is acknowledged
+abbrev pub is_quiet : State → Bool
+is_quiet st =
+    length st.passes == 0 && length st.up == 0 && length st.held == 0 && length st.down == 0
+    && st.acked == length (commands_in st.batches)
+
+-- every packet of the trace was admitted, and nothing is on its way
+abbrev pub is_drained : Setup → State → Bool
+is_drained setup st = length st.progress == setup.total && is_quiet st
+
+-- the first of these events that passes the test
+abbrev pub first_of : (Event → Bool) → List Event → Option Event
+first_of test [] = None
+first_of test (event ∷ events) = if test event then Some event else first_of test events
+
+-- the events that drain tries, in this order
+abbrev pub drain_order : List Event
+drain_order = Stage 0 ∷ (Ack ∷ (Apply ∷ (Send ∷ (Down 0 ∷ (Hold 0 ∷ (Serve 0 ∷ (Admit ∷ [])))))))
+
+-- the event that drain picks: the first of these that applies
+abbrev pub next_event : Setup → State → Option Event
+next_event setup st = first_of (applies setup st) drain_order
+
+-- the state after an event, if there is one
+abbrev pub maybe_step : Setup → Answers → State → Option Event → State
+maybe_step setup a st None = st
+maybe_step setup a st (Some event) = step setup a st event
+
+-- the state after at most n of these events
+abbrev pub after_drain : Setup → Answers → ℕ → State → State
+after_drain setup a zero st = st
+after_drain setup a (suc n) st = after_drain setup a n (maybe_step setup a st (next_event setup st))
+
+-- how many of them are enough
+abbrev pub drain_bound : Setup → ℕ
+drain_bound setup = setup.total * (4 + setup.pre_stages + setup.post_stages + 3 * (3 * setup.writes + 2))
+
+-- the event is one of these and passes the test, and none before it does
+abbrev pub IsFirstOf : (Event → Bool) → List Event → Event → Type 0
+IsFirstOf test [] event = ⊥
+IsFirstOf test (x ∷ xs) event = ((test x ≡ true) × (x ≡ event)) ⊎ ((test x ≡ false) × IsFirstOf test xs event)
+
+-- none of these passes the test
+abbrev pub IsNoneOf : (Event → Bool) → List Event → Type 0
+IsNoneOf test [] = ⊤
+IsNoneOf test (x ∷ xs) = (test x ≡ false) × IsNoneOf test xs
