@@ -6,7 +6,8 @@ use Rattle.packet_fields.specs.declared.verdict.Verdict.{Verdict}
 use Rattle.state_store.specs.Store.{Store}
 use Rattle.replay_state.specs.Answers.{Answers, Setup}
 use Rattle.replay_state.specs.State.{State, Progress, Entered, Up, Held, Slow, Fast, seen, store_at}
-use Rattle.replay_state.specs.Step.{Admit, Down, applies, step, tick, finished, went_up, released, came_in, came_down}
+use Rattle.run_model.specs.declared.event.Event.TheVariants.{Admit, Down}
+use Rattle.replay_state.specs.Step.{applies, step, tick, finished, went_up, released, came_in, came_down}
 use Rattle.replay_state.proofs.Lists.{get_push_same}
 
 set_push : {X : Type 0} (xs : List X) (x y : X) → set (xs ++ x ∷ []) (length xs) y ≡ xs ++ y ∷ []

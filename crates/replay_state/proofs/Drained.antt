@@ -1,23 +1,23 @@
 -- Drain picks the first event that applies, until a state is drained.
-use Rattle.std.proofs.Common.{◌≡◌, ℕ, ◌-◌, ◌<◌, ◌≤◌, Bool, true, false, ◌&&◌, ltb, eqb, List, [], ◌∷◌, ◌++◌, Option, Some, None, ◌⊎◌, inl, inr, refl, sym, ◌∙◌, ap, subst, arith, zero, suc, length}
+use Rattle.std.proofs.Common.{◌≡◌, ℕ, ◌-◌, ◌<◌, ◌≤◌, Bool, true, false, ◌&&◌, ltb, eqb, List, [], ◌∷◌, Option, Some, None, ◌⊎◌, inl, inr, refl, sym, ◌∙◌, ap, subst, arith, zero, suc, length}
 use Rattle.std.specs.Prelude.{slice_get, not, ◌↔◌}
 use Rattle.std.proofs.lemmas.Bool.{cases_Bool, cases_lt, ltb-true, ltb-false, le-leb, eq-eqb, eqb-true, and_parts}
 use Rattle.std.proofs.lemmas.Option.{same_Some, none-some}
-use Rattle.state_store.specs.Kept.{IsKept}
 use Rattle.state_store.specs.Store.{Store}
 use Rattle.writeback_table.specs.declared.command.Command.{Command}
 use Rattle.writeback_table.specs.declared.command.Command.TheVariants as command
 use Rattle.replay_state.specs.Answers.{Answers, Setup}
 use Rattle.replay_state.specs.State.{State, Held, visible, commands_in, first_state}
-use Rattle.replay_state.specs.Step.{Event, applies, waits, may_go, step, steps}
-use Rattle.replay_state.specs.Drain.{is_quiet, is_drained, first_of, drain_order, next_event, maybe_step, after_drain, drain_bound, IsFirstOf, IsNoneOf}
-use Rattle.replay_state.specs.Serial.{AreSound}
+use Rattle.run_model.specs.declared.event.Event.{Event}
+use Rattle.replay_state.specs.Step.{applies, waits, may_go, step, steps}
+use Rattle.replay_state.specs.Drain.{is_quiet, is_drained, first_of, drain_order, next_event, with_picked, picked_events, drain_bound, drain_events, IsFirstOf, IsNoneOf, Drains}
+use Rattle.replay_state.specs.Sound.{AreFew}
 use Rattle.replay_state.proofs.Lists.{get_within, none_within, get_member, weight_remove}
 use Rattle.replay_state.proofs.Counts.{visible_all}
 use Rattle.replay_state.proofs.Fates.{held_fate, in_held, is_at}
 use Rattle.replay_state.proofs.Effects.{Fine}
-use Rattle.replay_state.proofs.Keeping.{Kept, kept_step, kept_first}
-use Rattle.replay_state.proofs.Serialised.{quiet_parts, kept_of}
+use Rattle.replay_state.proofs.Sane.{Sane, sane_step, sane_steps, sane_first}
+use Rattle.replay_state.proofs.Serialised.{quiet_parts}
 use Rattle.replay_state.proofs.Draining.{cost, lowers, cost_steps}
 
 -- ---- the first event that passes a test
@@ -177,62 +177,88 @@ none_or_some (Some x) = inr (x, refl)
 
 -- ---- drain
 
-module _ (setup : Setup) (a : Answers) (start : Store) (law : AreSound setup a) (first : IsKept setup.objects start) where
-  none_done : (w : State) → Kept setup a start w → next_event setup w ≡ None → IsDone setup w
-  none_done w k h = done_where_none setup w k.fine k.few (none_picked (applies setup w) drain_order h)
-
-  some_lowers : (w : State) (e : Event) → Kept setup a start w → next_event setup w ≡ Some e → cost setup (step setup a w e) < cost setup w
-  some_lowers w e k h =
-      let t = passes_test (applies setup w) drain_order e (picks_first setup w e h) in
-      rw t (lowers setup a start law first w e k t)
-
-  stays : (n : ℕ) (w : State) → next_event setup w ≡ None → IsDone setup w → IsDone setup (after_drain setup a n w)
-  stays zero w none h = h
-  stays (suc n) w none h = rw none (stays n w none h)
-
-  drained_from : (n : ℕ) (w : State) → Kept setup a start w → cost setup w ≤ n → IsDone setup (after_drain setup a n w)
-  drained_from zero w k le = elim (none_or_some (next_event setup w)) [
-    | inl none ↦ none_done w k none
-    | inr some ↦ let low = some_lowers w some.0 k some.1 in absurd (omega arith)
-  ]
-  drained_from (suc n) w k le = elim (none_or_some (next_event setup w)) [
-    | inl none ↦ rw none (stays n w none (none_done w k none))
-    | inr some ↦
-        let low = some_lowers w some.0 k some.1 in
-        rw some.1 (drained_from n (step setup a w some.0) (kept_step setup a start law first w some.0 k) (omega arith))
-  ]
-
-  cost_first : cost setup (first_state start) ≡ drain_bound setup
-  cost_first = let e : setup.total - 0 ≡ setup.total = omega arith in rw e (omega arith)
-
-  pub drain_ends : (events : List Event) → is_drained setup (after_drain setup a (drain_bound setup) (steps setup a (first_state start) events)) ≡ true
-  drain_ends events =
-      let w = steps setup a (first_state start) events in
-      let k = kept_of setup a start events law first in
-      let le = cost_steps setup a start law first (first_state start) events (kept_first setup a start law first) in
-      let bound = cost_first in
-      done_is_drained setup (after_drain setup a (drain_bound setup) w) (drained_from (drain_bound setup) w k (omega arith))
-
-  pub drain_stops : (events : List Event) → (next_event setup (steps setup a (first_state start) events) ≡ None) ↔ (is_drained setup (steps setup a (first_state start) events) ≡ true)
-  drain_stops events =
-      let w = steps setup a (first_state start) events in
-      let k = kept_of setup a start events law first in
-      ((λ none. done_is_drained setup w (none_done w k none)), (λ drained. drained_has_none setup w k.fine drained))
-
--- drain is a schedule of its own
-pub drain_steps : (setup : Setup) (a : Answers) (n : ℕ) (w : State) → (more : List Event) × (length more ≤ n) × (after_drain setup a n w ≡ steps setup a w more)
-drain_steps setup a zero w = ([], omega arith, refl)
-drain_steps setup a (suc n) w = elim (none_or_some (next_event setup w)) [
-  | inl none ↦
-      let r = drain_steps setup a n w in
-      let le = r.1 in
-      subst (λ o. (more : List Event) × (length more ≤ suc n) × (after_drain setup a n (maybe_step setup a w o) ≡ steps setup a w more)) (sym none) (r.0, omega arith, r.2)
-  | inr some ↦
-      let r = drain_steps setup a n (step setup a w some.0) in
-      let le = r.1 in
-      subst (λ o. (more : List Event) × (length more ≤ suc n) × (after_drain setup a n (maybe_step setup a w o) ≡ steps setup a w more)) (sym some.1) (some.0 ∷ r.0, omega arith, r.2)
+-- what is picked is within so many
+pub picked_few : (setup : Setup) (a : Answers) (n : ℕ) (w : State) → length (picked_events setup a n w) ≤ n
+picked_few setup a zero w = omega arith
+picked_few setup a (suc n) w = elim (none_or_some (next_event setup w)) [
+  | inl none ↦ rw none (omega arith)
+  | inr some ↦ rw some.1 (let r = picked_few setup a n (step setup a w some.0) in omega arith)
 ]
 
-pub steps_append : (setup : Setup) (a : Answers) (w : State) (es more : List Event) → steps setup a w (es ++ more) ≡ steps setup a (steps setup a w es) more
-steps_append setup a w [] more = refl
-steps_append setup a w (e ∷ es) more = steps_append setup a (step setup a w e) es more
+-- where drain picks these and then none, it picks none behind them
+pub none_behind : (setup : Setup) (a : Answers) (w : State) (es : List Event) → Drains setup a w es → next_event setup (steps setup a w es) ≡ None
+none_behind setup a w [] d = d
+none_behind setup a w (e ∷ es) d = none_behind setup a (step setup a w e) es d.1
+
+-- there is one list of events that it picks
+pub picked_are : (setup : Setup) (a : Answers) (n : ℕ) (w : State) (es : List Event) → Drains setup a w es → length es ≤ n → picked_events setup a n w ≡ es
+picked_are setup a zero w [] d le = refl
+picked_are setup a zero w (e ∷ es) d le = absurd (omega arith)
+picked_are setup a (suc n) w [] d le = rw d refl
+picked_are setup a (suc n) w (e ∷ es) d le = rw d.0 (ap (λ l. e ∷ l) (picked_are setup a n (step setup a w e) es d.1 (omega arith)))
+
+module _ (setup : Setup) (a : Answers) (few : AreFew setup a) where
+  some_lowers : (w : State) (e : Event) → Sane setup w → next_event setup w ≡ Some e → cost setup (step setup a w e) < cost setup w
+  some_lowers w e k h =
+      let t = passes_test (applies setup w) drain_order e (picks_first setup w e h) in
+      rw t (lowers setup a few w e k t)
+
+  picks_all : (n : ℕ) (w : State) → Sane setup w → cost setup w ≤ n → Drains setup a w (picked_events setup a n w)
+  picks_all zero w k le = elim (none_or_some (next_event setup w)) [
+    | inl none ↦ none
+    | inr some ↦ let low = some_lowers w some.0 k some.1 in absurd (omega arith)
+  ]
+  picks_all (suc n) w k le = elim (none_or_some (next_event setup w)) [
+    | inl none ↦ subst (λ o. Drains setup a w (with_picked o (λ e. picked_events setup a n (step setup a w e)))) (sym none) none
+    | inr some ↦
+        let low = some_lowers w some.0 k some.1 in
+        subst (λ o. Drains setup a w (with_picked o (λ e. picked_events setup a n (step setup a w e)))) (sym some.1)
+        (some.1, picks_all n (step setup a w some.0) (sane_step setup a w some.0 k) (omega arith))
+  ]
+
+  picks_within : (w : State) (es : List Event) → Sane setup w → Drains setup a w es → length es ≤ cost setup w
+  picks_within w [] k d = omega arith
+  picks_within w (e ∷ es) k d =
+      let low = some_lowers w e k d.0 in
+      let rest = picks_within (step setup a w e) es (sane_step setup a w e k) d.1 in
+      omega arith
+
+  module _ (start : Store) (events : List Event) where
+    abbrev now : State
+    now = steps setup a (first_state start) events
+
+    sane_now : Sane setup now
+    sane_now = sane_steps setup a (first_state start) events (sane_first setup a start)
+
+    cost_now : cost setup now ≤ drain_bound setup
+    cost_now =
+        let le = cost_steps setup a few (first_state start) events (sane_first setup a start) in
+        let all : setup.total - 0 ≡ setup.total = omega arith in
+        let first : cost setup (first_state start) ≡ drain_bound setup = rw all (omega arith) in
+        omega arith
+
+    pub drain_picks : Drains setup a now (drain_events setup a now)
+    drain_picks = picks_all (drain_bound setup) now sane_now cost_now
+
+    pub drain_only : (more : List Event) → Drains setup a now more → more ≡ drain_events setup a now
+    drain_only more d =
+        let within = picks_within now more sane_now d in
+        let bound = cost_now in
+        sym (picked_are setup a (drain_bound setup) now more d (omega arith))
+
+pub none_is_drained : (setup : Setup) (w : State) → Sane setup w → next_event setup w ≡ None → is_drained setup w ≡ true
+none_is_drained setup w k none = done_is_drained setup w (done_where_none setup w k.fine k.few (none_picked (applies setup w) drain_order none))
+
+module _ (setup : Setup) (a : Answers) (start : Store) (events : List Event) where
+  pub drain_stops : (next_event setup (steps setup a (first_state start) events) ≡ None) ↔ (is_drained setup (steps setup a (first_state start) events) ≡ true)
+  drain_stops =
+      let w = steps setup a (first_state start) events in
+      let k = sane_steps setup a (first_state start) events (sane_first setup a start) in
+      ((λ none. none_is_drained setup w k none), (λ drained. drained_has_none setup w k.fine drained))
+
+  pub drain_ends : AreFew setup a → (let w = steps setup a (first_state start) events in is_drained setup (steps setup a w (drain_events setup a w)) ≡ true)
+  drain_ends few =
+      let w = steps setup a (first_state start) events in
+      let k = sane_steps setup a (first_state start) events (sane_first setup a start) in
+      let more = drain_events setup a w in
+      none_is_drained setup (steps setup a w more) (sane_steps setup a w more k) (none_behind setup a w more (drain_picks setup a few start events))

@@ -6,18 +6,18 @@ use Rattle.std.proofs.lemmas.Option.{same_Some, slice_get_within}
 use Rattle.std.proofs.lemmas.List.{length_push, length-set}
 use Rattle.std.proofs.lemmas.List.Edits.{length-remove}
 use Rattle.packet_fields.specs.declared.verdict.Verdict.{Verdict}
-use Rattle.state_store.specs.Kept.{IsKept}
 use Rattle.state_store.specs.Store.{Store}
 use Rattle.writeback_table.specs.declared.command.Update.{Update}
 use Rattle.replay_state.specs.Answers.{Answers, Setup}
 use Rattle.replay_state.specs.State.{State, Progress, Entered, Pass, Batch, visible, commands_in, store_at, seen}
-use Rattle.replay_state.specs.Step.{Event, Admit, Stage, Serve, Send, Apply, Ack, Hold, Down, applies, waits, may_go, happens, step, steps, tick}
+use Rattle.run_model.specs.declared.event.Event.{Event}
+use Rattle.run_model.specs.declared.event.Event.TheVariants.{Admit, Stage, Serve, Send, Apply, Ack, Hold, Down}
+use Rattle.replay_state.specs.Step.{applies, waits, may_go, happens, step, steps, tick}
 use Rattle.replay_state.specs.Step.{finished, went_up, released, decided, came_in, ended, pass_of, entered, staged, with_changes, ran, served, let_go, came_down, admitted, merged}
-use Rattle.replay_state.specs.Serial.{AreSound}
+use Rattle.replay_state.specs.Sound.{AreFew}
 use Rattle.replay_state.proofs.Lists.{get_within, weight, weight_push, weight_remove}
 use Rattle.replay_state.proofs.Counts.{long, length_more, merged_is}
-use Rattle.replay_state.proofs.Runs.{store_kept, up_within}
-use Rattle.replay_state.proofs.Keeping.{Kept, kept_step}
+use Rattle.replay_state.proofs.Sane.{Sane, sane_step}
 
 -- ---- what is left to do
 
@@ -167,13 +167,13 @@ module _ (setup : Setup) (a : Answers) where
 
 -- ---- what an event costs
 
-module _ (setup : Setup) (a : Answers) (start : Store) (law : AreSound setup a) (first : IsKept setup.objects start) where
+module _ (setup : Setup) (a : Answers) (few : AreFew setup a) where
   held_cost : (w : State) (j : ℕ) (o : Option (ℕ × ℕ)) → slice_get w.held j ≡ o → may_go (visible w.batches w.acked) o ≡ true → cost setup (let_go (tick w) j o) < cost setup w
   held_cost w j None g t = cc
   held_cost w j (Some (n, need)) g t = go_cost setup a (tick w) j n need g
 
   -- each event that applies lowers the cost
-  pub lowers : (w : State) (e : Event) → Kept setup a start w → applies setup w e ≡ true → cost setup (happens setup a (tick w) e) < cost setup w
+  pub lowers : (w : State) (e : Event) → Sane setup w → applies setup w e ≡ true → cost setup (happens setup a (tick w) e) < cost setup w
   lowers w Admit k t = admitted_cost setup a (tick w) (ltb-true _ _ t)
   lowers w (Stage j) k t =
       let g = get_within w.passes j (ltb-true _ _ t) in
@@ -181,9 +181,8 @@ module _ (setup : Setup) (a : Answers) (start : Store) (law : AreSound setup a) 
   lowers w (Serve j) k t =
       let g = get_within w.up j (ltb-true _ _ t) in
       let n = g.0 in
-      let within = up_within setup a start law first w j n k.fine k.few g.1 in
-      let few = (law.each n w.store within (store_kept setup a start law first w k.in_order)).few in
-      subst (λ o. cost setup (served a (tick w) j o) < cost setup w) (sym g.1) (ran_cost setup a (tick w) j n (a.after w.store n) (a.changes w.store n) g.1 k.fine.counts.sent_in few)
+      subst (λ o. cost setup (served a (tick w) j o) < cost setup w) (sym g.1)
+      (ran_cost setup a (tick w) j n (a.after w.store n) (a.changes w.store n) g.1 k.fine.counts.sent_in (few.each n w.store))
   lowers w Send k t = send_cost setup a (tick w) k.fine.counts.done_in (ltb-true _ _ t)
   lowers w Apply k t =
       let both = and_parts (ltb w.done w.sent) (not (waits w.passes (slice_get (commands_in w.batches) w.done))) t in
@@ -194,15 +193,15 @@ module _ (setup : Setup) (a : Answers) (start : Store) (law : AreSound setup a) 
       let g = get_within w.down j (ltb-true _ _ t) in
       subst (λ o. cost setup (came_down setup a (tick w) j o) < cost setup w) (sym g.1) (come_down_cost setup a (tick w) j g.0 g.1)
 
-  pub cost_step : (w : State) (e : Event) → Kept setup a start w → cost setup (step setup a w e) ≤ cost setup w
+  pub cost_step : (w : State) (e : Event) → Sane setup w → cost setup (step setup a w e) ≤ cost setup w
   cost_step w e k = elim (cases_Bool (applies setup w e)) [
     | inl t ↦ rw t (let l = lowers w e k t in omega arith)
     | inr t ↦ rw t (omega arith)
   ]
 
-  pub cost_steps : (w : State) (es : List Event) → Kept setup a start w → cost setup (steps setup a w es) ≤ cost setup w
+  pub cost_steps : (w : State) (es : List Event) → Sane setup w → cost setup (steps setup a w es) ≤ cost setup w
   cost_steps w [] k = omega arith
   cost_steps w (e ∷ es) k =
       let one = cost_step w e k in
-      let rest = cost_steps (step setup a w e) es (kept_step setup a start law first w e k) in
+      let rest = cost_steps (step setup a w e) es (sane_step setup a w e k) in
       omega arith

@@ -10,15 +10,19 @@ use Rattle.state_store.specs.Store.{Store}
 use Rattle.writeback_table.specs.declared.command.Update.{Update}
 use Rattle.replay_state.specs.Answers.{Answers, Setup}
 use Rattle.replay_state.specs.State.{State, Progress, Entered, Up, Held, Slow, Pass, Batch, visible, commands_in, store_at, seen, first_state}
-use Rattle.replay_state.specs.Step.{Event, Admit, Stage, Serve, Send, Apply, Ack, Hold, Down, applies, waits, may_go, happens, step, steps, tick, idled}
+use Rattle.run_model.specs.declared.event.Event.{Event}
+use Rattle.run_model.specs.declared.event.Event.TheVariants.{Admit, Stage, Serve, Send, Apply, Ack, Hold, Down}
+use Rattle.replay_state.specs.Step.{applies, waits, may_go, happens, step, steps, tick, idled}
 use Rattle.replay_state.specs.Step.{finished, went_up, released, decided, came_in, ended, pass_of, entered, staged, with_changes, ran, served, let_go, came_down, admitted}
-use Rattle.replay_state.specs.Serial.{AreSound, entry_of, verdict_at}
+use Rattle.replay_state.specs.Sound.{AreSound}
+use Rattle.replay_state.proofs.Words.{entry_of, verdict_at}
 use Rattle.replay_state.proofs.Lists.{get_set_same, get_set_other, get_push_same, remove_push, kept_push, kept_set}
-use Rattle.replay_state.proofs.Counts.{Counts, counts_same, visible_push, length_more, sum_push}
+use Rattle.replay_state.proofs.Counts.{counts_same, visible_push}
 use Rattle.replay_state.proofs.Fates.{at_first, at_last}
 use Rattle.replay_state.proofs.Effects.{Fine, fine_tick, fine_idled, fine_sent, fine_applied, fine_acked, fine_moved, fine_let_in, fine_finished, fine_sent_up, fine_came_down, fine_let_go, fine_let_down, fine_run}
 use Rattle.replay_state.proofs.Runs.{InOrder, Fresh, Few, what_at, in_order_same, in_order_fast, in_order_seen, in_order_unseen}
-use Rattle.replay_state.proofs.Steps.{let_in, let_down, up_at, out_at, moved_at, run_at, go_at, sent_one, applied_one, acked_one}
+use Rattle.replay_state.proofs.Sane.{sane_first}
+use Rattle.replay_state.proofs.Steps.{counts_seen, let_in, let_down, up_at, out_at, moved_at, run_at, go_at, sent_one, applied_one, acked_one}
 
 pub record Kept (setup : Setup) (a : Answers) (start : Store) (w : State) : Type 0 where
   pub fine : Fine w
@@ -31,15 +35,6 @@ pub record Ready (setup : Setup) (a : Answers) (start : Store) (w : State) : Typ
   pub few : Few setup w
   pub in_order : InOrder setup a start w
   pub fresh : Fresh w in_order.entries
-
-pub counts_seen : (a : Answers) (w : State) (j p : ℕ) (b : Batch) → b.versions ≡ 1 → Counts w → Counts (run_at a w j p (w.version + 1) (w.stores ++ a.after w.store p ∷ []) (w.batches ++ b ∷ []))
-counts_seen a w j p b one k = record {
-  versions = let s = sum_push w.batches b in let v = k.versions in omega arith;
-  stores = let x = length_push w.stores (a.after w.store p) in let y = k.stores in omega arith;
-  sent_in = let l = length_more w.batches b in let s = k.sent_in in omega arith;
-  done_in = k.done_in;
-  acked_in = k.acked_in;
-}
 
 module _ (setup : Setup) (a : Answers) (start : Store) (law : AreSound setup a) (first : IsKept setup.objects start) where
   kept_ready : (w : State) → Ready setup a start w → Kept setup a start w
@@ -207,13 +202,7 @@ module _ (setup : Setup) (a : Answers) (start : Store) (law : AreSound setup a) 
 
   pub kept_first : Kept setup a start (first_state start)
   kept_first = record {
-    fine = record {
-      counts = record { versions = refl; stores = refl; sent_in = omega arith; done_in = omega arith; acked_in = omega arith };
-      places = record { firsts = λ p. refl; ups = λ p. refl; helds = λ p. refl };
-      needs = record { firsts = λ x a v m. absurd m; helds = λ p n a d v y m. absurd m; downs = λ p a d v y m. absurd m; lasts = λ x a d v y m. absurd m };
-      each = λ p f h. absurd (none-some _ h);
-      pairs = λ p q f g h k. absurd (none-some _ h);
-    };
+    fine = (sane_first setup a start).fine;
     few = omega arith;
     in_order = record {
       entries = [];
@@ -224,5 +213,9 @@ module _ (setup : Setup) (a : Answers) (start : Store) (law : AreSound setup a) 
       kept = λ v h. let none : v ≡ 0 = omega arith in rw none first;
       here = λ e m. absurd m;
       past = λ e m. absurd m;
+      apart = λ x y m. absurd m;
     };
   }
+
+  pub kept_of : (es : List Event) → Kept setup a start (steps setup a (first_state start) es)
+  kept_of es = kept_steps (first_state start) es kept_first

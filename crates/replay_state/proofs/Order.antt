@@ -3,7 +3,7 @@ use Rattle.std.proofs.Common.{◌≡◌, ℕ, ◌<◌, ◌≤◌, Bool, true, fa
 use Rattle.std.specs.Prelude.{filter}
 use Rattle.std.proofs.lemmas.Bool.{cases_lt}
 use Rattle.std.proofs.lemmas.Bool.Decides.{nat_tests}
-use Rattle.replay_state.specs.Serial.{Decided}
+use Rattle.run_model.specs.declared.serial.Decided.{Decided}
 use Rattle.replay_state.proofs.Words.{Member, Before, Rising, upto, beyond}
 
 pub member_left : {X : Type 0} (x : X) (l r : List X) → Member x l → Member x (l ++ r)

@@ -12,7 +12,9 @@ use Rattle.writeback_table.specs.Batches.{changed_by}
 use Rattle.replay_state.specs.Answers.{Answers, Setup}
 use Rattle.replay_state.specs.State.{State, Progress, Entered, Up, Held, Slow, Fast, Pass, Batch, visible, store_at}
 use Rattle.replay_state.specs.Step.{finished, decided}
-use Rattle.replay_state.specs.Serial.{IsAlike, IsSoundAt, AreSound, Decided, entry_of, verdict_at}
+use Rattle.replay_state.specs.Sound.{IsAlike, IsSoundAt, AreSound}
+use Rattle.run_model.specs.declared.serial.Decided.{Decided}
+use Rattle.replay_state.proofs.Words.{entry_of, verdict_at}
 use Rattle.replay_state.proofs.Words.{Member, Before, upto, beyond}
 use Rattle.replay_state.proofs.Lists.{get_set_same, get_set_other, get_member, map_agree}
 use Rattle.replay_state.proofs.Order.{rising_mid, rising_split, member_mid, member_mid_is, member_mid_old, member_left, member_parts, member_filter, upto_all}
@@ -103,6 +105,23 @@ past_gain now es more e all here gains x m = elim (gains x m) [
   | inr old ↦ all x old
 ]
 
+-- no two entries are of one event
+abbrev pub Apart : List Decided → Type 0
+Apart es = (x y : Decided) → Member x es → Member y es → x.event ≡ y.event → x.number ≡ y.number
+
+pub apart_gain : (now : ℕ) (es more : List Decided) (e : Decided) → Apart es → ((x : Decided) → Member x es → x.event < now) → e.event ≡ now → Gains es e more
+    → Apart more
+apart_gain now es more e apart fresh is gains x y m n same = elim (gains x m) [
+  | inl p ↦ elim (gains y n) [
+    | inl q ↦ ap (λ (z : Decided). z.number) (sym p ∙ q)
+    | inr old ↦ let low = fresh y old in let here = ap (λ (z : Decided). z.event) p in absurd (omega arith)
+  ]
+  | inr old ↦ elim (gains y n) [
+    | inl q ↦ let low = fresh x old in let here = ap (λ (z : Decided). z.event) q in absurd (omega arith)
+    | inr older ↦ apart x y old older same
+  ]
+]
+
 pub alike_left : (rep : ℕ → Bool) (a b c : Store) → IsAlike rep a b → b ≡ c → IsAlike rep a c
 alike_left rep a b c h e = subst (λ x. IsAlike rep a x) e h
 
@@ -121,6 +140,7 @@ pub record InOrder (setup : Setup) (a : Answers) (start : Store) (w : State) : T
   pub kept : (v : ℕ) → v ≤ w.version → IsKept setup.objects (store_at w.stores v)
   pub here : (e : Decided) → Member e entries → e.number < setup.total
   pub past : (e : Decided) → Member e entries → e.event ≤ w.events
+  pub apart : Apart entries
 
 -- nothing was decided at this event yet
 abbrev pub Fresh : State → List Decided → Type 0
@@ -209,6 +229,7 @@ module _ (setup : Setup) (a : Answers) (start : Store) (law : AreSound setup a) 
         kept = o.kept;
         here = here_gain setup.total es (es ++ e ∷ []) e o.here within (gains_push es e);
         past = past_gain w.events es (es ++ e ∷ []) e o.past (omega arith) (gains_push es e);
+        apart = apart_gain w.events es (es ++ e ∷ []) e o.apart fresh refl (gains_push es e);
       }
 
   pub in_order_seen : (w : State) (j p : ℕ) (batches : List Batch) → Fine w → Few setup w → (o : InOrder setup a start w) → Fresh w o.entries → slice_get w.up j ≡ Some p
@@ -245,6 +266,7 @@ module _ (setup : Setup) (a : Answers) (start : Store) (law : AreSound setup a) 
         ];
         here = here_gain setup.total es (es ++ e ∷ []) e o.here within (gains_push es e);
         past = past_gain w.events es (es ++ e ∷ []) e o.past (omega arith) (gains_push es e);
+        apart = apart_gain w.events es (es ++ e ∷ []) e o.apart fresh refl (gains_push es e);
       }
 
   -- a fast packet stands behind the packets of the version over which it entered
@@ -298,6 +320,7 @@ module _ (setup : Setup) (a : Answers) (start : Store) (law : AreSound setup a) 
         kept = o.kept;
         here = here_gain setup.total es (l ++ e ∷ r) e o.here within gains;
         past = past_gain w.events es (l ++ e ∷ r) e o.past (omega arith) gains;
+        apart = apart_gain w.events es (l ++ e ∷ r) e o.apart fresh refl gains;
       }
 
   unfoldable pub in_order_same : (w x : State) → x.store ≡ w.store → x.version ≡ w.version → x.stores ≡ w.stores → w.events ≤ x.events
@@ -312,4 +335,5 @@ module _ (setup : Setup) (a : Answers) (start : Store) (law : AreSound setup a) 
     kept = λ v h. subst (λ l. IsKept setup.objects (store_at l v)) (sym d) (o.kept v (subst (λ z. v ≤ z) q h));
     here = o.here;
     past = λ e m. let k = o.past e m in omega arith;
+    apart = o.apart;
   }

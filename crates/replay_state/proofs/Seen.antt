@@ -13,14 +13,16 @@ use Rattle.writeback_table.specs.Commands.{ons, bit_through, pair_through, room_
 use Rattle.writeback_table.specs.Batches.{seen_after, object_after, changed_by, count_of, TakesAll, IsReady, IsSeenInOrder}
 use Rattle.replay_state.specs.Answers.{Answers, Setup}
 use Rattle.replay_state.specs.State.{State, Pass, Batch, Entered, commands_in, visible, seen, store_at, first_state}
-use Rattle.replay_state.specs.Step.{Event, Admit, Stage, Serve, Send, Apply, Ack, Hold, Down, applies, happens, step, steps, tick, came_in, ended, entered, staged, pass_of, with_changes, ran, served, let_go, came_down}
+use Rattle.run_model.specs.declared.event.Event.{Event}
+use Rattle.run_model.specs.declared.event.Event.TheVariants.{Admit, Stage, Serve, Send, Apply, Ack, Hold, Down}
+use Rattle.replay_state.specs.Step.{applies, happens, step, steps, tick, came_in, ended, entered, staged, pass_of, with_changes, ran, served, let_go, came_down}
 use Rattle.replay_state.specs.Drain.{is_quiet}
-use Rattle.replay_state.specs.Serial.{AreSound, IsSoundAt}
+use Rattle.replay_state.specs.Sound.{AreSound, IsSoundAt}
 use Rattle.replay_state.specs.Tables.{first_pair, IsSeen, HasNewestTables}
 use Rattle.replay_state.proofs.Lists.{get_within}
 use Rattle.replay_state.proofs.Runs.{store_kept, up_within, unseen_alike}
-use Rattle.replay_state.proofs.Keeping.{Kept, kept_step, kept_first}
-use Rattle.replay_state.proofs.Serialised.{QuietParts, quiet_parts, kept_of}
+use Rattle.replay_state.proofs.Keeping.{Kept, kept_step, kept_first, kept_of}
+use Rattle.replay_state.proofs.Serialised.{QuietParts, quiet_parts}
 use Rattle.replay_state.proofs.Steady.{all_bit}
 use Rattle.replay_state.proofs.History.{Begun, updates_in, versions_first, commands_are, begun_merged, begun_push, begun_now, begun_taken, begun_end, begun_at, total_sum, visible_counts, ons_most}
 
@@ -152,4 +154,4 @@ pub a_quiet_switch_has_the_newest_tables : Law → (setup : Setup) (a : Answers)
     → is_quiet (steps setup a (first_state start) events) ≡ true → HasNewestTables setup start (steps setup a (first_state start) events)
 a_quiet_switch_has_the_newest_tables tables setup a start events law first quiet =
     let w = steps setup a (first_state start) events in
-    newest_tables tables setup a start w (kept_of setup a start events law first) (history_of setup a start law first events) (quiet_parts w quiet)
+    newest_tables tables setup a start w (kept_of setup a start law first events) (history_of setup a start law first events) (quiet_parts w quiet)

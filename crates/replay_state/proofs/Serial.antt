@@ -5,7 +5,8 @@ use Rattle.std.proofs.lemmas.List.Elements.{filter-append}
 use Rattle.packet_fields.specs.declared.verdict.Verdict.{Verdict}
 use Rattle.state_store.specs.Store.{Store}
 use Rattle.replay_state.specs.Answers.{Answers}
-use Rattle.replay_state.specs.Serial.{Decided, serial_store, serial_verdicts}
+use Rattle.run_model.specs.declared.serial.Decided.{Decided}
+use Rattle.replay_state.proofs.Words.{serial_store, serial_verdicts}
 use Rattle.replay_state.proofs.Words.{Member, upto}
 use Rattle.replay_state.proofs.Order.{upto_all}
 

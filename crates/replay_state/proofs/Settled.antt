@@ -1,5 +1,5 @@
 -- A packet that was finished stays so, and one that went up is never finished by the switch.
-use Rattle.std.proofs.Common.{◌≡◌, ℕ, ◌+◌, Bool, true, false, leb, eqb, List, [], ◌∷◌, ◌++◌, Option, Some, None, inl, inr, refl, sym, ◌∙◌, ap, subst, length, set}
+use Rattle.std.proofs.Common.{◌≡◌, ℕ, ◌+◌, ◌<◌, Bool, true, false, leb, eqb, List, [], ◌∷◌, ◌++◌, ◌⊎◌, Option, Some, None, inl, inr, refl, sym, ◌∙◌, ap, subst, arith, length, set}
 use Rattle.std.specs.Prelude.{slice_get, remove, is_some}
 use Rattle.std.proofs.lemmas.Bool.{cases_Bool, cases_eq}
 use Rattle.packet_fields.specs.declared.verdict.Verdict.{Verdict}
@@ -7,11 +7,32 @@ use Rattle.state_store.specs.Store.{Store}
 use Rattle.writeback_table.specs.declared.command.Update.{Update}
 use Rattle.replay_state.specs.Answers.{Answers, Setup}
 use Rattle.replay_state.specs.State.{State, Pass, Progress, Entered, Up, Held, Slow, Fast, seen, store_at}
-use Rattle.replay_state.specs.Step.{Event, Admit, Stage, Serve, Send, Apply, Ack, Hold, Down, applies, happens, step, steps, tick}
+use Rattle.run_model.specs.declared.event.Event.{Event}
+use Rattle.run_model.specs.declared.event.Event.TheVariants.{Admit, Stage, Serve, Send, Apply, Ack, Hold, Down}
+use Rattle.replay_state.specs.Step.{applies, happens, step, steps, tick}
 use Rattle.replay_state.specs.Step.{finished, went_up, decided, released, came_in, ended, entered, staged, pass_of, with_changes, ran, served, let_go, came_down}
-use Rattle.replay_state.specs.Serial.{is_fast}
-use Rattle.replay_state.proofs.Lists.{get_set_same, get_set_other, get_push_same, get_push_other, get_past}
+use Rattle.replay_state.proofs.Lists.{get_set_same, get_set_other, get_push_same, get_push_other, get_past, get_member}
+use Rattle.std.specs.Option.{option_map}
+use Rattle.std.proofs.lemmas.Option.{none-some, slice_get-map}
+use Rattle.std.proofs.lemmas.List.{get_or_append_left, length_push}
+use Rattle.state_store.specs.Store.{start_store}
+use Rattle.run_model.specs.Serialises as run
+use Rattle.replay_state.specs.State.{fate_of, first_state}
+use Rattle.replay_state.specs.Step.{state_of}
+use Rattle.replay_state.specs.Run.{job_run, seen_store}
 use Rattle.replay_state.proofs.AtOnce.{fast_at_once, slow_at_once}
+use Rattle.replay_state.proofs.Effects.{Fine, fine_tick, shown_le}
+use Rattle.replay_state.proofs.Sane.{Sane, sane_step, sane_steps, sane_first}
+use Rattle.replay_state.proofs.Steps.{steps_append}
+
+-- the switch finished it
+abbrev pub is_fast : Option Progress → Bool
+is_fast None = false
+is_fast (Some (Entered a v)) = false
+is_fast (Some (Up a)) = false
+is_fast (Some (Held a d v over)) = false
+is_fast (Some (Slow a d v y r)) = false
+is_fast (Some (Fast a d v y)) = true
 
 -- its preprocessing has ended
 abbrev pub is_settled : Option Progress → Bool
@@ -139,19 +160,207 @@ module _ (setup : Setup) (a : Answers) where
   keeps_steps w [] = λ m s. (refl, s)
   keeps_steps w (e ∷ es) = keeps_then w (step setup a w e) (steps setup a (step setup a w e) es) (keeps_step w e) (keeps_steps (step setup a w e) es)
 
-  -- where passes have no stages, a packet is fast just where it is over what lookups see when it comes in
-  pub fast_by_seen : (w : State) (more : List Event) → setup.pre_stages ≡ 0 → applies setup w Admit ≡ true
-      → is_fast (slice_get (steps setup a (step setup a w Admit) more).progress (length w.progress)) ≡ is_some (a.pre (store_at w.stores (seen w)) (length w.progress))
-  fast_by_seen w more none t = go (a.pre (store_at w.stores (seen w)) (length w.progress)) refl
-    where
-      go : (o : Option Verdict) → a.pre (store_at w.stores (seen w)) (length w.progress) ≡ o
-          → is_fast (slice_get (steps setup a (step setup a w Admit) more).progress (length w.progress)) ≡ is_some (a.pre (store_at w.stores (seen w)) (length w.progress))
-      go None h =
-          let is : slice_get (step setup a w Admit).progress (length w.progress) ≡ Some (Up (w.events + 1)) =
-          ap (λ st. slice_get st.progress (length w.progress)) (slow_at_once setup a w none t h) ∙ get_push_same w.progress (Up (w.events + 1)) in
-          (keeps_steps (step setup a w Admit) more (length w.progress) (ap is_settled is)).0 ∙ ap is_fast is ∙ sym (ap is_some h)
-      go (Some y) h =
-          let f : Progress = Fast (w.events + 1) (w.events + 1) (seen w) y in
-          let is : slice_get (step setup a w Admit).progress (length w.progress) ≡ Some f =
-          ap (λ st. slice_get st.progress (length w.progress)) (fast_at_once setup a w y none t h) ∙ get_push_same w.progress f in
-          (keeps_steps (step setup a w Admit) more (length w.progress) (ap is_settled is)).0 ∙ ap is_fast is ∙ sym (ap is_some h)
+-- ---- from its entry on
+
+abbrev pub Fated : ℕ → Bool → Option Progress → Type 0
+Fated v quick o = ((e : ℕ) × (o ≡ Some (Entered e v))) ⊎ ((is_settled o ≡ true) × (is_fast o ≡ quick))
+
+-- an edit of one packet
+fated_set : (xs : List Progress) (k n v : ℕ) (quick : Bool) (f : Option Progress → Progress) → ((old : Progress) → Stays (Some old) (Some (f (Some old))))
+    → (k ≡ n → (e : ℕ) → slice_get xs n ≡ Some (Entered e v) → Fated v quick (Some (f (Some (Entered e v))))) → Fated v quick (slice_get xs n) → Fated v quick (slice_get (set xs k (f (slice_get xs k))) n)
+fated_set xs k n v quick f stays enter (inr h) =
+    let s = set_stays xs k f stays n h.0 in inr (s.1, s.0 ∙ h.1)
+fated_set xs k n v quick f stays enter (inl h) = elim (cases_eq n k) [
+  | inl e ↦
+      let there : slice_get xs k ≡ Some (Entered h.0 v) = subst (λ z. slice_get xs z ≡ Some (Entered h.0 v)) e h.1 in
+      let now : slice_get (set xs k (f (slice_get xs k))) n ≡ Some (f (Some (Entered h.0 v))) =
+      ap (slice_get (set xs k (f (slice_get xs k)))) e ∙ get_set_same xs k (Entered h.0 v) (f (slice_get xs k)) there ∙ ap (λ o. Some (f o)) there in
+      subst (Fated v quick) (sym now) (enter (sym e) h.0 h.1)
+  | inr d ↦ inl (h.0, get_set_other xs k n (f (slice_get xs k)) d ∙ h.1)
+]
+
+module _ (setup : Setup) (a : Answers) (n v : ℕ) (first : Store) where
+  abbrev pub quick : Bool
+  quick = is_some (a.pre first n)
+
+  -- its version began with this store, and it entered over it or has ended so
+  pub record Traced (w : State) : Type 0 where
+    pub low : v < length w.stores
+    pub same : store_at w.stores v ≡ first
+    pub fate : Fated v quick (slice_get w.progress n)
+
+  entering_kept : (e : ℕ) (f : Option Progress → Progress) → f (Some (Entered e v)) ≡ Entered e v → Fated v quick (Some (f (Some (Entered e v))))
+  entering_kept e f is = inl (e, ap Some is)
+
+  traced_in : (w : State) (m : ℕ) (o : Option Verdict) → (m ≡ n → (e : ℕ) → slice_get w.progress n ≡ Some (Entered e v) → is_some o ≡ quick) → Traced w → Traced (came_in w m o)
+  traced_in w m None says t = record {
+    low = t.low;
+    same = t.same;
+    fate = fated_set w.progress m n v quick went_up up_stays (λ i e h. inr (refl, says i e h)) t.fate;
+  }
+  traced_in w m (Some y) says t = record {
+    low = t.low;
+    same = t.same;
+    fate = fated_set w.progress m n v quick (finished w.events y) (finished_stays w.events y) (λ i e h. inr (refl, says i e h)) t.fate;
+  }
+
+  traced_ended : (w : State) (x : Pass) → (x.pre ≡ true → x.number ≡ n → (e : ℕ) → slice_get w.progress n ≡ Some (Entered e v) → x.version ≡ v) → Traced w → Traced (ended a w x)
+  traced_ended w x version t = elim (cases_Bool x.pre) [
+    | inl p ↦ rw p (traced_in w x.number (a.pre (store_at w.stores x.version) x.number)
+        (λ i e h. ap is_some (ap (λ z. a.pre (store_at w.stores z) x.number) (version p i e h) ∙ ap (λ s. a.pre s x.number) t.same ∙ ap (a.pre first) i)) t)
+    | inr p ↦ rw p (record {
+      low = t.low;
+      same = t.same;
+      fate = fated_set w.progress x.number n v quick (released (λ over. a.post over x.number) w.events) (released_stays (λ over. a.post over x.number) w.events) (λ i e h. inl (e, refl)) t.fate;
+    })
+  ]
+
+  traced_entered : (w : State) (x : Pass) → (x.pre ≡ true → x.number ≡ n → (e : ℕ) → slice_get w.progress n ≡ Some (Entered e v) → x.version ≡ v) → Traced w → Traced (entered a w x)
+  traced_entered w x version t = elim (cases_Bool (eqb x.left 0)) [
+    | inl p ↦ rw p (traced_ended w x version t)
+    | inr p ↦ rw p (record { low = t.low; same = t.same; fate = t.fate })
+  ]
+
+  traced_staged : (w : State) (j : ℕ) (o : Option Pass) → slice_get w.passes j ≡ o → Fine w → Traced w → Traced (staged a w j o)
+  traced_staged w j None g k t = t
+  traced_staged w j (Some x) g k t = elim (cases_Bool (leb x.left 1)) [
+    | inl p ↦ rw p (traced_ended (record w { passes = remove w.passes j }) x
+        (λ pre i e h. sym (k.needs.firsts x e v (get_member w.passes j x g) pre (subst (λ z. slice_get w.progress z ≡ Some (Entered e v)) (sym i) h)))
+        (record { low = t.low; same = t.same; fate = t.fate }))
+    | inr p ↦ rw p (record { low = t.low; same = t.same; fate = t.fate })
+  ]
+
+  traced_ran : (w : State) (j m : ℕ) (store : Store) (us : List Update) → Traced w → Traced (ran a w (with_changes store us w) j m)
+  traced_ran w j m store [] t = record {
+    low = t.low;
+    same = t.same;
+    fate = fated_set w.progress m n v quick (decided w.events w.version w.store) (decided_stays w.events w.version w.store) (λ i e h. inl (e, refl)) t.fate;
+  }
+  traced_ran w j m store (u ∷ us) t = record {
+    low = let l = length_push w.stores store in let k = t.low in omega arith;
+    same = get_or_append_left w.stores (store ∷ []) [] v t.low ∙ t.same;
+    fate = fated_set w.progress m n v quick (decided w.events (w.version + 1) w.store) (decided_stays w.events (w.version + 1) w.store) (λ i e h. inl (e, refl)) t.fate;
+  }
+
+  traced_served : (w : State) (j : ℕ) (o : Option ℕ) → Traced w → Traced (served a w j o)
+  traced_served w j None t = t
+  traced_served w j (Some m) t = traced_ran w j m (a.after w.store m) (a.changes w.store m) t
+
+  traced_go : (w : State) (j : ℕ) (o : Option (ℕ × ℕ)) → Traced w → Traced (let_go w j o)
+  traced_go w j None t = t
+  traced_go w j (Some x) t = record { low = t.low; same = t.same; fate = t.fate }
+
+  traced_down : (w : State) (j : ℕ) (o : Option ℕ) → Traced w → Traced (came_down setup a w j o)
+  traced_down w j None t = t
+  traced_down w j (Some m) t =
+      traced_entered (record w { down = remove w.down j }) (pass_of w false m setup.post_stages) (λ pre. cc) (record { low = t.low; same = t.same; fate = t.fate })
+
+  -- the packet was there before, so one that comes in is another
+  fated_there : (o : Option Progress) → Fated v quick o → o ≡ None → ⊥
+  fated_there None (inl h) is = absurd (none-some _ h.1)
+  fated_there None (inr h) is = cc
+  fated_there (Some p) h is = cc
+
+  traced_push : (w : State) (p : Progress) → Traced w → Fated v quick (slice_get (w.progress ++ p ∷ []) n)
+  traced_push w p t = elim (cases_eq n (length w.progress)) [
+    | inl e ↦ absurd (fated_there (slice_get w.progress n) t.fate (ap (slice_get w.progress) e ∙ get_past w.progress))
+    | inr d ↦ subst (Fated v quick) (sym (get_push_other w.progress p n d)) t.fate
+  ]
+
+  traced_admitted : (w : State) → Traced w → Traced (happens setup a w Admit)
+  traced_admitted w t =
+      let mid : State = record w { progress = w.progress ++ Entered w.events (seen w) ∷ [] } in
+      traced_entered mid (pass_of w true (length w.progress) setup.pre_stages)
+      (λ pre i e h. absurd (fated_there (slice_get w.progress n) t.fate (ap (slice_get w.progress) (sym i) ∙ get_past w.progress)))
+      (record { low = t.low; same = t.same; fate = traced_push w (Entered w.events (seen w)) t })
+
+  traced_happens : (w : State) (e : Event) → Fine w → Traced w → Traced (happens setup a w e)
+  traced_happens w Admit k t = traced_admitted w t
+  traced_happens w (Stage j) k t = traced_staged w j (slice_get w.passes j) refl k t
+  traced_happens w (Serve j) k t = traced_served w j (slice_get w.up j) t
+  traced_happens w Send k t = record { low = t.low; same = t.same; fate = t.fate }
+  traced_happens w Apply k t = record { low = t.low; same = t.same; fate = t.fate }
+  traced_happens w Ack k t = record { low = t.low; same = t.same; fate = t.fate }
+  traced_happens w (Hold j) k t = traced_go w j (slice_get w.held j) t
+  traced_happens w (Down j) k t = traced_down w j (slice_get w.down j) t
+
+  traced_step : (w : State) (e : Event) → Sane setup w → Traced w → Traced (step setup a w e)
+  traced_step w e k t = elim (cases_Bool (applies setup w e)) [
+    | inl p ↦ rw p (traced_happens (tick w) e (fine_tick w k.fine) (record { low = t.low; same = t.same; fate = t.fate }))
+    | inr p ↦ rw p (record { low = t.low; same = t.same; fate = t.fate })
+  ]
+
+  pub traced_steps : (w : State) (es : List Event) → Sane setup w → Traced w → Traced (steps setup a w es)
+  traced_steps w [] k t = t
+  traced_steps w (e ∷ es) k t = traced_steps (step setup a w e) es (sane_step setup a w e k) (traced_step w e k t)
+
+-- ---- what is told of it
+
+fast_told : (o : Option Progress) → run.is_fast (option_map fate_of o) ≡ is_fast o
+fast_told None = refl
+fast_told (Some (Entered a v)) = refl
+fast_told (Some (Up a)) = refl
+fast_told (Some (Held a d v over)) = refl
+fast_told (Some (Slow a d v y r)) = refl
+fast_told (Some (Fast a d v y)) = refl
+
+settled_told : (o : Option Progress) → is_settled o ≡ true → run.is_passing (option_map fate_of o) ≡ false
+settled_told None h = refl
+settled_told (Some (Entered a v)) h = cc
+settled_told (Some (Up a)) h = refl
+settled_told (Some (Held a d v over)) h = refl
+settled_told (Some (Slow a d v y r)) h = refl
+settled_told (Some (Fast a d v y)) h = refl
+
+true_false : true ≡ false → ⊥
+true_false e = cc
+
+fated_told : (v : ℕ) (b : Bool) (o : Option Progress) → Fated v b o → run.is_passing (option_map fate_of o) ≡ false → run.is_fast (option_map fate_of o) ≡ b
+fated_told v b o (inl h) k = absurd (true_false (sym (ap (λ z. run.is_passing (option_map fate_of z)) h.1) ∙ k))
+fated_told v b o (inr h) k = fast_told o ∙ h.1
+
+module _ (setup : Setup) (a : Answers) (events more : List Event) where
+  abbrev now : State
+  now = state_of setup a events
+
+  abbrev last : Option Progress
+  last = slice_get (state_of setup a (events ++ Admit ∷ more)).progress (length now.progress)
+
+  sane_now : Sane setup now
+  sane_now = sane_steps setup a (first_state (start_store setup.objects)) events (sane_first setup a (start_store setup.objects))
+
+  last_is : last ≡ slice_get (steps setup a (step setup a now Admit) more).progress (length now.progress)
+  last_is = ap (λ (w : State). slice_get w.progress (length now.progress)) (steps_append setup a (first_state (start_store setup.objects)) events (Admit ∷ more))
+
+  fate_is : slice_get (job_run setup a (events ++ Admit ∷ more)).fates (length now.progress) ≡ option_map fate_of last
+  fate_is = slice_get-map fate_of (state_of setup a (events ++ Admit ∷ more)).progress (length now.progress)
+
+  entered_traced : applies setup now Admit ≡ true → Traced setup a (length now.progress) (seen now) (seen_store now) (step setup a now Admit)
+  entered_traced t =
+      let n = length now.progress in
+      let w = tick now in
+      let p : Progress = Entered w.events (seen now) in
+      let within = shown_le now now.done sane_now.fine in
+      let stores = sane_now.fine.counts.stores in
+      rw t (traced_entered setup a n (seen now) (seen_store now) (record w { progress = w.progress ++ p ∷ [] }) (pass_of w true n setup.pre_stages) (λ pre i e h. refl)
+      (record { low = omega arith; same = refl; fate = inl (w.events, get_push_same now.progress p) }))
+
+  pub fast_by_seen : applies setup now Admit ≡ true → run.is_passing (slice_get (job_run setup a (events ++ Admit ∷ more)).fates (length now.progress)) ≡ false
+      → run.is_fast (slice_get (job_run setup a (events ++ Admit ∷ more)).fates (length now.progress)) ≡ is_some (a.pre (seen_store now) (length now.progress))
+  fast_by_seen t passing =
+      let traced = traced_steps setup a (length now.progress) (seen now) (seen_store now) (step setup a now Admit) more (sane_step setup a now Admit sane_now) (entered_traced t) in
+      let fate = subst (Fated (seen now) (is_some (a.pre (seen_store now) (length now.progress)))) (sym last_is) traced.fate in
+      ap run.is_fast fate_is ∙ fated_told (seen now) (is_some (a.pre (seen_store now) (length now.progress))) last fate (sym (ap run.is_passing fate_is) ∙ passing)
+
+  settled_once : setup.pre_stages ≡ 0 → applies setup now Admit ≡ true → (o : Option Verdict) → a.pre (seen_store now) (length now.progress) ≡ o → is_settled (slice_get (step setup a now Admit).progress (length now.progress)) ≡ true
+  settled_once none t None h =
+      ap (λ (w : State). is_settled (slice_get w.progress (length now.progress))) (slow_at_once setup a now none t h) ∙ ap is_settled (get_push_same now.progress (Up (now.events + 1)))
+  settled_once none t (Some y) h =
+      ap (λ (w : State). is_settled (slice_get w.progress (length now.progress))) (fast_at_once setup a now y none t h)
+      ∙ ap is_settled (get_push_same now.progress (Fast (now.events + 1) (now.events + 1) (seen now) y))
+
+  pub settled_at_once : setup.pre_stages ≡ 0 → applies setup now Admit ≡ true → run.is_passing (slice_get (job_run setup a (events ++ Admit ∷ more)).fates (length now.progress)) ≡ false
+  settled_at_once none t =
+      let once = settled_once none t (a.pre (seen_store now) (length now.progress)) refl in
+      let stays = (keeps_steps setup a (step setup a now Admit) more (length now.progress) once).1 in
+      ap run.is_passing fate_is ∙ settled_told last (ap is_settled last_is ∙ stays)

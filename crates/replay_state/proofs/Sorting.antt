@@ -5,8 +5,9 @@ use Rattle.std.proofs.lemmas.Bool.{cases_Bool}
 use Rattle.std.proofs.lemmas.Bool.Decides.{nat_tests}
 use Rattle.std.proofs.lemmas.Option.{same_Some}
 use Rattle.replay_state.specs.State.{Progress, Entered, Up, Held, Slow, Fast}
-use Rattle.replay_state.specs.Serial.{Decided, stands_before, put_in, sorted, entry_of, with_entry, entries_from}
-use Rattle.replay_state.proofs.Words.{Member, Before, Rising}
+use Rattle.run_model.specs.Order.{stands_before, put_in, sorted, with_decided}
+use Rattle.run_model.specs.declared.serial.Decided.{Decided}
+use Rattle.replay_state.proofs.Words.{Member, Before, Rising, entry_of, entries_from}
 use Rattle.replay_state.proofs.Order.{same_rising}
 
 pub before_true : (x y : Decided) → stands_before x y ≡ true → Before x y
@@ -97,12 +98,12 @@ entry_number n (Some (Held a d v y)) e h = sym (ap (λ x. x.number) (same_Some _
 entry_number n (Some (Slow a d v y r)) e h = sym (ap (λ x. x.number) (same_Some _ _ h))
 entry_number n (Some (Fast a d v y)) e h = sym (ap (λ x. x.number) (same_Some _ _ h))
 
-pub member_with : (x : Decided) (o : Option Decided) (es : List Decided) → Member x (with_entry o es) → (o ≡ Some x) ⊎ Member x es
+pub member_with : (x : Decided) (o : Option Decided) (es : List Decided) → Member x (with_decided o es) → (o ≡ Some x) ⊎ Member x es
 member_with x None es h = inr h
 member_with x (Some e) es (inl p) = inl (ap Some p)
 member_with x (Some e) es (inr m) = inr m
 
-pub with_member : (x : Decided) (o : Option Decided) (es : List Decided) → (o ≡ Some x) ⊎ Member x es → Member x (with_entry o es)
+pub with_member : (x : Decided) (o : Option Decided) (es : List Decided) → (o ≡ Some x) ⊎ Member x es → Member x (with_decided o es)
 with_member x None es (inl p) = cc
 with_member x None es (inr m) = m
 with_member x (Some e) es (inl p) = inl (same_Some _ _ p)
@@ -123,7 +124,7 @@ entries_complete n (f ∷ fs) (suc k) e h =
     with_member e (entry_of n (Some f)) (entries_from (suc n) fs)
     (inr (entries_complete (suc n) fs k e (subst (λ z. entry_of z (slice_get fs k) ≡ Some e) (omega arith) h)))
 
-pub with_apart : (o : Option Decided) (es : List Decided) → Apart es → ((e y : Decided) → o ≡ Some e → Member y es → y.number ≡ e.number → ⊥) → Apart (with_entry o es)
+pub with_apart : (o : Option Decided) (es : List Decided) → Apart es → ((e y : Decided) → o ≡ Some e → Member y es → y.number ≡ e.number → ⊥) → Apart (with_decided o es)
 with_apart None es h apart = h
 with_apart (Some e) es h apart = ((λ y m. apart e y refl m), h)
 

@@ -1,13 +1,15 @@
 -- What the events do, one effect at a time.
-use Rattle.std.proofs.Common.{ℕ, ◌+◌, ◌-◌, ◌<◌, Bool, true, false, List, [], ◌∷◌, ◌++◌, arith, length}
+use Rattle.std.proofs.Common.{◌≡◌, refl, ℕ, ◌+◌, ◌-◌, ◌<◌, Bool, true, false, List, [], ◌∷◌, ◌++◌, arith, length}
 use Rattle.std.specs.Prelude.{slice_get, slice_set, remove}
+use Rattle.std.proofs.lemmas.List.{length_push}
 use Rattle.packet_fields.specs.declared.verdict.Verdict.{Verdict}
 use Rattle.state_store.specs.Store.{Store}
 use Rattle.writeback_table.specs.declared.command.Update.{Update}
-use Rattle.replay_state.specs.Answers.{Answers}
+use Rattle.run_model.specs.declared.event.Event.{Event}
+use Rattle.replay_state.specs.Answers.{Answers, Setup}
 use Rattle.replay_state.specs.State.{State, Pass, Batch, Entered, commands_in, seen}
-use Rattle.replay_state.specs.Step.{pass_of, finished, went_up, released, decided, merged}
-use Rattle.replay_state.proofs.Counts.{Counts, merged_is, long}
+use Rattle.replay_state.specs.Step.{step, steps, pass_of, finished, went_up, released, decided, merged}
+use Rattle.replay_state.proofs.Counts.{Counts, merged_is, long, length_more, sum_push}
 
 -- the pass before the server enters, and the one behind it
 abbrev pub let_in : State → ℕ → State
@@ -81,3 +83,17 @@ counts_sent w fits h k =
       done_in = let g = k.done_in in omega arith;
       acked_in = k.acked_in;
     }
+
+-- the server's run of packet p begins a version, with a batch of it
+pub counts_seen : (a : Answers) (w : State) (j p : ℕ) (b : Batch) → b.versions ≡ 1 → Counts w → Counts (run_at a w j p (w.version + 1) (w.stores ++ a.after w.store p ∷ []) (w.batches ++ b ∷ []))
+counts_seen a w j p b one k = record {
+  versions = let s = sum_push w.batches b in let v = k.versions in omega arith;
+  stores = let x = length_push w.stores (a.after w.store p) in let y = k.stores in omega arith;
+  sent_in = let l = length_more w.batches b in let s = k.sent_in in omega arith;
+  done_in = k.done_in;
+  acked_in = k.acked_in;
+}
+
+pub steps_append : (setup : Setup) (a : Answers) (w : State) (es more : List Event) → steps setup a w (es ++ more) ≡ steps setup a (steps setup a w es) more
+steps_append setup a w [] more = refl
+steps_append setup a w (e ∷ es) more = steps_append setup a (step setup a w e) es more

@@ -13,9 +13,11 @@ use Rattle.writeback_table.specs.Pair.{visible}
 use Rattle.writeback_table.specs.Commands.{commands_of, pair_through}
 use Rattle.replay_state.specs.Answers.{Answers, Setup}
 use Rattle.replay_state.specs.State.{State, Pass, Batch, Entered, commands_in, seen, store_at, first_state}
-use Rattle.replay_state.specs.Step.{Event, Admit, Stage, Serve, Send, Apply, Ack, Hold, Down, applies, happens, step, steps, tick, has_bit, same_bit, waits, merged}
+use Rattle.run_model.specs.declared.event.Event.{Event}
+use Rattle.run_model.specs.declared.event.Event.TheVariants.{Admit, Stage, Serve, Send, Apply, Ack, Hold, Down}
+use Rattle.replay_state.specs.Step.{applies, happens, step, steps, tick, has_bit, same_bit, waits, merged}
 use Rattle.replay_state.specs.Step.{came_in, ended, entered, staged, pass_of, with_changes, ran, served, let_go, came_down}
-use Rattle.replay_state.specs.Serial.{AreSound}
+use Rattle.replay_state.specs.Sound.{AreSound}
 use Rattle.replay_state.specs.Tables.{first_pair, pair_now}
 use Rattle.replay_state.specs.Views.{KeepViews}
 use Rattle.replay_state.proofs.Words.{Member}
@@ -23,7 +25,7 @@ use Rattle.replay_state.proofs.Lists.{get_member, get_within, member_remove, mem
 use Rattle.replay_state.proofs.Effects.{shown_le}
 use Rattle.replay_state.proofs.History.{commands_are, updates_in}
 use Rattle.replay_state.proofs.Keeping.{Kept, kept_step, kept_first}
-use Rattle.replay_state.proofs.Serialised.{kept_of}
+use Rattle.replay_state.proofs.Keeping.{kept_of}
 use Rattle.replay_state.proofs.Seen.{Law, History, history_step, ready_from, seen_from}
 use Rattle.replay_state.proofs.Steady.{Looks, blocks, stays_seen}
 
@@ -233,7 +235,7 @@ module _ (tables : Law) (looks : Looks) (setup : Setup) (a : Answers) (start : S
   passes_keep_their_views events =
       let w = steps setup a (first_state start) events in
       let v = views_steps (first_state start) events (kept_first setup a start law first) (λ o rep. (refl, refl)) (record { views = λ x m. absurd m; low = λ x m. absurd m }) in
-      let k = kept_of setup a start events law first in
+      let k = kept_of setup a start law first events in
       record {
         each = λ j o x g rep. v.views x (get_member w.passes j x g) o rep;
         kept = λ j x g. k.in_order.kept x.version (v.low x (get_member w.passes j x g));

@@ -1,9 +1,11 @@
 -- Quiet and drained states, and the events that end a run one after the other.
-use Rattle.std.specs.Prelude.{◌≡◌, ◌⊎◌, ⊤, ℕ, zero, suc, ◌+◌, ◌*◌, ◌==◌, Bool, true, false, ◌&&◌, List, [], ◌∷◌, length, if◌then◌else◌}
+use Rattle.std.specs.Prelude.{◌≡◌, ◌⊎◌, ⊤, ℕ, zero, suc, ◌+◌, ◌*◌, ◌==◌, Bool, true, false, ◌&&◌, List, [], ◌∷◌, ◌++◌, length, if◌then◌else◌}
 use Rattle.std.specs.Prelude.{Option, Some, None}
 use Rattle.replay_state.specs.Answers.{Answers, Setup}
 use Rattle.replay_state.specs.State.{State, commands_in}
-use Rattle.replay_state.specs.Step.{Event, Admit, Stage, Serve, Send, Apply, Ack, Hold, Down, applies, step}
+use Rattle.run_model.specs.declared.event.Event.{Event}
+use Rattle.run_model.specs.declared.event.Event.TheVariants.{Admit, Stage, Serve, Send, Apply, Ack, Hold, Down}
+use Rattle.replay_state.specs.Step.{applies, step, state_of}
 
 -- nothing is on its way, and every command is acknowledged
 abbrev pub is_quiet : State → Bool
@@ -28,19 +30,29 @@ drain_order = Stage 0 ∷ (Ack ∷ (Apply ∷ (Send ∷ (Down 0 ∷ (Hold 0 ∷ 
 abbrev pub next_event : Setup → State → Option Event
 next_event setup st = first_of (applies setup st) drain_order
 
--- the state after an event, if there is one
-abbrev pub maybe_step : Setup → Answers → State → Option Event → State
-maybe_step setup a st None = st
-maybe_step setup a st (Some event) = step setup a st event
+-- one event and those behind it, if it is there
+abbrev pub with_picked : Option Event → (Event → List Event) → List Event
+with_picked None more = []
+with_picked (Some event) more = event ∷ more event
 
--- the state after at most n of these events
-abbrev pub after_drain : Setup → Answers → ℕ → State → State
-after_drain setup a zero st = st
-after_drain setup a (suc n) st = after_drain setup a n (maybe_step setup a st (next_event setup st))
+-- the events that drain picks one after the other, at most n of them
+abbrev pub picked_events : Setup → Answers → ℕ → State → List Event
+picked_events setup a zero st = []
+picked_events setup a (suc n) st =
+    with_picked (next_event setup st) (λ event. picked_events setup a n (step setup a st event))
 
 -- how many of them are enough
 abbrev pub drain_bound : Setup → ℕ
 drain_bound setup = setup.total * (4 + setup.pre_stages + setup.post_stages + 3 * (3 * setup.writes + 2))
+
+-- the events by which drain ends a run from here
+abbrev pub drain_events : Setup → Answers → State → List Event
+drain_events setup a st = picked_events setup a (drain_bound setup) st
+
+-- the events of a schedule, and of drain behind them where it is asked for
+abbrev pub plan_events : Setup → Answers → List Event → Bool → List Event
+plan_events setup a events drain =
+    if drain then events ++ drain_events setup a (state_of setup a events) else events
 
 -- the event is one of these and passes the test, and none before it does
 abbrev pub IsFirstOf : (Event → Bool) → List Event → Event → Type 0
@@ -51,3 +63,8 @@ IsFirstOf test (x ∷ xs) event = ((test x ≡ true) × (x ≡ event)) ⊎ ((tes
 abbrev pub IsNoneOf : (Event → Bool) → List Event → Type 0
 IsNoneOf test [] = ⊤
 IsNoneOf test (x ∷ xs) = (test x ≡ false) × IsNoneOf test xs
+
+-- each of these events is the one that drain picks then, and behind them it picks none
+abbrev pub Drains : Setup → Answers → State → List Event → Type 0
+Drains setup a st [] = next_event setup st ≡ None
+Drains setup a st (event ∷ events) = (next_event setup st ≡ Some event) × Drains setup a (step setup a st event) events

@@ -5,7 +5,8 @@ use Rattle.writeback_table.specs.declared.command.To.TheVariants.{Gone}
 use Rattle.writeback_table.specs.declared.command.Update.{Update}
 use Rattle.replay_state.specs.Answers.{Answers, Setup}
 use Rattle.replay_state.specs.State.{State, first_state}
-use Rattle.replay_state.specs.Step.{Admit, Stage, Serve, Send, Apply, Ack, Hold, Down, steps}
+use Rattle.run_model.specs.declared.event.Event.TheVariants.{Admit, Stage, Serve, Send, Apply, Ack, Hold, Down}
+use Rattle.replay_state.specs.Step.{steps}
 
 abbrev pub one : Update
 one = record { object = 0; key = []; to = Gone }
@@ -29,6 +30,7 @@ toy_setup pre post merges = record {
   replicated = λ o. true;
   writeback = 16;
   total = 2;
+  fine = true;
   pre_stages = pre;
   post_stages = post;
   writes = 2;

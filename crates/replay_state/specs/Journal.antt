@@ -4,11 +4,13 @@ use Rattle.std.specs.Prelude.{Option, Some, None, length, slice_get}
 use Rattle.packet_fields.specs.declared.packet.Packet.{Packet}
 use Rattle.packet_fields.specs.declared.verdict.Verdict.{Verdict}
 use Rattle.packet_fields.specs.declared.verdict.Verdict.TheVariants as verdict
-use Rattle.state_store.specs.Store.{Store}
+use Rattle.state_store.specs.Store.{Store, start_store}
 use Rattle.writeback_table.specs.declared.command.Command.{Command}
 use Rattle.replay_state.specs.Answers.{Answers, Setup}
 use Rattle.replay_state.specs.State.{State, Pass, Progress, Entered, Up, Held, Slow, Fast, commands_in, first_state}
-use Rattle.replay_state.specs.Step.{Event, Admit, Stage, Serve, Send, Apply, Ack, Hold, Down, applies, step, steps}
+use Rattle.run_model.specs.declared.event.Event.{Event}
+use Rattle.run_model.specs.declared.event.Event.TheVariants.{Admit, Stage, Serve, Send, Apply, Ack, Hold, Down}
+use Rattle.replay_state.specs.Step.{applies, step, state_of}
 use Rattle.replay_state.specs.Program.{SplitProgram, packet_at}
 
 -- ## Calls, and what they answer
@@ -23,12 +25,13 @@ pub data DownAnswer : Type 0 where
   Released : (verdict : Verdict) → DownAnswer
   GoingDown : DownAnswer
 
--- a call of the switch, with what it was given and what it answered
+-- A call of the switch, with what it was given and what it answered. One that takes a packet or a frame says whether it
+-- begins a pass that goes on stage by stage.
 pub data Call : Type 0 where
-  CalledUp : (number : ℕ) (packet : Packet) (answer : UpAnswer) → Call
+  CalledUp : (fine : Bool) (number : ℕ) (packet : Packet) (answer : UpAnswer) → Call
   CalledStageUp : (number : ℕ) (answer : UpAnswer) → Call
   CalledCommand : (command : Command) → Call
-  CalledDown : (number : ℕ) (frame : List ℕ) (answer : DownAnswer) → Call
+  CalledDown : (fine : Bool) (number : ℕ) (frame : List ℕ) (answer : DownAnswer) → Call
   CalledStageDown : (number : ℕ) (answer : DownAnswer) → Call
 
 -- ## The answers of a journal
@@ -51,17 +54,17 @@ down_end GoingDown = None
 
 -- what the call answers, if it ends the pass before the server, or behind it, of packet n
 abbrev pub ends_up : ℕ → Call → Option UpAnswer
-ends_up n (CalledUp m packet answer) = only_for m n (up_end answer)
+ends_up n (CalledUp fine m packet answer) = only_for m n (up_end answer)
 ends_up n (CalledStageUp m answer) = only_for m n (up_end answer)
 ends_up n (CalledCommand command) = None
-ends_up n (CalledDown m frame answer) = None
+ends_up n (CalledDown fine m frame answer) = None
 ends_up n (CalledStageDown m answer) = None
 
 abbrev pub ends_down : ℕ → Call → Option Verdict
-ends_down n (CalledUp m packet answer) = None
+ends_down n (CalledUp fine m packet answer) = None
 ends_down n (CalledStageUp m answer) = None
 ends_down n (CalledCommand command) = None
-ends_down n (CalledDown m frame answer) = only_for m n (down_end answer)
+ends_down n (CalledDown fine m frame answer) = only_for m n (down_end answer)
 ends_down n (CalledStageDown m answer) = only_for m n (down_end answer)
 
 -- the answer that ended that pass
@@ -114,10 +117,10 @@ down_frame s calls st n = s.serve_down (over_in (slice_get st.progress n)) (fram
 
 -- a call without its answer, but for whether it ends a pass
 pub data Question : Type 0 where
-  AsksUp : (number : ℕ) (packet : Packet) (ends : Bool) → Question
+  AsksUp : (fine : Bool) (number : ℕ) (packet : Packet) (ends : Bool) → Question
   AsksStageUp : (number : ℕ) (ends : Bool) → Question
   AsksCommand : (command : Command) → Question
-  AsksDown : (number : ℕ) (frame : List ℕ) (ends : Bool) → Question
+  AsksDown : (fine : Bool) (number : ℕ) (frame : List ℕ) (ends : Bool) → Question
   AsksStageDown : (number : ℕ) (ends : Bool) → Question
 
 abbrev pub is_up_end : UpAnswer → Bool
@@ -130,10 +133,10 @@ is_down_end (Released y) = true
 is_down_end GoingDown = false
 
 abbrev pub question_of : Call → Question
-question_of (CalledUp number packet answer) = AsksUp number packet (is_up_end answer)
+question_of (CalledUp fine number packet answer) = AsksUp fine number packet (is_up_end answer)
 question_of (CalledStageUp number answer) = AsksStageUp number (is_up_end answer)
 question_of (CalledCommand command) = AsksCommand command
-question_of (CalledDown number frame answer) = AsksDown number frame (is_down_end answer)
+question_of (CalledDown fine number frame answer) = AsksDown fine number frame (is_down_end answer)
 question_of (CalledStageDown number answer) = AsksStageDown number (is_down_end answer)
 
 abbrev pub asks_stage : Option Pass → List Question
@@ -148,12 +151,12 @@ asks_command (Some command) = AsksCommand command ∷ []
 
 abbrev pub asks_down : Setup → SplitProgram → List Call → State → Option ℕ → List Question
 asks_down setup s calls st None = []
-asks_down setup s calls st (Some n) = AsksDown n (down_frame s calls st n) (setup.post_stages == 0) ∷ []
+asks_down setup s calls st (Some n) = AsksDown setup.fine n (down_frame s calls st n) (setup.post_stages == 0) ∷ []
 
 -- what an event asks that applies
 abbrev pub asks : Setup → SplitProgram → List Packet → List Call → State → Event → List Question
 asks setup s packets calls st Admit =
-    AsksUp (length st.progress) (packet_at packets (length st.progress)) (setup.pre_stages == 0) ∷ []
+    AsksUp setup.fine (length st.progress) (packet_at packets (length st.progress)) (setup.pre_stages == 0) ∷ []
 asks setup s packets calls st (Stage j) = asks_stage (slice_get st.passes j)
 asks setup s packets calls st (Serve j) = []
 asks setup s packets calls st Send = []
@@ -171,7 +174,13 @@ questions setup s packets calls st (event ∷ events) =
     asked setup s packets calls st event
     ++ questions setup s packets calls (step setup (journal s calls) st event) events
 
+-- the packet went up in a frame
+abbrev pub HasGoneUp : List Call → ℕ → Type 0
+HasGoneUp calls n = (frame : List ℕ) × (up_answer calls n ≡ Some (SentUp frame))
+
 -- The state is that of these events by the answers of these calls, and these calls are what is asked on the way.
-pub record IsAnswered (setup : Setup) (s : SplitProgram) (packets : List Packet) (start : Store) (events : List Event) (calls : List Call) (st : State) : Type 0 where
-  pub run : st ≡ steps setup (journal s calls) (first_state start) events
-  pub asked : map question_of calls ≡ questions setup s packets calls (first_state start) events
+pub record IsAnswered (setup : Setup) (s : SplitProgram) (packets : List Packet) (events : List Event)
+    (calls : List Call) (st : State) : Type 0 where
+  pub run : st ≡ state_of setup (journal s calls) events
+  pub asked : map question_of calls
+      ≡ questions setup s packets calls (first_state (start_store setup.objects)) events

@@ -1,5 +1,5 @@
 -- A split program: what it does to whole packets, and what its parts on the switch and on the server do.
-use Rattle.std.specs.Prelude.{◌≡◌, ◌≤◌, ◌<◌, ℕ, zero, suc, Bool, true, ◌&&◌, nat_le, if◌then◌else◌, List, [], length, Some, None}
+use Rattle.std.specs.Prelude.{◌≡◌, ◌≤◌, ◌<◌, ℕ, zero, suc, Bool, true, false, ◌&&◌, nat_le, if◌then◌else◌, List, [], length, Some, None}
 use Rattle.std.specs.Prelude.{slice_get, get_or}
 use Rattle.packet_fields.specs.declared.packet.Packet.{Packet}
 use Rattle.packet_fields.specs.declared.verdict.Verdict.{Verdict}
@@ -9,7 +9,7 @@ use Rattle.state_store.specs.Kept.{IsKept}
 use Rattle.writeback_table.specs.declared.command.Update.{Update}
 use Rattle.writeback_table.specs.Batches.{changed_by, count_of, TakesAll}
 use Rattle.replay_state.specs.Answers.{Answers, Setup}
-use Rattle.replay_state.specs.Serial.{IsAlike}
+use Rattle.replay_state.specs.Sound.{IsAlike}
 
 -- frames are lists of bytes
 pub record SplitProgram : Type 0 where
@@ -19,14 +19,18 @@ pub record SplitProgram : Type 0 where
   pub writeback : ℕ
   -- how many instructions change objects that the switch keeps
   pub writes : ℕ
+  -- the highest stages of its passes before the server and behind it
+  pub pre_stages : ℕ
+  pub post_stages : ℕ
   -- the run of a packet from a store: the store that it leaves, its verdict, its changes of objects that the switch
   -- keeps, and whether the switch can finish it
   pub after : Store → Packet → Store
   pub verdict : Store → Packet → Verdict
   pub changes : Store → Packet → List Update
   pub is_fast : Store → Packet → Bool
-  -- the frame in which a packet goes up under a number
+  -- the frame in which a packet goes up under a number, and the number in a frame
   pub up_frame : ℕ → Packet → List ℕ
+  pub number_of : List ℕ → ℕ
   -- the server's run of a frame from a store: the store that it leaves, its changes, and the frame that it sends down
   pub serve_after : Store → List ℕ → Store
   pub serve_changes : Store → List ℕ → List Update
@@ -53,8 +57,6 @@ pub record IsSplitRun (s : SplitProgram) (store : Store) (packet : Packet) : Typ
       → object_at (s.after store packet) o ≡ changed_by o (object_at store o) (s.changes store packet)
   pub taken : (o : ℕ) → s.replicated o ≡ true → TakesAll o (object_at store o) (s.changes store packet)
   pub few : (o : ℕ) → s.replicated o ≡ true → count_of o (s.changes store packet) ≤ s.writeback
-  -- no more changes than there are instructions for them
-  pub bounded : length (s.changes store packet) ≤ s.writes
 
 -- What the layers below show of a split program and the packets of a trace.
 pub record IsSplitProgram (s : SplitProgram) (packets : List Packet) : Type 0 where
@@ -62,6 +64,9 @@ pub record IsSplitProgram (s : SplitProgram) (packets : List Packet) : Type 0 wh
   pub within : (o : ℕ) → s.replicated o ≡ true → o < length s.objects
   pub runs : (n : ℕ) (packet : Packet) (store : Store) → slice_get packets n ≡ Some packet → IsKept s.objects store
       → IsSplitRun s store packet
+  -- no run makes more changes than there are instructions for them, whatever comes up
+  pub few : (store : Store) (packet : Packet) → length (s.changes store packet) ≤ s.writes
+  pub few_served : (store : Store) (frame : List ℕ) → length (s.serve_changes store frame) ≤ s.writes
 
 -- ## Its runs over a trace
 
@@ -85,15 +90,25 @@ fits_below s zero updates = true
 fits_below s (suc o) updates =
     (if s.replicated o then nat_le (count_of o updates) s.writeback else true) && fits_below s o updates
 
--- in a fine run the passes take so many stages, and in any other run none
-abbrev pub setup_of : SplitProgram → List Packet → ℕ → ℕ → Setup
-setup_of s packets pre_stages post_stages = record {
+-- How a run goes: whether each pass takes an event for each of its stages, and whether batches take up those behind
+-- them.
+pub record Manner : Type 0 where
+  pub fine : Bool
+  pub merges : Bool
+
+-- each pass takes one event, and each batch goes by itself
+abbrev pub plain_manner : Manner
+plain_manner = record { fine = false; merges = false }
+
+abbrev pub setup_of : SplitProgram → List Packet → Manner → Setup
+setup_of s packets manner = record {
   objects = s.objects;
   replicated = s.replicated;
   writeback = s.writeback;
   total = length packets;
-  pre_stages = pre_stages;
-  post_stages = post_stages;
+  fine = manner.fine;
+  pre_stages = if manner.fine then s.pre_stages else 0;
+  post_stages = if manner.fine then s.post_stages else 0;
   writes = s.writes;
-  fits = fits_below s (length s.objects);
+  fits = λ updates. manner.merges && fits_below s (length s.objects) updates;
 }

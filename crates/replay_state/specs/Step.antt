@@ -2,24 +2,16 @@
 use Rattle.std.specs.Prelude.{ℕ, ◌+◌, ◌-◌, ◌==◌, Bool, true, false, not, ◌&&◌, nat_le, nat_lt, if◌then◌else◌}
 use Rattle.std.specs.Prelude.{Option, Some, None, List, [], ◌∷◌, ◌++◌, length, slice_get, slice_set, remove}
 use Rattle.packet_fields.specs.declared.verdict.Verdict.{Verdict}
-use Rattle.state_store.specs.Store.{Store}
+use Rattle.state_store.specs.Store.{Store, start_store}
 use Rattle.writeback_table.specs.declared.command.Update.{Update}
 use Rattle.writeback_table.specs.declared.command.Command.{Command}
 use Rattle.writeback_table.specs.declared.command.Command.TheVariants as command
 use Rattle.writeback_table.specs.Commands.{commands_of}
+use Rattle.run_model.specs.declared.event.Event.{Event}
+use Rattle.run_model.specs.declared.event.Event.TheVariants.{Admit, Stage, Serve, Send, Apply, Ack, Hold, Down}
 use Rattle.replay_state.specs.Answers.{Answers, Setup}
-use Rattle.replay_state.specs.State.{State, Pass, Batch, Progress, Entered, Up, Held, Slow, Fast}
+use Rattle.replay_state.specs.State.{State, Pass, Batch, Progress, Entered, Up, Held, Slow, Fast, first_state}
 use Rattle.replay_state.specs.State.{commands_in, visible, bit_behind, store_at, seen}
-
-pub data Event : Type 0 where
-  Admit : Event
-  Stage : ℕ → Event
-  Serve : ℕ → Event
-  Send : Event
-  Apply : Event
-  Ack : Event
-  Hold : ℕ → Event
-  Down : ℕ → Event
 
 -- ## Where an event applies
 
@@ -193,3 +185,7 @@ step setup a st event = if applies setup st event then happens setup a (tick st)
 abbrev pub steps : Setup → Answers → State → List Event → State
 steps setup a st [] = st
 steps setup a st (event ∷ events) = steps setup a (step setup a st event) events
+
+-- the state of a whole schedule
+abbrev pub state_of : Setup → Answers → List Event → State
+state_of setup a events = steps setup a (first_state (start_store setup.objects)) events

@@ -1,11 +1,13 @@
 -- What ties the run over a switch that tells its tables to the run of whole packets.
 use Rattle.std.specs.Prelude.{◌≡◌, ◌≤◌, ⊤, ℕ, true, false, List, Option, Some, None, length, slice_get}
 use Rattle.packet_fields.specs.declared.packet.Packet.{Packet}
-use Rattle.state_store.specs.Store.{Store, start_store}
+use Rattle.state_store.specs.Store.{Store}
 use Rattle.state_store.specs.Kept.{IsKept}
 use Rattle.replay_state.specs.Answers.{Setup}
-use Rattle.replay_state.specs.State.{State, Pass, store_at, first_state}
-use Rattle.replay_state.specs.Step.{Event, Admit, Stage, Serve, Send, Apply, Ack, Hold, Down, pass_of, steps}
+use Rattle.replay_state.specs.State.{State, Pass, store_at}
+use Rattle.run_model.specs.declared.event.Event.{Event}
+use Rattle.run_model.specs.declared.event.Event.TheVariants.{Admit, Stage, Serve, Send, Apply, Ack, Hold, Down}
+use Rattle.replay_state.specs.Step.{pass_of, state_of}
 use Rattle.replay_state.specs.Program.{SplitProgram, packet_at, plain}
 use Rattle.replay_state.specs.Journal.{Call, UpAnswer, Finished, SentUp, GoingUp, up_answer, down_answer, told, down_frame}
 use Rattle.replay_state.specs.Carried.{Carried}
@@ -14,6 +16,7 @@ use Rattle.replay_state.specs.Carried.{Carried}
 
 -- its run of the frame of a packet, and what the switch makes of the frame that comes down, are the run of the packet
 pub record IsFramed (s : SplitProgram) (store : Store) (n : ℕ) (packet : Packet) : Type 0 where
+  pub numbered : s.number_of (s.up_frame n packet) ≡ n
   pub after : s.serve_after store (s.up_frame n packet) ≡ s.after store packet
   pub changes : s.serve_changes store (s.up_frame n packet) ≡ s.changes store packet
   pub verdict : s.post (s.serve_down store (s.up_frame n packet)) ≡ s.verdict store packet
@@ -61,6 +64,7 @@ abbrev pub WentUp : SplitProgram → List Packet → List Call → ℕ → Type 
 WentUp s packets calls n = up_answer calls n ≡ Some (SentUp (s.up_frame n (packet_at packets n)))
 
 -- The state is that of whole packets, and the packets that the server has, or had, went up in their frames.
-pub record IsTied (setup : Setup) (s : SplitProgram) (packets : List Packet) (calls : List Call) (events : List Event) (st : State) : Type 0 where
-  pub same : st ≡ steps setup (plain s packets) (first_state (start_store s.objects)) events
+pub record IsTied (setup : Setup) (s : SplitProgram) (packets : List Packet) (calls : List Call)
+    (events : List Event) (st : State) : Type 0 where
+  pub same : st ≡ state_of setup (plain s packets) events
   pub framed : Carried (WentUp s packets calls) st

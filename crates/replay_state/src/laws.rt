@@ -1,93 +1,111 @@
 //! What holds of every run, whatever the schedule. These functions do nothing: their contracts are the laws.
-ghost use Rattle.std.specs.Prelude.{◌≡◌, ◌↔◌, ◌≤◌, ◌+◌, ◌++◌, ◌∷◌, [], map, true, false, IsTrue, Some, None, ℕ, Bool, List, length};
+ghost use Rattle.std.specs.Prelude.{◌≡◌, ◌↔◌, ◌≤◌, ◌+◌, ◌++◌, ◌∷◌, [], true, false, IsTrue, Some, None, ℕ, List, length};
+ghost use Rattle.std.specs.Prelude.{is_some, nat_lt, remove, slice_get, slice_set, take};
+ghost use Rattle.packet_fields.specs.declared.verdict.Verdict.{Verdict};
+ghost use Rattle.packet_fields.specs.declared.verdict.Verdict.TheVariants as verdict;
 ghost use Rattle.state_store.specs.Kept.{IsKept};
 ghost use Rattle.state_store.specs.Store.{Store, start_store};
-ghost use Rattle.packet_fields.specs.declared.packet.Packet.{Packet};
-ghost use Rattle.replay_state.specs.Answers.{Answers, Setup};
-ghost use Rattle.replay_state.specs.State.{Fast, Held, Pass, Slow, State, Up, commands_in, first_state, seen, store_at};
-ghost use Rattle.replay_state.specs.Step.{Admit, Down, Event, applies, idled, pass_of, step, steps, tick};
-ghost use Rattle.replay_state.specs.Drain.{IsFirstOf, after_drain, drain_bound, drain_order, is_drained, is_quiet, next_event};
-ghost use Rattle.replay_state.specs.Serial.{AllReleased, AreSound, Serialises, is_fast, order_of};
+ghost use Rattle.writeback_table.specs.Commands.{ons, versions_on};
+ghost use Rattle.run_model.specs.declared.event.Event.{Event};
+ghost use Rattle.run_model.specs.declared.event.Event.TheVariants.{Admit, Down};
+ghost use Rattle.run_model.specs.Order.{order_of};
+ghost use Rattle.run_model.specs.Serialises.{Serialises, AllReleased, IsDrained, is_fast, is_passing};
 ghost use Rattle.replay_state.specs.Agree.{Agree, AgreeOn};
-ghost use Rattle.replay_state.specs.Tables.{HasNewestTables, IsSeen};
-ghost use Rattle.replay_state.specs.Program.{IsSplitProgram, SplitProgram, packet_at, plain, setup_of};
-ghost use Rattle.replay_state.specs.Journal.{Call, IsAnswered, asked, journal, question_of, up_answer};
-ghost use Rattle.replay_state.specs.Views.{KeepViews, Sees};
+ghost use Rattle.replay_state.specs.Answers.{Answers, Setup, meaning_of};
+ghost use Rattle.replay_state.specs.Commands.{offs, versions_at};
+ghost use Rattle.replay_state.specs.Drain.{Drains, IsFirstOf, drain_bound, drain_events, drain_order};
+ghost use Rattle.replay_state.specs.Drain.{is_drained, is_quiet, next_event};
 ghost use Rattle.replay_state.specs.Examples.{main_waits, two_batches};
-ghost use Rattle.packet_fields.specs.declared.verdict.Verdict.TheVariants as verdict;
-ghost use Rattle.packet_fields.specs.declared.verdict.Verdict.{Verdict};
-ghost use Rattle.std.specs.Prelude.{is_some, slice_get, slice_set, remove};
-ghost use Rattle.replay_state.specs.Told.{HasFrames, IsRight, IsTied, Tells};
+ghost use Rattle.replay_state.specs.Run.{job_run, seen_store};
+ghost use Rattle.replay_state.specs.Sound.{AreFew, AreSound};
+ghost use Rattle.replay_state.specs.State.{Batch, Fast, Held, Slow, State, Up};
+ghost use Rattle.replay_state.specs.State.{bit_behind, commands_in, fate_of, seen, store_at, visible};
+ghost use Rattle.replay_state.specs.Step.{applies, idled, state_of, step, steps, tick};
+ghost use Rattle.replay_state.specs.Tables.{HasNewestTables, IsSeen};
+ghost use Rattle.replay_state.specs.Views.{KeepViews};
+ghost use Rattle.std.specs.Prelude.{map};
 
 use writeback_table::{batches_are_seen_in_order, what_a_lookup_sees};
 
-/// An event that doesn't apply leaves all but its count and that of idle events.
+/// An event that doesn't apply leaves all but its count and that of idle events; one that applies isn't idle.
 pub fn an_event_applies_or_is_idle()
     ensures idle { (setup : Setup) (a : Answers) (st : State) (event : Event)
         → applies setup st event ≡ false → step setup a st event ≡ idled (tick st) }
+    ensures applied { (setup : Setup) (a : Answers) (st : State) (event : Event)
+        → applies setup st event ≡ true → (step setup a st event).idle ≡ st.idle }
+    ensures counted { (setup : Setup) (a : Answers) (st : State) (event : Event)
+        → (step setup a st event).events ≡ st.events + 1 }
 {}
 
-/// Whatever the schedule, the state is that of a serial run of its decided packets; and where nothing is on its way,
-/// each admitted packet was released, and lookups see the newest version.
+/// Whatever the schedule, the run is a serial run of whole packets: runs of the decided packets, one after the other in
+/// the order that is told, do just what is told. Where nothing is left on its way, every admitted packet was released,
+/// and lookups see the newest version; and a run that says `drained` has done so with the whole trace.
 pub fn every_run_serialises()
-    ensures serialises { (setup : Setup) (a : Answers)
-        (start : Store) (events : List Event)
-        → AreSound setup a → IsKept setup.objects start
-        → Serialises a start (steps setup a (first_state start) events) }
-    ensures released { (setup : Setup) (a : Answers)
-        (start : Store) (events : List Event)
-        → AreSound setup a → IsKept setup.objects start
-        → IsTrue (is_quiet (steps setup a (first_state start) events))
-        → AllReleased (steps setup a (first_state start) events) }
-    ensures newest { (setup : Setup) (a : Answers)
-        (start : Store) (events : List Event)
-        → AreSound setup a → IsKept setup.objects start
-        → IsTrue (is_quiet (steps setup a (first_state start) events))
-        → seen (steps setup a (first_state start) events) ≡ (steps setup a (first_state start) events).version }
+    ensures serialises { (setup : Setup) (a : Answers) (events : List Event)
+        → AreSound setup a → Serialises (meaning_of setup a) (job_run setup a events) }
+    ensures quiet { (setup : Setup) (a : Answers) (events : List Event)
+        → AreSound setup a → IsTrue (is_quiet (state_of setup a events))
+        → AllReleased (meaning_of setup a) (job_run setup a events) }
+    ensures drained { (setup : Setup) (a : Answers) (events : List Event)
+        → AreSound setup a → (job_run setup a events).drained ≡ true
+        → IsDrained (meaning_of setup a) (job_run setup a events) }
+    ensures newest { (setup : Setup) (a : Answers) (events : List Event)
+        → AreSound setup a → IsTrue (is_quiet (state_of setup a events))
+        → seen (state_of setup a events) ≡ (state_of setup a events).version }
 {}
 
-/// Drain picks the first event of its list that applies. It is a schedule of its own, ends within its bound, and picks
-/// none just where the state is drained.
+/// Drain picks the first event of its list that applies, and none just where the run is drained. Where no run of the
+/// server makes more changes than there are instructions for them, it drains each run, by one list of events, which is
+/// within its bound.
 pub fn drain_ends()
     ensures picks { (setup : Setup) (st : State) (event : Event)
         → next_event setup st ≡ Some event → IsFirstOf (applies setup st) drain_order event }
-    ensures drained { (setup : Setup) (a : Answers)
-        (start : Store) (events : List Event)
-        → AreSound setup a → IsKept setup.objects start
-        → is_drained setup (after_drain setup a (drain_bound setup) (steps setup a (first_state start) events)) ≡ true }
-    ensures bound { (setup : Setup) (a : Answers) (n : ℕ) (st : State)
-        → (more : List Event) × (length more ≤ n) × (after_drain setup a n st ≡ steps setup a st more) }
-    ensures stops { (setup : Setup) (a : Answers)
-        (start : Store) (events : List Event)
-        → AreSound setup a → IsKept setup.objects start
-        → (next_event setup (steps setup a (first_state start) events) ≡ None)
-        ↔ (is_drained setup (steps setup a (first_state start) events) ≡ true) }
+    ensures stops { (setup : Setup) (a : Answers) (events : List Event)
+        → (next_event setup (state_of setup a events) ≡ None) ↔ (is_drained setup (state_of setup a events) ≡ true) }
+    ensures drained { (setup : Setup) (a : Answers) (events : List Event) → AreFew setup a
+        → (let st = state_of setup a events in
+        is_drained setup (steps setup a st (drain_events setup a st)) ≡ true) }
+    ensures picked { (setup : Setup) (a : Answers) (events : List Event) → AreFew setup a
+        → (let st = state_of setup a events in Drains setup a st (drain_events setup a st)) }
+    ensures one { (setup : Setup) (a : Answers) (events more : List Event) → AreFew setup a
+        → (let st = state_of setup a events in Drains setup a st more → more ≡ drain_events setup a st) }
+    ensures bound { (setup : Setup) (a : Answers) (st : State)
+        → length (drain_events setup a st) ≤ drain_bound setup }
 {}
 
 /// At every point of a run, lookups of replicated objects see the store with which the visible version began, and the
 /// next command finds room, also where batches are taken up.
 pub fn lookups_see_one_version()
-    ensures { (setup : Setup) (a : Answers) (start : Store) (events : List Event)
-        → AreSound setup a → IsKept setup.objects start → IsSeen setup start (steps setup a (first_state start) events) }
+    ensures { (setup : Setup) (a : Answers) (events : List Event)
+        → AreSound setup a → IsSeen setup (start_store setup.objects) (state_of setup a events) }
 {
     batches_are_seen_in_order();
 }
 
+/// The store of the server, and those with which the versions began, keep what was declared.
+pub fn stores_keep_what_was_declared()
+    ensures server { (setup : Setup) (a : Answers) (events : List Event)
+        → AreSound setup a → IsKept setup.objects (state_of setup a events).store }
+    ensures begun { (setup : Setup) (a : Answers) (events : List Event) (version : ℕ)
+        → AreSound setup a → version ≤ (state_of setup a events).version
+        → IsKept setup.objects (store_at (state_of setup a events).stores version) }
+    ensures seen { (setup : Setup) (a : Answers) (events : List Event)
+        → AreSound setup a → IsKept setup.objects (seen_store (state_of setup a events)) }
+{}
+
 /// Where nothing is on its way, the switch has the replicated objects of the server, and nothing is staged.
 pub fn a_quiet_switch_has_the_newest_tables()
-    ensures { (setup : Setup) (a : Answers) (start : Store) (events : List Event)
-        → AreSound setup a → IsKept setup.objects start
-        → IsTrue (is_quiet (steps setup a (first_state start) events))
-        → HasNewestTables setup start (steps setup a (first_state start) events) }
+    ensures { (setup : Setup) (a : Answers) (events : List Event)
+        → AreSound setup a → IsTrue (is_quiet (state_of setup a events))
+        → HasNewestTables setup (start_store setup.objects) (state_of setup a events) }
 {
     batches_are_seen_in_order();
 }
 
 /// Each pass under way sees the objects of the version over which it entered, whatever commands are applied meanwhile.
 pub fn passes_keep_their_views()
-    ensures { (setup : Setup) (a : Answers) (start : Store) (events : List Event)
-        → AreSound setup a → IsKept setup.objects start
-        → KeepViews setup start (steps setup a (first_state start) events) }
+    ensures { (setup : Setup) (a : Answers) (events : List Event)
+        → AreSound setup a → KeepViews setup (start_store setup.objects) (state_of setup a events) }
 {
     batches_are_seen_in_order();
     what_a_lookup_sees();
@@ -100,70 +118,6 @@ pub fn answers_that_agree_lead_to_one_state()
     ensures steps { (setup : Setup) (a b : Answers) (st : State) (events : List Event)
         → Agree setup a b st events → steps setup a st events ≡ steps setup b st events }
 {}
-
-/// Whole runs of a split program are sound answers, so that all of the above holds of its runs.
-pub fn whole_runs_are_sound()
-    ensures { (s : SplitProgram) (packets : List Packet) (pre_stages post_stages : ℕ)
-        → IsSplitProgram s packets → AreSound (setup_of s packets pre_stages post_stages) (plain s packets) }
-{}
-
-/// Whatever a switch answers, its calls determine the state, and those of one event more stand behind the others.
-pub fn a_run_is_answered_by_its_calls()
-    ensures first { (setup : Setup) (s : SplitProgram) (packets : List Packet) (start : Store)
-        → IsAnswered setup s packets start [] [] (first_state start) }
-    ensures step { (setup : Setup) (s : SplitProgram) (packets : List Packet) (start : Store) (events : List Event)
-        (event : Event) (calls one : List Call) (st : State)
-        → IsAnswered setup s packets start events calls st
-        → map question_of one ≡ asked setup s packets (calls ++ one) st event
-        → IsAnswered setup s packets start (events ++ event ∷ []) (calls ++ one)
-        (step setup (journal s (calls ++ one)) st event) }
-    ensures one { (setup : Setup) (s : SplitProgram) (packets : List Packet) (start : Store) (events : List Event)
-        (calls : List Call) (st other : State)
-        → IsAnswered setup s packets start events calls st → IsAnswered setup s packets start events calls other
-        → st ≡ other }
-{}
-
-/// Over a switch that tells its tables the state is that of whole packets, from the start and after each event.
-pub fn a_told_step_keeps_the_tie()
-    ensures first { (s : SplitProgram) (packets : List Packet) (pre_stages post_stages : ℕ)
-        → IsSplitProgram s packets → HasFrames s packets
-        → IsTied (setup_of s packets pre_stages post_stages) s packets [] [] (first_state (start_store s.objects)) }
-    ensures step { (s : SplitProgram) (packets : List Packet) (pre_stages post_stages : ℕ) (events : List Event)
-        (event : Event) (calls one : List Call) (st : State)
-        → IsSplitProgram s packets → HasFrames s packets
-        → (let setup = setup_of s packets pre_stages post_stages in
-        IsTied setup s packets calls events st
-        → (applies setup st event ≡ true → Tells setup s packets (calls ++ one) st event)
-        → IsTied setup s packets (calls ++ one) (events ++ event ∷ [])
-        (step setup (journal s (calls ++ one)) st event)) }
-{}
-
-/// A switch whose answer is right over each store that the view of a pass shows answers right, over the version with
-/// which the pass enters, or entered.
-pub fn a_switch_that_tells_its_tables_answers_right()
-    ensures entering { (s : SplitProgram) (packets : List Packet) (pre_stages post_stages : ℕ) (events : List Event)
-        (calls : List Call) → IsSplitProgram s packets
-        → (let setup = setup_of s packets pre_stages post_stages in
-        let start = start_store s.objects in
-        let st = steps setup (plain s packets) (first_state start) events in
-        let n = length st.progress in
-        ((store : Store) → IsKept s.objects store → Sees setup start st (pass_of st true n pre_stages) store
-        → IsRight s store n (packet_at packets n) (up_answer calls n))
-        → IsRight s (store_at st.stores (seen st)) n (packet_at packets n) (up_answer calls n)) }
-    ensures under_way { (s : SplitProgram) (packets : List Packet) (pre_stages post_stages : ℕ) (events : List Event)
-        (calls : List Call) → IsSplitProgram s packets
-        → (let setup = setup_of s packets pre_stages post_stages in
-        let start = start_store s.objects in
-        let st = steps setup (plain s packets) (first_state start) events in
-        (j : ℕ) (pass : Pass) → slice_get st.passes j ≡ Some pass
-        → ((store : Store) → IsKept s.objects store → Sees setup start st pass store
-        → IsRight s store pass.number (packet_at packets pass.number) (up_answer calls pass.number))
-        → IsRight s (store_at st.stores pass.version) pass.number (packet_at packets pass.number)
-        (up_answer calls pass.number)) }
-{
-    batches_are_seen_in_order();
-    what_a_lookup_sees();
-}
 
 /// Where passes have no stages, they end at the event at which they enter.
 pub fn passes_with_no_stages_end_at_once()
@@ -189,20 +143,34 @@ pub fn passes_with_no_stages_end_at_once()
         } }
 {}
 
-/// Where passes have no stages, a packet is fast just where it is over the store of the version that lookups saw when it
-/// came in, whatever happens behind that.
+/// Once its preprocessing has ended, a packet is told as fast just where it is fast over the store of the version that
+/// lookups saw when it came in, whatever happens behind that. Where passes have no stages, it has ended then.
 pub fn a_packet_is_fast_by_what_is_seen()
-    ensures { (setup : Setup) (a : Answers) (st : State) (more : List Event)
-        → setup.pre_stages ≡ 0 → applies setup st Admit ≡ true
-        → is_fast (slice_get (steps setup a (step setup a st Admit) more).progress (length st.progress))
-        ≡ is_some (a.pre (store_at st.stores (seen st)) (length st.progress)) }
+    ensures settled { (setup : Setup) (a : Answers) (events more : List Event)
+        → (let st = state_of setup a events in
+        let fate = slice_get (job_run setup a (events ++ Admit ∷ more)).fates (length st.progress) in
+        applies setup st Admit ≡ true → is_passing fate ≡ false
+        → is_fast fate ≡ is_some (a.pre (seen_store st) (length st.progress))) }
+    ensures at_once { (setup : Setup) (a : Answers) (events more : List Event)
+        → (let st = state_of setup a events in
+        let fate = slice_get (job_run setup a (events ++ Admit ∷ more)).fates (length st.progress) in
+        setup.pre_stages ≡ 0 → applies setup st Admit ≡ true → is_passing fate ≡ false) }
 {}
 
-/// Three runs whose numbers are known from outside.
+/// The bit stands just where more commands have set it than have cleared it, and the visible version is the number of
+/// versions of the batches that have set it.
+pub fn commands_by_their_kinds()
+    ensures bit { (batches : List Batch) (n : ℕ)
+        → (let first = take n (commands_in batches) in bit_behind batches n ≡ nat_lt (offs first) (ons first)) }
+    ensures versions { (batches : List Batch) (n : ℕ)
+        → visible batches n ≡ versions_on (versions_at batches) (take n (commands_in batches)) }
+{}
+
+/// Runs whose numbers are known from outside.
 pub fn worked_runs()
     ensures waits { (main_waits.events ≡ 23) × (main_waits.idle ≡ 1) × (main_waits.version ≡ 1) × (seen main_waits ≡ 1)
         × (main_waits.progress ≡ Slow 1 6 1 verdict.Drop 23 ∷ (Held 5 17 1 [] ∷ []))
-        × (order_of main_waits.progress ≡ 0 ∷ (1 ∷ [])) }
+        × (order_of (map fate_of main_waits.progress) ≡ 0 ∷ (1 ∷ [])) }
     ensures merged { (let st = two_batches true in
         (st.events ≡ 23) × (st.idle ≡ 0) × (st.version ≡ 2) × (seen st ≡ 2) × (length (commands_in st.batches) ≡ 14)
         × (st.progress ≡ Slow 1 3 1 verdict.Drop 22 ∷ (Slow 2 4 2 verdict.Drop 23 ∷ []))) }
