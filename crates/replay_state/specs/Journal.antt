@@ -1,5 +1,5 @@
 -- The run that the calls of a switch determine, whatever it answers.
-use Rattle.std.specs.Prelude.{◌≡◌, ℕ, Bool, true, false, ◌==◌, nat_le, if◌then◌else◌, List, [], ◌∷◌, ◌++◌, map}
+use Rattle.std.specs.Prelude.{◌≡◌, ⊤, ℕ, ◌+◌, Bool, true, false, ◌==◌, nat_le, if◌then◌else◌, is_some, List, [], ◌∷◌, ◌++◌, map}
 use Rattle.std.specs.Prelude.{Option, Some, None, length, slice_get}
 use Rattle.packet_fields.specs.declared.packet.Packet.{Packet}
 use Rattle.packet_fields.specs.declared.verdict.Verdict.{Verdict}
@@ -174,13 +174,84 @@ questions setup s packets calls st (event ∷ events) =
     asked setup s packets calls st event
     ++ questions setup s packets calls (step setup (journal s calls) st event) events
 
--- the packet went up in a frame
-abbrev pub HasGoneUp : List Call → ℕ → Type 0
-HasGoneUp calls n = (frame : List ℕ) × (up_answer calls n ≡ Some (SentUp frame))
-
 -- The state is that of these events by the answers of these calls, and these calls are what is asked on the way.
 pub record IsAnswered (setup : Setup) (s : SplitProgram) (packets : List Packet) (events : List Event)
     (calls : List Call) (st : State) : Type 0 where
   pub run : st ≡ state_of setup (journal s calls) events
   pub asked : map question_of calls
       ≡ questions setup s packets calls (first_state (start_store setup.objects)) events
+
+-- ## What holds of the frames
+
+-- the frame in an answer to a call for packet n, where it is one
+abbrev pub GoesUpSo : (ℕ → List ℕ → Type 0) → ℕ → UpAnswer → Type 0
+GoesUpSo P n (Finished verdict) = ⊤
+GoesUpSo P n (SentUp frame) = P n frame
+GoesUpSo P n GoingUp = ⊤
+
+-- so it is of each frame that the switch sent up for a packet
+abbrev pub FramesAre : (ℕ → List ℕ → Type 0) → List Call → Type 0
+FramesAre P [] = ⊤
+FramesAre P (CalledUp fine n packet answer ∷ calls) = GoesUpSo P n answer × FramesAre P calls
+FramesAre P (CalledStageUp n answer ∷ calls) = GoesUpSo P n answer × FramesAre P calls
+FramesAre P (CalledCommand command ∷ calls) = FramesAre P calls
+FramesAre P (CalledDown fine n frame answer ∷ calls) = FramesAre P calls
+FramesAre P (CalledStageDown n answer ∷ calls) = FramesAre P calls
+
+-- so it is of each frame that the switch was given for a packet that comes down
+abbrev pub DownFramesAre : (ℕ → List ℕ → Type 0) → List Call → Type 0
+DownFramesAre P [] = ⊤
+DownFramesAre P (CalledUp fine n packet answer ∷ calls) = DownFramesAre P calls
+DownFramesAre P (CalledStageUp n answer ∷ calls) = DownFramesAre P calls
+DownFramesAre P (CalledCommand command ∷ calls) = DownFramesAre P calls
+DownFramesAre P (CalledDown fine n frame answer ∷ calls) = P n frame × DownFramesAre P calls
+DownFramesAre P (CalledStageDown n answer ∷ calls) = DownFramesAre P calls
+
+-- the packet went up in a frame
+abbrev pub HasGoneUp : List Call → ℕ → Type 0
+HasGoneUp calls n = (frame : List ℕ) × (up_answer calls n ≡ Some (SentUp frame))
+
+-- one of the calls answered so, and ended the pass of packet n before the server
+abbrev pub IsAnswerIn : List Call → ℕ → UpAnswer → Type 0
+IsAnswerIn calls n answer =
+    (i : ℕ) × (call : Call) × (slice_get calls i ≡ Some call) × (ends_up n call ≡ Some answer)
+
+-- the frame has the number of its packet
+abbrev pub IsNumbered : SplitProgram → ℕ → List ℕ → Type 0
+IsNumbered s n frame = s.number_of frame ≡ n
+
+-- ## How often passes end
+
+abbrev pub one_if : Bool → ℕ
+one_if b = if b then 1 else 0
+
+-- how many of the calls end the pass before the server, or behind it, of packet n
+abbrev pub up_ends : ℕ → List Call → ℕ
+up_ends n [] = 0
+up_ends n (call ∷ calls) = one_if (is_some (ends_up n call)) + up_ends n calls
+
+abbrev pub down_ends : ℕ → List Call → ℕ
+down_ends n [] = 0
+down_ends n (call ∷ calls) = one_if (is_some (ends_down n call)) + down_ends n calls
+
+-- its pass before the server has ended, or that behind it
+abbrev pub has_passed : Option Progress → Bool
+has_passed None = false
+has_passed (Some (Entered a v)) = false
+has_passed (Some (Up a)) = true
+has_passed (Some (Held a d v over)) = true
+has_passed (Some (Slow a d v y r)) = true
+has_passed (Some (Fast a d v y)) = true
+
+abbrev pub has_come_down : Option Progress → Bool
+has_come_down None = false
+has_come_down (Some (Entered a v)) = false
+has_come_down (Some (Up a)) = false
+has_come_down (Some (Held a d v over)) = false
+has_come_down (Some (Slow a d v y r)) = true
+has_come_down (Some (Fast a d v y)) = false
+
+-- one call has ended each pass that has ended, and none any other
+pub record EndOnce (calls : List Call) (st : State) : Type 0 where
+  pub up : (n : ℕ) → up_ends n calls ≡ one_if (has_passed (slice_get st.progress n))
+  pub down : (n : ℕ) → down_ends n calls ≡ one_if (has_come_down (slice_get st.progress n))

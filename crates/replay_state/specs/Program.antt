@@ -112,3 +112,9 @@ setup_of s packets manner = record {
   writes = s.writes;
   fits = λ updates. manner.merges && fits_below s (length s.objects) updates;
 }
+
+-- what fits into one batch: changes of a run whose batches take up others, and of each replicated object no more than
+-- may be staged
+pub record Fits (s : SplitProgram) (manner : Manner) (updates : List Update) : Type 0 where
+  pub merges : manner.merges ≡ true
+  pub room : (o : ℕ) → o < length s.objects → s.replicated o ≡ true → count_of o updates ≤ s.writeback

@@ -3,10 +3,12 @@
 
 mod event;
 mod fate;
+mod laws;
 mod run;
 mod serial;
 
 pub use event::{Event, Events};
 pub use fate::{Fate, Fates};
+pub use laws::meanings_that_agree;
 pub use run::{Order, Part, Parts, Run};
 pub use serial::{Decided, order};

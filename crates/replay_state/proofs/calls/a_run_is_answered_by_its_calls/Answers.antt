@@ -1,0 +1,25 @@
+use Rattle.replay_state.proofs.Answered.{first_answered, next_answered, one_answered}
+use Rattle.replay_state.proofs.Gone.{carried_up, found, down_numbered}
+use Rattle.replay_state.proofs.Once.{end_once}
+use Rattle.replay_state.proofs.calls.a_run_is_answered_by_its_calls.Goals as goal
+
+pub returns-clause-first : goal.returns-clause-first
+returns-clause-first c = first_answered
+
+pub returns-clause-step : goal.returns-clause-step
+returns-clause-step c = next_answered
+
+pub returns-clause-one : goal.returns-clause-one
+returns-clause-one c = one_answered
+
+pub returns-clause-once : goal.returns-clause-once
+returns-clause-once c setup s packets events calls st h = end_once setup s packets calls events st h
+
+pub returns-clause-gone : goal.returns-clause-gone
+returns-clause-gone c = carried_up
+
+pub returns-clause-found : goal.returns-clause-found
+returns-clause-found c = found
+
+pub returns-clause-numbered : goal.returns-clause-numbered
+returns-clause-numbered c setup s packets events calls st same h frames = down_numbered setup s packets calls frames same events st h
