@@ -38,11 +38,11 @@ or_append : {X : Type 0} (a b c : Option X) → or_else (or_else a b) c ≡ or_e
 or_append None b c = refl
 or_append (Some x) b c = refl
 
-up_append : (calls more : List Call) (n : ℕ) → up_answer (calls ++ more) n ≡ or_else (up_answer calls n) (up_answer more n)
+pub up_append : (calls more : List Call) (n : ℕ) → up_answer (calls ++ more) n ≡ or_else (up_answer calls n) (up_answer more n)
 up_append [] more n = refl
 up_append (call ∷ calls) more n = ap (or_else (ends_up n call)) (up_append calls more n) ∙ sym (or_append (ends_up n call) (up_answer calls n) (up_answer more n))
 
-down_append : (calls more : List Call) (n : ℕ) → down_answer (calls ++ more) n ≡ or_else (down_answer calls n) (down_answer more n)
+pub down_append : (calls more : List Call) (n : ℕ) → down_answer (calls ++ more) n ≡ or_else (down_answer calls n) (down_answer more n)
 down_append [] more n = refl
 down_append (call ∷ calls) more n = ap (or_else (ends_down n call)) (down_append calls more n) ∙ sym (or_append (ends_down n call) (down_answer calls n) (down_answer more n))
 

@@ -5,7 +5,6 @@ use Rattle.std.proofs.lemmas.Bool.{cases_Bool, cases_lt, ltb-true, ltb-false, le
 use Rattle.std.proofs.lemmas.Option.{same_Some, none-some}
 use Rattle.state_store.specs.Store.{Store}
 use Rattle.writeback_table.specs.declared.command.Command.{Command}
-use Rattle.writeback_table.specs.declared.command.Command.TheVariants as command
 use Rattle.replay_state.specs.Answers.{Answers, Setup}
 use Rattle.replay_state.specs.State.{State, Held, visible, commands_in, first_state}
 use Rattle.run_model.specs.declared.event.Event.{Event}
@@ -60,11 +59,7 @@ pub record IsDone (setup : Setup) (w : State) : Type 0 where
 
 waits_for_none : (o : Option Command) → waits [] o ≡ false
 waits_for_none None = refl
-waits_for_none (Some (command.Stage u)) = refl
-waits_for_none (Some command.On) = refl
-waits_for_none (Some (command.Main u)) = refl
-waits_for_none (Some command.Off) = refl
-waits_for_none (Some (command.Clear o k)) = refl
+waits_for_none (Some c) = refl
 
 true_false : {b : Bool} → b ≡ true → b ≡ false → ⊥
 true_false {b = b} h k = let e : true ≡ false = sym h ∙ k in cc

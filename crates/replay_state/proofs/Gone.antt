@@ -1,6 +1,6 @@
 -- What holds of the frames that went up goes with the packets, whatever the switch answers.
-use Rattle.std.proofs.Common.{◌≡◌, ℕ, eqb, List, [], ◌∷◌, ◌++◌, ◌⊎◌, Option, Some, None, inl, inr, refl, sym, suc, ◌∙◌, ap, subst, length, map}
-use Rattle.std.specs.Prelude.{slice_get, ⊤}
+use Rattle.std.proofs.Common.{◌≡◌, ℕ, eqb, List, [], ◌∷◌, ◌++◌, ◌⊎◌, Option, Some, None, inl, inr, refl, sym, suc, ◌∙◌, ap, subst, arith, length, map}
+use Rattle.std.specs.Prelude.{slice_get, is_some, ⊤}
 use Rattle.std.proofs.lemmas.Bool.{cases_Bool, eqb-true}
 use Rattle.packet_fields.specs.declared.packet.Packet.{Packet}
 use Rattle.state_store.specs.Store.{Store, start_store}
@@ -13,13 +13,13 @@ use Rattle.replay_state.specs.Step.{applies, step, steps}
 use Rattle.replay_state.specs.Program.{SplitProgram}
 use Rattle.replay_state.specs.Carried.{Carried}
 use Rattle.replay_state.specs.Journal.{UpAnswer, Finished, SentUp, GoingUp, Call, CalledUp, CalledStageUp, CalledCommand, CalledDown, CalledStageDown}
-use Rattle.replay_state.specs.Journal.{or_else, only_for, up_end, ends_up, up_answer, verdict_in, frame_in, journal, over_in, question_of}
+use Rattle.replay_state.specs.Journal.{one_if, up_ends, down_ends, or_else, only_for, up_end, ends_up, ends_down, up_answer, down_answer, verdict_in, frame_in, journal, over_in, question_of}
 use Rattle.replay_state.specs.Journal.{Question, AsksUp, AsksStageUp, AsksCommand, AsksDown, AsksStageDown, asks_stage, asks_command, asks_down, asks, asked, questions, IsAnswered}
 use Rattle.replay_state.specs.Journal.{GoesUpSo, FramesAre, DownFramesAre, HasGoneUp, IsAnswerIn, IsNumbered}
 use Rattle.replay_state.proofs.Lists.{get_member}
 use Rattle.replay_state.proofs.Order.{member_left, member_right}
 use Rattle.replay_state.proofs.Carried.{EndsWell, carried_step, carried_first, carried_weaker}
-use Rattle.replay_state.proofs.Answered.{KnownUp, AllThere, admit_known, stage_known, some_stage, all_asked}
+use Rattle.replay_state.proofs.Answered.{up_append, down_append, KnownUp, AllThere, admit_known, stage_known, some_stage, all_asked}
 
 -- the packet went up in a frame of which this holds
 abbrev pub GoneSo : (ℕ → List ℕ → Type 0) → List Call → ℕ → Type 0
@@ -129,6 +129,25 @@ found (call ∷ calls) n answer h = elim (or_found (ends_up n call) (up_answer c
   | inl here ↦ (0, call, refl, here)
   | inr later ↦ let r = found calls n answer later in (suc r.0, r.1, r.2, r.3)
 ]
+
+none_where : {X : Type 0} (o : Option X) → one_if (is_some o) ≡ 0 → o ≡ None
+none_where None h = refl
+none_where (Some x) h = absurd (omega arith)
+
+-- calls that end no pass of a packet answer nothing of it
+none_up : (calls : List Call) (n : ℕ) → up_ends n calls ≡ 0 → up_answer calls n ≡ None
+none_up [] n h = refl
+none_up (call ∷ calls) n h = ap (λ o. or_else o (up_answer calls n)) (none_where (ends_up n call) (omega arith)) ∙ none_up calls n (omega arith)
+
+none_down : (calls : List Call) (n : ℕ) → down_ends n calls ≡ 0 → down_answer calls n ≡ None
+none_down [] n h = refl
+none_down (call ∷ calls) n h = ap (λ o. or_else o (down_answer calls n)) (none_where (ends_down n call) (omega arith)) ∙ none_down calls n (omega arith)
+
+pub fresh_up : (calls more : List Call) (n : ℕ) → up_ends n calls ≡ 0 → up_answer (calls ++ more) n ≡ up_answer more n
+fresh_up calls more n h = up_append calls more n ∙ ap (λ o. or_else o (up_answer more n)) (none_up calls n h)
+
+pub fresh_down : (calls more : List Call) (n : ℕ) → down_ends n calls ≡ 0 → down_answer (calls ++ more) n ≡ down_answer more n
+fresh_down calls more n h = down_append calls more n ∙ ap (λ o. or_else o (down_answer more n)) (none_down calls n h)
 
 -- ---- the numbers of the frames that come down
 

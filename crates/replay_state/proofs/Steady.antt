@@ -14,6 +14,7 @@ use Rattle.writeback_table.specs.declared.command.Command.TheVariants.{Stage, On
 use Rattle.writeback_table.specs.Pair.{Pair, visible, seen}
 use Rattle.writeback_table.specs.Commands.{clear_of, commands_of, counts_on, ons, names, pair_after, bit_after, pair_through, bit_through}
 use Rattle.writeback_table.specs.Batches.{all_commands, object_after, IsReady, IsSeenInOrder}
+use Rattle.replay_state.specs.Step.{disturbs}
 use Rattle.replay_state.proofs.Lists.{get_within}
 
 -- ---- one command more
@@ -161,17 +162,7 @@ clear_agree o m k pair h = elim (cases_Bool (names o (Clear m k))) [
 
 -- ---- what stays seen
 
--- with this bit, the command may change what is seen
-abbrev pub blocks : Bool → Command → Bool
-blocks true (Stage u) = true
-blocks false (Stage u) = false
-blocks bit On = false
-blocks true (Main u) = false
-blocks false (Main u) = true
-blocks bit Off = false
-blocks bit (Clear o k) = false
-
-main_stays : (o : ℕ) (pair : Pair) (c : Command) → blocks false c ≡ false → (pair_after o pair c).main ≡ pair.main
+main_stays : (o : ℕ) (pair : Pair) (c : Command) → disturbs false c ≡ false → (pair_after o pair c).main ≡ pair.main
 main_stays o pair (Stage u) h = elim (cases_Bool (names o (Stage u))) [ inl t ↦ rw t refl | inr t ↦ rw t refl ]
 main_stays o pair On h = refl
 main_stays o pair (Main u) h = cc
@@ -227,7 +218,7 @@ module _ (l : Looks) (o : ℕ) (pair : Pair) (batches : List (List Update)) (rea
       let c = g.0 in
       subst Agrees (sym (next_pair o pair cs n c g.1)) (agrees_next n c g.1 (agrees n (omega arith)) (sym (next_calm true cs n c g.1) ∙ calm))
 
-  with_bit : (n : ℕ) (c : Command) → slice_get cs n ≡ Some c → n < length cs → blocks true c ≡ false → visible true (pair_after o (at n) c) ≡ visible true (at n)
+  with_bit : (n : ℕ) (c : Command) → slice_get cs n ≡ Some c → n < length cs → disturbs true c ≡ false → visible true (pair_after o (at n) c) ≡ visible true (at n)
   with_bit n (Stage u) g low h = absurd (true_false h)
   with_bit n On g low h = refl
   with_bit n (Main u) g low h =
@@ -241,10 +232,10 @@ module _ (l : Looks) (o : ℕ) (pair : Pair) (batches : List (List Update)) (rea
       agree_same l (pair_after o (at n) (Clear m k)) (clear_agree o m k (at n) before)
       ∙ ap (λ m. m.contents) (main_stays o (at n) (Clear m k) refl) ∙ sym (agree_same l (at n) before)
 
-  by_bit : (bit : Bool) (n : ℕ) (c : Command) → slice_get cs n ≡ Some c → n < length cs → blocks bit c ≡ false → visible bit (pair_after o (at n) c) ≡ visible bit (at n)
+  by_bit : (bit : Bool) (n : ℕ) (c : Command) → slice_get cs n ≡ Some c → n < length cs → disturbs bit c ≡ false → visible bit (pair_after o (at n) c) ≡ visible bit (at n)
   by_bit true n c g low h = with_bit n c g low h
   by_bit false n c g low h = ap (λ m. m.contents) (main_stays o (at n) c h)
 
   -- the next command leaves what is seen with a bit that it doesn't block
-  pub stays_seen : (bit : Bool) (n : ℕ) (c : Command) → slice_get cs n ≡ Some c → n < length cs → blocks bit c ≡ false → visible bit (at (suc n)) ≡ visible bit (at n)
+  pub stays_seen : (bit : Bool) (n : ℕ) (c : Command) → slice_get cs n ≡ Some c → n < length cs → disturbs bit c ≡ false → visible bit (at (suc n)) ≡ visible bit (at n)
   stays_seen bit n c g low h = ap (λ p. visible bit p) (next_pair o pair cs n c g) ∙ by_bit bit n c g low h

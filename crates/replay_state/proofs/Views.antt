@@ -8,14 +8,13 @@ use Rattle.state_store.specs.Kept.{IsKept}
 use Rattle.state_store.specs.Store.{Store, object_at}
 use Rattle.writeback_table.specs.declared.command.Update.{Update}
 use Rattle.writeback_table.specs.declared.command.Command.{Command}
-use Rattle.writeback_table.specs.declared.command.Command.TheVariants as command
 use Rattle.writeback_table.specs.Pair.{visible}
 use Rattle.writeback_table.specs.Commands.{commands_of, pair_through}
 use Rattle.replay_state.specs.Answers.{Answers, Setup}
 use Rattle.replay_state.specs.State.{State, Pass, Batch, Entered, commands_in, seen, store_at, first_state}
 use Rattle.run_model.specs.declared.event.Event.{Event}
 use Rattle.run_model.specs.declared.event.Event.TheVariants.{Admit, Stage, Serve, Send, Apply, Ack, Hold, Down}
-use Rattle.replay_state.specs.Step.{applies, happens, step, steps, tick, has_bit, same_bit, waits, merged}
+use Rattle.replay_state.specs.Step.{applies, happens, step, steps, tick, disturbs, waits, merged}
 use Rattle.replay_state.specs.Step.{came_in, ended, entered, staged, pass_of, with_changes, ran, served, let_go, came_down}
 use Rattle.replay_state.specs.Sound.{AreSound}
 use Rattle.replay_state.specs.Tables.{first_pair, pair_now}
@@ -27,7 +26,7 @@ use Rattle.replay_state.proofs.History.{commands_are, updates_in}
 use Rattle.replay_state.proofs.Keeping.{Kept, kept_step, kept_first}
 use Rattle.replay_state.proofs.Keeping.{kept_of}
 use Rattle.replay_state.proofs.Seen.{Law, History, history_step, ready_from, seen_from}
-use Rattle.replay_state.proofs.Steady.{Looks, blocks, stays_seen}
+use Rattle.replay_state.proofs.Steady.{Looks, stays_seen}
 
 -- ---- the commands so far
 
@@ -58,42 +57,17 @@ merged_take fits n m (b ∷ bs) low = elim (cases_Bool (eqb n 0)) [
   ]
 ]
 
--- ---- a command that doesn't wait blocks no pass
+-- ---- a command that doesn't wait disturbs no pass
 
-bit_of : (x : Bool) (bit : Bool) → same_bit x bit ≡ false → x ≡ not bit
-bit_of true true h = cc
-bit_of true false h = refl
-bit_of false true h = refl
-bit_of false false h = cc
-
-none_has : (bit : Bool) (xs : List Pass) → has_bit bit xs ≡ false → (x : Pass) → Member x xs → x.bit ≡ not bit
-none_has bit [] h x m = absurd m
-none_has bit (y ∷ xs) h x m = elim (cases_Bool (same_bit y.bit bit)) [
+free : (xs : List Pass) (c : Command) → waits xs (Some c) ≡ false → (x : Pass) → Member x xs → disturbs x.bit c ≡ false
+free [] c h x m = absurd m
+free (y ∷ xs) c h x m = elim (cases_Bool (disturbs y.bit c)) [
   | inl t ↦ let e : true ≡ false = (rw t at h) in cc
   | inr f ↦ let rest = (rw f at h) in elim m [
-    | inl e ↦ subst (λ (z : Pass). z.bit ≡ not bit) e (bit_of y.bit bit f)
-    | inr old ↦ none_has bit xs rest x old
+    | inl e ↦ subst (λ (z : Pass). disturbs z.bit c ≡ false) e f
+    | inr old ↦ free xs c rest x old
   ]
 ]
-
-free : (xs : List Pass) (c : Command) → waits xs (Some c) ≡ false → (x : Pass) → Member x xs → blocks x.bit c ≡ false
-free xs (command.Stage u) h x m = ap (λ b. blocks b (command.Stage u)) (none_has true xs h x m)
-free xs command.On h x m = off x.bit
-  where
-    off : (b : Bool) → blocks b command.On ≡ false
-    off true = refl
-    off false = refl
-free xs (command.Main u) h x m = ap (λ b. blocks b (command.Main u)) (none_has false xs h x m)
-free xs command.Off h x m = off x.bit
-  where
-    off : (b : Bool) → blocks b command.Off ≡ false
-    off true = refl
-    off false = refl
-free xs (command.Clear o k) h x m = off x.bit
-  where
-    off : (b : Bool) → blocks b (command.Clear o k) ≡ false
-    off true = refl
-    off false = refl
 
 not_false : (b : Bool) → not b ≡ true → b ≡ false
 not_false true h = cc

@@ -50,3 +50,17 @@ two_batches merges = steps (toy_setup 0 0 merges) (toy 2 2) (first_state [])
     (Admit ∷ (Admit ∷ (Serve 0 ∷ (Serve 0 ∷ (Send ∷ (Apply ∷ (Ack ∷ (Send ∷ (Apply ∷ (Ack ∷ (Send ∷ (Apply ∷ (Ack
     ∷ (Send ∷ (Apply ∷ (Ack ∷ (Send ∷ (Apply ∷ (Ack ∷ (Hold 0 ∷ (Hold 0 ∷ (Down 0 ∷ (Down 0
     ∷ [])))))))))))))))))))))))
+
+-- Both packets change two rows. The second enters while the first one's batch is seen where it is staged, so that the
+-- first change of its own batch waits for the pass of a third until that ends.
+abbrev pub stage_waits : State
+stage_waits = steps (record (toy_setup 1 0 false) { total = 3 }) (toy 1 1) (first_state [])
+    (Admit ∷ (Stage 0 ∷ (Admit ∷ (Stage 0 ∷ (Serve 0 ∷ (Serve 0 ∷ (Send ∷ (Send ∷ (Send ∷ (Send ∷ (Send ∷ (Send
+    ∷ (Apply ∷ (Apply ∷ (Admit ∷ (Apply ∷ (Apply ∷ (Apply ∷ (Apply ∷ (Stage 0 ∷ (Apply ∷ [])))))))))))))))))))))
+
+-- the first command of the first batch was sent before the second batch came, which goes by itself then, and takes up
+-- a third
+abbrev pub half_sent : State
+half_sent = steps (record (toy_setup 0 0 true) { total = 3 }) (toy 2 1) (first_state [])
+    (Admit ∷ (Admit ∷ (Admit ∷ (Serve 0 ∷ (Send ∷ (Serve 0 ∷ (Serve 0 ∷ (Send ∷ (Send ∷ (Send ∷ (Send ∷ (Send ∷ (Send
+    ∷ (Send ∷ (Send ∷ [])))))))))))))))

@@ -1,6 +1,7 @@
 -- The events: where each applies, and what it does.
 use Rattle.std.specs.Prelude.{ℕ, ◌+◌, ◌-◌, ◌==◌, Bool, true, false, not, ◌&&◌, nat_le, nat_lt, if◌then◌else◌}
 use Rattle.std.specs.Prelude.{Option, Some, None, List, [], ◌∷◌, ◌++◌, length, slice_get, slice_set, remove}
+use Rattle.std.specs.List.{list_any}
 use Rattle.packet_fields.specs.declared.verdict.Verdict.{Verdict}
 use Rattle.state_store.specs.Store.{Store, start_store}
 use Rattle.writeback_table.specs.declared.command.Update.{Update}
@@ -15,23 +16,18 @@ use Rattle.replay_state.specs.State.{commands_in, visible, bit_behind, store_at,
 
 -- ## Where an event applies
 
--- one of the passes entered with this bit
-abbrev pub same_bit : Bool → Bool → Bool
-same_bit true other = other
-same_bit false other = not other
+-- the command changes what a pass sees that entered with this bit: the main tables, or what is staged
+abbrev pub disturbs : Bool → Command → Bool
+disturbs bit (command.Stage update) = bit
+disturbs bit command.On = false
+disturbs bit (command.Main update) = not bit
+disturbs bit command.Off = false
+disturbs bit (command.Clear object key) = false
 
-abbrev pub has_bit : Bool → List Pass → Bool
-has_bit bit [] = false
-has_bit bit (pass ∷ passes) = if same_bit pass.bit bit then true else has_bit bit passes
-
--- a change of the main tables waits for passes that look there, and a staged one for passes that look where it is staged
+-- it waits for a pass under way that it disturbs
 abbrev pub waits : List Pass → Option Command → Bool
 waits passes None = false
-waits passes (Some (command.Stage update)) = has_bit true passes
-waits passes (Some command.On) = false
-waits passes (Some (command.Main update)) = has_bit false passes
-waits passes (Some command.Off) = false
-waits passes (Some (command.Clear object key)) = false
+waits passes (Some command) = list_any (λ pass. disturbs pass.bit command) passes
 
 -- the held item is there, and its version is known to be visible
 abbrev pub may_go : ℕ → Option (ℕ × ℕ) → Bool

@@ -9,7 +9,7 @@ ghost use Rattle.run_model.specs.declared.event.Event.{Event};
 ghost use Rattle.replay_state.specs.Answers.{Setup};
 ghost use Rattle.replay_state.specs.Carried.{Carried};
 ghost use Rattle.replay_state.specs.Journal.{Call, DownFramesAre, EndOnce, FramesAre, HasGoneUp, IsAnswerIn, IsAnswered};
-ghost use Rattle.replay_state.specs.Journal.{IsNumbered, UpAnswer, asked, journal, question_of, up_answer};
+ghost use Rattle.replay_state.specs.Journal.{IsNumbered, UpAnswer, asked, down_answer, down_ends, journal, question_of, up_answer, up_ends};
 ghost use Rattle.replay_state.specs.Program.{Fits, IsSplitProgram, Manner, SplitProgram, packet_at, plain, setup_of};
 ghost use Rattle.replay_state.specs.Sound.{AreFew, AreSound};
 ghost use Rattle.replay_state.specs.State.{Pass, State, first_state, seen, store_at};
@@ -37,7 +37,7 @@ pub fn batches_take_up_what_fits()
 {}
 
 /// Whatever a switch answers, its calls determine the state, and those of one event more stand behind the others. One
-/// call has ended each pass that has ended. Each packet that is at the server, or on its way there or down, went up in a
+/// call has ended each pass that has ended, and calls that ended no pass of a packet answer nothing of it. Each packet that is at the server, or on its way there or down, went up in a
 /// frame that a call answered; and the frames that come down have the numbers of their packets, where those that went
 /// up have them.
 pub fn a_run_is_answered_by_its_calls()
@@ -58,6 +58,10 @@ pub fn a_run_is_answered_by_its_calls()
         (calls : List Call) (st : State) → IsAnswered setup s packets events calls st → Carried (HasGoneUp calls) st }
     ensures found { (calls : List Call) (n : ℕ) (answer : UpAnswer)
         → up_answer calls n ≡ Some answer → IsAnswerIn calls n answer }
+    ensures fresh_up { (calls more : List Call) (n : ℕ)
+        → up_ends n calls ≡ 0 → up_answer (calls ++ more) n ≡ up_answer more n }
+    ensures fresh_down { (calls more : List Call) (n : ℕ)
+        → down_ends n calls ≡ 0 → down_answer (calls ++ more) n ≡ down_answer more n }
     ensures numbered { (setup : Setup) (s : SplitProgram) (packets : List Packet) (events : List Event)
         (calls : List Call) (st : State)
         → ((store : Store) (frame : List ℕ) → s.number_of (s.serve_down store frame) ≡ s.number_of frame)

@@ -5,6 +5,7 @@ ghost use Rattle.packet_fields.specs.declared.verdict.Verdict.{Verdict};
 ghost use Rattle.packet_fields.specs.declared.verdict.Verdict.TheVariants as verdict;
 ghost use Rattle.state_store.specs.Kept.{IsKept};
 ghost use Rattle.state_store.specs.Store.{Store, start_store};
+ghost use Rattle.writeback_table.specs.Batches.{count_of};
 ghost use Rattle.writeback_table.specs.Commands.{ons, versions_on};
 ghost use Rattle.run_model.specs.declared.event.Event.{Event};
 ghost use Rattle.run_model.specs.declared.event.Event.TheVariants.{Admit, Down};
@@ -15,7 +16,8 @@ ghost use Rattle.replay_state.specs.Answers.{Answers, Setup, meaning_of};
 ghost use Rattle.replay_state.specs.Commands.{offs, versions_at};
 ghost use Rattle.replay_state.specs.Drain.{Drains, IsFirstOf, drain_bound, drain_events, drain_order};
 ghost use Rattle.replay_state.specs.Drain.{is_drained, is_quiet, next_event};
-ghost use Rattle.replay_state.specs.Examples.{main_waits, two_batches};
+ghost use Rattle.replay_state.specs.Examples.{half_sent, main_waits, some_updates, stage_waits, two_batches};
+ghost use Rattle.replay_state.specs.Places.{HavePlaces};
 ghost use Rattle.replay_state.specs.Run.{job_run, seen_store};
 ghost use Rattle.replay_state.specs.Sound.{AreFew, AreSound};
 ghost use Rattle.replay_state.specs.State.{Batch, Fast, Held, Slow, State, Up};
@@ -111,6 +113,11 @@ pub fn passes_keep_their_views()
     what_a_lookup_sees();
 }
 
+/// Each packet that is under way has come as far as the list says in which it stands.
+pub fn packets_are_where_they_are_told()
+    ensures { (setup : Setup) (a : Answers) (events : List Event) → HavePlaces (state_of setup a events) }
+{}
+
 /// A state that is stepped with other answers is the same, where they agree on all that is asked.
 pub fn answers_that_agree_lead_to_one_state()
     ensures step { (setup : Setup) (a b : Answers) (st : State) (event : Event)
@@ -177,4 +184,11 @@ pub fn worked_runs()
     ensures apart { (let st = two_batches false in
         (st.events ≡ 23) × (st.idle ≡ 2) × (st.version ≡ 2) × (seen st ≡ 1)
         × (st.progress ≡ Slow 1 3 1 verdict.Drop 22 ∷ (Held 2 4 2 [] ∷ []))) }
+    ensures staged { (stage_waits.events ≡ 21) × (stage_waits.idle ≡ 1) × (stage_waits.version ≡ 2)
+        × (stage_waits.done ≡ 6) × (seen stage_waits ≡ 1)
+        × (stage_waits.progress ≡ Held 1 5 1 [] ∷ (Held 3 6 2 [] ∷ (Up 15 ∷ []))) }
+    ensures half { (half_sent.events ≡ 15) × (half_sent.idle ≡ 0) × (half_sent.version ≡ 3) × (half_sent.sent ≡ 9)
+        × (map (λ (b : Batch). b.versions) half_sent.batches ≡ 1 ∷ (2 ∷ []))
+        × (length (commands_in half_sent.batches) ≡ 16) }
+    ensures doubles { count_of 0 (some_updates 2) ≡ 2 }
 {}

@@ -1,5 +1,5 @@
 use Rattle.replay_state.proofs.Answered.{first_answered, next_answered, one_answered}
-use Rattle.replay_state.proofs.Gone.{carried_up, found, down_numbered}
+use Rattle.replay_state.proofs.Gone.{carried_up, found, fresh_up, fresh_down, down_numbered}
 use Rattle.replay_state.proofs.Once.{end_once}
 use Rattle.replay_state.proofs.calls.a_run_is_answered_by_its_calls.Goals as goal
 
@@ -20,6 +20,12 @@ returns-clause-gone c = carried_up
 
 pub returns-clause-found : goal.returns-clause-found
 returns-clause-found c = found
+
+pub returns-clause-fresh_up : goal.returns-clause-fresh_up
+returns-clause-fresh_up c = fresh_up
+
+pub returns-clause-fresh_down : goal.returns-clause-fresh_down
+returns-clause-fresh_down c = fresh_down
 
 pub returns-clause-numbered : goal.returns-clause-numbered
 returns-clause-numbered c setup s packets events calls st same h frames = down_numbered setup s packets calls frames same events st h
