@@ -1,7 +1,8 @@
 -- What holds of the frames that went up goes with the packets, whatever the switch answers.
-use Rattle.std.proofs.Common.{◌≡◌, ℕ, eqb, List, [], ◌∷◌, ◌++◌, ◌⊎◌, Option, Some, None, inl, inr, refl, sym, suc, ◌∙◌, ap, subst, arith, length, map}
+use Rattle.std.proofs.Common.{◌≡◌, ◌<◌, ℕ, eqb, List, [], ◌∷◌, ◌++◌, ◌⊎◌, Option, Some, None, inl, inr, refl, sym, suc, ◌∙◌, ap, subst, arith, length, map}
 use Rattle.std.specs.Prelude.{slice_get, is_some, ⊤}
 use Rattle.std.proofs.lemmas.Bool.{cases_Bool, eqb-true}
+use Rattle.std.proofs.lemmas.Option.{slice_get_within}
 use Rattle.packet_fields.specs.declared.packet.Packet.{Packet}
 use Rattle.state_store.specs.Store.{Store, start_store}
 use Rattle.writeback_table.specs.declared.command.Command.{Command}
@@ -16,6 +17,8 @@ use Rattle.replay_state.specs.Journal.{UpAnswer, Finished, SentUp, GoingUp, Call
 use Rattle.replay_state.specs.Journal.{one_if, up_ends, down_ends, or_else, only_for, up_end, ends_up, ends_down, up_answer, down_answer, verdict_in, frame_in, journal, over_in, question_of}
 use Rattle.replay_state.specs.Journal.{Question, AsksUp, AsksStageUp, AsksCommand, AsksDown, AsksStageDown, asks_stage, asks_command, asks_down, asks, asked, questions, IsAnswered}
 use Rattle.replay_state.specs.Journal.{GoesUpSo, FramesAre, DownFramesAre, HasGoneUp, IsAnswerIn, IsNumbered}
+use Rattle.replay_state.proofs.Sane.{Sane, sane_step, sane_first}
+use Rattle.replay_state.proofs.Placed.{down_there}
 use Rattle.replay_state.proofs.Lists.{get_member}
 use Rattle.replay_state.proofs.Order.{member_left, member_right}
 use Rattle.replay_state.proofs.Carried.{EndsWell, carried_step, carried_first, carried_weaker}
@@ -176,7 +179,7 @@ numbered_calls s (CalledDown fine n frame answer ∷ calls) h = (h.0, numbered_c
 numbered_calls s (CalledStageDown n answer ∷ calls) h = numbered_calls s calls h
 
 module _ (setup : Setup) (s : SplitProgram) (packets : List Packet) (calls : List Call) (frames : FramesAre (IsNumbered s) calls)
-    (same : (store : Store) (frame : List ℕ) → s.number_of (s.serve_down store frame) ≡ s.number_of frame) where
+    (same : (n : ℕ) (frame : List ℕ) (store : Store) → n < setup.total → IsNumbered s n frame → IsNumbered s n (s.serve_down store frame)) where
   numbered_stage : (o : Option Pass) → DownNumbered s (asks_stage o)
   numbered_stage None = tt
   numbered_stage (Some x) = elim (cases_Bool x.pre) [ inl t ↦ rw t tt | inr t ↦ rw t tt ]
@@ -185,36 +188,40 @@ module _ (setup : Setup) (s : SplitProgram) (packets : List Packet) (calls : Lis
   numbered_command None = tt
   numbered_command (Some command) = tt
 
-  numbered_down : (w : State) (j : ℕ) (o : Option ℕ) → slice_get w.down j ≡ o → Carried (GoneSo (IsNumbered s) calls) w → DownNumbered s (asks_down setup s calls w o)
-  numbered_down w j None g c = tt
-  numbered_down w j (Some n) g c =
+  numbered_down : (w : State) (j : ℕ) (o : Option ℕ) → slice_get w.down j ≡ o → Sane setup w → Carried (GoneSo (IsNumbered s) calls) w → DownNumbered s (asks_down setup s calls w o)
+  numbered_down w j None g k c = tt
+  numbered_down w j (Some n) g k c =
       let up = c.down n (get_member w.down j n g) in
       let frame : frame_in (up_answer calls n) ≡ up.0 = ap frame_in up.1 in
-      (same (over_in (slice_get w.progress n)) (frame_in (up_answer calls n)) ∙ ap s.number_of frame ∙ up.2, tt)
+      let held = down_there w j n k.fine g in
+      let within = slice_get_within w.progress n _ held.4 in
+      let few = k.few in
+      (same n (frame_in (up_answer calls n)) (over_in (slice_get w.progress n)) (omega arith) (ap s.number_of frame ∙ up.2), tt)
 
-  numbered_asks : (w : State) (e : Event) → Carried (GoneSo (IsNumbered s) calls) w → DownNumbered s (asks setup s packets calls w e)
-  numbered_asks w Admit c = tt
-  numbered_asks w (Stage j) c = numbered_stage (slice_get w.passes j)
-  numbered_asks w (Serve j) c = tt
-  numbered_asks w Send c = tt
-  numbered_asks w Apply c = numbered_command _
-  numbered_asks w Ack c = tt
-  numbered_asks w (Hold j) c = tt
-  numbered_asks w (Down j) c = numbered_down w j (slice_get w.down j) refl c
+  numbered_asks : (w : State) (e : Event) → Sane setup w → Carried (GoneSo (IsNumbered s) calls) w → DownNumbered s (asks setup s packets calls w e)
+  numbered_asks w Admit k c = tt
+  numbered_asks w (Stage j) k c = numbered_stage (slice_get w.passes j)
+  numbered_asks w (Serve j) k c = tt
+  numbered_asks w Send k c = tt
+  numbered_asks w Apply k c = numbered_command _
+  numbered_asks w Ack k c = tt
+  numbered_asks w (Hold j) k c = tt
+  numbered_asks w (Down j) k c = numbered_down w j (slice_get w.down j) refl k c
 
-  numbered_asked : (w : State) (e : Event) → Carried (GoneSo (IsNumbered s) calls) w → DownNumbered s (asked setup s packets calls w e)
-  numbered_asked w e c = elim (cases_Bool (applies setup w e)) [ inl t ↦ rw t (numbered_asks w e c) | inr t ↦ rw t tt ]
+  numbered_asked : (w : State) (e : Event) → Sane setup w → Carried (GoneSo (IsNumbered s) calls) w → DownNumbered s (asked setup s packets calls w e)
+  numbered_asked w e k c = elim (cases_Bool (applies setup w e)) [ inl t ↦ rw t (numbered_asks w e k c) | inr t ↦ rw t tt ]
 
-  numbered_steps : (w : State) (es : List Event) → AllThere setup s calls (questions setup s packets calls w es) → Carried (GoneSo (IsNumbered s) calls) w → DownNumbered s (questions setup s packets calls w es)
-  numbered_steps w [] all c = tt
-  numbered_steps w (e ∷ es) all c =
+  numbered_steps : (w : State) (es : List Event) → AllThere setup s calls (questions setup s packets calls w es) → Sane setup w → Carried (GoneSo (IsNumbered s) calls) w → DownNumbered s (questions setup s packets calls w es)
+  numbered_steps w [] all k c = tt
+  numbered_steps w (e ∷ es) all k c =
       let next = step setup (journal s calls) w e in
-      numbered_append s (asked setup s packets calls w e) (questions setup s packets calls next es) (numbered_asked w e c)
+      numbered_append s (asked setup s packets calls w e) (questions setup s packets calls next es) (numbered_asked w e k c)
       (numbered_steps next es
       (λ q m. all q (member_right q (asked setup s packets calls w e) (questions setup s packets calls next es) m))
+      (sane_step setup (journal s calls) w e k)
       (gone_step (IsNumbered s) setup s packets calls frames w e (λ q m. all q (member_left q (asked setup s packets calls w e) (questions setup s packets calls next es) m)) c))
 
   pub down_numbered : (events : List Event) (st : State) → IsAnswered setup s packets events calls st → DownFramesAre (IsNumbered s) calls
   down_numbered events st h =
       numbered_calls s calls (subst (DownNumbered s) (sym h.asked)
-      (numbered_steps (first_state (start_store setup.objects)) events (all_asked setup s packets events calls st h) (carried_first (GoneSo (IsNumbered s) calls) (start_store setup.objects))))
+      (numbered_steps (first_state (start_store setup.objects)) events (all_asked setup s packets events calls st h) (sane_first setup (journal s calls) (start_store setup.objects)) (carried_first (GoneSo (IsNumbered s) calls) (start_store setup.objects))))

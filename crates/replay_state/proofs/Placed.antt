@@ -17,7 +17,7 @@ held_there w j n need k g =
     held_fate (slice_get w.progress n)
     (let r = weight_remove (in_held n) w.held j (n, need) g in let u = k.places.helds n in let one = is_at n in omega arith)
 
-down_there : (w : State) (j n : ℕ) → Fine w → slice_get w.down j ≡ Some n → IsHeld w n
+pub down_there : (w : State) (j n : ℕ) → Fine w → slice_get w.down j ≡ Some n → IsHeld w n
 down_there w j n k g =
     held_fate (slice_get w.progress n)
     (let r = weight_remove (in_up n) w.down j n g in let u = k.places.helds n in let one = is_at n in omega arith)

@@ -1,5 +1,5 @@
 -- What ties the run over a switch that tells its tables to the run of whole packets.
-use Rattle.std.specs.Prelude.{◌≡◌, ◌≤◌, ⊤, ℕ, true, false, List, Option, Some, None, length, slice_get}
+use Rattle.std.specs.Prelude.{◌≡◌, ◌<◌, ◌≤◌, ⊤, ℕ, true, false, List, Option, Some, None, length, slice_get}
 use Rattle.packet_fields.specs.declared.packet.Packet.{Packet}
 use Rattle.state_store.specs.Store.{Store}
 use Rattle.state_store.specs.Kept.{IsKept}
@@ -9,7 +9,7 @@ use Rattle.run_model.specs.declared.event.Event.{Event}
 use Rattle.run_model.specs.declared.event.Event.TheVariants.{Admit, Stage, Serve, Send, Apply, Ack, Hold, Down}
 use Rattle.replay_state.specs.Step.{pass_of, state_of}
 use Rattle.replay_state.specs.Program.{SplitProgram, packet_at, plain}
-use Rattle.replay_state.specs.Journal.{Call, UpAnswer, Finished, SentUp, GoingUp, up_answer, down_answer, told, down_frame}
+use Rattle.replay_state.specs.Journal.{Call, UpAnswer, Finished, SentUp, GoingUp, IsNumbered, up_answer, down_answer, told, down_frame}
 use Rattle.replay_state.specs.Carried.{Carried}
 
 -- ## The server
@@ -24,6 +24,9 @@ pub record IsFramed (s : SplitProgram) (store : Store) (n : ℕ) (packet : Packe
 pub record HasFrames (s : SplitProgram) (packets : List Packet) : Type 0 where
   pub each : (n : ℕ) (packet : Packet) (store : Store) → slice_get packets n ≡ Some packet → IsKept s.objects store
       → IsFramed s store n packet
+  -- what comes down has the number of what came up, whatever else that was
+  pub numbered : (n : ℕ) (frame : List ℕ) (store : Store) → n < length packets → IsNumbered s n frame
+      → IsNumbered s n (s.serve_down store frame)
 
 -- ## The switch
 

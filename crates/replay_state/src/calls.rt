@@ -62,10 +62,9 @@ pub fn a_run_is_answered_by_its_calls()
         → up_ends n calls ≡ 0 → up_answer (calls ++ more) n ≡ up_answer more n }
     ensures fresh_down { (calls more : List Call) (n : ℕ)
         → down_ends n calls ≡ 0 → down_answer (calls ++ more) n ≡ down_answer more n }
-    ensures numbered { (setup : Setup) (s : SplitProgram) (packets : List Packet) (events : List Event)
-        (calls : List Call) (st : State)
-        → ((store : Store) (frame : List ℕ) → s.number_of (s.serve_down store frame) ≡ s.number_of frame)
-        → IsAnswered setup s packets events calls st → FramesAre (IsNumbered s) calls
+    ensures numbered { (s : SplitProgram) (packets : List Packet) (manner : Manner) (events : List Event)
+        (calls : List Call) (st : State) → HasFrames s packets
+        → IsAnswered (setup_of s packets manner) s packets events calls st → FramesAre (IsNumbered s) calls
         → DownFramesAre (IsNumbered s) calls }
 {}
 

@@ -7,3 +7,4 @@ mod Wholes
 mod Commanded
 mod Seen
 mod Passed
+mod Tells

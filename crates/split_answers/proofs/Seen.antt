@@ -24,7 +24,7 @@ use Rattle.writeback_table.specs.Batches.{seen_after}
 use Rattle.writeback_table.specs.Commands.{bit_through, names, pair_after, pair_through, room_for}
 use Rattle.writeback_table.specs.Pair.{Pair, Staged, applied, change_to, has_room, visible, with_staged}
 use Rattle.server_runtime.specs.Serving.{IsUpdateIn}
-use Rattle.split_answers.specs.Whole.{whole_of, IsSplit}
+use Rattle.split_answers.specs.Whole.{IsSplit}
 use Rattle.split_answers.specs.Through.{first_pair}
 use Rattle.switch_ir.specs.declared.port.RowsEnd.TheVariants as rows
 use Rattle.switch_ir.specs.Emitted.{emitted}

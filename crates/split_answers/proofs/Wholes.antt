@@ -1,5 +1,5 @@
 -- A legally split program runs packets as the state of a replay asks for.
-use Rattle.std.proofs.Common.{◌≡◌, ◌≤◌, ◌<◌, ◌^◌, ℕ, zero, suc, true, List, [], ◌∷◌, Some, slice_get, length, refl, subst, arith}
+use Rattle.std.proofs.Common.{◌≡◌, ◌≤◌, ◌<◌, ◌^◌, ℕ, zero, suc, true, List, [], ◌∷◌, Some, slice_get, length, refl, subst, arith, ◌∙◌}
 use Rattle.std.proofs.lemmas.Bool.{cond-true}
 use Rattle.std.proofs.lemmas.Option.{slice_get_within}
 use Rattle.std.specs.List.{AllByRecursion as Each}
@@ -15,14 +15,17 @@ use Rattle.flat_ir.specs.Laws.{KeepsWidths}
 use Rattle.flat_ir.specs.WellFormed.{HasTables, IsWellFormed}
 use Rattle.split_model.specs.declared.split.Part.{Part}
 use Rattle.split_model.specs.Counts.{count_below, count_steps, writes}
-use Rattle.split_model.specs.Crossing.{crosses_up}
-use Rattle.split_model.specs.Laws.{HasReplicated, IsExact, IsLoaded, IsShownAlone, IsWhole}
-use Rattle.split_model.specs.Layouts.{up_layout}
+use Rattle.split_model.specs.Laws.{HasReplicated, IsExact, IsLoaded, IsShownAlone}
+use Rattle.split_model.specs.declared.layout.Crossing.{Crossing}
+use Rattle.split_model.specs.Layouts.{down_layout, up_layout}
 use Rattle.split_model.specs.Legal.{IsLegal}
-use Rattle.transfer_header.specs.Told.{packet_in, reads_in}
-use Rattle.split_model.specs.Passes.{pre_values, served, IsHanded, Shows}
+use Rattle.packet_fields.specs.Sizes.{largest_packet}
+use Rattle.transfer_header.specs.Frames.{frame_of, IsFrameOf}
+use Rattle.transfer_header.specs.Told.{number_in, packet_in, port_in, reads_in, IsToldByPlace}
+use Rattle.transfer_header.specs.Values.{low_bits, value_by}
+use Rattle.split_model.specs.Passes.{sent_down, served, Shows}
 use Rattle.split_model.specs.Shown.{is_replicated, writes_to}
-use Rattle.server_runtime.specs.Serving.{followed_writes, is_followed, packet_frame, updates_of, IsWholeRun}
+use Rattle.server_runtime.specs.Serving.{frame_run, is_followed, packet_frame, served_frame, updates_of, IsWholeRun}
 use Rattle.replay_state.specs.Program.{IsSplitProgram, IsSplitRun}
 use Rattle.replay_state.specs.Sound.{IsAlike}
 use Rattle.replay_state.specs.Told.{HasFrames, IsFramed}
@@ -124,11 +127,33 @@ is_framed f split writeback number store packet whole = record {
   verdict = whole.verdict;
 }
 
-pub has_frames : Serves → ((f : Program) (st : Store) → IsKept f.objects st → HasTables f st)
+-- what is told of frames
+pub record FrameLaws : Type 0 where
+  pub low : (kind : ℕ) (layout : List Crossing) (number port : ℕ) (values : Crossing → ℕ) (packet : List ℕ)
+      → number < 2 ^ 32 → port < 256 → length packet ≤ largest_packet
+      → IsFrameOf kind layout number port (low_bits values) packet (frame_of kind layout number port values packet)
+  pub parts : (kind : ℕ) (layout : List Crossing) (number port : ℕ) (values : Crossing → ℕ) (packet frame : List ℕ)
+      → IsFrameOf kind layout number port values packet frame → IsToldByPlace layout number port packet frame
+
+-- the number of a frame stands in front of all that may be too large
+number_told : FrameLaws → (layout : List Crossing) (number port : ℕ) (values : Crossing → ℕ) (packet : List ℕ) → number < 2 ^ 32
+    → number_in (frame_of 2 layout number port values packet) ≡ number
+number_told laws layout number port values packet low =
+    let is = laws.low 2 layout number 0 values [] low (omega arith) (omega arith) in
+    (laws.parts 2 layout number 0 (low_bits values) [] (frame_of 2 layout number 0 values []) is).numbered
+
+number_down : FrameLaws → (f : Program) (split : List Part) (store : Store) (frame : List ℕ) → number_in frame < 2 ^ 32
+    → number_in (served_frame f split store frame) ≡ number_in frame
+number_down laws f split store frame low =
+    let reads = (frame_run f split store frame).reads in
+    number_told laws (down_layout f split) (number_in frame) (port_in frame) (value_by reads)
+    (sent_down f split reads (packet_in (up_layout f split) frame)).bytes low
+
+pub has_frames : Serves → FrameLaws → ((f : Program) (st : Store) → IsKept f.objects st → HasTables f st)
     → (f : Program) (split : List Part) (writeback : ℕ) (packets : List Packet)
     → IsSplit f split writeback → Each IsArrival packets → length packets ≤ 2 ^ 32
     → HasFrames (whole_of f split writeback) packets
-has_frames serves tables f split writeback packets is arrive few = record {
+has_frames serves told tables f split writeback packets is arrive few = record {
   each = λ n packet store at kept.
       let start = start_store f.objects in
       let ready = loaded f split start (tables f start is.kept) in
@@ -136,4 +161,5 @@ has_frames serves tables f split writeback packets is arrive few = record {
       is_framed f split writeback n store packet
       (serves f split store start start n packet is.bounded.formed is.legal (each_at IsArrival packets n packet arrive at)
       kept low ready ready);
+  numbered = λ n frame store within is_n. number_down told f split store frame (omega (arith, few, within, is_n)) ∙ is_n;
 }

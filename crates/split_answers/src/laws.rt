@@ -4,10 +4,14 @@ ghost use Rattle.flat_ir.specs.Arrivals.{IsArrival};
 ghost use Rattle.flat_ir.specs.Program.{Program};
 ghost use Rattle.packet_fields.specs.declared.packet.Packet.{Packet};
 ghost use Rattle.packet_fields.specs.declared.verdict.Verdict.{Verdict};
-ghost use Rattle.replay_state.specs.Journal.{UpAnswer};
-ghost use Rattle.replay_state.specs.Program.{IsSplitProgram};
-ghost use Rattle.replay_state.specs.Told.{HasFrames, IsRight};
+ghost use Rattle.replay_state.specs.Journal.{Call, IsAnswered, UpAnswer, asked, question_of};
+ghost use Rattle.replay_state.specs.Program.{IsSplitProgram, Manner, setup_of};
+ghost use Rattle.replay_state.specs.State.{State, commands_in};
+ghost use Rattle.replay_state.specs.Step.{applies};
+ghost use Rattle.replay_state.specs.Told.{HasFrames, IsRight, IsTied, Tells};
+ghost use Rattle.run_model.specs.declared.event.Event.{Event};
 ghost use Rattle.server_runtime.specs.Serving.{IsUpdateIn};
+ghost use Rattle.split_answers.specs.Over.{AreAnswersOver};
 ghost use Rattle.split_answers.specs.Through.{HasTables, IsEndOf, IsThrough, first_pair};
 ghost use Rattle.split_answers.specs.Whole.{whole_of, IsSplit};
 ghost use Rattle.split_model.specs.Layouts.{down_layout};
@@ -19,7 +23,8 @@ ghost use Rattle.state_store.specs.declared.object.ObjectDecl.{ObjectDecl};
 ghost use Rattle.state_store.specs.declared.object.Row.{Row};
 ghost use Rattle.std.specs.FinMap as map;
 ghost use Rattle.std.specs.List.{AllByRecursion as Each};
-ghost use Rattle.std.specs.Prelude.{◌≡◌, ◌++◌, ◌∷◌, [], ℕ, List, true, false, length, ◌≤◌, ◌^◌, Some};
+ghost use Rattle.std.specs.Prelude.{◌≡◌, ◌++◌, ◌∷◌, [], ℕ, List, true, false, length, ◌≤◌, ◌^◌, Some, take};
+ghost use Rattle.std.specs.Prelude as prelude;
 ghost use Rattle.switch_ir.specs.Code.{Code};
 ghost use Rattle.switch_ir.specs.Emitted.{emitted};
 ghost use Rattle.switch_ir.specs.Port.{EndsDown, EndsSeen, EndsUp, IsCommandOf, IsReplicatedIn, IsUpdateOf};
@@ -34,6 +39,10 @@ ghost use Rattle.writeback_table.specs.declared.command.Command.{Command};
 ghost use Rattle.writeback_table.specs.declared.command.Update.{Update};
 
 use flat_ir::a_run_keeps_widths;
+use replay_state::{
+    a_run_is_answered_by_its_calls, lookups_see_one_version, packets_are_where_they_are_told,
+    stores_keep_what_was_declared, whole_runs_are_sound,
+};
 use server_runtime::{a_served_packet_is_the_whole_run, what_the_switch_is_told_fits};
 use split_model::{
     a_split_is_the_whole, carried_values_stand, kept_stores_have_tables,
@@ -42,7 +51,7 @@ use split_model::{
 };
 use state_store::rows_change_alone;
 use switch_ir::what_is_emitted_computes_the_split;
-use transfer_header::{frames_are_told_by_place, frames_of_equal_values};
+use transfer_header::{frames_are_told_by_place, frames_of_equal_values, frames_of_low_bits};
 
 /// A legally split program has the laws that the state of a replay asks for, over any packets that can arrive.
 pub fn split_programs_have_their_laws()
@@ -65,6 +74,8 @@ pub fn frames_do_what_packets_do()
         → HasFrames (whole_of f split writeback) packets }
 {
     a_served_packet_is_the_whole_run();
+    frames_are_told_by_place();
+    frames_of_low_bits();
     kept_stores_have_tables();
 }
 
@@ -159,3 +170,27 @@ pub fn quiet_tables_are_the_stores()
         ≡ record { main = object_at st o; staged = map.empty; room = writeback })
         → HasTables f split writeback st told }
 {}
+
+/// A switch that answers over the tables that it tells answers right, so that the state of its replay is that of whole
+/// packets. What is said of passes that go on stage by stage is empty until a switch has calls for them.
+pub fn a_switch_that_tells_its_tables_tells_right()
+    ensures { (f : Program) (split : List Part) (writeback : ℕ) (packets : List Packet) (manner : Manner)
+        (events : List Event) (event : Event) (calls one : List Call) (st : State) (tables : Told)
+        → IsSplit f split writeback → Each IsArrival packets
+        → (let s = whole_of f split writeback in
+        let setup = setup_of s packets manner in
+        IsAnswered setup s packets events calls st → IsTied setup s packets calls events st
+        → IsThrough (emitted f split writeback) (take st.done (commands_in st.batches)) tables
+        → prelude.map question_of one ≡ asked setup s packets (calls ++ one) st event
+        → AreAnswersOver (emitted f split writeback) tables one
+        → applies setup st event ≡ true → Tells setup s packets (calls ++ one) st event) }
+{
+    split_programs_have_their_laws();
+    whole_runs_are_sound();
+    lookups_see_one_version();
+    stores_keep_what_was_declared();
+    a_run_is_answered_by_its_calls();
+    packets_are_where_they_are_told();
+    a_told_pass_up_is_right();
+    a_told_pass_down_is_right();
+}

@@ -1,3 +1,4 @@
+use Rattle.replay_state.specs.Program.{setup_of}
 use Rattle.replay_state.proofs.Answered.{first_answered, next_answered, one_answered}
 use Rattle.replay_state.proofs.Gone.{carried_up, found, fresh_up, fresh_down, down_numbered}
 use Rattle.replay_state.proofs.Once.{end_once}
@@ -28,4 +29,5 @@ pub returns-clause-fresh_down : goal.returns-clause-fresh_down
 returns-clause-fresh_down c = fresh_down
 
 pub returns-clause-numbered : goal.returns-clause-numbered
-returns-clause-numbered c setup s packets events calls st same h frames = down_numbered setup s packets calls frames same events st h
+returns-clause-numbered c s packets manner events calls st frames h are =
+    down_numbered (setup_of s packets manner) s packets calls are frames.numbered events st h
