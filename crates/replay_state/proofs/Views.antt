@@ -40,10 +40,10 @@ commands_push : (bs : List Batch) (b : Batch) → commands_in (bs ++ b ∷ []) �
 commands_push [] b = append-nil (commands_of b.updates)
 commands_push (c ∷ bs) b = ap (λ l. commands_of c.updates ++ l) (commands_push bs b) ∙ sym (append_assoc (commands_of c.updates) (commands_in bs) (commands_of b.updates))
 
-pushed : (bs : List Batch) (b : Batch) (m : ℕ) → m ≤ length (commands_in bs) → take m (commands_in (bs ++ b ∷ [])) ≡ take m (commands_in bs)
+pub pushed : (bs : List Batch) (b : Batch) (m : ℕ) → m ≤ length (commands_in bs) → take m (commands_in (bs ++ b ∷ [])) ≡ take m (commands_in bs)
 pushed bs b m low = ap (take m) (commands_push bs b) ∙ take-append-le m (commands_in bs) (commands_of b.updates) low
 
-merged_take : (fits : List Update → Bool) (n m : ℕ) (bs : List Batch) → m ≤ n → take m (commands_in (merged fits n bs)) ≡ take m (commands_in bs)
+pub merged_take : (fits : List Update → Bool) (n m : ℕ) (bs : List Batch) → m ≤ n → take m (commands_in (merged fits n bs)) ≡ take m (commands_in bs)
 merged_take fits n m [] low = refl
 merged_take fits n m (b ∷ bs) low = elim (cases_Bool (eqb n 0)) [
   | inl t ↦ rw t (let e = eqb-true n 0 t in let z : m ≡ 0 = omega arith in rw z refl)

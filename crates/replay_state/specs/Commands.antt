@@ -1,8 +1,12 @@
--- Commands by what they are, and not by what they do.
-use Rattle.std.specs.Prelude.{ℕ, ◌+◌, List, [], ◌∷◌, Option, Some, None, slice_get}
+-- Commands by what they are, and those that were applied.
+use Rattle.std.specs.Prelude.{ℕ, ◌+◌, List, [], ◌∷◌, Option, Some, None, if◌then◌else◌, slice_get}
 use Rattle.writeback_table.specs.declared.command.Command.{Command}
 use Rattle.writeback_table.specs.declared.command.Command.TheVariants.{Stage, On, Main, Off, Clear}
-use Rattle.replay_state.specs.State.{Batch}
+use Rattle.run_model.specs.declared.event.Event.{Event}
+use Rattle.run_model.specs.declared.event.Event.TheVariants as event
+use Rattle.replay_state.specs.Answers.{Setup}
+use Rattle.replay_state.specs.State.{Batch, State, commands_in}
+use Rattle.replay_state.specs.Step.{applies}
 
 abbrev pub counts_off : Command → ℕ
 counts_off Off = 1
@@ -23,3 +27,23 @@ weight_of (Some b) = b.versions
 -- how many versions batch i makes; where there is none, none
 abbrev pub versions_at : List Batch → ℕ → ℕ
 versions_at batches i = weight_of (slice_get batches i)
+
+-- ## Commands that were applied
+
+abbrev pub one_or_none : Option Command → List Command
+one_or_none None = []
+one_or_none (Some command) = command ∷ []
+
+abbrev pub commands_at : State → Event → List Command
+commands_at st event.Admit = []
+commands_at st (event.Stage j) = []
+commands_at st (event.Serve j) = []
+commands_at st event.Send = []
+commands_at st event.Apply = one_or_none (slice_get (commands_in st.batches) st.done)
+commands_at st event.Ack = []
+commands_at st (event.Hold j) = []
+commands_at st (event.Down j) = []
+
+-- the commands that an event applies
+abbrev pub applied_by : Setup → State → Event → List Command
+applied_by setup st event = if applies setup st event then commands_at st event else []

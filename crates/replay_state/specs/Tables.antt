@@ -1,5 +1,5 @@
 -- What lookups see in the tables that the switch keeps of replicated objects.
-use Rattle.std.specs.Prelude.{◌≡◌, ℕ, true, false, Some, take, slice_get}
+use Rattle.std.specs.Prelude.{◌≡◌, ℕ, true, false, Some, slice_get}
 use Rattle.std.specs.FinMap as map
 use Rattle.state_store.specs.Store.{Store, object_at}
 use Rattle.writeback_table.specs.declared.command.Command.{Command}
@@ -7,7 +7,7 @@ use Rattle.writeback_table.specs.Pair.{Pair}
 use Rattle.writeback_table.specs.Commands.{pair_through, room_for}
 use Rattle.writeback_table.specs.Batches.{seen_after}
 use Rattle.replay_state.specs.Answers.{Setup}
-use Rattle.replay_state.specs.State.{State, commands_in, store_at, seen, bit_behind}
+use Rattle.replay_state.specs.State.{State, applied_commands, commands_in, store_at, seen, bit_behind}
 
 -- the tables of object o before any command: the main table is the object of the start store, and nothing is staged
 abbrev pub first_pair : Setup → Store → ℕ → Pair
@@ -15,7 +15,7 @@ first_pair setup start o = record { main = object_at start o; staged = map.empty
 
 -- its tables after the commands that were applied
 abbrev pub pair_now : Setup → Store → State → ℕ → Pair
-pair_now setup start st o = pair_through o (first_pair setup start o) (take st.done (commands_in st.batches))
+pair_now setup start st o = pair_through o (first_pair setup start o) (applied_commands st)
 
 -- lookups of replicated objects see those of a store
 abbrev pub Shows : Setup → Store → State → Store → Type 0

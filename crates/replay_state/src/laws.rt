@@ -13,7 +13,7 @@ ghost use Rattle.run_model.specs.Order.{order_of};
 ghost use Rattle.run_model.specs.Serialises.{Serialises, AllReleased, IsDrained, is_fast, is_passing};
 ghost use Rattle.replay_state.specs.Agree.{Agree, AgreeOn};
 ghost use Rattle.replay_state.specs.Answers.{Answers, Setup, meaning_of};
-ghost use Rattle.replay_state.specs.Commands.{offs, versions_at};
+ghost use Rattle.replay_state.specs.Commands.{applied_by, offs, versions_at};
 ghost use Rattle.replay_state.specs.Drain.{Drains, IsFirstOf, drain_bound, drain_events, drain_order};
 ghost use Rattle.replay_state.specs.Drain.{is_drained, is_quiet, next_event};
 ghost use Rattle.replay_state.specs.Examples.{half_sent, main_waits, some_updates, stage_waits, two_batches};
@@ -21,7 +21,7 @@ ghost use Rattle.replay_state.specs.Places.{HavePlaces};
 ghost use Rattle.replay_state.specs.Run.{job_run, seen_store};
 ghost use Rattle.replay_state.specs.Sound.{AreFew, AreSound};
 ghost use Rattle.replay_state.specs.State.{Batch, Fast, Held, Slow, State, Up};
-ghost use Rattle.replay_state.specs.State.{bit_behind, commands_in, fate_of, seen, store_at, visible};
+ghost use Rattle.replay_state.specs.State.{applied_commands, bit_behind, commands_in, fate_of, seen, store_at, visible};
 ghost use Rattle.replay_state.specs.Step.{applies, idled, state_of, step, steps, tick};
 ghost use Rattle.replay_state.specs.Tables.{HasNewestTables, IsSeen};
 ghost use Rattle.replay_state.specs.Views.{KeepViews};
@@ -171,6 +171,14 @@ pub fn commands_by_their_kinds()
         → (let first = take n (commands_in batches) in bit_behind batches n ≡ nat_lt (offs first) (ons first)) }
     ensures versions { (batches : List Batch) (n : ℕ)
         → visible batches n ≡ versions_on (versions_at batches) (take n (commands_in batches)) }
+{}
+
+/// The commands that were applied are those before an event, and the next one behind them where the event applies it,
+/// also where batches come or take up others.
+pub fn commands_are_applied_in_order()
+    ensures { (setup : Setup) (a : Answers) (events : List Event) (event : Event)
+        → (let st = state_of setup a events in
+        applied_commands (step setup a st event) ≡ applied_commands st ++ applied_by setup st event) }
 {}
 
 /// Runs whose numbers are known from outside.

@@ -1,12 +1,12 @@
 -- Answers of a switch over the tables that it tells.
-use Rattle.std.specs.Prelude.{⊤, List}
+use Rattle.std.specs.Prelude.{List}
 use Rattle.std.specs.List.{AllByRecursion as Each}
 use Rattle.flat_ir.specs.Arrivals.{IsArrival}
 use Rattle.transfer_header.specs.Frames.{IsFrame}
 use Rattle.switch_ir.specs.declared.port.UpEnd.{UpEnd}
 use Rattle.switch_ir.specs.declared.port.DownEnd.TheVariants as down
 use Rattle.switch_ir.specs.Code.{Code}
-use Rattle.switch_ir.specs.Port.{EndsDown, EndsUp}
+use Rattle.switch_ir.specs.Port.{EndsDown, EndsUp, IsCommandOf}
 use Rattle.switch_ir.specs.Tables.{Told}
 use Rattle.replay_state.specs.Journal.{Call, CalledUp, CalledStageUp, CalledCommand, CalledDown, CalledStageDown}
 use Rattle.replay_state.specs.Journal.{Released, GoingDown}
@@ -17,7 +17,7 @@ abbrev pub IsAnswerOver : Code → Told → Call → Type 0
 IsAnswerOver code told (CalledUp fine n packet answer) =
     IsArrival packet × ((end : UpEnd) × IsEndOf end answer × EndsUp code told n packet end)
 IsAnswerOver code told (CalledStageUp n answer) = ⊥
-IsAnswerOver code told (CalledCommand command) = ⊤
+IsAnswerOver code told (CalledCommand command) = IsCommandOf code command
 IsAnswerOver code told (CalledDown fine n frame (Released verdict)) =
     IsFrame 2 code.down frame × EndsDown code told frame (down.Verdict verdict)
 IsAnswerOver code told (CalledDown fine n frame GoingDown) = ⊥

@@ -6,7 +6,7 @@ ghost use Rattle.packet_fields.specs.declared.packet.Packet.{Packet};
 ghost use Rattle.packet_fields.specs.declared.verdict.Verdict.{Verdict};
 ghost use Rattle.replay_state.specs.Journal.{Call, IsAnswered, UpAnswer, asked, question_of};
 ghost use Rattle.replay_state.specs.Program.{IsSplitProgram, Manner, setup_of};
-ghost use Rattle.replay_state.specs.State.{State, commands_in};
+ghost use Rattle.replay_state.specs.State.{State, applied_commands};
 ghost use Rattle.replay_state.specs.Step.{applies};
 ghost use Rattle.replay_state.specs.Told.{HasFrames, IsRight, IsTied, Tells};
 ghost use Rattle.run_model.specs.declared.event.Event.{Event};
@@ -23,7 +23,7 @@ ghost use Rattle.state_store.specs.declared.object.ObjectDecl.{ObjectDecl};
 ghost use Rattle.state_store.specs.declared.object.Row.{Row};
 ghost use Rattle.std.specs.FinMap as map;
 ghost use Rattle.std.specs.List.{AllByRecursion as Each};
-ghost use Rattle.std.specs.Prelude.{◌≡◌, ◌++◌, ◌∷◌, [], ℕ, List, true, false, length, ◌≤◌, ◌^◌, Some, take};
+ghost use Rattle.std.specs.Prelude.{◌≡◌, ◌++◌, ◌∷◌, [], ℕ, List, true, false, length, ◌≤◌, ◌^◌, Some};
 ghost use Rattle.std.specs.Prelude as prelude;
 ghost use Rattle.switch_ir.specs.Code.{Code};
 ghost use Rattle.switch_ir.specs.Emitted.{emitted};
@@ -180,7 +180,7 @@ pub fn a_switch_that_tells_its_tables_tells_right()
         → (let s = whole_of f split writeback in
         let setup = setup_of s packets manner in
         IsAnswered setup s packets events calls st → IsTied setup s packets calls events st
-        → IsThrough (emitted f split writeback) (take st.done (commands_in st.batches)) tables
+        → IsThrough (emitted f split writeback) (applied_commands st) tables
         → prelude.map question_of one ≡ asked setup s packets (calls ++ one) st event
         → AreAnswersOver (emitted f split writeback) tables one
         → applies setup st event ≡ true → Tells setup s packets (calls ++ one) st event) }
