@@ -11,7 +11,8 @@ use Rattle.replay_state.specs.Answers.{Setup}
 use Rattle.replay_state.specs.State.{State, Pass, first_state}
 use Rattle.run_model.specs.declared.event.Event.{Event}
 use Rattle.run_model.specs.declared.event.Event.TheVariants.{Admit, Stage, Serve, Send, Apply, Ack, Hold, Down}
-use Rattle.replay_state.specs.Step.{applies, step, steps}
+use Rattle.replay_state.specs.Drain.{Picks}
+use Rattle.replay_state.specs.Step.{applies, state_of, step, steps}
 use Rattle.replay_state.specs.Step.{pass_of}
 use Rattle.replay_state.specs.Agree.{EndAlike, RunAlike, AgreeOn}
 use Rattle.replay_state.specs.Program.{SplitProgram, packet_at}
@@ -226,6 +227,23 @@ module _ (setup : Setup) (s : SplitProgram) (packets : List Packet) (calls : Lis
               ∙ ap (λ q. asked setup s packets (calls ++ more) w e ++ q) (rest.1 ∙ ap (λ x. questions setup s packets (calls ++ more) x es) same),
         )
 
+    pub picks_stay : (w : State) (es : List Event) → AllThere setup s calls (questions setup s packets calls w es) → Carried (KnownUp calls) w
+        → Picks setup (journal s calls) w es → Picks setup (journal s (calls ++ more)) w es
+    picks_stay w [] all c p = tt
+    picks_stay w (e ∷ es) all c p =
+        let next = step setup (journal s calls) w e in
+        let here : AllThere setup s calls (asked setup s packets calls w e) = λ q m. all q (member_left q (asked setup s packets calls w e) (questions setup s packets calls next es) m) in
+        let there : AllThere setup s calls (questions setup s packets calls next es) = λ q m. all q (member_right q (asked setup s packets calls w e) (questions setup s packets calls next es) m) in
+        (p.0, subst (λ x. Picks setup (journal s (calls ++ more)) x es) (step_stays w e here c) (picks_stay next es there (cover_step w e here c) p.1))
+
+    cover_steps : (w : State) (es : List Event) → AllThere setup s calls (questions setup s packets calls w es) → Carried (KnownUp calls) w → Carried (KnownUp calls) (steps setup (journal s calls) w es)
+    cover_steps w [] all c = c
+    cover_steps w (e ∷ es) all c =
+        let next = step setup (journal s calls) w e in
+        cover_steps next es
+        (λ q m. all q (member_right q (asked setup s packets calls w e) (questions setup s packets calls next es) m))
+        (cover_step w e (λ q m. all q (member_left q (asked setup s packets calls w e) (questions setup s packets calls next es) m)) c)
+
 questions_append : (setup : Setup) (s : SplitProgram) (packets : List Packet) (calls : List Call) (w : State) (es more : List Event)
     → questions setup s packets calls w (es ++ more) ≡ questions setup s packets calls w es ++ questions setup s packets calls (steps setup (journal s calls) w es) more
 questions_append setup s packets calls w [] more = refl
@@ -269,3 +287,22 @@ module _ (setup : Setup) (s : SplitProgram) (packets : List Packet) where
   pub one_answered : (events : List Event) (calls : List Call) (st other : State)
       → IsAnswered setup s packets events calls st → IsAnswered setup s packets events calls other → st ≡ other
   one_answered events calls st other h k = h.run ∙ sym k.run
+
+  -- more calls leave the state, and what drain picks on the way there
+  pub state_stays : (events : List Event) (calls more : List Call) (st : State) → IsAnswered setup s packets events calls st → st ≡ state_of setup (journal s (calls ++ more)) events
+  state_stays events calls more st h =
+      h.run ∙ (run_stays setup s packets calls more begin events (all_asked events calls st h) (carried_first (KnownUp calls) (start_store setup.objects))).0
+
+  pub picked_stay : (events behind : List Event) (calls more : List Call) (st : State) → IsAnswered setup s packets (events ++ behind) calls st
+      → Picks setup (journal s calls) (state_of setup (journal s calls) events) behind → Picks setup (journal s (calls ++ more)) (state_of setup (journal s (calls ++ more)) events) behind
+  picked_stay events behind calls more st h p =
+      let qs = questions setup s packets calls begin events in
+      let rest = questions setup s packets calls (state_of setup (journal s calls) events) behind in
+      let all = all_asked (events ++ behind) calls st h in
+      let split = questions_append setup s packets calls begin events behind in
+      let first : AllThere setup s calls qs = λ q m. all q (subst (Member q) (sym split) (member_left q qs rest m)) in
+      let last : AllThere setup s calls rest = λ q m. all q (subst (Member q) (sym split) (member_right q qs rest m)) in
+      let known = carried_first (KnownUp calls) (start_store setup.objects) in
+      let same = (run_stays setup s packets calls more begin events first known).0 in
+      subst (λ w. Picks setup (journal s (calls ++ more)) w behind) same
+      (picks_stay setup s packets calls more (state_of setup (journal s calls) events) behind last (cover_steps setup s packets calls more begin events first known) p)

@@ -1,5 +1,5 @@
 -- Drain picks the first event that applies, until a state is drained.
-use Rattle.std.proofs.Common.{◌≡◌, ℕ, ◌-◌, ◌<◌, ◌≤◌, Bool, true, false, ◌&&◌, ltb, eqb, List, [], ◌∷◌, Option, Some, None, ◌⊎◌, inl, inr, refl, sym, ◌∙◌, ap, subst, arith, zero, suc, length}
+use Rattle.std.proofs.Common.{◌++◌, ◌≡◌, ℕ, ◌-◌, ◌<◌, ◌≤◌, Bool, true, false, ◌&&◌, ltb, eqb, List, [], ◌∷◌, Option, Some, None, ◌⊎◌, inl, inr, refl, sym, ◌∙◌, ap, subst, arith, zero, suc, length}
 use Rattle.std.specs.Prelude.{slice_get, not, ◌↔◌}
 use Rattle.std.proofs.lemmas.Bool.{cases_Bool, cases_lt, ltb-true, ltb-false, le-leb, eq-eqb, eqb-true, and_parts}
 use Rattle.std.proofs.lemmas.Option.{same_Some, none-some}
@@ -9,7 +9,7 @@ use Rattle.replay_state.specs.Answers.{Answers, Setup}
 use Rattle.replay_state.specs.State.{State, Held, visible, commands_in, first_state}
 use Rattle.run_model.specs.declared.event.Event.{Event}
 use Rattle.replay_state.specs.Step.{applies, waits, may_go, step, steps}
-use Rattle.replay_state.specs.Drain.{is_quiet, is_drained, first_of, drain_order, next_event, with_picked, picked_events, drain_bound, drain_events, IsFirstOf, IsNoneOf, Drains}
+use Rattle.replay_state.specs.Drain.{is_quiet, is_drained, first_of, drain_order, next_event, with_picked, picked_events, drain_bound, drain_events, IsFirstOf, IsNoneOf, Drains, Picks, events_left}
 use Rattle.replay_state.specs.Sound.{AreFew}
 use Rattle.replay_state.proofs.Lists.{get_within, none_within, get_member, weight_remove}
 use Rattle.replay_state.proofs.Counts.{visible_all}
@@ -17,7 +17,7 @@ use Rattle.replay_state.proofs.Fates.{held_fate, in_held, is_at}
 use Rattle.replay_state.proofs.Effects.{Fine}
 use Rattle.replay_state.proofs.Sane.{Sane, sane_step, sane_steps, sane_first}
 use Rattle.replay_state.proofs.Serialised.{quiet_parts}
-use Rattle.replay_state.proofs.Draining.{cost, lowers, cost_steps}
+use Rattle.replay_state.proofs.Draining.{lowers, cost_step, cost_steps}
 
 -- ---- the first event that passes a test
 
@@ -180,38 +180,38 @@ picked_few setup a (suc n) w = elim (none_or_some (next_event setup w)) [
   | inr some ↦ rw some.1 (let r = picked_few setup a n (step setup a w some.0) in omega arith)
 ]
 
--- where drain picks these and then none, it picks none behind them
-pub none_behind : (setup : Setup) (a : Answers) (w : State) (es : List Event) → Drains setup a w es → next_event setup (steps setup a w es) ≡ None
-none_behind setup a w [] d = d
-none_behind setup a w (e ∷ es) d = none_behind setup a (step setup a w e) es d.1
-
 -- there is one list of events that it picks
-pub picked_are : (setup : Setup) (a : Answers) (n : ℕ) (w : State) (es : List Event) → Drains setup a w es → length es ≤ n → picked_events setup a n w ≡ es
-picked_are setup a zero w [] d le = refl
-picked_are setup a zero w (e ∷ es) d le = absurd (omega arith)
-picked_are setup a (suc n) w [] d le = rw d refl
-picked_are setup a (suc n) w (e ∷ es) d le = rw d.0 (ap (λ l. e ∷ l) (picked_are setup a n (step setup a w e) es d.1 (omega arith)))
+pub picked_are : (setup : Setup) (a : Answers) (n : ℕ) (w : State) (es : List Event) → Picks setup a w es → next_event setup (steps setup a w es) ≡ None → length es ≤ n → picked_events setup a n w ≡ es
+picked_are setup a zero w [] d none le = refl
+picked_are setup a zero w (e ∷ es) d none le = absurd (omega arith)
+picked_are setup a (suc n) w [] d none le = rw none refl
+picked_are setup a (suc n) w (e ∷ es) d none le = rw d.0 (ap (λ l. e ∷ l) (picked_are setup a n (step setup a w e) es d.1 none (omega arith)))
+
+-- one more that it picks
+pub picks_more : (setup : Setup) (a : Answers) (w : State) (es : List Event) (e : Event) → Picks setup a w es → next_event setup (steps setup a w es) ≡ Some e → Picks setup a w (es ++ e ∷ [])
+picks_more setup a w [] e d h = (h, tt)
+picks_more setup a w (x ∷ es) e d h = (d.0, picks_more setup a (step setup a w x) es e d.1 h)
 
 module _ (setup : Setup) (a : Answers) (few : AreFew setup a) where
-  some_lowers : (w : State) (e : Event) → Sane setup w → next_event setup w ≡ Some e → cost setup (step setup a w e) < cost setup w
+  some_lowers : (w : State) (e : Event) → Sane setup w → next_event setup w ≡ Some e → events_left setup (step setup a w e) < events_left setup w
   some_lowers w e k h =
       let t = passes_test (applies setup w) drain_order e (picks_first setup w e h) in
       rw t (lowers setup a few w e k t)
 
-  picks_all : (n : ℕ) (w : State) → Sane setup w → cost setup w ≤ n → Drains setup a w (picked_events setup a n w)
+  picks_all : (n : ℕ) (w : State) → Sane setup w → events_left setup w ≤ n → Drains setup a w (picked_events setup a n w)
   picks_all zero w k le = elim (none_or_some (next_event setup w)) [
-    | inl none ↦ none
+    | inl none ↦ (tt, none)
     | inr some ↦ let low = some_lowers w some.0 k some.1 in absurd (omega arith)
   ]
   picks_all (suc n) w k le = elim (none_or_some (next_event setup w)) [
-    | inl none ↦ subst (λ o. Drains setup a w (with_picked o (λ e. picked_events setup a n (step setup a w e)))) (sym none) none
+    | inl none ↦ subst (λ o. Drains setup a w (with_picked o (λ e. picked_events setup a n (step setup a w e)))) (sym none) (tt, none)
     | inr some ↦
         let low = some_lowers w some.0 k some.1 in
         subst (λ o. Drains setup a w (with_picked o (λ e. picked_events setup a n (step setup a w e)))) (sym some.1)
-        (some.1, picks_all n (step setup a w some.0) (sane_step setup a w some.0 k) (omega arith))
+        (let rest = picks_all n (step setup a w some.0) (sane_step setup a w some.0 k) (omega arith) in ((some.1, rest.0), rest.1))
   ]
 
-  picks_within : (w : State) (es : List Event) → Sane setup w → Drains setup a w es → length es ≤ cost setup w
+  picks_within : (w : State) (es : List Event) → Sane setup w → Picks setup a w es → length es ≤ events_left setup w
   picks_within w [] k d = omega arith
   picks_within w (e ∷ es) k d =
       let low = some_lowers w e k d.0 in
@@ -225,21 +225,30 @@ module _ (setup : Setup) (a : Answers) (few : AreFew setup a) where
     sane_now : Sane setup now
     sane_now = sane_steps setup a (first_state start) events (sane_first setup a start)
 
-    cost_now : cost setup now ≤ drain_bound setup
+    cost_now : events_left setup now ≤ drain_bound setup
     cost_now =
         let le = cost_steps setup a few (first_state start) events (sane_first setup a start) in
         let all : setup.total - 0 ≡ setup.total = omega arith in
-        let first : cost setup (first_state start) ≡ drain_bound setup = rw all (omega arith) in
+        let first : events_left setup (first_state start) ≡ drain_bound setup = rw all (omega arith) in
         omega arith
+
+    pub left_within : events_left setup now ≤ drain_bound setup
+    left_within = cost_now
+
+    pub left_falls : (event : Event) → applies setup now event ≡ true → events_left setup (step setup a now event) < events_left setup now
+    left_falls event t = rw t (lowers setup a few now event sane_now t)
+
+    pub left_stays : (event : Event) → events_left setup (step setup a now event) ≤ events_left setup now
+    left_stays event = cost_step setup a few now event sane_now
 
     pub drain_picks : Drains setup a now (drain_events setup a now)
     drain_picks = picks_all (drain_bound setup) now sane_now cost_now
 
     pub drain_only : (more : List Event) → Drains setup a now more → more ≡ drain_events setup a now
     drain_only more d =
-        let within = picks_within now more sane_now d in
+        let within = picks_within now more sane_now d.0 in
         let bound = cost_now in
-        sym (picked_are setup a (drain_bound setup) now more d (omega arith))
+        sym (picked_are setup a (drain_bound setup) now more d.0 d.1 (omega arith))
 
 pub none_is_drained : (setup : Setup) (w : State) → Sane setup w → next_event setup w ≡ None → is_drained setup w ≡ true
 none_is_drained setup w k none = done_is_drained setup w (done_where_none setup w k.fine k.few (none_picked (applies setup w) drain_order none))
@@ -256,4 +265,4 @@ module _ (setup : Setup) (a : Answers) (start : Store) (events : List Event) whe
       let w = steps setup a (first_state start) events in
       let k = sane_steps setup a (first_state start) events (sane_first setup a start) in
       let more = drain_events setup a w in
-      none_is_drained setup (steps setup a w more) (sane_steps setup a w more k) (none_behind setup a w more (drain_picks setup a few start events))
+      none_is_drained setup (steps setup a w more) (sane_steps setup a w more k) (drain_picks setup a few start events).1

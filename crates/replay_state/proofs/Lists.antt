@@ -4,6 +4,7 @@ use Rattle.std.specs.Prelude.{slice_get, remove}
 use Rattle.std.proofs.lemmas.Bool.{cases_eq, eq-eqb, ne_eqb}
 use Rattle.std.proofs.lemmas.Option.{same_Some}
 use Rattle.replay_state.specs.State.{Progress}
+pub use Rattle.replay_state.specs.Drain.{weight}
 use Rattle.replay_state.proofs.Words.{Member}
 
 pub get_set_same : {X : Type 0} (xs : List X) (k : ℕ) (x y : X) → slice_get xs k ≡ Some x → slice_get (set xs k y) k ≡ Some y
@@ -69,11 +70,6 @@ member_set (z ∷ xs) zero y x (inl p) = inl p
 member_set (z ∷ xs) zero y x (inr m) = inr (inr m)
 member_set (z ∷ xs) (suc j) y x (inl p) = inr (inl p)
 member_set (z ∷ xs) (suc j) y x (inr m) = elim (member_set xs j y x m) [ inl p ↦ inl p | inr n ↦ inr (inr n) ]
-
--- the sum of f over a list
-abbrev pub weight : {X : Type 0} → (X → ℕ) → List X → ℕ
-weight f [] = 0
-weight f (x ∷ xs) = f x + weight f xs
 
 pub weight_push : {X : Type 0} (f : X → ℕ) (xs : List X) (y : X) → weight f (xs ++ y ∷ []) ≡ weight f xs + f y
 weight_push f [] y = omega arith

@@ -1,11 +1,11 @@
 -- Quiet and drained states, and the events that end a run one after the other.
-use Rattle.std.specs.Prelude.{◌≡◌, ◌⊎◌, ⊤, ℕ, zero, suc, ◌+◌, ◌*◌, ◌==◌, Bool, true, false, ◌&&◌, List, [], ◌∷◌, ◌++◌, length, if◌then◌else◌}
+use Rattle.std.specs.Prelude.{◌≡◌, ◌⊎◌, ⊤, ℕ, zero, suc, ◌+◌, ◌-◌, ◌*◌, ◌==◌, Bool, true, false, ◌&&◌, List, [], ◌∷◌, ◌++◌, length, if◌then◌else◌}
 use Rattle.std.specs.Prelude.{Option, Some, None}
 use Rattle.replay_state.specs.Answers.{Answers, Setup}
-use Rattle.replay_state.specs.State.{State, commands_in}
+use Rattle.replay_state.specs.State.{State, Pass, commands_in}
 use Rattle.run_model.specs.declared.event.Event.{Event}
 use Rattle.run_model.specs.declared.event.Event.TheVariants.{Admit, Stage, Serve, Send, Apply, Ack, Hold, Down}
-use Rattle.replay_state.specs.Step.{applies, step, state_of}
+use Rattle.replay_state.specs.Step.{applies, step, steps, state_of}
 
 -- nothing is on its way, and every command is acknowledged
 abbrev pub is_quiet : State → Bool
@@ -54,6 +54,38 @@ abbrev pub plan_events : Setup → Answers → List Event → Bool → List Even
 plan_events setup a events drain =
     if drain then events ++ drain_events setup a (state_of setup a events) else events
 
+-- ## How many events are left
+
+-- how many a batch of the most changes takes to be sent, applied and acknowledged
+abbrev pub batch_events : Setup → ℕ
+batch_events setup = 3 * (3 * setup.writes + 2)
+
+-- of a packet that isn't admitted, and of one that stands in `up`
+abbrev pub packet_events : Setup → ℕ
+packet_events setup = 4 + setup.pre_stages + setup.post_stages + batch_events setup
+
+abbrev pub up_events : Setup → ℕ
+up_events setup = 3 + setup.post_stages + batch_events setup
+
+-- of a pass, with what comes behind it
+abbrev pub pass_events : Setup → Pass → ℕ
+pass_events setup pass = 1 + (pass.left - 1) + (if pass.pre then up_events setup else 0)
+
+-- the sum of a number over a list
+abbrev pub weight : {X : Type 0} → (X → ℕ) → List X → ℕ
+weight f [] = 0
+weight f (x ∷ xs) = f x + weight f xs
+
+-- how many events are left at most
+abbrev pub events_left : Setup → State → ℕ
+events_left setup st =
+    (setup.total - length st.progress) * packet_events setup + weight (pass_events setup) st.passes
+    + length st.up * up_events setup + length st.held * (2 + setup.post_stages)
+    + length st.down * (1 + setup.post_stages) + 3 * (length (commands_in st.batches) - st.sent)
+    + 2 * (st.sent - st.done) + (st.done - st.acked)
+
+-- ## What drain picks
+
 -- the event is one of these and passes the test, and none before it does
 abbrev pub IsFirstOf : (Event → Bool) → List Event → Event → Type 0
 IsFirstOf test [] event = ⊥
@@ -64,7 +96,11 @@ abbrev pub IsNoneOf : (Event → Bool) → List Event → Type 0
 IsNoneOf test [] = ⊤
 IsNoneOf test (x ∷ xs) = (test x ≡ false) × IsNoneOf test xs
 
--- each of these events is the one that drain picks then, and behind them it picks none
+-- each of these events is the one that drain picks then
+abbrev pub Picks : Setup → Answers → State → List Event → Type 0
+Picks setup a st [] = ⊤
+Picks setup a st (event ∷ events) = (next_event setup st ≡ Some event) × Picks setup a (step setup a st event) events
+
+-- and behind them it picks none
 abbrev pub Drains : Setup → Answers → State → List Event → Type 0
-Drains setup a st [] = next_event setup st ≡ None
-Drains setup a st (event ∷ events) = (next_event setup st ≡ Some event) × Drains setup a (step setup a st event) events
+Drains setup a st events = Picks setup a st events × (next_event setup (steps setup a st events) ≡ None)

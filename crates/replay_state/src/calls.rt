@@ -8,6 +8,7 @@ ghost use Rattle.writeback_table.specs.declared.command.Update.{Update};
 ghost use Rattle.run_model.specs.declared.event.Event.{Event};
 ghost use Rattle.replay_state.specs.Answers.{Setup};
 ghost use Rattle.replay_state.specs.Carried.{Carried};
+ghost use Rattle.replay_state.specs.Drain.{Picks};
 ghost use Rattle.replay_state.specs.Journal.{Call, DownFramesAre, EndOnce, FramesAre, HasGoneUp, IsAnswerIn, IsAnswered};
 ghost use Rattle.replay_state.specs.Journal.{IsNumbered, UpAnswer, asked, down_answer, down_ends, journal, question_of, up_answer, up_ends};
 ghost use Rattle.replay_state.specs.Program.{Fits, IsSplitProgram, Manner, SplitProgram, packet_at, plain, setup_of};
@@ -52,6 +53,13 @@ pub fn a_run_is_answered_by_its_calls()
     ensures one { (setup : Setup) (s : SplitProgram) (packets : List Packet) (events : List Event) (calls : List Call)
         (st other : State) → IsAnswered setup s packets events calls st → IsAnswered setup s packets events calls other
         → st ≡ other }
+    ensures state_stays { (setup : Setup) (s : SplitProgram) (packets : List Packet) (events : List Event)
+        (calls more : List Call) (st : State) → IsAnswered setup s packets events calls st
+        → st ≡ state_of setup (journal s (calls ++ more)) events }
+    ensures picked_stay { (setup : Setup) (s : SplitProgram) (packets : List Packet) (events behind : List Event)
+        (calls more : List Call) (st : State) → IsAnswered setup s packets (events ++ behind) calls st
+        → Picks setup (journal s calls) (state_of setup (journal s calls) events) behind
+        → Picks setup (journal s (calls ++ more)) (state_of setup (journal s (calls ++ more)) events) behind }
     ensures once { (setup : Setup) (s : SplitProgram) (packets : List Packet) (events : List Event)
         (calls : List Call) (st : State) → IsAnswered setup s packets events calls st → EndOnce calls st }
     ensures gone { (setup : Setup) (s : SplitProgram) (packets : List Packet) (events : List Event)

@@ -1,5 +1,5 @@
 //! What holds of every run, whatever the schedule. These functions do nothing: their contracts are the laws.
-ghost use Rattle.std.specs.Prelude.{◌≡◌, ◌↔◌, ◌≤◌, ◌+◌, ◌++◌, ◌∷◌, [], true, false, IsTrue, Some, None, ℕ, List, length};
+ghost use Rattle.std.specs.Prelude.{◌≡◌, ◌↔◌, ◌<◌, ◌≤◌, ◌+◌, ◌++◌, ◌∷◌, [], true, false, IsTrue, Some, None, ℕ, List, length};
 ghost use Rattle.std.specs.Prelude.{is_some, nat_lt, remove, slice_get, slice_set, take};
 ghost use Rattle.packet_fields.specs.declared.verdict.Verdict.{Verdict};
 ghost use Rattle.packet_fields.specs.declared.verdict.Verdict.TheVariants as verdict;
@@ -14,8 +14,8 @@ ghost use Rattle.run_model.specs.Serialises.{Serialises, AllReleased, IsDrained,
 ghost use Rattle.replay_state.specs.Agree.{Agree, AgreeOn};
 ghost use Rattle.replay_state.specs.Answers.{Answers, Setup, meaning_of};
 ghost use Rattle.replay_state.specs.Commands.{applied_by, offs, versions_at};
-ghost use Rattle.replay_state.specs.Drain.{Drains, IsFirstOf, drain_bound, drain_events, drain_order};
-ghost use Rattle.replay_state.specs.Drain.{is_drained, is_quiet, next_event};
+ghost use Rattle.replay_state.specs.Drain.{Drains, IsFirstOf, Picks, drain_bound, drain_events, drain_order};
+ghost use Rattle.replay_state.specs.Drain.{events_left, is_drained, is_quiet, next_event};
 ghost use Rattle.replay_state.specs.Examples.{half_sent, main_waits, some_updates, stage_waits, two_batches};
 ghost use Rattle.replay_state.specs.Places.{HavePlaces};
 ghost use Rattle.replay_state.specs.Run.{job_run, seen_store};
@@ -58,7 +58,7 @@ pub fn every_run_serialises()
 
 /// Drain picks the first event of its list that applies, and none just where the run is drained. Where no run of the
 /// server makes more changes than there are instructions for them, it drains each run, by one list of events, which is
-/// within its bound.
+/// within its bound: how many events are left never rises, and falls by each that applies.
 pub fn drain_ends()
     ensures picks { (setup : Setup) (st : State) (event : Event)
         → next_event setup st ≡ Some event → IsFirstOf (applies setup st) drain_order event }
@@ -73,6 +73,16 @@ pub fn drain_ends()
         → (let st = state_of setup a events in Drains setup a st more → more ≡ drain_events setup a st) }
     ensures bound { (setup : Setup) (a : Answers) (st : State)
         → length (drain_events setup a st) ≤ drain_bound setup }
+    ensures more { (setup : Setup) (a : Answers) (st : State) (events : List Event) (event : Event)
+        → Picks setup a st events → next_event setup (steps setup a st events) ≡ Some event
+        → Picks setup a st (events ++ event ∷ []) }
+    ensures left { (setup : Setup) (a : Answers) (events : List Event) → AreFew setup a
+        → events_left setup (state_of setup a events) ≤ drain_bound setup }
+    ensures falls { (setup : Setup) (a : Answers) (events : List Event) (event : Event) → AreFew setup a
+        → (let st = state_of setup a events in
+        applies setup st event ≡ true → events_left setup (step setup a st event) < events_left setup st) }
+    ensures stays { (setup : Setup) (a : Answers) (events : List Event) (event : Event) → AreFew setup a
+        → (let st = state_of setup a events in events_left setup (step setup a st event) ≤ events_left setup st) }
 {}
 
 /// At every point of a run, lookups of replicated objects see the store with which the visible version began, and the

@@ -1,5 +1,5 @@
 use Rattle.replay_state.specs.Program.{setup_of}
-use Rattle.replay_state.proofs.Answered.{first_answered, next_answered, one_answered}
+use Rattle.replay_state.proofs.Answered.{first_answered, next_answered, one_answered, state_stays, picked_stay}
 use Rattle.replay_state.proofs.Gone.{carried_up, found, fresh_up, fresh_down, down_numbered}
 use Rattle.replay_state.proofs.Once.{end_once}
 use Rattle.replay_state.proofs.calls.a_run_is_answered_by_its_calls.Goals as goal
@@ -12,6 +12,12 @@ returns-clause-step c = next_answered
 
 pub returns-clause-one : goal.returns-clause-one
 returns-clause-one c = one_answered
+
+pub returns-clause-state_stays : goal.returns-clause-state_stays
+returns-clause-state_stays c = state_stays
+
+pub returns-clause-picked_stay : goal.returns-clause-picked_stay
+returns-clause-picked_stay c = picked_stay
 
 pub returns-clause-once : goal.returns-clause-once
 returns-clause-once c setup s packets events calls st h = end_once setup s packets calls events st h
