@@ -1,0 +1,4 @@
+pub mod Given
+pub mod Called
+pub mod Replay
+pub mod Promise
