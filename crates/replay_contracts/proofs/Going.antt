@@ -1,5 +1,5 @@
 -- A replay goes on by the calls that an event asks.
-use Rattle.std.proofs.Common.{◌≡◌, ℕ, Bool, true, false, cond, List, [], ◌∷◌, ◌++◌, Option, Some, None, inl, inr, refl, sym, ◌∙◌, ap, subst, map}
+use Rattle.std.proofs.Common.{◌≡◌, ℕ, List, [], ◌∷◌, ◌++◌, Option, Some, None, inl, inr, refl, sym, ◌∙◌, ap, subst, map}
 use Rattle.std.specs.Prelude.{slice_get}
 use Rattle.std.specs.Option.{option_map}
 use Rattle.std.proofs.lemmas.Bool.{cases_Bool}
@@ -12,19 +12,18 @@ use Rattle.run_model.specs.declared.event.Event.TheVariants.{Admit, Stage, Serve
 use Rattle.switch_ir.specs.Code.{Code}
 use Rattle.switch_ir.specs.Port.{PortState, IsCommandOf}
 use Rattle.switch_ir.specs.Tables.{Told, told_after}
-use Rattle.switch_ir.specs.declared.journal.Entry.{Entry}
 use Rattle.switch_ir.specs.declared.journal.Entry.TheVariants as entry
 use Rattle.replay_state.specs.Answers.{Answers, Setup}
 use Rattle.replay_state.specs.Commands.{applied_by, commands_at, one_or_none}
-use Rattle.replay_state.specs.Journal.{Call, CalledUp, CalledStageUp, CalledCommand, CalledDown, CalledStageDown, Released, GoingDown}
-use Rattle.replay_state.specs.Journal.{Question, AsksUp, AsksStageUp, AsksCommand, AsksDown, AsksStageDown, asks, asked, asks_stage, asks_command, asks_down, question_of, journal}
+use Rattle.replay_state.specs.Journal.{Call, CalledUp, CalledStageUp, CalledCommand, CalledDown, CalledStageDown}
+use Rattle.replay_state.specs.Journal.{Question, AsksUp, AsksStageUp, AsksCommand, AsksDown, AsksStageDown, asks, asked, asks_stage, asks_command, asks_down, question_of}
 use Rattle.replay_state.specs.Program.{SplitProgram}
 use Rattle.replay_state.specs.State.{State, Pass, applied_commands, commands_in}
-use Rattle.replay_state.specs.Step.{applies, state_of, step}
-use Rattle.replay_state.specs.Told.{IsTied, Tells}
+use Rattle.replay_state.specs.Step.{applies, step}
+use Rattle.replay_state.specs.Told.{IsTied}
 use Rattle.split_answers.specs.Over.{AreAnswersOver}
 use Rattle.split_answers.specs.Through.{IsThrough}
-use Rattle.replay_contracts.specs.Called.{HasCalls, WasCalled, command_in, commands_among, entries_of, journal_of, told_then, told_through, calls_in}
+use Rattle.replay_contracts.specs.Called.{HasCalls, WasCalled, command_in, commands_among, entries_of, journal_of, told_through}
 use Rattle.replay_contracts.specs.Given.{Given, setup_for, whole, code_for}
 use Rattle.replay_contracts.specs.Replay.{IsReplay, IsTold, answered}
 

@@ -1,14 +1,13 @@
 -- What drain picks, event by event.
-use Rattle.std.proofs.Common.{◌≡◌, ◌≤◌, ℕ, true, List, [], ◌∷◌, ◌++◌, Option, Some, None, refl, sym, ◌∙◌, ap, subst, length}
+use Rattle.std.proofs.Common.{◌≡◌, ◌≤◌, true, List, [], ◌∷◌, ◌++◌, Option, Some, None, refl, sym, ◌∙◌, ap, subst, length}
 use Rattle.std.specs.Prelude.{is_some, ◌↔◌}
-use Rattle.std.proofs.lemmas.Option.{none-some}
 use Rattle.std.proofs.lemmas.List.{append-nil, append_assoc}
 use Rattle.state_store.specs.Store.{start_store}
 use Rattle.run_model.specs.declared.event.Event.{Event}
 use Rattle.switch_ir.specs.Port.{PortState}
 use Rattle.switch_ir.specs.Tables.{Told}
 use Rattle.replay_state.specs.Answers.{Answers, Setup}
-use Rattle.replay_state.specs.Drain.{Drains, Picks, drain_bound, drain_events, is_drained, next_event, plan_events}
+use Rattle.replay_state.specs.Drain.{Drains, Picks, drain_bound, drain_events, is_drained, next_event}
 use Rattle.replay_state.specs.Journal.{Call}
 use Rattle.replay_state.specs.State.{State, first_state}
 use Rattle.replay_state.specs.Step.{state_of, step, steps}
@@ -61,7 +60,7 @@ pub has_drained : (x : Given) (events more : List Event) (calls : List Call) (st
     → ((a : Answers) → length (drain_events (setup_for x) a (state_of (setup_for x) a events)) ≤ drain_bound (setup_for x))
     → (Drains (setup_for x) (answered x calls) (state_of (setup_for x) (answered x calls) events) more → more ≡ drain_events (setup_for x) (answered x calls) (state_of (setup_for x) (answered x calls) events))
     → (Drains (setup_for x) (whole_runs x) (state_of (setup_for x) (whole_runs x) events) more → more ≡ drain_events (setup_for x) (whole_runs x) (state_of (setup_for x) (whole_runs x) events))
-    → HasDrained x events more st port
+    → HasDrained x events more calls st port
 has_drained x events more calls st port h none stops bound one one_told =
     let setup = setup_for x in
     let a = answered x calls in
@@ -71,6 +70,7 @@ has_drained x events more calls st port h none stops bound one one_told =
     record {
       drained = ap (is_drained setup) here ∙ stops.0 none_here;
       bound = subst (λ es. length es ≤ drain_bound setup) (sym (one ends)) (bound a);
+      plan = ap (λ es. events ++ es) (one ends);
       told = λ tables is.
           let tied = (h.replay.told tables is).tied in
           let none_told = sym (ap (next_event setup) (tied.same ∙ state_append setup (whole_runs x) events more)) ∙ none in

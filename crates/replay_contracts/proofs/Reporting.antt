@@ -1,10 +1,9 @@
 -- What is told of a replay over a port that tells its tables, and what it promises.
-use Rattle.std.proofs.Common.{◌≡◌, ℕ, Bool, true, false, cond, suc, List, [], ◌∷◌, ◌++◌, Option, Some, None, refl, sym, ◌∙◌, ap, subst, arith, length, take}
+use Rattle.std.proofs.Common.{◌≡◌, ℕ, Bool, true, false, cond, suc, List, [], ◌∷◌, ◌++◌, Some, None, refl, sym, ◌∙◌, ap, arith, length, take}
 use Rattle.std.specs.Prelude.{is_some, slice_get, IsTrue}
 use Rattle.std.proofs.lemmas.List.{take_all}
 use Rattle.packet_fields.specs.declared.verdict.Verdict.{Verdict}
 use Rattle.state_store.specs.declared.object.ObjectDecl.{ObjectDecl}
-use Rattle.state_store.specs.declared.object.Row.{Row}
 use Rattle.state_store.specs.Store.{Store, object_at, rows_of, start_store}
 use Rattle.writeback_table.specs.declared.command.Command.{Command}
 use Rattle.writeback_table.specs.Batches.{seen_after}
@@ -18,7 +17,6 @@ use Rattle.run_model.specs.Parts.{parts_where}
 use Rattle.run_model.specs.Serialises.{Serialises, AllReleased, IsDrained, is_fast, is_passing}
 use Rattle.switch_ir.specs.Port.{PortState}
 use Rattle.switch_ir.specs.Tables.{Told, pair_at}
-use Rattle.replay_state.specs.Answers.{Setup}
 use Rattle.replay_state.specs.Drain.{is_quiet}
 use Rattle.replay_state.specs.Program.{packet_at}
 use Rattle.replay_state.specs.Run.{job_run, run_of, seen_parts, seen_store}

@@ -2,3 +2,4 @@ pub mod Given
 pub mod Called
 pub mod Replay
 pub mod Promise
+pub mod Replayer

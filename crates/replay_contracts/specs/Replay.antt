@@ -1,5 +1,5 @@
 -- A replay over a port: its events, the calls that they made, and the state that these determine.
-use Rattle.std.specs.Prelude.{◌≡◌, ◌≤◌, List, [], ◌∷◌, ◌++◌, Option, Some, None, true, length}
+use Rattle.std.specs.Prelude.{◌≡◌, ◌≤◌, List, [], ◌++◌, Some, true, length}
 use Rattle.run_model.specs.declared.event.Event.{Event}
 use Rattle.switch_ir.specs.Port.{PortState}
 use Rattle.switch_ir.specs.Tables.{Told, IsStart}
@@ -44,9 +44,12 @@ pub record HasPicked (x : Given) (events more : List Event) (calls : List Call) 
   pub told : (tables : Told) → port.told ≡ Some tables
       → Picks (setup_for x) (whole_runs x) (state_of (setup_for x) (whole_runs x) events) more
 
--- They have drained the run, within the bound; over a port that tells its tables they are those of the plan.
-pub record HasDrained (x : Given) (events more : List Event) (st : State) (port : PortState) : Type 0 where
+-- They have drained the run, within the bound, and are those of the plan; over a port that tells its tables this is the
+-- plan of whole packets.
+pub record HasDrained (x : Given) (events more : List Event) (calls : List Call) (st : State) (port : PortState)
+    : Type 0 where
   pub drained : is_drained (setup_for x) st ≡ true
   pub bound : length more ≤ drain_bound (setup_for x)
+  pub plan : events ++ more ≡ plan_events (setup_for x) (answered x calls) events true
   pub told : (tables : Told) → port.told ≡ Some tables
       → events ++ more ≡ plan_events (setup_for x) (whole_runs x) events true

@@ -78,7 +78,7 @@ pub fn a_drain_goes_on()
 pub fn a_drain_ends()
     ensures { (x : Given) (events more : List Event) (calls : List Call) (st : State) (port : PortState)
         → IsReady x → HasPicked x events more calls st port → next_event (setup_for x) st ≡ None
-        → HasDrained x events more st port }
+        → HasDrained x events more calls st port }
 {
     drain_ends();
     split_programs_have_their_laws();

@@ -6,7 +6,8 @@ use Rattle.replay_state.specs.State.{State, Pass, Entered, Up, Held}
 -- the server ran packet n, and it isn't released
 abbrev pub IsHeld : State → ℕ → Type 0
 IsHeld st n =
-    (admitted decided version : ℕ) × (over : Store) × (slice_get st.progress n ≡ Some (Held admitted decided version over))
+    (admitted decided version : ℕ) × (over : Store)
+    × (slice_get st.progress n ≡ Some (Held admitted decided version over))
 
 -- each list of the state has packets that have come so far
 pub record HavePlaces (st : State) : Type 0 where

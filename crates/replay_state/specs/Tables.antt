@@ -26,7 +26,8 @@ pub record IsSeen (setup : Setup) (start : Store) (st : State) : Type 0 where
   -- lookups see the objects of the visible version
   pub shows : Shows setup start st (store_at st.stores (seen st))
   -- the next command finds room
-  pub room : (o : ℕ) (command : Command) → setup.replicated o ≡ true → slice_get (commands_in st.batches) st.done ≡ Some command
+  pub room : (o : ℕ) (command : Command) → setup.replicated o ≡ true
+      → slice_get (commands_in st.batches) st.done ≡ Some command
       → room_for o (pair_now setup start st o) command ≡ true
 
 -- The bit is clear, each replicated object of the server is its main table, and nothing is staged.

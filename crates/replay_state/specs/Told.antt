@@ -9,7 +9,8 @@ use Rattle.run_model.specs.declared.event.Event.{Event}
 use Rattle.run_model.specs.declared.event.Event.TheVariants.{Admit, Stage, Serve, Send, Apply, Ack, Hold, Down}
 use Rattle.replay_state.specs.Step.{pass_of, state_of}
 use Rattle.replay_state.specs.Program.{SplitProgram, packet_at, plain}
-use Rattle.replay_state.specs.Journal.{Call, UpAnswer, Finished, SentUp, GoingUp, IsNumbered, up_answer, down_answer, told, down_frame}
+use Rattle.replay_state.specs.Journal.{Call, UpAnswer, Finished, SentUp, GoingUp}
+use Rattle.replay_state.specs.Journal.{IsNumbered, up_answer, down_answer, told, down_frame}
 use Rattle.replay_state.specs.Carried.{Carried}
 
 -- ## The server
@@ -39,7 +40,8 @@ IsRight s store n packet (Some (SentUp frame)) = (s.is_fast store packet ≡ fal
 IsRight s store n packet (Some GoingUp) = ⊥
 
 -- the answer that ends a pass is that of the version with which it entered, or that of the frame which came down
-pub record EndsRight (s : SplitProgram) (packets : List Packet) (calls : List Call) (st : State) (pass : Pass) : Type 0 where
+pub record EndsRight (s : SplitProgram) (packets : List Packet) (calls : List Call) (st : State) (pass : Pass)
+    : Type 0 where
   pub pre : pass.pre ≡ true → IsRight s (store_at st.stores pass.version) pass.number (packet_at packets pass.number)
       (up_answer calls pass.number)
   pub post : pass.pre ≡ false

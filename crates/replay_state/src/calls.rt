@@ -9,8 +9,10 @@ ghost use Rattle.run_model.specs.declared.event.Event.{Event};
 ghost use Rattle.replay_state.specs.Answers.{Setup};
 ghost use Rattle.replay_state.specs.Carried.{Carried};
 ghost use Rattle.replay_state.specs.Drain.{Picks};
-ghost use Rattle.replay_state.specs.Journal.{Call, DownFramesAre, EndOnce, FramesAre, HasGoneUp, IsAnswerIn, IsAnswered};
-ghost use Rattle.replay_state.specs.Journal.{IsNumbered, UpAnswer, asked, down_answer, down_ends, journal, question_of, up_answer, up_ends};
+ghost use Rattle.replay_state.specs.Journal.{Call, DownFramesAre, EndOnce};
+ghost use Rattle.replay_state.specs.Journal.{FramesAre, HasGoneUp, IsAnswerIn, IsAnswered};
+ghost use Rattle.replay_state.specs.Journal.{IsNumbered, UpAnswer, asked, down_answer};
+ghost use Rattle.replay_state.specs.Journal.{down_ends, journal, question_of, up_answer, up_ends};
 ghost use Rattle.replay_state.specs.Program.{Fits, IsSplitProgram, Manner, SplitProgram, packet_at, plain, setup_of};
 ghost use Rattle.replay_state.specs.Sound.{AreFew, AreSound};
 ghost use Rattle.replay_state.specs.State.{Pass, State, first_state, seen, store_at};
@@ -38,9 +40,9 @@ pub fn batches_take_up_what_fits()
 {}
 
 /// Whatever a switch answers, its calls determine the state, and those of one event more stand behind the others. One
-/// call has ended each pass that has ended, and calls that ended no pass of a packet answer nothing of it. Each packet that is at the server, or on its way there or down, went up in a
-/// frame that a call answered; and the frames that come down have the numbers of their packets, where those that went
-/// up have them.
+/// call has ended each pass that has ended, and calls that ended no pass of a packet answer nothing of it. Each packet
+/// that is at the server, or on its way there or down, went up in a frame that a call answered; and the frames that
+/// come down have the numbers of their packets, where those that went up have them.
 pub fn a_run_is_answered_by_its_calls()
     ensures first { (setup : Setup) (s : SplitProgram) (packets : List Packet)
         → IsAnswered setup s packets [] [] (first_state (start_store setup.objects)) }

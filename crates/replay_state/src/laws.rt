@@ -1,5 +1,6 @@
 //! What holds of every run, whatever the schedule. These functions do nothing: their contracts are the laws.
-ghost use Rattle.std.specs.Prelude.{◌≡◌, ◌↔◌, ◌<◌, ◌≤◌, ◌+◌, ◌++◌, ◌∷◌, [], true, false, IsTrue, Some, None, ℕ, List, length};
+ghost use Rattle.std.specs.Prelude.{◌≡◌, ◌↔◌, ◌<◌, ◌≤◌, ◌+◌, ◌++◌, ◌∷◌, []};
+ghost use Rattle.std.specs.Prelude.{true, false, IsTrue, Some, None, ℕ, List, length};
 ghost use Rattle.std.specs.Prelude.{is_some, nat_lt, remove, slice_get, slice_set, take};
 ghost use Rattle.packet_fields.specs.declared.verdict.Verdict.{Verdict};
 ghost use Rattle.packet_fields.specs.declared.verdict.Verdict.TheVariants as verdict;

@@ -120,7 +120,6 @@ module _ (laws : UpLaws) (f : Program) (split : List Part) (writeback : ℕ) (st
         own.1 ∙ laws.alike 1 (up_layout f split) number packet.port (value_by reads) (value_by (pre_values f split (start_store f.objects) packet)) packet.bytes
             (each_crossing f (crosses_up f split) (λ (c : Crossing). value_by reads c ≡ value_by (pre_values f split (start_store f.objects) packet) c) carried_is),
       )
-
   is_right GoingUp end same ends = absurd same
 
   pub passes_up : (end : UpEnd) (answer : UpAnswer) → EndsUp (emitted f split writeback) told number packet end → IsEndOf end answer → IsRight (whole_of f split writeback) st number packet (Some answer)

@@ -160,7 +160,8 @@ pub fn told_rows_are_the_visible_stores()
         → EndsSeen told o (rows.Rows list) → list ≡ rows_of (object_at st o) }
 {}
 
-/// Where the tables that the commands make are the store's, with nothing staged and the bit clear, so are those that are told.
+/// Where the tables that the commands make are the store's, with nothing staged and the bit clear, so are those that
+/// are told.
 pub fn quiet_tables_are_the_stores()
     ensures { (f : Program) (split : List Part) (writeback : ℕ) (st : Store) (commands : List Command) (told : Told)
         → IsSplit f split writeback → IsThrough (emitted f split writeback) commands told

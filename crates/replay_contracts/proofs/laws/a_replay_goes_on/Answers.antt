@@ -1,4 +1,4 @@
-use Rattle.std.proofs.Common.{◌≡◌, sym, subst, ap, ◌∙◌, ◌++◌}
+use Rattle.std.proofs.Common.{◌≡◌, sym, subst, ◌++◌}
 use Rattle.replay_state.specs.Commands.{applied_by}
 use Rattle.replay_state.specs.State.{State, applied_commands}
 use Rattle.replay_state.specs.Step.{step}
