@@ -1,31 +1,17 @@
 -- A fact about each packet that went up goes with it: to the server, and down.
-use Rattle.std.proofs.Common.{◌≡◌, ℕ, ◌+◌, ◌≤◌, true, false, leb, eqb, List, [], ◌∷◌, ◌++◌, Option, Some, None, inl, inr, refl, sym, ap, subst, length}
-use Rattle.std.specs.Prelude.{slice_get, remove, ⊤}
-use Rattle.std.proofs.lemmas.Bool.{cases_Bool, eqb-true, leb-true}
-use Rattle.packet_fields.specs.declared.verdict.Verdict.{Verdict}
+use Rattle.std.proofs.Common.{◌≡◌, ℕ, ◌+◌, true, false, [], ◌∷◌, ◌++◌, Some, inl, inr, refl, sym, ap, subst, length}
+use Rattle.std.specs.Prelude.{slice_get, remove}
 use Rattle.state_store.specs.Store.{Store}
-use Rattle.writeback_table.specs.declared.command.Update.{Update}
 use Rattle.replay_state.specs.Answers.{Answers, Setup}
-use Rattle.replay_state.specs.State.{State, Pass, Entered, seen, store_at, first_state}
+use Rattle.replay_state.specs.State.{State, Pass, first_state}
 use Rattle.run_model.specs.declared.event.Event.{Event}
-use Rattle.run_model.specs.declared.event.Event.TheVariants.{Admit, Stage, Serve, Send, Apply, Ack, Hold, Down}
-use Rattle.replay_state.specs.Step.{applies, happens, step, tick}
-use Rattle.replay_state.specs.Step.{came_in, ended, entered, staged, pass_of, with_changes, ran, served, let_go, came_down}
+use Rattle.replay_state.specs.Step.{applies, step}
+use Rattle.replay_state.specs.Step.{pass_of}
 use Rattle.replay_state.specs.Carried.{Carried}
+pub use Rattle.replay_state.proofs.Walk.{EndsWell}
+use Rattle.replay_state.proofs.Walk.{Closed, closed_step}
 use Rattle.replay_state.proofs.Words.{Member}
 use Rattle.replay_state.proofs.Lists.{get_member, member_remove, member_push, member_set}
-
--- the event lets a packet up only with the fact
-abbrev pub EndsWell : Setup → Answers → (ℕ → Type 0) → State → Event → Type 0
-EndsWell setup a P w Admit = setup.pre_stages ≡ 0 → a.pre (store_at w.stores (seen w)) (length w.progress) ≡ None → P (length w.progress)
-EndsWell setup a P w (Stage j) =
-    (x : Pass) → x.left ≤ 1 → slice_get w.passes j ≡ Some x → x.pre ≡ true → a.pre (store_at w.stores x.version) x.number ≡ None → P x.number
-EndsWell setup a P w (Serve j) = ⊤
-EndsWell setup a P w Send = ⊤
-EndsWell setup a P w Apply = ⊤
-EndsWell setup a P w Ack = ⊤
-EndsWell setup a P w (Hold j) = ⊤
-EndsWell setup a P w (Down j) = ⊤
 
 pair_number : (p v q u : ℕ) → ◌≡◌ {A = ℕ × ℕ} (p, v) (q, u) → p ≡ q
 pair_number p v q u e = ap (λ (x : ℕ × ℕ). x.0) e
@@ -42,42 +28,41 @@ same_lists P w x p q r t c = record {
   passes = subst (λ l. (z : Pass) → Member z l → z.pre ≡ false → P z.number) (sym t) c.passes;
 }
 
-module _ (setup : Setup) (a : Answers) (P : ℕ → Type 0) where
-  carried_in : (w : State) (n : ℕ) (o : Option Verdict) → (o ≡ None → P n) → Carried P w → Carried P (came_in w n o)
-  carried_in w n None k c = record {
-    up = λ m h. elim (member_push w.up n m h) [ inl e ↦ subst P e (k refl) | inr old ↦ c.up m old ];
-    held = c.held;
-    down = c.down;
-    passes = c.passes;
-  }
-  carried_in w n (Some y) k c = record { up = c.up; held = c.held; down = c.down; passes = c.passes }
+true_false : true ≡ false → ⊥
+true_false e = cc
 
-  carried_ended : (w : State) (x : Pass) → (x.pre ≡ true → a.pre (store_at w.stores x.version) x.number ≡ None → P x.number) → Carried P w → Carried P (ended a w x)
-  carried_ended w x k c = elim (cases_Bool x.pre) [
-    | inl t ↦ rw t (carried_in w x.number (a.pre (store_at w.stores x.version) x.number) (k t) c)
-    | inr t ↦ rw t (record { up = c.up; held = c.held; down = c.down; passes = c.passes })
+module _ (setup : Setup) (a : Answers) (P : ℕ → Type 0) where
+  -- one pass fewer, one more that isn't behind the server or has the fact, or one changed
+  fewer : (w : State) (j : ℕ) → Carried P w → (z : Pass) → Member z (remove w.passes j) → z.pre ≡ false → P z.number
+  fewer w j c z m h = c.passes z (member_remove w.passes j z m) h
+
+  one_more : (w : State) (x : Pass) → (x.pre ≡ false → P x.number) → Carried P w → (z : Pass) → Member z (w.passes ++ x ∷ []) → z.pre ≡ false → P z.number
+  one_more w x p c z m h = elim (member_push w.passes x z m) [ inl e ↦ subst (λ (q : Pass). q.pre ≡ false → P q.number) e p h | inr old ↦ c.passes z old h ]
+
+  one_held : (w : State) (j n v : ℕ) → slice_get w.up j ≡ Some n → Carried P w → (m need : ℕ) → Member (m, need) (w.held ++ (n, v) ∷ []) → P m
+  one_held w j n v g c m need h = elim (member_push w.held (n, v) (m, need) h) [
+    | inl e ↦ subst P (pair_number n v m need e) (c.up n (get_member w.up j n g))
+    | inr old ↦ c.held m need old
   ]
 
-  carried_entered : (w : State) (x : Pass) → (x.left ≡ 0 → x.pre ≡ true → a.pre (store_at w.stores x.version) x.number ≡ None → P x.number) → (x.pre ≡ false → P x.number) → Carried P w → Carried P (entered a w x)
-  carried_entered w x k p c = elim (cases_Bool (eqb x.left 0)) [
-    | inl t ↦ rw t (carried_ended w x (k (eqb-true x.left 0 t)) c)
-    | inr t ↦ rw t (record {
+  carried_closed : Closed setup a P (Carried P)
+  carried_closed = record {
+    let_in = λ w low c. record { up = c.up; held = c.held; down = c.down; passes = one_more w (pass_of w true (length w.progress) setup.pre_stages) (λ t. absurd (true_false t)) c };
+    let_down = λ w j n g c. record {
       up = c.up;
       held = c.held;
+      down = λ m h. c.down m (member_remove w.down j m h);
+      passes = one_more w (pass_of w false n setup.post_stages) (λ t. c.down n (get_member w.down j n g)) c;
+    };
+    finished = λ w j x y g t e c. record { up = c.up; held = c.held; down = c.down; passes = fewer w j c };
+    sent_up = λ w j x g t e q c. record {
+      up = λ m h. elim (member_push w.up x.number m h) [ inl is ↦ subst P is q | inr old ↦ c.up m old ];
+      held = c.held;
       down = c.down;
-      passes = λ z m h. elim (member_push w.passes x z m) [ inl e ↦ subst (λ (q : Pass). q.pre ≡ false → P q.number) e p h | inr old ↦ c.passes z old h ];
-    })
-  ]
-
-  without : (w : State) (j : ℕ) → Carried P w → Carried P (record w { passes = remove w.passes j })
-  without w j c = record { up = c.up; held = c.held; down = c.down; passes = λ z m h. c.passes z (member_remove w.passes j z m) h }
-
-  carried_staged : (w : State) (j : ℕ) (o : Option Pass) → slice_get w.passes j ≡ o
-      → ((x : Pass) → x.left ≤ 1 → o ≡ Some x → x.pre ≡ true → a.pre (store_at w.stores x.version) x.number ≡ None → P x.number) → Carried P w → Carried P (staged a w j o)
-  carried_staged w j None g k c = c
-  carried_staged w j (Some x) g k c = elim (cases_Bool (leb x.left 1)) [
-    | inl t ↦ rw t (carried_ended (record w { passes = remove w.passes j }) x (k x (leb-true x.left 1 t) refl) (without w j c))
-    | inr t ↦ rw t (record {
+      passes = fewer w j c;
+    };
+    out = λ w j x g t c. record { up = c.up; held = c.held; down = c.down; passes = fewer w j c };
+    moved = λ w j x g c. record {
       up = c.up;
       held = c.held;
       down = c.down;
@@ -85,64 +70,23 @@ module _ (setup : Setup) (a : Answers) (P : ℕ → Type 0) where
         | inl e ↦ subst (λ (q : Pass). q.pre ≡ false → P q.number) e (c.passes x (get_member w.passes j x g)) h
         | inr old ↦ c.passes z old h
       ];
-    })
-  ]
-
-  carried_ran : (w : State) (j n : ℕ) (store : Store) (us : List Update) → slice_get w.up j ≡ Some n → Carried P w → Carried P (ran a w (with_changes store us w) j n)
-  carried_ran w j n store [] g c = record {
-    up = λ m h. c.up m (member_remove w.up j m h);
-    held = λ m need h. elim (member_push w.held (n, w.version) (m, need) h) [
-      | inl e ↦ subst P (pair_number n w.version m need e) (c.up n (get_member w.up j n g))
-      | inr old ↦ c.held m need old
-    ];
-    down = c.down;
-    passes = c.passes;
+    };
+    unseen = λ w j n g e c. record { up = λ m h. c.up m (member_remove w.up j m h); held = one_held w j n w.version g c; down = c.down; passes = c.passes };
+    shown = λ w j n u us g e c. record { up = λ m h. c.up m (member_remove w.up j m h); held = one_held w j n (w.version + 1) g c; down = c.down; passes = c.passes };
+    go = λ w j n need g low c. record {
+      up = c.up;
+      held = λ m v h. c.held m v (member_remove w.held j (m, v) h);
+      down = λ m h. elim (member_push w.down n m h) [ inl e ↦ subst P e (c.held n need (get_member w.held j (n, need) g)) | inr old ↦ c.down m old ];
+      passes = c.passes;
+    };
+    sent = λ w low c. same_lists P w _ refl refl refl refl c;
+    applied = λ w low free c. same_lists P w _ refl refl refl refl c;
+    acked = λ w low c. same_lists P w _ refl refl refl refl c;
   }
-  carried_ran w j n store (u ∷ us) g c = record {
-    up = λ m h. c.up m (member_remove w.up j m h);
-    held = λ m need h. elim (member_push w.held (n, w.version + 1) (m, need) h) [
-      | inl e ↦ subst P (pair_number n (w.version + 1) m need e) (c.up n (get_member w.up j n g))
-      | inr old ↦ c.held m need old
-    ];
-    down = c.down;
-    passes = c.passes;
-  }
-
-  carried_served : (w : State) (j : ℕ) (o : Option ℕ) → slice_get w.up j ≡ o → Carried P w → Carried P (served a w j o)
-  carried_served w j None g c = c
-  carried_served w j (Some n) g c = carried_ran w j n (a.after w.store n) (a.changes w.store n) g c
-
-  carried_go : (w : State) (j : ℕ) (o : Option (ℕ × ℕ)) → slice_get w.held j ≡ o → Carried P w → Carried P (let_go w j o)
-  carried_go w j None g c = c
-  carried_go w j (Some (n, need)) g c = record {
-    up = c.up;
-    held = λ m v h. c.held m v (member_remove w.held j (m, v) h);
-    down = λ m h. elim (member_push w.down n m h) [ inl e ↦ subst P e (c.held n need (get_member w.held j (n, need) g)) | inr old ↦ c.down m old ];
-    passes = c.passes;
-  }
-
-  carried_down : (w : State) (j : ℕ) (o : Option ℕ) → slice_get w.down j ≡ o → Carried P w → Carried P (came_down setup a w j o)
-  carried_down w j None g c = c
-  carried_down w j (Some n) g c =
-      carried_entered (record w { down = remove w.down j }) (pass_of w false n setup.post_stages) (λ z t. cc) (λ t. c.down n (get_member w.down j n g))
-      (record { up = c.up; held = c.held; down = λ m h. c.down m (member_remove w.down j m h); passes = c.passes })
-
-  carried_happens : (w : State) (e : Event) → EndsWell setup a P w e → Carried P w → Carried P (happens setup a (tick w) e)
-  carried_happens w Admit k c =
-      carried_entered (record (tick w) { progress = w.progress ++ Entered (w.events + 1) (seen w) ∷ [] }) (pass_of w true (length w.progress) setup.pre_stages) (λ z t. k z) (λ t. cc) (same_lists P w _ refl refl refl refl c)
-  carried_happens w (Stage j) k c = carried_staged (tick w) j (slice_get w.passes j) refl k (same_lists P w _ refl refl refl refl c)
-  carried_happens w (Serve j) k c = carried_served (tick w) j (slice_get w.up j) refl (same_lists P w _ refl refl refl refl c)
-  carried_happens w Send k c = same_lists P w _ refl refl refl refl c
-  carried_happens w Apply k c = same_lists P w _ refl refl refl refl c
-  carried_happens w Ack k c = same_lists P w _ refl refl refl refl c
-  carried_happens w (Hold j) k c = carried_go (tick w) j (slice_get w.held j) refl (same_lists P w _ refl refl refl refl c)
-  carried_happens w (Down j) k c = carried_down (tick w) j (slice_get w.down j) refl (same_lists P w _ refl refl refl refl c)
 
   pub carried_step : (w : State) (e : Event) → (applies setup w e ≡ true → EndsWell setup a P w e) → Carried P w → Carried P (step setup a w e)
-  carried_step w e k c = elim (cases_Bool (applies setup w e)) [
-    | inl t ↦ rw t (carried_happens w e (k t) c)
-    | inr t ↦ rw t (same_lists P w _ refl refl refl refl c)
-  ]
+  carried_step w e ends c =
+      closed_step setup a P (Carried P) carried_closed (λ x k. same_lists P x _ refl refl refl refl k) (λ x k. same_lists P x _ refl refl refl refl k) w e ends c
 
 pub carried_weaker : (P Q : ℕ → Type 0) (w : State) → ((n : ℕ) → P n → Q n) → Carried P w → Carried Q w
 carried_weaker P Q w f c = record {

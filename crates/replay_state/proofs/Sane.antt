@@ -1,19 +1,14 @@
 -- Every state has what the lists, the packets and the counts say, whatever the answers.
-use Rattle.std.proofs.Common.{◌≡◌, ℕ, ◌+◌, ◌≤◌, true, false, ltb, leb, eqb, List, [], ◌∷◌, ◌++◌, Option, Some, None, inl, inr, refl, sym, subst, arith, length, set}
-use Rattle.std.specs.Prelude.{⊤, slice_get, remove, not}
-use Rattle.std.proofs.lemmas.Bool.{cases_Bool, leb-true, ltb-true, and_parts}
+use Rattle.std.proofs.Common.{ℕ, ◌+◌, ◌≤◌, List, [], ◌∷◌, ◌++◌, refl, arith, length, set}
+use Rattle.std.specs.Prelude.{⊤, slice_get}
 use Rattle.std.proofs.lemmas.Option.{none-some}
 use Rattle.std.proofs.lemmas.List.{length_push, length-set}
-use Rattle.packet_fields.specs.declared.verdict.Verdict.{Verdict}
 use Rattle.state_store.specs.Store.{Store}
-use Rattle.writeback_table.specs.declared.command.Update.{Update}
 use Rattle.run_model.specs.declared.event.Event.{Event}
-use Rattle.run_model.specs.declared.event.Event.TheVariants.{Admit, Stage, Serve, Send, Apply, Ack, Hold, Down}
 use Rattle.replay_state.specs.Answers.{Answers, Setup}
-use Rattle.replay_state.specs.State.{State, Progress, Entered, Pass, Batch, visible, commands_in, store_at, seen, first_state}
-use Rattle.replay_state.specs.Step.{applies, waits, may_go, happens, step, steps, tick}
-use Rattle.replay_state.specs.Step.{finished, went_up, released, decided, came_in, ended, pass_of, entered, staged, with_changes, ran, served, let_go, came_down}
-use Rattle.replay_state.proofs.Lists.{get_push_same, remove_push}
+use Rattle.replay_state.specs.State.{State, Progress, Entered, Batch, seen, first_state}
+use Rattle.replay_state.specs.Step.{idled, step, steps, tick}
+use Rattle.replay_state.specs.Step.{finished, went_up, released, decided}
 use Rattle.replay_state.proofs.Counts.{counts_same, visible_push}
 use Rattle.replay_state.proofs.Effects.{Fine, fine_tick, fine_idled, fine_sent, fine_applied, fine_acked, fine_moved, fine_let_in, fine_finished, fine_sent_up, fine_came_down, fine_let_go, fine_let_down, fine_run}
 use Rattle.replay_state.proofs.Walk.{Closed, closed_step, ends_any}
@@ -28,7 +23,7 @@ module _ (setup : Setup) (a : Answers) where
   same_few : (w : State) (n : ℕ) (p : Progress) → Sane setup w → length (set w.progress n p) ≤ setup.total
   same_few w n p h = let l = length-set w.progress n p in let k = h.few in omega arith
 
-  sane_closed : Closed setup a (λ n. ⊤) (Sane setup)
+  pub sane_closed : Closed setup a (λ n. ⊤) (Sane setup)
   sane_closed = record {
     let_in = λ w low h. record { fine = fine_let_in w setup.pre_stages h.fine; few = let l = length_push w.progress (Entered w.events (seen w)) in omega arith };
     let_down = λ w j p g h. record { fine = fine_let_down w j p setup.post_stages g h.fine; few = h.few };
@@ -55,9 +50,12 @@ module _ (setup : Setup) (a : Answers) where
   pub sane_tick : (w : State) → Sane setup w → Sane setup (tick w)
   sane_tick w h = record { fine = fine_tick w h.fine; few = h.few }
 
+  pub sane_idle : (w : State) → Sane setup w → Sane setup (idled w)
+  sane_idle w h = record { fine = fine_idled w h.fine; few = h.few }
+
   pub sane_step : (w : State) (e : Event) → Sane setup w → Sane setup (step setup a w e)
   sane_step w e h =
-      closed_step setup a (λ n. ⊤) (Sane setup) sane_closed sane_tick (λ x k. record { fine = fine_idled x k.fine; few = k.few }) w e (λ t. ends_any setup a w e) h
+      closed_step setup a (λ n. ⊤) (Sane setup) sane_closed sane_tick sane_idle w e (λ t. ends_any setup a w e) h
 
   pub sane_steps : (w : State) (es : List Event) → Sane setup w → Sane setup (steps setup a w es)
   sane_steps w [] h = h

@@ -1,16 +1,15 @@
 -- A packet that was finished stays so, and one that went up is never finished by the switch.
-use Rattle.std.proofs.Common.{◌≡◌, ℕ, ◌+◌, ◌<◌, Bool, true, false, leb, eqb, List, [], ◌∷◌, ◌++◌, ◌⊎◌, Option, Some, None, inl, inr, refl, sym, ◌∙◌, ap, subst, arith, length, set}
-use Rattle.std.specs.Prelude.{slice_get, remove, is_some}
-use Rattle.std.proofs.lemmas.Bool.{cases_Bool, cases_eq}
+use Rattle.std.proofs.Common.{◌≡◌, ℕ, ◌+◌, ◌<◌, Bool, true, false, List, [], ◌∷◌, ◌++◌, ◌⊎◌, Option, Some, None, inl, inr, refl, sym, ◌∙◌, ap, subst, arith, length, set}
+use Rattle.std.specs.Prelude.{⊤, slice_get, is_some}
+use Rattle.std.proofs.lemmas.Bool.{cases_eq, ltb-true}
 use Rattle.packet_fields.specs.declared.verdict.Verdict.{Verdict}
 use Rattle.state_store.specs.Store.{Store}
-use Rattle.writeback_table.specs.declared.command.Update.{Update}
 use Rattle.replay_state.specs.Answers.{Answers, Setup}
 use Rattle.replay_state.specs.State.{State, Pass, Progress, Entered, Up, Held, Slow, Fast, seen, store_at}
 use Rattle.run_model.specs.declared.event.Event.{Event}
-use Rattle.run_model.specs.declared.event.Event.TheVariants.{Admit, Stage, Serve, Send, Apply, Ack, Hold, Down}
-use Rattle.replay_state.specs.Step.{applies, happens, step, steps, tick}
-use Rattle.replay_state.specs.Step.{finished, went_up, decided, released, came_in, ended, entered, staged, pass_of, with_changes, ran, served, let_go, came_down}
+use Rattle.run_model.specs.declared.event.Event.TheVariants.{Admit}
+use Rattle.replay_state.specs.Step.{applies, step, steps, tick}
+use Rattle.replay_state.specs.Step.{finished, went_up, decided, released, entered, pass_of}
 use Rattle.replay_state.proofs.Lists.{get_set_same, get_set_other, get_push_same, get_push_other, get_past, get_member}
 use Rattle.std.specs.Option.{option_map}
 use Rattle.std.proofs.lemmas.Option.{none-some, slice_get-map}
@@ -21,9 +20,10 @@ use Rattle.replay_state.specs.State.{fate_of, first_state}
 use Rattle.replay_state.specs.Step.{state_of}
 use Rattle.replay_state.specs.Run.{job_run, seen_store}
 use Rattle.replay_state.proofs.AtOnce.{fast_at_once, slow_at_once}
-use Rattle.replay_state.proofs.Effects.{Fine, fine_tick, shown_le}
-use Rattle.replay_state.proofs.Sane.{Sane, sane_step, sane_steps, sane_first}
-use Rattle.replay_state.proofs.Steps.{steps_append}
+use Rattle.replay_state.proofs.Effects.{Fine, shown_le}
+use Rattle.replay_state.proofs.Sane.{Sane, sane_closed, sane_tick, sane_idle, sane_steps, sane_first}
+use Rattle.replay_state.proofs.Walk.{Closed, closed_entered, closed_step, ends_any}
+use Rattle.replay_state.proofs.Steps.{let_in, steps_append}
 
 -- the switch finished it
 abbrev pub is_fast : Option Progress → Bool
@@ -89,76 +89,46 @@ released_stays f event (Held a d v o) s = (refl, refl)
 released_stays f event (Slow a d v y r) s = (refl, refl)
 released_stays f event (Fast a d v y) s = (refl, refl)
 
+-- a packet whose preprocessing had ended, and has still
 abbrev pub Keeps : State → State → Type 0
-Keeps w x = (m : ℕ) → is_settled (slice_get w.progress m) ≡ true → (is_fast (slice_get x.progress m) ≡ is_fast (slice_get w.progress m)) × (is_settled (slice_get x.progress m) ≡ true)
+Keeps w x = (m : ℕ) → Stays (slice_get w.progress m) (slice_get x.progress m)
 
-module _ (setup : Setup) (a : Answers) where
-  keeps_in : (w : State) (n : ℕ) (o : Option Verdict) → Keeps w (came_in w n o)
-  keeps_in w n None = set_stays w.progress n went_up up_stays
-  keeps_in w n (Some y) = set_stays w.progress n (finished w.events y) (finished_stays w.events y)
+keeps_set : (w x : State) (n : ℕ) (f : Option Progress → Progress) → ((old : Progress) → Stays (Some old) (Some (f (Some old)))) → Keeps w x
+    → (m : ℕ) → Stays (slice_get w.progress m) (slice_get (set x.progress n (f (slice_get x.progress n))) m)
+keeps_set w x n f stays h m s = let one = h m s in let two = set_stays x.progress n f stays m one.1 in (two.0 ∙ one.0, two.1)
 
-  keeps_ended : (w : State) (x : Pass) → Keeps w (ended a w x)
-  keeps_ended w x = elim (cases_Bool x.pre) [
-    | inl t ↦ rw t (keeps_in w x.number (a.pre (store_at w.stores x.version) x.number))
-    | inr t ↦ rw t (set_stays w.progress x.number (released (λ over. a.post over x.number) w.events) (released_stays (λ over. a.post over x.number) w.events))
-  ]
+keeps_push : (w x : State) (p : Progress) → Keeps w x → (m : ℕ) → Stays (slice_get w.progress m) (slice_get (x.progress ++ p ∷ []) m)
+keeps_push w x p h m s = elim (cases_eq m (length x.progress)) [
+  | inl e ↦ absurd (none_settled (sym (ap is_settled (subst (λ k. slice_get x.progress k ≡ None) (sym e) (get_past x.progress))) ∙ (h m s).1))
+  | inr d ↦ let same = get_push_other x.progress p m d in let one = h m s in (ap is_fast same ∙ one.0, ap is_settled same ∙ one.1)
+]
+  where
+    none_settled : false ≡ true → ⊥
+    none_settled e = cc
 
-  keeps_entered : (w : State) (x : Pass) → Keeps w (entered a w x)
-  keeps_entered w x = elim (cases_Bool (eqb x.left 0)) [ inl t ↦ rw t (keeps_ended w x) | inr t ↦ rw t (λ m s. (refl, s)) ]
+module _ (setup : Setup) (a : Answers) (w : State) where
+  keeps : Closed setup a (λ n. ⊤) (Keeps w)
+  keeps = record {
+    let_in = λ x low h. keeps_push w x (Entered x.events (seen x)) h;
+    let_down = λ x j p g h. h;
+    finished = λ x j z y g t e h. keeps_set w x z.number (finished x.events y) (finished_stays x.events y) h;
+    sent_up = λ x j z g t e q h. keeps_set w x z.number went_up up_stays h;
+    out = λ x j z g t h. keeps_set w x z.number (released (λ over. a.post over z.number) x.events) (released_stays (λ over. a.post over z.number) x.events) h;
+    moved = λ x j z g h. h;
+    unseen = λ x j p g e h. keeps_set w x p (decided x.events x.version x.store) (decided_stays x.events x.version x.store) h;
+    shown = λ x j p u us g e h. keeps_set w x p (decided x.events (x.version + 1) x.store) (decided_stays x.events (x.version + 1) x.store) h;
+    go = λ x j p need g low h. h;
+    sent = λ x low h. h;
+    applied = λ x low free h. h;
+    acked = λ x low h. h;
+  }
 
-  keeps_staged : (w : State) (j : ℕ) (o : Option Pass) → Keeps w (staged a w j o)
-  keeps_staged w j None = λ m s. (refl, s)
-  keeps_staged w j (Some x) = elim (cases_Bool (leb x.left 1)) [
-    | inl t ↦ rw t (keeps_ended (record w { passes = remove w.passes j }) x)
-    | inr t ↦ rw t (λ m s. (refl, s))
-  ]
+  keeps_from : (x : State) (es : List Event) → Keeps w x → Keeps w (steps setup a x es)
+  keeps_from x [] h = h
+  keeps_from x (e ∷ es) h = keeps_from (step setup a x e) es (closed_step setup a (λ n. ⊤) (Keeps w) keeps (λ z k. k) (λ z k. k) x e (λ t. ends_any setup a x e) h)
 
-  keeps_ran : (w : State) (j n : ℕ) (store : Store) (us : List Update) → Keeps w (ran a w (with_changes store us w) j n)
-  keeps_ran w j n store [] = set_stays w.progress n (decided w.events w.version w.store) (decided_stays w.events w.version w.store)
-  keeps_ran w j n store (u ∷ us) = set_stays w.progress n (decided w.events (w.version + 1) w.store) (decided_stays w.events (w.version + 1) w.store)
-
-  keeps_served : (w : State) (j : ℕ) (o : Option ℕ) → Keeps w (served a w j o)
-  keeps_served w j None = λ m s. (refl, s)
-  keeps_served w j (Some n) = keeps_ran w j n (a.after w.store n) (a.changes w.store n)
-
-  keeps_go : (w : State) (j : ℕ) (o : Option (ℕ × ℕ)) → Keeps w (let_go w j o)
-  keeps_go w j None = λ m s. (refl, s)
-  keeps_go w j (Some x) = λ m s. (refl, s)
-
-  keeps_down : (w : State) (j : ℕ) (o : Option ℕ) → Keeps w (came_down setup a w j o)
-  keeps_down w j None = λ m s. (refl, s)
-  keeps_down w j (Some n) = keeps_entered (record w { down = remove w.down j }) (pass_of w false n setup.post_stages)
-
-  keeps_push : (w : State) (p : Progress) → Keeps w (record w { progress = w.progress ++ p ∷ [] })
-  keeps_push w p m s = elim (cases_eq m (length w.progress)) [
-    | inl e ↦ absurd (none_settled (sym (ap is_settled (subst (λ k. slice_get w.progress k ≡ None) (sym e) (get_past w.progress))) ∙ s))
-    | inr d ↦ let same = get_push_other w.progress p m d in (ap is_fast same, ap is_settled same ∙ s)
-  ]
-    where
-      none_settled : false ≡ true → ⊥
-      none_settled e = cc
-
-  keeps_then : (w x y : State) → Keeps w x → Keeps x y → Keeps w y
-  keeps_then w x y h k m s = let one = h m s in let two = k m one.1 in (two.0 ∙ one.0, two.1)
-
-  keeps_happens : (w : State) (e : Event) → Keeps w (happens setup a (tick w) e)
-  keeps_happens w Admit =
-      let mid : State = record (tick w) { progress = w.progress ++ Entered (w.events + 1) (seen w) ∷ [] } in
-      keeps_then w mid (happens setup a (tick w) Admit) (keeps_push w (Entered (w.events + 1) (seen w))) (keeps_entered mid (pass_of (tick w) true (length w.progress) setup.pre_stages))
-  keeps_happens w (Stage j) = keeps_staged (tick w) j (slice_get w.passes j)
-  keeps_happens w (Serve j) = keeps_served (tick w) j (slice_get w.up j)
-  keeps_happens w Send = λ m s. (refl, s)
-  keeps_happens w Apply = λ m s. (refl, s)
-  keeps_happens w Ack = λ m s. (refl, s)
-  keeps_happens w (Hold j) = keeps_go (tick w) j (slice_get w.held j)
-  keeps_happens w (Down j) = keeps_down (tick w) j (slice_get w.down j)
-
-  pub keeps_step : (w : State) (e : Event) → Keeps w (step setup a w e)
-  keeps_step w e = elim (cases_Bool (applies setup w e)) [ inl t ↦ rw t (keeps_happens w e) | inr t ↦ rw t (λ m s. (refl, s)) ]
-
-  pub keeps_steps : (w : State) (es : List Event) → Keeps w (steps setup a w es)
-  keeps_steps w [] = λ m s. (refl, s)
-  keeps_steps w (e ∷ es) = keeps_then w (step setup a w e) (steps setup a (step setup a w e) es) (keeps_step w e) (keeps_steps (step setup a w e) es)
+  pub keeps_steps : (es : List Event) → Keeps w (steps setup a w es)
+  keeps_steps es = keeps_from w es (λ m s. (refl, s))
 
 -- ---- from its entry on
 
@@ -189,72 +159,6 @@ module _ (setup : Setup) (a : Answers) (n v : ℕ) (first : Store) where
     pub same : store_at w.stores v ≡ first
     pub fate : Fated v quick (slice_get w.progress n)
 
-  entering_kept : (e : ℕ) (f : Option Progress → Progress) → f (Some (Entered e v)) ≡ Entered e v → Fated v quick (Some (f (Some (Entered e v))))
-  entering_kept e f is = inl (e, ap Some is)
-
-  traced_in : (w : State) (m : ℕ) (o : Option Verdict) → (m ≡ n → (e : ℕ) → slice_get w.progress n ≡ Some (Entered e v) → is_some o ≡ quick) → Traced w → Traced (came_in w m o)
-  traced_in w m None says t = record {
-    low = t.low;
-    same = t.same;
-    fate = fated_set w.progress m n v quick went_up up_stays (λ i e h. inr (refl, says i e h)) t.fate;
-  }
-  traced_in w m (Some y) says t = record {
-    low = t.low;
-    same = t.same;
-    fate = fated_set w.progress m n v quick (finished w.events y) (finished_stays w.events y) (λ i e h. inr (refl, says i e h)) t.fate;
-  }
-
-  traced_ended : (w : State) (x : Pass) → (x.pre ≡ true → x.number ≡ n → (e : ℕ) → slice_get w.progress n ≡ Some (Entered e v) → x.version ≡ v) → Traced w → Traced (ended a w x)
-  traced_ended w x version t = elim (cases_Bool x.pre) [
-    | inl p ↦ rw p (traced_in w x.number (a.pre (store_at w.stores x.version) x.number)
-        (λ i e h. ap is_some (ap (λ z. a.pre (store_at w.stores z) x.number) (version p i e h) ∙ ap (λ s. a.pre s x.number) t.same ∙ ap (a.pre first) i)) t)
-    | inr p ↦ rw p (record {
-      low = t.low;
-      same = t.same;
-      fate = fated_set w.progress x.number n v quick (released (λ over. a.post over x.number) w.events) (released_stays (λ over. a.post over x.number) w.events) (λ i e h. inl (e, refl)) t.fate;
-    })
-  ]
-
-  traced_entered : (w : State) (x : Pass) → (x.pre ≡ true → x.number ≡ n → (e : ℕ) → slice_get w.progress n ≡ Some (Entered e v) → x.version ≡ v) → Traced w → Traced (entered a w x)
-  traced_entered w x version t = elim (cases_Bool (eqb x.left 0)) [
-    | inl p ↦ rw p (traced_ended w x version t)
-    | inr p ↦ rw p (record { low = t.low; same = t.same; fate = t.fate })
-  ]
-
-  traced_staged : (w : State) (j : ℕ) (o : Option Pass) → slice_get w.passes j ≡ o → Fine w → Traced w → Traced (staged a w j o)
-  traced_staged w j None g k t = t
-  traced_staged w j (Some x) g k t = elim (cases_Bool (leb x.left 1)) [
-    | inl p ↦ rw p (traced_ended (record w { passes = remove w.passes j }) x
-        (λ pre i e h. sym (k.needs.firsts x e v (get_member w.passes j x g) pre (subst (λ z. slice_get w.progress z ≡ Some (Entered e v)) (sym i) h)))
-        (record { low = t.low; same = t.same; fate = t.fate }))
-    | inr p ↦ rw p (record { low = t.low; same = t.same; fate = t.fate })
-  ]
-
-  traced_ran : (w : State) (j m : ℕ) (store : Store) (us : List Update) → Traced w → Traced (ran a w (with_changes store us w) j m)
-  traced_ran w j m store [] t = record {
-    low = t.low;
-    same = t.same;
-    fate = fated_set w.progress m n v quick (decided w.events w.version w.store) (decided_stays w.events w.version w.store) (λ i e h. inl (e, refl)) t.fate;
-  }
-  traced_ran w j m store (u ∷ us) t = record {
-    low = let l = length_push w.stores store in let k = t.low in omega arith;
-    same = get_or_append_left w.stores (store ∷ []) [] v t.low ∙ t.same;
-    fate = fated_set w.progress m n v quick (decided w.events (w.version + 1) w.store) (decided_stays w.events (w.version + 1) w.store) (λ i e h. inl (e, refl)) t.fate;
-  }
-
-  traced_served : (w : State) (j : ℕ) (o : Option ℕ) → Traced w → Traced (served a w j o)
-  traced_served w j None t = t
-  traced_served w j (Some m) t = traced_ran w j m (a.after w.store m) (a.changes w.store m) t
-
-  traced_go : (w : State) (j : ℕ) (o : Option (ℕ × ℕ)) → Traced w → Traced (let_go w j o)
-  traced_go w j None t = t
-  traced_go w j (Some x) t = record { low = t.low; same = t.same; fate = t.fate }
-
-  traced_down : (w : State) (j : ℕ) (o : Option ℕ) → Traced w → Traced (came_down setup a w j o)
-  traced_down w j None t = t
-  traced_down w j (Some m) t =
-      traced_entered (record w { down = remove w.down j }) (pass_of w false m setup.post_stages) (λ pre. cc) (record { low = t.low; same = t.same; fate = t.fate })
-
   -- the packet was there before, so one that comes in is another
   fated_there : (o : Option Progress) → Fated v quick o → o ≡ None → ⊥
   fated_there None (inl h) is = absurd (none-some _ h.1)
@@ -267,32 +171,83 @@ module _ (setup : Setup) (a : Answers) (n v : ℕ) (first : Store) where
     | inr d ↦ subst (Fated v quick) (sym (get_push_other w.progress p n d)) t.fate
   ]
 
-  traced_admitted : (w : State) → Traced w → Traced (happens setup a w Admit)
-  traced_admitted w t =
-      let mid : State = record w { progress = w.progress ++ Entered w.events (seen w) ∷ [] } in
-      traced_entered mid (pass_of w true (length w.progress) setup.pre_stages)
-      (λ pre i e h. absurd (fated_there (slice_get w.progress n) t.fate (ap (slice_get w.progress) (sym i) ∙ get_past w.progress)))
-      (record { low = t.low; same = t.same; fate = traced_push w (Entered w.events (seen w)) t })
+  -- what ended its pass is what is answered over that store
+  says : (w : State) (j : ℕ) (x : Pass) (o : Option Verdict) → Fine w → Traced w → slice_get w.passes j ≡ Some x → x.pre ≡ true → a.pre (store_at w.stores x.version) x.number ≡ o
+      → x.number ≡ n → (e : ℕ) → slice_get w.progress n ≡ Some (Entered e v) → is_some o ≡ quick
+  says w j x o k t g pre answer is e h =
+      let version = sym (k.needs.firsts x e v (get_member w.passes j x g) pre (subst (λ z. slice_get w.progress z ≡ Some (Entered e v)) (sym is) h)) in
+      ap is_some (sym answer ∙ ap (λ z. a.pre (store_at w.stores z) x.number) version ∙ ap (λ s. a.pre s x.number) t.same ∙ ap (a.pre first) is)
 
-  traced_happens : (w : State) (e : Event) → Fine w → Traced w → Traced (happens setup a w e)
-  traced_happens w Admit k t = traced_admitted w t
-  traced_happens w (Stage j) k t = traced_staged w j (slice_get w.passes j) refl k t
-  traced_happens w (Serve j) k t = traced_served w j (slice_get w.up j) t
-  traced_happens w Send k t = record { low = t.low; same = t.same; fate = t.fate }
-  traced_happens w Apply k t = record { low = t.low; same = t.same; fate = t.fate }
-  traced_happens w Ack k t = record { low = t.low; same = t.same; fate = t.fate }
-  traced_happens w (Hold j) k t = traced_go w j (slice_get w.held j) t
-  traced_happens w (Down j) k t = traced_down w j (slice_get w.down j) t
+  -- the same, in a state that is one of a run
+  pub record Followed (w : State) : Type 0 where
+    pub sane : Sane setup w
+    pub traced : Traced w
 
-  traced_step : (w : State) (e : Event) → Sane setup w → Traced w → Traced (step setup a w e)
-  traced_step w e k t = elim (cases_Bool (applies setup w e)) [
-    | inl p ↦ rw p (traced_happens (tick w) e (fine_tick w k.fine) (record { low = t.low; same = t.same; fate = t.fate }))
-    | inr p ↦ rw p (record { low = t.low; same = t.same; fate = t.fate })
-  ]
+  traced_closed : Closed setup a (λ k. ⊤) Followed
+  traced_closed =
+      let sc = sane_closed setup a in
+      record {
+        let_in = λ w low h. record {
+          sane = sc.let_in w low h.sane;
+          traced = record { low = h.traced.low; same = h.traced.same; fate = traced_push w (Entered w.events (seen w)) h.traced };
+        };
+        let_down = λ w j p g h. record { sane = sc.let_down w j p g h.sane; traced = record { low = h.traced.low; same = h.traced.same; fate = h.traced.fate } };
+        finished = λ w j x y g t e h. record {
+          sane = sc.finished w j x y g t e h.sane;
+          traced = record {
+            low = h.traced.low;
+            same = h.traced.same;
+            fate = fated_set w.progress x.number n v quick (finished w.events y) (finished_stays w.events y) (λ i k there. inr (refl, says w j x (Some y) h.sane.fine h.traced g t e i k there)) h.traced.fate;
+          };
+        };
+        sent_up = λ w j x g t e q h. record {
+          sane = sc.sent_up w j x g t e q h.sane;
+          traced = record {
+            low = h.traced.low;
+            same = h.traced.same;
+            fate = fated_set w.progress x.number n v quick went_up up_stays (λ i k there. inr (refl, says w j x None h.sane.fine h.traced g t e i k there)) h.traced.fate;
+          };
+        };
+        out = λ w j x g t h. record {
+          sane = sc.out w j x g t h.sane;
+          traced = record {
+            low = h.traced.low;
+            same = h.traced.same;
+            fate = fated_set w.progress x.number n v quick (released (λ over. a.post over x.number) w.events) (released_stays (λ over. a.post over x.number) w.events) (λ i e there. inl (e, refl)) h.traced.fate;
+          };
+        };
+        moved = λ w j x g h. record { sane = sc.moved w j x g h.sane; traced = record { low = h.traced.low; same = h.traced.same; fate = h.traced.fate } };
+        unseen = λ w j m g e h. record {
+          sane = sc.unseen w j m g e h.sane;
+          traced = record {
+            low = h.traced.low;
+            same = h.traced.same;
+            fate = fated_set w.progress m n v quick (decided w.events w.version w.store) (decided_stays w.events w.version w.store) (λ i k there. inl (k, refl)) h.traced.fate;
+          };
+        };
+        shown = λ w j m u us g e h. record {
+          sane = sc.shown w j m u us g e h.sane;
+          traced = record {
+            low = let l = length_push w.stores (a.after w.store m) in let k = h.traced.low in omega arith;
+            same = get_or_append_left w.stores (a.after w.store m ∷ []) [] v h.traced.low ∙ h.traced.same;
+            fate = fated_set w.progress m n v quick (decided w.events (w.version + 1) w.store) (decided_stays w.events (w.version + 1) w.store) (λ i k there. inl (k, refl)) h.traced.fate;
+          };
+        };
+        go = λ w j p need g low h. record { sane = sc.go w j p need g low h.sane; traced = record { low = h.traced.low; same = h.traced.same; fate = h.traced.fate } };
+        sent = λ w low h. record { sane = sc.sent w low h.sane; traced = record { low = h.traced.low; same = h.traced.same; fate = h.traced.fate } };
+        applied = λ w low free h. record { sane = sc.applied w low free h.sane; traced = record { low = h.traced.low; same = h.traced.same; fate = h.traced.fate } };
+        acked = λ w low h. record { sane = sc.acked w low h.sane; traced = record { low = h.traced.low; same = h.traced.same; fate = h.traced.fate } };
+      }
 
-  pub traced_steps : (w : State) (es : List Event) → Sane setup w → Traced w → Traced (steps setup a w es)
-  traced_steps w [] k t = t
-  traced_steps w (e ∷ es) k t = traced_steps (step setup a w e) es (sane_step setup a w e k) (traced_step w e k t)
+  pub followed_ended : (w : State) (x : Pass) → Followed (record w { passes = w.passes ++ x ∷ [] }) → (x.left ≡ 0 → ⊤) → Followed (entered a w x)
+  followed_ended w x h q = closed_entered setup a (λ k. ⊤) Followed traced_closed w x (λ z t e. tt) h
+
+  pub followed_steps : (w : State) (es : List Event) → Followed w → Followed (steps setup a w es)
+  followed_steps w [] h = h
+  followed_steps w (e ∷ es) h =
+      followed_steps (step setup a w e) es
+      (closed_step setup a (λ k. ⊤) Followed traced_closed (λ x k. record { sane = sane_tick setup a x k.sane; traced = record { low = k.traced.low; same = k.traced.same; fate = k.traced.fate } })
+      (λ x k. record { sane = sane_idle setup a x k.sane; traced = record { low = k.traced.low; same = k.traced.same; fate = k.traced.fate } }) w e (λ t. ends_any setup a w e) h)
 
 -- ---- what is told of it
 
@@ -335,20 +290,24 @@ module _ (setup : Setup) (a : Answers) (events more : List Event) where
   fate_is : slice_get (job_run setup a (events ++ Admit ∷ more)).fates (length now.progress) ≡ option_map fate_of last
   fate_is = slice_get-map fate_of (state_of setup a (events ++ Admit ∷ more)).progress (length now.progress)
 
-  entered_traced : applies setup now Admit ≡ true → Traced setup a (length now.progress) (seen now) (seen_store now) (step setup a now Admit)
+  entered_traced : applies setup now Admit ≡ true → Followed setup a (length now.progress) (seen now) (seen_store now) (step setup a now Admit)
   entered_traced t =
       let n = length now.progress in
       let w = tick now in
       let p : Progress = Entered w.events (seen now) in
       let within = shown_le now now.done sane_now.fine in
       let stores = sane_now.fine.counts.stores in
-      rw t (traced_entered setup a n (seen now) (seen_store now) (record w { progress = w.progress ++ p ∷ [] }) (pass_of w true n setup.pre_stages) (λ pre i e h. refl)
-      (record { low = omega arith; same = refl; fate = inl (w.events, get_push_same now.progress p) }))
+      let low = ltb-true (length now.progress) setup.total t in
+      let start : Followed setup a n (seen now) (seen_store now) (let_in w setup.pre_stages) = record {
+        sane = (sane_closed setup a).let_in w low (sane_tick setup a now sane_now);
+        traced = record { low = omega arith; same = refl; fate = inl (w.events, get_push_same now.progress p) };
+      } in
+      rw t (followed_ended setup a n (seen now) (seen_store now) (record w { progress = w.progress ++ p ∷ [] }) (pass_of w true n setup.pre_stages) start (λ z. tt))
 
   pub fast_by_seen : applies setup now Admit ≡ true → run.is_passing (slice_get (job_run setup a (events ++ Admit ∷ more)).fates (length now.progress)) ≡ false
       → run.is_fast (slice_get (job_run setup a (events ++ Admit ∷ more)).fates (length now.progress)) ≡ is_some (a.pre (seen_store now) (length now.progress))
   fast_by_seen t passing =
-      let traced = traced_steps setup a (length now.progress) (seen now) (seen_store now) (step setup a now Admit) more (sane_step setup a now Admit sane_now) (entered_traced t) in
+      let traced = (followed_steps setup a (length now.progress) (seen now) (seen_store now) (step setup a now Admit) more (entered_traced t)).traced in
       let fate = subst (Fated (seen now) (is_some (a.pre (seen_store now) (length now.progress)))) (sym last_is) traced.fate in
       ap run.is_fast fate_is ∙ fated_told (seen now) (is_some (a.pre (seen_store now) (length now.progress))) last fate (sym (ap run.is_passing fate_is) ∙ passing)
 

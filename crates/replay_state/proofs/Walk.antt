@@ -1,5 +1,5 @@
 -- What each effect of an event keeps, the event keeps.
-use Rattle.std.proofs.Common.{◌≡◌, ℕ, ◌+◌, ◌<◌, ◌≤◌, Bool, true, false, ltb, leb, eqb, List, [], ◌∷◌, ◌++◌, Option, Some, None, inl, inr, refl, sym, ◌∙◌, subst, arith, length}
+use Rattle.std.proofs.Common.{◌≡◌, ℕ, ◌+◌, ◌<◌, ◌≤◌, Bool, true, false, ltb, leb, eqb, List, [], ◌∷◌, ◌++◌, Option, Some, None, inl, inr, refl, ◌∙◌, subst, length}
 use Rattle.std.specs.Prelude.{slice_get, remove, not, ⊤}
 use Rattle.std.proofs.lemmas.Bool.{cases_Bool, eqb-true, leb-true, ltb-true, and_parts}
 use Rattle.packet_fields.specs.declared.verdict.Verdict.{Verdict}
@@ -7,8 +7,8 @@ use Rattle.writeback_table.specs.declared.command.Update.{Update}
 use Rattle.run_model.specs.declared.event.Event.{Event}
 use Rattle.run_model.specs.declared.event.Event.TheVariants.{Admit, Stage, Serve, Send, Apply, Ack, Hold, Down}
 use Rattle.replay_state.specs.Answers.{Answers, Setup}
-use Rattle.replay_state.specs.State.{State, Entered, Pass, Batch, visible, commands_in, store_at, seen}
-use Rattle.replay_state.specs.Step.{applies, waits, may_go, happens, step, steps, tick, idled}
+use Rattle.replay_state.specs.State.{State, Entered, Pass, visible, commands_in, store_at, seen}
+use Rattle.replay_state.specs.Step.{applies, waits, may_go, happens, step, tick, idled}
 use Rattle.replay_state.specs.Step.{came_in, ended, pass_of, entered, staged, with_changes, ran, served, let_go, came_down}
 use Rattle.replay_state.proofs.Lists.{get_push_same, remove_push}
 use Rattle.replay_state.proofs.Steps.{let_in, let_down, finished_at, up_at, out_at, moved_at, run_at, go_at, sent_one, applied_one, acked_one}
@@ -34,6 +34,16 @@ ends_any setup a w Apply = tt
 ends_any setup a w Ack = tt
 ends_any setup a w (Hold j) = tt
 ends_any setup a w (Down j) = tt
+
+pub same_turn : (setup : Setup) (w : State) (e : Event) → applies setup (tick w) e ≡ applies setup w e
+same_turn setup w Admit = refl
+same_turn setup w (Stage j) = refl
+same_turn setup w (Serve j) = refl
+same_turn setup w Send = refl
+same_turn setup w Apply = refl
+same_turn setup w Ack = refl
+same_turn setup w (Hold j) = refl
+same_turn setup w (Down j) = refl
 
 module _ (setup : Setup) (a : Answers) (Q : ℕ → Type 0) (P : State → Type 0) where
   -- each effect keeps P, where it comes
@@ -64,7 +74,7 @@ module _ (setup : Setup) (a : Answers) (Q : ℕ → Type 0) (P : State → Type 
         go (Some y) e t = c.finished w j x y g t e h
 
     -- a pass enters, behind all others, and may end at once
-    closed_entered : (w : State) (x : Pass) → (x.left ≡ 0 → x.pre ≡ true → a.pre (store_at w.stores x.version) x.number ≡ None → Q x.number) → P (record w { passes = w.passes ++ x ∷ [] }) → P (entered a w x)
+    pub closed_entered : (w : State) (x : Pass) → (x.left ≡ 0 → x.pre ≡ true → a.pre (store_at w.stores x.version) x.number ≡ None → Q x.number) → P (record w { passes = w.passes ++ x ∷ [] }) → P (entered a w x)
     closed_entered w x q h = elim (cases_Bool (eqb x.left 0)) [
       | inl t ↦ rw t (subst (λ l. P (ended a (record w { passes = l }) x)) (remove_push w.passes x)
           (closed_ended (record w { passes = w.passes ++ x ∷ [] }) (length w.passes) x (get_push_same w.passes x) (q (eqb-true x.left 0 t)) h))
@@ -111,16 +121,6 @@ module _ (setup : Setup) (a : Answers) (Q : ℕ → Type 0) (P : State → Type 
     closed_happens w (Hold j) t q h = closed_go w j (slice_get w.held j) refl t h
     closed_happens w (Down j) t q h = closed_down w j (slice_get w.down j) refl h
 
-    same_turn : (w : State) (e : Event) → applies setup (tick w) e ≡ applies setup w e
-    same_turn w Admit = refl
-    same_turn w (Stage j) = refl
-    same_turn w (Serve j) = refl
-    same_turn w Send = refl
-    same_turn w Apply = refl
-    same_turn w Ack = refl
-    same_turn w (Hold j) = refl
-    same_turn w (Down j) = refl
-
     same_ends : (w : State) (e : Event) → EndsWell setup a Q w e → EndsWell setup a Q (tick w) e
     same_ends w Admit q = q
     same_ends w (Stage j) q = q
@@ -134,6 +134,6 @@ module _ (setup : Setup) (a : Answers) (Q : ℕ → Type 0) (P : State → Type 
     -- counting the event, and an idle one, keep it too
     pub closed_step : ((w : State) → P w → P (tick w)) → ((w : State) → P w → P (idled w)) → (w : State) (e : Event) → (applies setup w e ≡ true → EndsWell setup a Q w e) → P w → P (step setup a w e)
     closed_step ticked idle w e q h = elim (cases_Bool (applies setup w e)) [
-      | inl t ↦ rw t (closed_happens (tick w) e (same_turn w e ∙ t) (same_ends w e (q t)) (ticked w h))
+      | inl t ↦ rw t (closed_happens (tick w) e (same_turn setup w e ∙ t) (same_ends w e (q t)) (ticked w h))
       | inr t ↦ rw t (idle (tick w) (ticked w h))
     ]
