@@ -1,10 +1,9 @@
 -- What lookups see at each point of a run, and what the switch has at its end.
-use Rattle.std.proofs.Common.{◌≡◌, ℕ, ◌+◌, ◌≤◌, true, false, leb, eqb, List, [], ◌∷◌, ◌++◌, Option, Some, None, inl, inr, refl, sym, ◌∙◌, ap, subst, arith, take, length}
-use Rattle.std.specs.Prelude.{slice_get, remove}
+use Rattle.std.proofs.Common.{◌≡◌, ℕ, ◌+◌, ◌≤◌, ◌⊎◌, true, false, List, [], ◌∷◌, ◌++◌, Option, Some, inl, inr, refl, sym, ◌∙◌, ap, subst, arith, zero, suc, set, take, length}
+use Rattle.std.specs.Prelude.{⊤, slice_get}
 use Rattle.std.specs.FinMap as fin
-use Rattle.std.proofs.lemmas.Bool.{cases_Bool, ltb-true}
+use Rattle.std.proofs.lemmas.Option.{same_Some, none-some, slice_get_within}
 use Rattle.std.proofs.lemmas.List.{take_all, length-map}
-use Rattle.packet_fields.specs.declared.verdict.Verdict.{Verdict}
 use Rattle.state_store.specs.Kept.{IsKept}
 use Rattle.state_store.specs.Store.{Store, object_at}
 use Rattle.writeback_table.specs.declared.command.Update.{Update}
@@ -12,16 +11,16 @@ use Rattle.writeback_table.specs.Pair.{Pair}
 use Rattle.writeback_table.specs.Commands.{ons, bit_through, pair_through, room_for}
 use Rattle.writeback_table.specs.Batches.{seen_after, object_after, changed_by, count_of, TakesAll, IsReady, IsSeenInOrder}
 use Rattle.replay_state.specs.Answers.{Answers, Setup}
-use Rattle.replay_state.specs.State.{State, Pass, Batch, Entered, commands_in, visible, seen, store_at, first_state}
+use Rattle.replay_state.specs.State.{State, Progress, Entered, Up, Held, Slow, Fast, Batch, commands_in, visible, seen, store_at, first_state}
 use Rattle.run_model.specs.declared.event.Event.{Event}
-use Rattle.run_model.specs.declared.event.Event.TheVariants.{Admit, Stage, Serve, Send, Apply, Ack, Hold, Down}
-use Rattle.replay_state.specs.Step.{applies, happens, step, steps, tick, came_in, ended, entered, staged, pass_of, with_changes, ran, served, let_go, came_down}
+use Rattle.replay_state.specs.Step.{step, steps, tick, idled, finished, went_up, decided, released}
 use Rattle.replay_state.specs.Drain.{is_quiet}
 use Rattle.replay_state.specs.Sound.{AreSound, IsSoundAt}
 use Rattle.replay_state.specs.Tables.{first_pair, IsSeen, HasNewestTables}
-use Rattle.replay_state.proofs.Lists.{get_within}
-use Rattle.replay_state.proofs.Runs.{store_kept, up_within, unseen_alike}
-use Rattle.replay_state.proofs.Keeping.{Kept, kept_step, kept_first, kept_of}
+use Rattle.replay_state.proofs.Lists.{push_cases}
+use Rattle.replay_state.proofs.Fates.{at_first, at_last, at_up}
+use Rattle.replay_state.proofs.Sane.{Sane, sane_closed, sane_tick, sane_idle, sane_first}
+use Rattle.replay_state.proofs.Walk.{Closed, closed_step, ends_any}
 use Rattle.replay_state.proofs.Serialised.{QuietParts, quiet_parts}
 use Rattle.replay_state.proofs.Steady.{all_bit}
 use Rattle.replay_state.proofs.History.{Begun, updates_in, versions_first, commands_are, begun_merged, begun_push, begun_now, begun_taken, begun_end, begun_at, total_sum, visible_counts, ons_most}
@@ -33,77 +32,156 @@ Law = (o : ℕ) (pair : Pair) (batches : List (List Update)) → IsReady o pair 
 abbrev pub History : Setup → Store → State → Type 0
 History setup start w = (o : ℕ) → setup.replicated o ≡ true → Begun o setup.writeback w.stores w.store 0 (object_at start o) w.batches
 
-module _ (setup : Setup) (a : Answers) (start : Store) (law : AreSound setup a) (first : IsKept setup.objects start) where
-  -- ---- every state of a run has its history
+-- the stores over which held packets were run keep what was declared
+abbrev pub OverAll : Setup → State → Type 0
+OverAll setup w = (n e d v : ℕ) (over : Store) → slice_get w.progress n ≡ Some (Held e d v over) → IsKept setup.objects over
 
-  history_in : (w : State) (n : ℕ) (o : Option Verdict) → History setup start w → History setup start (came_in w n o)
-  history_in w n None h = h
-  history_in w n (Some y) h = h
+-- what every state of a run has of the server's stores
+pub record Stored (setup : Setup) (start : Store) (w : State) : Type 0 where
+  pub sane : Sane setup w
+  pub kept : IsKept setup.objects w.store
+  pub over : OverAll setup w
+  pub history : History setup start w
 
-  history_ended : (w : State) (x : Pass) → History setup start w → History setup start (ended a w x)
-  history_ended w x h = elim (cases_Bool x.pre) [
-    | inl t ↦ rw t (history_in w x.number (a.pre (store_at w.stores x.version) x.number) h)
-    | inr t ↦ rw t h
-  ]
+-- ---- held packets
 
-  history_entered : (w : State) (x : Pass) → History setup start w → History setup start (entered a w x)
-  history_entered w x h = elim (cases_Bool (eqb x.left 0)) [ inl t ↦ rw t (history_ended w x h) | inr t ↦ rw t h ]
+set_any : {X : Type 0} (xs : List X) (k p : ℕ) (y z : X) → slice_get (set xs k y) p ≡ Some z → (y ≡ z) ⊎ (slice_get xs p ≡ Some z)
+set_any [] k p y z h = inr h
+set_any (x ∷ xs) zero zero y z h = inl (same_Some _ _ h)
+set_any (x ∷ xs) zero (suc p) y z h = inr h
+set_any (x ∷ xs) (suc k) zero y z h = inr h
+set_any (x ∷ xs) (suc k) (suc p) y z h = set_any xs k p y z h
 
-  history_staged : (w : State) (j : ℕ) (o : Option Pass) → History setup start w → History setup start (staged a w j o)
-  history_staged w j None h = h
-  history_staged w j (Some x) h = elim (cases_Bool (leb x.left 1)) [
-    | inl t ↦ rw t (history_ended (record w { passes = remove w.passes j }) x h)
-    | inr t ↦ rw t h
-  ]
+over_set : (setup : Setup) (w : State) (n : ℕ) (p : Progress) → ((e d v : ℕ) (over : Store) → p ≡ Held e d v over → IsKept setup.objects over) → OverAll setup w
+    → (m e d v : ℕ) (over : Store) → slice_get (set w.progress n p) m ≡ Some (Held e d v over) → IsKept setup.objects over
+over_set setup w n p here h m e d v over g = elim (set_any w.progress n m p (Held e d v over) g) [
+  | inl new ↦ here e d v over new
+  | inr old ↦ h m e d v over old
+]
 
-  history_ran : (w : State) (j p : ℕ) (us : List Update) → Kept setup a start w → IsSoundAt setup a w.store p → a.changes w.store p ≡ us → History setup start w
-      → History setup start (ran a (tick w) (with_changes (a.after w.store p) us (tick w)) j p)
-  history_ran w j p [] k r none h = λ o rep.
-      begun_now o setup.writeback w.stores w.store (a.after w.store p) (unseen_alike setup a start law first w.store p r none o rep) 0 (object_at start o) w.batches (h o rep)
-  history_ran w j p (u ∷ us) k r same h = λ o rep.
-      let b : Batch = record { updates = u ∷ us; versions = 1 } in
-      let s = total_sum w.batches in
-      let v = k.fine.counts.versions in
-      let l = k.fine.counts.stores in
-      begun_push o setup.writeback w.stores w.store (a.after w.store p) b refl
-      (subst (λ z. count_of o z ≤ setup.writeback) same (r.room o rep))
-      (subst (λ z. TakesAll o (object_at w.store o) z) same (r.taken o rep))
-      (r.changed o rep ∙ ap (changed_by o (object_at w.store o)) same)
-      0 (object_at start o) w.batches (omega arith) (h o rep)
+over_push : (setup : Setup) (w : State) (e d : ℕ) → OverAll setup w → (m e' d' v : ℕ) (over : Store) → slice_get (w.progress ++ Entered e d ∷ []) m ≡ Some (Held e' d' v over) → IsKept setup.objects over
+over_push setup w e d h m e' d' v over g = elim (push_cases w.progress (Entered e d) (Held e' d' v over) m g) [
+  | inl new ↦ absurd (apart new.1)
+  | inr old ↦ h m e' d' v over old
+]
+  where
+    apart : Entered e d ≡ Held e' d' v over → ⊥
+    apart h = cc
 
-  history_go : (w : State) (j : ℕ) (o : Option (ℕ × ℕ)) → History setup start w → History setup start (let_go w j o)
-  history_go w j None h = h
-  history_go w j (Some x) h = h
+module _ (setup : Setup) (a : Answers) (start : Store) (law : AreSound setup a) where
+  sound_at : (w : State) (j p : ℕ) → slice_get w.up j ≡ Some p → Stored setup start w → IsSoundAt setup a w.store p
+  sound_at w j p g h =
+      let fate = at_up w j p h.sane.fine.places g in
+      let within = slice_get_within w.progress p _ fate.1 in
+      let few = h.sane.few in
+      law.each p w.store (omega arith) h.kept
 
-  history_down : (w : State) (j : ℕ) (o : Option ℕ) → History setup start w → History setup start (came_down setup a w j o)
-  history_down w j None h = h
-  history_down w j (Some p) h = history_entered (record w { down = remove w.down j }) (pass_of w false p setup.post_stages) h
+  -- a packet that changes to no held one, by what it was
+  over_ended : (w : State) (n : ℕ) (old new : Progress) (f : Option Progress → Progress) → slice_get w.progress n ≡ Some old → f (Some old) ≡ new → ((e d v : ℕ) (over : Store) → new ≡ Held e d v over → ⊥) → OverAll setup w
+      → (m e d v : ℕ) (over : Store) → slice_get (set w.progress n (f (slice_get w.progress n))) m ≡ Some (Held e d v over) → IsKept setup.objects over
+  over_ended w n old new f there is apart h =
+      over_set setup w n (f (slice_get w.progress n)) (λ e d v over k. absurd (apart e d v over (sym (ap f there ∙ is) ∙ k))) h
 
-  history_happens : (w : State) (e : Event) → applies setup w e ≡ true → Kept setup a start w → History setup start w → History setup start (happens setup a (tick w) e)
-  history_happens w Admit t k h =
-      history_entered (record (tick w) { progress = w.progress ++ Entered (w.events + 1) (seen w) ∷ [] }) (pass_of w true (length w.progress) setup.pre_stages) h
-  history_happens w (Stage j) t k h = history_staged (tick w) j (slice_get w.passes j) h
-  history_happens w (Serve j) t k h =
-      let g = get_within w.up j (ltb-true _ _ t) in
-      let p = g.0 in
-      let r = law.each p w.store (up_within setup a start law first w j p k.fine k.few g.1) (store_kept setup a start law first w k.in_order) in
-      subst (λ o. History setup start (served a (tick w) j o)) (sym g.1) (history_ran w j p (a.changes w.store p) k r refl h)
-  history_happens w Send t k h = λ o rep.
-      begun_merged o setup.writeback w.stores w.store setup.fits (λ us f. law.fits us o f rep) w.sent 0 (object_at start o) w.batches (h o rep)
-  history_happens w Apply t k h = h
-  history_happens w Ack t k h = h
-  history_happens w (Hold j) t k h = history_go (tick w) j (slice_get w.held j) h
-  history_happens w (Down j) t k h = history_down (tick w) j (slice_get w.down j) h
+  over_run : (w : State) (j p v : ℕ) → slice_get w.up j ≡ Some p → Stored setup start w
+      → (m e d u : ℕ) (over : Store) → slice_get (set w.progress p (decided w.events v w.store (slice_get w.progress p))) m ≡ Some (Held e d u over) → IsKept setup.objects over
+  over_run w j p v g h =
+      let fate = at_up w j p h.sane.fine.places g in
+      over_set setup w p (decided w.events v w.store (slice_get w.progress p))
+      (λ e d u over k. subst (IsKept setup.objects) (held_store fate.0 w.events v e d u w.store over (sym (ap (decided w.events v w.store) fate.1) ∙ k)) h.kept) h.over
+    where
+      held_store : (b c v e d u : ℕ) (s over : Store) → Held b c v s ≡ Held e d u over → s ≡ over
+      held_store b c v e d u s over h = cc
 
-  pub history_step : (w : State) (e : Event) → Kept setup a start w → History setup start w → History setup start (step setup a w e)
-  history_step w e k h = elim (cases_Bool (applies setup w e)) [ inl t ↦ rw t (history_happens w e t k h) | inr t ↦ rw t h ]
+  pub stored_closed : Closed setup a (λ n. ⊤) (Stored setup start)
+  stored_closed =
+      let sc = sane_closed setup a in
+      record {
+        let_in = λ w low h. record { sane = sc.let_in w low h.sane; kept = h.kept; over = over_push setup w w.events (seen w) h.over; history = h.history };
+        let_down = λ w j p g h. record { sane = sc.let_down w j p g h.sane; kept = h.kept; over = h.over; history = h.history };
+        finished = λ w j x y g t e h.
+            let fate = at_first w j x h.sane.fine.places g t in
+            record {
+              sane = sc.finished w j x y g t e h.sane;
+              kept = h.kept;
+              over = over_ended w x.number (Entered fate.0 fate.1) (Fast fate.0 w.events fate.1 y) (finished w.events y) fate.2 refl (λ e' d v over k. cc) h.over;
+              history = h.history;
+            };
+        sent_up = λ w j x g t e q h.
+            let fate = at_first w j x h.sane.fine.places g t in
+            record {
+              sane = sc.sent_up w j x g t e q h.sane;
+              kept = h.kept;
+              over = over_ended w x.number (Entered fate.0 fate.1) (Up fate.0) went_up fate.2 refl (λ e' d v over k. cc) h.over;
+              history = h.history;
+            };
+        out = λ w j x g t h.
+            let fate = at_last w j x h.sane.fine.places g t in
+            record {
+              sane = sc.out w j x g t h.sane;
+              kept = h.kept;
+              over = over_ended w x.number (Held fate.0 fate.1 fate.2 fate.3) (Slow fate.0 fate.1 fate.2 (a.post fate.3 x.number) w.events) (released (λ over. a.post over x.number) w.events) fate.4 refl (λ e' d v over k. cc) h.over;
+              history = h.history;
+            };
+        moved = λ w j x g h. record { sane = sc.moved w j x g h.sane; kept = h.kept; over = h.over; history = h.history };
+        unseen = λ w j p g none h.
+            let r = sound_at w j p g h in
+            record {
+              sane = sc.unseen w j p g none h.sane;
+              kept = r.kept;
+              over = over_run w j p w.version g h;
+              history = λ o rep. begun_now o setup.writeback w.stores w.store (a.after w.store p) (r.changed o rep ∙ ap (changed_by o (object_at w.store o)) none) 0 (object_at start o) w.batches (h.history o rep);
+            };
+        shown = λ w j p u us g same h.
+            let r = sound_at w j p g h in
+            let b : Batch = record { updates = u ∷ us; versions = 1 } in
+            record {
+              sane = sc.shown w j p u us g same h.sane;
+              kept = r.kept;
+              over = over_run w j p (w.version + 1) g h;
+              history = λ o rep.
+                  let s = total_sum w.batches in
+                  let v = h.sane.fine.counts.versions in
+                  let l = h.sane.fine.counts.stores in
+                  begun_push o setup.writeback w.stores w.store (a.after w.store p) b refl
+                  (subst (λ z. count_of o z ≤ setup.writeback) same (r.room o rep))
+                  (subst (λ z. TakesAll o (object_at w.store o) z) same (r.taken o rep))
+                  (r.changed o rep ∙ ap (changed_by o (object_at w.store o)) same)
+                  0 (object_at start o) w.batches (omega arith) (h.history o rep);
+            };
+        go = λ w j p need g low h. record { sane = sc.go w j p need g low h.sane; kept = h.kept; over = h.over; history = h.history };
+        sent = λ w low h. record {
+          sane = sc.sent w low h.sane;
+          kept = h.kept;
+          over = h.over;
+          history = λ o rep. begun_merged o setup.writeback w.stores w.store setup.fits (λ us f. law.fits us o f rep) w.sent 0 (object_at start o) w.batches (h.history o rep);
+        };
+        applied = λ w low free h. record { sane = sc.applied w low free h.sane; kept = h.kept; over = h.over; history = h.history };
+        acked = λ w low h. record { sane = sc.acked w low h.sane; kept = h.kept; over = h.over; history = h.history };
+      }
 
-  pub history_steps : (w : State) (es : List Event) → Kept setup a start w → History setup start w → History setup start (steps setup a w es)
-  history_steps w [] k h = h
-  history_steps w (e ∷ es) k h = history_steps (step setup a w e) es (kept_step setup a start law first w e k) (history_step w e k h)
+  pub stored_tick : (w : State) → Stored setup start w → Stored setup start (tick w)
+  stored_tick w h = record { sane = sane_tick setup a w h.sane; kept = h.kept; over = h.over; history = h.history }
 
-  pub history_of : (es : List Event) → History setup start (steps setup a (first_state start) es)
-  history_of es = history_steps (first_state start) es (kept_first setup a start law first) (λ o rep. (refl, refl))
+  pub stored_idle : (w : State) → Stored setup start w → Stored setup start (idled w)
+  stored_idle w h = record { sane = sane_idle setup a w h.sane; kept = h.kept; over = h.over; history = h.history }
+
+  pub stored_step : (w : State) (e : Event) → Stored setup start w → Stored setup start (step setup a w e)
+  stored_step w e h = closed_step setup a (λ n. ⊤) (Stored setup start) stored_closed stored_tick stored_idle w e (λ t. ends_any setup a w e) h
+
+  pub stored_steps : (w : State) (es : List Event) → Stored setup start w → Stored setup start (steps setup a w es)
+  stored_steps w [] h = h
+  stored_steps w (e ∷ es) h = stored_steps (step setup a w e) es (stored_step w e h)
+
+  pub stored_first : IsKept setup.objects start → Stored setup start (first_state start)
+  stored_first first = record {
+    sane = sane_first setup a start;
+    kept = first;
+    over = λ n e d v over g. absurd (none-some _ g);
+    history = λ o rep. (refl, refl);
+  }
+
+  pub stored_of : IsKept setup.objects start → (es : List Event) → Stored setup start (steps setup a (first_state start) es)
+  stored_of first es = stored_steps (first_state start) es (stored_first first)
 
 -- ---- lookups see the visible version
 
@@ -133,9 +211,10 @@ seen_from law setup start w h = record {
 
 -- ---- when nothing is on its way
 
-pub newest_tables : Law → (setup : Setup) (a : Answers) (start : Store) (w : State) → Kept setup a start w → History setup start w → QuietParts w → HasNewestTables setup start w
-newest_tables law setup a start w k h q =
-    let low = k.fine.counts.acked_in in
+newest_tables : Law → (setup : Setup) (start : Store) (w : State) → Stored setup start w → QuietParts w → HasNewestTables setup start w
+newest_tables law setup start w k q =
+    let low = k.sane.fine.counts.acked_in in
+    let h = k.history in
     let here = q.acked in
     let same = commands_are w.batches in
     let all : take w.done (commands_in w.batches) ≡ commands_in w.batches = take_all w.done (commands_in w.batches) (omega arith) in
@@ -148,10 +227,10 @@ newest_tables law setup a start w k h q =
     }
 
 pub lookups_see_one_version : Law → (setup : Setup) (a : Answers) (start : Store) (events : List Event) → AreSound setup a → IsKept setup.objects start → IsSeen setup start (steps setup a (first_state start) events)
-lookups_see_one_version tables setup a start events law first = seen_from tables setup start (steps setup a (first_state start) events) (history_of setup a start law first events)
+lookups_see_one_version tables setup a start events law first = seen_from tables setup start (steps setup a (first_state start) events) (stored_of setup a start law first events).history
 
 pub a_quiet_switch_has_the_newest_tables : Law → (setup : Setup) (a : Answers) (start : Store) (events : List Event) → AreSound setup a → IsKept setup.objects start
     → is_quiet (steps setup a (first_state start) events) ≡ true → HasNewestTables setup start (steps setup a (first_state start) events)
 a_quiet_switch_has_the_newest_tables tables setup a start events law first quiet =
     let w = steps setup a (first_state start) events in
-    newest_tables tables setup a start w (kept_of setup a start law first events) (history_of setup a start law first events) (quiet_parts w quiet)
+    newest_tables tables setup start w (stored_of setup a start law first events) (quiet_parts w quiet)
