@@ -1,14 +1,13 @@
--- The bit and the visible version, by what the commands are.
+-- The bit, by what the commands are.
 use Rattle.std.proofs.Common.{◌≡◌, ℕ, ◌+◌, Bool, true, false, cond, ltb, List, [], ◌∷◌, ◌++◌, refl, sym, ◌∙◌, ap, arith, zero, suc, take, map}
 use Rattle.std.specs.Prelude.{⊤}
 use Rattle.std.proofs.lemmas.Bool.{lt-ltb, le-ltb}
 use Rattle.writeback_table.specs.declared.command.Update.{Update}
 use Rattle.writeback_table.specs.declared.command.Command.{Command}
 use Rattle.writeback_table.specs.declared.command.Command.TheVariants.{Stage, On, Main, Off, Clear}
-use Rattle.writeback_table.specs.Commands.{clear_of, commands_of, ons, versions, versions_on, bit_through}
-use Rattle.replay_state.specs.State.{Batch, bit_behind, commands_in, visible}
-use Rattle.replay_state.specs.Commands.{offs, versions_at}
-use Rattle.replay_state.proofs.History.{versions_first, visible_counts}
+use Rattle.writeback_table.specs.Commands.{clear_of, commands_of, ons, bit_through}
+use Rattle.replay_state.specs.State.{Batch, bit_behind, commands_in}
+use Rattle.replay_state.specs.Commands.{offs}
 
 -- ---- the bit
 
@@ -80,21 +79,3 @@ pub bit_is : (bs : List Batch) (n : ℕ) → bit_behind bs n ≡ ltb (offs (take
 bit_is bs n =
     let cs = take n (commands_in bs) in
     by_counts (bit_through false cs) (offs cs) (ons cs) (bit_counts false (commands_in bs) n (batches_alternate bs))
-
--- ---- the visible version
-
-versions_from : (weight : ℕ → ℕ) (n : ℕ) → versions weight (suc n) ≡ weight 0 + versions (λ i. weight (suc i)) n
-versions_from weight zero = omega arith
-versions_from weight (suc n) = let r = versions_from weight n in omega arith
-
-versions_none : (n : ℕ) → versions (versions_at []) n ≡ 0
-versions_none zero = refl
-versions_none (suc n) = let r = versions_none n in omega arith
-
-first_versions : (bs : List Batch) (k : ℕ) → versions_first bs k ≡ versions (versions_at bs) k
-first_versions bs zero = refl
-first_versions [] (suc k) = sym (versions_none (suc k))
-first_versions (b ∷ bs) (suc k) = ap (λ n. b.versions + n) (first_versions bs k) ∙ sym (versions_from (versions_at (b ∷ bs)) k)
-
-pub versions_are : (bs : List Batch) (n : ℕ) → visible bs n ≡ versions_on (versions_at bs) (take n (commands_in bs))
-versions_are bs n = visible_counts bs n ∙ first_versions bs (ons (take n (commands_in bs)))

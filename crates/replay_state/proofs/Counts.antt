@@ -4,10 +4,33 @@ use Rattle.std.proofs.lemmas.Bool.{leb-true, eqb-true, cases_Bool}
 use Rattle.std.proofs.lemmas.List.{take-append-le, length-append, length-map, append-nil, append_assoc, map-append}
 use Rattle.writeback_table.specs.declared.command.Update.{Update}
 use Rattle.writeback_table.specs.declared.command.Command.{Command}
-use Rattle.writeback_table.specs.declared.command.Command.TheVariants.{Stage, On, Main, Off}
+use Rattle.writeback_table.specs.declared.command.Command.TheVariants.{Stage, On, Main, Off, Clear}
 use Rattle.writeback_table.specs.Commands.{clear_of, commands_of}
-use Rattle.replay_state.specs.State.{State, Batch, commands_in, shows, versions_of, versions_in, sum_of, visible}
+use Rattle.replay_state.specs.State.{State, Batch, commands_in}
 use Rattle.replay_state.specs.Step.{take_up, merged}
+
+-- how many versions a command of a batch with so many makes visible, and each of all commands
+abbrev pub shows : ℕ → Command → ℕ
+shows versions On = versions
+shows versions (Stage update) = 0
+shows versions (Main update) = 0
+shows versions Off = 0
+shows versions (Clear object key) = 0
+
+abbrev pub versions_of : Batch → List ℕ
+versions_of b = map (shows b.versions) (commands_of b.updates)
+
+abbrev pub versions_in : List Batch → List ℕ
+versions_in [] = []
+versions_in (b ∷ bs) = versions_of b ++ versions_in bs
+
+abbrev pub sum_of : List ℕ → ℕ
+sum_of [] = 0
+sum_of (x ∷ xs) = x + sum_of xs
+
+-- the sum over the first n commands
+abbrev pub sums : List Batch → ℕ → ℕ
+sums batches n = sum_of (take n (versions_in batches))
 
 pub sum_append : (xs ys : List ℕ) → sum_of (xs ++ ys) ≡ sum_of xs + sum_of ys
 sum_append [] ys = sym (zero-add (sum_of ys))
@@ -88,14 +111,14 @@ first_split (x ∷ c) d (suc m) = let e : suc m - suc (length c) ≡ m - length 
 pub first_append : (c d : List ℕ) (n : ℕ) → n ≤ length c → first_sum (c ++ d) n ≡ first_sum c n
 first_append c d n h = ap sum_of (take-append-le n c d h)
 
-pub visible_more : (bs : List Batch) (m n : ℕ) → m ≤ n → visible bs m ≤ visible bs n
-visible_more bs m n h = first_more (versions_in bs) m n h
+pub sums_more : (bs : List Batch) (m n : ℕ) → m ≤ n → sums bs m ≤ sums bs n
+sums_more bs m n h = first_more (versions_in bs) m n h
 
-pub visible_total : (bs : List Batch) (n : ℕ) → visible bs n ≤ sum_of (versions_in bs)
-visible_total bs n = first_total (versions_in bs) n
+pub sums_total : (bs : List Batch) (n : ℕ) → sums bs n ≤ sum_of (versions_in bs)
+sums_total bs n = first_total (versions_in bs) n
 
-pub visible_all : (bs : List Batch) → visible bs (length (commands_in bs)) ≡ sum_of (versions_in bs)
-visible_all bs = rw (sym (long bs)) (first_all (versions_in bs))
+pub sums_all : (bs : List Batch) → sums bs (length (commands_in bs)) ≡ sum_of (versions_in bs)
+sums_all bs = rw (sym (long bs)) (first_all (versions_in bs))
 
 -- ---- one batch more
 
@@ -103,8 +126,8 @@ pub versions_push : (bs : List Batch) (b : Batch) → versions_in (bs ++ b ∷ [
 versions_push [] b = append-nil (versions_of b)
 versions_push (a ∷ bs) b = ap (λ l. versions_of a ++ l) (versions_push bs b) ∙ sym (append_assoc (versions_of a) (versions_in bs) (versions_of b))
 
-pub visible_push : (bs : List Batch) (b : Batch) (n : ℕ) → n ≤ length (commands_in bs) → visible (bs ++ b ∷ []) n ≡ visible bs n
-visible_push bs b n h = ap (λ l. first_sum l n) (versions_push bs b) ∙ first_append (versions_in bs) (versions_of b) n (let e = long bs in omega arith)
+pub sums_push : (bs : List Batch) (b : Batch) (n : ℕ) → n ≤ length (commands_in bs) → sums (bs ++ b ∷ []) n ≡ sums bs n
+sums_push bs b n h = ap (λ l. first_sum l n) (versions_push bs b) ∙ first_append (versions_in bs) (versions_of b) n (let e = long bs in omega arith)
 
 pub length_more : (bs : List Batch) (b : Batch) → length (commands_in (bs ++ b ∷ [])) ≡ length (commands_in bs) + (3 * length b.updates + 2)
 length_more bs b =
@@ -158,7 +181,7 @@ take_up_is fits b (c ∷ bs) = elim (cases_Bool (fits (b.updates ++ c.updates)))
 
 pub record Merged (n : ℕ) (old new : List Batch) : Type 0 where
   pub versions : sum_of (versions_in new) ≡ sum_of (versions_in old)
-  pub shows : (m : ℕ) → m ≤ n → visible new m ≡ visible old m
+  pub shows : (m : ℕ) → m ≤ n → sums new m ≡ sums old m
   pub goes_on : n < length (versions_in old) → n < length (versions_in new)
   pub fewer : length (versions_in new) ≤ length (versions_in old)
 

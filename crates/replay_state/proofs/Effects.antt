@@ -10,7 +10,8 @@ use Rattle.replay_state.specs.State.{State, Progress, Entered, Up, Held, Slow, F
 use Rattle.replay_state.specs.Step.{tick, idled, pass_of, finished, went_up, released, decided}
 use Rattle.replay_state.proofs.Words.{Member}
 use Rattle.replay_state.proofs.Lists.{get_past, set_cases, push_cases, get_member, member_remove, member_push, member_set, weight, weight_push, weight_remove, weight_set, is, mark_set, mark_push}
-use Rattle.replay_state.proofs.Counts.{Counts, counts_same, merged_is, visible_more, visible_total}
+use Rattle.replay_state.proofs.Counts.{Counts, counts_same}
+use Rattle.replay_state.proofs.Visible.{visible_more, visible_merged, visible_total}
 use Rattle.replay_state.proofs.Fates.{pass_mark, up_mark, held_mark, in_first, in_last, in_up, in_held, Places, at_first, at_up, held_fate, is_at, Needs, FateOk, fate_more, EachFine, each_push, each_set, each_weaker, Pairs, pairs_push, pairs_set, fits_late, fits_now}
 use Rattle.replay_state.proofs.Steps.{let_in, let_down, finished_at, up_at, out_at, moved_at, run_at, go_at, sent_one, applied_one, acked_one, counts_sent}
 
@@ -97,9 +98,8 @@ fine_idled w c = record {
 
 pub fine_sent : (w : State) (fits : List Update → Bool) → w.sent < length (commands_in w.batches) → Fine w → Fine (sent_one w fits)
 fine_sent w fits h c =
-    let m = merged_is fits w.sent w.batches in
-    let done = m.shows w.done c.counts.done_in in
-    let acked = m.shows w.acked (let a = c.counts.acked_in in let b = c.counts.done_in in omega arith) in
+    let done = visible_merged fits w.sent w.done w.batches c.counts.done_in in
+    let acked = visible_merged fits w.sent w.acked w.batches (let a = c.counts.acked_in in let b = c.counts.done_in in omega arith) in
     record {
       counts = counts_sent w fits h c.counts;
       places = record { firsts = c.places.firsts; ups = c.places.ups; helds = c.places.helds };

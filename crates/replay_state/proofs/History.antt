@@ -8,9 +8,9 @@ use Rattle.writeback_table.specs.declared.command.Command.{Command}
 use Rattle.writeback_table.specs.declared.command.Command.TheVariants.{Stage, On, Main, Off, Clear}
 use Rattle.writeback_table.specs.Commands.{clear_of, commands_of, counts_on, ons}
 use Rattle.writeback_table.specs.Batches.{all_commands, changed_at, changed_by, object_after, TakesAll, AreTaken, count_of}
-use Rattle.replay_state.specs.State.{Batch, commands_in, shows, versions_of, versions_in, sum_of, visible, store_at}
+use Rattle.replay_state.specs.State.{Batch, commands_in, store_at}
 use Rattle.replay_state.specs.Step.{take_up, merged}
-use Rattle.replay_state.proofs.Counts.{sum_append, sum_batch, first_sum, first_split, joined}
+use Rattle.replay_state.proofs.Counts.{shows, versions_of, versions_in, sum_of, sums, sum_append, sum_batch, first_sum, first_split, joined}
 
 -- ---- changes one behind the other
 
@@ -182,10 +182,10 @@ first_few b bs zero low = omega arith
 first_few b bs (suc zero) low = omega arith
 first_few b bs (suc (suc k)) low = absurd (omega arith)
 
-pub visible_counts : (bs : List Batch) (n : ℕ) → visible bs n ≡ versions_first bs (ons (take n (commands_in bs)))
-visible_counts [] zero = refl
-visible_counts [] (suc n) = refl
-visible_counts (b ∷ bs) n =
+pub sums_counts : (bs : List Batch) (n : ℕ) → sums bs n ≡ versions_first bs (ons (take n (commands_in bs)))
+sums_counts [] zero = refl
+sums_counts [] (suc n) = refl
+sums_counts (b ∷ bs) n =
     let cs = commands_of b.updates in
     let long : length (versions_of b) ≡ length cs = length-map cs (shows b.versions) in
     let split = first_split (versions_of b) (versions_in bs) n in
@@ -194,9 +194,9 @@ visible_counts (b ∷ bs) n =
       | inl past ↦
           let all : take n cs ≡ cs = take_all n cs (omega arith) in
           let whole : ons (take n cs) ≡ 1 = ap ons all ∙ ons_batch b.updates in
-          let rest = visible_counts bs (n - length cs) in
+          let rest = sums_counts bs (n - length cs) in
           let same : n - length (versions_of b) ≡ n - length cs = omega arith in
-          let later : visible bs (n - length (versions_of b)) ≡ versions_first bs (ons (take (n - length cs) (commands_in bs))) = ap (visible bs) same ∙ rest in
+          let later : sums bs (n - length (versions_of b)) ≡ versions_first bs (ons (take (n - length cs) (commands_in bs))) = ap (sums bs) same ∙ rest in
           let count : ons (take n (cs ++ commands_in bs)) ≡ suc (ons (take (n - length cs) (commands_in bs))) =
           ap ons (take_split cs (commands_in bs) n (omega arith)) ∙ ons_append cs (take (n - length cs) (commands_in bs)) ∙ (let w = ons_batch b.updates in omega arith) in
           let first : first_sum (versions_of b) n ≡ b.versions = one ∙ ap (λ k. b.versions * k) whole ∙ omega arith in
@@ -206,6 +206,6 @@ visible_counts (b ∷ bs) n =
           let count : ons (take n (cs ++ commands_in bs)) ≡ ons (take n cs) = ap ons (take-append-le n cs (commands_in bs) within) in
           let few : ons (take n cs) ≤ 1 = let m = ons_most cs n in let w = ons_batch b.updates in omega arith in
           let first = first_few b bs (ons (take n cs)) few in
-          let later : visible bs (n - length (versions_of b)) ≡ 0 = ap (visible bs) none in
+          let later : sums bs (n - length (versions_of b)) ≡ 0 = ap (sums bs) none in
           rw count (omega arith)
     ]

@@ -17,7 +17,8 @@ use Rattle.replay_state.specs.Step.{finished, went_up, released, decided, came_i
 use Rattle.replay_state.specs.Sound.{AreSound}
 use Rattle.replay_state.proofs.Words.{entry_of, verdict_at}
 use Rattle.replay_state.proofs.Lists.{get_set_same, get_set_other, get_push_same, remove_push, kept_push, kept_set}
-use Rattle.replay_state.proofs.Counts.{counts_same, visible_push}
+use Rattle.replay_state.proofs.Counts.{counts_same}
+use Rattle.replay_state.proofs.Visible.{visible_push}
 use Rattle.replay_state.proofs.Fates.{at_first, at_last}
 use Rattle.replay_state.proofs.Effects.{Fine, fine_tick, fine_idled, fine_sent, fine_applied, fine_acked, fine_moved, fine_let_in, fine_finished, fine_sent_up, fine_came_down, fine_let_go, fine_let_down, fine_run}
 use Rattle.replay_state.proofs.Runs.{InOrder, Fresh, Few, what_at, in_order_same, in_order_fast, in_order_seen, in_order_unseen}

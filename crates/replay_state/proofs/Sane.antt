@@ -9,7 +9,8 @@ use Rattle.replay_state.specs.Answers.{Answers, Setup}
 use Rattle.replay_state.specs.State.{State, Progress, Entered, Batch, seen, first_state}
 use Rattle.replay_state.specs.Step.{idled, step, steps, tick}
 use Rattle.replay_state.specs.Step.{finished, went_up, released, decided}
-use Rattle.replay_state.proofs.Counts.{counts_same, visible_push}
+use Rattle.replay_state.proofs.Counts.{counts_same}
+use Rattle.replay_state.proofs.Visible.{visible_push}
 use Rattle.replay_state.proofs.Effects.{Fine, fine_tick, fine_idled, fine_sent, fine_applied, fine_acked, fine_moved, fine_let_in, fine_finished, fine_sent_up, fine_came_down, fine_let_go, fine_let_down, fine_run}
 use Rattle.replay_state.proofs.Walk.{Closed, closed_step, ends_any}
 use Rattle.replay_state.proofs.Steps.{counts_seen, run_at}

@@ -23,7 +23,8 @@ use Rattle.replay_state.proofs.Sane.{Sane, sane_closed, sane_tick, sane_idle, sa
 use Rattle.replay_state.proofs.Walk.{Closed, closed_step, ends_any}
 use Rattle.replay_state.proofs.Serialised.{QuietParts, quiet_parts}
 use Rattle.replay_state.proofs.Steady.{all_bit}
-use Rattle.replay_state.proofs.History.{Begun, updates_in, versions_first, commands_are, begun_merged, begun_push, begun_now, begun_taken, begun_end, begun_at, total_sum, visible_counts, ons_most}
+use Rattle.replay_state.proofs.History.{Begun, updates_in, versions_first, commands_are, begun_merged, begun_push, begun_now, begun_taken, begun_end, begun_at, total_sum, ons_most}
+use Rattle.replay_state.proofs.Visible.{visible_counts}
 
 -- what a pair of tables shows of batches
 abbrev pub Law : Type 0

@@ -26,7 +26,7 @@ use Rattle.replay_state.proofs.Words.{Member, Before, Rising, version_at, entry_
 use Rattle.replay_state.proofs.Lists.{weight, get_within, none_within, get_member}
 use Rattle.replay_state.proofs.Order.{before_self, before_not_back}
 use Rattle.replay_state.proofs.Sorting.{IsOrder, order_unique, entry_number}
-use Rattle.replay_state.proofs.Counts.{visible_all}
+use Rattle.replay_state.proofs.Visible.{visible_all}
 use Rattle.replay_state.proofs.Fates.{FateOk, Pair, pass_mark, up_mark, held_mark, in_first, in_last, in_up, in_held}
 use Rattle.replay_state.proofs.Serial.{numbers_of}
 use Rattle.replay_state.proofs.Effects.{Fine}

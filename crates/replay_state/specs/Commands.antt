@@ -5,7 +5,7 @@ use Rattle.writeback_table.specs.declared.command.Command.TheVariants.{Stage, On
 use Rattle.run_model.specs.declared.event.Event.{Event}
 use Rattle.run_model.specs.declared.event.Event.TheVariants as event
 use Rattle.replay_state.specs.Answers.{Setup}
-use Rattle.replay_state.specs.State.{Batch, State, commands_in}
+use Rattle.replay_state.specs.State.{State, commands_in}
 use Rattle.replay_state.specs.Step.{applies}
 
 abbrev pub counts_off : Command → ℕ
@@ -19,14 +19,6 @@ counts_off (Clear object key) = 0
 abbrev pub offs : List Command → ℕ
 offs [] = 0
 offs (command ∷ commands) = counts_off command + offs commands
-
-abbrev pub weight_of : Option Batch → ℕ
-weight_of None = 0
-weight_of (Some b) = b.versions
-
--- how many versions batch i makes; where there is none, none
-abbrev pub versions_at : List Batch → ℕ → ℕ
-versions_at batches i = weight_of (slice_get batches i)
 
 -- ## Commands that were applied
 

@@ -7,14 +7,14 @@ ghost use Rattle.packet_fields.specs.declared.verdict.Verdict.TheVariants as ver
 ghost use Rattle.state_store.specs.Kept.{IsKept};
 ghost use Rattle.state_store.specs.Store.{Store, start_store};
 ghost use Rattle.writeback_table.specs.Batches.{count_of};
-ghost use Rattle.writeback_table.specs.Commands.{ons, versions_on};
+ghost use Rattle.writeback_table.specs.Commands.{ons};
 ghost use Rattle.run_model.specs.declared.event.Event.{Event};
 ghost use Rattle.run_model.specs.declared.event.Event.TheVariants.{Admit, Down};
 ghost use Rattle.run_model.specs.Order.{order_of};
 ghost use Rattle.run_model.specs.Serialises.{Serialises, AllReleased, IsDrained, is_fast, is_passing};
 ghost use Rattle.replay_state.specs.Agree.{Agree, AgreeOn};
 ghost use Rattle.replay_state.specs.Answers.{Answers, Setup, meaning_of};
-ghost use Rattle.replay_state.specs.Commands.{applied_by, offs, versions_at};
+ghost use Rattle.replay_state.specs.Commands.{applied_by, offs};
 ghost use Rattle.replay_state.specs.Drain.{Drains, IsFirstOf, Picks, drain_bound, drain_events, drain_order};
 ghost use Rattle.replay_state.specs.Drain.{events_left, is_drained, is_quiet, next_event};
 ghost use Rattle.replay_state.specs.Examples.{half_sent, main_waits, some_updates, stage_waits, two_batches};
@@ -22,7 +22,7 @@ ghost use Rattle.replay_state.specs.Places.{HavePlaces};
 ghost use Rattle.replay_state.specs.Run.{job_run, seen_store};
 ghost use Rattle.replay_state.specs.Sound.{AreFew, AreSound};
 ghost use Rattle.replay_state.specs.State.{Batch, Fast, Held, Slow, State, Up};
-ghost use Rattle.replay_state.specs.State.{applied_commands, bit_behind, commands_in, fate_of, seen, store_at, visible};
+ghost use Rattle.replay_state.specs.State.{applied_commands, bit_behind, commands_in, fate_of, seen, store_at};
 ghost use Rattle.replay_state.specs.Step.{applies, idled, state_of, step, steps, tick};
 ghost use Rattle.replay_state.specs.Tables.{HasNewestTables, IsSeen};
 ghost use Rattle.replay_state.specs.Views.{KeepViews};
@@ -175,13 +175,10 @@ pub fn a_packet_is_fast_by_what_is_seen()
         setup.pre_stages ≡ 0 → applies setup st Admit ≡ true → is_passing fate ≡ false) }
 {}
 
-/// The bit stands just where more commands have set it than have cleared it, and the visible version is the number of
-/// versions of the batches that have set it.
-pub fn commands_by_their_kinds()
-    ensures bit { (batches : List Batch) (n : ℕ)
+/// The bit stands just where more commands have set it than have cleared it.
+pub fn the_bit_by_counts()
+    ensures { (batches : List Batch) (n : ℕ)
         → (let first = take n (commands_in batches) in bit_behind batches n ≡ nat_lt (offs first) (ons first)) }
-    ensures versions { (batches : List Batch) (n : ℕ)
-        → visible batches n ≡ versions_on (versions_at batches) (take n (commands_in batches)) }
 {}
 
 /// The commands that were applied are those before an event, and the next one behind them where the event applies it,
