@@ -4,7 +4,7 @@ use Rattle.std.specs.Prelude.{is_some, slice_get, IsTrue}
 use Rattle.std.proofs.lemmas.List.{take_all}
 use Rattle.packet_fields.specs.declared.verdict.Verdict.{Verdict}
 use Rattle.state_store.specs.declared.object.ObjectDecl.{ObjectDecl}
-use Rattle.state_store.specs.Store.{Store, object_at, rows_of, start_store}
+use Rattle.state_store.specs.Store.{Store, object_at, rows_of}
 use Rattle.writeback_table.specs.declared.command.Command.{Command}
 use Rattle.writeback_table.specs.Batches.{seen_after}
 use Rattle.writeback_table.specs.Commands.{bit_through, pair_through}
@@ -44,7 +44,7 @@ module _ (test : ℕ → Bool) (tables : Told) (store : Store) (rows : (o : ℕ)
   parts_same n (o ∷ os) = one_part n o os (test n) refl (parts_same (suc n) os)
 
 module _ (x : Given) (events : List Event) (st : State) where
-  pub seen_of : Shows (setup_for x) (start_store x.program.objects) st (seen_store st)
+  pub seen_of : Shows (setup_for x) st (seen_store st)
       → (o : ℕ) → (whole x).replicated o ≡ true
       → seen_after o (first_pair x.program x.writeback o) (applied_commands st) (length (applied_commands st)) ≡ (object_at (seen_store st) o).contents
   seen_of shows o rep = seen_first o (first_pair x.program x.writeback o) (commands_in st.batches) st.done ∙ shows o rep

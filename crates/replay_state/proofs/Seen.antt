@@ -5,7 +5,7 @@ use Rattle.std.specs.FinMap as fin
 use Rattle.std.proofs.lemmas.Option.{same_Some, none-some, slice_get_within}
 use Rattle.std.proofs.lemmas.List.{take_all, length-map}
 use Rattle.state_store.specs.Kept.{IsKept}
-use Rattle.state_store.specs.Store.{Store, object_at}
+use Rattle.state_store.specs.Store.{Store, object_at, start_store}
 use Rattle.writeback_table.specs.declared.command.Update.{Update}
 use Rattle.writeback_table.specs.Pair.{Pair}
 use Rattle.writeback_table.specs.Commands.{ons, bit_through, pair_through, room_for}
@@ -30,19 +30,23 @@ use Rattle.replay_state.proofs.Visible.{visible_counts}
 abbrev pub Law : Type 0
 Law = (o : ℕ) (pair : Pair) (batches : List (List Update)) → IsReady o pair batches → IsSeenInOrder o pair batches
 
-abbrev pub History : Setup → Store → State → Type 0
-History setup start w = (o : ℕ) → setup.replicated o ≡ true → Begun o setup.writeback w.stores w.store 0 (object_at start o) w.batches
+-- the store that runs start with
+abbrev pub begin : Setup → Store
+begin setup = start_store setup.objects
+
+abbrev pub History : Setup → State → Type 0
+History setup w = (o : ℕ) → setup.replicated o ≡ true → Begun o setup.writeback w.stores w.store 0 (object_at (begin setup) o) w.batches
 
 -- the stores over which held packets were run keep what was declared
 abbrev pub OverAll : Setup → State → Type 0
 OverAll setup w = (n e d v : ℕ) (over : Store) → slice_get w.progress n ≡ Some (Held e d v over) → IsKept setup.objects over
 
 -- what every state of a run has of the server's stores
-pub record Stored (setup : Setup) (start : Store) (w : State) : Type 0 where
+pub record Stored (setup : Setup) (w : State) : Type 0 where
   pub sane : Sane setup w
   pub kept : IsKept setup.objects w.store
   pub over : OverAll setup w
-  pub history : History setup start w
+  pub history : History setup w
 
 -- ---- held packets
 
@@ -69,8 +73,8 @@ over_push setup w e d h m e' d' v over g = elim (push_cases w.progress (Entered 
     apart : Entered e d ≡ Held e' d' v over → ⊥
     apart h = cc
 
-module _ (setup : Setup) (a : Answers) (start : Store) (law : AreSound setup a) where
-  sound_at : (w : State) (j p : ℕ) → slice_get w.up j ≡ Some p → Stored setup start w → IsSoundAt setup a w.store p
+module _ (setup : Setup) (a : Answers) (law : AreSound setup a) where
+  sound_at : (w : State) (j p : ℕ) → slice_get w.up j ≡ Some p → Stored setup w → IsSoundAt setup a w.store p
   sound_at w j p g h =
       let fate = at_up w j p h.sane.fine.places g in
       let within = slice_get_within w.progress p _ fate.1 in
@@ -83,7 +87,7 @@ module _ (setup : Setup) (a : Answers) (start : Store) (law : AreSound setup a) 
   over_ended w n old new f there is apart h =
       over_set setup w n (f (slice_get w.progress n)) (λ e d v over k. absurd (apart e d v over (sym (ap f there ∙ is) ∙ k))) h
 
-  over_run : (w : State) (j p v : ℕ) → slice_get w.up j ≡ Some p → Stored setup start w
+  over_run : (w : State) (j p v : ℕ) → slice_get w.up j ≡ Some p → Stored setup w
       → (m e d u : ℕ) (over : Store) → slice_get (set w.progress p (decided w.events v w.store (slice_get w.progress p))) m ≡ Some (Held e d u over) → IsKept setup.objects over
   over_run w j p v g h =
       let fate = at_up w j p h.sane.fine.places g in
@@ -93,7 +97,7 @@ module _ (setup : Setup) (a : Answers) (start : Store) (law : AreSound setup a) 
       held_store : (b c v e d u : ℕ) (s over : Store) → Held b c v s ≡ Held e d u over → s ≡ over
       held_store b c v e d u s over h = cc
 
-  pub stored_closed : Closed setup a (λ n. ⊤) (Stored setup start)
+  pub stored_closed : Closed setup a (λ n. ⊤) (Stored setup)
   stored_closed =
       let sc = sane_closed setup a in
       record {
@@ -130,7 +134,7 @@ module _ (setup : Setup) (a : Answers) (start : Store) (law : AreSound setup a) 
               sane = sc.unseen w j p g none h.sane;
               kept = r.kept;
               over = over_run w j p w.version g h;
-              history = λ o rep. begun_now o setup.writeback w.stores w.store (a.after w.store p) (r.changed o rep ∙ ap (changed_by o (object_at w.store o)) none) 0 (object_at start o) w.batches (h.history o rep);
+              history = λ o rep. begun_now o setup.writeback w.stores w.store (a.after w.store p) (r.changed o rep ∙ ap (changed_by o (object_at w.store o)) none) 0 (object_at (begin setup) o) w.batches (h.history o rep);
             };
         shown = λ w j p u us g same h.
             let r = sound_at w j p g h in
@@ -147,73 +151,73 @@ module _ (setup : Setup) (a : Answers) (start : Store) (law : AreSound setup a) 
                   (subst (λ z. count_of o z ≤ setup.writeback) same (r.room o rep))
                   (subst (λ z. TakesAll o (object_at w.store o) z) same (r.taken o rep))
                   (r.changed o rep ∙ ap (changed_by o (object_at w.store o)) same)
-                  0 (object_at start o) w.batches (omega arith) (h.history o rep);
+                  0 (object_at (begin setup) o) w.batches (omega arith) (h.history o rep);
             };
         go = λ w j p need g low h. record { sane = sc.go w j p need g low h.sane; kept = h.kept; over = h.over; history = h.history };
         sent = λ w low h. record {
           sane = sc.sent w low h.sane;
           kept = h.kept;
           over = h.over;
-          history = λ o rep. begun_merged o setup.writeback w.stores w.store setup.fits (λ us f. law.fits us o f rep) w.sent 0 (object_at start o) w.batches (h.history o rep);
+          history = λ o rep. begun_merged o setup.writeback w.stores w.store setup.fits (λ us f. law.fits us o f rep) w.sent 0 (object_at (begin setup) o) w.batches (h.history o rep);
         };
         applied = λ w low free h. record { sane = sc.applied w low free h.sane; kept = h.kept; over = h.over; history = h.history };
         acked = λ w low h. record { sane = sc.acked w low h.sane; kept = h.kept; over = h.over; history = h.history };
       }
 
-  pub stored_tick : (w : State) → Stored setup start w → Stored setup start (tick w)
+  pub stored_tick : (w : State) → Stored setup w → Stored setup (tick w)
   stored_tick w h = record { sane = sane_tick setup a w h.sane; kept = h.kept; over = h.over; history = h.history }
 
-  pub stored_idle : (w : State) → Stored setup start w → Stored setup start (idled w)
+  pub stored_idle : (w : State) → Stored setup w → Stored setup (idled w)
   stored_idle w h = record { sane = sane_idle setup a w h.sane; kept = h.kept; over = h.over; history = h.history }
 
-  pub stored_step : (w : State) (e : Event) → Stored setup start w → Stored setup start (step setup a w e)
-  stored_step w e h = closed_step setup a (λ n. ⊤) (Stored setup start) stored_closed stored_tick stored_idle w e (λ t. ends_any setup a w e) h
+  pub stored_step : (w : State) (e : Event) → Stored setup w → Stored setup (step setup a w e)
+  stored_step w e h = closed_step setup a (λ n. ⊤) (Stored setup) stored_closed stored_tick stored_idle w e (λ t. ends_any setup a w e) h
 
-  pub stored_steps : (w : State) (es : List Event) → Stored setup start w → Stored setup start (steps setup a w es)
+  pub stored_steps : (w : State) (es : List Event) → Stored setup w → Stored setup (steps setup a w es)
   stored_steps w [] h = h
   stored_steps w (e ∷ es) h = stored_steps (step setup a w e) es (stored_step w e h)
 
-  pub stored_first : IsKept setup.objects start → Stored setup start (first_state start)
+  pub stored_first : IsKept setup.objects (begin setup) → Stored setup (first_state (begin setup))
   stored_first first = record {
-    sane = sane_first setup a start;
+    sane = sane_first setup a (begin setup);
     kept = first;
     over = λ n e d v over g. absurd (none-some _ g);
     history = λ o rep. (refl, refl);
   }
 
-  pub stored_of : IsKept setup.objects start → (es : List Event) → Stored setup start (steps setup a (first_state start) es)
-  stored_of first es = stored_steps (first_state start) es (stored_first first)
+  pub stored_of : IsKept setup.objects (begin setup) → (es : List Event) → Stored setup (steps setup a (first_state (begin setup)) es)
+  stored_of first es = stored_steps (first_state (begin setup)) es (stored_first first)
 
 -- ---- lookups see the visible version
 
-pub ready_from : (setup : Setup) (start : Store) (w : State) → History setup start w → (o : ℕ) → setup.replicated o ≡ true → IsReady o (first_pair setup start o) (updates_in w.batches)
-ready_from setup start w h o rep = record { empty = refl; taken = begun_taken o setup.writeback w.stores w.store 0 (object_at start o) w.batches (h o rep) }
+pub ready_from : (setup : Setup) (w : State) → History setup w → (o : ℕ) → setup.replicated o ≡ true → IsReady o (first_pair setup o) (updates_in w.batches)
+ready_from setup w h o rep = record { empty = refl; taken = begun_taken o setup.writeback w.stores w.store 0 (object_at (begin setup) o) w.batches (h o rep) }
 
-pub seen_from : Law → (setup : Setup) (start : Store) (w : State) → History setup start w → IsSeen setup start w
-seen_from law setup start w h = record {
+pub seen_from : Law → (setup : Setup) (w : State) → History setup w → IsSeen setup w
+seen_from law setup w h = record {
   shows = λ o rep.
-      let kept = law o (first_pair setup start o) (updates_in w.batches) (ready_from setup start w h o rep) in
+      let kept = law o (first_pair setup o) (updates_in w.batches) (ready_from setup w h o rep) in
       let same = commands_are w.batches in
       let k : ℕ = ons (take w.done (commands_in w.batches)) in
       let most = ons_most (commands_in w.batches) w.done in
       let all : ons (commands_in w.batches) ≡ length w.batches = ap ons same ∙ kept.all ∙ length-map w.batches (λ b. b.updates) in
-      let here = begun_at o setup.writeback w.stores w.store k 0 (object_at start o) w.batches (omega arith) (h o rep) in
+      let here = begun_at o setup.writeback w.stores w.store k 0 (object_at (begin setup) o) w.batches (omega arith) (h o rep) in
       let version : 0 + versions_first w.batches k ≡ visible w.batches w.done = let v = visible_counts w.batches w.done in omega arith in
-      let begun : object_at (store_at w.stores (visible w.batches w.done)) o ≡ object_after o (object_at start o) (take k (updates_in w.batches)) =
+      let begun : object_at (store_at w.stores (visible w.batches w.done)) o ≡ object_after o (object_at (begin setup) o) (take k (updates_in w.batches)) =
       ap (λ v. object_at (store_at w.stores v) o) (sym version) ∙ here in
-      subst (λ l. seen_after o (first_pair setup start o) l w.done ≡ (object_after o (object_at start o) (take (ons (take w.done l)) (updates_in w.batches))).contents) (sym same) (kept.seen w.done)
+      subst (λ l. seen_after o (first_pair setup o) l w.done ≡ (object_after o (object_at (begin setup) o) (take (ons (take w.done l)) (updates_in w.batches))).contents) (sym same) (kept.seen w.done)
       ∙ ap (λ x. x.contents) (sym begun);
   room = λ o command rep here.
-      let kept = law o (first_pair setup start o) (updates_in w.batches) (ready_from setup start w h o rep) in
+      let kept = law o (first_pair setup o) (updates_in w.batches) (ready_from setup w h o rep) in
       let same = commands_are w.batches in
-      subst (λ l. room_for o (pair_through o (first_pair setup start o) (take w.done l)) command ≡ true) (sym same)
+      subst (λ l. room_for o (pair_through o (first_pair setup o) (take w.done l)) command ≡ true) (sym same)
       (kept.room w.done command (ap (λ l. slice_get l w.done) (sym same) ∙ here));
 }
 
 -- ---- when nothing is on its way
 
-newest_tables : Law → (setup : Setup) (start : Store) (w : State) → Stored setup start w → QuietParts w → HasNewestTables setup start w
-newest_tables law setup start w k q =
+newest_tables : Law → (setup : Setup) (w : State) → Stored setup w → QuietParts w → HasNewestTables setup w
+newest_tables law setup w k q =
     let low = k.sane.fine.counts.acked_in in
     let h = k.history in
     let here = q.acked in
@@ -222,16 +226,16 @@ newest_tables law setup start w k q =
     record {
       bit = ap (bit_through false) (all ∙ same) ∙ all_bit (updates_in w.batches);
       each = λ o rep.
-          let kept = law o (first_pair setup start o) (updates_in w.batches) (ready_from setup start w h o rep) in
-          ap (pair_through o (first_pair setup start o)) (all ∙ same) ∙ kept.pair_ends
-          ∙ ap (λ m. record { main = m; staged = fin.empty; room = setup.writeback }) (sym (begun_end o setup.writeback w.stores w.store 0 (object_at start o) w.batches (h o rep)));
+          let kept = law o (first_pair setup o) (updates_in w.batches) (ready_from setup w h o rep) in
+          ap (pair_through o (first_pair setup o)) (all ∙ same) ∙ kept.pair_ends
+          ∙ ap (λ m. record { main = m; staged = fin.empty; room = setup.writeback }) (sym (begun_end o setup.writeback w.stores w.store 0 (object_at (begin setup) o) w.batches (h o rep)));
     }
 
-pub lookups_see_one_version : Law → (setup : Setup) (a : Answers) (start : Store) (events : List Event) → AreSound setup a → IsKept setup.objects start → IsSeen setup start (steps setup a (first_state start) events)
-lookups_see_one_version tables setup a start events law first = seen_from tables setup start (steps setup a (first_state start) events) (stored_of setup a start law first events).history
+pub lookups_see_one_version : Law → (setup : Setup) (a : Answers) (events : List Event) → AreSound setup a → IsKept setup.objects (begin setup) → IsSeen setup (steps setup a (first_state (begin setup)) events)
+lookups_see_one_version tables setup a events law first = seen_from tables setup (steps setup a (first_state (begin setup)) events) (stored_of setup a law first events).history
 
-pub a_quiet_switch_has_the_newest_tables : Law → (setup : Setup) (a : Answers) (start : Store) (events : List Event) → AreSound setup a → IsKept setup.objects start
-    → is_quiet (steps setup a (first_state start) events) ≡ true → HasNewestTables setup start (steps setup a (first_state start) events)
-a_quiet_switch_has_the_newest_tables tables setup a start events law first quiet =
-    let w = steps setup a (first_state start) events in
-    newest_tables tables setup start w (stored_of setup a start law first events) (quiet_parts w quiet)
+pub a_quiet_switch_has_the_newest_tables : Law → (setup : Setup) (a : Answers) (events : List Event) → AreSound setup a → IsKept setup.objects (begin setup)
+    → is_quiet (steps setup a (first_state (begin setup)) events) ≡ true → HasNewestTables setup (steps setup a (first_state (begin setup)) events)
+a_quiet_switch_has_the_newest_tables tables setup a events law first quiet =
+    let w = steps setup a (first_state (begin setup)) events in
+    newest_tables tables setup w (stored_of setup a law first events) (quiet_parts w quiet)

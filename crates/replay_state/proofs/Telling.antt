@@ -29,17 +29,17 @@ module _ (tables : Law) (looks : Looks) (s : SplitProgram) (packets : List Packe
   abbrev now : State
   now = steps setup (plain s packets) (first_state begin) events
 
-  pub entering_right : ((store : Store) → IsKept s.objects store → Sees setup begin now (pass_of now true (length now.progress) setup.pre_stages) store → IsRight s store (length now.progress) (packet_at packets (length now.progress)) (up_answer calls (length now.progress)))
+  pub entering_right : ((store : Store) → IsKept s.objects store → Sees setup now (pass_of now true (length now.progress) setup.pre_stages) store → IsRight s store (length now.progress) (packet_at packets (length now.progress)) (up_answer calls (length now.progress)))
       → IsRight s (store_at now.stores (seen now)) (length now.progress) (packet_at packets (length now.progress)) (up_answer calls (length now.progress))
   entering_right told =
       let sound = plain_sound s packets manner law in
       let k = kept_of setup (plain s packets) begin sound law.start events in
-      let is = lookups_see_one_version tables setup (plain s packets) begin events sound law.start in
+      let is = lookups_see_one_version tables setup (plain s packets) events sound law.start in
       told (store_at now.stores (seen now)) (k.in_order.kept (seen now) (shown_le now now.done k.fine)) is.shows
 
   pub staying_right : (j : ℕ) (x : Pass) → slice_get now.passes j ≡ Some x
-      → ((store : Store) → IsKept s.objects store → Sees setup begin now x store → IsRight s store x.number (packet_at packets x.number) (up_answer calls x.number))
+      → ((store : Store) → IsKept s.objects store → Sees setup now x store → IsRight s store x.number (packet_at packets x.number) (up_answer calls x.number))
       → IsRight s (store_at now.stores x.version) x.number (packet_at packets x.number) (up_answer calls x.number)
   staying_right j x g told =
-      let v = passes_keep_their_views tables looks setup (plain s packets) begin (plain_sound s packets manner law) law.start events in
+      let v = passes_keep_their_views tables looks setup (plain s packets) (plain_sound s packets manner law) law.start events in
       told (store_at now.stores x.version) (v.kept j x g) (λ o rep. v.each j o x g rep)

@@ -112,7 +112,7 @@ module _ (s : SplitProgram) (packets : List Packet) (manner : Manner) (law : IsS
       let a = plain s packets in
       let w = steps setup a (first_state begin) events in
       let k = kept_of setup a begin (plain_sound s packets manner law) law.start events in
-      let over = (stored_of setup a begin (plain_sound s packets manner law) law.start events).over in
+      let over = (stored_of setup a (plain_sound s packets manner law) law.start events).over in
       let framed = carried_weaker (WentUp s packets calls) (WentUp s packets (calls ++ one)) st (went_more calls one) t.framed in
       let r = one_told (calls ++ one) st event (subst (Kept setup a begin) (sym t.same) k) (subst (OverAll setup) (sym t.same) over) framed tells in
       record {

@@ -99,19 +99,17 @@ pub fn a_switch_that_tells_its_tables_answers_right()
     ensures entering { (s : SplitProgram) (packets : List Packet) (manner : Manner) (events : List Event)
         (calls : List Call) → IsSplitProgram s packets
         → (let setup = setup_of s packets manner in
-        let start = start_store s.objects in
         let st = state_of setup (plain s packets) events in
         let n = length st.progress in
-        ((store : Store) → IsKept s.objects store → Sees setup start st (pass_of st true n setup.pre_stages) store
+        ((store : Store) → IsKept s.objects store → Sees setup st (pass_of st true n setup.pre_stages) store
         → IsRight s store n (packet_at packets n) (up_answer calls n))
         → IsRight s (store_at st.stores (seen st)) n (packet_at packets n) (up_answer calls n)) }
     ensures under_way { (s : SplitProgram) (packets : List Packet) (manner : Manner) (events : List Event)
         (calls : List Call) → IsSplitProgram s packets
         → (let setup = setup_of s packets manner in
-        let start = start_store s.objects in
         let st = state_of setup (plain s packets) events in
         (j : ℕ) (pass : Pass) → slice_get st.passes j ≡ Some pass
-        → ((store : Store) → IsKept s.objects store → Sees setup start st pass store
+        → ((store : Store) → IsKept s.objects store → Sees setup st pass store
         → IsRight s store pass.number (packet_at packets pass.number) (up_answer calls pass.number))
         → IsRight s (store_at st.stores pass.version) pass.number (packet_at packets pass.number)
         (up_answer calls pass.number)) }

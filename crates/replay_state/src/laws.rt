@@ -5,7 +5,7 @@ ghost use Rattle.std.specs.Prelude.{is_some, nat_lt, remove, slice_get, slice_se
 ghost use Rattle.packet_fields.specs.declared.verdict.Verdict.{Verdict};
 ghost use Rattle.packet_fields.specs.declared.verdict.Verdict.TheVariants as verdict;
 ghost use Rattle.state_store.specs.Kept.{IsKept};
-ghost use Rattle.state_store.specs.Store.{Store, start_store};
+ghost use Rattle.state_store.specs.Store.{Store};
 ghost use Rattle.writeback_table.specs.Batches.{count_of};
 ghost use Rattle.writeback_table.specs.Commands.{ons};
 ghost use Rattle.run_model.specs.declared.event.Event.{Event};
@@ -90,7 +90,7 @@ pub fn drain_ends()
 /// next command finds room, also where batches are taken up.
 pub fn lookups_see_one_version()
     ensures { (setup : Setup) (a : Answers) (events : List Event)
-        → AreSound setup a → IsSeen setup (start_store setup.objects) (state_of setup a events) }
+        → AreSound setup a → IsSeen setup (state_of setup a events) }
 {
     batches_are_seen_in_order();
 }
@@ -110,7 +110,7 @@ pub fn stores_keep_what_was_declared()
 pub fn a_quiet_switch_has_the_newest_tables()
     ensures { (setup : Setup) (a : Answers) (events : List Event)
         → AreSound setup a → IsTrue (is_quiet (state_of setup a events))
-        → HasNewestTables setup (start_store setup.objects) (state_of setup a events) }
+        → HasNewestTables setup (state_of setup a events) }
 {
     batches_are_seen_in_order();
 }
@@ -118,7 +118,7 @@ pub fn a_quiet_switch_has_the_newest_tables()
 /// Each pass under way sees the objects of the version over which it entered, whatever commands are applied meanwhile.
 pub fn passes_keep_their_views()
     ensures { (setup : Setup) (a : Answers) (events : List Event)
-        → AreSound setup a → KeepViews setup (start_store setup.objects) (state_of setup a events) }
+        → AreSound setup a → KeepViews setup (state_of setup a events) }
 {
     batches_are_seen_in_order();
     what_a_lookup_sees();

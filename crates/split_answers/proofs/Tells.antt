@@ -5,7 +5,7 @@ use Rattle.std.proofs.lemmas.Bool.{cases_Bool, eq-eqb}
 use Rattle.std.proofs.lemmas.List.{take_all}
 use Rattle.packet_fields.specs.declared.packet.Packet.{Packet}
 use Rattle.packet_fields.specs.declared.verdict.Verdict.{Verdict}
-use Rattle.state_store.specs.Store.{Store, object_at, start_store}
+use Rattle.state_store.specs.Store.{Store, object_at}
 use Rattle.flat_ir.specs.Arrivals.{IsArrival}
 use Rattle.flat_ir.specs.Program.{Program}
 use Rattle.split_model.specs.declared.split.Part.{Part}
@@ -188,7 +188,7 @@ module _ (f : Program) (split : List Part) (writeback : ℕ) (packets : List Pac
   abbrev store : Store
   store = store_at st.stores (seen st)
 
-  tells_admit : Shows setup (start_store f.objects) st store
+  tells_admit : Shows setup st store
       → ((number : ℕ) (packet : Packet) (end : UpEnd) (answer : UpAnswer) → IsArrival packet
       → ((o : ℕ) → is_replicated f split o ≡ true → seen_after o (through.first_pair f writeback o) applied (length applied) ≡ (object_at store o).contents)
       → EndsUp code tables number packet end → IsEndOf end answer → IsRight s store number packet (Some answer))
@@ -218,7 +218,7 @@ module _ (f : Program) (split : List Part) (writeback : ℕ) (packets : List Pac
         post = λ t. ap told (fresh_down n no_end ∙ d.is) ∙ post frame d.verdict d.framed d.over;
       }
 
-  pub tells : Shows setup (start_store f.objects) st store
+  pub tells : Shows setup st store
       → ((number : ℕ) (packet : Packet) (end : UpEnd) (answer : UpAnswer) → IsArrival packet
       → ((o : ℕ) → is_replicated f split o ≡ true → seen_after o (through.first_pair f writeback o) applied (length applied) ≡ (object_at store o).contents)
       → EndsUp code tables number packet end → IsEndOf end answer → IsRight s store number packet (Some answer))

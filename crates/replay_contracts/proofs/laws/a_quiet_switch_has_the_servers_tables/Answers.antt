@@ -1,5 +1,4 @@
 use Rattle.std.proofs.Common.{◌≡◌, sym, subst, true}
-use Rattle.state_store.specs.Store.{start_store}
 use Rattle.replay_state.specs.Drain.{is_quiet}
 use Rattle.replay_state.specs.State.{State, applied_commands}
 use Rattle.replay_state.specs.Tables.{HasNewestTables}
@@ -12,7 +11,6 @@ returns c x events calls st port tables ready h is quiet =
     let law = c.split_programs_have_their_laws.ensures x.program x.split x.writeback x.packets ready.split ready.arrivals in
     let sound = c.whole_runs_are_sound.ensures.sound (whole x) x.packets x.manner law in
     let told = h.told tables is in
-    let begin = start_store x.program.objects in
     let quiet_there = subst (λ (w : State). is_quiet w ≡ true) told.tied.same quiet in
-    let newest = subst (HasNewestTables setup begin) (sym told.tied.same) (c.a_quiet_switch_has_the_newest_tables.ensures setup (whole_runs x) events sound quiet_there) in
+    let newest = subst (HasNewestTables setup) (sym told.tied.same) (c.a_quiet_switch_has_the_newest_tables.ensures setup (whole_runs x) events sound quiet_there) in
     c.quiet_tables_are_the_stores.ensures x.program x.split x.writeback st.store (applied_commands st) tables ready.split told.through newest.bit newest.each

@@ -1,7 +1,6 @@
 use Rattle.std.proofs.Common.{sym, subst, ◌∙◌}
 use Rattle.std.specs.Prelude.{take}
 use Rattle.state_store.specs.Kept.{IsKept}
-use Rattle.state_store.specs.Store.{start_store}
 use Rattle.replay_state.specs.Journal.{journal}
 use Rattle.replay_state.specs.Places.{HavePlaces}
 use Rattle.replay_state.specs.Program.{plain, setup_of}
@@ -15,9 +14,8 @@ pub returns : goal.returns
 returns c f split writeback packets manner events event calls one st tables is arrive answered tied through asks over applies =
     let s = whole_of f split writeback in
     let setup = setup_of s packets manner in
-    let begin = start_store f.objects in
     let sound = c.whole_runs_are_sound.ensures.sound s packets manner (c.split_programs_have_their_laws.ensures f split writeback packets is arrive) in
-    let shows = subst (λ (w : State). Shows setup begin w (store_at w.stores (seen w))) (sym tied.same) (c.lookups_see_one_version.ensures setup (plain s packets) events sound).shows in
+    let shows = subst (λ (w : State). Shows setup w (store_at w.stores (seen w))) (sym tied.same) (c.lookups_see_one_version.ensures setup (plain s packets) events sound).shows in
     let kept = subst (λ (w : State). IsKept f.objects (store_at w.stores (seen w))) (sym tied.same) (c.stores_keep_what_was_declared.ensures.seen setup (plain s packets) events sound) in
     let calls_say = c.a_run_is_answered_by_its_calls.ensures in
     tells f split writeback packets manner calls one st tables
