@@ -137,7 +137,7 @@ pub fn answers_that_agree_lead_to_one_state()
         → Agree setup a b st events → steps setup a st events ≡ steps setup b st events }
 {}
 
-/// Where passes have no stages, they end at the event at which they enter.
+/// Where passes have no stages, they end at the event at which they enter, and none is under way.
 pub fn passes_with_no_stages_end_at_once()
     ensures fast { (setup : Setup) (a : Answers) (st : State) (y : Verdict)
         → setup.pre_stages ≡ 0 → applies setup st Admit ≡ true
@@ -159,6 +159,8 @@ pub fn passes_with_no_stages_end_at_once()
           down = remove st.down j;
           progress = slice_set st.progress n (Slow e d v (a.post over n) (st.events + 1));
         } }
+    ensures none { (setup : Setup) (a : Answers) (events : List Event)
+        → setup.pre_stages ≡ 0 → setup.post_stages ≡ 0 → (state_of setup a events).passes ≡ [] }
 {}
 
 /// Once its preprocessing has ended, a packet is told as fast just where it is fast over the store of the version that
