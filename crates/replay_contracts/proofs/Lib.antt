@@ -1,3 +1,4 @@
 mod Going
 mod Picking
 mod Reporting
+mod Determined

@@ -1,13 +1,13 @@
 //! How a replay over a switch begins, goes on and ends, whatever the switch answers, and what it promises where the
 //! switch tells its tables. These functions do nothing: their contracts are the laws.
-ghost use Rattle.std.specs.Prelude.{◌≡◌, ◌++◌, ◌∷◌, [], ℕ, IsTrue, List, None, Some, is_some, map};
+ghost use Rattle.std.specs.Prelude.{◌≡◌, ◌++◌, ◌∷◌, [], ℕ, false, IsTrue, List, None, Some, is_some, map};
 ghost use Rattle.state_store.specs.Store.{start_store};
 ghost use Rattle.run_model.specs.declared.event.Event.{Event};
 ghost use Rattle.run_model.specs.declared.run.Run.{Run};
 ghost use Rattle.switch_ir.specs.Port.{PortState};
 ghost use Rattle.switch_ir.specs.Tables.{Told};
 ghost use Rattle.replay_state.specs.Drain.{is_quiet, next_event};
-ghost use Rattle.replay_state.specs.Journal.{Call, asked, question_of};
+ghost use Rattle.replay_state.specs.Journal.{Call, FramesAre, IsNumbered, asked, question_of};
 ghost use Rattle.replay_state.specs.Run.{job_run};
 ghost use Rattle.replay_state.specs.State.{State, first_state};
 ghost use Rattle.replay_state.specs.Step.{step};
@@ -20,7 +20,8 @@ ghost use Rattle.replay_contracts.specs.Replay.{HasDrained, HasPicked, IsLoaded,
 use replay_state::{
     a_packet_is_fast_by_what_is_seen, a_quiet_switch_has_the_newest_tables,
     a_run_is_answered_by_its_calls, a_told_step_keeps_the_tie, commands_are_applied_in_order,
-    drain_ends, every_run_serialises, lookups_see_one_version, whole_runs_are_sound,
+    drain_ends, every_run_serialises, lookups_see_one_version, passes_with_no_stages_end_at_once,
+    whole_runs_are_sound,
 };
 use split_answers::{
     a_switch_that_tells_its_tables_tells_right, a_told_command_goes_through,
@@ -119,4 +120,19 @@ pub fn a_quiet_switch_has_the_servers_tables()
     quiet_tables_are_the_stores();
     split_programs_have_their_laws();
     whole_runs_are_sound();
+}
+
+/// Where each pass takes one event, the journal of a port determines the calls of a replay, and so its state: the
+/// clauses of a replayer speak of one state. The frames that went up have the numbers of their packets, as every port
+/// answers them.
+pub fn a_journal_determines_its_replay()
+    ensures { (x : Given) (events : List Event) (calls others : List Call) (st other : State) (port : PortState)
+        → IsReady x → x.manner.fine ≡ false
+        → IsReplay x events calls st port → IsReplay x events others other port
+        → FramesAre (IsNumbered (whole x)) calls → FramesAre (IsNumbered (whole x)) others
+        → (calls ≡ others) × (st ≡ other) }
+{
+    a_run_is_answered_by_its_calls();
+    frames_do_what_packets_do();
+    passes_with_no_stages_end_at_once();
 }
