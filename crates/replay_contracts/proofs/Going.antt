@@ -2,6 +2,7 @@
 use Rattle.std.proofs.Common.{◌≡◌, ℕ, List, [], ◌∷◌, ◌++◌, Option, Some, None, inl, inr, refl, sym, ◌∙◌, ap, subst, map}
 use Rattle.std.specs.Prelude.{slice_get}
 use Rattle.std.specs.Option.{option_map}
+use Rattle.std.specs.List.{AllByRecursion as Each}
 use Rattle.std.proofs.lemmas.Bool.{cases_Bool}
 use Rattle.std.proofs.lemmas.Option.{same_Some, none-some}
 use Rattle.std.proofs.lemmas.List.{append-nil, append_assoc}
@@ -98,6 +99,10 @@ goes_through law code commands told now (CalledStageDown n answer ∷ calls) h o
 told_before : (calls : List Call) (o : Option Told) (tables : Told) → option_map (told_through calls) o ≡ Some tables → (before : Told) × (o ≡ Some before) × (told_through calls before ≡ tables)
 told_before calls None tables h = absurd (none-some tables h)
 told_before calls (Some before) tables h = (before, refl, same_Some _ _ h)
+
+pub each_append : {X : Type 0} (P : X → Type 0) (xs ys : List X) → Each P xs → Each P ys → Each P (xs ++ ys)
+each_append P [] ys h k = k
+each_append P (x ∷ xs) ys h k = (h.0, each_append P xs ys h.1 k)
 
 -- ---- the journal
 

@@ -2,3 +2,4 @@ mod Going
 mod Picking
 mod Reporting
 mod Determined
+mod Formed

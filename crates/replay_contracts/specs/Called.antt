@@ -1,10 +1,11 @@
 -- What calls of a switch leave in its journal and in the tables that it tells.
-use Rattle.std.specs.Prelude.{◌≡◌, ◌≤◌, Bool, true, false, List, [], ◌∷◌, ◌++◌, Some}
+use Rattle.std.specs.Prelude.{◌≡◌, ◌≤◌, ⊤, ℕ, Bool, true, false, List, [], ◌∷◌, ◌++◌, Some}
 use Rattle.std.specs.List.{filter}
+use Rattle.std.specs.List.{AllByRecursion as Each}
 use Rattle.std.specs.Option.{option_map}
 use Rattle.writeback_table.specs.declared.command.Command.{Command}
 use Rattle.switch_ir.specs.Code.{Code}
-use Rattle.switch_ir.specs.Port.{PortState}
+use Rattle.switch_ir.specs.Port.{PortState, IsUpFrame}
 use Rattle.switch_ir.specs.Tables.{Told, told_after}
 use Rattle.switch_ir.specs.declared.journal.Entry.{Entry}
 use Rattle.switch_ir.specs.declared.journal.Entry.TheVariants as entry
@@ -77,6 +78,21 @@ abbrev pub commands_among : List Call → List Command
 commands_among [] = []
 commands_among (call ∷ calls) = command_in call ++ commands_among calls
 
+-- ## Frames
+
+-- a frame that went up has the code's layout, and the number, the port and the packet of its call, whatever its values
+abbrev pub IsFormed : Code → Call → Type 0
+IsFormed code (CalledUp fine n packet (Finished verdict)) = ⊤
+IsFormed code (CalledUp fine n packet (SentUp frame)) = IsUpFrame code n packet.port packet.bytes (up.Up frame)
+IsFormed code (CalledUp fine n packet GoingUp) = ⊤
+IsFormed code (CalledStageUp n (Finished verdict)) = ⊤
+IsFormed code (CalledStageUp n (SentUp frame)) =
+    (port : ℕ) × (packet : List ℕ) × IsUpFrame code n port packet (up.Up frame)
+IsFormed code (CalledStageUp n GoingUp) = ⊤
+IsFormed code (CalledCommand c) = ⊤
+IsFormed code (CalledDown fine n frame answer) = ⊤
+IsFormed code (CalledStageDown n answer) = ⊤
+
 -- ## Calls
 
 -- the port was called for nothing but room and rows, and no call of it failed
@@ -93,4 +109,5 @@ pub record WasCalled (code : Code) (calls : List Call) (old new : PortState) : T
   pub told : new.told ≡ option_map (told_through calls) old.told
   pub journal : calls_in new.journal ≡ calls_in old.journal ++ journal_of calls
   pub faults : new.faults ≡ old.faults
+  pub formed : Each (IsFormed code) calls
   pub answers : (told : Told) → old.told ≡ Some told → AreAnswersOver code told calls

@@ -1,5 +1,6 @@
 -- A replay over a port: its events, the calls that they made, and the state that these determine.
 use Rattle.std.specs.Prelude.{◌≡◌, ◌≤◌, List, [], ◌++◌, Some, true, length}
+use Rattle.std.specs.List.{AllByRecursion as Each}
 use Rattle.run_model.specs.declared.event.Event.{Event}
 use Rattle.switch_ir.specs.Port.{PortState}
 use Rattle.switch_ir.specs.Tables.{Told, IsStart}
@@ -10,7 +11,7 @@ use Rattle.replay_state.specs.State.{State, applied_commands}
 use Rattle.replay_state.specs.Step.{state_of}
 use Rattle.replay_state.specs.Told.{IsTied}
 use Rattle.split_answers.specs.Through.{IsThrough}
-use Rattle.replay_contracts.specs.Called.{HasCalls}
+use Rattle.replay_contracts.specs.Called.{HasCalls, IsFormed}
 use Rattle.replay_contracts.specs.Given.{Given, whole, setup_for, whole_runs, code_for}
 
 -- the switch answers by its calls
@@ -27,6 +28,7 @@ pub record IsTold (x : Given) (events : List Event) (calls : List Call) (st : St
 pub record IsReplay (x : Given) (events : List Event) (calls : List Call) (st : State) (port : PortState) : Type 0 where
   pub answered : IsAnswered (setup_for x) (whole x) x.packets events calls st
   pub called : HasCalls (code_for x) calls port
+  pub formed : Each (IsFormed (code_for x)) calls
   pub told : (tables : Told) → port.told ≡ Some tables → IsTold x events calls st tables
 
 -- the port was loaded, and has made no other call

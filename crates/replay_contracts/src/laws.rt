@@ -7,7 +7,8 @@ ghost use Rattle.run_model.specs.declared.run.Run.{Run};
 ghost use Rattle.switch_ir.specs.Port.{PortState};
 ghost use Rattle.switch_ir.specs.Tables.{Told};
 ghost use Rattle.replay_state.specs.Drain.{is_quiet, next_event};
-ghost use Rattle.replay_state.specs.Journal.{Call, FramesAre, IsNumbered, asked, question_of};
+ghost use Rattle.replay_state.specs.Journal.{Call, IsNumbered, SentUp, asked, question_of, up_answer};
+ghost use Rattle.transfer_header.specs.Frames.{IsFrame};
 ghost use Rattle.replay_state.specs.Run.{job_run};
 ghost use Rattle.replay_state.specs.State.{State, first_state};
 ghost use Rattle.replay_state.specs.Step.{step};
@@ -28,6 +29,7 @@ use split_answers::{
     frames_do_what_packets_do, quiet_tables_are_the_stores, split_programs_have_their_laws,
     told_rows_are_the_visible_stores, told_tables_start,
 };
+use transfer_header::frames_are_told_by_place;
 
 /// A port that was loaded is a replay of no events.
 pub fn a_replay_begins()
@@ -122,17 +124,27 @@ pub fn a_quiet_switch_has_the_servers_tables()
     whole_runs_are_sound();
 }
 
+/// Whatever a port answers, the frame that a packet went up in is one of the code's layout, and has the packet's number.
+pub fn frames_have_their_forms()
+    ensures { (x : Given) (events : List Event) (calls : List Call) (st : State) (port : PortState) (n : ℕ)
+        (frame : List ℕ)
+        → IsReplay x events calls st port → up_answer calls n ≡ Some (SentUp frame)
+        → IsFrame 1 (code_for x).up frame × IsNumbered (whole x) n frame }
+{
+    a_run_is_answered_by_its_calls();
+    frames_are_told_by_place();
+}
+
 /// Where each pass takes one event, the journal of a port determines the calls of a replay, and so its state: the
-/// clauses of a replayer speak of one state. The frames that went up have the numbers of their packets, as every port
-/// answers them.
+/// clauses of a replayer speak of one state.
 pub fn a_journal_determines_its_replay()
     ensures { (x : Given) (events : List Event) (calls others : List Call) (st other : State) (port : PortState)
         → IsReady x → x.manner.fine ≡ false
         → IsReplay x events calls st port → IsReplay x events others other port
-        → FramesAre (IsNumbered (whole x)) calls → FramesAre (IsNumbered (whole x)) others
         → (calls ≡ others) × (st ≡ other) }
 {
     a_run_is_answered_by_its_calls();
+    frames_are_told_by_place();
     frames_do_what_packets_do();
     passes_with_no_stages_end_at_once();
 }

@@ -1,16 +1,15 @@
-use Rattle.std.proofs.Common.{◌≡◌, ℕ, Bool, false, cond, List, [], ◌∷◌, refl, sym, ◌∙◌, ap, subst, if◌then◌else◌}
+use Rattle.std.proofs.Common.{◌≡◌, List, [], sym, ◌∙◌, subst}
 use Rattle.std.specs.List.{AllByRecursion as Each}
-use Rattle.run_model.specs.declared.event.Event.{Event}
 use Rattle.replay_state.specs.Journal.{Call, IsAnswered, journal, questions}
 use Rattle.replay_state.specs.State.{State}
 use Rattle.replay_contracts.specs.Given.{setup_for, whole}
 use Rattle.replay_contracts.specs.Called.{journal_of}
-use Rattle.replay_contracts.specs.Replay.{IsReplay}
 use Rattle.replay_contracts.proofs.Determined.{IsWhole, are_whole, numbered_each, none_of, questions_whole, same_calls, same_head}
+use Rattle.replay_contracts.proofs.Formed.{frames_numbered}
 use Rattle.replay_contracts.proofs.laws.a_journal_determines_its_replay.Goals as goal
 
 pub returns : goal.returns
-returns c x events calls others st other port ready plain h k frames other_frames =
+returns c x events calls others st other port ready plain h k =
     let setup = setup_for x in
     let s = whole x in
     let pre : setup.pre_stages ≡ 0 = none_of x.manner.fine s.pre_stages plain in
@@ -20,6 +19,9 @@ returns c x events calls others st other port ready plain h k frames other_frame
     let whole_in : (cs : List Call) (w : State) → IsAnswered setup s x.packets events cs w → Each IsWhole cs = λ cs w a.
     are_whole cs (questions setup s x.packets cs _ events) a.asked
     (questions_whole setup s x.packets cs plain pre post (λ es. c.passes_with_no_stages_end_at_once.ensures.none setup (journal s cs) es pre post) [] events) in
+    let parts = c.frames_are_told_by_place.ensures.parts in
+    let frames = frames_numbered parts x calls h.formed in
+    let other_frames = frames_numbered parts x others k.formed in
     let one = numbered_each s calls (say.numbered s x.packets x.manner events calls st framed h.answered frames) in
     let two = numbered_each s others (say.numbered s x.packets x.manner events others other framed k.answered other_frames) in
     let journals : journal_of calls ≡ journal_of others = (same_head _ _ (journal_of calls) (journal_of others) (sym h.called.journal ∙ k.called.journal)).1 in
