@@ -1,0 +1,68 @@
+//! What a replay keeps from event to event: a first part of its calls.
+ghost use Rattle.std.specs.Prelude.{◌≡◌, ◌<◌, ◌≤◌, ◌-◌, ◌^◌, List};
+ghost use Rattle.run_model.specs.declared.event.Event.TheVariants as event;
+ghost use Rattle.replay_state.specs.Answers.{Answers, Setup};
+ghost use Rattle.replay_state.specs.Journal.{Call};
+ghost use Rattle.replay_state.specs.Program.{SplitProgram};
+ghost use Rattle.replay_state.specs.State.{State};
+ghost use Rattle.replay_state.specs.Step.{applies, step};
+ghost use Rattle.replay_contracts.specs.Replayer.{stepped_by};
+ghost use Rattle.replay_course.specs.Shown.{IsShown};
+
+use gal_io::Bytes;
+use output_commit::Commit;
+use replay_contracts::Stepped;
+use run_model::Fate;
+use server_runtime::Server;
+use std::collections::VecDeque;
+
+/// The server, the frames on their way, the held outputs with the commands, and how far each packet has come.
+#[derive(Debug, Drop)]
+pub struct Course {
+    /// The frames on their way up to the server, each with the number of its packet.
+    pub up: VecDeque<(u32, Bytes)>,
+    pub server: Server,
+    pub commit: Commit,
+    /// The frames on their way down to the switch, each with the number of its packet.
+    pub down: VecDeque<(u32, Bytes)>,
+    /// How far each admitted packet has come, by number.
+    pub fates: Vec<Fate>,
+    pub events: u32,
+    pub idle: u32,
+}
+
+impl Course {
+    /// One more applied command is acknowledged.
+    pub fn acknowledge(&mut self) -> Stepped
+        requires events { self.old.events < 2 ^ 32 - 1 }
+        requires idle { self.old.idle ≤ self.old.events }
+        ensures stepped { (s : SplitProgram) (setup : Setup) (calls : List Call) (st : State)
+            → IsShown s calls st self.old → result ≡ stepped_by (applies setup st event.Ack) }
+        ensures shown { (s : SplitProgram) (setup : Setup) (a : Answers) (calls : List Call) (st : State)
+            → IsShown s calls st self.old → IsShown s calls (step setup a st event.Ack) self.new }
+    {
+        self.events += 1;
+        if self.commit.acknowledge() {
+            Stepped::Did
+        } else {
+            self.idle += 1;
+            Stepped::Idle
+        }
+    }
+
+    /// One more command is sent, where batches go by themselves.
+    pub fn send(&mut self) -> Stepped
+        requires events { self.old.events < 2 ^ 32 - 1 }
+        requires idle { self.old.idle ≤ self.old.events }
+        ensures stepped { (s : SplitProgram) (setup : Setup) (calls : List Call) (st : State)
+            → IsShown s calls st self.old → result ≡ stepped_by (applies setup st event.Send) }
+    {
+        self.events += 1;
+        if self.commit.send_command() {
+            Stepped::Did
+        } else {
+            self.idle += 1;
+            Stepped::Idle
+        }
+    }
+}
