@@ -1,5 +1,6 @@
 //! What a replay keeps from event to event: a first part of its calls.
-ghost use Rattle.std.specs.Prelude.{◌≡◌, ◌<◌, ◌≤◌, ◌-◌, ◌^◌, List};
+ghost use Rattle.std.specs.Prelude.{◌≡◌, ◌<◌, ◌≤◌, ◌-◌, ◌^◌, List, false, IfOk, OnOk};
+ghost use Rattle.writeback_table.specs.declared.command.Update.{Update};
 ghost use Rattle.run_model.specs.declared.event.Event.TheVariants as event;
 ghost use Rattle.replay_state.specs.Answers.{Answers, Setup};
 ghost use Rattle.replay_state.specs.Journal.{Call};
@@ -9,8 +10,8 @@ ghost use Rattle.replay_state.specs.Step.{applies, step};
 ghost use Rattle.replay_contracts.specs.Replayer.{stepped_by};
 ghost use Rattle.replay_course.specs.Shown.{IsShown};
 
-use gal_io::Bytes;
-use output_commit::Commit;
+use gal_io::{Bytes, NoMemory};
+use output_commit::{Commit, Release};
 use replay_contracts::Stepped;
 use run_model::Fate;
 use server_runtime::Server;
@@ -56,6 +57,9 @@ impl Course {
         requires idle { self.old.idle ≤ self.old.events }
         ensures stepped { (s : SplitProgram) (setup : Setup) (calls : List Call) (st : State)
             → IsShown s calls st self.old → result ≡ stepped_by (applies setup st event.Send) }
+        ensures shown { (s : SplitProgram) (setup : Setup) (a : Answers) (calls : List Call) (st : State)
+            → ((updates : List Update) → setup.fits updates ≡ false)
+            → IsShown s calls st self.old → IsShown s calls (step setup a st event.Send) self.new }
     {
         self.events += 1;
         if self.commit.send_command() {
@@ -63,6 +67,28 @@ impl Course {
         } else {
             self.idle += 1;
             Stepped::Idle
+        }
+    }
+
+    /// The output at place `j` of those that wait goes, if its version is known to be visible.
+    pub fn hold(&mut self, j: u32) -> Result<Stepped, NoMemory>
+        requires events { self.old.events < 2 ^ 32 - 1 }
+        requires idle { self.old.idle ≤ self.old.events }
+        ensures stepped { IfOk result (λ stepped. (s : SplitProgram) (setup : Setup) (calls : List Call) (st : State)
+            → IsShown s calls st self.old → stepped ≡ stepped_by (applies setup st (event.Hold j))) }
+        ensures shown { OnOk result ((s : SplitProgram) (setup : Setup) (a : Answers) (calls : List Call) (st : State)
+            → IsShown s calls st self.old → IsShown s calls (step setup a st (event.Hold j)) self.new) }
+    {
+        self.events += 1;
+        match self.commit.release(j as usize) {
+            Release::Frame { number, frame } => {
+                self.down.push_back((number, frame))?;
+                Ok(Stepped::Did)
+            }
+            Release::NotYet { .. } | Release::NoSuch(_) => {
+                self.idle += 1;
+                Ok(Stepped::Idle)
+            }
         }
     }
 }
