@@ -124,7 +124,7 @@ pub fn a_quiet_switch_has_the_servers_tables()
     whole_runs_are_sound();
 }
 
-/// Whatever a port answers, the frame that a packet went up in is one of the code's layout, and has the packet's number.
+/// Whatever a port answers, the frame that a packet went up in is one of the code's layout, with the packet's number.
 pub fn frames_have_their_forms()
     ensures { (x : Given) (events : List Event) (calls : List Call) (st : State) (port : PortState) (n : ℕ)
         (frame : List ℕ)

@@ -11,7 +11,11 @@ use Rattle.replay_state.specs.State.{State, applied_commands, commands_in, store
 
 -- the tables of object o before any command: the main table is the object of the start store, and nothing is staged
 abbrev pub first_pair : Setup → ℕ → Pair
-first_pair setup o = record { main = object_at (start_store setup.objects) o; staged = map.empty; room = setup.writeback }
+first_pair setup o = record {
+  main = object_at (start_store setup.objects) o;
+  staged = map.empty;
+  room = setup.writeback;
+}
 
 -- its tables after the commands that were applied
 abbrev pub pair_now : Setup → State → ℕ → Pair
