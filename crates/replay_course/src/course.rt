@@ -5,7 +5,7 @@ ghost use Rattle.run_model.specs.declared.event.Event.TheVariants as event;
 ghost use Rattle.replay_state.specs.Answers.{Answers, Setup};
 ghost use Rattle.replay_state.specs.Journal.{Call};
 ghost use Rattle.replay_state.specs.Program.{SplitProgram};
-ghost use Rattle.replay_state.specs.State.{State};
+ghost use Rattle.replay_state.specs.State.{State, first_state};
 ghost use Rattle.replay_state.specs.Step.{applies, step};
 ghost use Rattle.replay_contracts.specs.Replayer.{stepped_by};
 ghost use Rattle.replay_course.specs.Shown.{IsShown};
@@ -15,6 +15,7 @@ use output_commit::{Commit, Release};
 use replay_contracts::Stepped;
 use run_model::Fate;
 use server_runtime::Server;
+use std::alloc::Global;
 use std::collections::VecDeque;
 
 /// The server, the frames on their way, the held outputs with the commands, and how far each packet has come.
@@ -33,6 +34,24 @@ pub struct Course {
 }
 
 impl Course {
+    /// Before any event.
+    pub fn new(alloc: Global, server: Server) -> Course
+        requires { server.version ≡ 0 }
+        ensures shown { (s : SplitProgram) (calls : List Call)
+            → IsShown s calls (first_state server.store) result }
+        ensures server { result.server ≡ server }
+    {
+        Course {
+            up: VecDeque::new(alloc),
+            server,
+            commit: Commit::new(alloc),
+            down: VecDeque::new(alloc),
+            fates: Vec::new(alloc),
+            events: 0,
+            idle: 0,
+        }
+    }
+
     /// One more applied command is acknowledged.
     pub fn acknowledge(&mut self) -> Stepped
         requires events { self.old.events < 2 ^ 32 - 1 }
