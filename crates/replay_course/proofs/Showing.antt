@@ -1,22 +1,24 @@
 -- What a course shows after an event.
-use Rattle.std.proofs.Common.{◌≡◌, ℕ, ◌+◌, ◌-◌, Bool, true, false, eqb, leb, ltb, List, [], ◌∷◌, ◌++◌, ◌⊎◌, Option, Some, None, inl, inr, refl, sym, ◌∙◌, ap, subst, arith, zero, suc, map, length, take}
+use Rattle.std.proofs.Common.{◌≡◌, ℕ, ◌+◌, ◌-◌, ◌<◌, ◌≤◌, Bool, true, false, eqb, leb, ltb, List, [], ◌∷◌, ◌++◌, ◌⊎◌, Option, Some, None, inl, inr, refl, sym, ◌∙◌, ap, subst, arith, zero, suc, map, length, take}
 use Rattle.std.specs.Prelude.{slice_get, remove}
+use Rattle.std.specs.List.{list_any}
 use Rattle.std.specs.Option.{option_map}
 use Rattle.std.proofs.lemmas.Bool.{cases_Bool, le-leb, lt-leb, ltb-true, ltb-false}
-use Rattle.std.proofs.lemmas.Option.{same_Some, slice_get-map}
+use Rattle.std.proofs.lemmas.Option.{none-some, same_Some, slice_get-map}
 use Rattle.writeback_table.specs.declared.command.Update.{Update}
+use Rattle.writeback_table.specs.declared.command.Command.{Command}
 use Rattle.writeback_table.specs.Commands.{commands_of, ons}
-use Rattle.output_commit.specs.Commit.{Commit, acknowledged, after_release, after_send, answer}
+use Rattle.output_commit.specs.Commit.{Commit, acknowledged, after_next, after_release, after_send, answer, next}
 use Rattle.output_commit.specs.declared.output.Output.{Output}
 use Rattle.output_commit.specs.declared.output.Release.TheVariants as release
 use Rattle.run_model.specs.declared.event.Event.TheVariants as event
 use Rattle.replay_state.specs.Answers.{Answers, Setup}
-use Rattle.replay_state.specs.Journal.{Call, down_frame}
+use Rattle.replay_state.specs.Journal.{Call, down_frame, ends_up, frame_in, or_else, over_in, up_answer}
 use Rattle.replay_state.specs.Program.{SplitProgram}
-use Rattle.replay_state.specs.State.{State, Batch, commands_in, visible}
-use Rattle.replay_state.specs.Step.{applies, idled, let_go, may_go, merged, step, take_up, tick}
+use Rattle.replay_state.specs.State.{State, Batch, Pass, commands_in, visible}
+use Rattle.replay_state.specs.Step.{applies, disturbs, idled, let_go, may_go, merged, step, take_up, tick, waits}
 use Rattle.replay_course.specs.declared.course.Course.{Course}
-use Rattle.replay_course.specs.Shown.{IsShown}
+use Rattle.replay_course.specs.Shown.{IsShown, called}
 
 -- ---- lists
 
@@ -36,6 +38,11 @@ get_removed [] (suc j) k x h = (k, h)
 get_removed (y ∷ xs) zero k x h = (suc k, h)
 get_removed (y ∷ xs) (suc j) zero x h = (zero, h)
 get_removed (y ∷ xs) (suc j) (suc k) x h = let r = get_removed xs j k x h in (suc r.0, r.1)
+
+slice_get-there : {X : Type 0} (xs : List X) (i : ℕ) → i < length xs → (x : X) × (slice_get xs i ≡ Some x)
+slice_get-there [] i h = absurd (omega arith)
+slice_get-there (x ∷ xs) zero h = (x, refl)
+slice_get-there (x ∷ xs) (suc i) h = slice_get-there xs i (omega arith)
 
 get_pushed : {X : Type 0} (xs : List X) (y : X) (k : ℕ) (x : X) → slice_get (xs ++ y ∷ []) k ≡ Some x → (y ≡ x) ⊎ ((i : ℕ) × (slice_get xs i ≡ Some x))
 get_pushed [] y zero x h = inl (same_Some _ _ h)
@@ -79,6 +86,7 @@ sent_shown s setup a calls st c commit never is test h =
       sent = ap (λ k. k.sent) now ∙ ap (λ n. n + 1) h.sent;
       done = ap (λ k. k.done) now ∙ h.done;
       acked = ap (λ k. k.acked) now ∙ h.acked;
+      sent_within = let l = ltb-true c.commit.sent (length c.commit.commands) test in subst (λ (k : Commit). k.sent ≤ length k.commands) (sym now) (omega arith);
       held = ap (λ (k : Commit). map (λ (o : Output). (o.number, o.need)) k.held) now ∙ h.held;
       held_frames = λ j o g. h.held_frames j o (sym (ap (λ (k : Commit). slice_get k.held j) now) ∙ g);
       down = h.down;
@@ -129,6 +137,7 @@ hold_goes s setup a calls st c after j n f up server commit ans down fates event
         sent = ap (λ k. k.sent) now ∙ h.sent;
         done = ap (λ k. k.done) now ∙ h.done;
         acked = ap (λ k. k.acked) now ∙ h.acked;
+        sent_within = subst (λ (k : Commit). k.sent ≤ length k.commands) (sym now) h.sent_within;
         held = ap (λ (k : Commit). map (λ (o : Output). (o.number, o.need)) k.held) now ∙ map_remove (λ (o : Output). (o.number, o.need)) c.commit.held j ∙ ap (λ l. remove l j) h.held;
         held_frames = λ k o e. let r = get_removed c.commit.held j k o (sym (ap (λ (z : Commit). slice_get z.held k) now) ∙ e) in h.held_frames r.0 o r.1;
         down = ap (map (λ (item : ℕ × List ℕ). item.0)) down ∙ map_push (λ (item : ℕ × List ℕ). item.0) c.down.items (n, f) ∙ (λ i. h.down i ++ sym g.3 i ∷ []);
@@ -174,10 +183,111 @@ hold_stays s setup a calls st c after j up server commit never down fates events
         sent = ap (λ k. k.sent) now ∙ h.sent;
         done = ap (λ k. k.done) now ∙ h.done;
         acked = ap (λ k. k.acked) now ∙ h.acked;
+        sent_within = subst (λ (k : Commit). k.sent ≤ length k.commands) (sym now) h.sent_within;
         held = ap (λ (k : Commit). map (λ (o : Output). (o.number, o.need)) k.held) now ∙ h.held;
         held_frames = λ k o e. h.held_frames k o (sym (ap (λ (z : Commit). slice_get z.held k) now) ∙ e);
         down = ap (λ q. map (λ (item : ℕ × List ℕ). item.0) q.items) down ∙ h.down;
         down_frames = λ k item e. h.down_frames k item (sym (ap (λ q. slice_get q.items k) down) ∙ e);
+        fates = ap (λ z. z.items) fates ∙ h.fates;
+        events = events ∙ ap (λ z. z + 1) h.events;
+        idle = idle ∙ ap (λ z. z + 1) h.idle;
+      }),
+    )
+
+-- ---- a command goes to the switch
+
+next_none : (c : Commit) → c.sent ≤ length c.commands → None ≡ next c → (ltb c.done c.sent ≡ false) × (after_next c ≡ c)
+next_none c within e = elim (cases_Bool (ltb c.done c.sent)) [
+  | inl t ↦
+    let l = ltb-true c.done c.sent t in
+    let none : None ≡ slice_get c.commands c.done = e ∙ (rw t refl) in
+    let there = slice_get-there c.commands c.done (omega arith) in
+    absurd (none-some _ (none ∙ there.1))
+  | inr f ↦ (f, rw f refl)
+]
+
+next_some : (c : Commit) (command : Command) → Some command ≡ next c → (ltb c.done c.sent ≡ true) × (Some command ≡ slice_get c.commands c.done) × (after_next c ≡ record c { done = c.done + 1 })
+next_some c command e = elim (cases_Bool (ltb c.done c.sent)) [
+  | inl t ↦ (t, e ∙ (rw t refl), rw t refl)
+  | inr f ↦ let none : next c ≡ None = (rw f refl) in absurd (none-some _ (sym none ∙ sym e))
+]
+
+-- where no pass is under way, no command waits
+none_waits : (passes : List Pass) (o : Option Command) → passes ≡ [] → waits passes o ≡ false
+none_waits passes None e = refl
+none_waits passes (Some command) e = ap (list_any (λ (pass : Pass). disturbs pass.bit command)) e
+
+up_behind : (calls : List Call) (o : Option Command) (n : ℕ) → up_answer (calls ++ called o) n ≡ up_answer calls n
+up_behind [] None n = refl
+up_behind [] (Some command) n = refl
+up_behind (call ∷ calls) o n = ap (or_else (ends_up n call)) (up_behind calls o n)
+
+frame_behind : (s : SplitProgram) (calls : List Call) (o : Option Command) (st : State) (n : ℕ) → down_frame s (calls ++ called o) st n ≡ down_frame s calls st n
+frame_behind s calls o st n = ap (λ u. s.serve_down (over_in (slice_get st.progress n)) (frame_in u)) (up_behind calls o n)
+
+pub command_goes : (s : SplitProgram) (setup : Setup) (a : Answers) (calls : List Call) (st : State) (c after : Course) (command : Command)
+    → after.up ≡ c.up → after.server ≡ c.server → Some command ≡ next c.commit → after.commit ≡ after_next c.commit
+    → after.down ≡ c.down → after.fates ≡ c.fates → after.events ≡ c.events + 1 → after.idle ≡ c.idle
+    → IsShown s calls st c → (applies setup st event.Apply ≡ true) × (Some command ≡ slice_get (commands_in st.batches) st.done)
+      × IsShown s (calls ++ called (Some command)) (step setup a st event.Apply) after
+command_goes s setup a calls st c after command up server is commit down fates events idle h =
+    let g = next_some c.commit command is in
+    let now : after.commit ≡ record c.commit { done = c.commit.done + 1 } = commit ∙ g.2 in
+    let test : ltb st.done st.sent ≡ true = (λ i. ltb (sym h.done i) (sym h.sent i)) ∙ g.0 in
+    let still = none_waits st.passes (slice_get (commands_in st.batches) st.done) h.passes in
+    let may : applies setup st event.Apply ≡ true = rw (test, still) refl in
+    let next : step setup a st event.Apply ≡ record (tick st) { done = st.done + 1 } = rw may refl in (
+      may,
+      g.1 ∙ (λ i. slice_get (h.commands i) (h.done i)),
+      subst (λ w. IsShown s (calls ++ called (Some command)) w after) (sym next) (record {
+        passes = h.passes;
+        up = ap (λ q. map (λ (item : ℕ × List ℕ). item.0) q.items) up ∙ h.up;
+        up_frames = λ k item e. up_behind calls (Some command) item.0 ∙ h.up_frames k item (sym (ap (λ q. slice_get q.items k) up) ∙ e);
+        store = ap (λ z. z.store) server ∙ h.store;
+        version = ap (λ z. z.version) server ∙ h.version;
+        commands = ap (λ k. k.commands) now ∙ h.commands;
+        versions = h.versions;
+        sent = ap (λ k. k.sent) now ∙ h.sent;
+        done = ap (λ k. k.done) now ∙ ap (λ n. n + 1) h.done;
+        acked = ap (λ k. k.acked) now ∙ h.acked;
+        sent_within = subst (λ (k : Commit). k.sent ≤ length k.commands) (sym now) h.sent_within;
+        held = ap (λ (k : Commit). map (λ (o : Output). (o.number, o.need)) k.held) now ∙ h.held;
+        held_frames = λ k o e. h.held_frames k o (sym (ap (λ (z : Commit). slice_get z.held k) now) ∙ e) ∙ sym (frame_behind s calls (Some command) st o.number);
+        down = ap (λ q. map (λ (item : ℕ × List ℕ). item.0) q.items) down ∙ h.down;
+        down_frames = λ k item e. h.down_frames k item (sym (ap (λ q. slice_get q.items k) down) ∙ e) ∙ sym (frame_behind s calls (Some command) st item.0);
+        fates = ap (λ z. z.items) fates ∙ h.fates;
+        events = events ∙ ap (λ z. z + 1) h.events;
+        idle = idle ∙ h.idle;
+      }),
+    )
+
+pub no_command : (s : SplitProgram) (setup : Setup) (a : Answers) (calls : List Call) (st : State) (c after : Course)
+    → after.up ≡ c.up → after.server ≡ c.server → None ≡ next c.commit → after.commit ≡ after_next c.commit
+    → after.down ≡ c.down → after.fates ≡ c.fates → after.events ≡ c.events + 1 → after.idle ≡ c.idle + 1
+    → IsShown s calls st c → (applies setup st event.Apply ≡ false) × IsShown s (calls ++ called None) (step setup a st event.Apply) after
+no_command s setup a calls st c after up server is commit down fates events idle h =
+    let g = next_none c.commit h.sent_within is in
+    let now : after.commit ≡ c.commit = commit ∙ g.1 in
+    let test : ltb st.done st.sent ≡ false = (λ i. ltb (sym h.done i) (sym h.sent i)) ∙ g.0 in
+    let may : applies setup st event.Apply ≡ false = rw test refl in
+    let next : step setup a st event.Apply ≡ idled (tick st) = rw may refl in (
+      may,
+      subst (λ w. IsShown s (calls ++ called None) w after) (sym next) (record {
+        passes = h.passes;
+        up = ap (λ q. map (λ (item : ℕ × List ℕ). item.0) q.items) up ∙ h.up;
+        up_frames = λ k item e. up_behind calls None item.0 ∙ h.up_frames k item (sym (ap (λ q. slice_get q.items k) up) ∙ e);
+        store = ap (λ z. z.store) server ∙ h.store;
+        version = ap (λ z. z.version) server ∙ h.version;
+        commands = ap (λ k. k.commands) now ∙ h.commands;
+        versions = h.versions;
+        sent = ap (λ k. k.sent) now ∙ h.sent;
+        done = ap (λ k. k.done) now ∙ h.done;
+        acked = ap (λ k. k.acked) now ∙ h.acked;
+        sent_within = subst (λ (k : Commit). k.sent ≤ length k.commands) (sym now) h.sent_within;
+        held = ap (λ (k : Commit). map (λ (o : Output). (o.number, o.need)) k.held) now ∙ h.held;
+        held_frames = λ k o e. h.held_frames k o (sym (ap (λ (z : Commit). slice_get z.held k) now) ∙ e) ∙ sym (frame_behind s calls None st o.number);
+        down = ap (λ q. map (λ (item : ℕ × List ℕ). item.0) q.items) down ∙ h.down;
+        down_frames = λ k item e. h.down_frames k item (sym (ap (λ q. slice_get q.items k) down) ∙ e) ∙ sym (frame_behind s calls None st item.0);
         fates = ap (λ z. z.items) fates ∙ h.fates;
         events = events ∙ ap (λ z. z + 1) h.events;
         idle = idle ∙ ap (λ z. z + 1) h.idle;

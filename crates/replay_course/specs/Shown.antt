@@ -1,9 +1,10 @@
 -- What a course shows of a state, by calls of the switch and where each pass takes one event. The stores of versions,
 -- and those over which packets were run, stand in no code.
-use Rattle.std.specs.Prelude.{◌≡◌, ℕ, List, [], map, Some, slice_get, take}
+use Rattle.std.specs.Prelude.{◌≡◌, ◌≤◌, ℕ, List, [], ◌∷◌, map, length, Option, Some, None, slice_get, take}
+use Rattle.writeback_table.specs.declared.command.Command.{Command}
 use Rattle.writeback_table.specs.Commands.{ons}
 use Rattle.output_commit.specs.declared.output.Output.{Output}
-use Rattle.replay_state.specs.Journal.{Call, SentUp, down_frame, up_answer}
+use Rattle.replay_state.specs.Journal.{Call, CalledCommand, SentUp, down_frame, up_answer}
 use Rattle.replay_state.specs.Program.{SplitProgram}
 use Rattle.replay_state.specs.State.{State, commands_in, fate_of, visible}
 use Rattle.replay_course.specs.declared.course.Course.{Course}
@@ -22,6 +23,7 @@ pub record IsShown (s : SplitProgram) (calls : List Call) (st : State) (c : Cour
   pub sent : c.commit.sent ≡ st.sent
   pub done : c.commit.done ≡ st.done
   pub acked : c.commit.acked ≡ st.acked
+  pub sent_within : c.commit.sent ≤ length c.commit.commands
   -- the outputs that wait, and those on their way down, each in the frame that goes down for its packet
   pub held : map (λ o. (o.number, o.need)) c.commit.held ≡ st.held
   pub held_frames : (j : ℕ) (o : Output) → slice_get c.commit.held j ≡ Some o
@@ -32,3 +34,8 @@ pub record IsShown (s : SplitProgram) (calls : List Call) (st : State) (c : Cour
   pub fates : c.fates.items ≡ map fate_of st.progress
   pub events : c.events ≡ st.events
   pub idle : c.idle ≡ st.idle
+
+-- the calls in which the switch is given a command
+abbrev pub called : Option Command → List Call
+called None = []
+called (Some command) = CalledCommand command ∷ []

@@ -1,14 +1,15 @@
 //! What a replay keeps from event to event: a first part of its calls.
-ghost use Rattle.std.specs.Prelude.{◌≡◌, ◌<◌, ◌≤◌, ◌-◌, ◌^◌, List, false, IfOk, OnOk};
+ghost use Rattle.std.specs.Prelude.{◌≡◌, ◌<◌, ◌≤◌, ◌-◌, ◌^◌, ◌++◌, List, false, is_some, IfOk, OnOk};
+ghost use Rattle.packet_fields.specs.declared.packet.Packet.{Packet};
 ghost use Rattle.writeback_table.specs.declared.command.Update.{Update};
 ghost use Rattle.run_model.specs.declared.event.Event.TheVariants as event;
 ghost use Rattle.replay_state.specs.Answers.{Answers, Setup};
-ghost use Rattle.replay_state.specs.Journal.{Call};
+ghost use Rattle.replay_state.specs.Journal.{Call, asked, asks_command};
 ghost use Rattle.replay_state.specs.Program.{SplitProgram};
 ghost use Rattle.replay_state.specs.State.{State, first_state};
 ghost use Rattle.replay_state.specs.Step.{applies, step};
 ghost use Rattle.replay_contracts.specs.Replayer.{stepped_by};
-ghost use Rattle.replay_course.specs.Shown.{IsShown};
+ghost use Rattle.replay_course.specs.Shown.{IsShown, called};
 
 use gal_io::{Bytes, NoMemory};
 use output_commit::{Commit, Release};
@@ -17,6 +18,7 @@ use run_model::Fate;
 use server_runtime::Server;
 use std::alloc::Global;
 use std::collections::VecDeque;
+use writeback_table::Command;
 
 /// The server, the frames on their way, the held outputs with the commands, and how far each packet has come.
 #[derive(Debug, Drop)]
@@ -86,6 +88,28 @@ impl Course {
         } else {
             self.idle += 1;
             Stepped::Idle
+        }
+    }
+
+    /// The next command that was sent goes to the switch, and counts as applied from then on.
+    pub fn next_command(&mut self) -> Option<Command>
+        requires events { self.old.events < 2 ^ 32 - 1 }
+        requires idle { self.old.idle ≤ self.old.events }
+        ensures stepped { (s : SplitProgram) (setup : Setup) (calls : List Call) (st : State)
+            → IsShown s calls st self.old → is_some result ≡ applies setup st event.Apply }
+        ensures asked { (s : SplitProgram) (setup : Setup) (packets : List Packet) (calls : List Call) (st : State)
+            → IsShown s calls st self.old → asks_command result ≡ asked setup s packets calls st event.Apply }
+        ensures shown { (s : SplitProgram) (setup : Setup) (a : Answers) (calls : List Call) (st : State)
+            → IsShown s calls st self.old
+            → IsShown s (calls ++ called result) (step setup a st event.Apply) self.new }
+    {
+        self.events += 1;
+        match self.commit.next_command() {
+            Some(command) => Some(command),
+            None => {
+                self.idle += 1;
+                None
+            }
         }
     }
 
