@@ -1,0 +1,5 @@
+mod Going
+mod Picking
+mod Reporting
+mod Determined
+mod Formed

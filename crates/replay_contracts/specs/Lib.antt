@@ -1,0 +1,5 @@
+pub mod Given
+pub mod Called
+pub mod Replay
+pub mod Promise
+pub mod Replayer

@@ -1,0 +1,57 @@
+-- A replay over a port: its events, the calls that they made, and the state that these determine.
+use Rattle.std.specs.Prelude.{◌≡◌, ◌≤◌, List, [], ◌++◌, Some, true, length}
+use Rattle.std.specs.List.{AllByRecursion as Each}
+use Rattle.run_model.specs.declared.event.Event.{Event}
+use Rattle.switch_ir.specs.Port.{PortState}
+use Rattle.switch_ir.specs.Tables.{Told, IsStart}
+use Rattle.replay_state.specs.Answers.{Answers}
+use Rattle.replay_state.specs.Drain.{Picks, drain_bound, is_drained, plan_events}
+use Rattle.replay_state.specs.Journal.{Call, IsAnswered, journal}
+use Rattle.replay_state.specs.State.{State, applied_commands}
+use Rattle.replay_state.specs.Step.{state_of}
+use Rattle.replay_state.specs.Told.{IsTied}
+use Rattle.split_answers.specs.Through.{IsThrough}
+use Rattle.replay_contracts.specs.Called.{HasCalls, IsFormed}
+use Rattle.replay_contracts.specs.Given.{Given, whole, setup_for, whole_runs, code_for}
+
+-- the switch answers by its calls
+abbrev pub answered : Given → List Call → Answers
+answered x calls = journal (whole x) calls
+
+-- over a port that tells its tables: the state is that of whole packets, and the tables are those that the applied
+-- commands make
+pub record IsTold (x : Given) (events : List Event) (calls : List Call) (st : State) (tables : Told) : Type 0 where
+  pub tied : IsTied (setup_for x) (whole x) x.packets calls events st
+  pub through : IsThrough (code_for x) (applied_commands st) tables
+
+-- A replay of these events, by these calls of its port, which has made no others.
+pub record IsReplay (x : Given) (events : List Event) (calls : List Call) (st : State) (port : PortState) : Type 0 where
+  pub answered : IsAnswered (setup_for x) (whole x) x.packets events calls st
+  pub called : HasCalls (code_for x) calls port
+  pub formed : Each (IsFormed (code_for x)) calls
+  pub told : (tables : Told) → port.told ≡ Some tables → IsTold x events calls st tables
+
+-- the port was loaded, and has made no other call
+pub record IsLoaded (x : Given) (port : PortState) : Type 0 where
+  pub called : HasCalls (code_for x) [] port
+  pub start : (tables : Told) → port.told ≡ Some tables → IsStart (code_for x) tables
+
+-- ## Drain
+
+-- A replay of these events and of more behind them, each the one that drain picks then.
+pub record HasPicked (x : Given) (events more : List Event) (calls : List Call) (st : State) (port : PortState)
+    : Type 0 where
+  pub replay : IsReplay x (events ++ more) calls st port
+  pub picked : Picks (setup_for x) (answered x calls) (state_of (setup_for x) (answered x calls) events) more
+  pub told : (tables : Told) → port.told ≡ Some tables
+      → Picks (setup_for x) (whole_runs x) (state_of (setup_for x) (whole_runs x) events) more
+
+-- They have drained the run, within the bound, and are those of the plan; over a port that tells its tables this is the
+-- plan of whole packets.
+pub record HasDrained (x : Given) (events more : List Event) (calls : List Call) (st : State) (port : PortState)
+    : Type 0 where
+  pub drained : is_drained (setup_for x) st ≡ true
+  pub bound : length more ≤ drain_bound (setup_for x)
+  pub plan : events ++ more ≡ plan_events (setup_for x) (answered x calls) events true
+  pub told : (tables : Told) → port.told ≡ Some tables
+      → events ++ more ≡ plan_events (setup_for x) (whole_runs x) events true

@@ -1,0 +1,167 @@
+-- A replayer as contracts see it, and what its calls do. Each clause speaks of every list of calls and every state that
+-- are a replay of its events over its port.
+use Rattle.std.specs.Prelude.{◌≡◌, ◌≤◌, ◌+◌, ℕ, Bool, true, false, List, [], ◌∷◌, ◌++◌, length}
+use Rattle.std.specs.Prelude.{Option, Some, None, is_some}
+use Rattle.gal_io.specs.Count.{Counts}
+use Rattle.flat_ir.specs.Program.{program_of}
+use Rattle.state_store.specs.Store.{start_store}
+use Rattle.run_model.specs.declared.event.Event.{Event}
+use Rattle.switch_ir.specs.Port.{PortState}
+use Rattle.switch_ir.specs.Tables.{Told}
+use Rattle.switch_ir.specs.declared.journal.Entry.{Entry}
+use Rattle.replay_state.specs.Drain.{drain_bound, is_quiet, plan_events}
+use Rattle.replay_state.specs.Journal.{Call, EndOnce}
+use Rattle.replay_state.specs.Program.{plain_manner}
+use Rattle.replay_state.specs.State.{State, first_state}
+use Rattle.replay_state.specs.Step.{applies, step}
+use Rattle.split_answers.specs.Through.{HasTables}
+use Rattle.replay_contracts.specs.declared.job.Job.{Job}
+use Rattle.replay_contracts.specs.declared.job.Replayed.{Replayed}
+use Rattle.replay_contracts.specs.declared.job.ReplayError.{ReplayError}
+use Rattle.replay_contracts.specs.declared.job.ReplayError.TheVariants as errors
+use Rattle.replay_contracts.specs.declared.job.Stepped.{Stepped}
+use Rattle.replay_contracts.specs.declared.job.Stepped.TheVariants.{Did, Idle}
+use Rattle.replay_contracts.specs.Given.{Given, IsReady, setup_for, whole_runs}
+use Rattle.replay_contracts.specs.Promise.{Promises, Reports, state_for}
+use Rattle.replay_contracts.specs.Replay.{HasDrained, HasPicked, IsReplay, answered}
+
+pub record Replayer : Type 0 where
+  pub given : Given
+  -- the events that it performed, idle ones too, and how many of them were steps
+  pub events : List Event
+  pub steps : ℕ
+  pub port : PortState
+  pub failed : Option ReplayError
+
+-- a job's passes take one event each, and its batches go by themselves
+abbrev pub given_of : Job → Given
+given_of job = record {
+  program = program_of job.flat;
+  split = job.split;
+  writeback = job.writeback;
+  packets = job.packets;
+  manner = plain_manner;
+}
+
+-- these calls made this state
+abbrev pub IsAt : Replayer → List Call → State → Type 0
+IsAt r calls st = IsReplay r.given r.events calls st r.port
+
+-- what stands between its calls
+pub record IsAlive (r : Replayer) : Type 0 where
+  pub ready : IsReady r.given
+  pub few : length r.events ≤ r.steps + drain_bound (setup_for r.given)
+  pub replay : r.failed ≡ None → (calls : List Call) × (st : State) × IsAt r calls st
+
+-- no call of the port failed, and it tells its tables where it told them before
+pub record StaysTold (old new : PortState) : Type 0 where
+  pub told : is_some new.told ≡ is_some old.told
+  pub faults : new.faults ≡ old.faults
+
+-- without any event yet
+pub record IsNew (x : Given) (port : PortState) (r : Replayer) : Type 0 where
+  pub given : r.given ≡ x
+  pub events : r.events ≡ []
+  pub steps : r.steps ≡ 0
+  pub failed : r.failed ≡ None
+  pub at : IsAt r [] (first_state (start_store x.program.objects))
+  pub stays : StaysTold port r.port
+
+-- ## One event
+
+abbrev pub stepped_by : Bool → Stepped
+stepped_by true = Did
+stepped_by false = Idle
+
+-- one event more, which did something just where it applied, by the calls that it asked
+pub record HasStepped (old : Replayer) (event : Event) (stepped : Stepped) (new : Replayer) : Type 0 where
+  pub given : new.given ≡ old.given
+  pub events : new.events ≡ old.events ++ event ∷ []
+  pub steps : new.steps ≡ old.steps + 1
+  pub failed : new.failed ≡ None
+  pub stays : StaysTold old.port new.port
+  pub applied : (calls : List Call) (st : State) → IsAt old calls st
+      → stepped ≡ stepped_by (applies (setup_for old.given) st event)
+  pub next : (calls : List Call) (st : State) → IsAt old calls st
+      → (more : List Call)
+      × IsAt new (calls ++ more) (step (setup_for old.given) (answered old.given (calls ++ more)) st event)
+
+-- ## Drain
+
+-- so many events more, each the one that drain picks, until the run is drained
+pub record HasEmptied (old : Replayer) (count : ℕ) (new : Replayer) : Type 0 where
+  pub given : new.given ≡ old.given
+  pub more : List Event
+  pub events : new.events ≡ old.events ++ more
+  pub counted : length more ≡ count
+  pub steps : new.steps ≡ old.steps
+  pub failed : new.failed ≡ None
+  pub stays : StaysTold old.port new.port
+  pub next : (calls : List Call) (st : State) → IsAt old calls st
+      → (others : List Call) × (last : State)
+      × HasPicked old.given old.events more (calls ++ others) last new.port
+      × HasDrained old.given old.events more (calls ++ others) last new.port
+
+-- ## Report
+
+-- what is told of the events so far; over a port that tells its tables it keeps its promises
+pub record HasReported (old : Replayer) (replayed : Replayed) (new : Replayer) : Type 0 where
+  pub given : new.given ≡ old.given
+  pub events : new.events ≡ old.events
+  pub steps : new.steps ≡ old.steps
+  pub failed : new.failed ≡ None
+  pub stays : StaysTold old.port new.port
+  pub told : (calls : List Call) (st : State) → IsAt old calls st
+      → Reports old.given st old.port new.port replayed.run replayed.commands × IsAt new calls st
+  pub promises : (tables : Told) → old.port.told ≡ Some tables → Promises old.given old.events replayed.run
+
+-- ## Errors
+
+-- whether a call of the port failed
+abbrev pub is_port_fault : ReplayError → Bool
+is_port_fault errors.PortFault = true
+is_port_fault errors.NoMemory = false
+
+-- what an error counts: one call that failed, or none
+abbrev pub CountsFault : ReplayError → PortState → PortState → Type 0
+CountsFault e old new = Counts (is_port_fault e) old.faults new.faults
+
+-- it fails now: the events so far and the job are kept, the port has its code, tells its tables where it told them
+-- before, and may have been called more
+pub record HasFailed (old : Replayer) (error : ReplayError) (new : Replayer) : Type 0 where
+  pub before : old.failed ≡ None
+  pub failed : new.failed ≡ Some error
+  pub given : new.given ≡ old.given
+  pub events : new.events ≡ old.events
+  pub steps : new.steps ≡ old.steps
+  pub told : is_some new.port.told ≡ is_some old.port.told
+  pub code : new.port.code ≡ old.port.code
+  pub journal : (more : List Entry) × (new.port.journal ≡ old.port.journal ++ more)
+  pub fault : CountsFault error old.port new.port
+
+-- it had failed so before, and nothing changed
+pub record Repeats (old : Replayer) (error : ReplayError) (new : Replayer) : Type 0 where
+  pub failed : old.failed ≡ Some error
+  pub same : new ≡ old
+
+-- ## A whole replay
+
+-- What comes of a replay over any port: it tells of the state to which the port's calls lead by the events of the plan.
+-- One call has ended each pass that has ended, so that each packet is released once.
+pub record IsReported (x : Given) (events : List Event) (drain : Bool) (replayed : Replayed) (old new : PortState)
+    : Type 0 where
+  pub calls : List Call
+  pub last : State
+  pub replay : IsReplay x (plan_events (setup_for x) (answered x calls) events drain) calls last new
+  pub reports : Reports x last old new replayed.run replayed.commands
+  pub once : EndOnce calls last
+  pub drained : drain ≡ true → replayed.run.drained ≡ true
+
+-- What comes of it over a port that tells its tables: it keeps the promises of the plan's run, and where nothing is
+-- left on its way, the switch has the tables of the server.
+pub record IsRunOf (x : Given) (events : List Event) (drain : Bool) (replayed : Replayed) (port : PortState)
+    : Type 0 where
+  pub promises : Promises x (plan_events (setup_for x) (whole_runs x) events drain) replayed.run
+  pub tables : (let last = state_for x (plan_events (setup_for x) (whole_runs x) events drain) in
+      is_quiet last ≡ true → (tables : Told) × (port.told ≡ Some tables)
+      × HasTables x.program x.split x.writeback last.store tables)

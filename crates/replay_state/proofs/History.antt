@@ -1,0 +1,211 @@
+-- The objects of each version, batch by batch, also where batches are taken up.
+use Rattle.std.proofs.Common.{◌≡◌, ℕ, ◌+◌, ◌-◌, ◌*◌, ◌≤◌, Bool, true, leb, eqb, List, [], ◌∷◌, ◌++◌, inl, inr, refl, sym, ◌∙◌, ap, subst, arith, zero, suc, take, map, length}
+use Rattle.std.proofs.lemmas.Bool.{cases_Bool, cases_lt}
+use Rattle.std.proofs.lemmas.List.{take_all, take-append-le, length-map, get_or_append_left, get_or_push}
+use Rattle.state_store.specs.Store.{Object, Store, object_at}
+use Rattle.writeback_table.specs.declared.command.Update.{Update}
+use Rattle.writeback_table.specs.declared.command.Command.{Command}
+use Rattle.writeback_table.specs.declared.command.Command.TheVariants.{Stage, On, Main, Off, Clear}
+use Rattle.writeback_table.specs.Commands.{clear_of, commands_of, counts_on, ons}
+use Rattle.writeback_table.specs.Batches.{all_commands, changed_at, changed_by, object_after, TakesAll, AreTaken, count_of}
+use Rattle.replay_state.specs.State.{Batch, commands_in, store_at}
+use Rattle.replay_state.specs.Step.{take_up, merged}
+use Rattle.replay_state.proofs.Counts.{shows, versions_of, versions_in, sum_of, sums, sum_append, sum_batch, first_sum, first_split, joined}
+
+-- ---- changes one behind the other
+
+changed_append : (o : ℕ) (object : Object) (us vs : List Update) → changed_by o object (us ++ vs) ≡ changed_by o (changed_by o object us) vs
+changed_append o object [] vs = refl
+changed_append o object (u ∷ us) vs = changed_append o (changed_at o object u) us vs
+
+takes_append : (o : ℕ) (object : Object) (us vs : List Update) → TakesAll o object us → TakesAll o (changed_by o object us) vs → TakesAll o object (us ++ vs)
+takes_append o object [] vs h k = k
+takes_append o object (u ∷ us) vs h k = (h.0, takes_append o (changed_at o object u) us vs h.1 k)
+
+-- ---- the objects of each version
+
+-- From version v on, where the object is this one, the batches lead to the object that the server has now: each version
+-- that a batch ends with began with it, and each batch finds room.
+abbrev pub Begun : ℕ → ℕ → List Store → Store → ℕ → Object → List Batch → Type 0
+Begun o room stores now v object [] = (object_at (store_at stores v) o ≡ object) × (object_at now o ≡ object)
+Begun o room stores now v object (b ∷ bs) =
+    (object_at (store_at stores v) o ≡ object) × (count_of o b.updates ≤ room) × TakesAll o object b.updates
+    × Begun o room stores now (v + b.versions) (changed_by o object b.updates) bs
+
+abbrev pub updates_in : List Batch → List (List Update)
+updates_in bs = map (λ b. b.updates) bs
+
+-- how many versions the first k batches make
+abbrev pub versions_first : List Batch → ℕ → ℕ
+versions_first bs zero = 0
+versions_first [] (suc k) = 0
+versions_first (b ∷ bs) (suc k) = b.versions + versions_first bs k
+
+pub commands_are : (bs : List Batch) → commands_in bs ≡ all_commands (updates_in bs)
+commands_are [] = refl
+commands_are (b ∷ bs) = ap (λ l. commands_of b.updates ++ l) (commands_are bs)
+
+-- ---- a batch takes up those behind it
+
+begun_joined : (o room : ℕ) (stores : List Store) (now : Store) (v : ℕ) (object : Object) (b c : Batch) (bs : List Batch) → count_of o (b.updates ++ c.updates) ≤ room
+    → Begun o room stores now v object (b ∷ (c ∷ bs)) → Begun o room stores now v object (joined b c ∷ bs)
+begun_joined o room stores now v object b c bs fits h =
+    let rest = h.3 in
+    let sum : v + b.versions + c.versions ≡ v + (b.versions + c.versions) = omega arith in (
+      h.0,
+      fits,
+      takes_append o object b.updates c.updates h.2 rest.2,
+      subst (λ n. Begun o room stores now n (changed_by o object (b.updates ++ c.updates)) bs) sum
+          (subst (λ x. Begun o room stores now (v + b.versions + c.versions) x bs) (sym (changed_append o object b.updates c.updates)) rest.3),
+    )
+
+pub begun_taken_up : (o room : ℕ) (stores : List Store) (now : Store) (fits : List Update → Bool) → ((us : List Update) → fits us ≡ true → count_of o us ≤ room)
+    → (v : ℕ) (object : Object) (b : Batch) (bs : List Batch) → Begun o room stores now v object (b ∷ bs) → Begun o room stores now v object (take_up fits b bs)
+begun_taken_up o room stores now fits law v object b [] h = h
+begun_taken_up o room stores now fits law v object b (c ∷ bs) h = elim (cases_Bool (fits (b.updates ++ c.updates))) [
+  | inl t ↦ rw t (begun_taken_up o room stores now fits law v object (joined b c) bs (begun_joined o room stores now v object b c bs (law (b.updates ++ c.updates) t) h))
+  | inr t ↦ rw t h
+]
+
+pub begun_merged : (o room : ℕ) (stores : List Store) (now : Store) (fits : List Update → Bool) → ((us : List Update) → fits us ≡ true → count_of o us ≤ room)
+    → (n v : ℕ) (object : Object) (bs : List Batch) → Begun o room stores now v object bs → Begun o room stores now v object (merged fits n bs)
+begun_merged o room stores now fits law n v object [] h = h
+begun_merged o room stores now fits law n v object (b ∷ bs) h = elim (cases_Bool (eqb n 0)) [
+  | inl t ↦ rw t (begun_taken_up o room stores now fits law v object b bs h)
+  | inr f ↦ elim (cases_Bool (leb (length (commands_of b.updates)) n)) [
+    | inl t ↦ rw (f, t) (h.0, h.1, h.2, begun_merged o room stores now fits law (n - length (commands_of b.updates)) (v + b.versions) (changed_by o object b.updates) bs h.3)
+    | inr t ↦ rw (f, t) h
+  ]
+]
+
+-- ---- a batch more, of one version
+
+abbrev pub total_of : List Batch → ℕ
+total_of [] = 0
+total_of (b ∷ bs) = b.versions + total_of bs
+
+pub total_sum : (bs : List Batch) → total_of bs ≡ sum_of (versions_in bs)
+total_sum [] = refl
+total_sum (b ∷ bs) = let r = total_sum bs in let s = sum_append (versions_of b) (versions_in bs) in let t = sum_batch b in omega arith
+
+pub begun_push : (o room : ℕ) (stores : List Store) (now new : Store) (b : Batch) → b.versions ≡ 1 → count_of o b.updates ≤ room → TakesAll o (object_at now o) b.updates
+    → object_at new o ≡ changed_by o (object_at now o) b.updates
+    → (v : ℕ) (object : Object) (bs : List Batch) → length stores ≡ v + total_of bs + 1 → Begun o room stores now v object bs
+    → Begun o room (stores ++ new ∷ []) new v object (bs ++ b ∷ [])
+begun_push o room stores now new b one few takes is v object [] long h =
+    let there = get_or_append_left stores (new ∷ []) [] v (omega arith) in
+    let here = get_or_push stores new [] (v + b.versions) (omega arith) in
+    let changed : object_at new o ≡ changed_by o object b.updates = is ∙ ap (λ x. changed_by o x b.updates) h.1 in
+    (ap (λ s. object_at s o) there ∙ h.0, few, subst (λ x. TakesAll o x b.updates) h.1 takes, (ap (λ s. object_at s o) here ∙ changed, changed))
+begun_push o room stores now new b one few takes is v object (c ∷ bs) long h =
+    let there = get_or_append_left stores (new ∷ []) [] v (omega arith) in
+    (ap (λ s. object_at s o) there ∙ h.0, h.1, h.2, begun_push o room stores now new b one few takes is (v + c.versions) (changed_by o object c.updates) bs (omega arith) h.3)
+
+-- another store of the server, with the same object
+pub begun_now : (o room : ℕ) (stores : List Store) (now other : Store) → object_at other o ≡ object_at now o → (v : ℕ) (object : Object) (bs : List Batch)
+    → Begun o room stores now v object bs → Begun o room stores other v object bs
+begun_now o room stores now other same v object [] h = (h.0, same ∙ h.1)
+begun_now o room stores now other same v object (b ∷ bs) h = (h.0, h.1, h.2, begun_now o room stores now other same (v + b.versions) (changed_by o object b.updates) bs h.3)
+
+-- ---- what follows
+
+pub begun_taken : (o room : ℕ) (stores : List Store) (now : Store) (v : ℕ) (object : Object) (bs : List Batch) → Begun o room stores now v object bs → AreTaken o room object (updates_in bs)
+begun_taken o room stores now v object [] h = tt
+begun_taken o room stores now v object (b ∷ bs) h = (h.1, h.2, begun_taken o room stores now (v + b.versions) (changed_by o object b.updates) bs h.3)
+
+pub begun_end : (o room : ℕ) (stores : List Store) (now : Store) (v : ℕ) (object : Object) (bs : List Batch) → Begun o room stores now v object bs → object_at now o ≡ object_after o object (updates_in bs)
+begun_end o room stores now v object [] h = h.1
+begun_end o room stores now v object (b ∷ bs) h = begun_end o room stores now (v + b.versions) (changed_by o object b.updates) bs h.3
+
+pub begun_first : (o room : ℕ) (stores : List Store) (now : Store) (v : ℕ) (object : Object) (bs : List Batch) → Begun o room stores now v object bs → object_at (store_at stores v) o ≡ object
+begun_first o room stores now v object [] h = h.0
+begun_first o room stores now v object (b ∷ bs) h = h.0
+
+pub begun_at : (o room : ℕ) (stores : List Store) (now : Store) (k v : ℕ) (object : Object) (bs : List Batch) → k ≤ length bs → Begun o room stores now v object bs
+    → object_at (store_at stores (v + versions_first bs k)) o ≡ object_after o object (take k (updates_in bs))
+begun_at o room stores now zero v object bs low h = let e : v + 0 ≡ v = omega arith in rw e (begun_first o room stores now v object bs h)
+begun_at o room stores now (suc k) v object [] low h = absurd (omega arith)
+begun_at o room stores now (suc k) v object (b ∷ bs) low h =
+    let e : v + (b.versions + versions_first bs k) ≡ v + b.versions + versions_first bs k = omega arith in
+    rw e (begun_at o room stores now k (v + b.versions) (changed_by o object b.updates) bs (omega arith) h.3)
+
+-- ---- the visible version, by batches that set the bit
+
+shows_ons : (v : ℕ) (cs : List Command) → sum_of (map (shows v) cs) ≡ v * ons cs
+shows_ons v [] = omega arith
+shows_ons v (On ∷ cs) = let r = shows_ons v cs in let e : v * (1 + ons cs) ≡ v + v * ons cs = grind arith in omega arith
+shows_ons v (Stage u ∷ cs) = let r = shows_ons v cs in let e : 0 + ons cs ≡ ons cs = omega arith in rw e (omega arith)
+shows_ons v (Main u ∷ cs) = let r = shows_ons v cs in let e : 0 + ons cs ≡ ons cs = omega arith in rw e (omega arith)
+shows_ons v (Off ∷ cs) = let r = shows_ons v cs in let e : 0 + ons cs ≡ ons cs = omega arith in rw e (omega arith)
+shows_ons v (Clear o k ∷ cs) = let r = shows_ons v cs in let e : 0 + ons cs ≡ ons cs = omega arith in rw e (omega arith)
+
+take_map : {X Y : Type 0} (f : X → Y) (xs : List X) (n : ℕ) → take n (map f xs) ≡ map f (take n xs)
+take_map f xs zero = refl
+take_map f [] (suc n) = refl
+take_map f (x ∷ xs) (suc n) = ap (λ l. f x ∷ l) (take_map f xs n)
+
+ons_append : (xs ys : List Command) → ons (xs ++ ys) ≡ ons xs + ons ys
+ons_append [] ys = omega arith
+ons_append (x ∷ xs) ys = let r = ons_append xs ys in omega arith
+
+ons_none : (f : Update → Command) → ((u : Update) → counts_on (f u) ≡ 0) → (us : List Update) → ons (map f us) ≡ 0
+ons_none f none [] = refl
+ons_none f none (u ∷ us) = let r = ons_none f none us in let h = none u in omega arith
+
+ons_batch : (us : List Update) → ons (commands_of us) ≡ 1
+ons_batch us =
+    let mains = map (λ u. Main u) us in
+    let clears = map clear_of us in
+    let one = ons_append (map (λ u. Stage u) us) (On ∷ (mains ++ (Off ∷ clears))) in
+    let two = ons_append mains (Off ∷ clears) in
+    let a = ons_none (λ u. Stage u) (λ u. refl) us in
+    let b = ons_none (λ u. Main u) (λ u. refl) us in
+    let c = ons_none clear_of (λ u. refl) us in
+    omega arith
+
+pub ons_most : (cs : List Command) (n : ℕ) → ons (take n cs) ≤ ons cs
+ons_most cs zero = omega arith
+ons_most [] (suc n) = omega arith
+ons_most (c ∷ cs) (suc n) = let r = ons_most cs n in omega arith
+
+take_split : {X : Type 0} (xs ys : List X) (n : ℕ) → length xs ≤ n → take n (xs ++ ys) ≡ xs ++ take (n - length xs) ys
+take_split [] ys n low = let e : n - 0 ≡ n = omega arith in rw e refl
+take_split (x ∷ xs) ys zero low = absurd (omega arith)
+take_split (x ∷ xs) ys (suc n) low = let e : suc n - suc (length xs) ≡ n - length xs = omega arith in rw e (ap (λ l. x ∷ l) (take_split xs ys n (omega arith)))
+
+-- the versions of one batch after n of its commands
+of_batch : (b : Batch) (n : ℕ) → first_sum (versions_of b) n ≡ b.versions * ons (take n (commands_of b.updates))
+of_batch b n = ap sum_of (take_map (shows b.versions) (commands_of b.updates) n) ∙ shows_ons b.versions (take n (commands_of b.updates))
+
+first_few : (b : Batch) (bs : List Batch) (k : ℕ) → k ≤ 1 → versions_first (b ∷ bs) k ≡ b.versions * k
+first_few b bs zero low = omega arith
+first_few b bs (suc zero) low = omega arith
+first_few b bs (suc (suc k)) low = absurd (omega arith)
+
+pub sums_counts : (bs : List Batch) (n : ℕ) → sums bs n ≡ versions_first bs (ons (take n (commands_in bs)))
+sums_counts [] zero = refl
+sums_counts [] (suc n) = refl
+sums_counts (b ∷ bs) n =
+    let cs = commands_of b.updates in
+    let long : length (versions_of b) ≡ length cs = length-map cs (shows b.versions) in
+    let split = first_split (versions_of b) (versions_in bs) n in
+    let one = of_batch b n in
+    elim (cases_lt (length cs) n) [
+      | inl past ↦
+          let all : take n cs ≡ cs = take_all n cs (omega arith) in
+          let whole : ons (take n cs) ≡ 1 = ap ons all ∙ ons_batch b.updates in
+          let rest = sums_counts bs (n - length cs) in
+          let same : n - length (versions_of b) ≡ n - length cs = omega arith in
+          let later : sums bs (n - length (versions_of b)) ≡ versions_first bs (ons (take (n - length cs) (commands_in bs))) = ap (sums bs) same ∙ rest in
+          let count : ons (take n (cs ++ commands_in bs)) ≡ suc (ons (take (n - length cs) (commands_in bs))) =
+          ap ons (take_split cs (commands_in bs) n (omega arith)) ∙ ons_append cs (take (n - length cs) (commands_in bs)) ∙ (let w = ons_batch b.updates in omega arith) in
+          let first : first_sum (versions_of b) n ≡ b.versions = one ∙ ap (λ k. b.versions * k) whole ∙ omega arith in
+          rw count (omega arith)
+      | inr within ↦
+          let none : n - length (versions_of b) ≡ 0 = omega arith in
+          let count : ons (take n (cs ++ commands_in bs)) ≡ ons (take n cs) = ap ons (take-append-le n cs (commands_in bs) within) in
+          let few : ons (take n cs) ≤ 1 = let m = ons_most cs n in let w = ons_batch b.updates in omega arith in
+          let first = first_few b bs (ons (take n cs)) few in
+          let later : sums bs (n - length (versions_of b)) ≡ 0 = ap (sums bs) none in
+          rw count (omega arith)
+    ]

@@ -1,0 +1,288 @@
+-- One call ends each pass.
+use Rattle.std.proofs.Common.{◌≡◌, ℕ, ◌+◌, Bool, true, false, cond, leb, eqb, List, [], ◌∷◌, ◌++◌, Option, Some, None, inl, inr, refl, sym, ◌∙◌, ap, subst, arith, length, map, set}
+use Rattle.std.specs.Prelude.{slice_get, remove, is_some}
+use Rattle.std.proofs.lemmas.Bool.{cases_Bool}
+use Rattle.packet_fields.specs.declared.packet.Packet.{Packet}
+use Rattle.packet_fields.specs.declared.verdict.Verdict.{Verdict}
+use Rattle.state_store.specs.Store.{Store, start_store}
+use Rattle.writeback_table.specs.declared.command.Update.{Update}
+use Rattle.writeback_table.specs.declared.command.Command.{Command}
+use Rattle.run_model.specs.declared.event.Event.{Event}
+use Rattle.run_model.specs.declared.event.Event.TheVariants.{Admit, Stage, Serve, Send, Apply, Ack, Hold, Down}
+use Rattle.replay_state.specs.Answers.{Answers, Setup}
+use Rattle.replay_state.specs.State.{State, Progress, Entered, Up, Held, Slow, Fast, Pass, commands_in, seen, store_at, first_state}
+use Rattle.replay_state.specs.Step.{applies, happens, step, steps, tick}
+use Rattle.replay_state.specs.Step.{finished, went_up, decided, released, came_in, ended, entered, staged, pass_of, with_changes, ran, served, let_go, came_down}
+use Rattle.replay_state.specs.Program.{SplitProgram}
+use Rattle.replay_state.specs.Journal.{UpAnswer, Finished, SentUp, GoingUp, DownAnswer, Released, GoingDown, Call, CalledUp, CalledStageUp, CalledCommand, CalledDown, CalledStageDown}
+use Rattle.replay_state.specs.Journal.{only_for, up_end, down_end, ends_up, ends_down, journal, is_up_end, is_down_end, question_of}
+use Rattle.replay_state.specs.Journal.{Question, asks_stage, asks_command, asks_down, asks, asked, questions, IsAnswered}
+use Rattle.replay_state.specs.Journal.{one_if, up_ends, down_ends, has_passed, has_come_down, EndOnce}
+use Rattle.replay_state.proofs.Lists.{get_push_same, is, mark_set, mark_push, remove_push}
+use Rattle.replay_state.proofs.Fates.{at_first, at_last, at_up}
+use Rattle.replay_state.proofs.Effects.{Fine, fine_let_down, fine_let_in, fine_tick}
+use Rattle.replay_state.proofs.Sane.{Sane, sane_step, sane_first}
+use Rattle.replay_state.proofs.Answered.{ending, up_of, down_of}
+
+-- ---- questions that end passes
+
+abbrev mark : Option ℕ → ℕ → ℕ
+mark None n = 0
+mark (Some m) n = is m n
+
+abbrev ups : ℕ → List Question → ℕ
+ups n [] = 0
+ups n (q ∷ qs) = mark (up_of q) n + ups n qs
+
+abbrev downs : ℕ → List Question → ℕ
+downs n [] = 0
+downs n (q ∷ qs) = mark (down_of q) n + downs n qs
+
+ups_append : (n : ℕ) (qs more : List Question) → ups n (qs ++ more) ≡ ups n qs + ups n more
+ups_append n [] more = omega arith
+ups_append n (q ∷ qs) more = let r = ups_append n qs more in omega arith
+
+downs_append : (n : ℕ) (qs more : List Question) → downs n (qs ++ more) ≡ downs n qs + downs n more
+downs_append n [] more = omega arith
+downs_append n (q ∷ qs) more = let r = downs_append n qs more in omega arith
+
+only_counts : {X : Type 0} (m n : ℕ) (x : X) → one_if (is_some (only_for m n (Some x))) ≡ is m n
+only_counts m n x = elim (cases_Bool (eqb m n)) [ inl t ↦ rw t refl | inr t ↦ rw t refl ]
+
+none_counts : (X : Type 0) (m n : ℕ) → one_if (is_some (only_for {X = X} m n None)) ≡ 0
+none_counts X m n = elim (cases_Bool (eqb m n)) [ inl t ↦ rw t refl | inr t ↦ rw t refl ]
+
+up_counts : (m n : ℕ) (answer : UpAnswer) → one_if (is_some (only_for m n (up_end answer))) ≡ mark (ending (is_up_end answer) m) n
+up_counts m n (Finished y) = only_counts m n (Finished y)
+up_counts m n (SentUp frame) = only_counts m n (SentUp frame)
+up_counts m n GoingUp = none_counts UpAnswer m n
+
+down_counts : (m n : ℕ) (answer : DownAnswer) → one_if (is_some (only_for m n (down_end answer))) ≡ mark (ending (is_down_end answer) m) n
+down_counts m n (Released y) = only_counts m n y
+down_counts m n GoingDown = none_counts Verdict m n
+
+call_ups : (call : Call) (n : ℕ) → one_if (is_some (ends_up n call)) ≡ mark (up_of (question_of call)) n
+call_ups (CalledUp fine m packet answer) n = up_counts m n answer
+call_ups (CalledStageUp m answer) n = up_counts m n answer
+call_ups (CalledCommand command) n = refl
+call_ups (CalledDown fine m frame answer) n = refl
+call_ups (CalledStageDown m answer) n = refl
+
+call_downs : (call : Call) (n : ℕ) → one_if (is_some (ends_down n call)) ≡ mark (down_of (question_of call)) n
+call_downs (CalledUp fine m packet answer) n = refl
+call_downs (CalledStageUp m answer) n = refl
+call_downs (CalledCommand command) n = refl
+call_downs (CalledDown fine m frame answer) n = down_counts m n answer
+call_downs (CalledStageDown m answer) n = down_counts m n answer
+
+calls_up : (calls : List Call) (n : ℕ) → up_ends n calls ≡ ups n (map question_of calls)
+calls_up [] n = refl
+calls_up (call ∷ calls) n = let one = call_ups call n in let rest = calls_up calls n in omega arith
+
+calls_down : (calls : List Call) (n : ℕ) → down_ends n calls ≡ downs n (map question_of calls)
+calls_down [] n = refl
+calls_down (call ∷ calls) n = let one = call_downs call n in let rest = calls_down calls n in omega arith
+
+-- ---- packets whose passes end
+
+abbrev passed : Option Progress → ℕ
+passed o = one_if (has_passed o)
+
+abbrev came : Option Progress → ℕ
+came o = one_if (has_come_down o)
+
+-- so many passes of each packet end on the way from one state to the other
+record Gains (w x : State) (u d : ℕ → ℕ) : Type 0 where
+  up : (n : ℕ) → passed (slice_get x.progress n) ≡ passed (slice_get w.progress n) + u n
+  down : (n : ℕ) → came (slice_get x.progress n) ≡ came (slice_get w.progress n) + d n
+
+gains_none : (w x : State) → x.progress ≡ w.progress → Gains w x (λ n. 0) (λ n. 0)
+gains_none w x same = record {
+  up = λ n. ap (λ l. passed (slice_get l n)) same ∙ omega arith;
+  down = λ n. ap (λ l. came (slice_get l n)) same ∙ omega arith;
+}
+
+-- the numbers of the passes that end: one before the server, or one behind it
+abbrev up_gain : Bool → ℕ → ℕ → ℕ
+up_gain pre m n = cond pre (is m n) 0
+
+abbrev down_gain : Bool → ℕ → ℕ → ℕ
+down_gain pre m n = cond pre 0 (is m n)
+
+module _ (setup : Setup) (a : Answers) where
+  gains_in : (w : State) (j : ℕ) (x : Pass) (o : Option Verdict) → slice_get w.passes j ≡ Some x → x.pre ≡ true → Fine w
+      → Gains w (came_in (record w { passes = remove w.passes j }) x.number o) (λ n. is x.number n) (λ n. 0)
+  gains_in w j x None g t k =
+      let at' = at_first w j x k.places g t in
+      let old : Progress = Entered at'.0 at'.1 in
+      let new : went_up (slice_get w.progress x.number) ≡ Up at'.0 = ap went_up at'.2 in
+      record {
+        up = λ n. rw new (let m = mark_set passed w.progress x.number n old (Up at'.0) at'.2 in omega arith);
+        down = λ n. rw new (let m = mark_set came w.progress x.number n old (Up at'.0) at'.2 in omega arith);
+      }
+  gains_in w j x (Some y) g t k =
+      let at' = at_first w j x k.places g t in
+      let old : Progress = Entered at'.0 at'.1 in
+      let f : Progress = Fast at'.0 w.events at'.1 y in
+      let new : finished w.events y (slice_get w.progress x.number) ≡ f = ap (finished w.events y) at'.2 in
+      record {
+        up = λ n. rw new (let m = mark_set passed w.progress x.number n old f at'.2 in omega arith);
+        down = λ n. rw new (let m = mark_set came w.progress x.number n old f at'.2 in omega arith);
+      }
+
+  gains_out : (w : State) (j : ℕ) (x : Pass) → slice_get w.passes j ≡ Some x → x.pre ≡ false → Fine w
+      → Gains w (record w { passes = remove w.passes j; progress = set w.progress x.number (released (λ over. a.post over x.number) w.events (slice_get w.progress x.number)) }) (λ n. 0) (λ n. is x.number n)
+  gains_out w j x g t k =
+      let at' = at_last w j x k.places g t in
+      let old : Progress = Held at'.0 at'.1 at'.2 at'.3 in
+      let f : Progress = Slow at'.0 at'.1 at'.2 (a.post at'.3 x.number) w.events in
+      let new : released (λ over. a.post over x.number) w.events (slice_get w.progress x.number) ≡ f = ap (released (λ over. a.post over x.number) w.events) at'.4 in
+      record {
+        up = λ n. rw new (let m = mark_set passed w.progress x.number n old f at'.4 in omega arith);
+        down = λ n. rw new (let m = mark_set came w.progress x.number n old f at'.4 in omega arith);
+      }
+
+  gains_ended : (w : State) (j : ℕ) (x : Pass) → slice_get w.passes j ≡ Some x → Fine w
+      → Gains w (ended a (record w { passes = remove w.passes j }) x) (up_gain x.pre x.number) (down_gain x.pre x.number)
+  gains_ended w j x g k = elim (cases_Bool x.pre) [
+    | inl t ↦ rw t (gains_in w j x (a.pre (store_at w.stores x.version) x.number) g t k)
+    | inr t ↦ rw t (gains_out w j x g t k)
+  ]
+
+  -- a pass that enters, and may end at once
+  gains_entered : (w : State) (x : Pass) → Fine (record w { passes = w.passes ++ x ∷ [] })
+      → Gains w (entered a w x) (λ n. cond (eqb x.left 0) (up_gain x.pre x.number n) 0) (λ n. cond (eqb x.left 0) (down_gain x.pre x.number n) 0)
+  gains_entered w x k = elim (cases_Bool (eqb x.left 0)) [
+    | inl t ↦ rw t (
+        let r : Gains w (ended a (record w { passes = remove (w.passes ++ x ∷ []) (length w.passes) }) x) (up_gain x.pre x.number) (down_gain x.pre x.number) =
+        let g = gains_ended (record w { passes = w.passes ++ x ∷ [] }) (length w.passes) x (get_push_same w.passes x) k in
+        record { up = g.up; down = g.down } in
+        subst (λ l. Gains w (ended a (record w { passes = l }) x) (up_gain x.pre x.number) (down_gain x.pre x.number)) (remove_push w.passes x) r)
+    | inr t ↦ rw t (gains_none w (record w { passes = w.passes ++ x ∷ [] }) refl)
+  ]
+
+  gains_ran : (w : State) (j p : ℕ) (store : Store) (us : List Update) → slice_get w.up j ≡ Some p → Fine w → Gains w (ran a w (with_changes store us w) j p) (λ n. 0) (λ n. 0)
+  gains_ran w j p store [] g k =
+      let at' = at_up w j p k.places g in
+      let f : Progress = Held at'.0 w.events w.version w.store in
+      let new : decided w.events w.version w.store (slice_get w.progress p) ≡ f = ap (decided w.events w.version w.store) at'.1 in
+      record {
+        up = λ n. rw new (let m = mark_set passed w.progress p n (Up at'.0) f at'.1 in omega arith);
+        down = λ n. rw new (let m = mark_set came w.progress p n (Up at'.0) f at'.1 in omega arith);
+      }
+  gains_ran w j p store (u ∷ us) g k =
+      let at' = at_up w j p k.places g in
+      let f : Progress = Held at'.0 w.events (w.version + 1) w.store in
+      let new : decided w.events (w.version + 1) w.store (slice_get w.progress p) ≡ f = ap (decided w.events (w.version + 1) w.store) at'.1 in
+      record {
+        up = λ n. rw new (let m = mark_set passed w.progress p n (Up at'.0) f at'.1 in omega arith);
+        down = λ n. rw new (let m = mark_set came w.progress p n (Up at'.0) f at'.1 in omega arith);
+      }
+
+  gains_served : (w : State) (j : ℕ) (o : Option ℕ) → slice_get w.up j ≡ o → Fine w → Gains w (served a w j o) (λ n. 0) (λ n. 0)
+  gains_served w j None g k = gains_none w w refl
+  gains_served w j (Some p) g k = gains_ran w j p (a.after w.store p) (a.changes w.store p) g k
+
+  gains_go : (w : State) (j : ℕ) (o : Option (ℕ × ℕ)) → Gains w (let_go w j o) (λ n. 0) (λ n. 0)
+  gains_go w j None = gains_none w w refl
+  gains_go w j (Some x) = gains_none w (let_go w j (Some x)) refl
+
+-- ---- what an event asks, and what ends by it
+
+abbrev Asked : State → State → List Question → Type 0
+Asked w x qs = Gains w x (λ n. ups n qs) (λ n. downs n qs)
+
+as_asked : (w x : State) (u d : ℕ → ℕ) (qs : List Question) → ((n : ℕ) → u n ≡ ups n qs) → ((n : ℕ) → d n ≡ downs n qs) → Gains w x u d → Asked w x qs
+as_asked w x u d qs p q g = record {
+  up = λ n. let e = p n in let h = g.up n in omega arith;
+  down = λ n. let e = q n in let h = g.down n in omega arith;
+}
+
+ending_mark : (b : Bool) (m n : ℕ) → mark (ending b m) n ≡ cond b (is m n) 0
+ending_mark true m n = refl
+ending_mark false m n = refl
+
+module _ (setup : Setup) (a : Answers) (s : SplitProgram) (packets : List Packet) (calls : List Call) where
+  asked_admit : (w : State) → Fine w → Asked w (happens setup a w Admit) (asks setup s packets calls w Admit)
+  asked_admit w k =
+      let f : Progress = Entered w.events (seen w) in
+      let mid : State = record w { progress = w.progress ++ f ∷ [] } in
+      let x = pass_of w true (length w.progress) setup.pre_stages in
+      let g = gains_entered setup a mid x (fine_let_in w setup.pre_stages k) in
+      record {
+        up = λ n. let h = g.up n in let m = mark_push passed w.progress n f refl in let e = ending_mark (eqb setup.pre_stages 0) (length w.progress) n in omega arith;
+        down = λ n. let h = g.down n in let m = mark_push came w.progress n f refl in let e = no_gain (eqb setup.pre_stages 0) in omega arith;
+      }
+    where
+      no_gain : (b : Bool) → ◌≡◌ {A = ℕ} (cond b 0 0) 0
+      no_gain true = refl
+      no_gain false = refl
+
+  asked_stage : (w : State) (j : ℕ) (o : Option Pass) → slice_get w.passes j ≡ o → Fine w → Asked w (staged a w j o) (asks_stage o)
+  asked_stage w j None g k = gains_none w w refl
+  asked_stage w j (Some x) g k = elim (cases_Bool (leb x.left 1)) [
+    | inl t ↦ rw t (as_asked w (ended a (record w { passes = remove w.passes j }) x) (up_gain x.pre x.number) (down_gain x.pre x.number) _
+        (λ n. elim (cases_Bool x.pre) [ inl p ↦ rw p (omega arith) | inr p ↦ rw p (omega arith) ])
+        (λ n. elim (cases_Bool x.pre) [ inl p ↦ rw p (omega arith) | inr p ↦ rw p (omega arith) ])
+        (gains_ended setup a w j x g k))
+    | inr t ↦ rw t (elim (cases_Bool x.pre) [
+      | inl p ↦ rw p (gains_none w _ refl)
+      | inr p ↦ rw p (gains_none w _ refl)
+    ])
+  ]
+
+  asked_command : (w x : State) (o : Option Command) → x.progress ≡ w.progress → Asked w x (asks_command o)
+  asked_command w x None same = gains_none w x same
+  asked_command w x (Some c) same = gains_none w x same
+
+  asked_down : (w : State) (j : ℕ) (o : Option ℕ) → slice_get w.down j ≡ o → Fine w → Asked w (came_down setup a w j o) (asks_down setup s calls w o)
+  asked_down w j None g k = gains_none w w refl
+  asked_down w j (Some p) g k =
+      let mid : State = record w { down = remove w.down j } in
+      let r = gains_entered setup a mid (pass_of w false p setup.post_stages) (fine_let_down w j p setup.post_stages g k) in
+      record {
+        up = λ n. let h = r.up n in let e = no_gain (eqb setup.post_stages 0) in omega arith;
+        down = λ n. let h = r.down n in let e = ending_mark (eqb setup.post_stages 0) p n in omega arith;
+      }
+    where
+      no_gain : (b : Bool) → ◌≡◌ {A = ℕ} (cond b 0 0) 0
+      no_gain true = refl
+      no_gain false = refl
+
+  asked_happens : (w : State) (e : Event) → Fine w → Asked w (happens setup a w e) (asks setup s packets calls w e)
+  asked_happens w Admit k = asked_admit w k
+  asked_happens w (Stage j) k = asked_stage w j (slice_get w.passes j) refl k
+  asked_happens w (Serve j) k = gains_served setup a w j (slice_get w.up j) refl k
+  asked_happens w Send k = gains_none w _ refl
+  asked_happens w Apply k = asked_command w (happens setup a w Apply) (slice_get (commands_in w.batches) w.done) refl
+  asked_happens w Ack k = gains_none w _ refl
+  asked_happens w (Hold j) k = gains_go setup a w j (slice_get w.held j)
+  asked_happens w (Down j) k = asked_down w j (slice_get w.down j) refl k
+
+  asked_step : (w : State) (e : Event) → Fine w → Asked w (step setup a w e) (asked setup s packets calls w e)
+  asked_step w e k = elim (cases_Bool (applies setup w e)) [
+    | inl t ↦ rw t (let g = asked_happens (tick w) e (fine_tick w k) in record { up = g.up; down = g.down })
+    | inr t ↦ rw t (gains_none w _ refl)
+  ]
+
+module _ (setup : Setup) (s : SplitProgram) (packets : List Packet) (calls : List Call) where
+  asked_steps : (w : State) (es : List Event) → Sane setup w → Asked w (steps setup (journal s calls) w es) (questions setup s packets calls w es)
+  asked_steps w [] k = gains_none w w refl
+  asked_steps w (e ∷ es) k =
+      let a = journal s calls in
+      let next = step setup a w e in
+      let one = asked_step setup a s packets calls w e k.fine in
+      let rest = asked_steps next es (sane_step setup a w e k) in
+      record {
+        up = λ n. let p = one.up n in let q = rest.up n in let r = ups_append n (asked setup s packets calls w e) (questions setup s packets calls next es) in omega arith;
+        down = λ n. let p = one.down n in let q = rest.down n in let r = downs_append n (asked setup s packets calls w e) (questions setup s packets calls next es) in omega arith;
+      }
+
+  pub end_once : (events : List Event) (st : State) → IsAnswered setup s packets events calls st → EndOnce calls st
+  end_once events st h =
+      let begin = first_state (start_store setup.objects) in
+      let g = asked_steps begin events (sane_first setup (journal s calls) (start_store setup.objects)) in
+      record {
+        up = λ n. calls_up calls n ∙ ap (ups n) h.asked ∙ (let p = g.up n in omega arith) ∙ ap (λ (w : State). passed (slice_get w.progress n)) (sym h.run);
+        down = λ n. calls_down calls n ∙ ap (downs n) h.asked ∙ (let p = g.down n in omega arith) ∙ ap (λ (w : State). came (slice_get w.progress n)) (sym h.run);
+      }

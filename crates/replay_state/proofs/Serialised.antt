@@ -1,0 +1,390 @@
+-- What the invariant says of the run that is told.
+use Rattle.std.proofs.Common.{◌≡◌, ℕ, ◌<◌, ◌≤◌, true, false, cond, List, [], ◌∷◌, Option, Some, None, inl, inr, refl, sym, ◌∙◌, ap, subst, arith, zero, suc, map, length}
+use Rattle.std.specs.Prelude.{slice_get, is_some, IsTrue}
+use Rattle.std.specs.Option.{option_map}
+use Rattle.std.proofs.lemmas.Bool.{cases_lt, eq-eqb, ne_eqb, cases_Bool, eqb-true, and_parts}
+use Rattle.std.proofs.lemmas.Bool.Decides.{nat_tests}
+use Rattle.std.proofs.lemmas.List.{length-map}
+use Rattle.std.proofs.lemmas.Option.{same_Some, none-some, slice_get-map}
+use Rattle.packet_fields.specs.declared.verdict.Verdict.{Verdict}
+use Rattle.state_store.specs.Store.{Store, start_store}
+use Rattle.run_model.specs.declared.event.Event.{Event}
+use Rattle.run_model.specs.declared.fate.Fate.{Fate}
+use Rattle.run_model.specs.declared.serial.Decided.{Decided}
+use Rattle.run_model.specs.Meaning as meaning
+use Rattle.run_model.specs.Order.{sorted, decided_from, order_of, with_decided}
+use Rattle.run_model.specs.Parts.{parts_of}
+use Rattle.run_model.specs.Serialises as run
+use Rattle.run_model.specs.Serialises.{Serialises, AllReleased, IsDrained, IsEarlier, times, run_verdicts}
+use Rattle.replay_state.specs.Answers.{Answers, Setup, meaning_of}
+use Rattle.replay_state.specs.State.{State, Progress, Entered, Up, Held, Slow, Fast, fate_of, commands_in, visible, seen}
+use Rattle.replay_state.specs.Step.{state_of}
+use Rattle.replay_state.specs.Drain.{is_quiet}
+use Rattle.replay_state.specs.Run.{run_of, job_run}
+use Rattle.replay_state.specs.Sound.{AreSound}
+use Rattle.replay_state.proofs.Words.{Member, Before, Rising, version_at, entry_of, entries_from, admitted_at, released_at, verdict_at, is_decided, serial_store, serial_verdicts}
+use Rattle.replay_state.proofs.Lists.{weight, get_within, none_within, get_member}
+use Rattle.replay_state.proofs.Order.{before_self, before_not_back}
+use Rattle.replay_state.proofs.Sorting.{IsOrder, order_unique, entry_number}
+use Rattle.replay_state.proofs.Visible.{visible_all}
+use Rattle.replay_state.proofs.Fates.{FateOk, Pair, pass_mark, up_mark, held_mark, in_first, in_last, in_up, in_held}
+use Rattle.replay_state.proofs.Serial.{numbers_of}
+use Rattle.replay_state.proofs.Effects.{Fine}
+use Rattle.replay_state.proofs.Runs.{Apart, what_at}
+use Rattle.replay_state.proofs.Keeping.{Kept, kept_of}
+
+pub entry_version : (n : ℕ) (f : Option Progress) (e : Decided) → entry_of n f ≡ Some e → version_at f ≡ Some e.version
+entry_version n None e h = cc
+entry_version n (Some (Entered a v)) e h = cc
+entry_version n (Some (Up a)) e h = cc
+entry_version n (Some (Held a d v y)) e h = ap (λ z. Some z.version) (same_Some _ _ h)
+entry_version n (Some (Slow a d v y r)) e h = ap (λ z. Some z.version) (same_Some _ _ h)
+entry_version n (Some (Fast a d v y)) e h = ap (λ z. Some z.version) (same_Some _ _ h)
+
+-- no entry has the number p, or one has
+pub times_none : (p : ℕ) (es : List Decided) → ((e : Decided) → Member e es → e.number ≡ p → ⊥) → times p (map (λ e. e.number) es) ≡ 0
+times_none p [] h = refl
+times_none p (x ∷ xs) h = let r = times_none p xs (λ e m. h e (inr m)) in let n = ne_eqb x.number p (h x (inl refl)) in grind (arith, nat_tests)
+
+pub times_once : (p : ℕ) (f : Option Progress) (es : List Decided) (e : Decided) → Rising es → ((x : Decided) → Member x es → x.number ≡ p → entry_of p f ≡ Some x) → e.number ≡ p → Member e es → times p (map (λ x. x.number) es) ≡ 1
+times_once p f [] e up one is m = absurd m
+times_once p f (x ∷ xs) e up one is m =
+    let same : (y : Decided) → Member y (x ∷ xs) → y.number ≡ p → e ≡ y = λ y n q. same_Some _ _ (sym (one e m is) ∙ one y n q) in
+    elim m [
+      | inl here ↦
+          let none = times_none p xs (λ y n q. before_self y (subst (λ z. Before z y) (here ∙ same y (inr n) q) (up.0 y n))) in
+          let head : x.number ≡ p = ap (λ z. z.number) here ∙ is in
+          let test = eq-eqb x.number p head in
+          grind (arith, nat_tests)
+      | inr later ↦
+          let rest = times_once p f xs e up.1 (λ y n. one y (inr n)) is later in
+          let head : x.number ≡ p → ⊥ = λ q. before_self e (subst (λ z. Before z e) (sym (same x (inl refl) q)) (up.0 e later)) in
+          let test = ne_eqb x.number p head in
+          grind (arith, nat_tests)
+    ]
+
+-- the entry of a decided packet
+pub decided_entry : (n : ℕ) (f : Option Progress) → is_decided f ≡ true → (e : Decided) × (entry_of n f ≡ Some e)
+decided_entry n None h = cc
+decided_entry n (Some (Entered a v)) h = cc
+decided_entry n (Some (Up a)) h = cc
+decided_entry n (Some (Held a d v y)) h = (_, refl)
+decided_entry n (Some (Slow a d v y r)) h = (_, refl)
+decided_entry n (Some (Fast a d v y)) h = (_, refl)
+
+pub undecided_entry : (n : ℕ) (f : Option Progress) (e : Decided) → is_decided f ≡ false → entry_of n f ≡ Some e → ⊥
+undecided_entry n None e h k = cc
+undecided_entry n (Some (Entered a v)) e h k = cc
+undecided_entry n (Some (Up a)) e h k = cc
+undecided_entry n (Some (Held a d v y)) e h k = cc
+undecided_entry n (Some (Slow a d v y r)) e h k = cc
+undecided_entry n (Some (Fast a d v y)) e h k = cc
+
+pub once_from : (fates : List Progress) (es : List Decided) (p : ℕ) → IsOrder fates es → times p (map (λ e. e.number) es) ≡ cond (is_decided (slice_get fates p)) 1 0
+once_from fates es p o = elim (cases_Bool (is_decided (slice_get fates p))) [
+  | inl t ↦
+      let found = decided_entry p (slice_get fates p) t in
+      let e = found.0 in
+      let is : e.number ≡ p = entry_number p (slice_get fates p) e found.1 in
+      rw t (times_once p (slice_get fates p) es e o.rising
+      (λ x m q. subst (λ z. entry_of z (slice_get fates z) ≡ Some x) q (o.sound x m)) is
+      (o.complete e (subst (λ z. entry_of z (slice_get fates z) ≡ Some e) (sym is) found.1)))
+  | inr n ↦ rw n (times_none p es (λ e m q. undecided_entry p (slice_get fates p) e n (subst (λ z. entry_of z (slice_get fates z) ≡ Some e) q (o.sound e m))))
+]
+
+-- places in a rising list
+pub get_mapped : {X Y : Type 0} (f : X → Y) (xs : List X) (i : ℕ) (y : Y) → slice_get (map f xs) i ≡ Some y → (x : X) × (slice_get xs i ≡ Some x) × (f x ≡ y)
+get_mapped f [] i y h = cc
+get_mapped f (x ∷ xs) zero y h = (x, refl, same_Some _ _ h)
+get_mapped f (x ∷ xs) (suc i) y h = get_mapped f xs i y h
+
+pub rising_places : (es : List Decided) (i j : ℕ) (x y : Decided) → Rising es → i < j → slice_get es i ≡ Some x → slice_get es j ≡ Some y → Before x y
+rising_places [] i j x y up lt hi hj = cc
+rising_places (z ∷ es) zero zero x y up lt hi hj = absurd (omega arith)
+rising_places (z ∷ es) zero (suc j) x y up lt hi hj = subst (λ a. Before a y) (same_Some _ _ hi) (up.0 y (get_member es j y hj))
+rising_places (z ∷ es) (suc i) zero x y up lt hi hj = absurd (omega arith)
+rising_places (z ∷ es) (suc i) (suc j) x y up lt hi hj = rising_places es i j x y up.1 (omega arith) hi hj
+
+pub place_before : (es : List Decided) (i j : ℕ) (x y : Decided) → Rising es → Before x y → slice_get es i ≡ Some x → slice_get es j ≡ Some y → i < j
+place_before es i j x y up b hi hj = elim (cases_lt i j) [
+  | inl lt ↦ lt
+  | inr ge ↦ elim (cases_lt j i) [
+    | inl gt ↦ absurd (before_not_back x y b (rising_places es j i y x up gt hj hi))
+    | inr le ↦ let same : j ≡ i = omega arith in
+        let is : x ≡ y = same_Some _ _ (sym hi ∙ subst (λ z. slice_get es z ≡ Some y) same hj) in
+        absurd (before_self y (subst (λ z. Before z y) is b))
+  ]
+]
+
+-- p was released before q was admitted, and both are decided: then p's entry stands before q's
+pub entries_before : (now version most p q r a : ℕ) (f g : Progress) (x y : Decided) → FateOk now version most f → FateOk now version most g → Pair f g
+    → released_at (Some f) ≡ Some r → admitted_at (Some g) ≡ Some a → r < a → entry_of p (Some f) ≡ Some x → entry_of q (Some g) ≡ Some y → Before x y
+entries_before now version most p q r a f g x y ok kk pair hr ha lt hx hy =
+    let vx = entry_version p (Some f) x hx in
+    let vy = entry_version q (Some g) y hy in
+    let le = pair.is r a x.version y.version hr ha lt vx vy in
+    let ex = event_le f p x now version most r ok hr hx in
+    let ey = event_ge g q y now version most a kk ha hy in
+    record { version = le; event = λ h. omega arith; number = λ h k. absurd (omega arith) }
+  where
+    event_le : (f : Progress) (p : ℕ) (x : Decided) (now version most r : ℕ) → FateOk now version most f → released_at (Some f) ≡ Some r → entry_of p (Some f) ≡ Some x → x.event ≤ r
+    event_le (Up a) p x now version most r ok e h = cc
+    event_le (Entered a v) p x now version most r ok e h = cc
+    event_le (Held a d v y) p x now version most r ok e h = cc
+    event_le (Slow a d v y t) p x now version most r ok e h = let i = same_Some _ _ e in let k = ap (λ z. z.event) (same_Some _ _ h) in omega arith
+    event_le (Fast a d v y) p x now version most r ok e h = let i = same_Some _ _ e in let k = ap (λ z. z.event) (same_Some _ _ h) in omega arith
+
+    event_ge : (f : Progress) (p : ℕ) (x : Decided) (now version most a : ℕ) → FateOk now version most f → admitted_at (Some f) ≡ Some a → entry_of p (Some f) ≡ Some x → a ≤ x.event
+    event_ge (Up b) p x now version most a ok e h = cc
+    event_ge (Entered b v) p x now version most a ok e h = cc
+    event_ge (Held b d v y) p x now version most a ok e h = let i = same_Some _ _ e in let k = ap (λ z. z.event) (same_Some _ _ h) in omega arith
+    event_ge (Slow b d v y t) p x now version most a ok e h = let i = same_Some _ _ e in let k = ap (λ z. z.event) (same_Some _ _ h) in omega arith
+    event_ge (Fast b d v y) p x now version most a ok e h = let i = same_Some _ _ e in let k = ap (λ z. z.event) (same_Some _ _ h) in omega arith
+
+pub some_since : (f : Option Progress) (p : ℕ) (x : Decided) → entry_of p f ≡ Some x → (g : Progress) × (f ≡ Some g)
+some_since None p x h = cc
+some_since (Some g) p x h = (g, refl)
+
+-- ---- what a fate says of a progress
+
+abbrev pub shown : Option Progress → Option Fate
+shown x = option_map fate_of x
+
+pub fates_at : (ps : List Progress) (p : ℕ) → slice_get (map fate_of ps) p ≡ shown (slice_get ps p)
+fates_at ps p = slice_get-map fate_of ps p
+
+decided_is : (x : Option Progress) → is_some (run.decided_at (shown x)) ≡ is_decided x
+decided_is None = refl
+decided_is (Some (Entered a v)) = refl
+decided_is (Some (Up a)) = refl
+decided_is (Some (Held a d v y)) = refl
+decided_is (Some (Slow a d v y r)) = refl
+decided_is (Some (Fast a d v y)) = refl
+
+decided_when : (p : ℕ) (x : Option Progress) (e : Decided) (at : ℕ × ℕ) → entry_of p x ≡ Some e → run.decided_at (shown x) ≡ Some at → (at.0 ≡ e.version) × (at.1 ≡ e.event)
+decided_when p None e at h k = absurd (none-some e h)
+decided_when p (Some (Entered a v)) e at h k = absurd (none-some e h)
+decided_when p (Some (Up a)) e at h k = absurd (none-some e h)
+decided_when p (Some (Held a d v y)) e at h k = let same = same_Some _ _ k in let is = same_Some _ _ h in
+    (sym (ap (λ z. z.0) same) ∙ ap (λ (z : Decided). z.version) is, sym (ap (λ z. z.1) same) ∙ ap (λ (z : Decided). z.event) is)
+decided_when p (Some (Slow a d v y r)) e at h k = let same = same_Some _ _ k in let is = same_Some _ _ h in
+    (sym (ap (λ z. z.0) same) ∙ ap (λ (z : Decided). z.version) is, sym (ap (λ z. z.1) same) ∙ ap (λ (z : Decided). z.event) is)
+decided_when p (Some (Fast a d v y)) e at h k = let same = same_Some _ _ k in let is = same_Some _ _ h in
+    (sym (ap (λ z. z.0) same) ∙ ap (λ (z : Decided). z.version) is, sym (ap (λ z. z.1) same) ∙ ap (λ (z : Decided). z.event) is)
+
+-- a release tells the verdict
+released_said : (a : Answers) (p : ℕ) (x : Option Progress) (r : ℕ) (y : Verdict) → run.released_at (shown x) ≡ Some (r, y) → (verdict_at a p x ≡ Some y) × (released_at x ≡ Some r)
+released_said a p None r y k = absurd (none-some _ k)
+released_said a p (Some (Entered b v)) r y k = absurd (none-some _ k)
+released_said a p (Some (Up b)) r y k = absurd (none-some _ k)
+released_said a p (Some (Held b d v z)) r y k = absurd (none-some _ k)
+released_said a p (Some (Slow b d v z t)) r y k = let same = same_Some _ _ k in (ap (λ f. Some (f.1)) same, ap (λ f. Some (f.0)) same)
+released_said a p (Some (Fast b d v z)) r y k = let same = same_Some _ _ k in (ap (λ f. Some (f.1)) same, ap (λ f. Some (f.0)) same)
+
+admitted_is : (x : Option Progress) → run.admitted_at (shown x) ≡ admitted_at x
+admitted_is None = refl
+admitted_is (Some (Entered a v)) = refl
+admitted_is (Some (Up a)) = refl
+admitted_is (Some (Held a d v y)) = refl
+admitted_is (Some (Slow a d v y r)) = refl
+admitted_is (Some (Fast a d v y)) = refl
+
+-- the order that is told
+decided_are : (n : ℕ) (ps : List Progress) → decided_from n (map fate_of ps) ≡ entries_from n ps
+decided_are n [] = refl
+decided_are n (p ∷ ps) = ap (with_decided (entry_of n (Some p))) (decided_are (suc n) ps)
+
+order_is : (ps : List Progress) (es : List Decided) → IsOrder ps es → order_of (map fate_of ps) ≡ numbers_of es
+order_is ps es o =
+    ap (λ l. numbers_of (sorted l)) (decided_are 0 ps) ∙ ap numbers_of (sym (order_unique ps es o))
+
+-- serial runs, by answers and by their meaning
+store_is : (setup : Setup) (a : Answers) (store : Store) (ns : List ℕ) → meaning.serial_store (meaning_of setup a) store ns ≡ serial_store a store ns
+store_is setup a store [] = refl
+store_is setup a store (n ∷ ns) = store_is setup a (a.after store n) ns
+
+verdicts_are : (setup : Setup) (a : Answers) (store : Store) (ns : List ℕ) → meaning.serial_verdicts (meaning_of setup a) store ns ≡ serial_verdicts a store ns
+verdicts_are setup a store [] = refl
+verdicts_are setup a store (n ∷ ns) = ap (λ l. a.post store n ∷ l) (verdicts_are setup a (a.after store n) ns)
+
+-- of two entries in their places the first is decided earlier
+earlier_in : (es : List Decided) (i j : ℕ) (x y : Decided) → Rising es → Apart es → i < j → slice_get es i ≡ Some x → slice_get es j ≡ Some y
+    → IsEarlier (x.version, x.event) (y.version, y.event)
+earlier_in es i j x y up apart lt hi hj =
+    let b = rising_places es i j x y up lt hi hj in
+    let low = b.version in
+    elim (cases_lt x.version y.version) [
+      | inl before ↦ inl before
+      | inr late ↦
+          let le = b.event late in
+          elim (cases_lt x.event y.event) [
+            | inl first ↦ inr (omega arith, first)
+            | inr again ↦
+                let same = apart x y (get_member es i x hi) (get_member es j y hj) (omega arith) in
+                let more = b.number late again in
+                absurd (omega arith)
+          ]
+    ]
+
+place_of : {X : Type 0} (x : X) (xs : List X) → Member x xs → (i : ℕ) × (slice_get xs i ≡ Some x)
+place_of x [] m = absurd m
+place_of x (y ∷ ys) (inl e) = (0, ap Some e)
+place_of x (y ∷ ys) (inr m) = let r = place_of x ys m in (suc (r.0), r.1)
+
+map_get : {X Y : Type 0} (f : X → Y) (xs : List X) (i : ℕ) (x : X) → slice_get xs i ≡ Some x → slice_get (map f xs) i ≡ Some (f x)
+map_get f xs i x h = slice_get-map f xs i ∙ ap (option_map f) h
+
+-- ---- the run serialises
+
+module _ (setup : Setup) (a : Answers) (w : State) (k : Kept setup a (start_store setup.objects) w) where
+  numbers_are : order_of (map fate_of w.progress) ≡ numbers_of k.in_order.entries
+  numbers_are = order_is w.progress k.in_order.entries k.in_order.order
+
+  -- the entry at a place of the order
+  at_place : (i p : ℕ) → slice_get (order_of (map fate_of w.progress)) i ≡ Some p
+      → (x : Decided) × (slice_get k.in_order.entries i ≡ Some x) × (entry_of p (slice_get w.progress p) ≡ Some x)
+  at_place i p h =
+      let es = k.in_order.entries in
+      let x = get_mapped (λ (e : Decided). e.number) es i p (subst (λ l. slice_get l i ≡ Some p) numbers_are h) in
+      (x.0, x.1, subst (λ z. entry_of z (slice_get w.progress z) ≡ Some (x.0)) x.2 (k.in_order.order.sound (x.0) (get_member es i (x.0) x.1)))
+
+  -- the verdict there
+  verdict_there : (i p : ℕ) (x : Decided) (y : Verdict) → slice_get k.in_order.entries i ≡ Some x → x.number ≡ p → verdict_at a p (slice_get w.progress p) ≡ Some y
+      → slice_get (run_verdicts (meaning_of setup a) (run_of setup w)) i ≡ Some y
+  verdict_there i p x y h is said =
+      let start = start_store setup.objects in
+      let es = k.in_order.entries in
+      let told = map_get (λ (e : Decided). what_at a w.progress e.number) es i x h in
+      let what : what_at a w.progress x.number ≡ Some y = subst (λ n. what_at a w.progress n ≡ Some y) (sym is) said in
+      let there : slice_get (map (λ z. Some z) (serial_verdicts a start (numbers_of es))) i ≡ Some (Some y) =
+      ap (λ l. slice_get l i) k.in_order.verdicts ∙ told ∙ ap Some what in
+      let found = get_mapped (λ z. Some z) (serial_verdicts a start (numbers_of es)) i (Some y) there in
+      ap (λ l. slice_get (meaning.serial_verdicts (meaning_of setup a) start l) i) numbers_are
+      ∙ ap (λ l. slice_get l i) (verdicts_are setup a start (numbers_of es)) ∙ found.1 ∙ found.2
+
+  pub serialises_from : Serialises (meaning_of setup a) (run_of setup w)
+  serialises_from =
+      let o = k.in_order in
+      let ps = w.progress in
+      record {
+        admitted = let same = length-map ps fate_of in let few = k.few in omega arith;
+        once = λ p. rw (fates_at ps p, decided_is (slice_get ps p), numbers_are) (once_from ps o.entries p o.order);
+        ascends = λ i j p q x y hi hj hp hq lt.
+            let c = at_place i p hi in
+            let d = at_place j q hj in
+            let one = decided_when p (slice_get ps p) (c.0) x c.2 (sym (ap run.decided_at (fates_at ps p)) ∙ hp) in
+            let two = decided_when q (slice_get ps q) (d.0) y d.2 (sym (ap run.decided_at (fates_at ps q)) ∙ hq) in
+            elim (earlier_in o.entries i j (c.0) (d.0) o.order.rising o.apart lt c.1 d.1) [
+              | inl early ↦ inl (omega arith)
+              | inr same ↦ let first = same.0 in let then = same.1 in inr (omega arith, omega arith)
+            ];
+        rows = ap (parts_of setup.objects) (sym (ap (meaning.serial_store (meaning_of setup a) (start_store setup.objects)) numbers_are
+            ∙ store_is setup a (start_store setup.objects) (numbers_of o.entries) ∙ o.store));
+        verdicts = λ i p r y hi h.
+            let c = at_place i p hi in
+            let told = released_said a p (slice_get ps p) r y (sym (ap run.released_at (fates_at ps p)) ∙ h) in
+            verdict_there i p (c.0) y c.1 (entry_number p (slice_get ps p) (c.0) c.2) told.0;
+        respects = λ i j p q r b y hi hj hp hq lt.
+            let x = at_place i p hi in
+            let z = at_place j q hj in
+            let f = some_since (slice_get ps p) p (x.0) x.2 in
+            let g = some_since (slice_get ps q) q (z.0) z.2 in
+            let told = released_said a p (slice_get ps p) r y (sym (ap run.released_at (fates_at ps p)) ∙ hp) in
+            let came = sym (admitted_is (slice_get ps q)) ∙ sym (ap run.admitted_at (fates_at ps q)) ∙ hq in
+            place_before o.entries i j (x.0) (z.0) o.order.rising
+            (entries_before w.events w.version (visible w.batches w.done) p q r b f.0 g.0 (x.0) (z.0) (k.fine.each p f.0 f.1) (k.fine.each q g.0 g.1) (k.fine.pairs p q f.0 g.0 f.1 g.1)
+            (sym (ap released_at f.1) ∙ told.1) (sym (ap admitted_at g.1) ∙ came) lt
+            (sym (ap (entry_of p) f.1) ∙ x.2) (sym (ap (entry_of q) g.1) ∙ z.2))
+            x.1 z.1;
+      }
+
+-- ---- quiet
+
+pub record QuietParts (w : State) : Type 0 where
+  pub passes : w.passes ≡ []
+  pub up : w.up ≡ []
+  pub held : w.held ≡ []
+  pub down : w.down ≡ []
+  pub acked : w.acked ≡ length (commands_in w.batches)
+
+pub quiet_parts : (w : State) → is_quiet w ≡ true → QuietParts w
+quiet_parts w h =
+    let a = and_parts _ _ h in
+    let b = and_parts _ _ a.0 in
+    let c = and_parts _ _ b.0 in
+    let d = and_parts _ _ c.0 in
+    record {
+      passes = none_within w.passes (eqb-true _ _ d.0);
+      up = none_within w.up (eqb-true _ _ d.1);
+      held = none_within w.held (eqb-true _ _ c.1);
+      down = none_within w.down (eqb-true _ _ b.1);
+      acked = eqb-true _ _ a.1;
+    }
+
+pub released_since : (a : Answers) (p : ℕ) (x : Option Progress) (z : Progress) → x ≡ Some z → pass_mark x ≡ 0 → up_mark x ≡ 0 → held_mark x ≡ 0
+    → (e : Decided) × (r : ℕ) × (y : Verdict) × (entry_of p x ≡ Some e) × (run.released_at (shown x) ≡ Some (r, y)) × (verdict_at a p x ≡ Some y)
+released_since a p None z h i j k = absurd (none-some z h)
+released_since a p (Some (Entered x v)) z h i j k = absurd (omega arith)
+released_since a p (Some (Up x)) z h i j k = absurd (omega arith)
+released_since a p (Some (Held x d v y)) z h i j k = absurd (omega arith)
+released_since a p (Some (Slow x d v y r)) z h i j k = (_, r, y, refl, refl, refl)
+released_since a p (Some (Fast x d v y)) z h i j k = (_, d, y, refl, refl, refl)
+
+complete_from : (setup : Setup) (a : Answers) (w : State) → Kept setup a (start_store setup.objects) w → is_quiet w ≡ true → AllReleased (meaning_of setup a) (run_of setup w)
+complete_from setup a w k quiet =
+    let q = quiet_parts w quiet in
+    let o = k.in_order in
+    let ps = w.progress in
+    let same = length-map ps fate_of in
+    record {
+      each = λ p within.
+          let f = get_within ps p (omega arith) in
+          let no_pass : pass_mark (slice_get ps p) ≡ 0 = sym (k.fine.places.firsts p) ∙ ap (weight (in_first p)) q.passes in
+          let no_up : up_mark (slice_get ps p) ≡ 0 = sym (k.fine.places.ups p) ∙ ap (weight (in_up p)) q.up in
+          let held = k.fine.places.helds p in
+          let none_held = ap (weight (in_held p)) q.held in
+          let none_down = ap (weight (in_up p)) q.down in
+          let none_last = ap (weight (in_last p)) q.passes in
+          let out = released_since a p (slice_get ps p) f.0 f.1 no_pass no_up (omega arith) in
+          let e = out.0 in
+          let is : e.number ≡ p = entry_number p (slice_get ps p) e out.3 in
+          let place = place_of e o.entries (o.order.complete e (subst (λ z. entry_of z (slice_get ps z) ≡ Some e) (sym is) out.3)) in
+          let here : slice_get (numbers_of o.entries) (place.0) ≡ Some p =
+          subst (λ n. slice_get (numbers_of o.entries) (place.0) ≡ Some n) is (map_get (λ (d : Decided). d.number) o.entries (place.0) e place.1) in (
+            place.0,
+            out.1,
+            out.2,
+            subst (λ l. slice_get l (place.0) ≡ Some p) (sym (numbers_are setup a w k)) here,
+            subst (λ x. run.released_at x ≡ Some (out.1, out.2)) (sym (fates_at ps p)) out.4,
+            verdict_there setup a w k (place.0) p e out.2 place.1 is out.5,
+          );
+    }
+
+-- the switch sees the newest version then
+newest_from : (w : State) → Fine w → is_quiet w ≡ true → seen w ≡ w.version
+newest_from w c quiet =
+    let q = quiet_parts w quiet in
+    let a = c.counts.acked_in in let b = c.counts.done_in in let d = c.counts.sent_in in let e = q.acked in
+    let all : w.done ≡ length (commands_in w.batches) = omega arith in
+    rw all (visible_all w.batches ∙ c.counts.versions)
+
+-- ---- of every run
+
+module _ (setup : Setup) (a : Answers) (law : AreSound setup a) (events : List Event) where
+  kept_then : Kept setup a (start_store setup.objects) (state_of setup a events)
+  kept_then = kept_of setup a (start_store setup.objects) law law.start events
+
+  pub serialises : Serialises (meaning_of setup a) (job_run setup a events)
+  serialises = serialises_from setup a (state_of setup a events) kept_then
+
+  pub complete : IsTrue (is_quiet (state_of setup a events)) → AllReleased (meaning_of setup a) (job_run setup a events)
+  complete quiet = complete_from setup a (state_of setup a events) kept_then quiet
+
+  pub done : (job_run setup a events).drained ≡ true → IsDrained (meaning_of setup a) (job_run setup a events)
+  done drained =
+      let w = state_of setup a events in
+      let parts = and_parts _ _ drained in
+      record { all = length-map w.progress fate_of ∙ eqb-true _ _ parts.0; complete = complete parts.1 }
+
+  pub newest : IsTrue (is_quiet (state_of setup a events)) → seen (state_of setup a events) ≡ (state_of setup a events).version
+  newest quiet = newest_from (state_of setup a events) kept_then.fine quiet

@@ -1,0 +1,99 @@
+-- What the events do, one effect at a time.
+use Rattle.std.proofs.Common.{◌≡◌, refl, ℕ, ◌+◌, ◌-◌, ◌<◌, Bool, true, false, List, [], ◌∷◌, ◌++◌, arith, length}
+use Rattle.std.specs.Prelude.{slice_get, slice_set, remove}
+use Rattle.std.proofs.lemmas.List.{length_push}
+use Rattle.packet_fields.specs.declared.verdict.Verdict.{Verdict}
+use Rattle.state_store.specs.Store.{Store}
+use Rattle.writeback_table.specs.declared.command.Update.{Update}
+use Rattle.run_model.specs.declared.event.Event.{Event}
+use Rattle.replay_state.specs.Answers.{Answers, Setup}
+use Rattle.replay_state.specs.State.{State, Pass, Batch, Entered, commands_in, seen}
+use Rattle.replay_state.specs.Step.{step, steps, pass_of, finished, went_up, released, decided, merged}
+use Rattle.replay_state.proofs.Counts.{Counts, merged_is, long, length_more, sum_push}
+
+-- the pass before the server enters, and the one behind it
+abbrev pub let_in : State → ℕ → State
+let_in w stages =
+    record w {
+      passes = w.passes ++ pass_of w true (length w.progress) stages ∷ [];
+      progress = w.progress ++ Entered w.events (seen w) ∷ [];
+    }
+
+abbrev pub let_down : State → ℕ → ℕ → ℕ → State
+let_down w j p stages = record w { down = remove w.down j; passes = w.passes ++ pass_of w false p stages ∷ [] }
+
+-- the pass at place j ends with a verdict, or without, or behind the server
+abbrev pub finished_at : State → ℕ → Pass → Verdict → State
+finished_at w j x y =
+    record w { passes = remove w.passes j; progress = slice_set w.progress x.number (finished w.events y (slice_get w.progress x.number)) }
+
+abbrev pub up_at : State → ℕ → Pass → State
+up_at w j x =
+    record w { passes = remove w.passes j; up = w.up ++ x.number ∷ []; progress = slice_set w.progress x.number (went_up (slice_get w.progress x.number)) }
+
+abbrev pub out_at : Answers → State → ℕ → Pass → State
+out_at a w j x =
+    record w { passes = remove w.passes j; progress = slice_set w.progress x.number (released (λ over. a.post over x.number) w.events (slice_get w.progress x.number)) }
+
+-- it takes a stage, and doesn't end
+abbrev pub moved_at : State → ℕ → Pass → State
+moved_at w j x = record w { passes = slice_set w.passes j (record x { left = x.left - 1 }) }
+
+-- the server runs packet p, and has this version, these stores and these batches then
+abbrev pub run_at : Answers → State → ℕ → ℕ → ℕ → List Store → List Batch → State
+run_at a w j p v stores batches =
+    record {
+      passes = w.passes;
+      up = remove w.up j;
+      store = a.after w.store p;
+      version = v;
+      stores = stores;
+      held = w.held ++ (p, v) ∷ [];
+      down = w.down;
+      batches = batches;
+      sent = w.sent;
+      done = w.done;
+      acked = w.acked;
+      events = w.events;
+      idle = w.idle;
+      progress = slice_set w.progress p (decided w.events v w.store (slice_get w.progress p));
+    }
+
+abbrev pub go_at : State → ℕ → ℕ → State
+go_at w j p = record w { held = remove w.held j; down = w.down ++ p ∷ [] }
+
+abbrev pub sent_one : State → (List Update → Bool) → State
+sent_one w fits = record w { batches = merged fits w.sent w.batches; sent = w.sent + 1 }
+
+abbrev pub applied_one : State → State
+applied_one w = record w { done = w.done + 1 }
+
+abbrev pub acked_one : State → State
+acked_one w = record w { acked = w.acked + 1 }
+
+pub counts_sent : (w : State) (fits : List Update → Bool) → w.sent < length (commands_in w.batches) → Counts w → Counts (sent_one w fits)
+counts_sent w fits h k =
+    let m = merged_is fits w.sent w.batches in
+    let old = long w.batches in
+    let new = long (merged fits w.sent w.batches) in
+    record {
+      versions = let a = m.versions in let b = k.versions in omega arith;
+      stores = k.stores;
+      sent_in = let g = m.goes_on (omega arith) in omega arith;
+      done_in = let g = k.done_in in omega arith;
+      acked_in = k.acked_in;
+    }
+
+-- the server's run of packet p begins a version, with a batch of it
+pub counts_seen : (a : Answers) (w : State) (j p : ℕ) (b : Batch) → b.versions ≡ 1 → Counts w → Counts (run_at a w j p (w.version + 1) (w.stores ++ a.after w.store p ∷ []) (w.batches ++ b ∷ []))
+counts_seen a w j p b one k = record {
+  versions = let s = sum_push w.batches b in let v = k.versions in omega arith;
+  stores = let x = length_push w.stores (a.after w.store p) in let y = k.stores in omega arith;
+  sent_in = let l = length_more w.batches b in let s = k.sent_in in omega arith;
+  done_in = k.done_in;
+  acked_in = k.acked_in;
+}
+
+pub steps_append : (setup : Setup) (a : Answers) (w : State) (es more : List Event) → steps setup a w (es ++ more) ≡ steps setup a (steps setup a w es) more
+steps_append setup a w [] more = refl
+steps_append setup a w (e ∷ es) more = steps_append setup a (step setup a w e) es more

@@ -1,0 +1,84 @@
+-- The list of decided packets, and what a packet's progress says.
+use Rattle.std.specs.Prelude.{ℕ, suc, ◌<◌, ◌≤◌, Bool, List, [], ◌∷◌, ⊤, Option, Some, None, filter, is_some, nat_le, nat_lt}
+use Rattle.packet_fields.specs.declared.verdict.Verdict.{Verdict}
+use Rattle.state_store.specs.Store.{Store}
+use Rattle.run_model.specs.Order.{decided_of, with_decided}
+use Rattle.replay_state.specs.Answers.{Answers}
+use Rattle.replay_state.specs.State.{Progress, Entered, Up, Held, Slow, Fast, fate_of}
+use Rattle.run_model.specs.declared.serial.Decided.{Decided}
+pub use Rattle.replay_state.specs.Carried.{Member}
+
+-- x stands before y: by version, then by deciding event, then by number
+pub record Before (x y : Decided) : Type 0 where
+  pub version : x.version ≤ y.version
+  pub event : y.version ≤ x.version → x.event ≤ y.event
+  pub number : y.version ≤ x.version → y.event ≤ x.event → x.number < y.number
+
+-- each entry stands before all behind it
+abbrev pub Rising : List Decided → Type 0
+Rising [] = ⊤
+Rising (x ∷ xs) = ((y : Decided) → Member y xs → Before x y) × Rising xs
+
+-- the entries of versions up to v, and the later ones
+abbrev pub upto : ℕ → List Decided → List Decided
+upto v es = filter (λ e. nat_le e.version v) es
+
+abbrev pub beyond : ℕ → List Decided → List Decided
+beyond v es = filter (λ e. nat_lt v e.version) es
+
+-- the version over which a packet entered, or was decided
+abbrev pub version_at : Option Progress → Option ℕ
+version_at None = None
+version_at (Some (Entered a v)) = Some v
+version_at (Some (Up a)) = None
+version_at (Some (Held a d v y)) = Some v
+version_at (Some (Slow a d v y r)) = Some v
+version_at (Some (Fast a d v y)) = Some v
+
+-- where a packet of this number stands, if it is decided
+abbrev pub entry_of : ℕ → Option Progress → Option Decided
+entry_of n None = None
+entry_of n (Some p) = decided_of n (fate_of p)
+
+abbrev pub is_decided : Option Progress → Bool
+is_decided p = is_some (entry_of 0 p)
+
+-- the decided ones from number n on
+abbrev pub entries_from : ℕ → List Progress → List Decided
+entries_from n [] = []
+entries_from n (p ∷ ps) = with_decided (entry_of n (Some p)) (entries_from (suc n) ps)
+
+-- the events that admitted and released it
+abbrev pub admitted_at : Option Progress → Option ℕ
+admitted_at None = None
+admitted_at (Some (Entered a v)) = Some a
+admitted_at (Some (Up a)) = Some a
+admitted_at (Some (Held a d v over)) = Some a
+admitted_at (Some (Slow a d v y r)) = Some a
+admitted_at (Some (Fast a d v y)) = Some a
+
+abbrev pub released_at : Option Progress → Option ℕ
+released_at None = None
+released_at (Some (Entered a v)) = None
+released_at (Some (Up a)) = None
+released_at (Some (Held a d v over)) = None
+released_at (Some (Slow a d v y r)) = Some r
+released_at (Some (Fast a d v y)) = Some d
+
+-- the verdict of a decided packet: of one that is held it is that of the run that decided it
+abbrev pub verdict_at : Answers → ℕ → Option Progress → Option Verdict
+verdict_at a n None = None
+verdict_at a n (Some (Entered e v)) = None
+verdict_at a n (Some (Up e)) = None
+verdict_at a n (Some (Held e d v over)) = Some (a.post over n)
+verdict_at a n (Some (Slow e d v y r)) = Some y
+verdict_at a n (Some (Fast e d v y)) = Some y
+
+-- serial runs by answers
+abbrev pub serial_store : Answers → Store → List ℕ → Store
+serial_store a store [] = store
+serial_store a store (n ∷ ns) = serial_store a (a.after store n) ns
+
+abbrev pub serial_verdicts : Answers → Store → List ℕ → List Verdict
+serial_verdicts a store [] = []
+serial_verdicts a store (n ∷ ns) = a.post store n ∷ serial_verdicts a (a.after store n) ns

@@ -1,0 +1,15 @@
+-- A fact about each packet that went up.
+use Rattle.std.specs.Prelude.{◌≡◌, ◌⊎◌, ℕ, false, List, [], ◌∷◌}
+use Rattle.replay_state.specs.State.{State, Pass}
+
+-- x is one of the list
+abbrev pub Member : {X : Type 0} → X → List X → Type 0
+Member x [] = ⊥
+Member x (y ∷ ys) = (y ≡ x) ⊎ Member x ys
+
+-- it holds of each packet that is on its way up, at the server, on its way down or in a pass behind the server
+pub record Carried (P : ℕ → Type 0) (st : State) : Type 0 where
+  pub up : (n : ℕ) → Member n st.up → P n
+  pub held : (n need : ℕ) → Member (n, need) st.held → P n
+  pub down : (n : ℕ) → Member n st.down → P n
+  pub passes : (pass : Pass) → Member pass st.passes → pass.pre ≡ false → P pass.number

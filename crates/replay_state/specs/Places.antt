@@ -1,0 +1,19 @@
+-- Where packets are, and how far they have come.
+use Rattle.std.specs.Prelude.{◌≡◌, ℕ, true, false, Some, slice_get}
+use Rattle.state_store.specs.Store.{Store}
+use Rattle.replay_state.specs.State.{State, Pass, Entered, Up, Held}
+
+-- the server ran packet n, and it isn't released
+abbrev pub IsHeld : State → ℕ → Type 0
+IsHeld st n =
+    (admitted decided version : ℕ) × (over : Store)
+    × (slice_get st.progress n ≡ Some (Held admitted decided version over))
+
+-- each list of the state has packets that have come so far
+pub record HavePlaces (st : State) : Type 0 where
+  pub entered : (j : ℕ) (pass : Pass) → slice_get st.passes j ≡ Some pass → pass.pre ≡ true
+      → (admitted : ℕ) × (slice_get st.progress pass.number ≡ Some (Entered admitted pass.version))
+  pub up : (j n : ℕ) → slice_get st.up j ≡ Some n → (admitted : ℕ) × (slice_get st.progress n ≡ Some (Up admitted))
+  pub held : (j n need : ℕ) → slice_get st.held j ≡ Some (n, need) → IsHeld st n
+  pub down : (j n : ℕ) → slice_get st.down j ≡ Some n → IsHeld st n
+  pub behind : (j : ℕ) (pass : Pass) → slice_get st.passes j ≡ Some pass → pass.pre ≡ false → IsHeld st pass.number

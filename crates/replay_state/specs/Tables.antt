@@ -1,0 +1,41 @@
+-- What lookups see in the tables that the switch keeps of replicated objects.
+use Rattle.std.specs.Prelude.{◌≡◌, ℕ, true, false, Some, slice_get}
+use Rattle.std.specs.FinMap as map
+use Rattle.state_store.specs.Store.{Store, object_at, start_store}
+use Rattle.writeback_table.specs.declared.command.Command.{Command}
+use Rattle.writeback_table.specs.Pair.{Pair}
+use Rattle.writeback_table.specs.Commands.{pair_through, room_for}
+use Rattle.writeback_table.specs.Batches.{seen_after}
+use Rattle.replay_state.specs.Answers.{Setup}
+use Rattle.replay_state.specs.State.{State, applied_commands, commands_in, store_at, seen, bit_behind}
+
+-- the tables of object o before any command: the main table is the object of the start store, and nothing is staged
+abbrev pub first_pair : Setup → ℕ → Pair
+first_pair setup o = record {
+  main = object_at (start_store setup.objects) o;
+  staged = map.empty;
+  room = setup.writeback;
+}
+
+-- its tables after the commands that were applied
+abbrev pub pair_now : Setup → State → ℕ → Pair
+pair_now setup st o = pair_through o (first_pair setup o) (applied_commands st)
+
+-- lookups of replicated objects see those of a store
+abbrev pub Shows : Setup → State → Store → Type 0
+Shows setup st store = (o : ℕ) → setup.replicated o ≡ true
+    → seen_after o (first_pair setup o) (commands_in st.batches) st.done ≡ (object_at store o).contents
+
+pub record IsSeen (setup : Setup) (st : State) : Type 0 where
+  -- lookups see the objects of the visible version
+  pub shows : Shows setup st (store_at st.stores (seen st))
+  -- the next command finds room
+  pub room : (o : ℕ) (command : Command) → setup.replicated o ≡ true
+      → slice_get (commands_in st.batches) st.done ≡ Some command
+      → room_for o (pair_now setup st o) command ≡ true
+
+-- The bit is clear, each replicated object of the server is its main table, and nothing is staged.
+pub record HasNewestTables (setup : Setup) (st : State) : Type 0 where
+  pub bit : bit_behind st.batches st.done ≡ false
+  pub each : (o : ℕ) → setup.replicated o ≡ true
+      → pair_now setup st o ≡ record { main = object_at st.store o; staged = map.empty; room = setup.writeback }

@@ -1,0 +1,5 @@
+pub mod Fate
+pub mod Order
+pub mod Parts
+pub mod Meaning
+pub mod Serialises

@@ -1,0 +1,14 @@
+//! What a run is: its events, how far its packets have come, their serial order, and what is told of all this.
+#![tactic(auto)]
+
+mod event;
+mod fate;
+mod laws;
+mod run;
+mod serial;
+
+pub use event::{Event, Events};
+pub use fate::{Fate, Fates};
+pub use laws::meanings_that_agree;
+pub use run::{Order, Part, Parts, Run};
+pub use serial::{Decided, order};

@@ -1,0 +1,10 @@
+mod Follows
+mod Turns
+mod Runs
+mod Few
+mod Declared
+mod Wholes
+mod Commanded
+mod Seen
+mod Passed
+mod Tells

@@ -1,0 +1,212 @@
+-- What lookups see of the tables that are told.
+use Rattle.std.proofs.Common.{◌≡◌, ◌<◌, ℕ, Bool, true, false, List, [], ◌∷◌, length, Option, Some, slice_get, refl, sym, ap, ◌∙◌, arith, if◌then◌else◌}
+use Rattle.std.specs.FinMap as finmap
+use Rattle.std.specs.FinMap.{len-empty, len-entries}
+use Rattle.std.proofs.lemmas.Bool.{cond-true, cond-false, eq-eqb}
+use Rattle.std.proofs.lemmas.List.{get_or-map, take_all}
+use Rattle.std.proofs.lemmas.Option.{unwrap_or-slice_get}
+use Rattle.state_store.specs.declared.object.Kind.{Kind}
+use Rattle.state_store.specs.declared.object.ObjectDecl.{ObjectDecl}
+use Rattle.state_store.specs.declared.object.Row.{Row}
+use Rattle.state_store.specs.Kept.{IsKept, IsKeptObject}
+use Rattle.state_store.specs.Kinds.{is_table}
+use Rattle.state_store.specs.Store.{Contents, Object, Store, is_full, is_out, key_cmp, no_object, object_at, put_row, rows_from, rows_of, start_object}
+use Rattle.flat_ir.specs.Program.{Program}
+use Rattle.split_model.specs.declared.split.Part.{Part}
+use Rattle.split_model.specs.Laws.{HasReplicated, IsLoaded}
+use Rattle.split_model.specs.Shown.{is_replicated}
+use Rattle.writeback_table.specs.declared.command.Command.{Command}
+use Rattle.writeback_table.specs.declared.command.Command.TheVariants.{Stage, On, Main, Off, Clear}
+use Rattle.writeback_table.specs.declared.command.To.{To}
+use Rattle.writeback_table.specs.declared.command.To.TheVariants.{Value, Gone}
+use Rattle.writeback_table.specs.declared.command.Update.{Update}
+use Rattle.writeback_table.specs.Batches.{seen_after}
+use Rattle.writeback_table.specs.Commands.{bit_through, names, pair_after, pair_through, room_for}
+use Rattle.writeback_table.specs.Pair.{Pair, Staged, applied, change_to, has_room, visible, with_staged}
+use Rattle.server_runtime.specs.Serving.{IsUpdateIn}
+use Rattle.split_answers.specs.Whole.{IsSplit}
+use Rattle.split_answers.specs.Through.{first_pair}
+use Rattle.switch_ir.specs.declared.port.RowsEnd.TheVariants as rows
+use Rattle.switch_ir.specs.Emitted.{emitted}
+use Rattle.switch_ir.specs.Port.{EndsSeen, IsCommandOf, IsReplicatedIn, IsUpdateOf}
+use Rattle.switch_ir.specs.Tables.{Told, has_room_in, no_pair, pair_at, seen_object, seen_tables, start_pair}
+use Rattle.split_answers.specs.Through.{HasTables, IsThrough}
+use Rattle.split_answers.proofs.Declared.{can_change, constant_at, declared_parts, declared_there, replicated_parts, shown_there, started_at, there_at}
+
+-- ## Replicated objects and those that are declared on the switch
+
+pub is_declared : (f : Program) (split : List Part) (writeback o : ℕ) → IsSplit f split writeback → is_replicated f split o ≡ true → (d : ObjectDecl) × IsReplicatedIn (emitted f split writeback) o d
+is_declared f split writeback o is shown =
+    let parts = replicated_parts f split o shown in
+    let found = there_at f.objects o (shown_there f split o is.bounded.formed parts.1) in (
+      found.0,
+      record {
+        declared = declared_there f split o found.0 parts.2 found.1;
+        changes = sym (constant_at f.objects o found.0 found.1) ∙ parts.0;
+      },
+    )
+
+pub is_replicated_there : (f : Program) (split : List Part) (writeback o : ℕ) (d : ObjectDecl) → IsSplit f split writeback → IsReplicatedIn (emitted f split writeback) o d → is_replicated f split o ≡ true
+is_replicated_there f split writeback o d is there =
+    let parts = declared_parts f split o d there.declared in can_change f split o d is.legal parts.0 parts.1 there.changes
+
+pub is_update : (f : Program) (split : List Part) (writeback : ℕ) (update : Update) → IsUpdateIn f split update → IsUpdateOf (emitted f split writeback) update
+is_update f split writeback update is =
+    let parts = replicated_parts f split update.object is.replicated in (
+      is.declared,
+      record {
+        declared = declared_there f split update.object is.declared parts.2 is.is;
+        changes = sym (constant_at f.objects update.object is.declared is.is) ∙ parts.0;
+      },
+      is.widths,
+    )
+
+-- ## Start tables
+
+no_items : {X : Type 0} (xs : List X) → length xs ≡ 0 → xs ≡ []
+no_items [] len = refl
+no_items (x ∷ xs) len = absurd (omega (arith, len))
+
+abbrev starting : ObjectDecl → ℕ → Pair
+starting d writeback = start_pair writeback (Some d)
+
+-- lookups see them, whatever the bit
+sees_start : (bit : Bool) (d : ObjectDecl) (writeback : ℕ) → visible bit (starting d writeback) ≡ (start_object d).contents
+sees_start false d writeback = refl
+sees_start true d writeback =
+    let none : Staged = finmap.empty in
+    ap (λ staged. with_staged staged (start_object d).contents) (no_items (finmap.entries none) (sym (len-entries none) ∙ len-empty key_cmp (Option (List ℕ))))
+
+-- the world begins with the same
+pub same_start : (f : Program) (split : List Part) (writeback o : ℕ) (d : ObjectDecl) → slice_get f.objects o ≡ Some d → is_table d.kind ≡ false
+    → first_pair f writeback o ≡ starting d writeback
+same_start f split writeback o d is changes =
+    let P : Object → ℕ → Pair = λ x n. record { main = x; staged = finmap.empty; room = n } in
+    ap (λ x. P x writeback) (started_at f.objects o d is)
+    ∙ ap (P (start_object d)) (sym (cond-false (is_table d.kind) 0 writeback changes))
+
+-- ## Commands change the contents alone
+
+abbrev holding : Contents → Object → Object
+holding contents object = record object { contents = contents }
+
+holds_put : (object : Object) (key values : List ℕ) (contents : Contents) → holding contents (put_row object key values) ≡ holding contents object
+holds_put object key values contents = by_tests (is_out object.kind object.size key) (is_full object key)
+  where
+    by_tests : (out full : Bool) → holding contents (if out then object else (if full then object else record object { contents = finmap.insert object.contents key values })) ≡ holding contents object
+    by_tests true full = refl
+    by_tests false true = refl
+    by_tests false false = refl
+
+holds_change : (object : Object) (key : List ℕ) (to : To) (contents : Contents) → holding contents (change_to object key to) ≡ holding contents object
+holds_change object key (Value values) contents = holds_put object key values contents
+holds_change object key Gone contents = refl
+
+holds_applied : (pair : Pair) (command : Command) (contents : Contents) → holding contents (applied pair command).main ≡ holding contents pair.main
+holds_applied pair (Stage update) contents = refl
+holds_applied pair On contents = refl
+holds_applied pair (Main update) contents = holds_change pair.main update.key update.to contents
+holds_applied pair Off contents = refl
+holds_applied pair (Clear object key) contents = refl
+
+holds_after : (o : ℕ) (pair : Pair) (command : Command) (contents : Contents) → holding contents (pair_after o pair command).main ≡ holding contents pair.main
+holds_after o pair command contents = by_test (names o command)
+  where
+    by_test : (b : Bool) → holding contents (if b then applied pair command else pair).main ≡ holding contents pair.main
+    by_test true = holds_applied pair command contents
+    by_test false = refl
+
+holds_through : (o : ℕ) (pair : Pair) (commands : List Command) (contents : Contents) → holding contents (pair_through o pair commands).main ≡ holding contents pair.main
+holds_through o pair [] contents = refl
+holds_through o pair (c ∷ cs) contents = holds_through o (pair_after o pair c) cs contents ∙ holds_after o pair c contents
+
+-- an object that is kept is one as declared, with its own contents
+as_declared : (d : ObjectDecl) (object : Object) → IsKeptObject d object → holding object.contents (start_object d) ≡ object
+as_declared d object kept =
+    let P : (kind : Kind) (size count : ℕ) → Object = λ kind size count. record { kind = kind; size = size; count = count; contents = object.contents } in
+    ap (λ k. P k d.size (length d.values)) (sym kept.kind) ∙ ap (λ n. P object.kind n (length d.values)) (sym kept.size) ∙ ap (P object.kind object.size) (sym kept.count)
+
+-- ## The tables that lookups see
+
+object_seen : (told : Told) (o : ℕ) → o < length told.pairs → object_at (seen_tables told) o ≡ seen_object told.bit (pair_at told.pairs o)
+object_seen told o within =
+    unwrap_or-slice_get (seen_tables told) o no_object
+    ∙ get_or-map (seen_object told.bit) told.pairs o no_pair no_object within
+    ∙ ap (seen_object told.bit) (sym (unwrap_or-slice_get told.pairs o no_pair))
+
+seen_all : (o : ℕ) (pair : Pair) (commands : List Command) → seen_after o pair commands (length commands) ≡ visible (bit_through false commands) (pair_through o pair commands)
+seen_all o pair commands = ap (λ cs. visible (bit_through false cs) (pair_through o pair cs)) (take_all (length commands) commands (omega arith))
+
+-- what lookups of a replicated object see is what the world says
+abbrev pub AreSeen : Program → List Part → ℕ → Store → List Command → Type 0
+AreSeen f split writeback st commands = (o : ℕ) → is_replicated f split o ≡ true → seen_after o (first_pair f writeback o) commands (length commands) ≡ (object_at st o).contents
+
+module _ (f : Program) (split : List Part) (writeback : ℕ) (is : IsSplit f split writeback) (commands : List Command) (told : Told) (through : IsThrough (emitted f split writeback) commands told) where
+  -- constant tables have their declared rows
+  pub is_loaded : IsLoaded f split (seen_tables told)
+  is_loaded = record {
+    rows = λ o d at table looked.
+        let there = declared_there f split o d looked at in
+        object_seen told o (through.there o d there)
+        ∙ ap (seen_object told.bit) (through.constant o d there table)
+        ∙ ap (λ contents. holding contents (start_object d)) (sees_start told.bit d writeback);
+  }
+
+  -- the pair of a replicated object is the world's
+  pub pair_is : (o : ℕ) → is_replicated f split o ≡ true → pair_at told.pairs o ≡ pair_through o (first_pair f writeback o) commands
+  pair_is o shown =
+      let d = is_declared f split writeback o is shown in
+      through.pairs o d.0 d.1 ∙ ap (λ p. pair_through o p commands) (sym (same_start f split writeback o d.0 (declared_parts f split o d.0 d.1.declared).1 d.1.changes))
+
+  contents_seen : (o : ℕ) → is_replicated f split o ≡ true → visible told.bit (pair_at told.pairs o) ≡ seen_after o (first_pair f writeback o) commands (length commands)
+  contents_seen o shown =
+      ap (λ b. visible b (pair_at told.pairs o)) through.bit ∙ ap (visible (bit_through false commands)) (pair_is o shown)
+      ∙ sym (seen_all o (first_pair f writeback o) commands)
+
+  pub has_replicated : (st : Store) → AreSeen f split writeback st commands → IsKept f.objects st → HasReplicated f split st (seen_tables told)
+  has_replicated st seen kept o shown =
+      let d = is_declared f split writeback o is shown in
+      let at : slice_get f.objects o ≡ Some d.0 = (declared_parts f split o d.0 d.1.declared).1 in
+      let own = kept.each o d.0 at in
+      let x : Object = object_at st o in
+      let contents : visible told.bit (pair_at told.pairs o) ≡ x.contents = contents_seen o shown ∙ seen o shown in
+      object_seen told o (through.there o d.0 d.1.declared)
+      ∙ ap (λ c. holding c (pair_at told.pairs o).main) contents
+      ∙ ap (λ (p : Pair). holding x.contents p.main) (through.pairs o d.0 d.1)
+      ∙ holds_through o (starting d.0 writeback) commands x.contents
+      ∙ as_declared d.0 x own
+
+  pub rows_seen : (st : Store) (o : ℕ) (list : List Row) → is_replicated f split o ≡ true → seen_after o (first_pair f writeback o) commands (length commands) ≡ (object_at st o).contents
+      → EndsSeen told o (rows.Rows list) → list ≡ rows_of (object_at st o)
+  rows_seen st o list shown seen ends = ends ∙ ap (λ (c : Contents). rows_from (finmap.entries c)) (contents_seen o shown ∙ seen)
+
+  -- ## Room
+
+  has_room_there : (o : ℕ) (d : ObjectDecl) (command : Command) → names o command ≡ true → IsReplicatedIn (emitted f split writeback) o d
+      → ((k : ℕ) → is_replicated f split k ≡ true → room_for k (pair_through k (first_pair f writeback k) commands) command ≡ true)
+      → has_room (pair_at told.pairs o) command ≡ true
+  has_room_there o d command named there room =
+      let shown = is_replicated_there f split writeback o d is there in
+      let pair : Pair = pair_through o (first_pair f writeback o) commands in
+      ap (λ p. has_room p command) (pair_is o shown)
+      ∙ sym (cond-true (names o command) (has_room pair command) true named)
+      ∙ room o shown
+
+  pub room_found : (command : Command) → IsCommandOf (emitted f split writeback) command
+      → ((o : ℕ) → is_replicated f split o ≡ true → room_for o (pair_through o (first_pair f writeback o) commands) command ≡ true)
+      → has_room_in told.pairs command ≡ true
+  room_found (Stage update) own room = has_room_there update.object own.0 (Stage update) (eq-eqb update.object update.object refl) own.1 room
+  room_found On own room = refl
+  room_found (Main update) own room = has_room_there update.object own.0 (Main update) (eq-eqb update.object update.object refl) own.1 room
+  room_found Off own room = refl
+  room_found (Clear object key) own room = refl
+
+  -- ## Where nothing is left
+
+  pub are_newest : (st : Store) → bit_through false commands ≡ false
+      → ((o : ℕ) → is_replicated f split o ≡ true → pair_through o (first_pair f writeback o) commands ≡ record { main = object_at st o; staged = finmap.empty; room = writeback })
+      → HasTables f split writeback st told
+  are_newest st clear quiet = record {
+    bit = through.bit ∙ clear;
+    each = λ o shown. pair_is o shown ∙ quiet o shown;
+  }

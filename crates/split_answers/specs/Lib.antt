@@ -1,0 +1,3 @@
+pub mod Whole
+pub mod Through
+pub mod Over

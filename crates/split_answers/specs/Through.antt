@@ -1,0 +1,46 @@
+-- The tables that a switch tells, after the commands that it applied.
+use Rattle.std.specs.Prelude.{◌≡◌, ◌<◌, ℕ, true, false, List, length, Some}
+use Rattle.std.specs.FinMap as finmap
+use Rattle.state_store.specs.declared.object.ObjectDecl.{ObjectDecl}
+use Rattle.state_store.specs.Kinds.{is_table}
+use Rattle.state_store.specs.Store.{Store, object_at, start_store}
+use Rattle.writeback_table.specs.declared.command.Command.{Command}
+use Rattle.writeback_table.specs.Commands.{bit_through, pair_through}
+use Rattle.writeback_table.specs.Pair.{Pair}
+use Rattle.flat_ir.specs.Program.{Program}
+use Rattle.split_model.specs.declared.split.Part.{Part}
+use Rattle.split_model.specs.Shown.{is_replicated}
+use Rattle.switch_ir.specs.Code.{Code}
+use Rattle.switch_ir.specs.Port.{IsReplicatedIn}
+use Rattle.switch_ir.specs.Tables.{Told, declared_at, pair_at, start_pair}
+use Rattle.replay_state.specs.Journal.{UpAnswer, Finished, SentUp, GoingUp}
+use Rattle.switch_ir.specs.declared.port.UpEnd.{UpEnd}
+use Rattle.switch_ir.specs.declared.port.UpEnd.TheVariants as up
+
+-- Each object that can change has the tables that these commands make of its start tables, one after the other, and so
+-- has the bit; constant tables are as they were loaded.
+pub record IsThrough (code : Code) (commands : List Command) (told : Told) : Type 0 where
+  pub there : (o : ℕ) (d : ObjectDecl) → declared_at code.tables o ≡ Some d → o < length told.pairs
+  pub pairs : (o : ℕ) (d : ObjectDecl) → IsReplicatedIn code o d
+      → pair_at told.pairs o ≡ pair_through o (start_pair code.writeback (Some d)) commands
+  pub constant : (o : ℕ) (d : ObjectDecl) → declared_at code.tables o ≡ Some d → is_table d.kind ≡ true
+      → pair_at told.pairs o ≡ start_pair code.writeback (Some d)
+  pub bit : told.bit ≡ bit_through false commands
+
+-- the tables of object o before any command: the main table is the object of the start store, and nothing is staged
+abbrev pub first_pair : Program → ℕ → ℕ → Pair
+first_pair f writeback o =
+    record { main = object_at (start_store f.objects) o; staged = finmap.empty; room = writeback }
+
+-- what an end of a pass says of its packet; one that goes on isn't answered yet
+abbrev pub IsEndOf : UpEnd → UpAnswer → Type 0
+IsEndOf end (Finished verdict) = end ≡ up.Finished verdict
+IsEndOf end (SentUp frame) = end ≡ up.Up frame
+IsEndOf end GoingUp = ⊥
+
+-- the switch's tables are the store's: each replicated object is its main table, nothing is staged, and the bit is
+-- clear
+pub record HasTables (f : Program) (split : List Part) (writeback : ℕ) (st : Store) (told : Told) : Type 0 where
+  pub bit : told.bit ≡ false
+  pub each : (o : ℕ) → is_replicated f split o ≡ true
+      → pair_at told.pairs o ≡ record { main = object_at st o; staged = finmap.empty; room = writeback }
