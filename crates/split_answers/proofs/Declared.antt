@@ -3,13 +3,13 @@ use Rattle.std.proofs.Common.{◌≡◌, ◌<◌, ◌+◌, ◌==◌, ℕ, zero, 
 use Rattle.std.proofs.lemmas.Bool.{and_parts, and_from, or_left, or_cases, cond-true, cond-false, eq-eqb, eqb-true, ne_eqb, false≢true, true≢false}
 use Rattle.std.proofs.lemmas.Option.{slice_get_within}
 use Rattle.state_store.specs.declared.object.ObjectDecl.{ObjectDecl}
-use Rattle.state_store.specs.Kinds.{is_table}
+use Rattle.state_store.specs.Kinds.{is_table, is_constant}
 use Rattle.state_store.specs.Store.{start_object, start_store, object_at}
 use Rattle.flat_ir.specs.Program.{Program, Work, step_at}
 use Rattle.flat_ir.specs.Program.Work.{const, field, apply, shift, select, byte, look, put, del}
 use Rattle.flat_ir.specs.Fits.{fits, fits_keys, widths_of}
 use Rattle.flat_ir.specs.Kinds.{fits_switch, is_field, is_mutable_look}
-use Rattle.flat_ir.specs.WellFormed.{IsWellFormed, is_constant}
+use Rattle.flat_ir.specs.WellFormed.{IsWellFormed}
 use Rattle.split_model.specs.declared.split.Part.{Part}
 use Rattle.split_model.specs.Counts.{is_post_shown}
 use Rattle.split_model.specs.Legal.{IsLegal}

@@ -2,12 +2,12 @@
 use Rattle.std.proofs.Common.{◌≤◌, ℕ, zero, suc, Bool, true, false, cond, List, [], ◌∷◌, length, map, Some, None, ap, arith, if◌then◌else◌, is_some}
 use Rattle.std.proofs.lemmas.List.{length-append}
 use Rattle.packet_fields.specs.declared.packet.Packet.{Packet}
-use Rattle.state_store.specs.Store.{Store, object_at, put_answer}
+use Rattle.state_store.specs.Store.{Store, object_at, put_answer, is_stored}
 use Rattle.state_store.specs.Store as store
 use Rattle.flat_ir.specs.Blocks.{Reading, is_live}
 use Rattle.flat_ir.specs.Program.{Program, Work, step_at}
 use Rattle.flat_ir.specs.Program.Work.{const, field, apply, shift, select, byte, look, put, del}
-use Rattle.flat_ir.specs.Run.{Change, after, change_of, is_stored, made}
+use Rattle.flat_ir.specs.Run.{Change, after, change_of, made}
 use Rattle.split_model.specs.declared.split.Part.{Part}
 use Rattle.split_model.specs.Counts.{count_below}
 use Rattle.split_model.specs.Shown.{is_replicated}

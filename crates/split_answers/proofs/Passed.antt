@@ -12,11 +12,11 @@ use Rattle.flat_ir.specs.Blocks.{Reading}
 use Rattle.flat_ir.specs.Kinds.{is_input}
 use Rattle.flat_ir.specs.Program.{Program, is_named, step_at}
 use Rattle.flat_ir.specs.Run.{flat_verdict}
-use Rattle.flat_ir.specs.WellFormed.{HasTables, IsWellFormed}
+use Rattle.flat_ir.specs.WellFormed.{HasConstantTables, IsWellFormed}
 use Rattle.split_model.specs.declared.layout.Crossing.{Crossing}
 use Rattle.split_model.specs.declared.split.Part.{Part}
 use Rattle.split_model.specs.Crossing.{crosses_down, crosses_up, guards_write, is_read_by, is_written_value}
-use Rattle.split_model.specs.Laws.{CarriedStand, HasReplicated, IsExact, IsLoaded, IsPostedAlike}
+use Rattle.split_model.specs.Laws.{CarriedStand, ShowsReplicated, IsExact, HasDeclaredTables, IsPostedAlike}
 use Rattle.split_model.specs.Layouts.{crossing, down_layout, up_layout, values_of}
 use Rattle.split_model.specs.Legal.{IsLegal}
 use Rattle.split_model.specs.Passes.{Shows, down_verdict, is_fast, pre_values}
@@ -41,16 +41,16 @@ use Rattle.split_answers.proofs.Seen.{AreSeen, has_replicated, is_loaded}
 -- What holds of the code, of the passes and of frames.
 pub record UpLaws : Type 0 where
   pub computes : (f : Program) (split : List Part) (writeback : ℕ) → IsLegal f split → Computes f split (emitted f split writeback)
-  pub tables : (f : Program) (st : Store) → IsKept f.objects st → HasTables f st
-  pub shows : (f : Program) (split : List Part) (st tables : Store) → HasTables f st → IsLoaded f split tables → HasReplicated f split st tables → Shows f split tables st
+  pub tables : (f : Program) (st : Store) → IsKept f.objects st → HasConstantTables f st
+  pub shows : (f : Program) (split : List Part) (st tables : Store) → HasConstantTables f st → HasDeclaredTables f split tables → ShowsReplicated f split st tables → Shows f split tables st
   pub exact : (f : Program) (split : List Part) (st tables : Store) (packet : Packet) → IsWellFormed f → IsLegal f split → Shows f split tables st → IsExact f split st tables packet
-  pub carried : (f : Program) (split : List Part) (st tables : Store) (packet : Packet) → IsWellFormed f → IsLegal f split → HasTables f st → IsLoaded f split tables → CarriedStand f split st tables packet
+  pub carried : (f : Program) (split : List Part) (st tables : Store) (packet : Packet) → IsWellFormed f → IsLegal f split → HasConstantTables f st → HasDeclaredTables f split tables → CarriedStand f split st tables packet
   pub alike : (kind : ℕ) (layout : List Crossing) (number port : ℕ) (values others : Crossing → ℕ) (packet : List ℕ) → Agree layout values others → frame_of kind layout number port values packet ≡ frame_of kind layout number port others packet
 
 pub record DownLaws : Type 0 where
   pub computes : (f : Program) (split : List Part) (writeback : ℕ) → IsLegal f split → Computes f split (emitted f split writeback)
-  pub tables : (f : Program) (st : Store) → IsKept f.objects st → HasTables f st
-  pub posted : (f : Program) (split : List Part) (tables other : Store) (packet : Packet) (down : Reading) → IsLegal f split → IsLoaded f split tables → IsLoaded f split other → IsPostedAlike f split tables other packet down
+  pub tables : (f : Program) (st : Store) → IsKept f.objects st → HasConstantTables f st
+  pub posted : (f : Program) (split : List Part) (tables other : Store) (packet : Packet) (down : Reading) → IsLegal f split → HasDeclaredTables f split tables → HasDeclaredTables f split other → IsPostedAlike f split tables other packet down
   pub alike : (kind : ℕ) (layout : List Crossing) (number port : ℕ) (values others : Crossing → ℕ) (packet : List ℕ) → Agree layout values others → frame_of kind layout number port values packet ≡ frame_of kind layout number port others packet
   pub parts : (kind : ℕ) (layout : List Crossing) (number port : ℕ) (values : Crossing → ℕ) (packet frame : List ℕ) → IsFrameOf kind layout number port values packet frame → IsToldByPlace layout number port packet frame
   pub values : (f : Program) (split : List Part) (kind number port : ℕ) (values : Crossing → ℕ) (packet frame : List ℕ) → IsFrameOf kind (down_layout f split) number port values packet frame
@@ -60,7 +60,7 @@ pub record DownLaws : Type 0 where
 each_crossing : (f : Program) (crosses : ValueId → Bool) (P : Crossing → Type 0) → ((v : ValueId) → crosses v ≡ true → P (crossing f v)) → All P (map (crossing f) (filter crosses (values_of f)))
 each_crossing f crosses P each = All-map P (crossing f) (filter crosses (values_of f)) (λ k d within. each (get_or (filter crosses (values_of f)) k d) (filter_passes crosses (values_of f) k d within))
 
-loaded : (f : Program) (split : List Part) (tables : Store) → HasTables f tables → IsLoaded f split tables
+loaded : (f : Program) (split : List Part) (tables : Store) → HasConstantTables f tables → HasDeclaredTables f split tables
 loaded f split tables has = record { rows = λ o d at table looked. has.tables o d at table }
 
 carried_up : (f : Program) (split : List Part) (v : ValueId) → crosses_up f split v ≡ true → is_carried split v.instruction ≡ true
@@ -83,10 +83,10 @@ module _ (laws : UpLaws) (f : Program) (split : List Part) (writeback : ℕ) (st
   abbrev tables : Store
   tables = seen_tables told
 
-  has_tables : HasTables f st
+  has_tables : HasConstantTables f st
   has_tables = laws.tables f st kept
 
-  ready : IsLoaded f split tables
+  ready : HasDeclaredTables f split tables
   ready = is_loaded f split writeback is commands told through
 
   exact : IsExact f split st tables packet

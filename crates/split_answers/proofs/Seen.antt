@@ -13,7 +13,7 @@ use Rattle.state_store.specs.Kinds.{is_table}
 use Rattle.state_store.specs.Store.{Contents, Object, Store, is_full, is_out, key_cmp, no_object, object_at, put_row, rows_from, rows_of, start_object}
 use Rattle.flat_ir.specs.Program.{Program}
 use Rattle.split_model.specs.declared.split.Part.{Part}
-use Rattle.split_model.specs.Laws.{HasReplicated, IsLoaded}
+use Rattle.split_model.specs.Laws.{ShowsReplicated, HasDeclaredTables}
 use Rattle.split_model.specs.Shown.{is_replicated}
 use Rattle.writeback_table.specs.declared.command.Command.{Command}
 use Rattle.writeback_table.specs.declared.command.Command.TheVariants.{Stage, On, Main, Off, Clear}
@@ -30,7 +30,7 @@ use Rattle.switch_ir.specs.declared.port.RowsEnd.TheVariants as rows
 use Rattle.switch_ir.specs.Emitted.{emitted}
 use Rattle.switch_ir.specs.Port.{EndsSeen, IsCommandOf, IsReplicatedIn, IsUpdateOf}
 use Rattle.switch_ir.specs.Tables.{Told, has_room_in, no_pair, pair_at, seen_object, seen_tables, start_pair}
-use Rattle.split_answers.specs.Through.{HasTables, IsThrough}
+use Rattle.split_answers.specs.Through.{HasConstantTables, IsThrough}
 use Rattle.split_answers.proofs.Declared.{can_change, constant_at, declared_parts, declared_there, replicated_parts, shown_there, started_at, there_at}
 
 -- ## Replicated objects and those that are declared on the switch
@@ -143,7 +143,7 @@ AreSeen f split writeback st commands = (o : ℕ) → is_replicated f split o �
 
 module _ (f : Program) (split : List Part) (writeback : ℕ) (is : IsSplit f split writeback) (commands : List Command) (told : Told) (through : IsThrough (emitted f split writeback) commands told) where
   -- constant tables have their declared rows
-  pub is_loaded : IsLoaded f split (seen_tables told)
+  pub is_loaded : HasDeclaredTables f split (seen_tables told)
   is_loaded = record {
     rows = λ o d at table looked.
         let there = declared_there f split o d looked at in
@@ -163,7 +163,7 @@ module _ (f : Program) (split : List Part) (writeback : ℕ) (is : IsSplit f spl
       ap (λ b. visible b (pair_at told.pairs o)) through.bit ∙ ap (visible (bit_through false commands)) (pair_is o shown)
       ∙ sym (seen_all o (first_pair f writeback o) commands)
 
-  pub has_replicated : (st : Store) → AreSeen f split writeback st commands → IsKept f.objects st → HasReplicated f split st (seen_tables told)
+  pub has_replicated : (st : Store) → AreSeen f split writeback st commands → IsKept f.objects st → ShowsReplicated f split st (seen_tables told)
   has_replicated st seen kept o shown =
       let d = is_declared f split writeback o is shown in
       let at : slice_get f.objects o ≡ Some d.0 = (declared_parts f split o d.0 d.1.declared).1 in
@@ -205,7 +205,7 @@ module _ (f : Program) (split : List Part) (writeback : ℕ) (is : IsSplit f spl
 
   pub are_newest : (st : Store) → bit_through false commands ≡ false
       → ((o : ℕ) → is_replicated f split o ≡ true → pair_through o (first_pair f writeback o) commands ≡ record { main = object_at st o; staged = finmap.empty; room = writeback })
-      → HasTables f split writeback st told
+      → HasConstantTables f split writeback st told
   are_newest st clear quiet = record {
     bit = through.bit ∙ clear;
     each = λ o shown. pair_is o shown ∙ quiet o shown;

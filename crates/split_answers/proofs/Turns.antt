@@ -4,28 +4,19 @@ use Rattle.std.proofs.Common.{refl, sym, ap, ◌∙◌, subst, ⊎_elim, is_some
 use Rattle.std.proofs.lemmas.Bool.{cases_Bool, cases_eq, cond-true, cond-false, eq-eqb, ne_eqb, false≢true}
 use Rattle.std.proofs.lemmas.List.{get_or-set_same}
 use Rattle.std.proofs.lemmas.Option.{unwrap_or-slice_get}
-use Rattle.state_store.specs.declared.store.Put.{Put}
-use Rattle.state_store.specs.declared.store.Put.TheVariants.{Stored, Full, OutOfRange}
 use Rattle.state_store.specs.Laws.{IsChangedAlone}
 use Rattle.state_store.specs.Store.{Object, Store, no_object, object_at, with_object, put_answer, put_row, del_row}
 use Rattle.state_store.specs.Store as store
 use Rattle.flat_ir.specs.Program.{Program, Work}
 use Rattle.flat_ir.specs.Program.Work.{const, field, apply, shift, select, byte, look, put, del}
 use Rattle.flat_ir.specs.Blocks.{Reading}
-use Rattle.flat_ir.specs.Run as run
 use Rattle.flat_ir.specs.Run.{Change, made, change_of, with_changes, with_values}
 use Rattle.split_model.specs.declared.split.Part.{Part}
 use Rattle.split_model.specs.Shown.{is_replicated, writes_to}
 use Rattle.writeback_table.specs.Batches.{changed_at, takes_at}
-use Rattle.writeback_table.specs.Pair as pair
 use Rattle.writeback_table.specs.Pair.{changed, takes, takes_to}
 use Rattle.server_runtime.specs.Serving.{to_of, update_of, updates_of}
 use Rattle.split_answers.proofs.Follows.{Follows, none_follow, one_follows}
-
-same_test : (answer : Put) → run.is_stored answer ≡ pair.is_stored answer
-same_test Stored = refl
-same_test Full = refl
-same_test OutOfRange = refl
 
 own_object : (st : Store) (o : ℕ) (x : Object) → o < length st → object_at (with_object st o x) o ≡ x
 own_object st o x within =
@@ -117,9 +108,9 @@ module _ (alone : (st : Store) (number : ℕ) (object : Object) → IsChangedAlo
     pub turn_goes : (reads : Reading) (live : Bool) (work : Work)
         → Goes (made live (change_of reads st work)) (if writes_to o work then 1 else 0)
     turn_goes reads live (put object keys values) =
-        made_goes live (run.is_stored (put_answer (object_at st object) (map reads keys)))
+        made_goes live (store.is_stored (put_answer (object_at st object) (map reads keys)))
         (record { object = object; key = map reads keys; values = Some (map reads values) })
-        (λ stored. sym (same_test (put_answer (object_at st object) (map reads keys))) ∙ stored)
+        (λ stored. stored)
     turn_goes reads live (del object keys) =
         made_goes live (is_some (store.look (object_at st object) (map reads keys)))
         (record { object = object; key = map reads keys; values = None }) (λ there. refl)

@@ -12,10 +12,10 @@ use Rattle.flat_ir.specs.Program.{Program, step_at}
 use Rattle.flat_ir.specs.Blocks.{Reading}
 use Rattle.flat_ir.specs.Run.{after, flat_changes, flat_store}
 use Rattle.flat_ir.specs.Laws.{KeepsWidths}
-use Rattle.flat_ir.specs.WellFormed.{HasTables, IsWellFormed}
+use Rattle.flat_ir.specs.WellFormed.{HasConstantTables, IsWellFormed}
 use Rattle.split_model.specs.declared.split.Part.{Part}
 use Rattle.split_model.specs.Counts.{count_below, count_steps, writes}
-use Rattle.split_model.specs.Laws.{HasReplicated, IsExact, IsLoaded, IsShownAlone}
+use Rattle.split_model.specs.Laws.{ShowsReplicated, IsExact, HasDeclaredTables, IsShownAlone}
 use Rattle.split_model.specs.declared.layout.Crossing.{Crossing}
 use Rattle.split_model.specs.Layouts.{down_layout, up_layout}
 use Rattle.split_model.specs.Legal.{IsLegal}
@@ -49,9 +49,9 @@ pub record Laws : Type 0 where
   pub alone : (st : Store) (number : ℕ) (object : Object) → IsChangedAlone st number object
   pub widths : (f : Program) (st : Store) (packet : Packet) (n : ℕ) → IsWellFormed f → IsArrival packet
       → IsKept f.objects st → n ≤ length f.code → KeepsWidths f (after f st packet n)
-  pub tables : (f : Program) (st : Store) → IsKept f.objects st → HasTables f st
+  pub tables : (f : Program) (st : Store) → IsKept f.objects st → HasConstantTables f st
   pub shows : (f : Program) (split : List Part) (st tables : Store)
-      → HasTables f st → IsLoaded f split tables → HasReplicated f split st tables → Shows f split tables st
+      → HasConstantTables f st → HasDeclaredTables f split tables → ShowsReplicated f split st tables → Shows f split tables st
   pub exact : (f : Program) (split : List Part) (st tables : Store) (packet : Packet)
       → IsWellFormed f → IsLegal f split → Shows f split tables st → IsExact f split st tables packet
   pub reads : (f : Program) (split : List Part) (st : Store) (packet : Packet)
@@ -60,7 +60,7 @@ pub record Laws : Type 0 where
       → length (updates_of f split (served f split up st packet n).changes)
       ≤ count_below n (λ i. is_followed f split (step_at f i).work)
 
-loaded : (f : Program) (split : List Part) (tables : Store) → HasTables f tables → IsLoaded f split tables
+loaded : (f : Program) (split : List Part) (tables : Store) → HasConstantTables f tables → HasDeclaredTables f split tables
 loaded f split tables has = record { rows = λ o d is table looked. has.tables o d is table }
 
 module _ (laws : Laws) (f : Program) (split : List Part) (writeback : ℕ) (is : IsSplit f split writeback)
@@ -114,7 +114,7 @@ is_split_program laws f split writeback packets is arrive = record {
 abbrev pub Serves : Type 0
 Serves = (f : Program) (split : List Part) (st tables_up tables : Store) (number : ℕ) (packet : Packet)
     → IsWellFormed f → IsLegal f split → IsArrival packet → IsKept f.objects st → number < 2 ^ 32
-    → IsLoaded f split tables_up → IsLoaded f split tables
+    → HasDeclaredTables f split tables_up → HasDeclaredTables f split tables
     → IsWholeRun f split st tables number packet (packet_frame f split tables_up number packet)
 
 is_framed : (f : Program) (split : List Part) (writeback number : ℕ) (store : Store) (packet : Packet)
@@ -149,7 +149,7 @@ number_down laws f split store frame low =
     number_told laws (down_layout f split) (number_in frame) (port_in frame) (value_by reads)
     (sent_down f split reads (packet_in (up_layout f split) frame)).bytes low
 
-pub has_frames : Serves → FrameLaws → ((f : Program) (st : Store) → IsKept f.objects st → HasTables f st)
+pub has_frames : Serves → FrameLaws → ((f : Program) (st : Store) → IsKept f.objects st → HasConstantTables f st)
     → (f : Program) (split : List Part) (writeback : ℕ) (packets : List Packet)
     → IsSplit f split writeback → Each IsArrival packets → length packets ≤ 2 ^ 32
     → HasFrames (whole_of f split writeback) packets
