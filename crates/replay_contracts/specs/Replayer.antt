@@ -2,7 +2,7 @@
 -- are a replay of its events over its port.
 use Rattle.std.specs.Prelude.{◌≡◌, ◌≤◌, ◌+◌, ℕ, Bool, true, false, List, [], ◌∷◌, ◌++◌, length}
 use Rattle.std.specs.Prelude.{Option, Some, None, is_some}
-use Rattle.gal_io.specs.Count.{Counts}
+use Rattle.gal_io.specs.Count.{IsCountedIf}
 use Rattle.flat_ir.specs.Program.{program_of}
 use Rattle.state_store.specs.Store.{start_store}
 use Rattle.run_model.specs.declared.event.Event.{Event}
@@ -124,7 +124,7 @@ is_port_fault errors.NoMemory = false
 
 -- what an error counts: one call that failed, or none
 abbrev pub CountsFault : ReplayError → PortState → PortState → Type 0
-CountsFault e old new = Counts (is_port_fault e) old.faults new.faults
+CountsFault e old new = IsCountedIf (is_port_fault e) old.faults new.faults
 
 -- it fails now: the events so far and the job are kept, the port has its code, tells its tables where it told them
 -- before, and may have been called more

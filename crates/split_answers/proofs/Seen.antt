@@ -30,7 +30,7 @@ use Rattle.switch_ir.specs.declared.port.RowsEnd.TheVariants as rows
 use Rattle.switch_ir.specs.Emitted.{emitted}
 use Rattle.switch_ir.specs.Port.{EndsSeen, IsCommandOf, IsReplicatedIn, IsUpdateOf}
 use Rattle.switch_ir.specs.Tables.{Told, has_room_in, no_pair, pair_at, seen_object, seen_tables, start_pair}
-use Rattle.split_answers.specs.Through.{HasConstantTables, IsThrough}
+use Rattle.split_answers.specs.Through.{HasTables, IsThrough}
 use Rattle.split_answers.proofs.Declared.{can_change, constant_at, declared_parts, declared_there, replicated_parts, shown_there, started_at, there_at}
 
 -- ## Replicated objects and those that are declared on the switch
@@ -205,7 +205,7 @@ module _ (f : Program) (split : List Part) (writeback : ℕ) (is : IsSplit f spl
 
   pub are_newest : (st : Store) → bit_through false commands ≡ false
       → ((o : ℕ) → is_replicated f split o ≡ true → pair_through o (first_pair f writeback o) commands ≡ record { main = object_at st o; staged = finmap.empty; room = writeback })
-      → HasConstantTables f split writeback st told
+      → HasTables f split writeback st told
   are_newest st clear quiet = record {
     bit = through.bit ∙ clear;
     each = λ o shown. pair_is o shown ∙ quiet o shown;

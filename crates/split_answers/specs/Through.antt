@@ -40,7 +40,7 @@ IsEndOf end GoingUp = ⊥
 
 -- the switch's tables are the store's: each replicated object is its main table, nothing is staged, and the bit is
 -- clear
-pub record HasConstantTables (f : Program) (split : List Part) (writeback : ℕ) (st : Store) (told : Told) : Type 0 where
+pub record HasTables (f : Program) (split : List Part) (writeback : ℕ) (st : Store) (told : Told) : Type 0 where
   pub bit : told.bit ≡ false
   pub each : (o : ℕ) → is_replicated f split o ≡ true
       → pair_at told.pairs o ≡ record { main = object_at st o; staged = finmap.empty; room = writeback }

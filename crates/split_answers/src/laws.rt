@@ -12,7 +12,7 @@ ghost use Rattle.replay_state.specs.Told.{HasFrames, IsRight, IsTied, Tells};
 ghost use Rattle.run_model.specs.declared.event.Event.{Event};
 ghost use Rattle.server_runtime.specs.Serving.{IsUpdateIn};
 ghost use Rattle.split_answers.specs.Over.{AreAnswersOver};
-ghost use Rattle.split_answers.specs.Through.{HasConstantTables, IsEndOf, IsThrough, first_pair};
+ghost use Rattle.split_answers.specs.Through.{HasTables, IsEndOf, IsThrough, first_pair};
 ghost use Rattle.split_answers.specs.Whole.{whole_of, IsSplit};
 ghost use Rattle.split_model.specs.Layouts.{down_layout};
 ghost use Rattle.split_model.specs.Shown.{is_replicated};
@@ -169,7 +169,7 @@ pub fn quiet_tables_are_the_stores()
         → ((o : ℕ) → is_replicated f split o ≡ true
         → pair_through o (first_pair f writeback o) commands
         ≡ record { main = object_at st o; staged = map.empty; room = writeback })
-        → HasConstantTables f split writeback st told }
+        → HasTables f split writeback st told }
 {}
 
 /// A switch that answers over the tables that it tells answers right, so that the state of its replay is that of whole
