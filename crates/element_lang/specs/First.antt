@@ -10,25 +10,25 @@ use Rattle.element_lang.specs.Broken.{Sight, inside, in_repeat, behind, stmt_tes
 -- A declaration or a statement: how many tokens there are from its first one to the end of the source, and the rules
 -- that it can
 -- break, each with the test that says whether it does.
-pub record Part : Type 0 where
+pub record Site : Type 0 where
   pub at : ℕ
   pub tests : List (ℕ × Bool)
 
 abbrev mutual
-  pub parts_within : Sight → SurfaceStmt → List Part
-  parts_within sight (choose cond b c) = parts_in (inside sight) b ++ parts_in (inside sight) c
-  parts_within sight (repeat index count body) = parts_in (in_repeat sight (repeat index count body)) body
-  parts_within sight _ = []
+  pub sites_within : Sight → SurfaceStmt → List Site
+  sites_within sight (choose cond b c) = sites_in (inside sight) b ++ sites_in (inside sight) c
+  sites_within sight (repeat index count body) = sites_in (in_repeat sight (repeat index count body)) body
+  sites_within sight _ = []
 
-  pub parts_in : Sight → SurfaceBody → List Part
-  parts_in sight done = []
-  parts_in sight (stmt at s b) =
-      record { at = at; tests = stmt_tests sight s } ∷ (parts_within sight s ++ parts_in (behind sight s) b)
+  pub sites_in : Sight → SurfaceBody → List Site
+  sites_in sight done = []
+  sites_in sight (stmt at s b) =
+      record { at = at; tests = stmt_tests sight s } ∷ (sites_within sight s ++ sites_in (behind sight s) b)
 
-abbrev pub declared_parts : List ObjectDecl → List Declared → List Part
-declared_parts objects [] = []
-declared_parts objects (d ∷ ds) =
-    record { at = d.at; tests = decl_tests objects d.decl } ∷ declared_parts (objects ++ object_of d.decl ∷ []) ds
+abbrev pub declared_sites : List ObjectDecl → List Declared → List Site
+declared_sites objects [] = []
+declared_sites objects (d ∷ ds) =
+    record { at = d.at; tests = decl_tests objects d.decl } ∷ declared_sites (objects ++ object_of d.decl ∷ []) ds
 
 -- what the first statement sees
 abbrev pub first_sight : Surface → Sight
@@ -36,12 +36,12 @@ first_sight surface =
     record { objects = map (λ d. object_of d.decl) surface.objects; locals = []; repeated = false; ended = false }
 
 -- all declarations and statements, those inside others too, in the order of the text
-abbrev pub surface_parts : Surface → List Part
-surface_parts surface = declared_parts [] surface.objects ++ parts_in (first_sight surface) surface.body
+abbrev pub surface_sites : Surface → List Site
+surface_sites surface = declared_sites [] surface.objects ++ sites_in (first_sight surface) surface.body
 
-pub data StandsIn : Part → List Part → Type 0 where
-  first : {p : Part} {ps : List Part} → StandsIn p (p ∷ ps)
-  later : {p q : Part} {ps : List Part} → StandsIn p ps → StandsIn p (q ∷ ps)
+pub data StandsIn : Site → List Site → Type 0 where
+  first : {p : Site} {ps : List Site} → StandsIn p (p ∷ ps)
+  later : {p q : Site} {ps : List Site} → StandsIn p ps → StandsIn p (q ∷ ps)
 
 -- it breaks this rule
 abbrev pub breaks : List (ℕ × Bool) → ℕ → Bool
@@ -50,15 +50,15 @@ breaks tests rule = list_any (λ t. t.0 == rule && t.1) tests
 -- One of these declarations and statements stands at the told place. It breaks the told rule and no lower one, and none
 -- that
 -- stands before it breaks any.
-pub record IsFirstBroken (ps : List Part) (b : Broken) : Type 0 where
-  pub part : Part
+pub record IsFirstBroken (ps : List Site) (b : Broken) : Type 0 where
+  pub part : Site
   pub stands : StandsIn part ps
   pub there : part.at ≡ b.at
   pub broken : breaks part.tests b.rule ≡ true
   pub lowest : (rule : ℕ) → rule < b.rule → breaks part.tests rule ≡ false
-  pub before : (other : Part) → StandsIn other ps → b.at < other.at → (rule : ℕ) → breaks other.tests rule ≡ false
-  pub one : (other : Part) → StandsIn other ps → other.at ≡ b.at → other ≡ part
+  pub before : (other : Site) → StandsIn other ps → b.at < other.at → (rule : ℕ) → breaks other.tests rule ≡ false
+  pub one : (other : Site) → StandsIn other ps → other.at ≡ b.at → other ≡ part
 
 -- none of them breaks any rule
-abbrev pub BreakNone : List Part → Type 0
-BreakNone ps = (part : Part) → StandsIn part ps → (rule : ℕ) → breaks part.tests rule ≡ false
+abbrev pub BreakNone : List Site → Type 0
+BreakNone ps = (part : Site) → StandsIn part ps → (rule : ℕ) → breaks part.tests rule ≡ false

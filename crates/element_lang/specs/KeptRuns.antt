@@ -5,6 +5,7 @@ use Rattle.std.proofs.Common.{List, [], ◌∷◌, ◌++◌, length, nat_le, map
 use Rattle.std.proofs.Common.{unwrap_or, slice_get, slice_index, slice_set, refl, sym, ap, ◌∙◌, subst, arith, lit<}
 use Rattle.std.proofs.Common.{true≢false}
 use Rattle.std.proofs.lemmas.Bool.{and_parts, cond_both, eqb-true, leb-true, ltb-true}
+use Rattle.gal_bits.specs.Operators.{bit}
 use Rattle.gal_bits.specs.Fits.{cut_fits, operator_fits, same_list}
 use Rattle.packet_fields.specs.declared.field.Field.{Field}
 use Rattle.packet_fields.specs.declared.packet.Packet.{Packet}
@@ -29,7 +30,7 @@ use Rattle.element_lang.specs.Widths.{local_widths, width_of}
 use Rattle.element_lang.specs.Rules.{widths_of, same_widths, is_good_expr, are_good_exprs, is_good_stmt}
 use Rattle.element_lang.specs.Rules.{is_good_body, is_good, fits_keys, fits_values, can_put, can_del, is_count}
 use Rattle.element_lang.specs.Rules.{declared_in, declared_by, binds}
-use Rattle.element_lang.specs.Meaning.{State, Outcome, Running, Ended, then_do, bit, bind_from, value_of, values_of}
+use Rattle.element_lang.specs.Meaning.{State, Outcome, Running, Ended, then_do, bind_from, value_of, values_of}
 use Rattle.element_lang.specs.Meaning.{looked, stored, bound, deleted, turns, do_stmt, do_body, start_state}
 use Rattle.element_lang.specs.Meaning.{store_after, source_store}
 

@@ -1,7 +1,7 @@
 -- What a middlebox does to packets.
 use Rattle.std.specs.Prelude.{ℕ, zero, suc, ◌+◌, ◌%◌, ◌^◌, ◌==◌, Bool, true, false, List, [], ◌∷◌, map, length}
 use Rattle.std.specs.Prelude.{replicate, is_some, if◌then◌else◌, slice_index, slice_set}
-use Rattle.gal_bits.specs.Operators.{value_of as operator_value}
+use Rattle.gal_bits.specs.Operators.{bit, value_of as operator_value}
 use Rattle.packet_fields.specs.declared.field.Field.{Field}
 use Rattle.packet_fields.specs.declared.packet.Packet.{Packet}
 use Rattle.packet_fields.specs.declared.verdict.Verdict.{Verdict}
@@ -48,10 +48,6 @@ pub data Outcome : Type 0 where
 abbrev pub then_do : Outcome → (State → Outcome) → Outcome
 then_do (Running s) go = go s
 then_do (Ended st verdict) go = Ended st verdict
-
-abbrev pub bit : Bool → ℕ
-bit true = 1
-bit false = 0
 
 -- each local in turn gets the value at its place from i on
 abbrev pub bind_from : ℕ → List ℕ → List ℕ → List ℕ → List ℕ

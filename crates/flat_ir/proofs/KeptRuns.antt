@@ -18,12 +18,13 @@ use Rattle.packet_fields.specs.Arrivals.{IsArrival}
 use Rattle.flat_ir.specs.Program.{Program, Work, step_at, value_widths, result_widths, width_of_value}
 use Rattle.flat_ir.specs.Program.Work.{const, field, apply, shift, select, byte, look, put, del}
 use Rattle.flat_ir.specs.Blocks.{Reading, is_live}
-use Rattle.flat_ir.specs.Run.{Change, Machine, do_step, bit, made, change_of, with_changes, results, with_results, after}
+use Rattle.flat_ir.specs.Run.{Change, Machine, do_step, made, change_of, with_changes, results, with_results, after}
 use Rattle.flat_ir.specs.Fits.{fits_keys, fits_values, can_put, can_del, widths_of, fits}
 use Rattle.flat_ir.specs.WellFormed.{IsWellFormed, IsWritten}
 use Rattle.flat_ir.specs.Writable.{IsWritable}
 use Rattle.flat_ir.specs.Laws.{AllFit, KeepsWidths}
 use Rattle.flat_ir.proofs.Parts.{left, right, not_true}
+use Rattle.gal_bits.specs.Operators.{bit}
 use Rattle.gal_bits.specs.Fits.{operator_fits, same_list}
 use Rattle.flat_ir.proofs.Readings.{each_weaker}
 use Rattle.flat_ir.proofs.Runs.{set_own, set_other}

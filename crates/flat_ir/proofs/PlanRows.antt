@@ -24,21 +24,21 @@ itself : (v : ℕ) → eq_by_cmp key_cmp (v ∷ []) (v ∷ []) ≡ true
 itself v = ap is_eq (tied_itself nat_list_cmp_total (v ∷ []))
 
 -- rows where a value was given a register
-abbrev pub given : Contents → ℕ → ℕ → Contents
-given rows v r = insert rows (v ∷ []) (r ∷ [])
+abbrev pub with_register : Contents → ℕ → ℕ → Contents
+with_register rows v r = insert rows (v ∷ []) (r ∷ [])
 
-pub given_itself : (rows : Contents) (v r : ℕ) → register_in (given rows v r) v ≡ Some r
-given_itself rows v r =
+pub with_register_itself : (rows : Contents) (v r : ℕ) → register_in (with_register rows v r) v ≡ Some r
+with_register_itself rows v r =
     rw (get-insert nat_list_cmp_total rows (v ∷ []) (r ∷ []) (v ∷ []), itself v) refl
 
-pub given_other : (rows : Contents) (v r q : ℕ) → q ≢ v → register_in (given rows v r) q ≡ register_in rows q
-given_other rows v r q other = elim (cases_Bool (eq_by_cmp key_cmp (q ∷ []) (v ∷ []))) [
+pub with_register_other : (rows : Contents) (v r q : ℕ) → q ≢ v → register_in (with_register rows v r) q ≡ register_in rows q
+with_register_other rows v r q other = elim (cases_Bool (eq_by_cmp key_cmp (q ∷ []) (v ∷ []))) [
   | inl same ↦ absurd (other (same_value q v same))
   | inr apart ↦ rw (get-insert nat_list_cmp_total rows (v ∷ []) (r ∷ []) (q ∷ []), apart) refl
 ]
 
-pub given_len : (rows : Contents) (v r : ℕ) → len (given rows v r) ≤ len rows + 1
-given_len rows v r = elim (cases_Bool (contains_key rows (v ∷ []))) [
+pub with_register_len : (rows : Contents) (v r : ℕ) → len (with_register rows v r) ≤ len rows + 1
+with_register_len rows v r = elim (cases_Bool (contains_key rows (v ∷ []))) [
   | inl there ↦ rw (len-insert nat_list_cmp_total rows (v ∷ []) (r ∷ []), there) (omega arith)
   | inr new ↦ rw (len-insert nat_list_cmp_total rows (v ∷ []) (r ∷ []), new) (omega arith)
 ]

@@ -15,7 +15,7 @@ use Rattle.flat_ir.specs.Plan.{register_in, AreBelow}
 use Rattle.flat_ir.specs.Taking.{taken_cmp, IsTaken}
 use Rattle.flat_ir.specs.Planning.{taken_at, times_taken, AreOutlasted, AreTaken, AreEnough, AreGiven, IsPlanned}
 use Rattle.flat_ir.proofs.SpanCounts.{one_if, count_all, count_none, none_counted}
-use Rattle.flat_ir.proofs.PlanRows.{given, given_itself, given_other, given_len}
+use Rattle.flat_ir.proofs.PlanRows.{with_register, with_register_itself, with_register_other, with_register_len}
 
 abbrev entry_of : ℕ → ℕ → Taken
 entry_of last register = record { last = record { 0 = last }; register = register }
@@ -96,20 +96,20 @@ differs done value none = All-weaker (λ s. (s.value == value) ≡ false) (λ s.
 
 more_given : (done : List Span) (rows : Contents) (n m : ℕ) (span : Span) (register : ℕ)
     → AreGiven done rows n → spans_of done span.value ≡ 0 → All (IsFreeOf rows register span) done → n ≤ m → register < m
-    → AreGiven (done ++ span ∷ []) (given rows span.value register) m
+    → AreGiven (done ++ span ∷ []) (with_register rows span.value register) m
 more_given done rows n m span register g new free grown below = record {
   none = λ v e. elim (cases_eq span.value v) [
     | inl same ↦ absurd (omega (arith, e, spans_more done span v, ap one_if (eq-eqb span.value v same)))
-    | inr other ↦ given_other rows span.value register v (λ s. other (sym s)) ∙ g.none v (omega (arith, e, spans_more done span v))
+    | inr other ↦ with_register_other rows span.value register v (λ s. other (sym s)) ∙ g.none v (omega (arith, e, spans_more done span v))
   ];
   some = λ v e. elim (cases_eq span.value v) [
-    | inl same ↦ absurd (let h : None ≡ Some register = sym e ∙ ap (register_in (given rows span.value register)) (sym same) ∙ given_itself rows span.value register in cc)
-    | inr other ↦ omega (arith, spans_more done span v, ap one_if (ne_eqb span.value v other), g.some v (sym (given_other rows span.value register v (λ s. other (sym s))) ∙ e))
+    | inl same ↦ absurd (let h : None ≡ Some register = sym e ∙ ap (register_in (with_register rows span.value register)) (sym same) ∙ with_register_itself rows span.value register in cc)
+    | inr other ↦ omega (arith, spans_more done span v, ap one_if (ne_eqb span.value v other), g.some v (sym (with_register_other rows span.value register v (λ s. other (sym s))) ∙ e))
   ];
   below = λ v r e. elim (cases_eq span.value v) [
-    | inl same ↦ (let h : Some register ≡ Some r = sym (given_itself rows span.value register) ∙ ap (register_in (given rows span.value register)) same ∙ e in
+    | inl same ↦ (let h : Some register ≡ Some r = sym (with_register_itself rows span.value register) ∙ ap (register_in (with_register rows span.value register)) same ∙ e in
         let is : register ≡ r = cc in omega arith)
-    | inr other ↦ omega (arith, g.below v r (sym (given_other rows span.value register v (λ s. other (sym s))) ∙ e))
+    | inr other ↦ omega (arith, g.below v r (sym (with_register_other rows span.value register v (λ s. other (sym s))) ∙ e))
   ];
   apart = λ a b step ia ib differ ca cb same. elim (Contains-push_cases done span a ia) [
     | inl a_in ↦ elim (Contains-push_cases done span b ib) [
@@ -121,14 +121,14 @@ more_given done rows n m span register g new free grown below = record {
       | inr is_b ↦ differ (ap (λ (s : Span). s.value) (sym is_a ∙ is_b))
     ]
   ];
-  few = omega (arith, g.few, given_len rows span.value register, length-append done (span ∷ []));
+  few = omega (arith, g.few, with_register_len rows span.value register, length-append done (span ∷ []));
 }
   where
-    as_before : (a : Span) → Contains done a → register_in (given rows span.value register) a.value ≡ register_in rows a.value
-    as_before a a_in = given_other rows span.value register a.value (All-contains (λ s. s.value ≢ span.value) done a (differs done span.value new) a_in)
+    as_before : (a : Span) → Contains done a → register_in (with_register rows span.value register) a.value ≡ register_in rows a.value
+    as_before a a_in = with_register_other rows span.value register a.value (All-contains (λ s. s.value ≢ span.value) done a (differs done span.value new) a_in)
 
-    here : (b : Span) → span ≡ b → register_in (given rows span.value register) b.value ≡ Some register
-    here b is = ap (λ (s : Span). register_in (given rows span.value register) s.value) (sym is) ∙ given_itself rows span.value register
+    here : (b : Span) → span ≡ b → register_in (with_register rows span.value register) b.value ≡ Some register
+    here b is = ap (λ (s : Span). register_in (with_register rows span.value register) s.value) (sym is) ∙ with_register_itself rows span.value register
 
     clash : (a : Span) (step : ℕ) → Contains done a → covers step a ≡ true → covers step span ≡ true → register_in rows a.value ≡ Some register → ⊥
     clash a step a_in ca cs has =
@@ -213,28 +213,28 @@ enough_new done old new span register e begun none pushed size =
 outlast_more : (done : List Span) (rows : Contents) (rest new : List Taken) (span : Span) (register : ℕ)
     → spans_of done span.value ≡ 0 → AreOutlasted done rows rest → All (IsFreeOf rows register span) done → All (λ entry. entry.register ≢ register) rest
     → IsPermutation (entry_of (last_step span) register ∷ rest) new
-    → AreOutlasted (done ++ span ∷ []) (given rows span.value register) new
-outlast_more done rows rest new span register fresh out free apart pushed = All-push (λ s. All (Outlasts (given rows span.value register) s) new) done span
+    → AreOutlasted (done ++ span ∷ []) (with_register rows span.value register) new
+outlast_more done rows rest new span register fresh out free apart pushed = All-push (λ s. All (Outlasts (with_register rows span.value register) s) new) done span
     (λ k d lt. old_spans (slice_index_or done k d) (fresh_one k d lt) (out k d lt) (free k d lt))
     this_span
   where
     fresh_one : All (λ s. s.value ≢ span.value) done
     fresh_one = differs done span.value fresh
 
-    old_spans : (s : Span) → s.value ≢ span.value → All (Outlasts rows s) rest → IsFreeOf rows register span s → All (Outlasts (given rows span.value register) s) new
+    old_spans : (s : Span) → s.value ≢ span.value → All (Outlasts rows s) rest → IsFreeOf rows register span s → All (Outlasts (with_register rows span.value register) s) new
     old_spans s other all free_of =
-        let same = given_other rows span.value register s.value other in
-        All-permutation (Outlasts (given rows span.value register) s) (entry_of (last_step span) register ∷ rest) new pushed
-        (All-cons (Outlasts (given rows span.value register) s) (entry_of (last_step span) register) rest
+        let same = with_register_other rows span.value register s.value other in
+        All-permutation (Outlasts (with_register rows span.value register) s) (entry_of (last_step span) register ∷ rest) new pushed
+        (All-cons (Outlasts (with_register rows span.value register) s) (entry_of (last_step span) register) rest
         (λ has. omega (arith, free_of (sym same ∙ has), first_le_last span))
-        (All-weaker (Outlasts rows s) (Outlasts (given rows span.value register) s) (λ entry lasts has. lasts (sym same ∙ has)) rest all))
+        (All-weaker (Outlasts rows s) (Outlasts (with_register rows span.value register) s) (λ entry lasts has. lasts (sym same ∙ has)) rest all))
 
-    this_span : All (Outlasts (given rows span.value register) span) new
-    this_span = All-permutation (Outlasts (given rows span.value register) span) (entry_of (last_step span) register ∷ rest) new pushed
-        (All-cons (Outlasts (given rows span.value register) span) (entry_of (last_step span) register) rest
+    this_span : All (Outlasts (with_register rows span.value register) span) new
+    this_span = All-permutation (Outlasts (with_register rows span.value register) span) (entry_of (last_step span) register ∷ rest) new pushed
+        (All-cons (Outlasts (with_register rows span.value register) span) (entry_of (last_step span) register) rest
         (λ has. omega arith)
-        (All-weaker (λ entry. entry.register ≢ register) (Outlasts (given rows span.value register) span)
-        (λ entry other has. absurd (other (let h : Some entry.register ≡ Some register = sym has ∙ given_itself rows span.value register in cc))) rest apart))
+        (All-weaker (λ entry. entry.register ≢ register) (Outlasts (with_register rows span.value register) span)
+        (λ entry other has. absurd (other (let h : Some entry.register ≡ Some register = sym has ∙ with_register_itself rows span.value register in cc))) rest apart))
 
 -- a register that is taken once is not among the others
 others : (rest : List Taken) (register : ℕ) → times_taken rest register ≡ 0 → All (λ entry. entry.register ≢ register) rest
@@ -244,7 +244,7 @@ others rest register none = All-weaker (λ entry. (entry.register == register) �
 taken_again : (done : List Span) (rows : Contents) (old rest new : List Taken) (span : Span) (last register : ℕ)
     → spans_of done span.value ≡ 0 → AreTaken done rows old → IsPermutation old (entry_of last register ∷ rest) → last < span.from
     → IsPermutation (entry_of (last_step span) register ∷ rest) new → IsHeap taken_cmp new → length new ≡ length old
-    → AreTaken (done ++ span ∷ []) (given rows span.value register) new
+    → AreTaken (done ++ span ∷ []) (with_register rows span.value register) new
 taken_again done rows old rest new span last register fresh t was before pushed heap size =
     let was_entry = entry_of last register in
     let is_entry = entry_of (last_step span) register in
@@ -268,7 +268,7 @@ taken_again done rows old rest new span last register fresh t was before pushed 
 taken_new : (done : List Span) (rows : Contents) (old new : List Taken) (span : Span)
     → spans_of done span.value ≡ 0 → AreTaken done rows old → AreBelow rows (length old)
     → IsPermutation (entry_of (last_step span) (length old) ∷ old) new → IsHeap taken_cmp new → length new ≡ length old + 1
-    → AreTaken (done ++ span ∷ []) (given rows span.value (length old)) new
+    → AreTaken (done ++ span ∷ []) (with_register rows span.value (length old)) new
 taken_new done rows old new span fresh t below pushed heap size =
     let register = length old in
     let is_entry = entry_of (last_step span) register in
@@ -293,7 +293,7 @@ planned_again : (done : List Span) (rows : Contents) (old rest new : List Taken)
     → IsPlanned done rows old → spans_of done span.value ≡ 0 → All (Begun span.from) done
     → IsPermutation old (entry_of last register ∷ rest) → last < span.from
     → IsPermutation (entry_of (last_step span) register ∷ rest) new → IsHeap taken_cmp new
-    → IsPlanned (done ++ span ∷ []) (given rows span.value register) new
+    → IsPlanned (done ++ span ∷ []) (with_register rows span.value register) new
 planned_again done rows old rest new span last register p fresh begun was before pushed heap =
     let was_entry = entry_of last register in
     let is_entry = entry_of (last_step span) register in
@@ -311,7 +311,7 @@ planned_new : (done : List Span) (rows : Contents) (old new : List Taken) (span 
     → IsPlanned done rows old → spans_of done span.value ≡ 0 → All (Begun span.from) done
     → All (λ entry. span.from ≤ entry.last.0) old
     → IsPermutation (entry_of (last_step span) (length old) ∷ old) new → IsHeap taken_cmp new
-    → IsPlanned (done ++ span ∷ []) (given rows span.value (length old)) new
+    → IsPlanned (done ++ span ∷ []) (with_register rows span.value (length old)) new
 planned_new done rows old new span p fresh begun none pushed heap =
     let is_entry = entry_of (last_step span) (length old) in
     let size : length new ≡ length old + 1 = omega (arith, length_permutation (is_entry ∷ old) new pushed) in
@@ -324,13 +324,13 @@ planned_new done rows old new span p fresh begun none pushed heap =
 
 pub planned_more : (done : List Span) (rows : Contents) (old new : List Taken) (span : Span) (register : ℕ)
     → IsPlanned done rows old → spans_of done span.value ≡ 0 → All (Begun span.from) done → IsTaken span old new register
-    → IsPlanned (done ++ span ∷ []) (given rows span.value register) new
+    → IsPlanned (done ++ span ∷ []) (with_register rows span.value register) new
 planned_more done rows old new span register p fresh begun t = elim t.found [
   | inl again ↦ planned_again done rows old t.rest new span again.last register p fresh begun again.was again.free t.pushed t.heap
   | inr new_one ↦
       let pushed : IsPermutation (entry_of (last_step span) (length old) ∷ old) new =
       subst (λ (r : ℕ). IsPermutation (entry_of (last_step span) r ∷ old) new) new_one.next
       (subst (λ (rest : List Taken). IsPermutation (entry_of (last_step span) register ∷ rest) new) new_one.same t.pushed) in
-      subst (λ (r : ℕ). IsPlanned (done ++ span ∷ []) (given rows span.value r) new) (sym new_one.next)
+      subst (λ (r : ℕ). IsPlanned (done ++ span ∷ []) (with_register rows span.value r) new) (sym new_one.next)
       (planned_new done rows old new span p fresh begun new_one.none pushed t.heap)
 ]

@@ -17,7 +17,7 @@ use Rattle.flat_ir.specs.Plan.{register_in, AreBelow, AreApart, IsGreatestOverla
 use Rattle.flat_ir.specs.Taking.{taken_cmp, IsTaken}
 use Rattle.flat_ir.specs.Planning.{IsPlanned}
 use Rattle.flat_ir.proofs.SpanCounts.{one_if}
-use Rattle.flat_ir.proofs.PlanRows.{given}
+use Rattle.flat_ir.proofs.PlanRows.{with_register}
 use Rattle.flat_ir.proofs.PlanSteps.{Begun, planned_more}
 
 -- ---- before the first span
@@ -48,7 +48,7 @@ starts rows taken e f heap = subst (λ (given_rows : Contents). IsPlanned [] giv
 
 -- ---- one more
 pub stored : (table : Table) (value register n : ℕ) → len table.rows ≤ n → n < table.capacity
-    → (if is_table_full table (value ∷ []) then table.rows else insert table.rows (value ∷ []) (register ∷ [])) ≡ given table.rows value register
+    → (if is_table_full table (value ∷ []) then table.rows else insert table.rows (value ∷ []) (register ∷ [])) ≡ with_register table.rows value register
 stored table value register n few room = rw (and_right (not (contains_key table.rows (value ∷ []))) (nat_le table.capacity (len table.rows)) (lt-leb table.capacity (len table.rows) (omega arith))) refl
 
 fresh : (spans sorted : List Span) (i : ℕ) (d : Span) → i < length sorted → ValuesDiffer spans → IsPermutation spans sorted
@@ -71,9 +71,9 @@ begun sorted i d lt rising k e below =
 pub one_more : (spans sorted : List Span) (i : ℕ) (d : Span) (rows : Contents) (old new : List Taken) (register : ℕ)
     → i < length sorted → ValuesDiffer spans → IsPermutation spans sorted → IsNonDecreasingBy (λ s. s.from) sorted
     → IsPlanned (take i sorted) rows old → IsTaken (get_or sorted i d) old new register
-    → IsPlanned (take (i + 1) sorted) (given rows (get_or sorted i d).value register) new
+    → IsPlanned (take (i + 1) sorted) (with_register rows (get_or sorted i d).value register) new
 one_more spans sorted i d rows old new register lt differ same rising p t =
-    subst (λ (done : List Span). IsPlanned done (given rows (get_or sorted i d).value register) new) (sym (take_more sorted i d lt))
+    subst (λ (done : List Span). IsPlanned done (with_register rows (get_or sorted i d).value register) new) (sym (take_more sorted i d lt))
     (planned_more (take i sorted) rows old new (get_or sorted i d) register p (fresh spans sorted i d lt differ same) (begun sorted i d lt rising) t)
 
 -- ---- all of them

@@ -1,5 +1,5 @@
 -- Kinds of instructions, as a split sees them.
-use Rattle.std.specs.Prelude.{Bool, true, false, not, ◌&&◌, ◌||◌, List, [], ◌∷◌}
+use Rattle.std.specs.Prelude.{ℕ, ◌==◌, Bool, true, false, not, ◌&&◌, ◌||◌, List, [], ◌∷◌}
 use Rattle.gal_bits.specs.Operators.{operator_row}
 use Rattle.flat_ir.specs.declared.program.ValueId.{ValueId}
 use Rattle.flat_ir.specs.Program.{Program, Work, Step, operands}
@@ -42,6 +42,18 @@ is_look (select width cond first second) = false
 is_look (byte index) = false
 is_look (put object keys values) = false
 is_look (del object keys) = false
+
+-- it looks up a row of the object
+abbrev pub looks_at : ℕ → Work → Bool
+looks_at o (look object keys) = object == o
+looks_at o (const width number) = false
+looks_at o (field name) = false
+looks_at o (apply op width args) = false
+looks_at o (shift op width arg by) = false
+looks_at o (select width cond first second) = false
+looks_at o (byte index) = false
+looks_at o (put object keys values) = false
+looks_at o (del object keys) = false
 
 abbrev pub is_const : Work → Bool
 is_const (const width number) = true

@@ -1,7 +1,7 @@
 -- What a flat program means.
 use Rattle.std.specs.Prelude.{ℕ, zero, suc, ◌==◌, ◌%◌, ◌^◌, Bool, true, false, List, [], ◌∷◌, ◌++◌, map, length, Option}
 use Rattle.std.specs.Prelude.{Some, None, is_some, if◌then◌else◌, slice_index}
-use Rattle.gal_bits.specs.Operators.{value_of as operator_value}
+use Rattle.gal_bits.specs.Operators.{bit, value_of as operator_value}
 use Rattle.gal_bits.specs.declared.op.Op.TheVariants.{Select}
 use Rattle.packet_fields.specs.declared.packet.Packet.{Packet}
 use Rattle.packet_fields.specs.declared.verdict.Verdict.{Verdict}
@@ -14,10 +14,6 @@ use Rattle.flat_ir.specs.declared.program.ValueId.{ValueId}
 use Rattle.flat_ir.specs.Program.{Program, Work, step_at}
 use Rattle.flat_ir.specs.Program.Work.{const, field, apply, shift, select, byte, look, put, del}
 use Rattle.flat_ir.specs.Blocks.{Reading, nothing, is_live}
-
-abbrev pub bit : Bool → ℕ
-bit true = 1
-bit false = 0
 
 -- a write of an object that took effect: the values under the key, or none where the row is gone
 pub record Change : Type 0 where

@@ -1,7 +1,7 @@
 //! Kinds of instructions, their operands, and the results that they have.
 ghost use Rattle.std.specs.Prelude.{◌≡◌, ◌<◌, ◌≤◌, ◌++◌, List, length, slice_get, slice_index, Some};
 ghost use Rattle.state_store.specs.declared.object.ObjectDecl.{ObjectDecl as Declared};
-ghost use Rattle.flat_ir.specs.Kinds.{is_input, is_write};
+ghost use Rattle.flat_ir.specs.Kinds.{is_input, is_write, looks_at};
 ghost use Rattle.flat_ir.specs.Program.{work_of, operands, value_widths, result_widths, result_count};
 
 use crate::program::{InstrKind, ValueId};
@@ -61,6 +61,16 @@ impl InstrKind {
     {
         match self {
             InstrKind::Put { .. } | InstrKind::Del { .. } => true,
+            _ => false,
+        }
+    }
+
+    /// Whether it looks up a row of the object of this number.
+    pub fn looks_at(&self, object: u32) -> bool
+        ensures { result ≡ looks_at object (work_of self.now) }
+    {
+        match self {
+            InstrKind::Look { object: looked, .. } => *looked == object,
             _ => false,
         }
     }

@@ -1,14 +1,14 @@
 //! What an instruction gives, and what it changes.
 ghost use Rattle.std.specs.Prelude.{◌≡◌, ◌≤◌, ◌&&◌, ◌∷◌, [], true, false, length, map, slice_get, slice_index};
 ghost use Rattle.std.specs.Prelude.{is_some, IsTrue};
-ghost use Rattle.gal_bits.specs.Operators.{operator_row, value_of as operator_value};
+ghost use Rattle.gal_bits.specs.Operators.{bit, operator_row, value_of as operator_value};
 ghost use Rattle.packet_fields.specs.Shape.{shape_of};
 ghost use Rattle.packet_fields.specs.Sizes.{largest_packet};
 ghost use Rattle.state_store.specs.Store.{Store as Objects, object_at, look as found_in, put_answer, is_stored};
 ghost use Rattle.flat_ir.specs.Program.{work_of, program_of};
 ghost use Rattle.flat_ir.specs.Blocks.{is_live, HasLowParents};
 ghost use Rattle.flat_ir.specs.Kinds.{is_look, is_write};
-ghost use Rattle.flat_ir.specs.Run.{bit, change_of, del_change, looked, made, put_change, results};
+ghost use Rattle.flat_ir.specs.Run.{change_of, del_change, looked, made, put_change, results};
 ghost use Rattle.flat_ir.specs.Run.{with_changes};
 ghost use Rattle.flat_ir.specs.Fits.{fits, fits_keys, fits_values, widths_of};
 ghost use Rattle.flat_ir.specs.Operands.{CanRun, HasFewKeys};

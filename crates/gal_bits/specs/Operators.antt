@@ -6,6 +6,11 @@ use Rattle.gal_bits.specs.declared.op.Op.{Op}
 use Rattle.gal_bits.specs.declared.op.Op.TheVariants.{Add, Sub, Mul, Div, Rem, And, Or, Xor, Not, Shl, Shr, Eq, Ne, Lt}
 use Rattle.gal_bits.specs.declared.op.Op.TheVariants.{Le, Cast, Select, Adjust}
 
+-- whether something is so, as a number of 1 bit
+abbrev pub bit : Bool → ℕ
+bit true = 1
+bit false = 0
+
 -- what is said of an operator; its number, at a width and of up to three arguments, is not yet cut to the width
 pub record OperatorRow : Type 0 where
   pub name : List ℕ

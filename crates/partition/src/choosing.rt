@@ -14,7 +14,6 @@ ghost use Rattle.partition.specs.Tried.{IsTried, IsFound, IsFoundOfTwo, IsStep};
 ghost use Rattle.partition.specs.Front.{IsFront};
 ghost use Rattle.partition.specs.Basis.{IsBasis};
 ghost use Rattle.std.specs.List.{list_any};
-ghost use Rattle.split_model.specs.Counts.{stage_or_zero};
 ghost use Rattle.partition.specs.Deeper.{is_deeper};
 
 use crate::basis::Basis;
@@ -26,7 +25,7 @@ use dependence::depths_are_least;
 use flat_ir::Flat;
 use gal_io::NoMemory;
 use resource_limits::{Limits, Over, count_by_guards, first_exceeded};
-use split_model::{Part, Split};
+use split_model::{Part, Split, stage_or_zero};
 use std::alloc::Global;
 use thiserror::Error;
 
@@ -78,18 +77,11 @@ fn try_split(
     }
 }
 
-// A stage, or 0 where there is none.
-fn or_zero(stage: Option<u32>) -> u32
-    ensures { result ≡ stage_or_zero stage }
-{
-    stage.unwrap_or(0)
-}
-
 // Whether a pass has an instruction at a stage above this one.
 fn is_deeper(most: u32, part: &Part) -> bool
     ensures { result ≡ is_deeper most part.now }
 {
-    most < or_zero(part.pre) || most < or_zero(part.slow.stage())
+    most < stage_or_zero(part.pre) || most < stage_or_zero(part.slow.stage())
 }
 
 // Whether some pass has a stage above this one.

@@ -219,14 +219,14 @@ merged_is fits n (b ∷ bs) = elim (cases_Bool (eqb n 0)) [
 
 -- ---- the counts of a state
 
-pub record Counts (w : State) : Type 0 where
+pub record AreCounted (w : State) : Type 0 where
   pub versions : sum_of (versions_in w.batches) ≡ w.version
   pub stores : length w.stores ≡ w.version + 1
   pub sent_in : w.sent ≤ length (commands_in w.batches)
   pub done_in : w.done ≤ w.sent
   pub acked_in : w.acked ≤ w.done
 
-pub counts_same : (w x : State) → x.batches ≡ w.batches → x.version ≡ w.version → x.stores ≡ w.stores → x.sent ≡ w.sent → x.done ≡ w.done → x.acked ≡ w.acked → Counts w → Counts x
+pub counts_same : (w x : State) → x.batches ≡ w.batches → x.version ≡ w.version → x.stores ≡ w.stores → x.sent ≡ w.sent → x.done ≡ w.done → x.acked ≡ w.acked → AreCounted w → AreCounted x
 counts_same w x a b c d e f k = record {
   versions = ap (λ z. sum_of (versions_in z)) a ∙ k.versions ∙ sym b;
   stores = ap length c ∙ k.stores ∙ ap (λ z. z + 1) (sym b);

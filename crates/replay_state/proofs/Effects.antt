@@ -10,13 +10,13 @@ use Rattle.replay_state.specs.State.{State, Progress, Entered, Up, Held, Slow, F
 use Rattle.replay_state.specs.Step.{tick, idled, pass_of, finished, went_up, released, decided}
 use Rattle.replay_state.proofs.Words.{Member}
 use Rattle.replay_state.proofs.Lists.{get_past, set_cases, push_cases, get_member, member_remove, member_push, member_set, weight, weight_push, weight_remove, weight_set, is, mark_set, mark_push}
-use Rattle.replay_state.proofs.Counts.{Counts, counts_same}
+use Rattle.replay_state.proofs.Counts.{AreCounted, counts_same}
 use Rattle.replay_state.proofs.Visible.{visible_more, visible_merged, visible_total}
 use Rattle.replay_state.proofs.Fates.{pass_mark, up_mark, held_mark, in_first, in_last, in_up, in_held, Places, at_first, at_up, held_fate, is_at, Needs, FateOk, fate_more, EachFine, each_push, each_set, each_weaker, Pairs, pairs_push, pairs_set, fits_late, fits_now}
 use Rattle.replay_state.proofs.Steps.{let_in, let_down, finished_at, up_at, out_at, moved_at, run_at, go_at, sent_one, applied_one, acked_one, counts_sent}
 
 pub record Fine (w : State) : Type 0 where
-  pub counts : Counts w
+  pub counts : AreCounted w
   pub places : Places w
   pub needs : Needs w
   pub each : EachFine w
@@ -339,7 +339,7 @@ not_last w c z a m t there =
 
 pub fine_run : (a : Answers) (w : State) (j p v : ℕ) (stores : List Store) (batches : List Batch) → slice_get w.up j ≡ Some p → w.version ≤ v
     → ((n : ℕ) → n ≤ length (commands_in w.batches) → visible batches n ≡ visible w.batches n)
-    → Counts (run_at a w j p v stores batches) → Fine w → Fine (run_at a w j p v stores batches)
+    → AreCounted (run_at a w j p v stores batches) → Fine w → Fine (run_at a w j p v stores batches)
 fine_run a w j p v stores batches g later shows counts c =
     let fate = at_up w j p c.places g in
     let y = w.store in

@@ -9,7 +9,7 @@ use Rattle.run_model.specs.declared.event.Event.{Event}
 use Rattle.replay_state.specs.Answers.{Answers, Setup}
 use Rattle.replay_state.specs.State.{State, Pass, Batch, Entered, commands_in, seen}
 use Rattle.replay_state.specs.Step.{step, steps, pass_of, finished, went_up, released, decided, merged}
-use Rattle.replay_state.proofs.Counts.{Counts, merged_is, long, length_more, sum_push}
+use Rattle.replay_state.proofs.Counts.{AreCounted, merged_is, long, length_more, sum_push}
 
 -- the pass before the server enters, and the one behind it
 abbrev pub let_in : State → ℕ → State
@@ -71,7 +71,7 @@ applied_one w = record w { done = w.done + 1 }
 abbrev pub acked_one : State → State
 acked_one w = record w { acked = w.acked + 1 }
 
-pub counts_sent : (w : State) (fits : List Update → Bool) → w.sent < length (commands_in w.batches) → Counts w → Counts (sent_one w fits)
+pub counts_sent : (w : State) (fits : List Update → Bool) → w.sent < length (commands_in w.batches) → AreCounted w → AreCounted (sent_one w fits)
 counts_sent w fits h k =
     let m = merged_is fits w.sent w.batches in
     let old = long w.batches in
@@ -85,7 +85,7 @@ counts_sent w fits h k =
     }
 
 -- the server's run of packet p begins a version, with a batch of it
-pub counts_seen : (a : Answers) (w : State) (j p : ℕ) (b : Batch) → b.versions ≡ 1 → Counts w → Counts (run_at a w j p (w.version + 1) (w.stores ++ a.after w.store p ∷ []) (w.batches ++ b ∷ []))
+pub counts_seen : (a : Answers) (w : State) (j p : ℕ) (b : Batch) → b.versions ≡ 1 → AreCounted w → AreCounted (run_at a w j p (w.version + 1) (w.stores ++ a.after w.store p ∷ []) (w.batches ++ b ∷ []))
 counts_seen a w j p b one k = record {
   versions = let s = sum_push w.batches b in let v = k.versions in omega arith;
   stores = let x = length_push w.stores (a.after w.store p) in let y = k.stores in omega arith;

@@ -3,7 +3,7 @@ ghost use Rattle.std.specs.Prelude.{◌≡◌, ℕ, ◌+◌, ◌<◌, ◌≤◌,
 ghost use Rattle.flat_ir.specs.Program.{program_of};
 ghost use Rattle.gal_bits.specs.Fitting.{sum_of};
 ghost use Rattle.split_model.specs.Bounds.{IsBounded, IsSmall};
-ghost use Rattle.split_model.specs.Counts.{stage_or_zero, stages, transfer_bytes};
+ghost use Rattle.split_model.specs.Counts.{stages, transfer_bytes};
 ghost use Rattle.split_model.specs.Crossing.{guards_write};
 ghost use Rattle.split_model.specs.Marked.{AreMarked};
 ghost use Rattle.resource_limits.specs.Counts.{counts_of, first_numbers};
@@ -14,7 +14,7 @@ use crate::uses::{Use, tally};
 use flat_ir::Flat;
 use gal_bits::Widths;
 use gal_io::NoMemory;
-use split_model::{Layouts, Split, ValueSet, guard_values};
+use split_model::{Layouts, Split, ValueSet, guard_values, stage_or_zero};
 use state_store::{Kind, ObjectDecl};
 use std::alloc::Global;
 
@@ -48,21 +48,14 @@ impl Counts {
     }
 }
 
-// A stage, or 0 where there is none.
-fn or_zero(stage: Option<u32>) -> u32
-    ensures { result ≡ stage_or_zero stage }
-{
-    stage.unwrap_or(0)
-}
-
 // The highest stage of either pass.
 fn stages(f: &Flat, s: &Split) -> u32
     ensures { result ≡ stages (program_of f.now) s.now }
 {
     let mut highest = 0;
     for i in 0..f.code.len() {
-        let before = or_zero(s.stage_before(i));
-        let after = or_zero(s.stage_after(i));
+        let before = stage_or_zero(s.stage_before(i));
+        let after = stage_or_zero(s.stage_after(i));
         highest = highest.max(before.max(after));
     }
     highest

@@ -1,22 +1,11 @@
 -- Which objects preprocessing looks up, and which the switch has to be told of.
 use Rattle.std.specs.Prelude.{ℕ, ◌==◌, Bool, false, not, ◌&&◌, List}
+pub use Rattle.flat_ir.specs.Kinds.{looks_at}
 use Rattle.flat_ir.specs.Program.{Program, Work, step_at}
 use Rattle.flat_ir.specs.Program.Work.{const, field, apply, shift, select, byte, look, put, del}
 use Rattle.state_store.specs.Kinds.{is_constant}
 use Rattle.split_model.specs.declared.split.Part.{Part}
 use Rattle.split_model.specs.Split.{is_pre, any_step}
-
--- it looks up a row of the object
-abbrev pub looks_at : ℕ → Work → Bool
-looks_at o (look object keys) = object == o
-looks_at o (const width number) = false
-looks_at o (field name) = false
-looks_at o (apply op width args) = false
-looks_at o (shift op width arg by) = false
-looks_at o (select width cond first second) = false
-looks_at o (byte index) = false
-looks_at o (put object keys values) = false
-looks_at o (del object keys) = false
 
 -- it changes a row of the object
 abbrev pub writes_to : ℕ → Work → Bool

@@ -26,5 +26,5 @@ pub use layout::{Crossing, Layout};
 pub use layouts::{Layouts, down_layout, is_at_hand, up_layout};
 pub use readers::{Reader, read_by};
 pub use shown::replicated;
-pub use split::{Part, Slow, Split};
+pub use split::{Part, Slow, Split, stage_or_zero};
 pub use values::{ValueSet, is_value};

@@ -1,27 +1,17 @@
 //! Which objects the switch has to be told of.
 ghost use Rattle.std.specs.Prelude.{◌≡◌};
-ghost use Rattle.flat_ir.specs.Program.{program_of, work_of};
-ghost use Rattle.split_model.specs.Shown.{is_replicated, is_shown, looks_at};
+ghost use Rattle.flat_ir.specs.Program.{program_of};
+ghost use Rattle.split_model.specs.Shown.{is_replicated, is_shown};
 
 use crate::split::Split;
-use flat_ir::{Flat, InstrKind};
-
-// Whether it looks up a row of the object.
-fn looks_at(object: u32, kind: &InstrKind) -> bool
-    ensures { result ≡ looks_at object (work_of kind.now) }
-{
-    match kind {
-        InstrKind::Look { object: looked, .. } => *looked == object,
-        _ => false,
-    }
-}
+use flat_ir::Flat;
 
 // Whether preprocessing looks the object up.
 fn is_shown(f: &Flat, s: &Split, object: u32) -> bool
     ensures { result ≡ is_shown (program_of f.now) s.now object }
 {
     for i in 0..f.code.len() {
-        if s.is_pre(i) && looks_at(object, &f.code.as_slice()[i].kind) {
+        if s.is_pre(i) && f.code.as_slice()[i].kind.looks_at(object) {
             return true;
         }
     }

@@ -1,5 +1,6 @@
 //! Which part of the work falls to whom.
 ghost use Rattle.std.specs.Prelude.{◌≡◌, length, IfOk};
+ghost use Rattle.split_model.specs.Counts.{stage_or_zero};
 ghost use Rattle.split_model.specs.Split.{part_at, pre_stage, post_stage, stage_after};
 ghost use Rattle.split_model.specs.Split.{is_pre, is_carried, is_carried_up, is_server, is_served, is_post};
 
@@ -46,6 +47,13 @@ impl Slow {
             Slow::Carried | Slow::Post(_) => false,
         }
     }
+}
+
+/// A stage, or 0 where there is none.
+pub fn stage_or_zero(stage: Option<u32>) -> u32
+    ensures { result ≡ stage_or_zero stage }
+{
+    stage.unwrap_or(0)
 }
 
 /// What a split says of an instruction.

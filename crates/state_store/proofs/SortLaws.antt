@@ -13,12 +13,10 @@ use Rattle.std.proofs.lemmas.Cmp.{nat_list_cmp_total, upto}
 use Rattle.std.proofs.lemmas.List.Sums.{sum_by-cons}
 use Rattle.std.proofs.lemmas.List.Sorted.{sum_by-IsPermutation}
 use Rattle.std.proofs.lemmas.Map.Lookups.{exact_bytes}
+use Rattle.slot_table.specs.Table.{Entry}
 use Rattle.state_store.specs.Places.{Entries}
 use Rattle.state_store.specs.Store.{key_cmp}
 use Rattle.state_store.proofs.Entries.{is_equal, is_less, left, right}
-
-abbrev pub Entry : Type 0
-Entry = List ℕ × List ℕ
 
 -- the order of pairs
 abbrev pub entry_cmp : Entry → Entry → Ordering

@@ -11,28 +11,28 @@ use Rattle.split_model.specs.declared.layout.Crossing.{Crossing}
 use Rattle.switch_ir.specs.declared.code.PassStep.{PassStep}
 use Rattle.switch_ir.specs.declared.code.Table.{Table}
 use Rattle.switch_ir.specs.LastReads.{step_if}
-use Rattle.switch_ir.specs.Passes.{Step, step_of}
+use Rattle.switch_ir.specs.Passes.{Step, pass_step_of}
 use Rattle.switch_ir.specs.Spans.{Written, last_stage, results_in, results_of, written_by, handed_in, span_of}
 use Rattle.switch_ir.proofs.Staging.{written_append}
 
 pub steps_more : (items : List PassStep) (i : ℕ) (x : PassStep) → i < length items → x ≡ get_or items i x
-    → map step_of (take (i + 1) items) ≡ map step_of (take i items) ++ step_of x ∷ []
+    → map pass_step_of (take (i + 1) items) ≡ map pass_step_of (take i items) ++ pass_step_of x ∷ []
 steps_more items i x lt is =
-    ap (map step_of) (take_more items i x lt) ∙ map-append step_of (take i items) (get_or items i x ∷ [])
-    ∙ ap (λ (y : PassStep). map step_of (take i items) ++ step_of y ∷ []) (sym is)
+    ap (map pass_step_of) (take_more items i x lt) ∙ map-append pass_step_of (take i items) (get_or items i x ∷ [])
+    ∙ ap (λ (y : PassStep). map pass_step_of (take i items) ++ pass_step_of y ∷ []) (sym is)
 
-pub steps_all : (items steps : List PassStep) (i : ℕ) → length items ≤ i → items ≡ steps → map step_of (take i items) ≡ map step_of steps
-steps_all items steps i past same = ap (map step_of) (take_all i items past ∙ same)
+pub steps_all : (items steps : List PassStep) (i : ℕ) → length items ≤ i → items ≡ steps → map pass_step_of (take i items) ≡ map pass_step_of steps
+steps_all items steps i past same = ap (map pass_step_of) (take_all i items past ∙ same)
 
 pub last_more : (steps : List Step) (s : Step) (v : ValueId) → last_stage (steps ++ s ∷ []) v ≡ max (last_stage steps v) (step_if (is_among v (operands s.work)) s.stage)
 last_more [] s v = omega arith
 last_more (first ∷ steps) s v = omega (arith, last_more steps s v)
 
 pub written_more : (tables : List Table) (items : List PassStep) (i : ℕ) (x : PassStep) → i < length items → x ≡ get_or items i x
-    → written_by tables (map step_of (take (i + 1) items)) ≡ written_by tables (map step_of (take i items)) ++ results_of (step_of x) (results_in tables (step_of x).work)
+    → written_by tables (map pass_step_of (take (i + 1) items)) ≡ written_by tables (map pass_step_of (take i items)) ++ results_of (pass_step_of x) (results_in tables (pass_step_of x).work)
 written_more tables items i x lt is =
-    ap (written_by tables) (steps_more items i x lt is) ∙ written_append tables (map step_of (take i items)) (step_of x ∷ [])
-    ∙ ap (λ l. written_by tables (map step_of (take i items)) ++ l) (append-nil (results_of (step_of x) (results_in tables (step_of x).work)))
+    ap (written_by tables) (steps_more items i x lt is) ∙ written_append tables (map pass_step_of (take i items)) (pass_step_of x ∷ [])
+    ∙ ap (λ l. written_by tables (map pass_step_of (take i items)) ++ l) (append-nil (results_of (pass_step_of x) (results_in tables (pass_step_of x).work)))
 
 pub handed_more : (items : List Crossing) (i : ℕ) (c : Crossing) → i < length items → c ≡ get_or items i c
     → handed_in (take (i + 1) items) ≡ handed_in (take i items) ++ record { value = c.value; number = c.number; stage = 0 } ∷ []
@@ -57,14 +57,14 @@ results_at P s (suc n) r lt h =
           )
     ]
 
-pub steps_at : (P : Written → Type 0) (tables : List Table) (items : List PassStep) (i : ℕ) (x : PassStep) → i < length items → x ≡ get_or items i x → Each P (written_by tables (map step_of items))
-    → Each P (results_of (step_of x) (results_in tables (step_of x).work))
+pub steps_at : (P : Written → Type 0) (tables : List Table) (items : List PassStep) (i : ℕ) (x : PassStep) → i < length items → x ≡ get_or items i x → Each P (written_by tables (map pass_step_of items))
+    → Each P (results_of (pass_step_of x) (results_in tables (pass_step_of x).work))
 steps_at P tables [] i x lt is h = absurd (omega (arith, lt))
 steps_at P tables (y ∷ ys) zero x lt is h =
-    subst (λ (z : PassStep). Each P (results_of (step_of z) (results_in tables (step_of z).work))) (sym is)
-    (each_parts P (results_of (step_of y) (results_in tables (step_of y).work)) (written_by tables (map step_of ys)) h).0
+    subst (λ (z : PassStep). Each P (results_of (pass_step_of z) (results_in tables (pass_step_of z).work))) (sym is)
+    (each_parts P (results_of (pass_step_of y) (results_in tables (pass_step_of y).work)) (written_by tables (map pass_step_of ys)) h).0
 steps_at P tables (y ∷ ys) (suc i) x lt is h =
-    steps_at P tables ys i x (omega (arith, lt)) is (each_parts P (results_of (step_of y) (results_in tables (step_of y).work)) (written_by tables (map step_of ys)) h).1
+    steps_at P tables ys i x (omega (arith, lt)) is (each_parts P (results_of (pass_step_of y) (results_in tables (pass_step_of y).work)) (written_by tables (map pass_step_of ys)) h).1
 
 pub handed_at : (P : Written → Type 0) (items : List Crossing) (i : ℕ) (c : Crossing) → i < length items → c ≡ get_or items i c → Each P (handed_in items) → P (record { value = c.value; number = c.number; stage = 0 })
 handed_at P [] i c lt is h = absurd (omega (arith, lt))

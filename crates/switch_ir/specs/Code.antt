@@ -1,6 +1,6 @@
 -- What the code of a switch stands for as plain data.
 use Rattle.switch_ir.specs.declared.code.SwitchCode.{SwitchCode}
-pub use Rattle.switch_ir.specs.Passes.{Step, PassCode, Code, step_of, pass_of}
+pub use Rattle.switch_ir.specs.Passes.{Step, PassCode, Code, pass_step_of, pass_of}
 
 abbrev pub code_of : SwitchCode → Code
 code_of c = record {

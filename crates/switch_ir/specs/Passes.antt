@@ -41,13 +41,13 @@ pub record Code : Type 0 where
 
 -- ## What the Rust values stand for
 
-abbrev pub step_of : PassStep → Step
-step_of s = record { instruction = s.instruction; stage = s.stage; first = s.first; work = work_of s.kind }
+abbrev pub pass_step_of : PassStep → Step
+pass_step_of s = record { instruction = s.instruction; stage = s.stage; first = s.first; work = work_of s.kind }
 
 abbrev pub pass_of : Pass → PassCode
 pass_of p = record {
-  steps = map step_of p.steps;
-  given = map step_of p.given;
+  steps = map pass_step_of p.steps;
+  given = map pass_step_of p.given;
   blocks = p.blocks;
   rest = p.rest.items;
   send = p.out.send;

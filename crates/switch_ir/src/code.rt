@@ -2,7 +2,7 @@
 ghost use Rattle.std.specs.Prelude.{◌≡◌, ◌==◌, ◌++◌, ◌∷◌, [], map, length, IfOk, OnOk, OnErr};
 ghost use Rattle.flat_ir.specs.Program.{work_of};
 ghost use Rattle.transfer_header.specs.Plans.{IsPlanOf, plan_prop};
-ghost use Rattle.switch_ir.specs.Passes.{step_of, pass_of};
+ghost use Rattle.switch_ir.specs.Passes.{pass_step_of, pass_of};
 ghost use Rattle.switch_ir.specs.Spans.{pass_spans};
 
 use flat_ir::{Blocks, InstrKind, Out, RegPlan};
@@ -27,7 +27,7 @@ pub struct PassStep {
 impl PassStep {
     /// Another one that does the same.
     pub fn copy(&self, alloc: Global) -> Result<Self, NoMemory>
-        ensures { IfOk result (λ made. step_of made ≡ step_of self.now) }
+        ensures { IfOk result (λ made. pass_step_of made ≡ pass_step_of self.now) }
     {
         Ok(PassStep {
             instruction: self.instruction,
@@ -92,7 +92,7 @@ impl Steps {
 
     /// Instructions that do the same, in memory of their own.
     pub fn copy(&self, alloc: Global) -> Result<Steps, NoMemory>
-        ensures { IfOk result (λ made. map step_of made ≡ map step_of self.now) }
+        ensures { IfOk result (λ made. map pass_step_of made ≡ map pass_step_of self.now) }
     {
         let mut steps = Steps::new(alloc);
         for step in &self.items {

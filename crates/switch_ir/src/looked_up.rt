@@ -1,6 +1,6 @@
 //! The objects that are looked up on the switch.
 ghost use Rattle.std.specs.Prelude.{◌≡◌, ◌≤◌, ◌<◌, ◌&&◌, is_some, length, IfOk};
-ghost use Rattle.flat_ir.specs.Program.{program_of, work_of, step_at};
+ghost use Rattle.flat_ir.specs.Program.{program_of, step_at};
 ghost use Rattle.split_model.specs.Shown.{looks_at};
 ghost use Rattle.split_model.specs.Split.{any_step};
 ghost use Rattle.switch_ir.specs.Emitted.{is_looked_up, tables_from};
@@ -8,20 +8,10 @@ ghost use Rattle.switch_ir.specs.Emitting.{stage_in};
 
 use crate::code::{Table, Tables};
 use crate::steps::Role;
-use flat_ir::{Flat, InstrKind};
+use flat_ir::Flat;
 use gal_io::NoMemory;
 use split_model::Split;
 use std::alloc::Global;
-
-// Whether it looks up a row of the object.
-fn looks_at(object: u32, kind: &InstrKind) -> bool
-    ensures { result ≡ looks_at object (work_of kind.now) }
-{
-    match kind {
-        InstrKind::Look { object: looked, .. } => *looked == object,
-        _ => false,
-    }
-}
 
 // Whether a pass looks the object up.
 fn is_seen_by(f: &Flat, s: &Split, role: Role, object: u32) -> bool
@@ -30,7 +20,7 @@ fn is_seen_by(f: &Flat, s: &Split, role: Role, object: u32) -> bool
         is_some (stage_in role s.now i) && looks_at object (step_at (program_of f.now) i).work) }
 {
     for i in 0..f.code.len() {
-        if role.stage(s, i).is_some() && looks_at(object, &f.code.as_slice()[i].kind) {
+        if role.stage(s, i).is_some() && f.code.as_slice()[i].kind.looks_at(object) {
             return true;
         }
     }

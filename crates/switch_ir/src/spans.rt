@@ -10,7 +10,7 @@ ghost use Rattle.flat_ir.specs.Program.{work_of};
 ghost use Rattle.split_model.specs.Crossing.{is_value, is_among};
 ghost use Rattle.transfer_header.specs.Plans.{IsPlanOf};
 ghost use Rattle.switch_ir.specs.LastReads.{AreNoted, AreInside, Raises, CanBePlanned, HaveFewValues};
-ghost use Rattle.switch_ir.specs.Passes.{pass_of, step_of};
+ghost use Rattle.switch_ir.specs.Passes.{pass_of, pass_step_of};
 ghost use Rattle.switch_ir.specs.Spans.{handed_in, is_condition, is_tested, last_read, last_stage, pass_spans};
 ghost use Rattle.switch_ir.specs.Spans.{results_in, results_of, span_of, written_by, AreNumbered};
 ghost use Rattle.switch_ir.specs.Tables.{declared_at};
@@ -144,10 +144,10 @@ fn push_results(
     last: &LastReads,
 ) -> Result<(), NoMemory>
     requires few { count ≤ 9 }
-    requires numbers { AreNumbered (2 ^ 32) (results_of (step_of step.now) count) }
+    requires numbers { AreNumbered (2 ^ 32) (results_of (pass_step_of step.now) count) }
     ensures { (n : ℕ) (reads : ValueId → ℕ) → AreNoted n reads last.now
-        → AreInside n (results_of (step_of step.now) count)
-        → OnOk result (spans.new ≡ spans.old ++ map (span_of reads) (results_of (step_of step.now) count)) }
+        → AreInside n (results_of (pass_step_of step.now) count)
+        → OnOk result (spans.new ≡ spans.old ++ map (span_of reads) (results_of (pass_step_of step.now) count)) }
 {
     for result in 0..count {
         let value = ValueId {
@@ -166,10 +166,10 @@ fn push_steps(
     tables: &Tables,
     last: &LastReads,
 ) -> Result<(), NoMemory>
-    requires { AreNumbered (2 ^ 32) (written_by tables.now (map step_of steps.now)) }
+    requires { AreNumbered (2 ^ 32) (written_by tables.now (map pass_step_of steps.now)) }
     ensures { (n : ℕ) (reads : ValueId → ℕ) → AreNoted n reads last.now
-        → AreInside n (written_by tables.now (map step_of steps.now))
-        → OnOk result (spans.new ≡ spans.old ++ map (span_of reads) (written_by tables.now (map step_of steps.now))) }
+        → AreInside n (written_by tables.now (map pass_step_of steps.now))
+        → OnOk result (spans.new ≡ spans.old ++ map (span_of reads) (written_by tables.now (map pass_step_of steps.now))) }
 {
     for step in steps.as_slice() {
         push_results(spans, step, results(tables, &step.kind), last)?;

@@ -5,7 +5,7 @@ ghost use Rattle.split_model.specs.Crossing.{is_among, is_at_hand, is_read_by};
 ghost use Rattle.split_model.specs.Marked.{is_marked, AreMarked};
 ghost use Rattle.split_model.specs.Split.{is_post};
 ghost use Rattle.split_model.specs.Layouts.{values_below, values_of};
-ghost use Rattle.switch_ir.specs.Code.{step_of};
+ghost use Rattle.switch_ir.specs.Code.{pass_step_of};
 ghost use Rattle.switch_ir.specs.Emitted.{placed, steps_of, highest_of, given_stage, only_value};
 ghost use Rattle.switch_ir.specs.Emitting.{stage_in};
 
@@ -100,7 +100,7 @@ fn put_step(
     requires within { i < length f.now.code }
     requires few { length f.now.code ≤ 4096 }
     requires numbered { number ≡ length (values_below (program_of f.now) i) }
-    ensures { OnOk result (map step_of steps.new ≡ map step_of steps.old ++ placed (program_of f.now) i stage) }
+    ensures { OnOk result (map pass_step_of steps.new ≡ map pass_step_of steps.old ++ placed (program_of f.now) i stage) }
 {
     if let Some(stage) = stage {
         let kind = f.code.as_slice()[i].kind.copy(alloc)?;
@@ -117,7 +117,7 @@ fn put_step(
 /// The instructions of a role.
 pub(crate) fn steps(alloc: Global, f: &Flat, s: &Split, role: Role) -> Result<Steps, NoMemory>
     requires few { length f.now.code ≤ 4096 }
-    ensures { IfOk result (λ made. map step_of made ≡ steps_of (program_of f.now) (stage_in role s.now)) }
+    ensures { IfOk result (λ made. map pass_step_of made ≡ steps_of (program_of f.now) (stage_in role s.now)) }
 {
     let mut made = Steps::new(alloc);
     let mut number = 0;
@@ -132,7 +132,7 @@ pub(crate) fn steps(alloc: Global, f: &Flat, s: &Split, role: Role) -> Result<St
 pub(crate) fn given_steps(alloc: Global, f: &Flat, s: &Split) -> Result<Steps, NoMemory>
     requires few { length f.now.code ≤ 4096 }
     ensures { IfOk result (λ made.
-        map step_of made ≡ steps_of (program_of f.now) (given_stage (program_of f.now) s.now)) }
+        map pass_step_of made ≡ steps_of (program_of f.now) (given_stage (program_of f.now) s.now)) }
 {
     let read = read_by(alloc, f, s, Reader::Post)?;
     let mut made = Steps::new(alloc);

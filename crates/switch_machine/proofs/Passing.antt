@@ -11,7 +11,7 @@ use Rattle.switch_ir.specs.Code.{Code}
 use Rattle.switch_ir.specs.Port.{up_failed, up_entry, down_failed, down_entry, EndsDown, EndsUp, IsUpFrame, Keeps, PassesDown, PassesUp}
 use Rattle.switch_ir.specs.Tables.{Told}
 use Rattle.switch_machine.specs.Calls.{ended}
-use Rattle.switch_machine.specs.Counts.{Counts as Calls}
+use Rattle.switch_machine.specs.Counts.{CallCounts as Calls}
 use Rattle.switch_machine.specs.Ends.{DownPasses, UpPasses}
 use Rattle.switch_machine.specs.Machine.{MachineState, seen_of}
 use Rattle.switch_machine.proofs.KeptRows.{the_some}

@@ -9,7 +9,7 @@ use Rattle.flat_ir.specs.Program.{work_of}
 use Rattle.flat_ir.specs.Run.{results}
 use Rattle.switch_ir.specs.declared.code.PassStep.{PassStep}
 use Rattle.switch_ir.specs.declared.code.Table.{Table}
-use Rattle.switch_ir.specs.Code.{Step, step_of}
+use Rattle.switch_ir.specs.Code.{Step, pass_step_of}
 use Rattle.switch_ir.specs.Sound.{CanStep}
 use Rattle.switch_machine.specs.declared.numbering.ValueRange.{ValueRange}
 use Rattle.switch_machine.specs.Numbers.{gives, range_at, stage_gives}
@@ -18,31 +18,31 @@ use Rattle.switch_machine.proofs.Each.{each_at, each_map}
 use Rattle.switch_machine.proofs.Lists.{ahead}
 
 -- an instruction that is placed can be computed
-pub can_at : (steps : List PassStep) (i : ℕ) (s : PassStep) → Each CanStep (map step_of steps) → i < length steps → s ≡ get_or steps i s
+pub can_at : (steps : List PassStep) (i : ℕ) (s : PassStep) → Each CanStep (map pass_step_of steps) → i < length steps → s ≡ get_or steps i s
     → CanRun (work_of s.kind)
 can_at steps i s can lt is =
     subst (λ (one : PassStep). CanRun (work_of one.kind)) (sym is)
-    (each_at (λ (one : PassStep). CanStep (step_of one)) steps i s (each_map CanStep step_of steps can) lt)
+    (each_at (λ (one : PassStep). CanStep (pass_step_of one)) steps i s (each_map CanStep pass_step_of steps can) lt)
 
 -- and has a lower number
-pub below_at : (n : ℕ) (steps : List PassStep) (i : ℕ) (s : PassStep) → AreBelow n (map step_of steps) → i < length steps → s ≡ get_or steps i s
+pub below_at : (n : ℕ) (steps : List PassStep) (i : ℕ) (s : PassStep) → AreBelow n (map pass_step_of steps) → i < length steps → s ≡ get_or steps i s
     → s.instruction < n
 below_at n steps i s below lt is =
     subst (λ (one : PassStep). one.instruction < n) (sym is)
-    (each_at (λ (one : PassStep). one.instruction < n) steps i s (each_map (λ (one : Step). one.instruction < n) step_of steps below) lt)
+    (each_at (λ (one : PassStep). one.instruction < n) steps i s (each_map (λ (one : Step). one.instruction < n) pass_step_of steps below) lt)
 
 -- one instruction more is read
 pub read_more : (ranges : List ValueRange) (reads : Reading) (tables : Store) (packet : Packet) (steps : List PassStep) (i : ℕ) (s : PassStep)
     (before after all : List (ℕ × ℕ)) → i < length steps → s ≡ get_or steps i s
     → after ≡ before ++ gives (range_at ranges s.instruction) (results reads false tables packet (work_of s.kind))
-    → before ++ stage_gives ranges (map step_of (drop i steps)) reads tables packet ≡ all
-    → after ++ stage_gives ranges (map step_of (drop (i + 1) steps)) reads tables packet ≡ all
+    → before ++ stage_gives ranges (map pass_step_of (drop i steps)) reads tables packet ≡ all
+    → after ++ stage_gives ranges (map pass_step_of (drop (i + 1) steps)) reads tables packet ≡ all
 read_more ranges reads tables packet steps i s before after all lt is more so =
     let one = gives (range_at ranges s.instruction) (results reads false tables packet (work_of s.kind)) in
-    let rest = stage_gives ranges (map step_of (drop (i + 1) steps)) reads tables packet in
+    let rest = stage_gives ranges (map pass_step_of (drop (i + 1) steps)) reads tables packet in
     ap (λ gs. gs ++ rest) more
     ∙ append_assoc before one rest
-    ∙ ap (λ (ss : List PassStep). before ++ stage_gives ranges (map step_of ss) reads tables packet) (sym (ahead steps i s lt is))
+    ∙ ap (λ (ss : List PassStep). before ++ stage_gives ranges (map pass_step_of ss) reads tables packet) (sym (ahead steps i s lt is))
     ∙ so
 
 -- ranges that are the same everywhere
@@ -51,13 +51,13 @@ entered_same es before other same i = ap (λ (b : ℕ → ValueRange). entered e
 
 -- one instruction more is entered
 pub enter_more : (tables : List Table) (steps : List PassStep) (i : ℕ) (s : PassStep) (before after total : ℕ → ValueRange) → i < length steps → s ≡ get_or steps i s
-    → ((j : ℕ) → after j ≡ cond (j == s.instruction) (with_entry (step_entry tables (step_of s)) (before j)) (before j))
-    → ((j : ℕ) → entered (map (step_entry tables) (map step_of (drop i steps))) before j ≡ total j)
-    → (j : ℕ) → entered (map (step_entry tables) (map step_of (drop (i + 1) steps))) after j ≡ total j
+    → ((j : ℕ) → after j ≡ cond (j == s.instruction) (with_entry (step_entry tables (pass_step_of s)) (before j)) (before j))
+    → ((j : ℕ) → entered (map (step_entry tables) (map pass_step_of (drop i steps))) before j ≡ total j)
+    → (j : ℕ) → entered (map (step_entry tables) (map pass_step_of (drop (i + 1) steps))) after j ≡ total j
 enter_more tables steps i s before after total lt is put so j =
-    entered_same (map (step_entry tables) (map step_of (drop (i + 1) steps))) after
-    (λ k. cond (k == s.instruction) (with_entry (step_entry tables (step_of s)) (before k)) (before k)) put j
-    ∙ ap (λ (ss : List PassStep). entered (map (step_entry tables) (map step_of ss)) before j) (sym (ahead steps i s lt is))
+    entered_same (map (step_entry tables) (map pass_step_of (drop (i + 1) steps))) after
+    (λ k. cond (k == s.instruction) (with_entry (step_entry tables (pass_step_of s)) (before k)) (before k)) put j
+    ∙ ap (λ (ss : List PassStep). entered (map (step_entry tables) (map pass_step_of ss)) before j) (sym (ahead steps i s lt is))
     ∙ so j
 
 pub entered_append : (xs ys : List Entry) (before : ℕ → ValueRange) (i : ℕ) → entered (xs ++ ys) before i ≡ entered ys (λ j. entered xs before j) i

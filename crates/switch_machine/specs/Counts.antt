@@ -6,7 +6,7 @@ use Rattle.switch_machine.specs.declared.calls.CallKind.TheVariants.{Load, Room,
 use Rattle.switch_machine.specs.declared.calls.Calls.{Calls}
 
 -- how many calls there were of each kind
-pub record Counts : Type 0 where
+pub record CallCounts : Type 0 where
   pub load : ℕ
   pub room : ℕ
   pub up : ℕ
@@ -14,7 +14,7 @@ pub record Counts : Type 0 where
   pub command : ℕ
   pub visible : ℕ
 
-abbrev pub count_of : Counts → CallKind → ℕ
+abbrev pub count_of : CallCounts → CallKind → ℕ
 count_of c Load = c.load
 count_of c Room = c.room
 count_of c Up = c.up
@@ -23,7 +23,7 @@ count_of c Command = c.command
 count_of c Visible = c.visible
 
 -- the counts with one call more of a kind
-abbrev pub counted : Counts → CallKind → Counts
+abbrev pub counted : CallCounts → CallKind → CallCounts
 counted c Load = record c { load = one_more c.load }
 counted c Room = record c { room = one_more c.room }
 counted c Up = record c { up = one_more c.up }
@@ -31,7 +31,7 @@ counted c Down = record c { down = one_more c.down }
 counted c Command = record c { command = one_more c.command }
 counted c Visible = record c { visible = one_more c.visible }
 
-abbrev pub counts_of : Calls → Counts
+abbrev pub counts_of : Calls → CallCounts
 counts_of c = record {
   load = c.load;
   room = c.room;

@@ -7,7 +7,7 @@ use Rattle.switch_ir.specs.Port.{PortState}
 use Rattle.switch_ir.specs.Tables.{Told}
 use Rattle.switch_machine.specs.declared.calls.CallKind.{CallKind}
 use Rattle.switch_machine.specs.declared.calls.CallKind.TheVariants.{Load, Room, Up, Down, Command, Visible}
-use Rattle.switch_machine.specs.Counts.{Counts, count_of}
+use Rattle.switch_machine.specs.Counts.{CallCounts, count_of}
 
 abbrev pub same_kind : CallKind → CallKind → Bool
 same_kind Load Load = true
@@ -26,7 +26,7 @@ pub record MachineState : Type 0 where
   pub faults : ℕ
   -- the calls that are to fail, by kind and number
   pub planned : List (CallKind × ℕ)
-  pub calls : Counts
+  pub calls : CallCounts
 
 -- whether the call of this kind and number is to fail
 abbrev pub is_planned : List (CallKind × ℕ) → CallKind → ℕ → Bool

@@ -6,7 +6,7 @@ use Rattle.packet_fields.specs.declared.packet.Packet.{Packet}
 use Rattle.state_store.specs.Store.{Store}
 use Rattle.flat_ir.specs.Blocks.{Reading}
 use Rattle.switch_ir.specs.declared.code.PassStep.{PassStep}
-use Rattle.switch_ir.specs.Code.{Step, step_of}
+use Rattle.switch_ir.specs.Code.{Step, pass_step_of}
 use Rattle.switch_ir.specs.Once.{can_step_prop}
 use Rattle.switch_ir.specs.Sound.{CanStep}
 use Rattle.switch_machine.specs.declared.numbering.ValueRange.{ValueRange}
@@ -19,7 +19,7 @@ of_stage t (s ∷ ss) = (if s.stage == t then s ∷ [] else []) ++ of_stage t ss
 
 -- the instructions of stage t, none past the last stage
 abbrev pub stage_at : List (List PassStep) → ℕ → List Step
-stage_at stages t = map step_of (slice_index_or stages t [])
+stage_at stages t = map pass_step_of (slice_index_or stages t [])
 
 -- Each stage up to the highest has instructions of its own, which give and write what all of them do in this stage.
 pub record AreStages (steps : List Step) (highest : ℕ) (stages : List (List PassStep)) : Type 0 where

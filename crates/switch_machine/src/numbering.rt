@@ -4,7 +4,7 @@ ghost use Rattle.std.specs.Prelude.{unwrap_or};
 ghost use Rattle.std.specs.Option.{option_map};
 ghost use Rattle.state_store.specs.declared.object.ObjectDecl.{ObjectDecl as Declared};
 ghost use Rattle.flat_ir.specs.Program.{work_of};
-ghost use Rattle.switch_ir.specs.Code.{pass_of, step_of};
+ghost use Rattle.switch_ir.specs.Code.{pass_of, pass_step_of};
 ghost use Rattle.switch_ir.specs.Spans.{results_in};
 ghost use Rattle.switch_ir.specs.Tables.{declared_at};
 ghost use Rattle.switch_machine.specs.Numbers.{no_values, number_in, range_at};
@@ -124,9 +124,9 @@ impl Numbering {
 
     // Notes where the values of some instructions stand.
     fn put_steps(&mut self, tables: &[Table], steps: &[PassStep])
-        requires { AreBelow (length self.old) (map step_of steps.now) }
+        requires { AreBelow (length self.old) (map pass_step_of steps.now) }
         ensures ranges { (i : ℕ) → range_at self.new i
-            ≡ entered (map (step_entry tables.now) (map step_of steps.now)) (range_at self.old) i }
+            ≡ entered (map (step_entry tables.now) (map pass_step_of steps.now)) (range_at self.old) i }
         ensures count { length self.new ≡ length self.old }
     {
         for step in steps {
@@ -152,7 +152,7 @@ impl Numbering {
 
 // A number above that of each instruction.
 fn above_steps(steps: &[PassStep]) -> usize
-    ensures { AreBelow result (map step_of steps.now) }
+    ensures { AreBelow result (map pass_step_of steps.now) }
 {
     let mut count = 0;
     for step in steps {
@@ -175,8 +175,8 @@ fn above_crossings(crossings: &[Crossing]) -> usize
 // A number above that of each instruction of a pass.
 fn above_all(handed: &[Crossing], given: &[PassStep], steps: &[PassStep]) -> usize
     ensures handed { AreCrossingsBelow result handed.now }
-    ensures given { AreBelow result (map step_of given.now) }
-    ensures steps { AreBelow result (map step_of steps.now) }
+    ensures given { AreBelow result (map pass_step_of given.now) }
+    ensures steps { AreBelow result (map pass_step_of steps.now) }
 {
     let first = above_crossings(handed);
     let second = above_steps(given);

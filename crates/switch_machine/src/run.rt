@@ -11,7 +11,7 @@ ghost use Rattle.flat_ir.specs.Registers.{packet_of, results_of};
 ghost use Rattle.flat_ir.specs.Run.{results};
 ghost use Rattle.transfer_header.specs.Registers.{content_of, place_of, HasRegister};
 ghost use Rattle.transfer_header.specs.Steps.{pairs_written};
-ghost use Rattle.switch_ir.specs.Code.{step_of, pass_of};
+ghost use Rattle.switch_ir.specs.Code.{pass_step_of, pass_of};
 ghost use Rattle.switch_ir.specs.Meaning.{pass_values};
 ghost use Rattle.switch_ir.specs.Sound.{CanStep};
 ghost use Rattle.switch_machine.specs.Numbers.{gives, range_at, reads_by, stage_gives};
@@ -126,11 +126,11 @@ pub(crate) fn read_stage<L: Lookup, G: Numbers>(
     arrival: &Arrival<'_>,
     computed: &mut Vec<(u32, u64)>,
 ) -> Result<(), NoMemory>
-    requires can { Each CanStep (map step_of steps.now) }
+    requires can { Each CanStep (map pass_step_of steps.now) }
     requires size { length arrival.now.bytes.now ≤ largest_packet }
     requires shape { arrival.now.shape ≡ shape_of arrival.now.bytes.now }
     ensures { OnOk result (computed.new.items
-        ≡ computed.old.items ++ stage_gives numbering.now (map step_of steps.now) (G.reads numbers.now)
+        ≡ computed.old.items ++ stage_gives numbering.now (map pass_step_of steps.now) (G.reads numbers.now)
         (L.seen tables.now) (packet_of arrival.now)) }
 {
     for step in steps {

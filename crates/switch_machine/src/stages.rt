@@ -1,7 +1,7 @@
 //! The instructions of a pass, stage by stage.
 ghost use Rattle.std.specs.Prelude.{◌≡◌, ℕ, ◌+◌, ◌≤◌, ◌<◌, ◌==◌, ◌++◌, ◌∷◌, [], length, map, slice_index_or, IfOk};
 ghost use Rattle.std.specs.Prelude.{OnOk, if◌then◌else◌};
-ghost use Rattle.switch_ir.specs.Code.{step_of};
+ghost use Rattle.switch_ir.specs.Code.{pass_step_of};
 ghost use Rattle.switch_machine.specs.Staged.{stage_at, AreStages};
 
 use gal_io::NoMemory;
@@ -27,7 +27,7 @@ impl Model for Stages {
 impl Stages {
     /// The stages of some instructions, up to the highest.
     pub fn of(alloc: Global, steps: &Steps, highest: u32) -> Result<Stages, NoMemory>
-        ensures { IfOk result (λ stages. AreStages (map step_of steps.now) highest stages) }
+        ensures { IfOk result (λ stages. AreStages (map pass_step_of steps.now) highest stages) }
     {
         let mut stages = empty_stages(alloc, highest as usize + 1)?;
         for step in steps.as_slice() {
@@ -60,7 +60,7 @@ fn empty_stages(alloc: Global, count: usize) -> Result<Vec<Steps>, NoMemory>
 // Puts a copy of an instruction last in its stage, if there is such a stage.
 fn place(alloc: Global, stages: &mut Vec<Steps>, step: &PassStep) -> Result<(), NoMemory>
     ensures placed { OnOk result ((t : ℕ) → t < length stages.old.items → stage_at stages.new.items t
-        ≡ stage_at stages.old.items t ++ (if step.now.stage == t then step_of step.now ∷ [] else [])) }
+        ≡ stage_at stages.old.items t ++ (if step.now.stage == t then pass_step_of step.now ∷ [] else [])) }
     ensures count { OnOk result (length stages.new.items ≡ length stages.old.items) }
 {
     let stage = step.stage as usize;

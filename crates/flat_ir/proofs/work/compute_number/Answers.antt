@@ -2,7 +2,7 @@ use Rattle.std.proofs.Common.{◌∙◌, sym, ap}
 use Rattle.flat_ir.specs.Blocks.{is_live}
 use Rattle.flat_ir.specs.Program.{work_of}
 use Rattle.flat_ir.specs.Registers.{packet_of}
-use Rattle.flat_ir.specs.Run.{bit}
+use Rattle.gal_bits.specs.Operators.{bit}
 use Rattle.flat_ir.proofs.Effects.{no_effect}
 use Rattle.flat_ir.proofs.work.compute_number.Goals as goal
 

@@ -1,13 +1,13 @@
 use Rattle.std.proofs.Common.{◌≡◌, ◌∙◌, ◌+◌, ◌++◌, map, ap, arith}
 use Rattle.switch_ir.specs.LastReads.{IsInside}
-use Rattle.switch_ir.specs.Passes.{step_of}
+use Rattle.switch_ir.specs.Passes.{pass_step_of}
 use Rattle.switch_ir.specs.Spans.{results_of, span_of}
 use Rattle.switch_ir.proofs.Listing.{results_at, results_more, pushed}
 use Rattle.switch_ir.proofs.spans.push_results.Goals as goal
 
 pub loop-result-preserved : goal.loop-result-preserved
 loop-result-preserved c =
-    let s = step_of c.args.step.now in
+    let s = pass_step_of c.args.step.now in
     let r = c.loop-result.result in
     λ n reads are inside.
     let here = results_at (IsInside n) s c.args.count r c.loop-result-test.true inside in
@@ -16,7 +16,7 @@ loop-result-preserved c =
 
 pub returns : goal.returns
 returns c =
-    let s = step_of c.args.step.now in
+    let s = pass_step_of c.args.step.now in
     let done : c.loop-result.result ≡ c.args.count = omega arith in
     λ n reads are inside.
     c.loop-result.invariant n reads are inside ∙ ap (λ k. c.args.spans.now ++ map (span_of reads) (results_of s k)) done

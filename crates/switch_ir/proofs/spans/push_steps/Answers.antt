@@ -1,7 +1,7 @@
 use Rattle.std.proofs.Common.{◌∙◌, ◌+◌, ◌++◌, ◌<◌, ◌^◌, List, map, take, ap, sym, subst, arith}
 use Rattle.switch_ir.specs.declared.code.PassStep.{PassStep}
 use Rattle.switch_ir.specs.LastReads.{AreInside, IsInside}
-use Rattle.switch_ir.specs.Passes.{step_of}
+use Rattle.switch_ir.specs.Passes.{pass_step_of}
 use Rattle.switch_ir.specs.Spans.{results_in, results_of, written_by, span_of, AreNumbered, Written}
 use Rattle.switch_ir.proofs.Listing.{steps_at, steps_all, written_more, pushed_all}
 use Rattle.switch_ir.proofs.spans.push_steps.Goals as goal
@@ -11,8 +11,8 @@ push_results-requires-clause-numbers c =
     let items = c.as_slice-step-items.result.now in
     let tables = c.args.tables.now in
     let x = c.step-item.result in
-    let all = subst (λ (l : List PassStep). AreNumbered (2 ^ 32) (written_by tables (map step_of l))) (sym c.as_slice-step-items.ensures) c.requires in
-    subst (λ k. AreNumbered (2 ^ 32) (results_of (step_of x) k)) (sym c.results.ensures.value)
+    let all = subst (λ (l : List PassStep). AreNumbered (2 ^ 32) (written_by tables (map pass_step_of l))) (sym c.as_slice-step-items.ensures) c.requires in
+    subst (λ k. AreNumbered (2 ^ 32) (results_of (pass_step_of x) k)) (sym c.results.ensures.value)
     (steps_at (λ (w : Written). w.number < 2 ^ 32) tables items c.loop-step.step-index x c.loop-step-test.true c.step-item.is all)
 
 pub loop-step-preserved : goal.loop-step-preserved
@@ -22,12 +22,12 @@ loop-step-preserved c =
     let tables = c.args.tables.now in
     let x = c.step-item.result in
     λ n reads are inside.
-    let all = subst (λ (l : List PassStep). AreInside n (written_by tables (map step_of l))) (sym c.as_slice-step-items.ensures) inside in
+    let all = subst (λ (l : List PassStep). AreInside n (written_by tables (map pass_step_of l))) (sym c.as_slice-step-items.ensures) inside in
     let here = steps_at (IsInside n) tables items i x c.loop-step-test.true c.step-item.is all in
-    let put = c.in_ok-push_results.ensures n reads are (subst (λ k. AreInside n (results_of (step_of x) k)) (sym c.results.ensures.value) here) in
-    pushed_all c.args.spans.now c.loop-step.spans c.push_results.new.spans (written_by tables (map step_of (take i items))) (written_by tables (map step_of (take (i + 1) items)))
-    (results_of (step_of x) (results_in tables (step_of x).work)) reads
-    (put ∙ ap (λ k. c.loop-step.spans ++ map (span_of reads) (results_of (step_of x) k)) c.results.ensures.value)
+    let put = c.in_ok-push_results.ensures n reads are (subst (λ k. AreInside n (results_of (pass_step_of x) k)) (sym c.results.ensures.value) here) in
+    pushed_all c.args.spans.now c.loop-step.spans c.push_results.new.spans (written_by tables (map pass_step_of (take i items))) (written_by tables (map pass_step_of (take (i + 1) items)))
+    (results_of (pass_step_of x) (results_in tables (pass_step_of x).work)) reads
+    (put ∙ ap (λ k. c.loop-step.spans ++ map (span_of reads) (results_of (pass_step_of x) k)) c.results.ensures.value)
     (c.loop-step.invariant n reads are inside) (written_more tables items i x c.loop-step-test.true c.step-item.is)
 
 pub returns : goal.returns

@@ -1,7 +1,7 @@
 use Rattle.std.proofs.Common.{◌≡◌, ◌*◌, ◌≤◌, length, map}
 use Rattle.flat_ir.specs.Program.{program_of}
 use Rattle.split_model.specs.Layouts.{values_below}
-use Rattle.switch_ir.specs.Code.{step_of}
+use Rattle.switch_ir.specs.Code.{pass_step_of}
 use Rattle.switch_ir.specs.Emitted.{given_stage, steps_below}
 use Rattle.switch_ir.proofs.steps.given_steps.Given as goal
 
@@ -9,5 +9,5 @@ abbrev pub invariant-loop-i : goal.invariant-loop-i
 invariant-loop-i l = record {
   numbered : l.number ≡ length (values_below (program_of l.f) l.i);
   low : l.number ≤ 9 * l.i;
-  so_far : map step_of l.made ≡ steps_below (program_of l.f) (given_stage (program_of l.f) l.s) l.i;
+  so_far : map pass_step_of l.made ≡ steps_below (program_of l.f) (given_stage (program_of l.f) l.s) l.i;
 }

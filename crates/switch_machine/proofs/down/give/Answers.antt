@@ -5,7 +5,7 @@ use Rattle.flat_ir.specs.Registers.{packet_of}
 use Rattle.transfer_header.specs.Registers.{Registers, value_in, ArePlaced, HasRegister}
 use Rattle.transfer_header.specs.Steps.{pairs_written}
 use Rattle.switch_ir.specs.declared.code.PassStep.{PassStep}
-use Rattle.switch_ir.specs.Code.{code_of, step_of}
+use Rattle.switch_ir.specs.Code.{code_of, pass_step_of}
 use Rattle.switch_ir.specs.Meaning.{down_given}
 use Rattle.switch_ir.specs.Spans.{post_spans}
 use Rattle.switch_ir.specs.Tables.{seen_tables, Told}
@@ -26,9 +26,9 @@ write_stage-requires c =
     let own = c.stage.result.now in
     let apart = c.plans_of_spans.ensures.apart (post_spans code) loaded.code.post.plan registers loaded.code.post_plan loaded.post_plan in
     let is = c.in_ok-read_stage.ensures
-    ∙ ap (λ (xs : List (ℕ × ℕ)). xs ++ stage_gives ranges (map step_of own) nothing (seen_tables c.none-none.result) packet) c.requires.empty
-    ∙ ap (λ (t : Told). stage_gives ranges (map step_of own) nothing (seen_tables t) packet) c.none-none.ensures
-    ∙ ap (λ (ss : List PassStep). stage_gives ranges (map step_of ss) nothing [] packet) c.stage.ensures
+    ∙ ap (λ (xs : List (ℕ × ℕ)). xs ++ stage_gives ranges (map pass_step_of own) nothing (seen_tables c.none-none.result) packet) c.requires.empty
+    ∙ ap (λ (t : Told). stage_gives ranges (map pass_step_of own) nothing (seen_tables t) packet) c.none-none.ensures
+    ∙ ap (λ (ss : List PassStep). stage_gives ranges (map pass_step_of ss) nothing [] packet) c.stage.ensures
     ∙ loaded.given_stage.gives 0 (omega arith) ranges nothing [] packet in
     subst (λ (xs : List (ℕ × ℕ)). Each (λ (p : ℕ × ℕ). HasRegister registers p.0) xs) (sym is)
     (given_have code loaded.can loaded.ordered loaded.few ranges loaded.post_ranges
@@ -44,9 +44,9 @@ returns-clause-begins c =
     let own = c.stage.result.now in
     let apart = c.plans_of_spans.ensures.apart (post_spans code) loaded.code.post.plan registers loaded.code.post_plan loaded.post_plan in
     let is = c.in_ok-read_stage.ensures
-    ∙ ap (λ (xs : List (ℕ × ℕ)). xs ++ stage_gives ranges (map step_of own) nothing (seen_tables c.none-none.result) packet) c.requires.empty
-    ∙ ap (λ (t : Told). stage_gives ranges (map step_of own) nothing (seen_tables t) packet) c.none-none.ensures
-    ∙ ap (λ (ss : List PassStep). stage_gives ranges (map step_of ss) nothing [] packet) c.stage.ensures
+    ∙ ap (λ (xs : List (ℕ × ℕ)). xs ++ stage_gives ranges (map pass_step_of own) nothing (seen_tables c.none-none.result) packet) c.requires.empty
+    ∙ ap (λ (t : Told). stage_gives ranges (map pass_step_of own) nothing (seen_tables t) packet) c.none-none.ensures
+    ∙ ap (λ (ss : List PassStep). stage_gives ranges (map pass_step_of ss) nothing [] packet) c.stage.ensures
     ∙ loaded.given_stage.gives 0 (omega arith) ranges nothing [] packet in
     subst (BeginsWith ranges (begins_down ranges code) (down_given code (value_in registers) packet))
     (sym (c.write_stage.ensures.written ∙ ap (pairs_written registers) is))

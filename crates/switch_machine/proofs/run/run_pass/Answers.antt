@@ -8,7 +8,7 @@ use Rattle.flat_ir.specs.Run.{results}
 use Rattle.transfer_header.specs.Registers.{content_of, HasRegister}
 use Rattle.transfer_header.specs.Steps.{pairs_written}
 use Rattle.switch_ir.specs.declared.code.PassStep.{PassStep}
-use Rattle.switch_ir.specs.Code.{pass_of, step_of}
+use Rattle.switch_ir.specs.Code.{pass_of, pass_step_of}
 use Rattle.switch_ir.specs.Sound.{CanStep}
 use Rattle.switch_machine.specs.Numbers.{reads_by, stage_gives, stage_writes}
 use Rattle.switch_machine.specs.Staged.{of_stage}
@@ -30,7 +30,7 @@ pub read_stage-requires-clause-can : goal.read_stage-requires-clause-can
 read_stage-requires-clause-can g c =
     let t = c.loop-stage.stage in
     let le : t ≤ c.args.pass.now.highest = omega (arith, c.loop-stage-test.true) in
-    subst (λ (ss : List PassStep). Each CanStep (map step_of ss)) (sym c.stage.ensures) (c.requires.stages.can c.requires.can t le)
+    subst (λ (ss : List PassStep). Each CanStep (map pass_step_of ss)) (sym c.stage.ensures) (c.requires.stages.can c.requires.can t le)
 
 pub write_stage-requires : goal.write_stage-requires
 write_stage-requires g c =
@@ -44,8 +44,8 @@ write_stage-requires g c =
     let reads = reads_by ranges (content_of registers) in
     let pairs = stage_gives ranges (of_stage t steps) reads tables packet in
     let is = c.in_ok-read_stage.ensures
-    ∙ ap (λ (xs : List (ℕ × ℕ)). xs ++ stage_gives ranges (map step_of c.stage.result.now) reads tables packet) c.loop-stage.invariant.empty
-    ∙ ap (λ (ss : List PassStep). stage_gives ranges (map step_of ss) reads tables packet) c.stage.ensures
+    ∙ ap (λ (xs : List (ℕ × ℕ)). xs ++ stage_gives ranges (map pass_step_of c.stage.result.now) reads tables packet) c.loop-stage.invariant.empty
+    ∙ ap (λ (ss : List PassStep). stage_gives ranges (map pass_step_of ss) reads tables packet) c.stage.ensures
     ∙ c.requires.stages.gives t le ranges reads tables packet in
     let have : Each (HasRegister registers) (stage_writes ranges (of_stage t steps)) =
     each_weaker (HasRegister c.args.registers.now) (HasRegister registers)
@@ -65,8 +65,8 @@ loop-stage-preserved g c =
     let pass = pass_of c.args.pass.now in
     let reads = reads_by ranges (content_of registers) in
     let is = c.in_ok-read_stage.ensures
-    ∙ ap (λ (xs : List (ℕ × ℕ)). xs ++ stage_gives ranges (map step_of c.stage.result.now) reads tables packet) c.loop-stage.invariant.empty
-    ∙ ap (λ (ss : List PassStep). stage_gives ranges (map step_of ss) reads tables packet) c.stage.ensures
+    ∙ ap (λ (xs : List (ℕ × ℕ)). xs ++ stage_gives ranges (map pass_step_of c.stage.result.now) reads tables packet) c.loop-stage.invariant.empty
+    ∙ ap (λ (ss : List PassStep). stage_gives ranges (map pass_step_of ss) reads tables packet) c.stage.ensures
     ∙ c.requires.stages.gives t le ranges reads tables packet in
     let agree : (r r' : Reading) (work : Work) → Each (Same r r') (operands work) → results r false tables packet work ≡ results r' false tables packet work =
     λ r r' work each. c.readings_that_agree.ensures.results r r' false tables packet work (c.readings_that_agree.ensures.operands r r' work each) in
