@@ -1,5 +1,5 @@
 -- A register for each value that has a span.
-use Rattle.std.specs.Prelude.{◌≡◌, ◌≢◌, ℕ, ◌<◌, ◌≤◌, true, List, [], ◌∷◌, slice_index, Option, Some, Contains, refl}
+use Rattle.std.specs.Prelude.{◌≡◌, ◌≢◌, ℕ, ◌<◌, ◌≤◌, true, List, [], ◌∷◌, slice_get, slice_index, Option, Some, Contains, refl}
 use Rattle.std.specs.Coded.{Coded, code_by, coded×, coded_ℕ, coded_list}
 use Rattle.std.specs.Option.{option_map}
 use Rattle.std.specs.FinMap as map
@@ -27,6 +27,11 @@ register_of plan value = register_in plan.rows value
 -- each register is below a number
 abbrev pub AreBelow : Contents → ℕ → Type 0
 AreBelow rows count = (value register : ℕ) → register_in rows value ≡ Some register → register < count
+
+-- the registers of the first values, each at its value
+abbrev pub AreFirst : Contents → List (Option ℕ) → Type 0
+AreFirst rows first = (value : ℕ) (register : Option ℕ) → slice_get first value ≡ Some register
+    → register ≡ register_in rows value
 
 -- two values that are needed at one step have two registers
 abbrev pub AreApart : List Span → Contents → Type 0

@@ -1,8 +1,8 @@
 //! A register for each value.
-ghost use Rattle.std.specs.Prelude.{◌≡◌, ◌<◌, ◌↔◌, ◌^◌, ℕ, length, IfOk, IfSome, None};
+ghost use Rattle.std.specs.Prelude.{◌≡◌, ◌<◌, ◌≤◌, ◌↔◌, ◌^◌, ℕ, length, IfOk, IfSome, None};
 ghost use Rattle.std.specs.List.Sorted.{IsPermutation, IsNonDecreasingBy};
 ghost use Rattle.flat_ir.specs.Spans.{ValuesDiffer, AreWrittenFirst, spans_of};
-ghost use Rattle.flat_ir.specs.Plan.{Plan, register_of, AreBelow, AreApart, IsGreatestOverlap};
+ghost use Rattle.flat_ir.specs.Plan.{Plan, register_in, register_of, AreBelow, AreFirst, AreApart, IsGreatestOverlap};
 
 use crate::spans::{Span, Spans};
 use crate::taken::{Taken, take};
@@ -17,6 +17,8 @@ use std::marker::Model;
 #[derive(Drop)]
 pub struct RegPlan {
     registers: SlotTable<1, 1>,
+    // The registers of the first values, so that these are found by index.
+    first: Vec<Option<u32>>,
     count: u32,
 }
 
@@ -28,7 +30,7 @@ impl Debug for RegPlan {
 
 impl Model for RegPlan {
     ghost use Rattle.std.specs.Prelude.{◌<◌, ◌^◌};
-    ghost use Rattle.flat_ir.specs.Plan.{Plan, AreBelow, plan_code};
+    ghost use Rattle.flat_ir.specs.Plan.{Plan, AreBelow, AreFirst, plan_code};
 
     ghost Value = { Plan };
 
@@ -36,7 +38,8 @@ impl Model for RegPlan {
 
     ghost view = { λ plan. record { rows = plan.registers.rows; count = plan.count } };
 
-    ghost invariant = { λ plan. (AreBelow plan.registers.rows plan.count) × (plan.count < 2 ^ 32) };
+    ghost invariant = { λ plan. (AreBelow plan.registers.rows plan.count) × (plan.count < 2 ^ 32)
+        × (AreFirst plan.registers.rows plan.first.items) };
 }
 
 // The spans, in the order of their first steps.
@@ -49,6 +52,42 @@ fn in_order(alloc: Global, spans: &Spans) -> Result<Vec<Span>, NoMemory>
     let mut sorted = spans.as_slice().to_vec(alloc)?;
     sorted.sort_by_key(|span| span.from)?;
     Ok(sorted)
+}
+
+// How many values are found by index: all of them up to the greatest, but 65,536 at most.
+fn first_values(spans: &[Span]) -> u32
+    ensures { result ≤ 65536 }
+{
+    match spans.iter().map(|span| span.value).max() {
+        Some(greatest) => greatest.min(65_535) + 1,
+        None => 0,
+    }
+}
+
+// The register of a value in a table.
+fn register_in(registers: &SlotTable<1, 1>, value: u32) -> Option<u32>
+    requires { AreBelow registers.now.rows (2 ^ 32) }
+    ensures { result ≡ register_in registers.now.rows value }
+{
+    let words = registers.look(&[value as u64])?;
+    let register = words[0];
+    Some(register as u32)
+}
+
+// The registers of so many values, each at its value.
+fn first_registers(
+    alloc: Global,
+    registers: &SlotTable<1, 1>,
+    values: u32,
+) -> Result<Vec<Option<u32>>, NoMemory>
+    requires { AreBelow registers.now.rows (2 ^ 32) }
+    ensures { IfOk result (λ first. AreFirst registers.now.rows first.items) }
+{
+    let mut first = Vec::with_capacity(alloc, values as usize)?;
+    for value in 0..values {
+        first.push(register_in(registers, value))?;
+    }
+    Ok(first)
 }
 
 impl RegPlan {
@@ -71,7 +110,12 @@ impl RegPlan {
             let _ = registers.insert([span.value as u64], [register as u64]);
         }
         let count = taken.len() as u32;
-        Ok(RegPlan { registers, count })
+        let first = first_registers(alloc, &registers, first_values(&sorted))?;
+        Ok(RegPlan {
+            registers,
+            first,
+            count,
+        })
     }
 
     /// The register of a value, or none if it has no span.
@@ -79,12 +123,9 @@ impl RegPlan {
         ensures register { result ≡ register_of self.now value }
         ensures below { IfSome result (λ register. register < self.now.count) }
     {
-        match self.registers.look(&[value as u64]) {
-            Some(words) => {
-                let register = words[0];
-                Some(register as u32)
-            }
-            None => None,
+        match self.first.get(value as usize) {
+            Some(register) => *register,
+            None => register_in(&self.registers, value),
         }
     }
 
@@ -94,6 +135,7 @@ impl RegPlan {
     {
         Ok(RegPlan {
             registers: self.registers.copy(alloc)?,
+            first: self.first.as_slice().to_vec(alloc)?,
             count: self.count,
         })
     }

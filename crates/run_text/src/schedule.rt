@@ -28,16 +28,12 @@ fn read_item(item: &[u8]) -> Result<u32, LineKind>
 fn read_word(line: &[u8]) -> Option<Event>
     ensures { result ≡ word_event line.now }
 {
-    if line == b"a".as_slice() {
-        Some(Event::Admit)
-    } else if line == b"c".as_slice() {
-        Some(Event::Send)
-    } else if line == b"w".as_slice() {
-        Some(Event::Apply)
-    } else if line == b"k".as_slice() {
-        Some(Event::Ack)
-    } else {
-        None
+    match line {
+        [b'a'] => Some(Event::Admit),
+        [b'c'] => Some(Event::Send),
+        [b'w'] => Some(Event::Apply),
+        [b'k'] => Some(Event::Ack),
+        _ => None,
     }
 }
 
@@ -50,14 +46,11 @@ fn read_event(line: &[u8]) -> Result<Event, LineKind>
     let Some((letter, item)) = split_at_space(line) else {
         return Err(LineKind::Form);
     };
-    if letter == b"u".as_slice() {
-        Ok(Event::Serve(read_item(item)?))
-    } else if letter == b"h".as_slice() {
-        Ok(Event::Hold(read_item(item)?))
-    } else if letter == b"d".as_slice() {
-        Ok(Event::Down(read_item(item)?))
-    } else {
-        Err(LineKind::Form)
+    match letter {
+        [b'u'] => Ok(Event::Serve(read_item(item)?)),
+        [b'h'] => Ok(Event::Hold(read_item(item)?)),
+        [b'd'] => Ok(Event::Down(read_item(item)?)),
+        _ => Err(LineKind::Form),
     }
 }
 

@@ -1,18 +1,27 @@
-use Rattle.std.proofs.Common.{◌≡◌, ◌<◌, ℕ, List, slice_index, Some, sym, ap, arith, [], ◌∷◌}
-use Rattle.std.specs.Option.{option_map}
-use Rattle.std.specs.FinMap as map
+use Rattle.std.proofs.Common.{◌≡◌, ◌<◌, ◌≤◌, ℕ, Option, Some, None, IfSome, length, refl, sym, subst, ap, arith}
+use Rattle.std.specs.List.{slice_get}
+use Rattle.std.proofs.lemmas.Bool.{ltb-true}
+use Rattle.std.proofs.lemmas.Option.{slice_get_read}
 use Rattle.slot_table.specs.Table.{Contents}
-use Rattle.flat_ir.specs.Plan.{AreBelow}
+use Rattle.flat_ir.specs.Plan.{register_in, AreBelow}
 use Rattle.flat_ir.proofs.reg_plan.RegPlan.register.Goals as goal
 
--- the first word of what was found is a register
-below : (rows : Contents) (count value : ℕ) (words : List ℕ) → AreBelow rows count → Some words ≡ map.get rows (value ∷ []) → slice_index words 0 < count
-below rows count value words all found = all value (slice_index words 0) (ap (option_map (λ found_words. slice_index found_words 0)) (sym found))
+-- a register that was found is below their number
+below : (rows : Contents) (count most value : ℕ) (found : Option ℕ) → AreBelow rows count → count ≤ most
+    → found ≡ register_in rows value → IfSome found (λ register. register < most)
+below rows count most value None all few is = tt
+below rows count most value (Some register) all few is = let lt = all value register (sym is) in omega (arith, lt, few)
 
-pub overflow_cast-result : goal.overflow_cast-result
-overflow_cast-result c = let lt = below c.self.inside.registers.rows c.self.inside.count c.args.value c.in-Some.words c.self.invariant.0 c.in-Some.ensures in omega (arith, lt, c.self.invariant.1)
+pub register_in-requires : goal.register_in-requires
+register_in-requires c = λ value register e.
+    let lt = c.self.invariant.0 value register e in omega (arith, lt, c.self.invariant.1)
 
 pub returns-in-Some-clause-below : goal.returns-in-Some-clause-below
 returns-in-Some-clause-below c =
-    let lt = below c.self.inside.registers.rows c.self.inside.count c.args.value c.in-Some.words c.self.invariant.0 c.in-Some.ensures in
-    omega (arith, lt, ap (λ p. p.count) c.self.view_is)
+    let kept = c.self.inside.first.items in
+    let found : slice_get kept c.args.value ≡ Some c.in-Some.register.now =
+        subst (λ items. slice_get items c.args.value ≡ Some c.in-Some.register.now) c.deref.ensures.value
+        (slice_get_read c.deref.result.now (length c.deref.result.now) c.args.value c.in-Some.register.now refl
+        (ltb-true c.args.value (length c.deref.result.now) (sym c.in-Some.ensures.lookup.0)) c.in-Some.ensures.lookup.1) in
+    below c.self.inside.registers.rows c.self.inside.count c.args.self.now.count c.args.value c.in-Some.register.now
+    c.self.invariant.0 (omega (arith, ap (λ p. p.count) c.self.view_is)) (c.self.invariant.2 c.args.value c.in-Some.register.now found)
