@@ -2,6 +2,7 @@
 ghost use Rattle.std.specs.Prelude.{◌≡◌, ◌≤◌, ◌&&◌, ◌∷◌, [], true, false, length, map, slice_get, slice_index};
 ghost use Rattle.std.specs.Prelude.{is_some, IsTrue};
 ghost use Rattle.gal_bits.specs.Operators.{bit, operator_row, value_of as operator_value};
+ghost use Rattle.gal_bits.specs.declared.op.Op.TheVariants.{Select};
 ghost use Rattle.packet_fields.specs.Shape.{shape_of};
 ghost use Rattle.packet_fields.specs.Sizes.{largest_packet};
 ghost use Rattle.state_store.specs.Store.{Store as Objects, object_at, look as found_in, put_answer, is_stored};
@@ -68,8 +69,33 @@ fn applied<R: Numbers>(numbers: &R, op: Op, width: Width, args: &[ValueId]) -> u
     match args {
         [x] => eval(op, width, &[numbers.number(*x)]),
         [x, y] => eval(op, width, &[numbers.number(*x), numbers.number(*y)]),
+        [x, y, z] => eval(
+            op,
+            width,
+            &[numbers.number(*x), numbers.number(*y), numbers.number(*z)],
+        ),
         _ => eval(op, width, read_all(numbers, args).as_slice()),
     }
+}
+
+// The second value where the first is 1, else the third. Only the one that is taken is read.
+#[tactic(auto, unfolding(gal_bits::specs::Operators::value_of))]
+fn selected<R: Numbers>(
+    numbers: &R,
+    width: Width,
+    cond: ValueId,
+    first: ValueId,
+    second: ValueId,
+) -> u64
+    ensures { let reads = R.reads numbers.now in
+        result ≡ operator_value Select width (reads cond ∷ reads first ∷ reads second ∷ []) }
+{
+    let taken = if numbers.number(cond) == 1 {
+        first
+    } else {
+        second
+    };
+    eval(Op::Cast, width, &[numbers.number(taken)])
 }
 
 /// The number that an instruction other than a look gives where nothing is stored or removed.
@@ -93,17 +119,7 @@ pub fn given_number<R: Numbers>(arrival: &Arrival<'_>, numbers: &R, kind: &Instr
             cond,
             first,
             second,
-        } => {
-            eval(
-                Op::Select,
-                *width,
-                &[
-                    numbers.number(*cond),
-                    numbers.number(*first),
-                    numbers.number(*second),
-                ],
-            )
-        }
+        } => { selected(numbers, *width, *cond, *first, *second) }
         InstrKind::Byte(index) => byte_at(arrival.bytes, numbers.number(*index)),
         InstrKind::Look { .. } => unreachable!(),
         InstrKind::Put { .. } => 0,

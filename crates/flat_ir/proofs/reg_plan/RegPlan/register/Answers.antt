@@ -20,8 +20,8 @@ pub returns-in-Some-clause-below : goal.returns-in-Some-clause-below
 returns-in-Some-clause-below c =
     let kept = c.self.inside.first.items in
     let found : slice_get kept c.args.value ≡ Some c.in-Some.register.now =
-        subst (λ items. slice_get items c.args.value ≡ Some c.in-Some.register.now) c.deref.ensures.value
-        (slice_get_read c.deref.result.now (length c.deref.result.now) c.args.value c.in-Some.register.now refl
-        (ltb-true c.args.value (length c.deref.result.now) (sym c.in-Some.ensures.lookup.0)) c.in-Some.ensures.lookup.1) in
+    subst (λ items. slice_get items c.args.value ≡ Some c.in-Some.register.now) c.deref.ensures.value
+    (slice_get_read c.deref.result.now (length c.deref.result.now) c.args.value c.in-Some.register.now refl
+    (ltb-true c.args.value (length c.deref.result.now) (sym c.in-Some.ensures.lookup.0)) c.in-Some.ensures.lookup.1) in
     below c.self.inside.registers.rows c.self.inside.count c.args.self.now.count c.args.value c.in-Some.register.now
     c.self.invariant.0 (omega (arith, ap (λ p. p.count) c.self.view_is)) (c.self.invariant.2 c.args.value c.in-Some.register.now found)
