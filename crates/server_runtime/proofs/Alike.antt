@@ -5,7 +5,7 @@ use Rattle.packet_fields.specs.declared.packet.Packet.{Packet}
 use Rattle.state_store.specs.Store.{Store}
 use Rattle.flat_ir.specs.declared.program.FieldValue.{FieldValue}
 use Rattle.flat_ir.specs.declared.program.ValueId.{ValueId}
-use Rattle.flat_ir.specs.Blocks.{block_at, is_live, line, Reading}
+use Rattle.flat_ir.specs.Blocks.{is_live, line, Reading}
 use Rattle.flat_ir.specs.Kinds.{is_write}
 use Rattle.flat_ir.specs.Laws.{Same, SameFor}
 use Rattle.flat_ir.specs.Program.{operands, step_at, Program, Work}

@@ -1,7 +1,7 @@
 -- The numbers of values, by their own numbers.
-use Rattle.std.proofs.Common.{◌≡◌, ◌+◌, ◌-◌, ◌<◌, ◌≤◌, ◌==◌, ◌&&◌, ◌||◌, ℕ, zero, suc, Bool, true, false, cond, List, [], ◌∷◌, ◌++◌, map, length, get_or, nat_lt, slice_get, slice_index, Option, Some, None, IsTrue, refl, sym, ap, ◌∙◌, subst, arith, inl, inr, true≢false, add-one}
-use Rattle.std.specs.List.{filter, list_any, AllByRecursion as Each}
-use Rattle.std.proofs.lemmas.Bool.{and_from, and_parts, cases_Bool, cases_eq, cases_lt, cond-true, cond-false, eq-eqb, lt-ltb, ltb-true, ne_eqb, or_cases, or_left, or_right}
+use Rattle.std.proofs.Common.{◌≡◌, ◌+◌, ◌-◌, ◌<◌, ◌≤◌, ◌==◌, ◌&&◌, ◌||◌, ℕ, zero, suc, Bool, true, false, cond, List, [], ◌∷◌, length, get_or, nat_lt, slice_get, slice_index, Option, Some, None, IsTrue, refl, sym, ap, ◌∙◌, subst, arith, inl, inr}
+use Rattle.std.specs.List.{filter, AllByRecursion as Each}
+use Rattle.std.proofs.lemmas.Bool.{and_from, and_parts, cases_Bool, cases_eq, cases_lt, cond-true, cond-false, eq-eqb, lt-ltb, ltb-true, ne_eqb, or_left, or_right}
 use Rattle.std.proofs.lemmas.List.{get_or_append_left, get_or-append_right, get_or_push, map-append}
 use Rattle.std.proofs.lemmas.List.Folds.{list_any-append}
 use Rattle.std.proofs.lemmas.Option.{slice_get-get_or, slice_get_within}
@@ -11,8 +11,8 @@ use Rattle.flat_ir.specs.declared.program.ValueId.{ValueId}
 use Rattle.flat_ir.specs.Blocks.{is_live, line, Reading}
 use Rattle.flat_ir.specs.Kinds.{is_input}
 use Rattle.flat_ir.specs.Laws.{Same, SameFor}
-use Rattle.flat_ir.specs.Program.{is_named, operands, result_count, step_at, Program, Work}
-use Rattle.flat_ir.specs.Run.{change_of, do_step, results, with_results, Machine}
+use Rattle.flat_ir.specs.Program.{is_named, operands, step_at, Program, Work}
+use Rattle.flat_ir.specs.Run.{change_of, do_step, results, Machine}
 use Rattle.flat_ir.specs.WellFormed.{EachCondition, IsWellFormed}
 use Rattle.split_model.specs.declared.split.Part.{Part}
 use Rattle.split_model.specs.Layouts.{first_results, number_of, values_below, values_of}
@@ -20,8 +20,8 @@ use Rattle.split_model.specs.Passes.{served}
 use Rattle.split_model.specs.Split.{is_server}
 use Rattle.transfer_header.specs.Steps.{is_among, reading_after, Contents, LooksAtReadsAlone}
 use Rattle.server_runtime.specs.Registers.{contents_of, number_by, reading_of}
-use Rattle.server_runtime.specs.Running.{contents_at, number_at, row_of, server_steps}
-use Rattle.server_runtime.specs.Spans.{is_taken, numbers_of, reads_at, values_at, values_kept, values_read, writes_at}
+use Rattle.server_runtime.specs.Running.{contents_at, row_of, server_steps}
+use Rattle.server_runtime.specs.Spans.{is_taken, numbers_of, reads_at, values_at, values_kept, values_read}
 use Rattle.server_runtime.proofs.Alike.{turned_alike, IsTurnedAlike}
 use Rattle.server_runtime.proofs.Numbers.{below_suc, count_at, count_results, is_named_by, named_parts}
 use Rattle.server_runtime.proofs.Spanned.{each_append, each_more, found, read_earlier, IsFound}

@@ -7,6 +7,7 @@ pub mod Handed
 pub mod Lengths
 pub mod Listed
 pub mod Needed
+pub mod Noted
 pub mod Numbers
 pub mod Outcomes
 pub mod Results

@@ -1,15 +1,12 @@
 -- The numbers of listed values.
-use Rattle.std.proofs.Common.{◌≡◌, ◌<◌, ◌≤◌, ◌-◌, ◌==◌, ◌&&◌, ◌||◌, ℕ, suc, Bool, true, false, cond, List, [], ◌∷◌, ◌++◌, map, length, get_or, IsTrue, refl, sym, ap, ◌∙◌, subst, arith, append_assoc}
+use Rattle.std.proofs.Common.{◌≡◌, ◌<◌, ◌==◌, ◌&&◌, ◌||◌, ℕ, suc, Bool, true, false, cond, List, [], ◌∷◌, ◌++◌, map, length, refl, sym, ap, ◌∙◌, arith}
 use Rattle.std.specs.List.{filter, All, AllByRecursion as Each}
 use Rattle.std.proofs.lemmas.Bool.{eq-eqb, le-ltb, lt-ltb, ne_eqb}
-use Rattle.std.proofs.lemmas.List.{get_or_default, map-append}
+use Rattle.std.proofs.lemmas.List.{map-append}
 use Rattle.std.proofs.lemmas.List.Elements.{All-from_recursion, All-map}
-use Rattle.flat_ir.specs.declared.program.Block.{Block}
 use Rattle.flat_ir.specs.declared.program.FieldValue.{FieldValue}
 use Rattle.flat_ir.specs.declared.program.ValueId.{ValueId}
-use Rattle.flat_ir.specs.Blocks.{block_at, line, HasLowParents}
-use Rattle.flat_ir.specs.Kinds.{is_write}
-use Rattle.flat_ir.specs.Program.{is_named, operands, step_at, Program, Step}
+use Rattle.flat_ir.specs.Program.{is_named, Program}
 use Rattle.flat_ir.specs.WellFormed.{IsWritten}
 use Rattle.split_model.specs.declared.layout.Crossing.{Crossing}
 use Rattle.split_model.specs.declared.split.Part.{Part}
@@ -17,7 +14,7 @@ use Rattle.split_model.specs.Crossing.{is_server_write}
 use Rattle.split_model.specs.Layouts.{crossing, down_layout, down_values, number_of, values_of}
 use Rattle.split_model.specs.Passes.{server_fields}
 use Rattle.transfer_header.specs.Steps.{is_among}
-use Rattle.server_runtime.specs.Spans.{conditions_of, is_taken, is_turn, numbers_of, reads_at, values_kept, values_read}
+use Rattle.server_runtime.specs.Spans.{is_taken, is_turn, numbers_of, reads_at, values_kept, values_read}
 use Rattle.server_runtime.proofs.Numbers.{below_all, named_parts}
 use Rattle.server_runtime.proofs.Spanned.{each_more}
 
@@ -25,19 +22,6 @@ use Rattle.server_runtime.proofs.Spanned.{each_more}
 pub crossing_numbers : (f : Program) (vs : List ValueId) → map (λ (c : Crossing). c.number) (map (crossing f) vs) ≡ numbers_of f vs
 crossing_numbers f [] = refl
 crossing_numbers f (v ∷ vs) = ap (λ ns. number_of f v ∷ ns) (crossing_numbers f vs)
-
--- of the conditions of blocks
-pub at_block : (blocks slice : List Block) (n : ℕ) (d : Block) → slice ≡ blocks → 0 < n → n ≤ length blocks → get_or slice (n - 1) d ≡ block_at blocks (n - 1)
-at_block blocks slice n d same some le =
-    ap (λ l. get_or l (n - 1) d) same ∙ get_or_default blocks (n - 1) d (record { parent = 0; cond = record { instruction = 0; result = 0 }; polarity = true }) (omega (arith, some, le))
-
-pub chain_more : (f : Program) (k : ℕ) (items new : List ℕ) (x : ℕ) (b : Block) → line f.blocks (suc k) ≡ suc k ∷ line f.blocks (block_at f.blocks k).parent
-    → b ≡ block_at f.blocks k → x ≡ number_of f b.cond → new ≡ items ++ x ∷ []
-    → new ++ numbers_of f (conditions_of f (line f.blocks b.parent)) ≡ items ++ numbers_of f (conditions_of f (line f.blocks (suc k)))
-chain_more f k items new x b goes is at pushed =
-    let rest : Block → List ℕ = λ b. numbers_of f (conditions_of f (line f.blocks b.parent)) in
-    (λ p. pushed p ++ rest b) ∙ append_assoc items (x ∷ []) (rest b)
-    ∙ ap (λ l. items ++ l) ((λ p. at p ∷ rest b) ∙ (λ p. number_of f (is p).cond ∷ rest (is p)) ∙ sym (ap (λ l. numbers_of f (conditions_of f l)) goes))
 
 -- of the fields that the server sets
 written_more : (f : Program) (w : FieldValue) (rest : List FieldValue) → is_named f w.value ≡ true → Each (λ (w : FieldValue). is_named f w.value ≡ true) rest → (b : Bool)
@@ -55,13 +39,6 @@ pub kept_numbers : (f : Program) (split : List Part) (layout : List Crossing) �
 kept_numbers f split layout is =
     let more = map (λ (w : FieldValue). w.value) (server_fields f split) in
     ap (λ l. l ++ numbers_of f more) (ap (map (λ (c : Crossing). c.number)) is ∙ crossing_numbers f (down_values f split)) ∙ sym (map-append (number_of f) (down_values f split) more)
-
--- and of what an instruction reads
-pub read_numbers : (f : Program) (i : ℕ) (one : Step) → one ≡ step_at f i
-    → numbers_of f (operands one.work) ++ numbers_of f (cond (is_write one.work) (conditions_of f (line f.blocks one.block)) []) ≡ numbers_of f (values_read f i)
-read_numbers f i one is =
-    (λ p. numbers_of f (operands (is p).work) ++ numbers_of f (cond (is_write (is p).work) (conditions_of f (line f.blocks (is p).block)) []))
-    ∙ sym (map-append (number_of f) (operands (step_at f i).work) (cond (is_write (step_at f i).work) (conditions_of f (line f.blocks (step_at f i).block)) []))
 
 -- each such number is one of a value
 pub numbers_within : (f : Program) (vs : List ValueId) → Each (λ (v : ValueId). is_named f v ≡ true) vs → All (λ (n : ℕ). n < length (values_of f)) (numbers_of f vs)

@@ -1,5 +1,5 @@
 -- One turn of the server more.
-use Rattle.std.proofs.Common.{◌≡◌, ◌+◌, ◌-◌, ◌≤◌, ◌<◌, ◌&&◌, ◌||◌, ℕ, zero, suc, Bool, true, false, cond, List, [], ◌∷◌, ◌++◌, length, slice_index, refl, sym, ap, subst, ◌∙◌, arith, add-one, ⊎_elim, length-append, Some, slice_get, IsTrue, if◌then◌else◌}
+use Rattle.std.proofs.Common.{◌≡◌, ◌+◌, ◌-◌, ◌≤◌, ◌<◌, ◌&&◌, ℕ, zero, suc, Bool, true, false, cond, List, [], ◌++◌, length, slice_index, refl, sym, ap, subst, ◌∙◌, arith, add-one, ⊎_elim, length-append, Some, slice_get, IsTrue, if◌then◌else◌}
 use Rattle.std.specs.List.{AllByRecursion as Each}
 use Rattle.std.proofs.lemmas.Bool.{lt-ltb}
 use Rattle.std.proofs.lemmas.List.{append-nil}
@@ -19,9 +19,9 @@ use Rattle.split_model.specs.Counts.{count_below}
 use Rattle.split_model.specs.Layouts.{number_of, values_below, values_of}
 use Rattle.split_model.specs.Passes.{served}
 use Rattle.transfer_header.specs.Registers.{content_of, HasRegister, Registers}
-use Rattle.transfer_header.specs.Steps.{all_written, is_among, reading_after, registers_after, AreKeptApart, AreSpansOf, Contents, IsDoneAlike, IsReady}
+use Rattle.transfer_header.specs.Steps.{all_written, is_among, reading_after, registers_after, AreKeptApart, IsDoneAlike, IsReady}
 use Rattle.writeback_table.specs.declared.command.Update.{Update}
-use Rattle.server_runtime.specs.Registers.{register_reads, with_row, HaveRegisters}
+use Rattle.server_runtime.specs.Registers.{register_reads, HaveRegisters}
 use Rattle.server_runtime.specs.Running.{contents_at, row_of, server_steps}
 use Rattle.server_runtime.specs.Serving.{followed_writes, is_followed, updates_of}
 use Rattle.server_runtime.specs.Spans.{is_taken, is_turn, numbers_of, server_spans, values_at, writes_at}

@@ -1,10 +1,10 @@
 -- The spans of a server's run are spans of what its steps write and read.
-use Rattle.std.proofs.Common.{◌≡◌, ◌+◌, ◌<◌, ◌≤◌, ◌==◌, ◌&&◌, ◌||◌, ℕ, zero, suc, Bool, true, false, cond, max, List, [], ◌∷◌, ◌++◌, map, length, get_or, nat_lt, slice_get, Some, IsTrue, refl, sym, ap, ◌∙◌, subst, arith, inl, inr, true≢false, not}
+use Rattle.std.proofs.Common.{◌≡◌, ◌+◌, ◌<◌, ◌≤◌, ◌==◌, ◌&&◌, ℕ, zero, suc, Bool, true, false, cond, List, [], ◌∷◌, ◌++◌, map, length, get_or, nat_lt, slice_get, Some, IsTrue, refl, sym, ap, ◌∙◌, arith, inl, inr, true≢false, not}
 use Rattle.std.specs.Prelude.{All, Contains, count_by}
 use Rattle.std.specs.List.{filter, AllByRecursion as Each}
-use Rattle.std.proofs.lemmas.Bool.{and_from, and_parts, cases_Bool, cases_eq, cases_lt, cond-true, cond-false, eq-eqb, eqb-true, le-ltb, lt-ltb, ltb-true, ne_eqb, or_cases, or_left, or_parts}
+use Rattle.std.proofs.lemmas.Bool.{and_parts, cases_Bool, cases_eq, cases_lt, cond-true, cond-false, eq-eqb, eqb-true, le-ltb, lt-ltb, ltb-true, ne_eqb, or_cases, or_parts}
 use Rattle.std.proofs.lemmas.List.{get_or_past, map-append}
-use Rattle.std.proofs.lemmas.List.Elements.{All-append, All-from_get_or, All-map, All-nil, All-weaker, All-filter, filter_passes, recursion_from_All}
+use Rattle.std.proofs.lemmas.List.Elements.{All-append, All-map, All-nil, All-weaker, filter_passes, recursion_from_All}
 use Rattle.std.proofs.lemmas.List.Folds.{list_any_at}
 use Rattle.std.proofs.lemmas.List.Sums.{sum_by-append, sum_by-cons}
 use Rattle.flat_ir.specs.declared.program.FieldValue.{FieldValue}
@@ -23,8 +23,8 @@ use Rattle.split_model.specs.Crossing.{crosses_down, crosses_up, is_server_write
 use Rattle.split_model.specs.Layouts.{down_values, first_results, number_of, up_values, values_below, values_of}
 use Rattle.split_model.specs.Passes.{server_fields}
 use Rattle.split_model.specs.Split.{is_carried, is_carried_up, is_served, is_server, part_at}
-use Rattle.transfer_header.specs.Steps.{is_among, AreSpansOf, Contents, IsNowhere, IsSpanOf, Steps}
-use Rattle.server_runtime.specs.Spans.{conditions_of, is_taken, last_below, last_read, numbers_of, reads_at, server_spans, span_from, spans_below, values_at, values_kept, values_read, writes_at}
+use Rattle.transfer_header.specs.Steps.{is_among, AreSpansOf, Contents, IsSpanOf, Steps}
+use Rattle.server_runtime.specs.Spans.{conditions_of, is_taken, last_below, numbers_of, reads_at, server_spans, span_from, spans_below, values_at, values_kept, values_read, writes_at}
 use Rattle.server_runtime.proofs.Numbers.{below_suc, is_named_by, named_parts}
 
 -- ## How often a number stands in a list

@@ -5,3 +5,4 @@ pub mod Running
 pub mod Serving
 pub mod Turns
 pub mod Views
+pub mod Noting

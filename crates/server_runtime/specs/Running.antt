@@ -1,5 +1,5 @@
 -- What a server's run computes, step by step.
-use Rattle.std.specs.Prelude.{◌≡◌, ℕ, zero, suc, ◌+◌, ◌-◌, List, length, slice_index, if◌then◌else◌}
+use Rattle.std.specs.Prelude.{ℕ, zero, suc, ◌-◌, List, length, slice_index, if◌then◌else◌}
 use Rattle.packet_fields.specs.declared.packet.Packet.{Packet}
 use Rattle.state_store.specs.Store.{Store}
 use Rattle.flat_ir.specs.Blocks.{is_live, Reading}

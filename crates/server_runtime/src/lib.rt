@@ -11,6 +11,8 @@ mod server;
 mod spans;
 mod turn;
 
-pub use laws::{a_served_packet_is_the_whole_run, what_the_switch_is_told_fits};
+pub use laws::{
+    a_served_packet_is_the_whole_run, a_server_run_goes_by_steps, what_the_switch_is_told_fits,
+};
 pub use served::{ServeError, Served};
 pub use server::Server;

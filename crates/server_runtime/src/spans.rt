@@ -1,26 +1,27 @@
 //! Registers for a server's run: as few as its values need at once.
-ghost use Rattle.std.specs.Prelude.{◌≡◌, ◌+◌, ◌<◌, ◌≤◌, ◌++◌, ◌^◌, [], ℕ, suc, length, map, max, slice_index};
+ghost use Rattle.std.specs.Prelude.{◌≡◌, ◌+◌, ◌<◌, ◌++◌, ◌^◌, ◌&&◌, Bool, ℕ, suc, length, map, max, slice_index, slice_set};
 ghost use Rattle.std.specs.Prelude.{All, IfOk, OnOk, IsTrue, if◌then◌else◌};
 ghost use Rattle.std.specs.List.{AllByRecursion as Each};
-ghost use Rattle.flat_ir.specs.Blocks.{line};
 ghost use Rattle.flat_ir.specs.Kinds.{is_write};
-ghost use Rattle.flat_ir.specs.Program.{is_named, operands, program_of, work_of};
+ghost use Rattle.flat_ir.specs.Program.{is_named, operands, program_of, step_at, work_of};
 ghost use Rattle.split_model.specs.Layouts.{values_of};
 ghost use Rattle.split_model.specs.Passes.{server_fields};
+ghost use Rattle.transfer_header.specs.BlockSteps.{greatest, step_if};
 ghost use Rattle.transfer_header.specs.Steps.{is_among};
 ghost use Rattle.server_runtime.specs.Plans.{IsPrepared};
 ghost use Rattle.server_runtime.specs.Registers.{AreServing};
-ghost use Rattle.server_runtime.specs.Spans.{conditions_of, last_read, numbers_of, reads_at};
-ghost use Rattle.server_runtime.specs.Spans.{server_spans, values_at, values_kept, values_read, writes_at};
+ghost use Rattle.server_runtime.specs.Noting.{is_condition_of, is_operand_at, is_written_at};
+ghost use Rattle.server_runtime.specs.Spans.{last_below, last_read, numbers_of, reads_at};
+ghost use Rattle.server_runtime.specs.Spans.{server_spans, values_at, values_kept, writes_at};
 
 use crate::laws::a_server_run_goes_by_steps;
 use crate::plan::SplitProgram;
 use crate::turn::is_mine;
-use flat_ir::{Instr, InstrKind, RegPlan, Span, Spans, ValueId, lines_of_blocks};
+use flat_ir::{Instr, InstrKind, RegPlan, Span, Spans, ValueId};
 use gal_io::NoMemory;
 use split_model::Layout;
 use std::alloc::Global;
-use transfer_header::{Regs, a_plan_keeps_apart, values_have_their_numbers};
+use transfer_header::{BlockSteps, Regs, a_plan_keeps_apart, values_have_their_numbers};
 
 // Puts the numbers of some values last.
 fn push_numbers(
@@ -35,24 +36,6 @@ fn push_numbers(
 {
     for value in values {
         numbers.push(whole.number_of(*value))?;
-    }
-    Ok(())
-}
-
-// Puts the numbers of the conditions of a block and of those above it last.
-fn push_conditions(whole: &SplitProgram, block: u32, numbers: &mut Vec<u32>) -> Result<(), NoMemory>
-    requires prepared { IsPrepared whole.now }
-    requires there { block ≤ length whole.now.flat.blocks }
-    ensures { let f = program_of whole.now.flat in
-        OnOk result (
-        numbers.new.items ≡ numbers.old.items ++ numbers_of f (conditions_of f (line f.blocks block))) }
-{
-    lines_of_blocks();
-    let mut number = block;
-    while number > 0 {
-        let at = whole.flat.blocks.as_slice()[number as usize - 1];
-        numbers.push(whole.number_of(at.cond))?;
-        number = at.parent;
     }
     Ok(())
 }
@@ -88,33 +71,16 @@ fn push_operands(
     }
 }
 
-// Puts the numbers of the conditions last that decide whether a write takes effect.
-fn push_guards(whole: &SplitProgram, instr: &Instr, numbers: &mut Vec<u32>) -> Result<(), NoMemory>
-    requires prepared { IsPrepared whole.now }
-    requires there { instr.now.block ≤ length whole.now.flat.blocks }
-    ensures { let f = program_of whole.now.flat in
-        OnOk result (numbers.new.items ≡ numbers.old.items
-        ++ numbers_of f (if is_write (work_of instr.now.kind) then conditions_of f (line f.blocks instr.now.block)
-        else [])) }
-{
-    if !instr.kind.is_write() {
-        return Ok(());
-    }
-    push_conditions(whole, instr.block, numbers)
-}
-
-// The numbers of the values that instruction `i` reads.
-#[tactic(auto, using(crate::proofs::Listed::read_numbers))]
-fn numbers_read(alloc: Global, whole: &SplitProgram, i: usize) -> Result<Vec<u32>, NoMemory>
+// The numbers of the operands of instruction `i`.
+fn operands_of(alloc: Global, whole: &SplitProgram, i: usize) -> Result<Vec<u32>, NoMemory>
     requires prepared { IsPrepared whole.now }
     requires within { i < length whole.now.flat.code }
     ensures { let f = program_of whole.now.flat in
-        IfOk result (λ numbers. numbers.items ≡ numbers_of f (values_read f i)) }
+        IfOk result (λ numbers. numbers.items ≡ numbers_of f (operands (step_at f i).work)) }
 {
     let instr = &whole.flat.code.as_slice()[i];
     let mut numbers = Vec::new(alloc);
     push_operands(whole, &instr.kind, &mut numbers)?;
-    push_guards(whole, instr, &mut numbers)?;
     Ok(numbers)
 }
 
@@ -166,28 +132,92 @@ fn note(numbers: &[u32], step: u32, last: &mut Vec<u32>)
     }
 }
 
-// Notes what instruction `i` reads, where the server evaluates it.
+// Notes that a step is a write in its block, where it is one.
+fn note_write(instr: &Instr, step: u32, blocks: &mut BlockSteps)
+    requires { instr.now.block < length blocks.old }
+    ensures count { length blocks.new ≡ length blocks.old }
+    ensures steps { (test : ℕ → Bool) → greatest test blocks.new
+        ≡ max (greatest test blocks.old) (step_if (is_write (work_of instr.now.kind) && test instr.now.block) step) }
+{
+    if instr.kind.is_write() {
+        blocks.note(instr.block, step);
+    }
+}
+
+// Notes the operands of instruction `i`, and its block where it is a write, if the server evaluates it.
 fn note_turn(
     alloc: Global,
     whole: &SplitProgram,
     i: usize,
+    blocks: &mut BlockSteps,
     last: &mut Vec<u32>,
 ) -> Result<(), NoMemory>
     requires prepared { IsPrepared whole.now }
     requires within { i < length whole.now.flat.code }
+    requires blocks { length blocks.old ≡ suc (length whole.now.flat.blocks) }
     requires count { length last.old.items ≡ length (values_of (program_of whole.now.flat)) }
-    ensures last { OnOk result ((n : ℕ) → n < length last.old.items → slice_index last.new.items n
-        ≡ (if reads_at (program_of whole.now.flat) whole.now.split (suc i) n then suc i
-        else slice_index last.old.items n)) }
+    ensures blocks { length blocks.new ≡ length blocks.old }
     ensures count { length last.new.items ≡ length last.old.items }
+    ensures writes { let f = program_of whole.now.flat in
+        OnOk result ((test : ℕ → Bool) → greatest test blocks.new
+        ≡ max (greatest test blocks.old) (step_if (is_written_at f whole.now.split test (suc i)) (suc i))) }
+    ensures last { let f = program_of whole.now.flat in
+        OnOk result ((n : ℕ) → n < length last.old.items → slice_index last.new.items n
+        ≡ (if is_operand_at f whole.now.split n (suc i) then suc i else slice_index last.old.items n)) }
 {
-    if !is_mine(whole, i, &whole.flat.code.as_slice()[i].kind) {
+    let instr = &whole.flat.code.as_slice()[i];
+    if !is_mine(whole, i, &instr.kind) {
         return Ok(());
     }
-    values_have_their_numbers();
-    let numbers = numbers_read(alloc, whole, i)?;
-    note(&numbers, i as u32 + 1, last);
+    let step = i as u32 + 1;
+    note_write(instr, step, blocks);
+    let numbers = operands_of(alloc, whole, i)?;
+    note(&numbers, step, last);
     Ok(())
+}
+
+// Notes that a step reads a value.
+fn note_one(number: u32, step: u32, last: &mut Vec<u32>)
+    requires { number < length last.old.items }
+    ensures { last.new.items ≡ slice_set last.old.items number (max (slice_index last.old.items number) step) }
+{
+    let place = number as usize;
+    last[place] = last[place].max(step);
+}
+
+// Notes that the condition of each block is read at the block's step.
+fn note_conditions(whole: &SplitProgram, blocks: &BlockSteps, last: &mut Vec<u32>)
+    requires prepared { IsPrepared whole.now }
+    requires blocks { length blocks.now ≡ suc (length whole.now.flat.blocks) }
+    requires count { length last.old.items ≡ length (values_of (program_of whole.now.flat)) }
+    ensures count { length last.new.items ≡ length last.old.items }
+    ensures last { let f = program_of whole.now.flat in
+        (n : ℕ) → n < length last.old.items → slice_index last.new.items n
+        ≡ max (slice_index last.old.items n) (greatest (is_condition_of f n) blocks.now) }
+{
+    for (place, block) in whole.flat.blocks.as_slice().iter().enumerate() {
+        let number = whole.number_of(block.cond);
+        note_one(number, blocks.at(place + 1), last);
+    }
+}
+
+// The last instruction's step that reads each value, 0 where none does.
+fn turn_reads(alloc: Global, whole: &SplitProgram) -> Result<Vec<u32>, NoMemory>
+    requires { IsPrepared whole.now }
+    ensures last { let f = program_of whole.now.flat in
+        IfOk result (λ last. (n : ℕ) → n < length (values_of f) → slice_index last.items n
+        ≡ last_below (length f.code + 1) (λ step. reads_at f whole.now.split step n)) }
+    ensures count { IfOk result (λ last. length last.items ≡ length (values_of (program_of whole.now.flat))) }
+{
+    let count = whole.flat.code.len();
+    let mut blocks = BlockSteps::new(alloc, &whole.flat.blocks)?;
+    let mut last = vec![in alloc; 0u32; whole.first(count) as usize]?;
+    for i in 0..count {
+        note_turn(alloc, whole, i, &mut blocks, &mut last)?;
+    }
+    blocks.hand_up(&whole.flat.blocks);
+    note_conditions(whole, &blocks, &mut last);
+    Ok(last)
 }
 
 // The step that reads each value last, 0 where none does.
@@ -199,13 +229,9 @@ fn last_reads(alloc: Global, whole: &SplitProgram) -> Result<Vec<u32>, NoMemory>
     ensures count { IfOk result (λ last. length last.items ≡ length (values_of (program_of whole.now.flat))) }
 {
     values_have_their_numbers();
-    let count = whole.flat.code.len();
-    let mut last = vec![in alloc; 0u32; whole.first(count) as usize]?;
-    for i in 0..count {
-        note_turn(alloc, whole, i, &mut last)?;
-    }
+    let mut last = turn_reads(alloc, whole)?;
     let numbers = numbers_kept(alloc, whole)?;
-    note(&numbers, count as u32 + 1, &mut last);
+    note(&numbers, whole.flat.code.len() as u32 + 1, &mut last);
     Ok(last)
 }
 

@@ -9,7 +9,7 @@ mod Places
 mod Marks
 mod Codes
 mod Noting
-mod Lines
+mod Tested
 mod Spanned
 mod Staging
 mod Going

@@ -10,7 +10,7 @@ use Rattle.split_model.specs.Crossing.{is_among}
 use Rattle.split_model.specs.declared.layout.Crossing.{Crossing}
 use Rattle.switch_ir.specs.declared.code.PassStep.{PassStep}
 use Rattle.switch_ir.specs.declared.code.Table.{Table}
-use Rattle.switch_ir.specs.LastReads.{step_if}
+use Rattle.transfer_header.specs.BlockSteps.{step_if}
 use Rattle.switch_ir.specs.Passes.{Step, pass_step_of}
 use Rattle.switch_ir.specs.Spans.{Written, last_stage, results_in, results_of, written_by, handed_in, span_of}
 use Rattle.switch_ir.proofs.Staging.{written_append}

@@ -5,7 +5,8 @@ use Rattle.std.proofs.lemmas.List.{take_all}
 use Rattle.std.proofs.lemmas.List.Folds.{list_any-append, list_any_more}
 use Rattle.flat_ir.specs.declared.program.ValueId.{ValueId}
 use Rattle.split_model.specs.Crossing.{is_value, is_among}
-use Rattle.switch_ir.specs.LastReads.{step_if, AreNoted}
+use Rattle.transfer_header.specs.BlockSteps.{step_if}
+use Rattle.switch_ir.specs.LastReads.{AreNoted}
 
 -- ---- numbers that say the same
 pub same_last : (n : ℕ) (p q : ValueId → ℕ) (steps : List ℕ) → ((v : ValueId) → p v ≡ q v) → AreNoted n p steps → AreNoted n q steps

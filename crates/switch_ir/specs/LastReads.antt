@@ -1,11 +1,12 @@
 -- When values are read last, as a number for each of the first 9 results of each instruction.
-use Rattle.std.specs.Prelude.{◌≡◌, ◌≤◌, ◌<◌, ℕ, ◌+◌, ◌*◌, ◌^◌, Bool, List, length, max, if◌then◌else◌}
+use Rattle.std.specs.Prelude.{◌≡◌, ◌≤◌, ◌<◌, ℕ, ◌+◌, ◌*◌, ◌^◌, Bool, List, length, max}
 use Rattle.std.specs.Prelude.{slice_index}
 use Rattle.std.specs.List.{AllByRecursion as Each, All}
 use Rattle.state_store.specs.declared.object.ObjectDecl.{ObjectDecl}
 use Rattle.flat_ir.specs.declared.program.ValueId.{ValueId}
 use Rattle.flat_ir.specs.Blocks.{HasLowParents}
 use Rattle.split_model.specs.declared.layout.Crossing.{Crossing}
+use Rattle.transfer_header.specs.BlockSteps.{step_if}
 use Rattle.switch_ir.specs.declared.code.Table.{Table}
 use Rattle.switch_ir.specs.Passes.{PassCode}
 use Rattle.switch_ir.specs.Spans.{written_in, AreNumbered, GoesByStages, Written}
@@ -17,10 +18,6 @@ noted steps v = slice_index steps (9 * v.instruction + v.result)
 pub record AreNoted (n : ℕ) (last : ValueId → ℕ) (steps : List ℕ) : Type 0 where
   pub count : length steps ≡ 9 * n
   pub exact : (v : ValueId) → v.instruction < n → v.result < 9 → noted steps v ≡ last v
-
--- the step, where the test passes
-abbrev pub step_if : Bool → ℕ → ℕ
-step_if b step = if b then step else 0
 
 -- the numbers after are those before, but that values of this test are read at this step besides
 abbrev pub Raises : (ValueId → Bool) → ℕ → List ℕ → List ℕ → Type 0

@@ -1,5 +1,5 @@
 //! From a split program to the code of a switch.
-ghost use Rattle.std.specs.Prelude.{◌≡◌, ◌≤◌, IfOk};
+ghost use Rattle.std.specs.Prelude.{◌≡◌, ◌≤◌, ℕ, IfOk};
 ghost use Rattle.state_store.specs.Kept.{IsKept};
 ghost use Rattle.state_store.specs.Store.{start_store};
 ghost use Rattle.flat_ir.specs.Program.{program_of};
@@ -9,14 +9,15 @@ ghost use Rattle.split_model.specs.Legal.{IsLegal};
 ghost use Rattle.split_model.specs.Passes.{post_fields};
 ghost use Rattle.switch_ir.specs.Code.{code_of, pass_of};
 ghost use Rattle.switch_ir.specs.Emitted.{emitted, pre_code, post_code, AllRun, Computes, IsEmitted};
+ghost use Rattle.switch_ir.specs.Spans.{pre_spans, post_spans};
 
 use crate::code::{Pass, Steps, SwitchCode};
 use crate::laws::{what_is_emitted_computes_the_split, what_is_emitted_goes_by_stages};
 use crate::looked_up::looked_up;
 use crate::rest::rest;
-use crate::spans::{no_plan, plan_of, values_are_few};
+use crate::spans::{no_plan, plan_of, spans_of, values_are_few};
 use crate::steps::{Role, given_steps, highest, steps, values};
-use flat_ir::{FieldValue, Flat, Out, what_fits_can_run};
+use flat_ir::{FieldValue, Flat, Out, Spans, what_fits_can_run};
 use gal_io::NoMemory;
 use split_model::{Layout, Split, down_layout, up_layout};
 use std::alloc::Global;
@@ -55,6 +56,42 @@ pub fn emit(alloc: Global, f: &Flat, s: &Split, writeback: u32) -> Result<Switch
         tables,
         writeback,
         values: count,
+    })
+}
+
+/// For how long the values of the two passes of a switch are needed.
+#[derive(Debug, Drop)]
+pub struct PassSpans {
+    /// Those of the pass over a packet that arrives.
+    pub pre: Spans,
+    /// Those of the pass over a packet that comes down.
+    pub post: Spans,
+}
+
+/// For how long the values of the passes of a split program are needed. `emit` plans their registers by these spans.
+pub fn spans_of_passes(alloc: Global, f: &Flat, s: &Split) -> Result<PassSpans, NoMemory>
+    requires bounded { IsBounded (program_of f.now) }
+    requires legal { IsLegal (program_of f.now) s.now }
+    requires stages { HasFewStages s.now }
+    ensures pre { (writeback : ℕ) → IfOk result (λ spans.
+        spans.pre ≡ pre_spans (emitted (program_of f.now) s.now writeback)) }
+    ensures post { (writeback : ℕ) → IfOk result (λ spans.
+        spans.post ≡ post_spans (emitted (program_of f.now) s.now writeback)) }
+{
+    what_is_emitted_goes_by_stages();
+    values_are_few(f);
+    values_have_their_numbers();
+    // There are fewer values than 2^32.
+    let _count = values(f);
+    let pre = pre_pass(alloc, f, s)?;
+    let post = post_pass(alloc, f, s)?;
+    let carried = up_layout(alloc, f, s)?;
+    let down = down_layout(alloc, f, s)?;
+    let tables = looked_up(alloc, f, s)?;
+    let none = Layout::new(alloc);
+    Ok(PassSpans {
+        pre: spans_of(alloc, &pre, &none, &carried, &tables, f.code.len())?,
+        post: spans_of(alloc, &post, &down, &none, &tables, f.code.len())?,
     })
 }
 

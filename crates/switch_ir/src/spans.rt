@@ -1,5 +1,5 @@
 //! For how long the values of a pass are needed, and the registers that they are in.
-ghost use Rattle.std.specs.Prelude.{◌≡◌, ◌≤◌, ◌<◌, ◌+◌, ◌^◌, ◌++◌, ◌||◌, ◌∷◌, [], ℕ, length, map, max};
+ghost use Rattle.std.specs.Prelude.{◌≡◌, ◌≤◌, ◌<◌, ◌+◌, ◌^◌, ◌++◌, ◌||◌, ◌∷◌, [], Bool, ℕ, suc, length, map, max};
 ghost use Rattle.std.specs.Prelude.{unwrap_or, IfOk, OnOk};
 ghost use Rattle.std.specs.List.{list_any, AllByRecursion as Each};
 ghost use Rattle.std.specs.Option.{option_map};
@@ -8,6 +8,7 @@ ghost use Rattle.flat_ir.specs.declared.program.ValueId.{ValueId};
 ghost use Rattle.flat_ir.specs.Blocks.{line, HasLowParents};
 ghost use Rattle.flat_ir.specs.Program.{work_of};
 ghost use Rattle.split_model.specs.Crossing.{is_value, is_among};
+ghost use Rattle.transfer_header.specs.BlockSteps.{greatest, step_if};
 ghost use Rattle.transfer_header.specs.Plans.{IsPlanOf};
 ghost use Rattle.switch_ir.specs.LastReads.{AreNoted, AreInside, Raises, CanBePlanned, HaveFewValues};
 ghost use Rattle.switch_ir.specs.Passes.{pass_of, pass_step_of};
@@ -21,7 +22,7 @@ use flat_ir::{Blocks, Flat, InstrKind, Out, RegPlan, Span, Spans, ValueId};
 use gal_io::NoMemory;
 use split_model::Layout;
 use std::alloc::Global;
-use transfer_header::plans_of_spans;
+use transfer_header::{BlockSteps, plans_of_spans};
 
 // Notes what the instructions of a pass read.
 fn note_steps(pass: &Pass, last: &mut LastReads)
@@ -42,29 +43,42 @@ fn note_layout(layout: &Layout, step: u32, last: &mut LastReads)
     }
 }
 
-// Notes that the conditions of a block and of those above it are read.
-fn note_line(blocks: &Blocks, block: u32, step: u32, last: &mut LastReads)
-    requires low { HasLowParents blocks.now }
-    requires there { block ≤ length blocks.now }
-    ensures { Raises (λ v. list_any (is_condition blocks.now v) (line blocks.now block)) step last.old last.new }
+// The blocks in which a pass leaves work, and those above them, with a step.
+fn tested_blocks(alloc: Global, pass: &Pass, step: u32) -> Result<BlockSteps, NoMemory>
+    requires low { HasLowParents (pass_of pass.now).blocks }
+    requires there { Each (λ b. b ≤ length (pass_of pass.now).blocks) (pass_of pass.now).rest }
+    ensures count { IfOk result (λ steps. length steps ≡ suc (length (pass_of pass.now).blocks)) }
+    ensures steps { IfOk result (λ steps. (test : ℕ → Bool) → greatest test steps
+        ≡ step_if (list_any (λ b. list_any test (line (pass_of pass.now).blocks b)) (pass_of pass.now).rest) step) }
 {
-    let mut above = block;
-    while above > 0 {
-        let one = blocks.as_slice()[above as usize - 1];
-        last.note(one.cond, step);
-        above = one.parent;
+    let mut steps = BlockSteps::new(alloc, &pass.blocks)?;
+    for block in &pass.rest {
+        steps.note(*block, step);
+    }
+    steps.hand_up(&pass.blocks);
+    Ok(steps)
+}
+
+// Notes that the condition of each block is read at the block's step.
+fn note_conditions(blocks: &Blocks, steps: &BlockSteps, last: &mut LastReads)
+    requires count { length steps.now ≡ suc (length blocks.now) }
+    ensures { (n : ℕ) (reads : ValueId → ℕ) → AreNoted n reads last.old
+        → AreNoted n (λ v. max (reads v) (greatest (is_condition blocks.now v) steps.now)) last.new }
+{
+    for (place, block) in blocks.as_slice().iter().enumerate() {
+        last.note(block.cond, steps.at(place + 1));
     }
 }
 
 // Notes what decides whether a packet goes up.
-fn note_tested(pass: &Pass, step: u32, last: &mut LastReads)
+fn note_tested(alloc: Global, pass: &Pass, step: u32, last: &mut LastReads) -> Result<(), NoMemory>
     requires low { HasLowParents (pass_of pass.now).blocks }
     requires there { Each (λ b. b ≤ length (pass_of pass.now).blocks) (pass_of pass.now).rest }
-    ensures { Raises (is_tested (pass_of pass.now)) step last.old last.new }
+    ensures { OnOk result (Raises (is_tested (pass_of pass.now)) step last.old last.new) }
 {
-    for block in &pass.rest {
-        note_line(&pass.blocks, *block, step, last);
-    }
+    let steps = tested_blocks(alloc, pass, step)?;
+    note_conditions(&pass.blocks, &steps, last);
+    Ok(())
 }
 
 // Notes what becomes of the packet.
@@ -94,7 +108,7 @@ fn last_reads(
     let end = pass.highest + 1;
     note_steps(pass, &mut last);
     note_layout(up, end, &mut last);
-    note_tested(pass, end, &mut last);
+    note_tested(alloc, pass, end, &mut last)?;
     note_out(&pass.out, end, &mut last);
     Ok(last)
 }
@@ -188,9 +202,9 @@ fn push_handed(spans: &mut Spans, layout: &Layout, last: &LastReads) -> Result<(
     Ok(())
 }
 
-// The spans of a pass of so many instructions, to which the values of a layout are handed, and which hands up those of
-// another.
-fn spans_of(
+/// The spans of a pass of so many instructions, to which the values of a layout are handed, and which hands up those of
+/// another.
+pub(crate) fn spans_of(
     alloc: Global,
     pass: &Pass,
     handed: &Layout,

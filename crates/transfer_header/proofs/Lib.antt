@@ -1,4 +1,5 @@
 pub mod BitLists
+pub mod Sweeping
 pub mod ByPlace
 mod Examples
 pub mod Elements

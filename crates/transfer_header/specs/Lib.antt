@@ -5,3 +5,4 @@ pub mod Steps
 pub mod Plans
 pub mod Frames
 pub mod Told
+pub mod BlockSteps

@@ -1,5 +1,5 @@
 -- The values of a layout, and their bits.
-use Rattle.std.specs.Prelude.{◌≡◌, ℕ, ◌+◌, ◌%◌, ◌^◌, ◌<◌, List, [], ◌∷◌, ◌++◌}
+use Rattle.std.specs.Prelude.{◌≡◌, ℕ, ◌%◌, ◌^◌, ◌<◌, List, [], ◌∷◌, ◌++◌}
 use Rattle.std.specs.List.{All}
 use Rattle.flat_ir.specs.Blocks.{Reading}
 use Rattle.split_model.specs.declared.layout.Crossing.{Crossing}

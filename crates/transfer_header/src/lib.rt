@@ -3,11 +3,13 @@
 #![tactic(auto)]
 
 mod bits;
+mod block_steps;
 mod frame;
 mod laws;
 mod registers;
 mod room;
 
+pub use block_steps::BlockSteps;
 pub use frame::{Head, Malformed, pack_down, pack_down_in, pack_up, unpack_down, unpack_up};
 pub use laws::{
     a_list_is_written, a_pass_in_registers, a_plan_keeps_apart, a_step_in_registers,

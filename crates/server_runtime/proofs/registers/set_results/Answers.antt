@@ -1,9 +1,9 @@
-use Rattle.std.proofs.Common.{◌≡◌, ◌+◌, ℕ, suc, length, slice_index, sym, ap, ◌∙◌, subst, arith, IsSome, Option, add-one}
+use Rattle.std.proofs.Common.{◌≡◌, ◌+◌, ℕ, length, sym, ap, ◌∙◌, subst, arith, IsSome, Option, add-one}
 use Rattle.flat_ir.specs.Program.{program_of}
 use Rattle.flat_ir.specs.Registers.{results_of}
 use Rattle.split_model.specs.Layouts.{values_below}
-use Rattle.transfer_header.specs.Registers.{place_of, written, HasRegister, Registers}
-use Rattle.server_runtime.proofs.Numbers.{below_more, below_suc}
+use Rattle.transfer_header.specs.Registers.{written, HasRegister}
+use Rattle.server_runtime.proofs.Numbers.{below_suc}
 use Rattle.server_runtime.proofs.Rows.{row_more, row_part}
 use Rattle.server_runtime.proofs.registers.set_results.Goals as goal
 

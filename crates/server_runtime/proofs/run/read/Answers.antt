@@ -1,10 +1,10 @@
-use Rattle.std.proofs.Common.{◌≡◌, ℕ, [], length, replicate, drop, ap, ◌∙◌, subst, sym, arith}
+use Rattle.std.proofs.Common.{◌≡◌, length, drop, ap, ◌∙◌, subst, sym, arith}
 use Rattle.std.proofs.lemmas.List.{length-replicate}
 use Rattle.flat_ir.specs.Program.{program_of}
 use Rattle.split_model.specs.Layouts.{up_layout}
 use Rattle.transfer_header.specs.declared.frame.Head.{Head}
 use Rattle.transfer_header.specs.Frames.{IsUnpacked}
-use Rattle.transfer_header.specs.Registers.{value_in, FitsLayout, Registers}
+use Rattle.transfer_header.specs.Registers.{value_in, FitsLayout}
 use Rattle.server_runtime.specs.Registers.{AreServing}
 use Rattle.server_runtime.specs.Spans.{server_spans}
 use Rattle.server_runtime.specs.Turns.{IsRead}

@@ -1,4 +1,4 @@
-use Rattle.std.proofs.Common.{◌≡◌, ◌+◌, ◌<◌, ℕ, suc, Bool, true, cond, List, length, get_or, sym, ap, ◌∙◌, subst, arith, add-one}
+use Rattle.std.proofs.Common.{◌≡◌, ◌+◌, ◌<◌, ℕ, suc, Bool, true, cond, List, length, get_or, sym, ap, ◌∙◌, subst, arith}
 use Rattle.std.specs.List.{All}
 use Rattle.flat_ir.specs.declared.program.ValueId.{ValueId}
 use Rattle.flat_ir.specs.Program.{is_named, program_of}
@@ -9,22 +9,6 @@ use Rattle.server_runtime.proofs.Spanned.{each_more, kept_earlier}
 use Rattle.server_runtime.proofs.Steps.{code_length}
 use Rattle.server_runtime.proofs.spans.last_reads.Goals as goal
 
-pub loop-i-preserved : goal.loop-i-preserved
-loop-i-preserved c =
-    let f = program_of c.args.whole.now.flat in
-    let split = c.args.whole.now.split in
-    let i = c.loop-i.i in
-    let now = c.loop-i.invariant in
-    let e : suc (suc i) ≡ i + 1 + 1 = omega arith in
-    record {
-      count = c.note_turn.ensures.count ∙ now.count;
-      last = λ n lt.
-          let test = λ (step : ℕ). reads_at f split step n in
-          c.in_ok-note_turn.ensures.last n (omega (arith, lt, now.count))
-          ∙ ap (λ (k : ℕ). cond (test (suc i)) (suc i) k) (now.last n lt ∙ ap (λ (k : ℕ). last_below k test) (add-one i))
-          ∙ ap (λ (k : ℕ). last_below k test) e;
-    }
-
 pub note-requires : goal.note-requires
 note-requires c =
     let f = program_of c.args.whole.now.flat in
@@ -33,8 +17,8 @@ note-requires c =
     (kept_earlier f split c.requires.bounded.formed (c.values_have_their_numbers.ensures f))
     in
     record {
-      within = subst (λ (ns : List ℕ). All (λ (n : ℕ). n < length c.loop-i.last.items) ns) (sym (c.deref.ensures.value ∙ c.in_ok-numbers.ensures))
-          (subst (λ (k : ℕ). All (λ (n : ℕ). n < k) (numbers_of f (values_kept f split))) (sym c.loop-i.invariant.count) (numbers_within f (values_kept f split) named));
+      within = subst (λ (ns : List ℕ). All (λ (n : ℕ). n < length c.in_ok-last.last.items) ns) (sym (c.deref.ensures.value ∙ c.in_ok-numbers.ensures))
+          (subst (λ (k : ℕ). All (λ (n : ℕ). n < k) (numbers_of f (values_kept f split))) (sym c.in_ok-last.ensures.count) (numbers_within f (values_kept f split) named));
     }
 
 pub returns-clause-last : goal.returns-clause-last
@@ -42,17 +26,16 @@ returns-clause-last c n lt =
     let flat = c.args.whole.now.flat in
     let f = program_of flat in
     let split = c.args.whole.now.split in
-    let now = c.loop-i.invariant in
     let test = λ (step : ℕ). reads_at f split step n in
-    let old = get_or c.loop-i.last.items n 0 in
+    let old = get_or c.in_ok-last.last.items n 0 in
     let top = length f.code in
-    let count = c.len-count.result in
-    let at : count + 1 ≡ suc top = omega (arith, c.len-count.ensures, code_length flat) in
-    let end : c.loop-i.i + 1 ≡ suc top = omega (arith, c.loop-i.auto.i-end, c.loop-i-test.false, c.len-count.ensures, code_length flat) in
+    let step = c.len.result + 1 in
+    let at : step ≡ suc top = omega (arith, c.len.ensures, code_length flat) in
+    let end : top + 1 ≡ suc top = omega arith in
     let two : suc (suc top) ≡ top + 2 = omega arith in
-    c.note.ensures.last n (omega (arith, lt, now.count))
-    ∙ ap (λ (ns : List ℕ). cond (is_among n ns) (count + 1) old) (c.deref.ensures.value ∙ c.in_ok-numbers.ensures)
-    ∙ ap (λ (b : Bool). cond b (count + 1) old) (sym (end_reads f split n))
+    c.note.ensures.last n (omega (arith, lt, c.in_ok-last.ensures.count))
+    ∙ ap (λ (ns : List ℕ). cond (is_among n ns) step old) (c.deref.ensures.value ∙ c.in_ok-numbers.ensures)
+    ∙ ap (λ (b : Bool). cond b step old) (sym (end_reads f split n))
     ∙ ap (λ (k : ℕ). cond (test (suc top)) k old) at
-    ∙ ap (λ (k : ℕ). cond (test (suc top)) (suc top) k) (now.last n lt ∙ ap (λ (k : ℕ). last_below k test) end)
+    ∙ ap (λ (k : ℕ). cond (test (suc top)) (suc top) k) (c.in_ok-last.ensures.last n lt ∙ ap (λ (k : ℕ). last_below k test) end)
     ∙ ap (λ (k : ℕ). last_below k test) two

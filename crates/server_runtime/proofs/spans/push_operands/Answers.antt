@@ -1,4 +1,4 @@
-use Rattle.std.proofs.Common.{sym, subst, List, IsTrue}
+use Rattle.std.proofs.Common.{sym, subst, IsTrue}
 use Rattle.std.specs.List.{AllByRecursion as Each}
 use Rattle.flat_ir.specs.declared.program.InstrKind.{InstrKind}
 use Rattle.flat_ir.specs.declared.program.ValueId.{ValueId}

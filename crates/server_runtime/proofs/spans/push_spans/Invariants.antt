@@ -1,5 +1,4 @@
 use Rattle.std.proofs.Common.{◌≡◌, ◌++◌, ℕ, map, max, take, get_or}
-use Rattle.flat_ir.specs.declared.spans.Span.{Span}
 use Rattle.server_runtime.proofs.spans.push_spans.Given as goal
 
 abbrev pub invariant-loop-number : goal.invariant-loop-number

@@ -1,4 +1,4 @@
-use Rattle.std.proofs.Common.{◌≡◌, ◌+◌, ◌<◌, ◌^◌, ◌↔◌, ℕ, suc, List, length, Some, None, sym, ap, ◌∙◌, subst, arith, add-one}
+use Rattle.std.proofs.Common.{◌≡◌, ◌↔◌, ℕ, List, length, Some, None, sym, ap, subst, arith, add-one}
 use Rattle.flat_ir.specs.declared.spans.Span.{Span}
 use Rattle.flat_ir.specs.Plan.{register_of, AreApart}
 use Rattle.flat_ir.specs.Program.{program_of}

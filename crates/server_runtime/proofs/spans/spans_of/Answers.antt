@@ -4,7 +4,7 @@ use Rattle.std.proofs.lemmas.List.Elements.{recursion_from_All}
 use Rattle.flat_ir.specs.declared.spans.Span.{Span}
 use Rattle.flat_ir.specs.Program.{program_of}
 use Rattle.split_model.specs.Layouts.{values_of}
-use Rattle.server_runtime.specs.Spans.{span_from, spans_below, writes_at}
+use Rattle.server_runtime.specs.Spans.{spans_below, writes_at}
 use Rattle.server_runtime.proofs.Needed.{spans_same, writes_low}
 use Rattle.server_runtime.proofs.Steps.{code_length}
 use Rattle.server_runtime.proofs.spans.spans_of.Goals as goal

@@ -1,4 +1,4 @@
-use Rattle.std.proofs.Common.{◌≡◌, ◌+◌, ◌<◌, ℕ, length, get_or}
+use Rattle.std.proofs.Common.{◌≡◌, ◌+◌}
 use Rattle.flat_ir.specs.Program.{program_of}
 use Rattle.server_runtime.specs.Spans.{spans_below}
 use Rattle.server_runtime.proofs.spans.spans_of.Given as goal

@@ -4,7 +4,7 @@ use Rattle.flat_ir.specs.declared.program.FieldValue.{FieldValue}
 use Rattle.flat_ir.specs.declared.program.ValueId.{ValueId}
 use Rattle.split_model.specs.declared.layout.Crossing.{Crossing}
 use Rattle.split_model.specs.Crossing.{is_value, is_among}
-use Rattle.switch_ir.specs.LastReads.{step_if}
+use Rattle.transfer_header.specs.BlockSteps.{step_if}
 use Rattle.switch_ir.specs.Passes.{pass_of}
 use Rattle.switch_ir.specs.Spans.{last_stage, is_tested, last_read}
 use Rattle.switch_ir.proofs.Noting.{same_last, all_noted}
@@ -23,4 +23,4 @@ returns c =
     let tests = λ (v : ValueId). max (ups v) (step_if (is_tested pass v) end) in
     same_last n (λ v. max (tests v) (step_if (out v) end)) (last_read c.args.up.now pass) c.note_out.new.last
     (λ v. all_noted (last_stage pass.steps v) end (suc pass.highest) (up v) (is_tested pass v) (out v) after)
-    (c.note_out.ensures n tests (c.note_tested.ensures n ups (c.note_layout.ensures n stages (c.note_steps.ensures n (λ v. 0) c.in_ok-last.ensures))))
+    (c.note_out.ensures n tests (c.in_ok-note_tested.ensures n ups (c.note_layout.ensures n stages (c.note_steps.ensures n (λ v. 0) c.in_ok-last.ensures))))

@@ -2,7 +2,8 @@ use Rattle.std.proofs.Common.{◌≤◌, List, arith, length, max, take, subst}
 use Rattle.std.specs.List.{list_any}
 use Rattle.split_model.specs.declared.layout.Crossing.{Crossing}
 use Rattle.split_model.specs.Crossing.{is_value}
-use Rattle.switch_ir.specs.LastReads.{step_if, AreNoted}
+use Rattle.transfer_header.specs.BlockSteps.{step_if}
+use Rattle.switch_ir.specs.LastReads.{AreNoted}
 use Rattle.switch_ir.proofs.Noting.{noted_none, noted_next, noted_all}
 use Rattle.switch_ir.proofs.spans.note_layout.Goals as goal
 

@@ -3,7 +3,8 @@ use Rattle.std.specs.List.{list_any}
 use Rattle.flat_ir.specs.declared.program.ValueId.{ValueId}
 use Rattle.split_model.specs.declared.layout.Crossing.{Crossing}
 use Rattle.split_model.specs.Crossing.{is_value}
-use Rattle.switch_ir.specs.LastReads.{step_if, AreNoted}
+use Rattle.transfer_header.specs.BlockSteps.{step_if}
+use Rattle.switch_ir.specs.LastReads.{AreNoted}
 use Rattle.switch_ir.proofs.spans.note_layout.Given as goal
 
 abbrev pub invariant-loop-crossing : goal.invariant-loop-crossing

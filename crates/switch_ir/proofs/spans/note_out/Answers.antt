@@ -3,7 +3,8 @@ use Rattle.std.specs.List.{list_any}
 use Rattle.flat_ir.specs.declared.program.FieldValue.{FieldValue}
 use Rattle.flat_ir.specs.declared.program.ValueId.{ValueId}
 use Rattle.split_model.specs.Crossing.{is_value, is_among}
-use Rattle.switch_ir.specs.LastReads.{step_if, AreNoted}
+use Rattle.transfer_header.specs.BlockSteps.{step_if}
+use Rattle.switch_ir.specs.LastReads.{AreNoted}
 use Rattle.switch_ir.proofs.Noting.{same_last, max_if, noted_none, noted_more, noted_all}
 use Rattle.switch_ir.proofs.spans.note_out.Goals as goal
 

@@ -1,7 +1,7 @@
 use Rattle.std.proofs.Common.{◌+◌, max, map, take, ap, arith}
 use Rattle.flat_ir.specs.Program.{work_of, operands}
 use Rattle.split_model.specs.Crossing.{is_among}
-use Rattle.switch_ir.specs.LastReads.{step_if}
+use Rattle.transfer_header.specs.BlockSteps.{step_if}
 use Rattle.switch_ir.specs.Passes.{pass_step_of}
 use Rattle.switch_ir.specs.Spans.{last_stage}
 use Rattle.switch_ir.proofs.Listing.{steps_more, last_more, steps_all}

@@ -1,6 +1,6 @@
 use Rattle.std.proofs.Common.{◌<◌, ◌≤◌, arith, length, max, take}
 use Rattle.split_model.specs.Crossing.{is_value, is_among}
-use Rattle.switch_ir.specs.LastReads.{step_if}
+use Rattle.transfer_header.specs.BlockSteps.{step_if}
 use Rattle.switch_ir.proofs.Noting.{noted_none, noted_more, noted_all}
 use Rattle.switch_ir.proofs.last_reads.LastReads.note_all.Goals as goal
 

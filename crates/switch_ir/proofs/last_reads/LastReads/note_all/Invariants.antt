@@ -1,7 +1,8 @@
 use Rattle.std.proofs.Common.{ℕ, max, take}
 use Rattle.flat_ir.specs.declared.program.ValueId.{ValueId}
 use Rattle.split_model.specs.Crossing.{is_among}
-use Rattle.switch_ir.specs.LastReads.{step_if, AreNoted}
+use Rattle.transfer_header.specs.BlockSteps.{step_if}
+use Rattle.switch_ir.specs.LastReads.{AreNoted}
 use Rattle.switch_ir.proofs.last_reads.LastReads.note_all.Given as goal
 
 abbrev pub invariant-loop-value : goal.invariant-loop-value

@@ -2,7 +2,7 @@ use Rattle.std.proofs.Common.{◌≡◌, ◌∙◌, ◌++◌, inl, inr, ap, sym,
 use Rattle.flat_ir.specs.declared.program.InstrKind.{InstrKind}
 use Rattle.flat_ir.specs.Program.{work_of, operands}
 use Rattle.split_model.specs.Crossing.{is_among}
-use Rattle.switch_ir.specs.LastReads.{step_if}
+use Rattle.transfer_header.specs.BlockSteps.{step_if}
 use Rattle.switch_ir.proofs.Noting.{noted_both, noted_same}
 use Rattle.switch_ir.proofs.last_reads.LastReads.note_operands.Goals as goal
 
