@@ -1,9 +1,9 @@
 -- Which values need registers at the same time.
-use Rattle.std.proofs.Common.{◌≡◌, ◌+◌, ◌-◌, ◌<◌, ◌≤◌, ◌==◌, ◌&&◌, ◌||◌, ℕ, suc, Bool, true, false, cond, max, List, [], ◌∷◌, ◌++◌, get_or, map, length, nat_lt, slice_get, Some, Option, IsTrue, IsSome, is_some, not, refl, sym, ap, ◌∙◌, subst, arith, inl, inr, true≢false}
+use Rattle.std.proofs.Common.{◌≡◌, ◌+◌, ◌-◌, ◌<◌, ◌≤◌, ◌==◌, ◌&&◌, ◌||◌, ℕ, suc, Bool, true, false, cond, max, List, [], ◌∷◌, ◌++◌, get_or, map, length, replicate, nat_lt, slice_get, Some, Option, IsTrue, IsSome, is_some, not, refl, sym, ap, ◌∙◌, subst, arith, inl, inr, true≢false}
 use Rattle.std.specs.Prelude.{nat_le, All, Contains}
 use Rattle.std.specs.List.{filter, AllByRecursion as Each}
 use Rattle.std.proofs.lemmas.Bool.{and_from, and_parts, cases_Bool, eq-eqb, false_from_ne_true, le-leb, lt-ltb, not_from_false, or_left, or_parts, or_right}
-use Rattle.std.proofs.lemmas.List.{map-append}
+use Rattle.std.proofs.lemmas.List.{length-replicate, map-append}
 use Rattle.std.proofs.lemmas.List.Elements.{All-contains, All-map, All-weaker, filter_passes}
 use Rattle.std.proofs.lemmas.List.Folds.{list_any-append, list_any_at}
 use Rattle.flat_ir.specs.declared.program.FieldValue.{FieldValue}
@@ -46,6 +46,12 @@ still_serving f split before after plan count serving =
       };
       placed = λ value place e. omega (arith, count, serving.placed value place (sym (same value) ∙ e));
     }
+
+-- registers in which each number is 0 again
+pub cleared_serving : (f : Program) (split : List Part) (before after : Registers) → after.plan ≡ before.plan
+    → after.numbers ≡ replicate (length before.numbers) 0 → AreServing f split before → AreServing f split after
+cleared_serving f split before after plan numbers serving =
+    still_serving f split before after plan (ap length numbers ∙ length-replicate (length before.numbers) 0) serving
 
 -- ## Values and steps
 
