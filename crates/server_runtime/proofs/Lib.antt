@@ -1,4 +1,5 @@
 pub mod Alike
+pub mod Begun
 pub mod Changes
 pub mod Contents
 pub mod Few

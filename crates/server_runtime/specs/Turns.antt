@@ -5,6 +5,7 @@ use Rattle.std.specs.List.{AllByRecursion as Each}
 use Rattle.packet_fields.specs.declared.packet.Packet.{Packet}
 use Rattle.packet_fields.specs.Shape.{shape_of}
 use Rattle.packet_fields.specs.Sizes.{largest_packet}
+use Rattle.state_store.specs.Kept.{IsKept}
 use Rattle.state_store.specs.Store.{Store}
 use Rattle.flat_ir.specs.declared.work.Arrival.{Arrival}
 use Rattle.flat_ir.specs.Arrivals.{IsArrival}
@@ -12,11 +13,13 @@ use Rattle.flat_ir.specs.Laws.{AllFit}
 use Rattle.flat_ir.specs.Program.{Program, Work}
 use Rattle.flat_ir.specs.Program.Work.{const, field, apply, shift, select, byte, look, put, del}
 use Rattle.flat_ir.specs.Blocks.{Reading}
-use Rattle.flat_ir.specs.Run.{made, Change, Machine}
+use Rattle.flat_ir.specs.Run.{made, with_writes, Change, Machine}
 use Rattle.flat_ir.specs.Turns.{turn}
+use Rattle.flat_ir.specs.WellFormed.{IsWellFormed}
 use Rattle.split_model.specs.declared.split.Part.{Part}
 use Rattle.split_model.specs.Layouts.{down_layout, up_layout}
-use Rattle.split_model.specs.Passes.{sent_down, served, server_run}
+use Rattle.split_model.specs.Legal.{IsLegal}
+use Rattle.split_model.specs.Passes.{sent_down, served, server_fields, server_run}
 use Rattle.split_model.specs.Shown.{is_replicated}
 use Rattle.transfer_header.specs.declared.frame.Head.{Head}
 use Rattle.transfer_header.specs.Frames.{down_frame, IsFrame}
@@ -114,3 +117,16 @@ pub record IsOutcome (f : Program) (split : List Part) (st : Store) (n : ℕ) (p
   pub fit : Each (IsUpdateIn f split) ran.updates
   pub few : length ran.updates ≤ followed_writes f split
   pub evaluated : ran.evaluated ≡ evaluated_steps f split
+
+-- A server's run begins: of a well-formed program that is split legally, over a store that keeps what was declared, with
+-- numbers that fit, at a packet that arrives.
+pub record IsBegun (f : Program) (split : List Part) (up : Reading) (st : Store) (packet : Packet) : Type 0 where
+  pub formed : IsWellFormed f
+  pub legal : IsLegal f split
+  pub kept : IsKept f.objects st
+  pub fit : AllFit f up
+  pub arrives : IsArrival packet
+
+-- a packet with the fields set that the server sets, by the numbers in registers
+abbrev pub sent_by : Program → List Part → Registers → List ℕ → List ℕ
+sent_by f split registers bytes = with_writes (server_fields f split) (register_reads f registers) bytes

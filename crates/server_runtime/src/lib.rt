@@ -6,6 +6,7 @@ mod plan;
 mod registers;
 mod room;
 mod run;
+mod run_laws;
 mod served;
 mod server;
 mod spans;

@@ -1,11 +1,11 @@
 //! A split program, and what the server works out of it beforehand.
-ghost use Rattle.std.specs.Prelude.{◌≡◌, ◌<◌, ◌≤◌, List, Some, None, length, IfOk, IsTrue, if◌then◌else◌};
+ghost use Rattle.std.specs.Prelude.{◌≡◌, ◌<◌, ◌≤◌, ◌^◌, List, Some, None, length, IfOk, IsTrue, if◌then◌else◌};
 ghost use Rattle.flat_ir.specs.Fits.{fits};
 ghost use Rattle.flat_ir.specs.Program.{is_named, program_of, work_of, Program};
 ghost use Rattle.flat_ir.specs.WellFormed.{IsWellFormed};
 ghost use Rattle.split_model.specs.declared.split.Part.{Part};
 ghost use Rattle.split_model.specs.Bounds.{IsBounded};
-ghost use Rattle.split_model.specs.Layouts.{number_of, values_below, values_of};
+ghost use Rattle.split_model.specs.Layouts.{down_layout, number_of, up_layout, values_below, values_of};
 ghost use Rattle.split_model.specs.Legal.{IsLegal};
 ghost use Rattle.split_model.specs.Passes.{server_fields};
 ghost use Rattle.split_model.specs.Shown.{is_replicated};
@@ -68,20 +68,57 @@ impl Plan {
         ensures program { IfOk result (λ plan. plan.program ≡ program_of f.now) }
         ensures split { IfOk result (λ plan. plan.split ≡ s.now) }
     {
-        let followed = followed_objects(alloc, f, s)?;
-        let writes = count_writes(f, &followed);
-        let whole = SplitProgram {
-            flat: f.copy(alloc)?,
-            split: s.copy(alloc)?,
-            up: up_layout(alloc, f, s)?,
-            down: down_layout(alloc, f, s)?,
-            firsts: firsts_of(alloc, f)?,
-            fields: server_fields(alloc, f, s)?,
-            followed,
-            writes,
-        };
+        let whole = SplitProgram::of(alloc, f, s)?;
         let values = registers_of(alloc, &whole)?;
         Ok(Plan { whole, values })
+    }
+}
+
+// The values that are handed up, and those that are handed down.
+#[derive(Drop)]
+struct Layouts {
+    up: Layout,
+    down: Layout,
+}
+
+impl Layouts {
+    // Those of a split program.
+    fn of(alloc: Global, f: &Flat, s: &Split) -> Result<Layouts, NoMemory>
+        requires { IsBounded (program_of f.now) }
+        ensures up { IfOk result (λ made. made.up ≡ up_layout (program_of f.now) s.now) }
+        ensures down { IfOk result (λ made. made.down ≡ down_layout (program_of f.now) s.now) }
+        ensures few { IfOk result (λ made. length made.down < 2 ^ 32) }
+    {
+        Ok(Layouts {
+            up: up_layout(alloc, f, s)?,
+            down: down_layout(alloc, f, s)?,
+        })
+    }
+}
+
+// What is looked up by the numbers of instructions and objects.
+#[derive(Drop)]
+struct Lists {
+    firsts: Vec<u32>,
+    fields: Vec<FieldValue>,
+    followed: Vec<bool>,
+}
+
+impl Lists {
+    // Those of a split program.
+    fn of(alloc: Global, f: &Flat, s: &Split) -> Result<Lists, NoMemory>
+        requires code { length f.now.code ≤ 4096 }
+        requires objects { length f.now.objects ≤ 64 }
+        ensures firsts { IfOk result (λ made. AreFirsts (program_of f.now) made.firsts.items) }
+        ensures few { IfOk result (λ made. length (values_of (program_of f.now)) ≤ 36864) }
+        ensures fields { IfOk result (λ made. made.fields.items ≡ server_fields (program_of f.now) s.now) }
+        ensures followed { IfOk result (λ made. AreReplicated (program_of f.now) s.now made.followed.items) }
+    {
+        Ok(Lists {
+            firsts: firsts_of(alloc, f)?,
+            fields: server_fields(alloc, f, s)?,
+            followed: followed_objects(alloc, f, s)?,
+        })
     }
 }
 
@@ -156,6 +193,31 @@ fn count_writes(f: &Flat, followed: &[bool]) -> usize
 }
 
 impl SplitProgram {
+    // The split program, with what is looked up in it.
+    fn of(alloc: Global, f: &Flat, s: &Split) -> Result<SplitProgram, NoMemory>
+        requires bounded { IsBounded (program_of f.now) }
+        requires legal { IsLegal (program_of f.now) s.now }
+        ensures prepared { IfOk result (λ whole. IsPrepared whole) }
+        ensures program { IfOk result (λ whole. program_of whole.flat ≡ program_of f.now) }
+        ensures split { IfOk result (λ whole. whole.split ≡ s.now) }
+    {
+        let lists = Lists::of(alloc, f, s)?;
+        let layouts = Layouts::of(alloc, f, s)?;
+        let split = s.copy(alloc)?;
+        let flat = f.copy(alloc)?;
+        let writes = count_writes(f, &lists.followed);
+        Ok(SplitProgram {
+            flat,
+            split,
+            up: layouts.up,
+            down: layouts.down,
+            firsts: lists.firsts,
+            fields: lists.fields,
+            followed: lists.followed,
+            writes,
+        })
+    }
+
     /// The number of an instruction's first value.
     pub(crate) fn first(&self, instruction: usize) -> u32
         requires prepared { IsPrepared self.now }

@@ -11,7 +11,7 @@ use flat_ir::{Numbers, Results, ValueId};
 use transfer_header::Regs;
 
 /// The numbers that a server has so far.
-#[derive(Clone, Copy, Debug)]
+#[derive(Clone, Copy)]
 pub(crate) struct Registers<'a> {
     pub whole: &'a SplitProgram,
     pub values: &'a Regs,

@@ -20,23 +20,18 @@ ghost use Rattle.server_runtime.specs.Serving.{evaluated_steps, followed_writes}
 ghost use Rattle.server_runtime.specs.Spans.{server_spans};
 ghost use Rattle.server_runtime.specs.Turns.{IsOutcome, IsRead, IsServing};
 
-use crate::laws::{a_server_run_goes_by_steps, what_the_switch_is_told_fits};
 use crate::plan::{Plan, SplitProgram};
 use crate::registers::Registers;
 use crate::room::Room;
+use crate::run_laws::{a_frame_is_read, a_server_run_has_an_outcome, a_server_takes_turns};
 use crate::served::ServeError;
 use crate::turn::take_turn;
-use flat_ir::{Arrival, readings_that_agree, write_fields};
+use flat_ir::{Arrival, write_fields};
 use gal_io::Bytes;
 use packet_fields::Shape;
-use split_model::a_server_keeps_widths;
 use state_store::Store;
 use std::alloc::Global;
-use transfer_header::{
-    Head, Malformed, Regs, a_step_in_registers, frames_are_told_by_place, frames_of_low_bits,
-    layouts_fit, needed_values_fit, pack_down_in, unpack_up, values_have_their_numbers,
-    what_crosses_is_held,
-};
+use transfer_header::{Head, Malformed, Regs, pack_down_in, unpack_up};
 use writeback_table::{Update, Updates};
 
 /// What came of a packet.
@@ -73,14 +68,10 @@ fn take_turns(
     ensures run { let f = program_of whole.now.flat in
         IsServing f whole.now.split (handed f whole.now.split values.old) store.old (packet_of arrival.now)
         (length f.code) values.new store.new updates.new.items }
+    ensures kept { IsKept whole.now.flat.objects store.new }
     ensures evaluated { result ≡ evaluated_steps (program_of whole.now.flat) whole.now.split }
 {
-    a_server_keeps_widths();
-    a_server_run_goes_by_steps();
-    a_step_in_registers();
-    readings_that_agree();
-    values_have_their_numbers();
-    what_the_switch_is_told_fits();
+    a_server_takes_turns();
     let mut evaluated = 0;
     for i in 0..whole.flat.code.len() {
         evaluated += take_turn(whole, arrival, i, values, store, updates);
@@ -142,15 +133,7 @@ fn run(
     ensures serving { AreServing (program_of whole.now.flat) whole.now.split values.new }
     ensures kept { IsKept whole.now.flat.objects store.new }
 {
-    a_server_keeps_widths();
-    a_server_run_goes_by_steps();
-    a_step_in_registers();
-    frames_of_low_bits();
-    layouts_fit();
-    needed_values_fit();
-    values_have_their_numbers();
-    what_crosses_is_held();
-    what_the_switch_is_told_fits();
+    a_server_run_has_an_outcome();
     let Room { frame, mut updates } = room;
     let evaluated = take_turns(whole, arrival, values, store, &mut updates);
     let frame = pack_down_in(
@@ -178,11 +161,7 @@ fn read(whole: &SplitProgram, frame: &[u8], values: &mut Regs) -> Result<Head, M
     ensures exact { (IsOk result) ↔ (IsFrame 1 (up_layout (program_of whole.now.flat) whole.now.split) frame.now) }
     ensures serving { AreServing (program_of whole.now.flat) whole.now.split values.new }
 {
-    a_server_run_goes_by_steps();
-    frames_are_told_by_place();
-    layouts_fit();
-    needed_values_fit();
-    values_have_their_numbers();
+    a_frame_is_read();
     values.clear();
     unpack_up(&whole.up, frame, values)
 }

@@ -1,25 +1,21 @@
-use Rattle.std.proofs.Common.{◌≡◌, length, drop, ap, ◌∙◌, subst, sym, arith}
-use Rattle.std.proofs.lemmas.List.{length-replicate}
+use Rattle.std.proofs.Common.{◌≡◌, subst, sym, arith}
 use Rattle.flat_ir.specs.Program.{program_of}
 use Rattle.split_model.specs.Layouts.{up_layout}
 use Rattle.transfer_header.specs.declared.frame.Head.{Head}
 use Rattle.transfer_header.specs.Frames.{IsUnpacked}
-use Rattle.transfer_header.specs.Registers.{value_in, FitsLayout}
+use Rattle.transfer_header.specs.Registers.{FitsLayout}
 use Rattle.server_runtime.specs.Registers.{AreServing}
-use Rattle.server_runtime.specs.Spans.{server_spans}
 use Rattle.server_runtime.specs.Turns.{IsRead}
-use Rattle.server_runtime.proofs.Handed.{by_result, is_read, ok_more}
-use Rattle.server_runtime.proofs.Needed.{still_serving, up_needed}
+use Rattle.server_runtime.proofs.Handed.{by_result, ok_more}
+use Rattle.server_runtime.proofs.Needed.{cleared_serving, still_serving}
 use Rattle.server_runtime.proofs.run.read.Goals as goal
 
 pub unpack_up-requires : goal.unpack_up-requires
 unpack_up-requires c =
     let f = program_of c.args.whole.now.flat in
-    let split = c.args.whole.now.split in
-    let cleared = still_serving f split c.args.values.now c.clear.new.self c.clear.ensures.plan (ap length c.clear.ensures.numbers ∙ length-replicate (length c.args.values.now.numbers) 0) c.requires.serving in
     subst (λ l. FitsLayout l c.clear.new.self) (sym c.requires.prepared.up)
-    (c.needed_values_fit.ensures (up_layout f split) (server_spans f split) c.clear.new.self 0 cleared.apart (c.layouts_fit.ensures.rising f split).0
-    (up_needed f split c.requires.prepared.bounded.formed (c.values_have_their_numbers.ensures f)))
+    (c.a_frame_is_read.ensures.fits f c.args.whole.now.split c.clear.new.self c.requires.prepared.bounded.formed
+    (cleared_serving f c.args.whole.now.split c.args.values.now c.clear.new.self c.clear.ensures.plan c.clear.ensures.numbers c.requires.serving))
 
 pub returns-clause-ok : goal.returns-clause-ok
 returns-clause-ok c =
@@ -28,15 +24,12 @@ returns-clause-ok c =
     let frame = c.args.frame.now in
     let before = c.clear.new.self in
     let after = c.unpack_up.new.into in
-    let cleared = still_serving f split c.args.values.now before c.clear.ensures.plan (ap length c.clear.ensures.numbers ∙ length-replicate (length c.args.values.now.numbers) 0) c.requires.serving in
+    let cleared = cleared_serving f split c.args.values.now before c.clear.ensures.plan c.clear.ensures.numbers c.requires.serving in
     ok_more (λ (head : Head). IsUnpacked 1 c.args.whole.now.up frame before after head) (IsRead f split frame after)
     (λ head h.
     let here : IsUnpacked 1 (up_layout f split) frame before after head = subst (λ l. IsUnpacked 1 l frame before after head) c.requires.prepared.up h in
-    is_read f split c.requires.prepared.bounded.formed (c.values_have_their_numbers.ensures f) frame after (still_serving f split before after here.kept.plan here.kept.count cleared)
-    (c.frames_are_told_by_place.ensures.up f split 1 head.number head.port (value_in after) (drop head.packet_at frame) frame here.is)
-    before head here
-    (c.frames_are_told_by_place.ensures.unpacked 1 (up_layout f split) frame before after head here)
-    (λ i. omega (arith, c.type_inv.frame i)))
+    c.a_frame_is_read.ensures.read f split frame before after head c.requires.prepared.bounded.formed
+    (still_serving f split before after here.kept.plan here.kept.count cleared) (λ i. omega (arith, c.type_inv.frame i)) here)
     c.unpack_up.result c.unpack_up.ensures.ok
 
 pub returns-clause-serving : goal.returns-clause-serving
@@ -45,7 +38,7 @@ returns-clause-serving c =
     let split = c.args.whole.now.split in
     let before = c.clear.new.self in
     let after = c.unpack_up.new.into in
-    let cleared = still_serving f split c.args.values.now before c.clear.ensures.plan (ap length c.clear.ensures.numbers ∙ length-replicate (length c.args.values.now.numbers) 0) c.requires.serving in
+    let cleared = cleared_serving f split c.args.values.now before c.clear.ensures.plan c.clear.ensures.numbers c.requires.serving in
     by_result (λ (head : Head). IsUnpacked 1 c.args.whole.now.up c.args.frame.now before after head) (after ≡ before) (AreServing f split after)
     (λ head h. still_serving f split before after h.kept.plan h.kept.count cleared) (λ e. subst (AreServing f split) (sym e) cleared)
     c.unpack_up.result c.unpack_up.ensures.ok c.unpack_up.ensures.kept
