@@ -1,7 +1,7 @@
 //! The instructions of statements.
 ghost use Rattle.std.specs.Prelude.{◌≡◌, ◌≤◌, ◌∷◌, length, IfErr, OnOk};
 ghost use Rattle.element_lang.specs.View.{expr_tree, expr_trees, stmt_tree, body_tree};
-ghost use Rattle.element_lang.specs.Tree.StmtTree.{look, put, del};
+ghost use Rattle.element_lang.specs.Tree.StmtTree.{let_local, set_field, look, put, del, send};
 ghost use Rattle.element_lang.specs.Rules.{is_empty};
 ghost use Rattle.flatten.specs.Flatten as pure;
 ghost use Rattle.flatten.specs.Sized.{IsSizedExpr, AreSizedExprs, IsSizedStmt, IsSizedBody};
@@ -20,6 +20,7 @@ use element_lang::{Expr, Stmt};
 use flat_ir::{InstrKind, ValueId};
 use gal_bits::Width;
 use gal_io::NoMemory;
+use packet_fields::Field;
 use std::alloc::{AllocError, Global};
 
 // Binds locals to the results of a look: the first to whether the key is there, and the others to its values.
@@ -41,6 +42,65 @@ fn bind_results(look: u32, found: u32, into: &[u32], w: &mut Tracked) -> Result<
 }
 
 impl Output {
+    // An assignment of a local, or the first one.
+    fn bind(
+        &mut self,
+        alloc: Global,
+        frame: &Frame,
+        place: Place,
+        local: u32,
+        value: &Expr,
+        w: &mut Tracked,
+    ) -> Result<(), NoMemory>
+        requires { IsSizedExpr frame.now.locals.items (expr_tree value.now) }
+        ensures told { OnOk result (placed self.new w.new.state
+            ≡ pure.flat_stmt frame.now.locals.items (let_local local (expr_tree value.now)) place self.old w.old.state) }
+        ensures start { OnOk result (started w.new ≡ started w.old) }
+    {
+        let id = self.value(alloc, frame, place, &w.state, value)?;
+        w.bind(local, id)?;
+        Ok(())
+    }
+
+    // An assignment of a field.
+    fn set_field(
+        &mut self,
+        alloc: Global,
+        frame: &Frame,
+        place: Place,
+        field: Field,
+        value: &Expr,
+        w: &mut Tracked,
+    ) -> Result<(), NoMemory>
+        requires { IsSizedExpr frame.now.locals.items (expr_tree value.now) }
+        ensures told { OnOk result (placed self.new w.new.state
+            ≡ pure.flat_stmt frame.now.locals.items (set_field field (expr_tree value.now)) place self.old w.old.state) }
+        ensures start { OnOk result (started w.new ≡ started w.old) }
+    {
+        let id = self.value(alloc, frame, place, &w.state, value)?;
+        w.state.assign(field, id);
+        Ok(())
+    }
+
+    // A send: the packet leaves by a port, and the run ends.
+    fn send(
+        &mut self,
+        alloc: Global,
+        frame: &Frame,
+        place: Place,
+        port: &Expr,
+        w: &mut Tracked,
+    ) -> Result<(), NoMemory>
+        requires { IsSizedExpr frame.now.locals.items (expr_tree port.now) }
+        ensures told { OnOk result (placed self.new w.new.state
+            ≡ pure.flat_stmt frame.now.locals.items (send (expr_tree port.now)) place self.old w.old.state) }
+        ensures start { OnOk result (started w.new ≡ started w.old) }
+    {
+        let id = self.value(alloc, frame, place, &w.state, port)?;
+        w.state.finish(ONE, id);
+        Ok(())
+    }
+
     // A look, which binds whether the key is there, and its values.
     fn look(
         &mut self,
@@ -142,14 +202,12 @@ impl Output {
     {
         self.keeps_size()?;
         match s {
-            Stmt::Let { local, value } | Stmt::Assign { local, value } => {
-                let id = self.value(alloc, frame, place, &w.state, value)?;
-                w.bind(*local, id)?;
-            }
-            Stmt::SetField { field, value } => {
-                let id = self.value(alloc, frame, place, &w.state, value)?;
-                w.state.assign(*field, id);
-            }
+            Stmt::Let { local, value } | Stmt::Assign { local, value } => self.bind(
+                alloc, frame, place, *local, value, w,
+            )?,
+            Stmt::SetField { field, value } => self.set_field(
+                alloc, frame, place, *field, value, w,
+            )?,
             Stmt::Look {
                 found,
                 into,
@@ -181,10 +239,7 @@ impl Output {
                 };
                 self.turns(alloc, frame, place, *index, *count, body, w)?;
             }
-            Stmt::Send { port } => {
-                let id = self.value(alloc, frame, place, &w.state, port)?;
-                w.state.finish(ONE, id);
-            }
+            Stmt::Send { port } => self.send(alloc, frame, place, port, w)?,
             Stmt::Drop => w.state.finish(NOUGHT, NOUGHT_PORT),
         }
         Ok(())

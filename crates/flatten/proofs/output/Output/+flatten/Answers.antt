@@ -166,7 +166,7 @@ stmt-returns-in_ok-join-in-If-clause-ok t c =
     let p = c.args.place in
     let v = c.in_ok-v-in-If.v in
     let k = c.in_ok-inner-in-If.inner in
-    let g = c.value-in-If.new.self in
+    let g = c.value.new.self in
     let w = c.args.w.now.state in
     let yes = body_tree c.in-If.yes.items in
     let no = body_tree c.in-If.no.items in
@@ -190,7 +190,7 @@ stmt-returns-in_err-body-in-If-clause-large t c =
     let p = c.args.place in
     let w = c.args.w.now.state in
     let e = c.in_err-body-in-If.field-0.0 in
-    let told = first_over ws p (expr_tree c.in-If.cond) (body_tree c.in-If.yes.items) (body_tree c.in-If.no.items) _ c.args.self.now c.open.new.self w c.enter.new.self.state (valued c.value-in-If.new.self c.in_ok-v-in-If.v) c.in_ok-inner-in-If.inner e
+    let told = first_over ws p (expr_tree c.in-If.cond) (body_tree c.in-If.yes.items) (body_tree c.in-If.no.items) _ c.args.self.now c.open.new.self w c.enter.new.self.state (valued c.value.new.self c.in_ok-v-in-If.v) c.in_ok-inner-in-If.inner e
     c.in_ok-v-in-If.ensures c.in_ok-inner-in-If.ensures.inner c.in_ok-inner-in-If.ensures.given c.in_ok-outer-in-If.ensures.state (ap body_tree c.deref-in-If.ensures.value) c.in_err-body-in-If.ensures.large in
     let over : IsOver (pure.flat_stmt ws (stmt_tree c.args.s.now) p c.args.self.now w).given e =
     subst (λ s. IsOver (pure.flat_stmt ws s p c.args.self.now w).given e) (sym (tree_if c.in-If.cond c.in-If.yes c.in-If.no) ∙ sym (ap stmt_tree c.in-If.is)) told in
@@ -202,7 +202,7 @@ stmt-returns-in_err-second-in-If-clause-large t c =
     let p = c.args.place in
     let v = c.in_ok-v-in-If.v in
     let k = c.in_ok-inner-in-If.inner in
-    let g = c.value-in-If.new.self in
+    let g = c.value.new.self in
     let w = c.args.w.now.state in
     let e = c.in_err-second-in-If.field-0.0 in
     let yes = body_tree c.in-If.yes.items in
