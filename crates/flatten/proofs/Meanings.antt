@@ -30,7 +30,7 @@ use Rattle.flat_ir.specs.Program as flat
 use Rattle.flat_ir.specs.Program.{Program, Step, Work, step_at}
 use Rattle.flat_ir.specs.Program.Work.{const, field, apply, shift, select, byte, look, put, del}
 use Rattle.flat_ir.specs.Blocks.{Reading, is_on, same, block_at, line_up, holds, is_live, HasLowParents}
-use Rattle.flat_ir.specs.Run.{Machine, Change, after, do_step, results, with_results, made, change_of, put_change, del_change, with_changes, start}
+use Rattle.flat_ir.specs.Run.{Machine, after, do_step, results, with_results, made, change_of, put_change, del_change, with_changes}
 use Rattle.flatten.specs.declared.place.Place.{Place}
 use Rattle.flatten.specs.declared.place.Ending.{Ending}
 use Rattle.flatten.specs.declared.place.Ending.TheVariants.{No, Yes, Maybe}

@@ -1,17 +1,17 @@
 //! The instructions of statements.
-ghost use Rattle.std.specs.Prelude.{◌≡◌, ◌≤◌, ◌∷◌, length, IfErr, OnOk};
+ghost use Rattle.std.specs.Prelude.{◌≡◌, ◌≤◌, ◌∷◌, length, IfOk, IfErr, OnOk};
 ghost use Rattle.element_lang.specs.View.{expr_tree, expr_trees, stmt_tree, body_tree};
 ghost use Rattle.element_lang.specs.Tree.StmtTree.{let_local, set_field, look, put, del, send};
 ghost use Rattle.element_lang.specs.Rules.{is_empty};
 ghost use Rattle.flatten.specs.Flatten as pure;
 ghost use Rattle.flatten.specs.Sized.{IsSizedExpr, AreSizedExprs, IsSizedStmt, IsSizedBody};
 ghost use Rattle.flatten.specs.Over.{IsOver};
-ghost use Rattle.flatten.specs.Pending.{placed};
+ghost use Rattle.flatten.specs.Pending.{placed, valued, first_at};
 ghost use Rattle.flatten.specs.Tracked.{started};
 
 use crate::error::FlatError;
 use crate::frame::Frame;
-use crate::journal::Tracked;
+use crate::journal::{Journal, Tracked};
 use crate::output::Output;
 use crate::place::Place;
 use crate::state::{NOUGHT, NOUGHT_PORT, ONE};
@@ -225,9 +225,7 @@ impl Output {
             )?,
             Stmt::If { cond, yes, no } => {
                 let v = self.value(alloc, frame, place, &w.state, cond)?;
-                let inner = self.open(place, v, true)?;
-                let outer = w.enter(alloc)?;
-                self.body(alloc, frame, inner, yes, w)?;
+                let outer = self.first(alloc, frame, place, v, yes, w)?;
                 let first = w.flip(alloc)?;
                 self.second(alloc, frame, place, v, no, w)?;
                 self.join(alloc, frame, place, v, first, outer, w)?;
@@ -243,6 +241,33 @@ impl Output {
             Stmt::Drop => w.state.finish(NOUGHT, NOUGHT_PORT),
         }
         Ok(())
+    }
+
+    // The first side of an `if`, in a block of its own. The journal begins anew, and the one so far is answered.
+    #[cycle(flatten)]
+    fn first(
+        &mut self,
+        alloc: Global,
+        frame: &Frame,
+        place: Place,
+        cond: ValueId,
+        yes: &[Stmt],
+        w: &mut Tracked,
+    ) -> Result<Journal, FlatError>
+        requires fields { frame.now.fields.items ≡ pure.field_widths }
+        requires wide { length w.old.state.locals ≡ length frame.now.locals.items }
+        requires sized { IsSizedBody frame.now.locals.items (body_tree yes.now) }
+        ensures ok { OnOk result (placed self.new w.new.state
+            ≡ first_at frame.now.locals.items place (body_tree yes.now) (valued self.old cond) w.old.state) }
+        ensures start { OnOk result (started w.new ≡ w.old.state) }
+        ensures outer { IfOk result (λ outer. outer ≡ w.old.journal) }
+        ensures large { IfErr result (λ error. IsOver
+            (first_at frame.now.locals.items place (body_tree yes.now) (valued self.old cond) w.old.state).given error) }
+    {
+        let inner = self.open(place, cond, true)?;
+        let outer = w.enter(alloc)?;
+        self.body(alloc, frame, inner, yes, w)?;
+        Ok(outer)
     }
 
     // The second side of an `if`, which opens no block where it is empty.
