@@ -20,6 +20,7 @@ use Rattle.flatten.specs.declared.place.Ending.TheVariants.{No, Yes, Maybe}
 use Rattle.flatten.specs.declared.place.Place.{Place}
 use Rattle.flatten.specs.Flatten.{Given, View, At, Valued, Flattener, emit, give, opened, below, flat_expr, flat_exprs, operation, same_id, merge_id, merge_option, merge_ids, field_widths, merge, merge_ended, ends, select_ended, join, follow, go_on, in_order, bound, flat_turn, flat_turns, looping, second_side, flat_stmt, flat_body}
 use Rattle.flatten.specs.Over.{IsOver}
+use Rattle.flatten.specs.Pending.{first_at}
 use Rattle.flatten.specs.declared.stretch.Pending.{Pending}
 use Rattle.flatten.specs.Open.{closed, outermost}
 
@@ -218,10 +219,7 @@ over_stmt ws s p g w e over = over_later g (flat_stmt ws s p g w).given e (stmt_
 
 -- ## Choices
 
--- what is given for the first side of a choice in this place, and for the second
-abbrev pub first_at : List ℕ → Place → BodyTree → Valued → View → At
-first_at ws p first x w = flat_body ws first (below p x.given) (opened p x.id true x.given) w
-
+-- what is given for the second side of a choice in this place
 abbrev pub second_at : List ℕ → Place → BodyTree → ValueId → Given → View → At
 second_at ws p second v g w = second_side (is_empty second) p v (flat_body ws second) g w
 

@@ -16,7 +16,7 @@ use Rattle.flat_ir.specs.Program as flat
 use Rattle.flatten.specs.declared.entry.Entry.{Entry}
 use Rattle.flatten.specs.declared.entry.Change.{Change}
 use Rattle.flatten.specs.declared.place.Place.{Place}
-use Rattle.flatten.specs.Flatten.{Given, View, At, Scoped, join, same_id, give, merge_id, merge_option, merge_ids, kept, in_scope, leave}
+use Rattle.flatten.specs.Flatten.{Given, View, At, join, same_id, give, merge_option, merge_ids, kept, in_scope, leave}
 use Rattle.flatten.specs.Journal.{Past, before, undone, with_locals, entry_locals, value_or_none, change_at, second_at, with_first, IsOther, AreRising, AreOn, AreSides, AreAssigned, merge_each, merge_rest, leave_each}
 use Rattle.flatten.specs.Pending.{placed, scoped, merged, valued}
 use Rattle.flatten.proofs.Meanings.{same_itself}

@@ -1,10 +1,10 @@
 -- How a middlebox becomes a flat program.
-use Rattle.std.specs.Prelude.{ℕ, zero, suc, ◌==◌, Bool, true, false, ◌&&◌, List, [], ◌∷◌, ◌++◌, map, length, replicate}
+use Rattle.std.specs.Prelude.{ℕ, zero, suc, ◌==◌, Bool, true, false, ◌&&◌, List, [], ◌∷◌, ◌++◌, length, replicate}
 use Rattle.std.specs.Prelude.{get_or, slice_set, Option, Some, None, if◌then◌else◌}
 use Rattle.gal_bits.specs.declared.op.Op.{Op}
 use Rattle.gal_bits.specs.declared.op.Op.TheVariants.{Select}
 use Rattle.packet_fields.specs.declared.field.Field.{Field}
-use Rattle.packet_fields.specs.Table.{row, all_fields, field_index}
+use Rattle.packet_fields.specs.Table.{all_fields, field_index}
 pub use Rattle.packet_fields.specs.Table.{field_widths}
 use Rattle.element_lang.specs.Tree.{ExprTree, Exprs, StmtTree, BodyTree, Tree}
 use Rattle.element_lang.specs.Tree.ExprTree.{lit, local, field, byte, shift, apply}

@@ -11,7 +11,7 @@ use packet_fields::{fields, width};
 use std::alloc::{AllocError, Global};
 
 /// The widths of the locals, by number, and of the fields, in field order.
-#[derive(Debug, Drop)]
+#[derive(Drop)]
 pub(crate) struct Frame {
     pub locals: Vec<Width>,
     pub fields: Vec<Width>,

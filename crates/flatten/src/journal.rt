@@ -15,7 +15,7 @@ use std::mem;
 
 /// How the state at some place is had again: what was assigned to locals since then, the latest last, and the other
 /// variables there.
-#[derive(Debug, Drop)]
+#[derive(Drop)]
 pub(crate) struct Journal {
     pub entries: Vec<Entry>,
     pub fields: Vec<Option<ValueId>>,
@@ -39,7 +39,7 @@ impl Model for Journal {
 }
 
 /// A state, and how the one where the innermost block was opened is had again.
-#[derive(Debug, Drop)]
+#[derive(Drop)]
 pub(crate) struct Tracked {
     pub state: State,
     pub journal: Journal,

@@ -9,7 +9,7 @@ use element_lang::{Expr, Stmt};
 use packet_fields::{FIELD_COUNT, Field, field_index};
 
 /// For each field, in field order, whether it has been seen.
-#[derive(Clone, Copy, Debug)]
+#[derive(Clone, Copy)]
 pub(crate) struct Seen {
     marks: [bool; FIELD_COUNT],
 }

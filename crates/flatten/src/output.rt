@@ -13,7 +13,7 @@ use gal_io::NoMemory;
 use std::marker::Model;
 
 /// The instructions and blocks that are given so far, fewer than 2^32 of each.
-#[derive(Debug, Drop)]
+#[derive(Drop)]
 pub(crate) struct Output {
     pub code: Code,
     pub blocks: Blocks,

@@ -3,14 +3,14 @@
 use flat_ir::ValueId;
 
 /// Where instructions are given: in a block, and for a `repeat` or not.
-#[derive(Clone, Copy, Debug)]
+#[derive(Clone, Copy)]
 pub struct Place {
     pub block: u32,
     pub looped: bool,
 }
 
 /// Whether the run has ended.
-#[derive(Clone, Copy, Debug)]
+#[derive(Clone, Copy)]
 pub enum Ending {
     No,
     Yes,

@@ -9,7 +9,7 @@ ghost use Rattle.flat_ir.specs.Program.Work.{const};
 ghost use Rattle.flat_ir.specs.WellFormed.{IsWellFormed};
 ghost use Rattle.flatten.specs.Flatten as pure;
 ghost use Rattle.flatten.specs.Occurs.{is_in_body};
-ghost use Rattle.flatten.specs.Pending.{scoped};
+ghost use Rattle.flatten.specs.Pending.{scoped, placed, first_view, gathered};
 ghost use Rattle.flatten.specs.Same.{MeansTheSame};
 ghost use Rattle.flatten.specs.declared.error.FlatError.TheVariants.{TooLarge};
 
@@ -26,7 +26,7 @@ use flat_ir::{Blocks, Code, FieldValue, Flat, Instr, InstrKind, Out, ValueId};
 use gal_bits::Width;
 use gal_io::NoMemory as Want;
 use packet_fields::{FIELD_COUNT, Field, fields};
-use std::alloc::{AllocFailed, Global};
+use std::alloc::{AllocError, AllocFailed, Global};
 
 // A number in the root.
 fn constant(width: Width, number: u64) -> Instr
@@ -82,6 +82,16 @@ impl Output {
         }
         Ok(ids)
     }
+
+    // The same, of these statements.
+    fn arrived(&mut self, alloc: Global, body: &[Stmt]) -> Result<Vec<Option<ValueId>>, Want>
+        ensures { IfOk result (λ ids.
+            scoped self.new ids.items ≡ pure.give_fields (body_tree body.now) all_fields self.old) }
+    {
+        let mut seen = Seen::new();
+        seen.body(body);
+        self.fields(alloc, &seen, body)
+    }
 }
 
 // A field whose value isn't the one with which it came.
@@ -120,27 +130,37 @@ fn push_all(
     }
 }
 
-// The flat program of a middlebox.
-#[tactic(auto, using(crate::proofs::GoodSizes::good_sized))]
-fn built(alloc: Global, m: &Middlebox) -> Result<Flat, FlatError>
-    requires good { IsTrue (is_good (tree m.now)) }
-    ensures program { IfOk result (λ f. program_of f ≡ pure.flat_of (tree m.now)) }
-    ensures few { IfOk result (λ f. length (program_of f).code ≤ 4096) }
-    ensures large { IfErr result (λ error.
-        error ≡ TooLarge → 4096 < length (pure.flat_of (tree m.now)).code) }
+// The values that stand for the variables behind what is given first: no local is in scope, the packet is dropped, and
+// the run has not ended.
+fn first_state(alloc: Global, locals: usize, came: &[Option<ValueId>]) -> Result<State, AllocError>
+    ensures { IfOk result (λ w. w ≡ first_view locals came.now) }
 {
-    let frame = Frame::of(alloc, m.locals.as_slice())?;
-    let mut seen = Seen::new();
-    seen.body(&m.body);
-    let mut out = Output::constants(alloc)?;
-    let came = out.fields(alloc, &seen, &m.body)?;
-    let start = State {
-        locals: vec![in alloc; None; m.locals.len()]?,
+    Ok(State {
+        locals: vec![in alloc; None; locals]?,
         fields: came.to_vec(alloc)?,
         send: NOUGHT,
         port: NOUGHT_PORT,
         ended: Ending::No,
-    };
+    })
+}
+
+// The instructions of all statements, behind the constants and the fields; and the values behind them.
+#[tactic(auto, using(crate::proofs::GoodSizes::good_sized))]
+fn last_state(
+    alloc: Global,
+    m: &Middlebox,
+    out: &mut Output,
+    came: &[Option<ValueId>],
+) -> Result<State, FlatError>
+    requires good { IsTrue (is_good (tree m.now)) }
+    requires arrived { scoped out.old came.now ≡ pure.arrived (tree m.now) }
+    ensures told { IfOk result (λ w. placed out.new w ≡ pure.end_of (tree m.now)) }
+    ensures few { OnOk result (length out.new.code ≤ 4096) }
+    ensures large { IfErr result (λ error.
+        error ≡ TooLarge → 4096 < length (pure.end_of (tree m.now)).given.code) }
+{
+    let frame = Frame::of(alloc, m.locals.as_slice())?;
+    let start = first_state(alloc, m.locals.len(), came)?;
     let root = Place {
         block: 0,
         looped: false,
@@ -148,18 +168,45 @@ fn built(alloc: Global, m: &Middlebox) -> Result<Flat, FlatError>
     let mut w = Tracked::new(alloc, start)?;
     out.body(alloc, &frame, root, &m.body, &mut w)?;
     out.keeps_size()?;
+    Ok(w.state)
+}
+
+// The flat program of what is given for a middlebox, and of the values behind it.
+fn assembled(
+    alloc: Global,
+    m: &Middlebox,
+    out: Output,
+    came: &[Option<ValueId>],
+    w: &State,
+) -> Result<Flat, Want>
+    ensures { IfOk result (λ f. program_of f ≡ gathered (tree m.now).objects came.now (placed out w.now)) }
+{
     let mut changed = Vec::new(alloc);
-    push_all(&mut changed, &fields(), &came, &w.state.fields)?;
+    push_all(&mut changed, &fields(), came, &w.fields)?;
     Ok(Flat {
         objects: m.objects.copy(alloc)?,
         blocks: out.blocks,
         code: out.code,
         out: Out {
-            send: w.state.send,
-            port: w.state.port,
+            send: w.send,
+            port: w.port,
             fields: changed,
         },
     })
+}
+
+// The flat program of a middlebox.
+fn built(alloc: Global, m: &Middlebox) -> Result<Flat, FlatError>
+    requires good { IsTrue (is_good (tree m.now)) }
+    ensures program { IfOk result (λ f. program_of f ≡ pure.flat_of (tree m.now)) }
+    ensures few { IfOk result (λ f. length (program_of f).code ≤ 4096) }
+    ensures large { IfErr result (λ error.
+        error ≡ TooLarge → 4096 < length (pure.flat_of (tree m.now)).code) }
+{
+    let mut out = Output::constants(alloc)?;
+    let came = out.arrived(alloc, &m.body)?;
+    let w = last_state(alloc, m, &mut out, &came)?;
+    Ok(assembled(alloc, m, out, &came, &w)?)
 }
 
 /// The flat program of a middlebox.

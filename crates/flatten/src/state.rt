@@ -28,7 +28,7 @@ pub(crate) const NOUGHT_PORT: ValueId = ValueId {
 };
 
 /// The values of the variables at some place of a source.
-#[derive(Debug, Drop)]
+#[derive(Drop)]
 pub(crate) struct State {
     /// Of each local by its number, none where it is out of scope.
     pub locals: Vec<Option<ValueId>>,

@@ -1,17 +1,17 @@
 //! The instructions of statements.
-ghost use Rattle.std.specs.Prelude.{◌≡◌, ◌≤◌, ◌∷◌, length, IfErr, OnOk};
+ghost use Rattle.std.specs.Prelude.{◌≡◌, ◌≤◌, ◌∷◌, length, IfOk, IfErr, OnOk};
 ghost use Rattle.element_lang.specs.View.{expr_tree, expr_trees, stmt_tree, body_tree};
-ghost use Rattle.element_lang.specs.Tree.StmtTree.{look, put, del};
+ghost use Rattle.element_lang.specs.Tree.StmtTree.{let_local, set_field, look, put, del, send};
 ghost use Rattle.element_lang.specs.Rules.{is_empty};
 ghost use Rattle.flatten.specs.Flatten as pure;
 ghost use Rattle.flatten.specs.Sized.{IsSizedExpr, AreSizedExprs, IsSizedStmt, IsSizedBody};
 ghost use Rattle.flatten.specs.Over.{IsOver};
-ghost use Rattle.flatten.specs.Pending.{placed};
+ghost use Rattle.flatten.specs.Pending.{placed, valued, first_at};
 ghost use Rattle.flatten.specs.Tracked.{started};
 
 use crate::error::FlatError;
 use crate::frame::Frame;
-use crate::journal::Tracked;
+use crate::journal::{Journal, Tracked};
 use crate::output::Output;
 use crate::place::Place;
 use crate::state::{NOUGHT, NOUGHT_PORT, ONE};
@@ -20,6 +20,7 @@ use element_lang::{Expr, Stmt};
 use flat_ir::{InstrKind, ValueId};
 use gal_bits::Width;
 use gal_io::NoMemory;
+use packet_fields::Field;
 use std::alloc::{AllocError, Global};
 
 // Binds locals to the results of a look: the first to whether the key is there, and the others to its values.
@@ -41,6 +42,65 @@ fn bind_results(look: u32, found: u32, into: &[u32], w: &mut Tracked) -> Result<
 }
 
 impl Output {
+    // An assignment of a local, or the first one.
+    fn bind(
+        &mut self,
+        alloc: Global,
+        frame: &Frame,
+        place: Place,
+        local: u32,
+        value: &Expr,
+        w: &mut Tracked,
+    ) -> Result<(), NoMemory>
+        requires { IsSizedExpr frame.now.locals.items (expr_tree value.now) }
+        ensures told { OnOk result (placed self.new w.new.state
+            ≡ pure.flat_stmt frame.now.locals.items (let_local local (expr_tree value.now)) place self.old w.old.state) }
+        ensures start { OnOk result (started w.new ≡ started w.old) }
+    {
+        let id = self.value(alloc, frame, place, &w.state, value)?;
+        w.bind(local, id)?;
+        Ok(())
+    }
+
+    // An assignment of a field.
+    fn set_field(
+        &mut self,
+        alloc: Global,
+        frame: &Frame,
+        place: Place,
+        field: Field,
+        value: &Expr,
+        w: &mut Tracked,
+    ) -> Result<(), NoMemory>
+        requires { IsSizedExpr frame.now.locals.items (expr_tree value.now) }
+        ensures told { OnOk result (placed self.new w.new.state
+            ≡ pure.flat_stmt frame.now.locals.items (set_field field (expr_tree value.now)) place self.old w.old.state) }
+        ensures start { OnOk result (started w.new ≡ started w.old) }
+    {
+        let id = self.value(alloc, frame, place, &w.state, value)?;
+        w.state.assign(field, id);
+        Ok(())
+    }
+
+    // A send: the packet leaves by a port, and the run ends.
+    fn send(
+        &mut self,
+        alloc: Global,
+        frame: &Frame,
+        place: Place,
+        port: &Expr,
+        w: &mut Tracked,
+    ) -> Result<(), NoMemory>
+        requires { IsSizedExpr frame.now.locals.items (expr_tree port.now) }
+        ensures told { OnOk result (placed self.new w.new.state
+            ≡ pure.flat_stmt frame.now.locals.items (send (expr_tree port.now)) place self.old w.old.state) }
+        ensures start { OnOk result (started w.new ≡ started w.old) }
+    {
+        let id = self.value(alloc, frame, place, &w.state, port)?;
+        w.state.finish(ONE, id);
+        Ok(())
+    }
+
     // A look, which binds whether the key is there, and its values.
     fn look(
         &mut self,
@@ -142,14 +202,12 @@ impl Output {
     {
         self.keeps_size()?;
         match s {
-            Stmt::Let { local, value } | Stmt::Assign { local, value } => {
-                let id = self.value(alloc, frame, place, &w.state, value)?;
-                w.bind(*local, id)?;
-            }
-            Stmt::SetField { field, value } => {
-                let id = self.value(alloc, frame, place, &w.state, value)?;
-                w.state.assign(*field, id);
-            }
+            Stmt::Let { local, value } | Stmt::Assign { local, value } => self.bind(
+                alloc, frame, place, *local, value, w,
+            )?,
+            Stmt::SetField { field, value } => self.set_field(
+                alloc, frame, place, *field, value, w,
+            )?,
             Stmt::Look {
                 found,
                 into,
@@ -167,9 +225,7 @@ impl Output {
             )?,
             Stmt::If { cond, yes, no } => {
                 let v = self.value(alloc, frame, place, &w.state, cond)?;
-                let inner = self.open(place, v, true)?;
-                let outer = w.enter(alloc)?;
-                self.body(alloc, frame, inner, yes, w)?;
+                let outer = self.first(alloc, frame, place, v, yes, w)?;
                 let first = w.flip(alloc)?;
                 self.second(alloc, frame, place, v, no, w)?;
                 self.join(alloc, frame, place, v, first, outer, w)?;
@@ -181,13 +237,37 @@ impl Output {
                 };
                 self.turns(alloc, frame, place, *index, *count, body, w)?;
             }
-            Stmt::Send { port } => {
-                let id = self.value(alloc, frame, place, &w.state, port)?;
-                w.state.finish(ONE, id);
-            }
+            Stmt::Send { port } => self.send(alloc, frame, place, port, w)?,
             Stmt::Drop => w.state.finish(NOUGHT, NOUGHT_PORT),
         }
         Ok(())
+    }
+
+    // The first side of an `if`, in a block of its own. The journal begins anew, and the one so far is answered.
+    #[cycle(flatten)]
+    fn first(
+        &mut self,
+        alloc: Global,
+        frame: &Frame,
+        place: Place,
+        cond: ValueId,
+        yes: &[Stmt],
+        w: &mut Tracked,
+    ) -> Result<Journal, FlatError>
+        requires fields { frame.now.fields.items ≡ pure.field_widths }
+        requires wide { length w.old.state.locals ≡ length frame.now.locals.items }
+        requires sized { IsSizedBody frame.now.locals.items (body_tree yes.now) }
+        ensures ok { OnOk result (placed self.new w.new.state
+            ≡ first_at frame.now.locals.items place (body_tree yes.now) (valued self.old cond) w.old.state) }
+        ensures start { OnOk result (started w.new ≡ w.old.state) }
+        ensures outer { IfOk result (λ outer. outer ≡ w.old.journal) }
+        ensures large { IfErr result (λ error. IsOver
+            (first_at frame.now.locals.items place (body_tree yes.now) (valued self.old cond) w.old.state).given error) }
+    {
+        let inner = self.open(place, cond, true)?;
+        let outer = w.enter(alloc)?;
+        self.body(alloc, frame, inner, yes, w)?;
+        Ok(outer)
     }
 
     // The second side of an `if`, which opens no block where it is empty.

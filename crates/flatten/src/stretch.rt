@@ -16,7 +16,7 @@ use gal_io::NoMemory;
 use std::alloc::Global;
 
 /// A block that is open because the run may have ended in front of it.
-#[derive(Debug, Drop)]
+#[derive(Drop)]
 pub(crate) struct Pending {
     /// Where the block was opened.
     pub place: Place,
@@ -27,7 +27,7 @@ pub(crate) struct Pending {
 }
 
 /// Where the next piece stands, and the blocks that are open, the innermost last.
-#[derive(Debug, Drop)]
+#[derive(Drop)]
 pub(crate) struct Stretch {
     pub place: Place,
     pub pending: Vec<Pending>,

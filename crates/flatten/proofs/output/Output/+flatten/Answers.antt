@@ -4,7 +4,7 @@ use Rattle.flatten.specs.Flatten as pure
 use Rattle.flatten.specs.Sized.{IsSizedBody}
 use Rattle.flatten.specs.Journal.{before}
 use Rattle.flatten.specs.Open.{closed, outermost}
-use Rattle.flatten.specs.Pending.{placed, valued}
+use Rattle.flatten.specs.Pending.{placed, valued, first_at}
 use Rattle.flatten.specs.Over.{IsOver}
 use Rattle.flatten.specs.Tracked.{started}
 use Rattle.flatten.proofs.Growth.{first_over, second_over, turns_grow, body_grows}
@@ -155,43 +155,62 @@ stmt-returns-in_err-turns-in-Repeat-clause-large t c =
 
 -- ## Choices
 
+pub first-returns-clause-ok : goal.first-returns-clause-ok
+first-returns-clause-ok t c =
+    let ws = c.args.frame.now.locals.items in
+    let yes = body_tree c.args.yes.now in
+    let k = c.in_ok-inner.inner in
+    let o = pure.opened c.args.place c.args.cond true c.args.self.now in
+    c.in_ok-body.ensures.ok ∙ ap (λ g. pure.flat_body ws yes k g c.enter.new.self.state) c.in_ok-inner.ensures.given
+    ∙ ap (pure.flat_body ws yes k o) c.in_ok-outer.ensures.state ∙ ap (λ k. pure.flat_body ws yes k o c.args.w.now.state) c.in_ok-inner.ensures.inner
+
+pub first-returns-in_err-body-clause-large : goal.first-returns-in_err-body-clause-large
+first-returns-in_err-body-clause-large t c =
+    let ws = c.args.frame.now.locals.items in
+    let yes = body_tree c.args.yes.now in
+    let k = c.in_ok-inner.inner in
+    let o = pure.opened c.args.place c.args.cond true c.args.self.now in
+    let e = c.in_err-body.field-0.0 in
+    let given = subst (λ g. IsOver (pure.flat_body ws yes k g c.enter.new.self.state).given e) c.in_ok-inner.ensures.given c.in_err-body.ensures.large in
+    let state = subst (λ w. IsOver (pure.flat_body ws yes k o w).given e) c.in_ok-outer.ensures.state given in
+    let over : IsOver (pure.flat_body ws yes (pure.below c.args.place c.args.self.now) o c.args.w.now.state).given e = subst (λ k. IsOver (pure.flat_body ws yes k o c.args.w.now.state).given e) c.in_ok-inner.ensures.inner state in
+    search (rules, over)
+
 pub stmt-join-requires-clause-wide : goal.stmt-join-requires-clause-wide
 stmt-join-requires-clause-wide t c =
     as_wide [] [] c.flip.new.self c.second.new.w c.in_ok-second-in-If.ensures.start
-    ∙ ap (λ w. length w.locals) (c.in_ok-first-in-If.ensures.state ∙ c.in_ok-body-in-If.ensures.start ∙ c.in_ok-outer-in-If.ensures.start) ∙ c.requires.wide
+    ∙ ap (λ w. length w.locals) (c.in_ok-first-in-If.ensures.state ∙ c.in_ok-outer-in-If.ensures.start) ∙ c.requires.wide
 
 pub stmt-returns-in_ok-join-in-If-clause-ok : goal.stmt-returns-in_ok-join-in-If-clause-ok
 stmt-returns-in_ok-join-in-If-clause-ok t c =
     let ws = c.args.frame.now.locals.items in
     let p = c.args.place in
     let v = c.in_ok-v-in-If.v in
-    let k = c.in_ok-inner-in-If.inner in
-    let g = c.value-in-If.new.self in
+    let x = valued c.value.new.self v in
     let w = c.args.w.now.state in
     let yes = body_tree c.in-If.yes.items in
     let no = body_tree c.in-If.no.items in
-    let ra = placed c.body.new.self c.body.new.w.state in
+    let ra = placed c.first.new.self c.first.new.w.state in
     let rb = placed c.second.new.self c.second.new.w.state in
-    let ea : ra ≡ pure.flat_body ws yes k (pure.opened p v true g) w =
-    c.in_ok-body-in-If.ensures.ok ∙ ap (λ y. pure.flat_body ws (body_tree y) k c.open.new.self c.enter.new.self.state) c.deref-in-If.ensures.value
-    ∙ ap (λ g. pure.flat_body ws yes k g c.enter.new.self.state) c.in_ok-inner-in-If.ensures.given ∙ ap (λ w. pure.flat_body ws yes k (pure.opened p v true g) w) c.in_ok-outer-in-If.ensures.state in
+    let ea : ra ≡ first_at ws p yes x w = c.in_ok-outer-in-If.ensures.ok ∙ ap (λ y. first_at ws p (body_tree y) x w) c.deref-in-If.ensures.value in
     let eb : rb ≡ pure.second_side (is_empty no) p v (pure.flat_body ws no) ra.given w =
     c.in_ok-second-in-If.ensures.ok ∙ ap (λ y. pure.second_side (is_empty (body_tree y)) p v (pure.flat_body ws (body_tree y)) ra.given c.flip.new.self.state) c.deref-in-If-2.ensures.value
-    ∙ ap (λ w. pure.second_side (is_empty no) p v (pure.flat_body ws no) ra.given w) (c.in_ok-first-in-If.ensures.state ∙ c.in_ok-body-in-If.ensures.start ∙ c.in_ok-outer-in-If.ensures.start) in
-    let ef : before c.in_ok-first-in-If.first (started c.second.new.w) ≡ c.body.new.w.state =
+    ∙ ap (λ w. pure.second_side (is_empty no) p v (pure.flat_body ws no) ra.given w) (c.in_ok-first-in-If.ensures.state ∙ c.in_ok-outer-in-If.ensures.start) in
+    let ef : before c.in_ok-first-in-If.first (started c.second.new.w) ≡ c.first.new.w.state =
     ap (before c.in_ok-first-in-If.first) (c.in_ok-second-in-If.ensures.start ∙ c.in_ok-first-in-If.ensures.start) ∙ c.in_ok-first-in-If.ensures.first in
     c.in_ok-join-in-If.ensures.told ∙ ap (λ a. pure.join ws p v a rb) ef
-    ∙ choose_told ws p (expr_tree c.in-If.cond) yes no c.args.self.now w (valued g v) k ra rb c.in_ok-v-in-If.ensures c.in_ok-inner-in-If.ensures.inner ea eb
+    ∙ choose_told ws p (expr_tree c.in-If.cond) yes no c.args.self.now w x (pure.below p x.given) ra rb c.in_ok-v-in-If.ensures refl ea eb
     ∙ ap (λ s. pure.flat_stmt ws s p c.args.self.now w) (sym (tree_if c.in-If.cond c.in-If.yes c.in-If.no) ∙ sym (ap stmt_tree c.in-If.is))
 
-pub stmt-returns-in_err-body-in-If-clause-large : goal.stmt-returns-in_err-body-in-If-clause-large
-stmt-returns-in_err-body-in-If-clause-large t c =
+pub stmt-returns-in_err-outer-in-If-clause-large : goal.stmt-returns-in_err-outer-in-If-clause-large
+stmt-returns-in_err-outer-in-If-clause-large t c =
     let ws = c.args.frame.now.locals.items in
     let p = c.args.place in
     let w = c.args.w.now.state in
-    let e = c.in_err-body-in-If.field-0.0 in
-    let told = first_over ws p (expr_tree c.in-If.cond) (body_tree c.in-If.yes.items) (body_tree c.in-If.no.items) _ c.args.self.now c.open.new.self w c.enter.new.self.state (valued c.value-in-If.new.self c.in_ok-v-in-If.v) c.in_ok-inner-in-If.inner e
-    c.in_ok-v-in-If.ensures c.in_ok-inner-in-If.ensures.inner c.in_ok-inner-in-If.ensures.given c.in_ok-outer-in-If.ensures.state (ap body_tree c.deref-in-If.ensures.value) c.in_err-body-in-If.ensures.large in
+    let e = c.in_err-outer-in-If.field-0.0 in
+    let x = valued c.value.new.self c.in_ok-v-in-If.v in
+    let told = first_over ws p (expr_tree c.in-If.cond) (body_tree c.in-If.yes.items) (body_tree c.in-If.no.items) _ c.args.self.now (pure.opened p x.id true x.given) w w x (pure.below p x.given) e
+    c.in_ok-v-in-If.ensures refl refl refl (ap body_tree c.deref-in-If.ensures.value) c.in_err-outer-in-If.ensures.large in
     let over : IsOver (pure.flat_stmt ws (stmt_tree c.args.s.now) p c.args.self.now w).given e =
     subst (λ s. IsOver (pure.flat_stmt ws s p c.args.self.now w).given e) (sym (tree_if c.in-If.cond c.in-If.yes c.in-If.no) ∙ sym (ap stmt_tree c.in-If.is)) told in
     search (rules, over)
@@ -201,19 +220,15 @@ stmt-returns-in_err-second-in-If-clause-large t c =
     let ws = c.args.frame.now.locals.items in
     let p = c.args.place in
     let v = c.in_ok-v-in-If.v in
-    let k = c.in_ok-inner-in-If.inner in
-    let g = c.value-in-If.new.self in
+    let x = valued c.value.new.self v in
     let w = c.args.w.now.state in
     let e = c.in_err-second-in-If.field-0.0 in
     let yes = body_tree c.in-If.yes.items in
-    let ra = placed c.body.new.self c.body.new.w.state in
-    let ea : ra ≡ pure.flat_body ws yes (pure.below p g) (pure.opened p v true g) w =
-    c.in_ok-body-in-If.ensures.ok ∙ ap (λ y. pure.flat_body ws (body_tree y) k c.open.new.self c.enter.new.self.state) c.deref-in-If.ensures.value
-    ∙ ap (λ g. pure.flat_body ws yes k g c.enter.new.self.state) c.in_ok-inner-in-If.ensures.given ∙ ap (λ w. pure.flat_body ws yes k (pure.opened p v true g) w) c.in_ok-outer-in-If.ensures.state
-    ∙ ap (λ k. pure.flat_body ws yes k (pure.opened p v true g) w) c.in_ok-inner-in-If.ensures.inner in
+    let ra = placed c.first.new.self c.first.new.w.state in
+    let ea : ra ≡ first_at ws p yes x w = c.in_ok-outer-in-If.ensures.ok ∙ ap (λ y. first_at ws p (body_tree y) x w) c.deref-in-If.ensures.value in
     let large = subst (λ w. IsOver (pure.second_side (is_empty (body_tree c.deref-in-If-2.result.now)) p v (pure.flat_body ws (body_tree c.deref-in-If-2.result.now)) ra.given w).given e)
-    (c.in_ok-first-in-If.ensures.state ∙ c.in_ok-body-in-If.ensures.start ∙ c.in_ok-outer-in-If.ensures.start) c.in_err-second-in-If.ensures.large in
-    let told = second_over ws p (expr_tree c.in-If.cond) yes (body_tree c.in-If.no.items) _ c.args.self.now w (valued g v) ra e c.in_ok-v-in-If.ensures ea (ap body_tree c.deref-in-If-2.ensures.value) large in
+    (c.in_ok-first-in-If.ensures.state ∙ c.in_ok-outer-in-If.ensures.start) c.in_err-second-in-If.ensures.large in
+    let told = second_over ws p (expr_tree c.in-If.cond) yes (body_tree c.in-If.no.items) _ c.args.self.now w x ra e c.in_ok-v-in-If.ensures ea (ap body_tree c.deref-in-If-2.ensures.value) large in
     let over : IsOver (pure.flat_stmt ws (stmt_tree c.args.s.now) p c.args.self.now w).given e =
     subst (λ s. IsOver (pure.flat_stmt ws s p c.args.self.now w).given e) (sym (tree_if c.in-If.cond c.in-If.yes c.in-If.no) ∙ sym (ap stmt_tree c.in-If.is)) told in
     search (rules, over)

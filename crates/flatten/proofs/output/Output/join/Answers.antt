@@ -1,4 +1,3 @@
-use Rattle.std.proofs.Common.{◌≡◌}
 use Rattle.flatten.specs.Tracked.{started}
 use Rattle.flatten.proofs.Journals.{length_undone, join_told}
 use Rattle.flatten.proofs.output.Output.join.Goals as goal
