@@ -7,7 +7,7 @@ use Rattle.std.proofs.lemmas.Bool.{cond-true, cond-false, cases_lt, and_parts}
 use Rattle.std.specs.List.{list_all}
 use Rattle.gal_bits.specs.declared.op.Op.{Op}
 use Rattle.gal_bits.specs.declared.op.Op.TheVariants.{Add, Sub, Mul, Div, Rem, And, Or, Xor, Not, Shl, Shr, Eq, Ne, Lt, Le, Cast, Select, Adjust}
-use Rattle.gal_bits.specs.Operators.{value_of as operator_value}
+use Rattle.gal_bits.specs.Operators.{bit, value_of as operator_value}
 use Rattle.packet_fields.specs.declared.field.Field.{Field}
 use Rattle.packet_fields.specs.declared.packet.Packet.{Packet}
 use Rattle.packet_fields.specs.declared.verdict.Verdict.{Verdict}
@@ -17,7 +17,6 @@ use Rattle.packet_fields.specs.Fields.{field_value}
 use Rattle.state_store.specs.Store.{Store, object_at, looked_up}
 use Rattle.state_store.specs.Store as store
 use Rattle.element_lang.specs.Meaning as source
-use Rattle.flat_ir.specs.Run as flat_run
 use Rattle.element_lang.specs.Tree.{ExprTree, Exprs, StmtTree, BodyTree, Tree}
 use Rattle.element_lang.specs.Tree.ExprTree.{lit, local}
 use Rattle.element_lang.specs.Tree.Exprs.{no_expr, expr}
@@ -31,7 +30,7 @@ use Rattle.flat_ir.specs.Program as flat
 use Rattle.flat_ir.specs.Program.{Program, Step, Work, step_at}
 use Rattle.flat_ir.specs.Program.Work.{const, field, apply, shift, select, byte, look, put, del}
 use Rattle.flat_ir.specs.Blocks.{Reading, is_on, same, block_at, line_up, holds, is_live, HasLowParents}
-use Rattle.flat_ir.specs.Run.{Machine, Change, after, do_step, results, with_results, made, change_of, put_change, del_change, with_changes, start}
+use Rattle.flat_ir.specs.Run.{Machine, after, do_step, results, with_results, made, change_of, put_change, del_change, with_changes}
 use Rattle.flatten.specs.declared.place.Place.{Place}
 use Rattle.flatten.specs.declared.place.Ending.{Ending}
 use Rattle.flatten.specs.declared.place.Ending.TheVariants.{No, Yes, Maybe}
@@ -41,7 +40,7 @@ use Rattle.flatten.proofs.BothParts.{left, right}
 use Rattle.flatten.proofs.Views.{Below, InRange, Meets, Agree, HasId, IsThere, range_more, range_at, range_set, meets_more, agree_more, agree_at, agree_set, there_set, there_new, Knows, known_at, knows_later, range_scope, agree_scope, there_scope}
 use Rattle.state_store.specs.Widths.{AtWidths, at_place}
 use Rattle.packet_fields.specs.FieldOrder.{at_index}
-use Rattle.flatten.proofs.Writes.{bit_same, put_tells, del_tells}
+use Rattle.flatten.proofs.Writes.{put_tells, del_tells}
 use Rattle.std.proofs.lemmas.List.{get_or-set_other}
 use Rattle.std.proofs.lemmas.Option.{none-some, same_Some}
 use Rattle.packet_fields.specs.declared.field.Field.TheVariants.{MetaPort}
@@ -1194,11 +1193,10 @@ module _ (F : Program) (st0 : Store) (packet : Packet) where
               let cs : mm.store ≡ s.store = sk.store ∙ z.store in
               let ck : map mm.reads ks.ids ≡ K = sk.reads s z.locals z.fields in
               let z' = going_alike g w o w s (alike_later g o w po f still) z in
-              let there : get o (result_of n 0) ≡ source.bit (is_some (store.look (object_at s.store object) K)) =
+              let there : get o (result_of n 0) ≡ bit (is_some (store.look (object_at s.store object) K)) =
               emit_reads p work ks.given 0
-              ∙ ap (λ st. flat_run.bit (is_some (store.look (object_at st object) (map mm.reads ks.ids)))) cs
-              ∙ ap (λ key. flat_run.bit (is_some (store.look (object_at s.store object) key))) ck
-              ∙ bit_same (is_some (store.look (object_at s.store object) K)) in
+              ∙ ap (λ st. bit (is_some (store.look (object_at st object) (map mm.reads ks.ids)))) cs
+              ∙ ap (λ key. bit (is_some (store.look (object_at s.store object) key))) ck in
               let told : (i : ℕ) → get o (result_of n (suc i)) ≡ slice_index (looked_up (object_at s.store object) K) i = λ i.
               emit_reads p work ks.given (suc i)
               ∙ ap (λ st. slice_index (looked_up (object_at st object) (map mm.reads ks.ids)) i) cs
@@ -1206,8 +1204,8 @@ module _ (F : Program) (st0 : Store) (packet : Packet) where
               record {
                 fits = fit s z.fits;
                 locals = agree_all (get o) n (looked_up (object_at s.store object) K) told 0 1 refl into (slice_set w.locals found (Some (result_of n 0)))
-                    (slice_set s.locals found (source.bit (is_some (store.look (object_at s.store object) K))))
-                    (agree_set (get o) w.locals s.locals found (result_of n 0) (source.bit (is_some (store.look (object_at s.store object) K))) there z'.locals);
+                    (slice_set s.locals found (bit (is_some (store.look (object_at s.store object) K))))
+                    (agree_set (get o) w.locals s.locals found (result_of n 0) (bit (is_some (store.look (object_at s.store object) K))) there z'.locals);
                 fields = z'.fields;
                 still = z'.still;
                 ended = z'.ended;

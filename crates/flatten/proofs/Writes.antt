@@ -4,16 +4,11 @@ use Rattle.std.specs.Ordering.{eq_by_cmp}
 use Rattle.std.specs.FinMap.{get, remove, get-remove, same_map}
 use Rattle.std.proofs.lemmas.Cmp.{nat_list_cmp_total}
 use Rattle.std.proofs.lemmas.Map.Lookups.{exact_bytes}
+use Rattle.gal_bits.specs.Operators.{bit}
 use Rattle.state_store.specs.Store.{Object, Store, Contents, key_cmp, object_at, with_object, no_object, is_out, is_full, put_answer, put_row, del_row}
 use Rattle.state_store.specs.Store as store
-use Rattle.element_lang.specs.Meaning as source
-use Rattle.flat_ir.specs.Run as flat
 use Rattle.flat_ir.specs.Run.{made, put_change, del_change, with_changes}
 use Rattle.state_store.specs.Keeping.{is_equal}
-
-pub bit_same : (b : Bool) → flat.bit b ≡ source.bit b
-bit_same true = refl
-bit_same false = refl
 
 -- an object in its own place
 set_itself : (st : Store) (n : ℕ) → with_object st n (object_at st n) ≡ st
@@ -24,7 +19,7 @@ set_itself (o ∷ st) (suc n) = ap (λ l. o ∷ l) (set_itself st n)
 -- a put answers whether it has a place, and leaves the same store
 abbrev pub PutTells : Store → ℕ → List ℕ → List ℕ → Type 0
 PutTells st n key values =
-    (length (made true (put_change st n key values)) ≡ source.bit (store.is_stored (put_answer (object_at st n) key)))
+    (length (made true (put_change st n key values)) ≡ bit (store.is_stored (put_answer (object_at st n) key)))
     × (with_changes st (made true (put_change st n key values)) ≡ with_object st n (put_row (object_at st n) key values))
 
 put_by : (st : Store) (n : ℕ) (key values : List ℕ) (out full : Bool) → is_out (object_at st n).kind (object_at st n).size key ≡ out → is_full (object_at st n) key ≡ full → PutTells st n key values
@@ -46,7 +41,7 @@ remove_none c key none =
 
 abbrev pub DelTells : Store → ℕ → List ℕ → Type 0
 DelTells st n key =
-    (length (made true (del_change st n key)) ≡ source.bit (is_some (store.look (object_at st n) key)))
+    (length (made true (del_change st n key)) ≡ bit (is_some (store.look (object_at st n) key)))
     × (with_changes st (made true (del_change st n key)) ≡ with_object st n (del_row (object_at st n) key))
 
 del_by : (st : Store) (n : ℕ) (key : List ℕ) (found : Option (List ℕ)) → store.look (object_at st n) key ≡ found → DelTells st n key
