@@ -1,4 +1,4 @@
-//! Listings from outside, a run, and a plan of registers.
+//! Listings from outside, and a run.
 ghost use Rattle.std.specs.Prelude.{◌≡◌, ◌≤◌, [], length};
 
 use crate::samples::{At, Step, arm, chain, code_of, value};

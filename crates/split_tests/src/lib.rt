@@ -6,8 +6,12 @@ mod dependence_tests;
 #[cfg(test)]
 mod flat_ir_tests;
 #[cfg(test)]
+mod partition_tests;
+#[cfg(test)]
 mod resource_limits_tests;
 #[cfg(test)]
 mod samples;
 #[cfg(test)]
 mod split_model_tests;
+#[cfg(test)]
+mod split_validate_tests;

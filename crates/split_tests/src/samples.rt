@@ -1,10 +1,12 @@
 //! Flat programs that several tests split, each by a table of its instructions.
-ghost use Rattle.std.specs.Prelude.{◌≡◌, ◌∷◌, [], IfOk};
+ghost use Rattle.std.specs.Prelude.{◌≡◌, ◌≤◌, ◌∷◌, [], IfOk};
+ghost use Rattle.resource_limits.specs.Limits.{AreInRange};
 
 use flat_ir::{Block, Blocks, Code, FieldValue, Flat, Instr, InstrKind, Out, ValueId};
 use gal_bits::{Op, Width, Widths};
 use gal_io::{Bytes, NoMemory};
 use packet_fields::Field;
+use resource_limits::Limits;
 use split_model::{Part, Slow, Split};
 use state_store::{Kind, ObjectDecl, Objects, Rows};
 use std::alloc::Global;
@@ -275,4 +277,19 @@ pub(crate) fn chain_parts(last: Part) -> [Part; 11] {
 
 pub(crate) fn split(alloc: Global, parts: &[Part]) -> Result<Split, NoMemory> {
     Ok(Split::from(parts.to_vec(alloc)?))
+}
+
+// Ample limits, but for two.
+pub(crate) fn limits(stages: u32, transfer_bytes: u32) -> Limits
+    requires stages { stages ≤ 4096 }
+    requires least { 2 ≤ transfer_bytes }
+    requires most { transfer_bytes ≤ 65535 }
+    ensures { AreInRange result }
+{
+    Limits {
+        table_bits: 100_000_000,
+        stages,
+        writeback: 16,
+        transfer_bytes,
+    }
 }
