@@ -1,9 +1,10 @@
-//! Texts of middleboxes, compared with texts that were written by hand.
+//! Texts of middleboxes, compared with texts that were written by hand, and read back.
 ghost use Rattle.std.specs.Prelude.{IsTrue};
 ghost use Rattle.element_lang.specs.Accepted.{HasNames};
 ghost use Rattle.element_lang.specs.Rules.{is_good};
 ghost use Rattle.element_lang.specs.View.{tree};
 
+use crate::samples::{BALANCER, TRANSLATOR};
 use element_lang::{Locals, Middlebox};
 use element_print::print;
 use element_text::read;
@@ -69,5 +70,25 @@ fn the_least_middlebox(rt: HostRuntime) -> Result<(), Fail> {
         body: Vec::new(alloc),
     };
     assert_eq!(rt; print(alloc, &m)?.as_slice(), b"process { }\n".as_slice());
+    Ok(())
+}
+
+// Whether what is read of a middlebox's text has this very text.
+fn is_read_back(alloc: Global, m: &Middlebox) -> Result<bool, Fail>
+    requires good { IsTrue (is_good (tree m.now)) }
+    requires names { HasNames (tree m.now) }
+{
+    let text = print(alloc, m)?;
+    let again = read(alloc, text.as_slice())?;
+    let copy = text_of(alloc, &again)?;
+    Ok(text.len() > 0 && copy.as_slice() == text.as_slice())
+}
+
+#[test]
+fn read_back(rt: HostRuntime) -> Result<(), Fail> {
+    for source in [TRANSLATOR, BALANCER, EXPRESSIONS, STATEMENTS] {
+        let middlebox = read(rt.alloc(), source.as_bytes())?;
+        assert!(rt; is_read_back(rt.alloc(), &middlebox)?, "of {source}");
+    }
     Ok(())
 }

@@ -1,8 +1,9 @@
-//! Rules that sources break, and how much middleboxes hold and write.
+//! Rules that sources break, how much middleboxes hold and write, and the words of spans.
 use crate::samples::parsed;
 use element_lang::Broken;
-use element_rules::{entries, first_broken, writes};
+use element_rules::{entries, first_broken, word_at, word_of, writes};
 use element_text::read;
+use element_tokens::Span;
 use std::test::Fail;
 
 // The rule, and the number of tokens from the first one of what breaks it.
@@ -57,6 +58,25 @@ fn sizes(rt: HostRuntime) -> Result<(), Fail> {
             (holds, stores),
             "of {text}"
         );
+    }
+    Ok(())
+}
+
+// A span that goes past the end of the text has the bytes up to it.
+#[test]
+fn words(rt: HostRuntime) -> Result<(), Fail> {
+    let table: [(usize, usize, &[u8]); 5] = [
+        (0, 3, b"int"),
+        (4, 1, b"n"),
+        (10, 9, b"0;"),
+        (12, 1, b""),
+        (13, 1, b""),
+    ];
+    for (offset, len, want) in table {
+        let span = Span { offset, len };
+        assert_eq!(rt; word_at(b"int n : 8=0;", span), want, "at {offset}");
+        let word = word_of(rt.alloc(), b"int n : 8=0;", span)?;
+        assert_eq!(rt; word.as_slice(), want, "at {offset}");
     }
     Ok(())
 }

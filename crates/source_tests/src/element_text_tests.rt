@@ -14,7 +14,7 @@ fn refusal(alloc: Global, text: &[u8]) -> Option<TextError> {
 #[test]
 fn places_of_refusals(rt: HostRuntime) {
     use TextError::{NotUtf8, Rule, Syntax, Token};
-    const TABLE: [(&[u8], TextError); 64] = [
+    const TABLE: [(&[u8], TextError); 67] = [
         (b"\xff", NotUtf8(0)),
         (b"process { drop; } // \xff", NotUtf8(21)),
         (b"process \xc3\xa9\xc3", NotUtf8(10)),
@@ -26,6 +26,7 @@ fn places_of_refusals(rt: HostRuntime) {
         (b"process { send 18446744073709551616:8; }", Token(15)),
         (b"process { ip.none = 1:8; }", Token(10)),
         (b"process { if 1:1 > 0:1 { } }", Token(17)),
+        (b"process { drop; } $", Token(18)),
         (b"process drop $", Token(13)),
         (b"// $\nprocess { ! }", Token(15)),
         (b"process { drop; } caf\xc3\xa9", Token(21)),
@@ -103,6 +104,20 @@ fn places_of_refusals(rt: HostRuntime) {
             },
         ),
         (b"int n : 8 = 256; process { }", Rule { rule: 4, offset: 0 }),
+        (
+            b"process { send 300:8; }",
+            Rule {
+                rule: 4,
+                offset: 10,
+            },
+        ),
+        (
+            b"process { meta.port = 1:8; }",
+            Rule {
+                rule: 10,
+                offset: 10,
+            },
+        ),
     ];
     for (text, want) in TABLE {
         assert_eq!(rt; refusal(rt.alloc(), text), Some(want), "at {text:?}");

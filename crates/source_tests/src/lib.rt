@@ -19,6 +19,8 @@ mod element_tokens_tests;
 #[cfg(test)]
 mod flatten_tests;
 #[cfg(test)]
+mod meaning_tests;
+#[cfg(test)]
 mod rule_tests;
 #[cfg(test)]
 mod samples;
