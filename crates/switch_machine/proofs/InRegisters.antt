@@ -1,5 +1,5 @@
 -- A pass stage by stage, in registers.
-use Rattle.std.proofs.Common.{◌≡◌, ℕ, zero, suc, ◌+◌, ◌==◌, ◌<◌, ◌≤◌, Bool, true, false, cond, ◌||◌, ◌&&◌, List, [], ◌∷◌, ◌++◌, length, map, Option, Some, None, refl, sym, ap, ◌∙◌, subst, inl, inr, arith, slice_index, slice_set}
+use Rattle.std.proofs.Common.{◌≡◌, ℕ, zero, suc, ◌+◌, ◌==◌, ◌<◌, ◌≤◌, Bool, true, false, cond, ◌||◌, ◌&&◌, List, [], ◌∷◌, ◌++◌, length, map, Option, Some, None, refl, sym, ap, ◌∙◌, subst, inl, inr, arith, add-one, slice_index, slice_set}
 use Rattle.std.specs.Prelude.{All, Contains}
 use Rattle.std.specs.List.{AllByRecursion as Each}
 use Rattle.std.proofs.lemmas.Bool.{cases_Bool, cases_eq, eq-eqb, ne_eqb, or_left, or_right, and_from, true≢false}
@@ -21,8 +21,8 @@ use Rattle.transfer_header.specs.Steps.{AreSpansOf, IsDoneAlike, IsReady, IsSpan
 use Rattle.switch_ir.specs.Code.{Step, PassCode}
 use Rattle.switch_ir.specs.Meaning.{after_stages, pass_values}
 use Rattle.switch_machine.specs.declared.numbering.ValueRange.{ValueRange}
-use Rattle.switch_machine.specs.Numbers.{content_at, gives, is_number, is_read, number_in, range_at, reads_by, stage_gives, stage_number, stage_reads, stage_writes}
-use Rattle.switch_machine.specs.Planned.{first_writes, steps_of, IsSetUp}
+use Rattle.switch_machine.specs.Numbers.{AreHeld, content_at, gives, is_number, is_read, number_in, range_at, reads_by, stage_gives, stage_number, stage_reads, stage_writes}
+use Rattle.switch_machine.specs.Planned.{first_writes, registers_at, steps_of, IsSetUp}
 use Rattle.switch_machine.specs.Staged.{of_stage}
 use Rattle.switch_machine.proofs.Each.{each_at}
 use Rattle.switch_machine.proofs.Numbered.{all_given, each_of_stage, number_is, once_of_stage, own_is, unknown_stays, writes_are, IsGiven}
@@ -206,7 +206,7 @@ module _ (ranges : List ValueRange) (pass : PassCode) (kept : List ValueId) (giv
       gives_same = gives_by (own t) (λ n e. or_left (stage_reads ranges (own t) n) ((t == suc pass.highest) && is_read ranges kept n) e)
 
   -- what is kept has the pass's number at the end
-  pub kept_is : (registers : Registers) → ((n : ℕ) → steps.reads (suc pass.highest) n ≡ true → content_of registers n ≡ one_each steps (suc pass.highest) n)
+  kept_is : (registers : Registers) → ((n : ℕ) → steps.reads (suc pass.highest) n ≡ true → content_of registers n ≡ one_each steps (suc pass.highest) n)
       → Each (λ v. reads_by ranges (content_of registers) v ≡ pass_values pass given tables packet v) kept
   kept_is registers reads =
       all_of (suc pass.highest) registers reads kept
@@ -270,11 +270,11 @@ module _ (ranges : List ValueRange) (pass : PassCode) (kept : List ValueId) (giv
 
   -- Before a stage what is still to be read of the pass is in its register. Before stage 0 these are the registers that
   -- were set up.
-  pub record StandsAt (t : ℕ) (registers : Registers) : Type 0 where
+  record StandsAt (t : ℕ) (registers : Registers) : Type 0 where
     pub ready : IsReady set.spans registers (one_each steps t) t
     pub first : t ≡ 0 → registers ≡ start
 
-  pub stands_first : StandsAt 0 start
+  stands_first : StandsAt 0 start
   stands_first = record {
     ready = record {
       apart = set.apart;
@@ -291,7 +291,7 @@ module _ (ranges : List ValueRange) (pass : PassCode) (kept : List ValueId) (giv
       → LooksAtReadsAlone every → AreSpansOf every spans → IsReady spans registers contents step → IsDoneAlike every spans registers contents step)
       (agree : (r r' : Reading) (work : Work) → Each (Same r r') (operands work)
       → results r false tables packet work ≡ results r' false tables packet work) where
-    pub done : (t : ℕ) (registers : Registers) → StandsAt t registers → IsDoneAlike steps set.spans registers (one_each steps t) t
+    done : (t : ℕ) (registers : Registers) → StandsAt t registers → IsDoneAlike steps set.spans registers (one_each steps t) t
     done t registers at = one_step steps set.spans registers (one_each steps t) t alone of_spans at.ready
 
     -- the registers once what a stage gives is written
@@ -310,15 +310,23 @@ module _ (ranges : List ValueRange) (pass : PassCode) (kept : List ValueId) (giv
         ∙ sym (own_first registers numbers (first_writes set.begins t) (stage_writes ranges (own t))
         (own_begins t registers (content_of registers) at.first (first_writes set.begins t) (each_among (first_writes set.begins t))))
 
-    pub stands_next : (t : ℕ) (registers after : Registers) → StandsAt t registers
+    stands_next : (t : ℕ) (registers after : Registers) → StandsAt t registers
         → after ≡ pairs_written registers (stage_gives ranges (own t) (reads_by ranges (content_of registers)) tables packet)
-        → StandsAt (t + 1) after
+        → StandsAt (suc t) after
     stands_next t registers after at is = record {
-      ready = subst (λ k. IsReady set.spans after (one_each steps k) k) (add-one' t)
-          (subst (λ (rs : Registers). IsReady set.spans rs (one_each steps (suc t)) (suc t)) (sym (is ∙ written_is t registers at))
-          (subst (λ k. IsReady set.spans (registers_after steps registers t) (one_each steps (suc t)) k) (sym (add-one' t)) (done t registers at).next));
+      ready = subst (λ (rs : Registers). IsReady set.spans rs (one_each steps (suc t)) (suc t)) (sym (is ∙ written_is t registers at))
+          (subst (λ k. IsReady set.spans (registers_after steps registers t) (one_each steps (suc t)) k) (add-one t) (done t registers at).next);
       first = λ none. absurd (omega (arith, none));
     }
-      where
-        add-one' : (n : ℕ) → suc n ≡ n + 1
-        add-one' n = omega arith
+
+    stands_at : (t : ℕ) → StandsAt t (registers_at ranges pass tables packet start t)
+    unfolding registers_at
+    stands_at zero = stands_first
+    stands_at (suc t) = stands_next t (registers_at ranges pass tables packet start t) (registers_at ranges pass tables packet start (suc t)) (stands_at t) refl
+
+    -- what is kept has the pass's numbers at its end
+    pub pass_is : AreHeld ranges (registers_at ranges pass tables packet start (suc pass.highest)) (pass_values pass given tables packet) kept
+    pass_is =
+        let last = suc pass.highest in
+        let registers = registers_at ranges pass tables packet start last in
+        kept_is registers (done last registers (stands_at last)).reads

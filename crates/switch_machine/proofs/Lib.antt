@@ -18,6 +18,7 @@ mod PassValues
 mod Passing
 mod SettingUp
 mod StageLists
+mod StageRegisters
 mod Stepping
 mod TableRows
 mod VisibleRows

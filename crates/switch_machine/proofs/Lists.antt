@@ -25,3 +25,8 @@ ok_weaker P Q (Err e) go h = tt
 pub on_ok : {X E : Type 0} (P : Type 0) (r : Result X E) → P → OnOk r P
 on_ok P (Ok x) p = p
 on_ok P (Err e) p = tt
+
+-- what follows from what holds of a success
+pub on_weaker : {X E : Type 0} (P Q : Type 0) (r : Result X E) → (P → Q) → OnOk r P → OnOk r Q
+on_weaker P Q (Ok x) go h = go h
+on_weaker P Q (Err e) go h = tt

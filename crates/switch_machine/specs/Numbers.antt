@@ -1,5 +1,5 @@
 -- The numbers of a pass's values, and what its instructions read, give and write by them.
-use Rattle.std.specs.Prelude.{◌≢◌, ℕ, zero, suc, ◌+◌, ◌-◌, ◌==◌, nat_lt, Bool, false, ◌||◌}
+use Rattle.std.specs.Prelude.{◌≡◌, ◌≢◌, ℕ, zero, suc, ◌+◌, ◌-◌, ◌==◌, nat_lt, Bool, false, ◌||◌}
 use Rattle.std.specs.Prelude.{List, [], ◌∷◌, ◌++◌, if◌then◌else◌, slice_index, slice_index_or, Option, Some, None}
 use Rattle.std.specs.List.{list_any, AllByRecursion as Each}
 use Rattle.packet_fields.specs.declared.packet.Packet.{Packet}
@@ -9,6 +9,7 @@ use Rattle.flat_ir.specs.Blocks.{Reading}
 use Rattle.flat_ir.specs.Program.{operands}
 use Rattle.flat_ir.specs.Run.{results}
 use Rattle.switch_ir.specs.Code.{Step}
+use Rattle.transfer_header.specs.Registers.{Registers, content_of}
 use Rattle.transfer_header.specs.Steps.{Contents, is_among}
 use Rattle.switch_machine.specs.declared.numbering.ValueRange.{ValueRange}
 
@@ -35,6 +36,10 @@ content_at contents (Some number) = contents number
 -- each value's content, 0 where the pass doesn't know the value
 abbrev pub reads_by : List ValueRange → Contents → Reading
 reads_by ranges contents v = content_at contents (number_in ranges v)
+
+-- the registers have these numbers of some values
+abbrev pub AreHeld : List ValueRange → Registers → Reading → List ValueId → Type 0
+AreHeld ranges registers reads values = Each (λ v. reads_by ranges (content_of registers) v ≡ reads v) values
 
 -- ## What an instruction gives
 

@@ -9,10 +9,10 @@ use Rattle.flat_ir.specs.declared.spans.Span.{Span}
 use Rattle.flat_ir.specs.Blocks.{Reading}
 use Rattle.flat_ir.specs.Run.{results}
 use Rattle.transfer_header.specs.Registers.{Registers, content_of, HasRegister, ArePlaced}
-use Rattle.transfer_header.specs.Steps.{Contents, Steps, is_among, AreSpansOf, AreKeptApart}
+use Rattle.transfer_header.specs.Steps.{Contents, Steps, is_among, pairs_written, AreSpansOf, AreKeptApart}
 use Rattle.switch_ir.specs.Code.{Step, PassCode}
 use Rattle.switch_machine.specs.declared.numbering.ValueRange.{ValueRange}
-use Rattle.switch_machine.specs.Numbers.{number_in, range_at, stage_reads, stage_writes, is_read, AreOnce}
+use Rattle.switch_machine.specs.Numbers.{number_in, range_at, reads_by, stage_gives, stage_reads, stage_writes, is_read, AreOnce}
 use Rattle.switch_machine.specs.Staged.{of_stage}
 
 -- what a pass begins with is written at step 0
@@ -69,3 +69,11 @@ pub record IsSetUp
   pub fresh : (n : ℕ) → is_among n begins ≡ true → is_among n (stage_writes ranges (of_stage 0 pass.steps)) ≡ false
   pub begin : BeginsWith ranges begins given registers
   pub fit : FitRanges ranges pass.steps tables packet
+
+-- the registers before a stage of a pass that began with these: each stage reads all that it reads before it writes
+unfoldable pub registers_at : List ValueRange → PassCode → Store → Packet → Registers → ℕ → Registers
+registers_at ranges pass tables packet start zero = start
+registers_at ranges pass tables packet start (suc t) =
+    pairs_written (registers_at ranges pass tables packet start t)
+    (stage_gives ranges (of_stage t pass.steps) (reads_by ranges (content_of (registers_at ranges pass tables packet start t)))
+    tables packet)

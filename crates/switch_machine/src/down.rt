@@ -1,12 +1,11 @@
 //! The pass over a packet that comes down from the server.
-ghost use Rattle.std.specs.Prelude.{◌≡◌, ◌≤◌, ℕ, [], length, IfOk, OnOk};
-ghost use Rattle.std.specs.List.{AllByRecursion as Each};
+ghost use Rattle.std.specs.Prelude.{◌≡◌, ◌≤◌, [], length, IfOk, OnOk};
 ghost use Rattle.packet_fields.specs.Shape.{shape_of};
 ghost use Rattle.packet_fields.specs.Sizes.{largest_packet};
 ghost use Rattle.flat_ir.specs.Blocks.{Reading};
 ghost use Rattle.flat_ir.specs.Registers.{packet_of};
 ghost use Rattle.transfer_header.specs.Frames.{IsFrame};
-ghost use Rattle.transfer_header.specs.Registers.{content_of, place_of, value_in, ArePlaced, FitsLayout};
+ghost use Rattle.transfer_header.specs.Registers.{value_in, ArePlaced};
 ghost use Rattle.switch_ir.specs.Code.{code_of};
 ghost use Rattle.switch_ir.specs.Meaning.{down_end, down_given, pass_values};
 ghost use Rattle.switch_ir.specs.Port.{EndsDown};
@@ -14,9 +13,10 @@ ghost use Rattle.switch_ir.specs.Tables.{seen_tables};
 ghost use Rattle.switch_ir.specs.declared.port.DownEnd.TheVariants.{Verdict as Ended};
 ghost use Rattle.switch_machine.specs.Keeping.{begins_down, kept_down};
 ghost use Rattle.switch_machine.specs.Kept.{KeepsTables};
-ghost use Rattle.switch_machine.specs.Numbers.{reads_by};
+ghost use Rattle.switch_machine.specs.Numbers.{AreHeld};
 ghost use Rattle.switch_machine.specs.Planned.{BeginsWith};
 
+use crate::laws::postprocessing_is_computed;
 use crate::loaded::Loaded;
 use crate::run::{Nothing, Run, read_stage, run_pass, write_stage};
 use crate::tables::SwitchTables;
@@ -24,9 +24,7 @@ use flat_ir::{Arrival, leave, readings_that_agree};
 use gal_io::NoMemory;
 use packet_fields::{Shape, Verdict};
 use std::alloc::Global;
-use switch_ir::passes_have_spans;
-use transfer_header::{a_write_keeps_others, needed_values_fit, plans_of_spans, unpack_down};
-use writeback_table::what_a_lookup_sees;
+use transfer_header::unpack_down;
 
 /// The verdict of postprocessing on a frame.
 pub(crate) fn go_down(
@@ -41,9 +39,8 @@ pub(crate) fn go_down(
     ensures told { IfOk result (λ verdict.
         EndsDown (code_of loaded.old.code) tables.now frame.now (Ended verdict)) }
 {
+    postprocessing_is_computed();
     loaded.down.clear();
-    plans_of_spans();
-    needed_values_fit();
     let Ok(head) = unpack_down(&loaded.code.down, frame, &mut loaded.down.registers) else {
         unreachable!()
     };
@@ -98,9 +95,7 @@ fn give(loaded: &mut Loaded, alloc: Global, arrival: &Arrival<'_>) -> Result<(),
     ensures placed { OnOk result (ArePlaced loaded.new.down.registers) }
     ensures empty { OnOk result (loaded.new.down.computed.items ≡ []) }
 {
-    passes_have_spans();
-    plans_of_spans();
-    a_write_keeps_others();
+    postprocessing_is_computed();
     let none = SwitchTables::none(alloc);
     let place = &mut loaded.down;
     read_stage(
@@ -129,13 +124,11 @@ fn run_down(
     ensures code { code_of loaded.new.code ≡ code_of loaded.old.code }
     ensures values { (given : Reading) → BeginsWith loaded.old.post_numbering
         (begins_down loaded.old.post_numbering (code_of loaded.old.code)) given loaded.old.down.registers
-        → OnOk result (Each (λ v. reads_by loaded.new.post_numbering (content_of loaded.new.down.registers) v
-        ≡ pass_values (code_of loaded.old.code).post given (seen_tables tables.now) (packet_of arrival.now) v)
+        → OnOk result (AreHeld loaded.new.post_numbering loaded.new.down.registers
+        (pass_values (code_of loaded.old.code).post given (seen_tables tables.now) (packet_of arrival.now))
         (kept_down (code_of loaded.old.code))) }
 {
-    passes_have_spans();
-    plans_of_spans();
-    what_a_lookup_sees();
+    postprocessing_is_computed();
     let code = &loaded.code;
     let place = &mut loaded.down;
     run_pass(

@@ -3,6 +3,7 @@
 
 mod calls;
 mod down;
+mod laws;
 mod live;
 mod loaded;
 mod machine;

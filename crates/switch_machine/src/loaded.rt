@@ -12,8 +12,9 @@ use crate::numbering::Numbering;
 use crate::stages::Stages;
 use flat_ir::RegPlan;
 use gal_io::NoMemory;
+use split_model::Crossing;
 use std::alloc::Global;
-use switch_ir::SwitchCode;
+use switch_ir::{Pass, SwitchCode, Table};
 use transfer_header::Regs;
 
 /// Where a pass is computed: its registers, and what a stage has computed so far, by the number of each value.
@@ -82,24 +83,51 @@ impl Loaded {
         ensures { IfOk result (λ loaded. code_of loaded.code ≡ code_of code.now) }
     {
         let copy = code.copy(alloc)?;
-        let pre = Stages::of(alloc, &copy.pre.steps, copy.pre.highest)?;
-        let post = Stages::of(alloc, &copy.post.steps, copy.post.highest)?;
-        let given = Stages::of(alloc, &copy.post.given, 0)?;
         let tables = copy.tables.as_slice();
-        let pre_numbering = Numbering::of(alloc, tables, &[], &copy.pre)?;
-        let post_numbering = Numbering::of(alloc, tables, copy.down.as_slice(), &copy.post)?;
-        let up = Workplace::new(alloc, &copy.pre.plan)?;
-        let down = Workplace::new(alloc, &copy.post.plan)?;
+        let pre = LoadedPass::of(alloc, tables, &[], &copy.pre)?;
+        let post = LoadedPass::of(alloc, tables, copy.down.as_slice(), &copy.post)?;
+        let given = Stages::of(alloc, &copy.post.given, 0)?;
         Ok(Loaded {
             code: copy,
-            pre,
-            post,
+            pre: pre.stages,
+            post: post.stages,
             given,
-            pre_numbering,
-            post_numbering,
-            up,
-            down,
+            pre_numbering: pre.numbering,
+            post_numbering: post.numbering,
+            up: pre.place,
+            down: post.place,
             marks: Vec::new(alloc),
+        })
+    }
+}
+
+// What a pass takes.
+#[derive(Drop)]
+struct LoadedPass {
+    stages: Stages,
+    numbering: Numbering,
+    place: Workplace,
+}
+
+impl LoadedPass {
+    // That of a pass to which the values of a layout are handed.
+    fn of(
+        alloc: Global,
+        tables: &[Table],
+        handed: &[Crossing],
+        pass: &Pass,
+    ) -> Result<LoadedPass, NoMemory>
+        ensures stages { IfOk result (λ made. AreStages (pass_of pass.now).steps pass.now.highest made.stages) }
+        ensures ranges { IfOk result (λ made. AreRanges (entries tables.now handed.now (pass_of pass.now)) made.numbering) }
+        ensures plan { IfOk result (λ made. IsPlanned pass.now.plan made.place.registers) }
+    {
+        let stages = Stages::of(alloc, &pass.steps, pass.highest)?;
+        let numbering = Numbering::of(alloc, tables, handed, pass)?;
+        let place = Workplace::new(alloc, &pass.plan)?;
+        Ok(LoadedPass {
+            stages,
+            numbering,
+            place,
         })
     }
 }

@@ -161,14 +161,27 @@ impl ModelSwitch {
             })) }
         ensures err { OnErr result (machine_of self.new ≡ machine_of self.old) }
     {
-        let loaded = Loaded::new(alloc, code)?;
-        let tables = SwitchTables::start(alloc, &loaded.code)?;
+        let tables = SwitchTables::start(alloc, code)?;
         let mut journal = Journal::new(alloc);
         journal.push(Entry::Load)?;
+        let loaded = Loaded::new(alloc, code)?;
+        self.begin(loaded, tables, journal);
+        Ok(())
+    }
+
+    // Takes code that is loaded, with the tables and the journal that it starts with.
+    fn begin(&mut self, loaded: Loaded, tables: SwitchTables, journal: Journal)
+        requires { IsStart (code_of loaded.code) tables }
+        ensures { let old = machine_of self.old in
+            machine_of self.new ≡ record old {
+              code = Some (code_of loaded.code);
+              tables = tables;
+              journal = journal;
+            } }
+    {
         self.loaded = Some(loaded);
         self.tables = tables;
         self.journal = journal;
-        Ok(())
     }
 
     fn try_room(&mut self, commands: usize) -> Result<(), NoMemory>

@@ -1,10 +1,8 @@
 //! How a pass is computed.
-ghost use Rattle.std.specs.Prelude.{◌≡◌, ℕ, ◌≤◌, ◌<◌, ◌+◌, ◌^◌, ◌++◌, ◌∷◌, [], false, List, length, map, OnOk};
+ghost use Rattle.std.specs.Prelude.{◌≡◌, ℕ, ◌≤◌, ◌<◌, ◌+◌, ◌^◌, ◌++◌, ◌∷◌, [], suc, false, length, map, OnOk};
 ghost use Rattle.std.specs.List.{AllByRecursion as Each};
 ghost use Rattle.packet_fields.specs.Shape.{shape_of};
 ghost use Rattle.packet_fields.specs.Sizes.{largest_packet};
-ghost use Rattle.flat_ir.specs.declared.program.ValueId.{ValueId as Value};
-ghost use Rattle.flat_ir.specs.Blocks.{Reading};
 ghost use Rattle.flat_ir.specs.Operands.{CanRun};
 ghost use Rattle.flat_ir.specs.Program.{work_of};
 ghost use Rattle.flat_ir.specs.Registers.{packet_of, results_of};
@@ -12,24 +10,21 @@ ghost use Rattle.flat_ir.specs.Run.{results};
 ghost use Rattle.transfer_header.specs.Registers.{content_of, place_of, HasRegister};
 ghost use Rattle.transfer_header.specs.Steps.{pairs_written};
 ghost use Rattle.switch_ir.specs.Code.{pass_step_of, pass_of};
-ghost use Rattle.switch_ir.specs.Meaning.{pass_values};
 ghost use Rattle.switch_ir.specs.Sound.{CanStep};
 ghost use Rattle.switch_machine.specs.Numbers.{gives, range_at, reads_by, stage_gives};
-ghost use Rattle.switch_machine.specs.Planned.{HaveRegisters, IsSetUp};
+ghost use Rattle.switch_machine.specs.Planned.{registers_at, HaveRegisters};
 ghost use Rattle.switch_machine.specs.Staged.{AreStages};
 
 use crate::numbering::{Numbering, ValueRange};
 use crate::stages::Stages;
-use flat_ir::{
-    Arrival, InstrKind, Lookup, Numbers, Results, ValueId, given_number, look, readings_that_agree,
-};
+use flat_ir::{Arrival, InstrKind, Lookup, Numbers, Results, ValueId, given_number, look};
 use gal_io::NoMemory;
 use std::alloc::Global;
 use switch_ir::{Pass, PassStep};
-use transfer_header::{Regs, a_list_is_written, a_step_in_registers};
+use transfer_header::Regs;
 
 /// The numbers of a pass under way, in registers. A value that the pass doesn't know counts as 0.
-#[derive(Debug, Drop)]
+#[derive(Clone, Copy)]
 pub(crate) struct Run<'a> {
     pub numbering: &'a Numbering,
     pub registers: &'a Regs,
@@ -47,7 +42,7 @@ impl Numbers for Run<'_> {
 }
 
 /// Numbers of which nothing is known.
-#[derive(Clone, Copy, Debug)]
+#[derive(Clone, Copy)]
 pub(crate) struct Nothing;
 
 impl Numbers for Nothing {
@@ -153,8 +148,39 @@ pub(crate) fn write_stage(computed: &mut Vec<(u32, u64)>, registers: &mut Regs)
     computed.clear();
 }
 
-/// Computes a pass in registers, stage by stage. Each stage reads all that it reads before it writes. Where memory runs
-/// out, something may be left in `computed`.
+// Computes a stage in registers. It reads all that it reads before it writes.
+fn run_stage<L: Lookup>(
+    steps: &[PassStep],
+    numbering: &Numbering,
+    tables: &L,
+    arrival: &Arrival<'_>,
+    registers: &mut Regs,
+    computed: &mut Vec<(u32, u64)>,
+) -> Result<(), NoMemory>
+    requires can { Each CanStep (map pass_step_of steps.now) }
+    requires size { length arrival.now.bytes.now ≤ largest_packet }
+    requires shape { arrival.now.shape ≡ shape_of arrival.now.bytes.now }
+    requires has { Each (λ pair. HasRegister registers.old pair.0) (stage_gives numbering.now
+        (map pass_step_of steps.now) (reads_by numbering.now (content_of registers.old))
+        (L.seen tables.now) (packet_of arrival.now)) }
+    requires empty { computed.old.items ≡ [] }
+    ensures written { OnOk result (registers.new ≡ pairs_written registers.old (stage_gives numbering.now
+        (map pass_step_of steps.now) (reads_by numbering.now (content_of registers.old))
+        (L.seen tables.now) (packet_of arrival.now))) }
+    ensures places { (n : ℕ) → place_of registers.new n ≡ place_of registers.old n }
+    ensures plan { registers.new.plan ≡ registers.old.plan }
+    ensures empty { OnOk result (computed.new.items ≡ []) }
+{
+    let run = Run {
+        numbering,
+        registers: &*registers,
+    };
+    read_stage(steps, numbering, &run, tables, arrival, computed)?;
+    write_stage(computed, registers);
+    Ok(())
+}
+
+/// Computes a pass in registers, stage by stage. Where memory runs out, something may be left in `computed`.
 pub(crate) fn run_pass<L: Lookup>(
     pass: &Pass,
     stages: &Stages,
@@ -170,31 +196,20 @@ pub(crate) fn run_pass<L: Lookup>(
     requires shape { arrival.now.shape ≡ shape_of arrival.now.bytes.now }
     requires has { HaveRegisters numbering.now (pass_of pass.now) registers.old }
     requires empty { computed.old.items ≡ [] }
-    ensures values { (kept : List Value) (given : Reading)
-        → IsSetUp numbering.now (pass_of pass.now) kept given (L.seen tables.now) (packet_of arrival.now) registers.old
-        → OnOk result (Each (λ v. reads_by numbering.now (content_of registers.new) v
-        ≡ pass_values (pass_of pass.now) given (L.seen tables.now) (packet_of arrival.now) v) kept) }
-    ensures places { (n : ℕ) → place_of registers.new n ≡ place_of registers.old n }
+    ensures computed { OnOk result (registers.new ≡ registers_at numbering.now (pass_of pass.now) (L.seen tables.now)
+        (packet_of arrival.now) registers.old (suc pass.now.highest)) }
     ensures plan { registers.new.plan ≡ registers.old.plan }
 {
-    readings_that_agree();
-    a_step_in_registers();
-    a_list_is_written();
     let count = pass.highest as usize + 1;
     for stage in 0..count {
-        let run = Run {
-            numbering,
-            registers: &*registers,
-        };
-        read_stage(
+        run_stage(
             stages.stage(stage),
             numbering,
-            &run,
             tables,
             arrival,
+            registers,
             computed,
         )?;
-        write_stage(computed, registers);
     }
     Ok(())
 }

@@ -1,11 +1,10 @@
 //! The pass over a packet that arrives.
 ghost use Rattle.std.specs.Prelude.{◌≡◌, ◌≤◌, ◌<◌, false, length, IfOk, OnOk};
-ghost use Rattle.std.specs.List.{AllByRecursion as Each};
 ghost use Rattle.packet_fields.specs.Shape.{shape_of};
 ghost use Rattle.packet_fields.specs.Sizes.{largest_packet};
 ghost use Rattle.flat_ir.specs.Blocks.{Reading};
 ghost use Rattle.flat_ir.specs.Registers.{packet_of};
-ghost use Rattle.transfer_header.specs.Registers.{content_of, FitsLayout};
+ghost use Rattle.transfer_header.specs.Registers.{FitsLayout};
 ghost use Rattle.switch_ir.specs.Code.{code_of};
 ghost use Rattle.switch_ir.specs.Meaning.{up_values};
 ghost use Rattle.switch_ir.specs.Port.{EndsUp, IsUpFrame};
@@ -13,8 +12,9 @@ ghost use Rattle.switch_ir.specs.Tables.{seen_tables};
 ghost use Rattle.switch_machine.specs.Ends.{EndsBy, UpPasses};
 ghost use Rattle.switch_machine.specs.Keeping.{kept_up};
 ghost use Rattle.switch_machine.specs.Kept.{KeepsTables};
-ghost use Rattle.switch_machine.specs.Numbers.{reads_by};
+ghost use Rattle.switch_machine.specs.Numbers.{AreHeld};
 
+use crate::laws::preprocessing_is_computed;
 use crate::live::leaves_work;
 use crate::loaded::Loaded;
 use crate::run::{Run, run_pass};
@@ -23,9 +23,8 @@ use flat_ir::{Arrival, leave, readings_that_agree};
 use gal_io::NoMemory;
 use packet_fields::Shape;
 use std::alloc::Global;
-use switch_ir::{UpEnd, passes_have_spans};
-use transfer_header::{frames_of_low_bits, needed_values_fit, pack_up, plans_of_spans};
-use writeback_table::what_a_lookup_sees;
+use switch_ir::UpEnd;
+use transfer_header::{frames_of_low_bits, pack_up};
 
 // Computes preprocessing.
 fn run_up(loaded: &mut Loaded, tables: &SwitchTables, arrival: &Arrival<'_>) -> Result<(), NoMemory>
@@ -34,14 +33,11 @@ fn run_up(loaded: &mut Loaded, tables: &SwitchTables, arrival: &Arrival<'_>) -> 
     requires safe { KeepsTables (code_of loaded.old.code) tables.now }
     ensures code { code_of loaded.new.code ≡ code_of loaded.old.code }
     ensures fits { OnOk result (FitsLayout loaded.new.code.up loaded.new.up.registers) }
-    ensures values { OnOk result (Each (λ v. reads_by loaded.new.pre_numbering (content_of loaded.new.up.registers) v
-        ≡ up_values (code_of loaded.new.code) (seen_tables tables.now) (packet_of arrival.now) v)
+    ensures values { OnOk result (AreHeld loaded.new.pre_numbering loaded.new.up.registers
+        (up_values (code_of loaded.new.code) (seen_tables tables.now) (packet_of arrival.now))
         (kept_up (code_of loaded.new.code))) }
 {
-    passes_have_spans();
-    plans_of_spans();
-    needed_values_fit();
-    what_a_lookup_sees();
+    preprocessing_is_computed();
     loaded.up.clear();
     run_pass(
         &loaded.code.pre,
@@ -69,8 +65,8 @@ fn end_up(
     ensures passes { IfOk result (UpPasses false) }
     ensures frame { IfOk result
         (IsUpFrame (code_of loaded.old.code) number arrival.now.port arrival.now.bytes.now) }
-    ensures ends { (reads : Reading) → Each (λ v. reads_by loaded.old.pre_numbering
-        (content_of loaded.old.up.registers) v ≡ reads v) (kept_up (code_of loaded.old.code))
+    ensures ends { (reads : Reading)
+        → AreHeld loaded.old.pre_numbering loaded.old.up.registers reads (kept_up (code_of loaded.old.code))
         → IfOk result (EndsBy (code_of loaded.old.code) reads number (packet_of arrival.now)) }
 {
     readings_that_agree();

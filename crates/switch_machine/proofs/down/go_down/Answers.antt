@@ -4,20 +4,18 @@ use Rattle.transfer_header.specs.Registers.{value_in}
 use Rattle.switch_ir.specs.Code.{code_of}
 use Rattle.switch_ir.specs.Meaning.{down_end}
 use Rattle.switch_ir.specs.Port.{EndsDown}
-use Rattle.switch_ir.specs.Spans.{post_spans}
 use Rattle.switch_ir.specs.Tables.{seen_tables}
 use Rattle.switch_ir.specs.declared.port.DownEnd.TheVariants.{Verdict as Ended}
 use Rattle.switch_machine.proofs.HandedDown.{down_same}
 use Rattle.switch_machine.proofs.Lists.{ok_weaker, whole_rest}
+use Rattle.switch_machine.proofs.LoadedCode.{ready_down}
 use Rattle.switch_machine.proofs.down.go_down.Goals as goal
 
 pub unpack_down-requires : goal.unpack_down-requires
 unpack_down-requires c =
-    let loaded = c.args.loaded.now in
-    let code = code_of loaded.code in
+    let l = c.args.loaded.now in
     let registers = c.clear.new.self.registers in
-    let apart = c.plans_of_spans.ensures.apart (post_spans code) loaded.code.post.plan registers loaded.code.post_plan (c.clear.ensures.plan ∙ loaded.post_plan) in
-    c.needed_values_fit.ensures code.down (post_spans code) registers 0 apart loaded.can.down loaded.can.down_needed
+    c.postprocessing_is_computed.ensures.fits (code_of l.code) l.post_numbering registers (ready_down l registers c.clear.ensures.plan)
 
 pub returns-clause-told : goal.returns-clause-told
 returns-clause-told c =

@@ -1,0 +1,86 @@
+//! What passes compute in registers.
+ghost use Rattle.std.specs.Prelude.{◌≡◌, ℕ, suc, List, []};
+ghost use Rattle.std.specs.List.{AllByRecursion as Each};
+ghost use Rattle.packet_fields.specs.declared.packet.Packet.{Packet};
+ghost use Rattle.state_store.specs.Store.{Store};
+ghost use Rattle.flat_ir.specs.declared.program.ValueId.{ValueId as Value};
+ghost use Rattle.flat_ir.specs.Blocks.{nothing, Reading};
+ghost use Rattle.transfer_header.specs.Registers.{content_of, value_in, ArePlaced, FitsLayout, HasRegister, Registers};
+ghost use Rattle.transfer_header.specs.Steps.{pairs_written};
+ghost use Rattle.switch_ir.specs.Code.{Code, PassCode};
+ghost use Rattle.switch_ir.specs.Meaning.{down_given, pass_values, up_values};
+ghost use Rattle.switch_ir.specs.Tables.{seen_tables, Told};
+ghost use Rattle.switch_machine.specs.declared.numbering.ValueRange.{ValueRange};
+ghost use Rattle.switch_machine.specs.Keeping.{begins_down, kept_down, kept_up};
+ghost use Rattle.switch_machine.specs.Kept.{KeepsTables};
+ghost use Rattle.switch_machine.specs.Numbers.{stage_gives, AreHeld};
+ghost use Rattle.switch_machine.specs.Planned.{registers_at, BeginsWith, HaveRegisters, IsSetUp};
+ghost use Rattle.switch_machine.specs.Staged.{of_stage};
+ghost use Rattle.switch_machine.specs.Workplaces.{IsReadyFor};
+
+use flat_ir::readings_that_agree;
+use switch_ir::passes_have_spans;
+use transfer_header::{
+    a_list_is_written, a_step_in_registers, a_write_keeps_others, needed_values_fit, plans_of_spans,
+};
+use writeback_table::what_a_lookup_sees;
+
+/// In registers that are set up for it, a pass leaves the number of each value that is kept.
+fn a_pass_is_computed()
+    ensures { (ranges : List ValueRange) (pass : PassCode) (kept : List Value) (given : Reading) (tables : Store)
+        (packet : Packet) (start : Registers) → IsSetUp ranges pass kept given tables packet start
+        → AreHeld ranges (registers_at ranges pass tables packet start (suc pass.highest))
+        (pass_values pass given tables packet) kept }
+{
+    readings_that_agree();
+    a_step_in_registers();
+    a_list_is_written();
+}
+
+/// Registers by the plan of preprocessing serve for it and for what goes up, and it is computed in them.
+pub(crate) fn preprocessing_is_computed()
+    ensures has { (code : Code) (ranges : List ValueRange) (registers : Registers)
+        → IsReadyFor code [] code.up code.pre ranges registers → HaveRegisters ranges code.pre registers }
+    ensures fits { (code : Code) (ranges : List ValueRange) (registers : Registers)
+        → IsReadyFor code [] code.up code.pre ranges registers → FitsLayout code.up registers }
+    ensures computed { (code : Code) (ranges : List ValueRange) (registers : Registers) (told : Told) (packet : Packet)
+        → IsReadyFor code [] code.up code.pre ranges registers → KeepsTables code told
+        → ((n : ℕ) → content_of registers n ≡ 0) → ArePlaced registers
+        → AreHeld ranges (registers_at ranges code.pre (seen_tables told) packet registers (suc code.pre.highest))
+        (up_values code (seen_tables told) packet) (kept_up code) }
+{
+    a_pass_is_computed();
+    passes_have_spans();
+    plans_of_spans();
+    needed_values_fit();
+    what_a_lookup_sees();
+}
+
+/// Registers by the plan of postprocessing serve for what comes down, for what it is given and for the pass, and it is
+/// computed in them.
+pub(crate) fn postprocessing_is_computed()
+    ensures fits { (code : Code) (ranges : List ValueRange) (registers : Registers)
+        → IsReadyFor code code.down [] code.post ranges registers → FitsLayout code.down registers }
+    ensures given { (code : Code) (ranges : List ValueRange) (registers : Registers) (packet : Packet)
+        → IsReadyFor code code.down [] code.post ranges registers
+        → Each (λ (p : ℕ × ℕ). HasRegister registers p.0)
+        (stage_gives ranges (of_stage 0 code.post.given) nothing [] packet) }
+    ensures begins { (code : Code) (ranges : List ValueRange) (registers : Registers) (packet : Packet)
+        → IsReadyFor code code.down [] code.post ranges registers → ArePlaced registers
+        → BeginsWith ranges (begins_down ranges code) (down_given code (value_in registers) packet)
+        (pairs_written registers (stage_gives ranges (of_stage 0 code.post.given) nothing [] packet)) }
+    ensures has { (code : Code) (ranges : List ValueRange) (registers : Registers)
+        → IsReadyFor code code.down [] code.post ranges registers → HaveRegisters ranges code.post registers }
+    ensures computed { (code : Code) (ranges : List ValueRange) (registers : Registers) (told : Told) (packet : Packet)
+        (given : Reading) → IsReadyFor code code.down [] code.post ranges registers → KeepsTables code told
+        → ArePlaced registers → BeginsWith ranges (begins_down ranges code) given registers
+        → AreHeld ranges (registers_at ranges code.post (seen_tables told) packet registers (suc code.post.highest))
+        (pass_values code.post given (seen_tables told) packet) (kept_down code) }
+{
+    a_pass_is_computed();
+    passes_have_spans();
+    plans_of_spans();
+    needed_values_fit();
+    a_write_keeps_others();
+    what_a_lookup_sees();
+}
