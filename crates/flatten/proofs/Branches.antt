@@ -1,5 +1,5 @@
 -- The branches of statements and their loops, on plain values.
-use Rattle.std.proofs.Common.{◌≡◌, ℕ, zero, suc, ◌+◌, ◌-◌, ◌<◌, List, [], ◌∷◌, ◌++◌, length, drop, get_or, Option, false, true, refl, sym, ap, ◌∙◌, arith}
+use Rattle.std.proofs.Common.{◌≡◌, ℕ, zero, suc, ◌+◌, ◌-◌, ◌<◌, List, [], ◌∷◌, ◌++◌, length, drop, get_or, Option, false, refl, sym, ap, ◌∙◌, arith}
 use Rattle.element_lang.specs.declared.tree.Stmt.{Stmt}
 use Rattle.element_lang.specs.Tree.{ExprTree, BodyTree}
 use Rattle.element_lang.specs.Tree.StmtTree.{choose}
@@ -9,8 +9,8 @@ use Rattle.flat_ir.specs.declared.program.ValueId.{ValueId}
 use Rattle.flat_ir.specs.declared.program.FieldValue.{FieldValue}
 use Rattle.packet_fields.specs.declared.field.Field.{Field}
 use Rattle.flatten.specs.declared.place.Place.{Place}
-use Rattle.flatten.specs.Flatten.{Given, View, At, Valued, Flattener, flat_expr, flat_stmt, flat_body, flat_turn, flat_turns, in_order, opened, below, second_side, join, all_changed}
-use Rattle.flatten.specs.Pending.{placed}
+use Rattle.flatten.specs.Flatten.{Given, View, At, Valued, Flattener, flat_expr, flat_stmt, flat_body, flat_turn, flat_turns, in_order, opened, below, second_side, all_changed}
+use Rattle.flatten.specs.Pending.{placed, first_at, rest_at}
 
 -- the statements from one on
 pub split_at : (ss : List Stmt) (n : ℕ) (s : Stmt) → n < length ss → s ≡ get_or ss n s → drop n ss ≡ s ∷ drop (n + 1) ss
@@ -36,19 +36,13 @@ pub second_none : (ws : List ℕ) (ss : List Stmt) (p : Place) (v : ValueId) (g 
 second_none ws [] p v g w e = refl
 second_none ws (s ∷ ss) p v g w e = absurd (omega (arith, e))
 
-choose_from : (ws : List ℕ) (p : Place) (first second : BodyTree) (w : View) (x : Valued) (k : Place) (ra rb : At) → k ≡ below p x.given → ra ≡ flat_body ws first k (opened p x.id true x.given) w
-    → rb ≡ second_side (is_empty second) p x.id (flat_body ws second) ra.given w
-    → join ws p x.id ra.view rb ≡ join ws p x.id (flat_body ws first (below p x.given) (opened p x.id true x.given) w).view (second_side (is_empty second) p x.id (flat_body ws second) (flat_body ws first (below p x.given) (opened p x.id true x.given) w).given w)
-choose_from ws p first second w x k ra rb ek ea eb =
-    let e : ra ≡ flat_body ws first (below p x.given) (opened p x.id true x.given) w = ea ∙ ap (λ n. flat_body ws first n (opened p x.id true x.given) w) ek in
-    ap (λ r. join ws p x.id ra.view r) eb ∙ ap (λ r. join ws p x.id r.view (second_side (is_empty second) p x.id (flat_body ws second) r.given w)) e
-
-pub choose_told : (ws : List ℕ) (p : Place) (c : ExprTree) (first second : BodyTree) (g : Given) (w : View) (x : Valued) (k : Place) (ra rb : At) → x ≡ flat_expr ws p w c g → k ≡ below p x.given
-    → ra ≡ flat_body ws first k (opened p x.id true x.given) w → rb ≡ second_side (is_empty second) p x.id (flat_body ws second) ra.given w
-    → join ws p x.id ra.view rb ≡ flat_stmt ws (choose c first second) p g w
-choose_told ws p c first second g w x k ra rb ex ek ea eb =
-    choose_from ws p first second w x k ra rb ek ea eb
-    ∙ ap (λ x. join ws p x.id (flat_body ws first (below p x.given) (opened p x.id true x.given) w).view (second_side (is_empty second) p x.id (flat_body ws second) (flat_body ws first (below p x.given) (opened p x.id true x.given) w).given w)) ex
+-- an if, from its two sides
+pub choice_made : (ws : List ℕ) (p : Place) (c : ExprTree) (first second a b : BodyTree) (g : Given) (w v : View) (x : Valued) (r : At) → x ≡ flat_expr ws p w c g → r ≡ first_at ws p a x w → a ≡ first → b ≡ second → v ≡ w
+    → rest_at ws p b x.id r v ≡ flat_stmt ws (choose c first second) p g w
+choice_made ws p c first second a b g w v x r ex er ea eb ew =
+    ap (λ b. rest_at ws p b x.id r v) eb ∙ ap (rest_at ws p second x.id r) ew
+    ∙ ap (λ r. rest_at ws p second x.id r w) (er ∙ ap (λ a. first_at ws p a x w) ea)
+    ∙ ap (λ x. rest_at ws p second x.id (first_at ws p first x w) w) ex
 
 no_more : {X : Type 0} (xs : List X) → xs ≡ xs ++ []
 no_more [] = refl

@@ -1,5 +1,5 @@
 -- What is given only grows.
-use Rattle.std.proofs.Common.{◌≡◌, ℕ, zero, suc, ◌≤◌, ◌<◌, Bool, true, false, List, [], ◌∷◌, length, get_or, Option, Some, None, refl, ap, ◌∙◌, subst, arith, length-append, cond}
+use Rattle.std.proofs.Common.{◌≡◌, ℕ, zero, suc, ◌≤◌, ◌<◌, Bool, true, false, List, [], ◌∷◌, length, get_or, Option, Some, None, refl, ◌∙◌, subst, arith, length-append, cond}
 use Rattle.std.proofs.Math.ListN.{get_or-append}
 use Rattle.element_lang.specs.Tree.{ExprTree, Exprs, StmtTree, BodyTree}
 use Rattle.element_lang.specs.Tree.ExprTree.{lit, local, field, byte, shift, apply}
@@ -20,7 +20,7 @@ use Rattle.flatten.specs.declared.place.Ending.TheVariants.{No, Yes, Maybe}
 use Rattle.flatten.specs.declared.place.Place.{Place}
 use Rattle.flatten.specs.Flatten.{Given, View, At, Valued, Flattener, emit, give, opened, below, flat_expr, flat_exprs, operation, same_id, merge_id, merge_option, merge_ids, field_widths, merge, merge_ended, ends, select_ended, join, follow, go_on, in_order, bound, flat_turn, flat_turns, looping, second_side, flat_stmt, flat_body}
 use Rattle.flatten.specs.Over.{IsOver}
-use Rattle.flatten.specs.Pending.{first_at}
+use Rattle.flatten.specs.Pending.{first_at, rest_at}
 use Rattle.flatten.specs.declared.stretch.Pending.{Pending}
 use Rattle.flatten.specs.Open.{closed, outermost}
 
@@ -219,36 +219,21 @@ over_stmt ws s p g w e over = over_later g (flat_stmt ws s p g w).given e (stmt_
 
 -- ## Choices
 
--- what is given for the second side of a choice in this place
-abbrev pub second_at : List ℕ → Place → BodyTree → ValueId → Given → View → At
-second_at ws p second v g w = second_side (is_empty second) p v (flat_body ws second) g w
+-- too much in the second side of a choice, and in the first
+pub second_over : (ws : List ℕ) (p : Place) (second : BodyTree) (v : ValueId) (a : At) (w : View) (e : FlatError) → IsOver (second_side (is_empty second) p v (flat_body ws second) a.given w).given e → IsOver (rest_at ws p second v a w).given e
+second_over ws p second v a w e over =
+    let b = second_side (is_empty second) p v (flat_body ws second) a.given w in
+    over_later b.given (join ws p v a.view b).given e (join_grows ws p v a.view b) over
 
-pub second_from : (ws : List ℕ) (p : Place) (second : BodyTree) (v : ValueId) (g : Given) (w : View) → Grows g (second_at ws p second v g w).given
-second_from ws p second v g w = second_grows (is_empty second) p v (flat_body ws second) (body_grows ws second) g w
+rest_grows : (ws : List ℕ) (p : Place) (second : BodyTree) (v : ValueId) (a : At) (w : View) → Grows a.given (rest_at ws p second v a w).given
+rest_grows ws p second v a w =
+    let b = second_side (is_empty second) p v (flat_body ws second) a.given w in
+    then_grows a.given b.given (join ws p v a.view b).given (second_grows (is_empty second) p v (flat_body ws second) (body_grows ws second) a.given w) (join_grows ws p v a.view b)
 
-pub choose_from_second : (ws : List ℕ) (p : Place) (second : BodyTree) (v : ValueId) (a : At) (w : View) → Grows a.given (join ws p v a.view (second_at ws p second v a.given w)).given
-choose_from_second ws p second v a w =
-    let b = second_at ws p second v a.given w in
-    then_grows a.given b.given (join ws p v a.view b).given (second_from ws p second v a.given w) (join_grows ws p v a.view b)
-
--- too much in the first side of a choice, and in the second
-pub first_over : (ws : List ℕ) (p : Place) (c : ExprTree) (first second b : BodyTree) (g o : Given) (w v : View) (x : Valued) (k : Place) (e : FlatError) → x ≡ flat_expr ws p w c g → k ≡ below p x.given
-    → o ≡ opened p x.id true x.given → v ≡ w → b ≡ first → IsOver (flat_body ws b k o v).given e → IsOver (flat_stmt ws (choose c first second) p g w).given e
-first_over ws p c first second b g o w v x k e ex ek eo ew eb over =
-    let told : flat_body ws b k o v ≡ first_at ws p first x w =
-    ap (λ b. flat_body ws b k o v) eb ∙ ap (λ k. flat_body ws first k o v) ek ∙ ap (λ o. flat_body ws first (below p x.given) o v) eo
-    ∙ ap (λ v. flat_body ws first (below p x.given) (opened p x.id true x.given) v) ew in
+pub first_over : (ws : List ℕ) (p : Place) (c : ExprTree) (first second b : BodyTree) (g : Given) (w : View) (x : Valued) (e : FlatError) → x ≡ flat_expr ws p w c g → b ≡ first → IsOver (first_at ws p b x w).given e
+    → IsOver (flat_stmt ws (choose c first second) p g w).given e
+first_over ws p c first second b g w x e ex eb over =
     let y = flat_expr ws p w c g in
     let a = first_at ws p first y w in
-    over_later a.given (join ws p y.id a.view (second_at ws p second y.id a.given w)).given e (choose_from_second ws p second y.id a w)
-    (subst (λ z. IsOver (first_at ws p first z w).given e) ex (subst (λ r. IsOver r.given e) told over))
-
-pub second_over : (ws : List ℕ) (p : Place) (c : ExprTree) (first second b : BodyTree) (g : Given) (w : View) (x : Valued) (ra : At) (e : FlatError) → x ≡ flat_expr ws p w c g → ra ≡ first_at ws p first x w
-    → b ≡ second → IsOver (second_at ws p b x.id ra.given w).given e → IsOver (flat_stmt ws (choose c first second) p g w).given e
-second_over ws p c first second b g w x ra e ex ea eb over =
-    let y = flat_expr ws p w c g in
-    let a = first_at ws p first y w in
-    let r = second_at ws p second y.id a.given w in
-    over_later r.given (join ws p y.id a.view r).given e (join_grows ws p y.id a.view r)
-    (subst (λ z. IsOver (second_at ws p second z.id (first_at ws p first z w).given w).given e) ex
-    (subst (λ r. IsOver (second_at ws p second x.id r.given w).given e) ea (subst (λ b. IsOver (second_at ws p b x.id ra.given w).given e) eb over)))
+    over_later a.given (rest_at ws p second y.id a w).given e (rest_grows ws p second y.id a w)
+    (subst (λ z. IsOver (first_at ws p first z w).given e) ex (subst (λ b. IsOver (first_at ws p b x w).given e) eb over))

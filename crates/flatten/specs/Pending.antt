@@ -1,6 +1,7 @@
 -- What is given and what comes of it.
 use Rattle.std.specs.Prelude.{ℕ, true, List, ◌++◌, Option, None, replicate}
 use Rattle.element_lang.specs.Tree.{BodyTree}
+use Rattle.element_lang.specs.Rules.{is_empty}
 use Rattle.flat_ir.specs.declared.program.ValueId.{ValueId}
 use Rattle.flat_ir.specs.Program.{Program}
 use Rattle.packet_fields.specs.Table.{all_fields}
@@ -8,7 +9,7 @@ use Rattle.state_store.specs.declared.object.ObjectDecl.{ObjectDecl}
 use Rattle.flatten.specs.declared.place.Place.{Place}
 use Rattle.flatten.specs.declared.place.Ending.{Ending}
 use Rattle.flatten.specs.declared.place.Ending.TheVariants.{No}
-use Rattle.flatten.specs.Flatten.{View, Given, At, Valued, Listed, Scoped, Merged, EndedAt, nought, nought_port, all_changed, flat_body, below, opened}
+use Rattle.flatten.specs.Flatten.{View, Given, At, Valued, Listed, Scoped, Merged, EndedAt, nought, nought_port, all_changed, flat_body, below, opened, second_side, join}
 
 abbrev pub in_front : List ValueId → Listed → Listed
 in_front ids r = record { given = r.given; ids = ids ++ r.ids }
@@ -59,3 +60,8 @@ gathered objects came r = record {
 -- what is given for the first side of a choice in this place, whose condition has a value
 abbrev pub first_at : List ℕ → Place → BodyTree → Valued → View → At
 first_at widths p first cond w = flat_body widths first (below p cond.given) (opened p cond.id true cond.given) w
+
+-- what is given for the second side and what comes of both, behind the first side
+abbrev pub rest_at : List ℕ → Place → BodyTree → ValueId → At → View → At
+rest_at widths p second v first w =
+    join widths p v first.view (second_side (is_empty second) p v (flat_body widths second) first.given w)

@@ -6,7 +6,8 @@ ghost use Rattle.element_lang.specs.Rules.{is_empty};
 ghost use Rattle.flatten.specs.Flatten as pure;
 ghost use Rattle.flatten.specs.Sized.{IsSizedExpr, AreSizedExprs, IsSizedStmt, IsSizedBody};
 ghost use Rattle.flatten.specs.Over.{IsOver};
-ghost use Rattle.flatten.specs.Pending.{placed, valued, first_at};
+ghost use Rattle.flatten.specs.Pending.{placed, valued, first_at, rest_at};
+ghost use Rattle.flatten.specs.Journal.{before};
 ghost use Rattle.flatten.specs.Tracked.{started};
 
 use crate::error::FlatError;
@@ -226,9 +227,7 @@ impl Output {
             Stmt::If { cond, yes, no } => {
                 let v = self.value(alloc, frame, place, &w.state, cond)?;
                 let outer = self.first(alloc, frame, place, v, yes, w)?;
-                let first = w.flip(alloc)?;
-                self.second(alloc, frame, place, v, no, w)?;
-                self.join(alloc, frame, place, v, first, outer, w)?;
+                self.rest(alloc, frame, place, v, no, outer, w)?;
             }
             Stmt::Repeat { index, count, body } => {
                 let place = Place {
@@ -260,6 +259,7 @@ impl Output {
         ensures ok { OnOk result (placed self.new w.new.state
             ≡ first_at frame.now.locals.items place (body_tree yes.now) (valued self.old cond) w.old.state) }
         ensures start { OnOk result (started w.new ≡ w.old.state) }
+        ensures wide { OnOk result (length (started w.new).locals ≡ length frame.now.locals.items) }
         ensures outer { IfOk result (λ outer. outer ≡ w.old.journal) }
         ensures large { IfErr result (λ error. IsOver
             (first_at frame.now.locals.items place (body_tree yes.now) (valued self.old cond) w.old.state).given error) }
@@ -268,6 +268,33 @@ impl Output {
         let outer = w.enter(alloc)?;
         self.body(alloc, frame, inner, yes, w)?;
         Ok(outer)
+    }
+
+    // The second side of an `if` behind the first, and what comes of both. The journal that was kept in front goes on.
+    #[cycle(flatten)]
+    fn rest(
+        &mut self,
+        alloc: Global,
+        frame: &Frame,
+        place: Place,
+        cond: ValueId,
+        no: &[Stmt],
+        outer: Journal,
+        w: &mut Tracked,
+    ) -> Result<(), FlatError>
+        requires fields { frame.now.fields.items ≡ pure.field_widths }
+        requires wide { length (started w.old).locals ≡ length frame.now.locals.items }
+        requires sized { IsSizedBody frame.now.locals.items (body_tree no.now) }
+        ensures ok { OnOk result (placed self.new w.new.state ≡ rest_at frame.now.locals.items place (body_tree no.now)
+            cond (placed self.old w.old.state) (started w.old)) }
+        ensures start { OnOk result (started w.new ≡ before outer (started w.old)) }
+        ensures large { IfErr result (λ error. IsOver (rest_at frame.now.locals.items place (body_tree no.now)
+            cond (placed self.old w.old.state) (started w.old)).given error) }
+    {
+        let first = w.flip(alloc)?;
+        self.second(alloc, frame, place, cond, no, w)?;
+        self.join(alloc, frame, place, cond, first, outer, w)?;
+        Ok(())
     }
 
     // The second side of an `if`, which opens no block where it is empty.

@@ -1,15 +1,15 @@
-use Rattle.std.proofs.Common.{◌≡◌, ℕ, List, ◌+◌, ◌-◌, drop, sym, ap, ◌∙◌, subst, if◌then◌else◌, Bool, true, rules, [], refl, length}
+use Rattle.std.proofs.Common.{◌≡◌, ℕ, List, ◌+◌, ◌-◌, drop, sym, ap, ◌∙◌, subst, if◌then◌else◌, Bool, true, rules, [], length}
 use Rattle.element_lang.specs.View.{expr_tree, stmt_tree, body_tree}
 use Rattle.flatten.specs.Flatten as pure
 use Rattle.flatten.specs.Sized.{IsSizedBody}
 use Rattle.flatten.specs.Journal.{before}
 use Rattle.flatten.specs.Open.{closed, outermost}
-use Rattle.flatten.specs.Pending.{placed, valued, first_at}
+use Rattle.flatten.specs.Pending.{placed, valued, rest_at}
 use Rattle.flatten.specs.Over.{IsOver}
 use Rattle.flatten.specs.Tracked.{started}
 use Rattle.flatten.proofs.Growth.{first_over, second_over, turns_grow, body_grows}
 use Rattle.flatten.proofs.Steps.{order_step, order_over, as_wide}
-use Rattle.flatten.proofs.Branches.{split_at, turns_split, choose_told}
+use Rattle.flatten.proofs.Branches.{split_at, turns_split, choice_made}
 use Rattle.flatten.proofs.Trees.{tree_if, tree_repeat}
 use Rattle.element_lang.specs.Rules.{is_empty}
 use Rattle.flatten.proofs.output.Output.+flatten.Goals as goal
@@ -164,6 +164,9 @@ first-returns-clause-ok t c =
     c.in_ok-body.ensures.ok ∙ ap (λ g. pure.flat_body ws yes k g c.enter.new.self.state) c.in_ok-inner.ensures.given
     ∙ ap (pure.flat_body ws yes k o) c.in_ok-outer.ensures.state ∙ ap (λ k. pure.flat_body ws yes k o c.args.w.now.state) c.in_ok-inner.ensures.inner
 
+pub first-returns-clause-wide : goal.first-returns-clause-wide
+first-returns-clause-wide t c = ap (λ w. length w.locals) (c.in_ok-body.ensures.start ∙ c.in_ok-outer.ensures.start) ∙ c.requires.wide
+
 pub first-returns-in_err-body-clause-large : goal.first-returns-in_err-body-clause-large
 first-returns-in_err-body-clause-large t c =
     let ws = c.args.frame.now.locals.items in
@@ -176,30 +179,42 @@ first-returns-in_err-body-clause-large t c =
     let over : IsOver (pure.flat_body ws yes (pure.below c.args.place c.args.self.now) o c.args.w.now.state).given e = subst (λ k. IsOver (pure.flat_body ws yes k o c.args.w.now.state).given e) c.in_ok-inner.ensures.inner state in
     search (rules, over)
 
-pub stmt-join-requires-clause-wide : goal.stmt-join-requires-clause-wide
-stmt-join-requires-clause-wide t c =
-    as_wide [] [] c.flip.new.self c.second.new.w c.in_ok-second-in-If.ensures.start
-    ∙ ap (λ w. length w.locals) (c.in_ok-first-in-If.ensures.state ∙ c.in_ok-outer-in-If.ensures.start) ∙ c.requires.wide
+pub rest-join-requires-clause-wide : goal.rest-join-requires-clause-wide
+rest-join-requires-clause-wide t c =
+    as_wide [] [] c.flip.new.self c.second.new.w c.in_ok-second.ensures.start ∙ ap (λ w. length w.locals) c.in_ok-first.ensures.state ∙ c.requires.wide
 
-pub stmt-returns-in_ok-join-in-If-clause-ok : goal.stmt-returns-in_ok-join-in-If-clause-ok
-stmt-returns-in_ok-join-in-If-clause-ok t c =
+pub rest-returns-clause-ok : goal.rest-returns-clause-ok
+rest-returns-clause-ok t c =
     let ws = c.args.frame.now.locals.items in
     let p = c.args.place in
-    let v = c.in_ok-v-in-If.v in
-    let x = valued c.value.new.self v in
-    let w = c.args.w.now.state in
-    let yes = body_tree c.in-If.yes.items in
-    let no = body_tree c.in-If.no.items in
-    let ra = placed c.first.new.self c.first.new.w.state in
+    let v = c.args.cond in
+    let no = body_tree c.args.no.now in
     let rb = placed c.second.new.self c.second.new.w.state in
-    let ea : ra ≡ first_at ws p yes x w = c.in_ok-outer-in-If.ensures.ok ∙ ap (λ y. first_at ws p (body_tree y) x w) c.deref-in-If.ensures.value in
-    let eb : rb ≡ pure.second_side (is_empty no) p v (pure.flat_body ws no) ra.given w =
-    c.in_ok-second-in-If.ensures.ok ∙ ap (λ y. pure.second_side (is_empty (body_tree y)) p v (pure.flat_body ws (body_tree y)) ra.given c.flip.new.self.state) c.deref-in-If-2.ensures.value
-    ∙ ap (λ w. pure.second_side (is_empty no) p v (pure.flat_body ws no) ra.given w) (c.in_ok-first-in-If.ensures.state ∙ c.in_ok-outer-in-If.ensures.start) in
-    let ef : before c.in_ok-first-in-If.first (started c.second.new.w) ≡ c.first.new.w.state =
-    ap (before c.in_ok-first-in-If.first) (c.in_ok-second-in-If.ensures.start ∙ c.in_ok-first-in-If.ensures.start) ∙ c.in_ok-first-in-If.ensures.first in
-    c.in_ok-join-in-If.ensures.told ∙ ap (λ a. pure.join ws p v a rb) ef
-    ∙ choose_told ws p (expr_tree c.in-If.cond) yes no c.args.self.now w x (pure.below p x.given) ra rb c.in_ok-v-in-If.ensures refl ea eb
+    let eb : rb ≡ pure.second_side (is_empty no) p v (pure.flat_body ws no) c.args.self.now (started c.args.w.now) =
+    c.in_ok-second.ensures.ok ∙ ap (pure.second_side (is_empty no) p v (pure.flat_body ws no) c.args.self.now) c.in_ok-first.ensures.state in
+    let ef : before c.in_ok-first.first (started c.second.new.w) ≡ c.args.w.now.state =
+    ap (before c.in_ok-first.first) (c.in_ok-second.ensures.start ∙ c.in_ok-first.ensures.start) ∙ c.in_ok-first.ensures.first in
+    c.in_ok-join.ensures.told ∙ ap (λ a. pure.join ws p v a rb) ef ∙ ap (pure.join ws p v c.args.w.now.state) eb
+
+pub rest-returns-in_err-second-clause-large : goal.rest-returns-in_err-second-clause-large
+rest-returns-in_err-second-clause-large t c =
+    let ws = c.args.frame.now.locals.items in
+    let no = body_tree c.args.no.now in
+    let first = placed c.args.self.now c.args.w.now.state in
+    let e = c.in_err-second.field-0.0 in
+    let large = subst (λ w. IsOver (pure.second_side (is_empty no) c.args.place c.args.cond (pure.flat_body ws no) c.args.self.now w).given e) c.in_ok-first.ensures.state c.in_err-second.ensures.large in
+    let over : IsOver (rest_at ws c.args.place no c.args.cond first (started c.args.w.now)).given e = second_over ws c.args.place no c.args.cond first (started c.args.w.now) e large in
+    search (rules, over)
+
+pub stmt-returns-in_ok-rest-in-If-clause-ok : goal.stmt-returns-in_ok-rest-in-If-clause-ok
+stmt-returns-in_ok-rest-in-If-clause-ok t c =
+    let ws = c.args.frame.now.locals.items in
+    let p = c.args.place in
+    let x = valued c.value.new.self c.in_ok-v-in-If.v in
+    let w = c.args.w.now.state in
+    let told = choice_made ws p (expr_tree c.in-If.cond) (body_tree c.in-If.yes.items) (body_tree c.in-If.no.items) _ _ c.args.self.now w (started c.first.new.w) x (placed c.first.new.self c.first.new.w.state)
+    c.in_ok-v-in-If.ensures c.in_ok-outer-in-If.ensures.ok (ap body_tree c.deref-in-If.ensures.value) (ap body_tree c.deref-in-If-2.ensures.value) c.in_ok-outer-in-If.ensures.start in
+    c.in_ok-rest-in-If.ensures.ok ∙ told
     ∙ ap (λ s. pure.flat_stmt ws s p c.args.self.now w) (sym (tree_if c.in-If.cond c.in-If.yes c.in-If.no) ∙ sym (ap stmt_tree c.in-If.is))
 
 pub stmt-returns-in_err-outer-in-If-clause-large : goal.stmt-returns-in_err-outer-in-If-clause-large
@@ -209,26 +224,21 @@ stmt-returns-in_err-outer-in-If-clause-large t c =
     let w = c.args.w.now.state in
     let e = c.in_err-outer-in-If.field-0.0 in
     let x = valued c.value.new.self c.in_ok-v-in-If.v in
-    let told = first_over ws p (expr_tree c.in-If.cond) (body_tree c.in-If.yes.items) (body_tree c.in-If.no.items) _ c.args.self.now (pure.opened p x.id true x.given) w w x (pure.below p x.given) e
-    c.in_ok-v-in-If.ensures refl refl refl (ap body_tree c.deref-in-If.ensures.value) c.in_err-outer-in-If.ensures.large in
+    let told = first_over ws p (expr_tree c.in-If.cond) (body_tree c.in-If.yes.items) (body_tree c.in-If.no.items) _ c.args.self.now w x e
+    c.in_ok-v-in-If.ensures (ap body_tree c.deref-in-If.ensures.value) c.in_err-outer-in-If.ensures.large in
     let over : IsOver (pure.flat_stmt ws (stmt_tree c.args.s.now) p c.args.self.now w).given e =
     subst (λ s. IsOver (pure.flat_stmt ws s p c.args.self.now w).given e) (sym (tree_if c.in-If.cond c.in-If.yes c.in-If.no) ∙ sym (ap stmt_tree c.in-If.is)) told in
     search (rules, over)
 
-pub stmt-returns-in_err-second-in-If-clause-large : goal.stmt-returns-in_err-second-in-If-clause-large
-stmt-returns-in_err-second-in-If-clause-large t c =
+pub stmt-returns-in_err-rest-in-If-clause-large : goal.stmt-returns-in_err-rest-in-If-clause-large
+stmt-returns-in_err-rest-in-If-clause-large t c =
     let ws = c.args.frame.now.locals.items in
     let p = c.args.place in
-    let v = c.in_ok-v-in-If.v in
-    let x = valued c.value.new.self v in
+    let x = valued c.value.new.self c.in_ok-v-in-If.v in
     let w = c.args.w.now.state in
-    let e = c.in_err-second-in-If.field-0.0 in
-    let yes = body_tree c.in-If.yes.items in
-    let ra = placed c.first.new.self c.first.new.w.state in
-    let ea : ra ≡ first_at ws p yes x w = c.in_ok-outer-in-If.ensures.ok ∙ ap (λ y. first_at ws p (body_tree y) x w) c.deref-in-If.ensures.value in
-    let large = subst (λ w. IsOver (pure.second_side (is_empty (body_tree c.deref-in-If-2.result.now)) p v (pure.flat_body ws (body_tree c.deref-in-If-2.result.now)) ra.given w).given e)
-    (c.in_ok-first-in-If.ensures.state ∙ c.in_ok-outer-in-If.ensures.start) c.in_err-second-in-If.ensures.large in
-    let told = second_over ws p (expr_tree c.in-If.cond) yes (body_tree c.in-If.no.items) _ c.args.self.now w x ra e c.in_ok-v-in-If.ensures ea (ap body_tree c.deref-in-If-2.ensures.value) large in
+    let e = c.in_err-rest-in-If.field-0.0 in
+    let told = choice_made ws p (expr_tree c.in-If.cond) (body_tree c.in-If.yes.items) (body_tree c.in-If.no.items) _ _ c.args.self.now w (started c.first.new.w) x (placed c.first.new.self c.first.new.w.state)
+    c.in_ok-v-in-If.ensures c.in_ok-outer-in-If.ensures.ok (ap body_tree c.deref-in-If.ensures.value) (ap body_tree c.deref-in-If-2.ensures.value) c.in_ok-outer-in-If.ensures.start in
     let over : IsOver (pure.flat_stmt ws (stmt_tree c.args.s.now) p c.args.self.now w).given e =
-    subst (λ s. IsOver (pure.flat_stmt ws s p c.args.self.now w).given e) (sym (tree_if c.in-If.cond c.in-If.yes c.in-If.no) ∙ sym (ap stmt_tree c.in-If.is)) told in
+    subst (λ r. IsOver r.given e) (told ∙ ap (λ s. pure.flat_stmt ws s p c.args.self.now w) (sym (tree_if c.in-If.cond c.in-If.yes c.in-If.no) ∙ sym (ap stmt_tree c.in-If.is))) c.in_err-rest-in-If.ensures.large in
     search (rules, over)
