@@ -1,0 +1,27 @@
+-- What a call of a switch may be given, by the code that is loaded.
+use Rattle.std.proofs.Common.{◌≡◌, ℕ, false, List, [], ◌∷◌, Some, ap, refl, sym, subst}
+use Rattle.std.specs.Prelude.{IsSome, IfSome}
+use Rattle.state_store.specs.declared.object.ObjectDecl.{ObjectDecl}
+use Rattle.state_store.specs.Kinds.{is_table}
+use Rattle.transfer_header.specs.Frames.{IsFrame}
+use Rattle.switch_ir.specs.declared.code.Table.{Table}
+use Rattle.switch_ir.specs.Code.{Code}
+use Rattle.switch_ir.specs.Tables.{declared_at}
+use Rattle.switch_ir.specs.Port.{PortState, IsLoaded, IsReplicatedIn, HasReplicated, IsDownFrame}
+
+pub loaded_by : (state : PortState) (code : Code) → state.code ≡ Some code → IsLoaded state
+loaded_by state code e = subst (λ c. IsSome c) (sym e) refl
+
+pub shown_by : (state : PortState) (code : Code) → state.code ≡ Some code → (d : ObjectDecl) × IsReplicatedIn code 0 d
+    → HasReplicated state 0
+shown_by state code e shown = subst (λ c. IfSome c (λ k. (d : ObjectDecl) × IsReplicatedIn k 0 d)) (sym e) shown
+
+pub down_by : (state : PortState) (code : Code) (frame : List ℕ) → state.code ≡ Some code → IsFrame 2 code.down frame
+    → IsDownFrame state frame
+down_by state code frame e is = subst (λ c. IfSome c (λ k. IsFrame 2 k.down frame)) (sym e) is
+
+-- a table of the first object, which can change
+pub first_shown : (code : Code) (d : ObjectDecl) → code.tables ≡ record { number = 0; object = d } ∷ []
+    → is_table d.kind ≡ false → (e : ObjectDecl) × IsReplicatedIn code 0 e
+first_shown code d tables kind =
+    (d, record { declared = ap (λ ts. declared_at ts 0) tables; changes = kind })

@@ -1,0 +1,178 @@
+//! Code of a switch, and for how long its values are needed, worked out by hand.
+use crate::samples::{chain, split_of};
+use flat_ir::{Flat, Spans};
+use gal_io::NoMemory;
+use packet_fields::Verdict;
+use split_model::Layout;
+use std::alloc::Global;
+use std::test::Fail;
+use switch_ir::{DownEnd, Entry, Journal, Pass, Steps, SwitchCode, UpEnd, emit, spans_of_passes};
+
+// A value, the stage that gives it, and the step that reads it last.
+type Needed = (u32, u32, u32);
+
+fn are_spans(spans: &Spans, want: &[Needed]) -> bool {
+    let mut all = spans.len() == want.len();
+    for (span, (value, from, to)) in spans.as_slice().iter().zip(want) {
+        all = all && span.value == *value && span.from == *from && span.to == *to;
+    }
+    all
+}
+
+// Of the chain of sums whose stages are all passed as packets arrive.
+const ALL_BEFORE: [Needed; 11] = [
+    (0, 0, 0),
+    (1, 0, 5),
+    (2, 0, 0),
+    (3, 0, 1),
+    (4, 0, 1),
+    (5, 1, 2),
+    (6, 0, 2),
+    (7, 2, 3),
+    (8, 0, 3),
+    (9, 3, 4),
+    (10, 4, 5),
+];
+
+fn is_arriving(alloc: Global, f: &Flat) -> Result<bool, Fail> {
+    let split = split_of(alloc, f, 4, 64, false)?;
+    let spans = spans_of_passes(alloc, f, &split)?;
+    let code = emit(alloc, f, &split, 4)?;
+    Ok(are_spans(&spans.pre, &ALL_BEFORE) && code.pre.plan.count() == 7)
+}
+
+fn is_chain_arriving(alloc: Global) -> Result<bool, Fail> {
+    let f = chain(alloc)?;
+    is_arriving(alloc, &f)
+}
+
+// Of the same chain, whose last sum comes down and is cut then.
+const CUT_BEHIND: [Needed; 3] = [(1, 0, 2), (9, 0, 1), (10, 1, 2)];
+
+fn is_coming_down(alloc: Global, f: &Flat) -> Result<bool, Fail> {
+    let split = split_of(alloc, f, 3, 3, true)?;
+    let spans = spans_of_passes(alloc, f, &split)?;
+    let code = emit(alloc, f, &split, 4)?;
+    Ok(are_spans(&spans.post, &CUT_BEHIND) && code.post.plan.count() == 2)
+}
+
+fn is_chain_coming_down(alloc: Global) -> Result<bool, Fail> {
+    let f = chain(alloc)?;
+    is_coming_down(alloc, &f)
+}
+
+#[test]
+fn values_are_needed_until_they_are_read(rt: HostRuntime) -> Result<(), Fail> {
+    assert!(rt; is_chain_arriving(rt.alloc())?);
+    assert!(rt; is_chain_coming_down(rt.alloc())?);
+    Ok(())
+}
+
+// The number and the stage of each instruction.
+fn are_steps(steps: &Steps, want: &[(u32, u32)]) -> bool {
+    let mut all = steps.len() == want.len();
+    for (step, (instruction, stage)) in steps.as_slice().iter().zip(want) {
+        all = all && step.instruction == *instruction && step.stage == *stage;
+    }
+    all
+}
+
+// The number and the width of each value that crosses.
+fn are_crossings(layout: &Layout, want: &[(u32, u32)]) -> bool {
+    let mut all = layout.len() == want.len();
+    for (crossing, (number, bits)) in layout.as_slice().iter().zip(want) {
+        all = all && crossing.number == *number && crossing.width.bits() == *bits;
+    }
+    all
+}
+
+const PRE: [(u32, u32); 10] = [
+    (0, 0),
+    (1, 0),
+    (2, 0),
+    (3, 0),
+    (4, 0),
+    (5, 1),
+    (6, 0),
+    (7, 2),
+    (8, 0),
+    (9, 3),
+];
+
+// The sums are computed before the server.
+fn is_pre(pass: &Pass) -> bool {
+    are_steps(&pass.steps, &PRE)
+        && pass.given.is_empty()
+        && pass.rest.as_slice() == [0].as_slice()
+        && pass.highest == 3
+}
+
+// The cut is computed behind it.
+fn is_post(pass: &Pass) -> bool {
+    are_steps(&pass.steps, &[(10, 1)])
+        && pass.given.is_empty()
+        && pass.rest.is_empty()
+        && pass.highest == 1
+}
+
+// The last sum crosses.
+fn is_chain_code(code: &SwitchCode) -> bool {
+    is_pre(&code.pre)
+        && is_post(&code.post)
+        && are_crossings(&code.up, &[(9, 16)])
+        && are_crossings(&code.down, &[(1, 1), (9, 16)])
+        && code.tables.is_empty()
+        && code.writeback == 4
+        && code.values == 11
+}
+
+fn is_copied(alloc: Global, code: &SwitchCode) -> Result<bool, NoMemory> {
+    let copy = code.copy(alloc)?;
+    Ok(is_chain_code(&copy))
+}
+
+// The code of a program of which all that 3 stages and 3 bytes allow is done on the switch.
+fn code_of(alloc: Global, f: &Flat) -> Result<SwitchCode, Fail> {
+    let split = split_of(alloc, f, 3, 3, true)?;
+    Ok(emit(alloc, f, &split, 4)?)
+}
+
+fn chain_code(alloc: Global) -> Result<SwitchCode, Fail> {
+    let f = chain(alloc)?;
+    code_of(alloc, &f)
+}
+
+fn is_chain_emitted(alloc: Global) -> Result<bool, Fail> {
+    let code = chain_code(alloc)?;
+    Ok(is_copied(alloc, &code)?)
+}
+
+#[test]
+fn all_but_the_last_cut_is_done_before_the_server(rt: HostRuntime) -> Result<(), Fail> {
+    assert!(rt; is_chain_emitted(rt.alloc())?);
+    Ok(())
+}
+
+fn is_journal_kept(alloc: Global) -> Result<bool, NoMemory> {
+    let mut journal = Journal::new(alloc);
+    journal.reserve(1)?;
+    journal.push(Entry::Load)?;
+    journal.push_spare(Entry::Room(1));
+    Ok(matches!(journal.as_slice(), [Entry::Load, Entry::Room(1)]) && journal.spare() == 0)
+}
+
+fn are_answers_copied(alloc: Global) -> Result<bool, NoMemory> {
+    let up = UpEnd::Finished(Verdict::Drop).copy(alloc)?;
+    let down = DownEnd::Verdict(Verdict::Drop).copy(alloc)?;
+    Ok(
+        matches!(&up, UpEnd::Finished(Verdict::Drop))
+            && matches!(&down, DownEnd::Verdict(Verdict::Drop)),
+    )
+}
+
+#[test]
+fn a_journal_keeps_its_calls(rt: HostRuntime) -> Result<(), Fail> {
+    assert!(rt; is_journal_kept(rt.alloc())?);
+    assert!(rt; are_answers_copied(rt.alloc())?);
+    Ok(())
+}
