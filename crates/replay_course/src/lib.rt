@@ -2,9 +2,12 @@
 #![tactic(auto)]
 
 mod course;
+mod driving;
 mod fates;
+mod laws;
 mod passes;
 mod serving;
+mod start;
 mod step;
 
 pub use course::Course;
