@@ -1,0 +1,46 @@
+-- Counts of packets and commands, after one event.
+use Rattle.std.proofs.Common.{◌≡◌, ◌<◌, ◌≤◌, ◌+◌, ◌-◌, ◌*◌, ◌^◌, ℕ, arith, sym, subst}
+use Rattle.std.proofs.Math.Nat.{mul-le-mul_right}
+
+pub one_more_times : (m c : ℕ) → (m + 1) * c ≡ m * c + c
+one_more_times m c = omega arith
+
+-- where fewer packets aren't decided
+pub commands_after : (n u u' k total : ℕ) → u' ≤ u → n + u * k ≤ total → n + u' * k ≤ total
+commands_after n u u' k total less h = let m = mul-le-mul_right k less in omega arith
+
+-- where one more is decided, and brings a batch
+pub commands_with : (n b u u' k total : ℕ) → u ≡ u' + 1 → b ≤ k → n + u * k ≤ total → n + b + u' * k ≤ total
+commands_with n b u u' k total is few h = let m = one_more_times u' k in omega (arith, rw is at h)
+
+pub admit_undecided : (up up' total admitted admitted' : ℕ) → admitted < total → admitted' ≡ admitted + 1 → up' ≤ up + 1
+    → up' + (total - admitted') ≤ up + (total - admitted)
+admit_undecided up up' total admitted admitted' less is more = omega arith
+
+pub versions_stay : (version u u' total : ℕ) → u' ≤ u → version + u ≤ total → version + u' ≤ total
+versions_stay version u u' total less h = omega arith
+
+pub within_by : (n n' total : ℕ) → n' ≡ n + 1 → n < total → n' ≤ total
+within_by n n' total is less = omega arith
+
+pub undecided_served : (version version' up up' total admitted admitted' : ℕ) → up' + 1 ≡ up → admitted' ≡ admitted
+    → version' ≤ version + 1 → version + (up + (total - admitted)) ≤ total
+    → version' + (up' + (total - admitted')) ≤ total
+undecided_served version version' up up' total admitted admitted' less same next h = omega arith
+
+pub commands_served : (n n' b up up' rest rest' k total : ℕ) → n' ≡ n + b → up' + 1 ≡ up → rest' ≡ rest → b ≤ k
+    → n + (up + rest) * k ≤ total → n' + (up' + rest') * k ≤ total
+commands_served n n' b up up' rest rest' k total more less same few h =
+    rw (more, same) (commands_with n b (up + rest) (up' + rest) k total (omega arith) few h)
+
+pub still_within : (sent n n' b : ℕ) → n' ≡ n + b → sent ≤ n → sent ≤ n'
+still_within sent n n' b more h = omega arith
+
+pub enough : (a b c : ℕ) → a ≤ b → b ≤ c → a ≤ c
+enough a b c h k = omega arith
+
+pub spare_served : (n n' b done spare : ℕ) → n' ≡ n + b → done ≤ n → (n - done) + b ≤ spare → n' - done ≤ spare
+spare_served n n' b done spare more within room = omega arith
+
+pub first_within : (n k : ℕ) → 0 + (0 + (n - 0)) * k ≤ n * k
+first_within n k = let e : 0 + (n - 0) ≡ n = omega arith in let f : 0 + (0 + (n - 0)) * k ≡ n * k = rw e (omega arith) in omega arith

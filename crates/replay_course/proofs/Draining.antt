@@ -1,0 +1,235 @@
+-- The events that end a run, one after the other.
+use Rattle.std.proofs.Common.{◌≡◌, ◌<◌, ◌≤◌, ◌+◌, ◌-◌, ◌*◌, ◌^◌, ◌⊎◌, ℕ, zero, suc, Bool, true, false, List, [], ◌∷◌, ◌++◌, Option, Some, None, inl, inr, refl, sym, ap, subst, ◌∙◌, arith, length, map, take}
+use Rattle.std.specs.Prelude.{slice_get, nat_le, nat_lt, not, ◌&&◌, if◌then◌else◌, is_some}
+use Rattle.std.proofs.lemmas.Bool.{cases_Bool, le-leb, lt-ltb, ltb-false, ltb-true}
+use Rattle.std.proofs.lemmas.List.{append-nil, append_assoc}
+use Rattle.std.proofs.lemmas.Option.{none-some, same_Some}
+use Rattle.packet_fields.specs.declared.packet.Packet.{Packet}
+use Rattle.writeback_table.specs.Commands.{ons}
+use Rattle.output_commit.specs.declared.output.Output.{Output}
+use Rattle.run_model.specs.declared.event.Event.{Event}
+use Rattle.run_model.specs.declared.event.Event.TheVariants.{Admit, Stage, Serve, Send, Apply, Ack, Hold, Down}
+use Rattle.switch_ir.specs.Port.{PortState}
+use Rattle.replay_state.specs.Answers.{Answers, Setup}
+use Rattle.replay_state.specs.Drain.{drain_order, events_left, first_of, next_event, packet_events, pass_events, up_events, weight}
+use Rattle.replay_state.specs.Journal.{Call, IsAnswered, asked, journal, question_of}
+use Rattle.replay_state.specs.Program.{IsSplitProgram, Manner, SplitProgram, setup_of}
+use Rattle.replay_state.specs.Sound.{AreFew}
+use Rattle.replay_state.specs.State.{State, Pass, fate_of, visible}
+use Rattle.replay_state.specs.Step.{applies, may_go, state_of, step}
+use Rattle.replay_contracts.specs.Called.{WasCalled}
+use Rattle.replay_contracts.specs.Given.{Given, IsReady, code_for, setup_for, whole}
+use Rattle.replay_contracts.specs.Replay.{HasDrained, HasPicked, IsReplay, answered}
+use Rattle.replay_contracts.specs.declared.job.Stepped.{Stepped}
+use Rattle.replay_course.specs.declared.course.Course.{Course}
+use Rattle.replay_course.specs.Going.{HasRoomNext, HasTurned, IsGoing, IsPlain, IsSound, Turns}
+use Rattle.replay_course.specs.Shown.{IsShown}
+use Rattle.replay_course.specs.UnderWay.{HasDrainedOn, HasPickedOn, IsDrained, IsDraining, IsOnItsWay, course_left, picked_by}
+use Rattle.replay_course.proofs.Calling.{stays_all, stays_more}
+use Rattle.replay_course.proofs.Lists.{each_at, length_map, length_push, take_past}
+use Rattle.replay_course.proofs.Room.{FindsRoom, SplitLaws, is_split_program}
+use Rattle.replay_course.proofs.Showing.{none_waits}
+use Rattle.replay_course.proofs.Sounding.{Needs}
+use Rattle.replay_course.proofs.Versions.{versions_by}
+
+-- ## What drain picks
+
+same_if : {X : Type 0} (b c : Bool) (e r q : X) → b ≡ c → (b ≡ false → r ≡ q) → (if b then e else r) ≡ (if c then e else q)
+same_if true c e r q same rest = ap (λ z. if z then e else r) same ∙ taken c (sym same)
+  where
+    taken : (z : Bool) → z ≡ true → (if z then e else r) ≡ (if z then e else q)
+    taken true t = refl
+    taken false t = cc
+same_if false c e r q same rest = rest refl ∙ ap (λ z. if z then e else q) same
+
+and_true : (b c : Bool) → c ≡ true → (b && c) ≡ b
+and_true true c h = h
+and_true false c h = refl
+
+map_length : {X Y : Type 0} (f : X → Y) (xs : List X) (ys : List Y) → map f xs ≡ ys → length xs ≡ length ys
+map_length f xs ys e = sym (length_map f xs) ∙ ap length e
+
+module _ (x : Given) (calls : List Call) (st : State) (c : Course) (plain : IsPlain x) (sound : IsSound x c) (h : IsShown (whole x) calls st c) where
+  -- the first held output may go, where every command is acknowledged
+  known_is : nat_lt c.commit.acked c.commit.done ≡ false → nat_lt c.commit.done c.commit.sent ≡ false → nat_lt c.commit.sent (length c.commit.commands) ≡ false
+      → c.server.version ≡ visible st.batches st.acked
+  known_is a b d =
+      let acked = ltb-false _ _ a in
+      let done = ltb-false _ _ b in
+      let sent = ltb-false _ _ d in
+      sound.version ∙ ap ons (sym (take_past c.commit.commands c.commit.acked (omega arith)))
+      ∙ (λ i. ons (take (h.acked i) (h.commands i))) ∙ sym (versions_by st.batches h.versions st.acked)
+
+  front_goes : (l : List Output) → c.commit.held ≡ l → c.server.version ≡ visible st.batches st.acked
+      → nat_lt 0 (length l) ≡ may_go (visible st.batches st.acked) (slice_get (map (λ (o : Output). (o.number, o.need)) l) 0)
+  front_goes [] is known = refl
+  front_goes (o ∷ l) is known =
+      let need : o.need ≤ c.server.version = each_at (Needs c.server.version) c.commit.held 0 o sound.needs (ap (λ q. slice_get q 0) is) in
+      lt-ltb 0 (suc (length l)) (omega arith) ∙ sym (le-leb _ _ (subst (λ v. o.need ≤ v) known need))
+
+  pub picked_is : picked_by (length x.packets) c ≡ next_event (setup_for x) st
+  picked_is =
+      let staged : nat_lt 0 (length st.passes) ≡ false = ap (λ (l : List Pass). nat_lt 0 (length l)) h.passes in
+      let waits = none_waits st.passes _ h.passes in
+      same_if false (nat_lt 0 (length st.passes)) (Some (Stage 0)) _ _ (sym staged) (λ z.
+      same_if _ _ (Some Ack) _ _ (λ i. nat_lt (h.acked i) (h.done i)) (λ a.
+      same_if _ _ (Some Apply) _ _ ((λ i. nat_lt (h.done i) (h.sent i)) ∙ sym (and_true _ _ (ap not waits))) (λ b.
+      same_if _ _ (Some Send) _ _ (λ i. nat_lt (h.sent i) (length (h.commands i))) (λ d.
+      same_if _ _ (Some (Down 0)) _ _ (ap (nat_lt 0) (map_length _ c.down.items st.down h.down)) (λ z.
+      same_if _ _ (Some (Hold 0)) _ _ (front_goes c.commit.held refl (known_is a b d) ∙ ap (λ l. may_go (visible st.batches st.acked) (slice_get l 0)) h.held) (λ z.
+      same_if _ _ (Some (Serve 0)) _ _ (ap (nat_lt 0) (map_length _ c.up.items st.up h.up)) (λ z.
+      same_if _ _ (Some Admit) _ _ (ap (λ n. nat_lt n (length x.packets)) (ap length h.fates ∙ length_map fate_of st.progress)) (λ z. refl))))))))
+
+-- ## How many events are left
+
+plus_none : (a b : ℕ) → b ≡ 0 → a + b ≡ a
+plus_none a b h = omega arith
+
+pub left_is : (x : Given) (calls : List Call) (st : State) (c : Course) → IsShown (whole x) calls st c → course_left x c ≡ events_left (setup_for x) st
+left_is x calls st c h =
+    let setup = setup_for x in
+    let up = map_length _ c.up.items st.up h.up in
+    let held = map_length _ c.commit.held st.held h.held in
+    let down = map_length _ c.down.items st.down h.down in
+    let fates : length c.fates.items ≡ length st.progress = ap length h.fates ∙ length_map fate_of st.progress in
+    let none : weight (pass_events setup) st.passes ≡ 0 = ap (weight (pass_events setup)) h.passes in
+    let first : (length x.packets - length c.fates.items) * packet_events setup ≡ (setup.total - length st.progress) * packet_events setup + weight (pass_events setup) st.passes =
+    (λ i. (length x.packets - fates i) * packet_events setup) ∙ sym (plus_none _ _ none) in
+    λ i. first i + up i * up_events setup + held i * (2 + setup.post_stages) + down i * (1 + setup.post_stages)
+    + 3 * (length (h.commands i) - h.sent i) + 2 * (h.sent i - h.done i) + (h.done i - h.acked i)
+
+-- ## One event more
+
+abbrev pub OnLaw : Type 0
+OnLaw = (x : Given) (events : List Event) (event : Event) (calls one : List Call) (st : State)
+    (old new : PortState) → IsReady x → IsReplay x events calls st old
+    → map question_of one ≡ asked (setup_for x) (whole x) x.packets (calls ++ one) st event
+    → WasCalled (code_for x) one old new
+    → IsReplay x (events ++ event ∷ []) (calls ++ one) (step (setup_for x) (answered x (calls ++ one)) st event) new
+
+abbrev pub FirstLaw : Type 0
+FirstLaw = (x : Given) (events : List Event) (calls : List Call) (st : State) (port : PortState)
+    → IsReplay x events calls st port → HasPicked x events [] calls st port
+
+abbrev pub MoreLaw : Type 0
+MoreLaw = (x : Given) (events more : List Event) (event : Event) (calls one : List Call) (st next : State)
+    (old new : PortState) → HasPicked x events more calls st old → next_event (setup_for x) st ≡ Some event
+    → is_some new.told ≡ is_some old.told → IsReplay x ((events ++ more) ++ event ∷ []) (calls ++ one) next new
+    → HasPicked x events (more ++ event ∷ []) (calls ++ one) next new
+
+abbrev pub EndLaw : Type 0
+EndLaw = (x : Given) (events more : List Event) (calls : List Call) (st : State) (port : PortState)
+    → IsReady x → HasPicked x events more calls st port → next_event (setup_for x) st ≡ None
+    → HasDrained x events more calls st port
+
+abbrev pub StaysLaw : Type 0
+StaysLaw = (setup : Setup) (s : SplitProgram) (packets : List Packet) (events : List Event)
+    (calls more : List Call) (st : State) → IsAnswered setup s packets events calls st
+    → st ≡ state_of setup (journal s (calls ++ more)) events
+
+abbrev pub FallsLaw : Type 0
+FallsLaw = (setup : Setup) (a : Answers) (events : List Event) (event : Event) → AreFew setup a
+    → (let st = state_of setup a events in
+    applies setup st event ≡ true → events_left setup (step setup a st event) < events_left setup st)
+
+abbrev pub FewLaw : Type 0
+FewLaw = (s : SplitProgram) (packets : List Packet) (manner : Manner) (calls : List Call)
+    → IsSplitProgram s packets → AreFew (setup_of s packets manner) (journal s calls)
+
+-- what a course picks
+abbrev pub PickLaw : Given → Course → Option Event → Type 0
+PickLaw x c o = (calls : List Call) (st : State) → IsPlain x → IsSound x c → IsShown (whole x) calls st c → o ≡ next_event (setup_for x) st
+
+pub none_drained : FirstLaw → (x : Given) (c : Course) (port : PortState) → IsGoing x c port → IsDraining x 0 c port c port
+none_drained first x c port going = record {
+  going = going;
+  stays = stays_all port;
+  events = omega arith;
+  turns = λ events calls st replay shown. record {
+    more = [];
+    others = [];
+    last = st;
+    picked = subst (λ cs. HasPicked x events [] cs st port) (sym (append-nil calls)) (first x events calls st port replay);
+    shown = subst (λ cs. IsShown (whole x) cs st c) (sym (append-nil calls)) shown;
+    counted = refl;
+  };
+}
+
+pub drains_more : OnLaw → MoreLaw → (x : Given) (count : ℕ) (event : Event) (stepped : Stepped) (c mid after : Course) (old port new : PortState)
+    → IsDraining x count c old mid port → PickLaw x mid (Some event) → HasTurned x event stepped mid port after new → IsDraining x (count + 1) c old after new
+drains_more on_law more_law x count event stepped c mid after old port new draining picks turned = record {
+  going = turned.going;
+  stays = stays_more old port new draining.stays turned.stays;
+  events = let a = turned.counted in let b = draining.events in omega arith;
+  turns = λ events calls st replay shown.
+      let on = draining.turns events calls st replay shown in
+      let now = on.picked.replay in
+      let t = turned.turns (events ++ on.more) (calls ++ on.others) on.last now on.shown in
+      let picked_so = sym (picks (calls ++ on.others) on.last draining.going.plain draining.going.sound on.shown) in
+      let after_one = on_law x (events ++ on.more) event (calls ++ on.others) t.one on.last port new draining.going.plain.ready now t.asks t.called in
+      let all = more_law x events on.more event (calls ++ on.others) t.one on.last _ port new on.picked picked_so turned.stays.told after_one in
+      let same = append_assoc calls on.others t.one in
+      let next = step (setup_for x) (answered x ((calls ++ on.others) ++ t.one)) on.last event in
+      record {
+        more = on.more ++ event ∷ [];
+        others = on.others ++ t.one;
+        last = next;
+        picked = subst (λ cs. HasPicked x events (on.more ++ event ∷ []) cs next new) same all;
+        shown = subst (λ cs. IsShown (whole x) cs next after) same t.shown;
+        counted = length_push on.more event ∙ ap (λ n. n + 1) on.counted;
+      };
+}
+
+pub has_drained : EndLaw → (x : Given) (count : ℕ) (c after : Course) (old new : PortState) → IsDraining x count c old after new
+    → PickLaw x after None → IsDrained x count c old after new
+has_drained law x count c after old new draining picks = record {
+  going = draining.going;
+  stays = draining.stays;
+  events = draining.events;
+  turns = λ events calls st replay shown.
+      let on = draining.turns events calls st replay shown in
+      record {
+        on = on;
+        drained = law x events on.more (calls ++ on.others) on.last new draining.going.plain.ready on.picked
+            (sym (picks (calls ++ on.others) on.last draining.going.plain draining.going.sound on.shown));
+      };
+}
+
+-- ## An event that is picked leaves fewer
+
+first_applies : (test : Event → Bool) (xs : List Event) (event : Event) → first_of test xs ≡ Some event → test event ≡ true
+first_applies test [] event e = absurd (none-some _ e)
+first_applies test (y ∷ xs) event e = elim (cases_Bool (test y)) [
+  | inl t ↦ let is : y ≡ event = same_Some _ _ ((rw t at e)) in subst (λ z. test z ≡ true) is t
+  | inr f ↦ first_applies test xs event (rw f at e)
+]
+
+pub left_falls : SplitLaws → StaysLaw → FewLaw → FallsLaw → (x : Given) (count : ℕ) (event : Event) (stepped : Stepped) (c mid after : Course) (old port new : PortState)
+    → IsOnItsWay x c old → IsDraining x count c old mid port → PickLaw x mid (Some event) → HasTurned x event stepped mid port after new
+    → course_left x after < course_left x mid
+left_falls split stays few falls x count event stepped c mid after old port new way draining picks turned =
+    let on = draining.turns way.events way.under_way.calls way.under_way.st way.under_way.replay way.under_way.shown in
+    let now = on.picked.replay in
+    let events = way.events ++ on.more in
+    let calls = way.under_way.calls ++ on.others in
+    let t = turned.turns events calls on.last now on.shown in
+    let setup = setup_for x in
+    let a = answered x (calls ++ t.one) in
+    let picked_so : next_event setup on.last ≡ Some event = sym (picks calls on.last draining.going.plain draining.going.sound on.shown) in
+    let may = first_applies (applies setup on.last) drain_order event picked_so in
+    let is : on.last ≡ state_of setup a events = stays setup (whole x) x.packets events calls t.one on.last now.answered in
+    let less : events_left setup (step setup a on.last event) < events_left setup on.last =
+    subst (λ w. events_left setup (step setup a w event) < events_left setup w) (sym is)
+    (falls setup a events event (few (whole x) x.packets x.manner (calls ++ t.one) (is_split_program split x mid port draining.going)) (subst (λ w. applies setup w event ≡ true) is may)) in
+    subst (λ n. n < course_left x mid) (sym (left_is x (calls ++ t.one) _ after t.shown))
+    (subst (λ n. events_left setup (step setup a on.last event) < n) (sym (left_is x calls on.last mid on.shown)) less)
+
+pub drain_room : FindsRoom → (x : Given) (count : ℕ) (c mid : Course) (old port : PortState) → IsOnItsWay x c old → IsDraining x count c old mid port → HasRoomNext mid port
+drain_room room x count c mid old port way draining =
+    let on = draining.turns way.events way.under_way.calls way.under_way.st way.under_way.replay way.under_way.shown in
+    room x (way.events ++ on.more) (way.under_way.calls ++ on.others) on.last mid port on.picked.replay on.shown draining.going
+
+-- what a loop keeps beside: the events so far and those that are left
+pub few_drained : (x : Given) (count : ℕ) (c mid : Course) (old port : PortState) → IsDraining x count c old mid port → count + course_left x mid ≤ course_left x c
+    → c.events + course_left x c < 2 ^ 32 - 1 → mid.events < 2 ^ 32 - 1
+few_drained x count c mid old port draining left few = let e = draining.events in omega arith

@@ -1,0 +1,120 @@
+-- The start of a replay, and the events of a schedule one after the other.
+use Rattle.std.proofs.Common.{◌≡◌, ◌<◌, ◌≤◌, ◌+◌, ◌*◌, ◌^◌, ◌-◌, ℕ, zero, suc, List, [], ◌∷◌, ◌++◌, Option, Some, None, refl, sym, ap, subst, ◌∙◌, arith, length, take}
+use Rattle.std.specs.Prelude.{is_some, slice_get}
+use Rattle.std.specs.List.{AllByRecursion as Each}
+use Rattle.std.proofs.Math.Nat.{mul-le-mul}
+use Rattle.std.proofs.lemmas.Option.{none-some, same_Some}
+use Rattle.packet_fields.specs.declared.packet.Packet.{Packet}
+use Rattle.state_store.specs.Store.{Store, start_store}
+use Rattle.flat_ir.specs.Arrivals.{IsArrival}
+use Rattle.gal_io.specs.Count.{IsCountedIf, count_after}
+use Rattle.run_model.specs.declared.event.Event.{Event}
+use Rattle.server_runtime.specs.Serving.{Server}
+use Rattle.server_runtime.specs.Views.{server_of}
+use Rattle.split_answers.specs.Whole.{IsSplit}
+use Rattle.switch_ir.specs.Code.{Code}
+use Rattle.switch_ir.specs.Port.{PortState, Loads, StartsTold}
+use Rattle.switch_ir.specs.Tables.{IsStart, Told}
+use Rattle.switch_ir.specs.declared.port.PortEnd.TheVariants as port
+use Rattle.replay_state.specs.Journal.{Call}
+use Rattle.replay_state.specs.Program.{SplitProgram, plain_manner}
+use Rattle.replay_state.specs.State.{State, first_state}
+use Rattle.replay_contracts.specs.Called.{calls_in}
+use Rattle.replay_contracts.specs.Given.{Given, IsReady, code_for, whole}
+use Rattle.replay_contracts.specs.Replay.{IsLoaded, IsReplay}
+use Rattle.replay_contracts.specs.Replayer.{StaysTold, is_port_fault}
+use Rattle.replay_contracts.specs.declared.job.ReplayError.{ReplayError}
+use Rattle.replay_contracts.specs.declared.job.Stepped.{Stepped}
+use Rattle.replay_course.specs.declared.course.Course.{Course}
+use Rattle.replay_course.specs.Going.{HasRoomNext, HasTurned, IsGoing, IsPlain, IsSound, most_commands, unapplied}
+use Rattle.replay_course.specs.Shown.{IsShown}
+use Rattle.replay_course.specs.UnderWay.{HasGone, IsUnderWay}
+use Rattle.replay_course.proofs.Calling.{stays_all, stays_more}
+use Rattle.replay_course.proofs.Draining.{OnLaw}
+use Rattle.replay_course.proofs.Lists.{length_push}
+use Rattle.replay_course.proofs.Room.{FindsRoom}
+
+-- ## One event more
+
+pub gone_on : OnLaw → (x : Given) (events : List Event) (event : Event) (stepped : Stepped) (c after : Course) (first old new : PortState)
+    → HasGone x events c first old → HasTurned x event stepped c old after new → HasGone x (events ++ event ∷ []) after first new
+gone_on law x events event stepped c after first old new gone turned =
+    let u = gone.under_way in
+    let t = turned.turns events u.calls u.st u.replay u.shown in record {
+      under_way = record {
+        calls = u.calls ++ t.one;
+        st = _;
+        replay = law x events event u.calls t.one u.st old new u.going.plain.ready u.replay t.asks t.called;
+        shown = t.shown;
+        going = turned.going;
+        counted = turned.counted ∙ ap (λ n. n + 1) u.counted ∙ sym (length_push events event);
+      };
+      stays = stays_more first old new gone.stays turned.stays;
+    }
+
+pub not_gone : (x : Given) (c : Course) (port : PortState) → IsUnderWay x [] c port → HasGone x [] c port port
+not_gone x c port under_way = record { under_way = under_way; stays = stays_all port }
+
+pub room_by : FindsRoom → (x : Given) (events : List Event) (c : Course) (first port : PortState) → HasGone x events c first port → HasRoomNext c port
+room_by law x events c first port gone = let u = gone.under_way in law x events u.calls u.st c port u.replay u.shown u.going
+
+length_take : {X : Type 0} (n : ℕ) (xs : List X) → length (take n xs) ≤ n
+length_take zero xs = omega arith
+length_take (suc n) [] = omega arith
+length_take (suc n) (x ∷ xs) = let h = length_take n xs in omega arith
+
+pub few_events : (x : Given) (n : ℕ) (items : List Event) (c : Course) (first port : PortState) → HasGone x (take n items) c first port → n < length items
+    → length items < 2 ^ 32 - 1 → c.events < 2 ^ 32 - 1
+few_events x n items c first port gone less few = let count = gone.under_way.counted in let short = length_take n items in omega arith
+
+-- what an error counts behind calls of which none failed, it counts over all of them
+pub counts_behind : (e : ReplayError) (first old new : ℕ) → old ≡ first → IsCountedIf (is_port_fault e) old new
+    → IsCountedIf (is_port_fault e) first new
+counts_behind e first old new same counts = counts ∙ ap (count_after (is_port_fault e)) same
+
+-- ## The start
+
+abbrev pub BeginLaw : Type 0
+BeginLaw = (x : Given) (port : PortState) → IsReady x → IsLoaded x port → IsReplay x [] [] (first_state (start_store x.program.objects)) port
+
+few_packets : (n k : ℕ) → n * k < 2 ^ 32 → 2 ≤ k → n ≤ 2 ^ 32
+few_packets n k few two = let same : n ≤ n = omega arith in let twice = mul-le-mul same two in omega arith
+
+pub is_plain : (x : Given) → IsSplit x.program x.split x.writeback → Each IsArrival x.packets → x.manner ≡ plain_manner → length x.packets * most_commands x < 2 ^ 32 → IsPlain x
+is_plain x split arrivals manner few = record {
+  ready = record { split = split; arrivals = arrivals; few = few_packets _ (most_commands x) few (omega arith) };
+  manner = manner;
+  few = few;
+}
+
+told_first : (code : Code) (old new : Option Told) → StartsTold code old new → is_some new ≡ is_some old
+told_first code None new starts = ap is_some starts
+told_first code (Some told) new starts = ap is_some starts.1
+
+starts_with : (code : Code) (old new : Option Told) (told : Told) → StartsTold code old new → new ≡ Some told → IsStart code told
+starts_with code None new told starts is = absurd (none-some told (sym starts ∙ is))
+starts_with code (Some before) new told starts is = subst (IsStart code) (same_Some _ _ (sym starts.1 ∙ is)) starts.2
+
+pub started : BeginLaw → (x : Given) (c : Course) (server : Server) (old new : PortState) → IsPlain x → Loads port.Done (code_for x) old new
+    → server ≡ record { program = x.program; split = x.split; store = start_store x.program.objects; version = 0; evaluated = 0 }
+    → ((s : SplitProgram) (calls : List Call) → IsShown s calls (first_state server.store) c)
+    → ((y : Given) → server.program ≡ y.program → server.split ≡ y.split → IsSound y c) → unapplied c ≡ 0 → HasGone x [] c old new
+started begins x c server old new plain loads is shown sound none = record {
+  under_way = record {
+    calls = [];
+    st = first_state (start_store x.program.objects);
+    replay = begins x new plain.ready (record {
+      called = record { loaded = loads.state.code; journal = ap calls_in loads.state.journal };
+      start = λ told told_is. starts_with (code_for x) old.told new.told told loads.state.told told_is;
+    });
+    shown = subst (λ (z : Server). IsShown (whole x) [] (first_state z.store) c) is (shown (whole x) []);
+    going = record {
+      plain = plain;
+      sound = sound x (ap (λ z. z.program) is) (ap (λ z. z.split) is);
+      loaded = loads.state.code;
+      spare = subst (λ n. n ≤ new.spare) (sym none) (omega arith);
+    };
+    counted = (shown (whole x) []).events;
+  };
+  stays = record { told = told_first (code_for x) old.told new.told loads.state.told; faults = loads.faults };
+}

@@ -1,0 +1,220 @@
+-- What the server makes of a frame comes to what the split program says of it.
+use Rattle.std.proofs.Common.{◌≡◌, ◌<◌, ◌≤◌, ◌+◌, ◌-◌, ◌*◌, ◌^◌, ℕ, suc, zero, Bool, true, false, List, [], ◌∷◌, ◌++◌, Option, Some, None, refl, sym, ap, subst, ◌∙◌, arith, length, map}
+use Rattle.std.specs.Prelude.{slice_get, slice_set, remove, IsTrue, ◌&&◌, if◌then◌else◌}
+use Rattle.std.specs.List.{AllByRecursion as Each}
+use Rattle.std.proofs.lemmas.Option.{slice_get_within}
+use Rattle.std.proofs.Math.Nat.{mul-le-mul}
+use Rattle.state_store.specs.Kept.{have_widths}
+use Rattle.flat_ir.specs.Program.{Program, step_at}
+use Rattle.split_model.specs.Counts.{count_below}
+use Rattle.split_model.specs.Layouts.{down_layout, up_layout}
+use Rattle.transfer_header.specs.Frames.{IsFrame}
+use Rattle.writeback_table.specs.declared.command.Command.{Command}
+use Rattle.writeback_table.specs.declared.command.Command.TheVariants.{Stage, On, Main, Off, Clear}
+use Rattle.writeback_table.specs.declared.command.Update.{Update}
+use Rattle.writeback_table.specs.Commands.{clear_of, ons}
+use Rattle.writeback_table.specs.Widths.{has_value_widths}
+use Rattle.output_commit.specs.Commit.{Commit, IsInOrder, batch_of, with_output}
+use Rattle.output_commit.specs.declared.output.Output.{Output}
+use Rattle.run_model.specs.declared.event.Event.{Event}
+use Rattle.run_model.specs.declared.event.Event.TheVariants as event
+use Rattle.run_model.specs.declared.fate.Fate.{Fate}
+use Rattle.server_runtime.specs.declared.served.Served.{Served}
+use Rattle.server_runtime.specs.declared.server.Server.{Server as Runtime}
+use Rattle.server_runtime.specs.Serving.{Server, IsServed, IsUpdateIn, evaluated_steps, followed_writes, is_followed, served_frame, served_store, served_updates, version_after}
+use Rattle.server_runtime.specs.Views.{server_of}
+use Rattle.switch_ir.specs.Port.{PortState, IsCommandOf, IsUpdateOf}
+use Rattle.replay_state.specs.Journal.{Call, journal}
+use Rattle.replay_state.specs.State.{State}
+use Rattle.replay_state.specs.Step.{applies}
+use Rattle.replay_contracts.specs.Given.{Given, IsReady, code_for, setup_for, whole}
+use Rattle.replay_contracts.specs.Replayer.{stepped_by}
+use Rattle.replay_contracts.specs.declared.job.Stepped.TheVariants.{Did}
+use Rattle.replay_course.specs.Fates as fates_of
+use Rattle.replay_course.specs.declared.course.Course.{Course}
+use Rattle.replay_course.specs.Going.{HasTurned, IsGoing, IsPlain, IsSound, MadeRoom, most_commands, unapplied}
+use Rattle.replay_course.specs.Shown.{IsShown}
+use Rattle.replay_course.proofs.Lists.{each_at, each_join, each_more, each_push, each_remove, length_join, length_remove, length_set}
+use Rattle.replay_course.proofs.Costs.{commands_served, enough, one_more_times, spare_served, still_within, undecided_served}
+use Rattle.replay_course.proofs.Sounding.{FramedDown, FramedHeld, FramedUp, Needs}
+use Rattle.replay_course.proofs.Travelling.{serve_shown}
+use Rattle.replay_course.proofs.Turning.{PlaceLaw, have_places, quiet_turned}
+use Rattle.replay_course.proofs.Versions.{batch_count, before_next, version_next, version_ons}
+
+-- what is told of the objects of a split program is told of its code
+abbrev pub ToldOf : Given → Type 0
+ToldOf x = (update : Update) → IsUpdateIn x.program x.split update → IsUpdateOf (code_for x) update
+
+-- ## A batch
+
+both : (a b : Bool) → IsTrue (a && b) → IsTrue a
+both true b h = refl
+both false b h = h
+
+each_stage : (x : Given) → ToldOf x → (updates : List Update) → Each (IsUpdateIn x.program x.split) updates
+    → Each (IsCommandOf (code_for x)) (map (λ u. Stage u) updates)
+each_stage x told [] fit = tt
+each_stage x told (u ∷ us) fit = (told u fit.0, each_stage x told us fit.1)
+
+each_main : (x : Given) → ToldOf x → (updates : List Update) → Each (IsUpdateIn x.program x.split) updates
+    → Each (IsCommandOf (code_for x)) (map (λ u. Main u) updates)
+each_main x told [] fit = tt
+each_main x told (u ∷ us) fit = (told u fit.0, each_main x told us fit.1)
+
+each_clear : (x : Given) → ToldOf x → (updates : List Update) → Each (IsUpdateIn x.program x.split) updates
+    → Each (IsCommandOf (code_for x)) (map clear_of updates)
+each_clear x told [] fit = tt
+each_clear x told (u ∷ us) fit =
+    let one = told u fit.0 in
+    ((one.0, one.1, both (have_widths one.0.keys u.key) (has_value_widths one.0 u.to) one.2), each_clear x told us fit.1)
+
+pub each_command : (x : Given) → ToldOf x → (updates : List Update) → Each (IsUpdateIn x.program x.split) updates
+    → Each (IsCommandOf (code_for x)) (batch_of updates)
+each_command x told [] fit = tt
+each_command x told (u ∷ us) fit =
+    each_join (IsCommandOf (code_for x)) (map (λ u. Stage u) (u ∷ us)) _ (each_stage x told (u ∷ us) fit) (
+      tt,
+      each_join (IsCommandOf (code_for x)) (map (λ u. Main u) (u ∷ us)) _ (each_main x told (u ∷ us) fit)
+          (tt, each_clear x told (u ∷ us) fit),
+    )
+
+-- ## What is served
+
+-- the same of the program that the server has
+of_program : (x : Given) (before after : Server) (frame : List ℕ) (s : Served) → before.program ≡ x.program
+    → before.split ≡ x.split → IsServed before frame s after
+    → IsServed (record before { program = x.program; split = x.split }) frame s (record after { program = x.program; split = x.split })
+of_program x before after frame s p q is = record {
+  program = refl;
+  split = refl;
+  store = is.store ∙ (λ i. served_store (p i) (q i) before.store frame);
+  number = is.number;
+  down = is.down ∙ (λ i. served_frame (p i) (q i) before.store frame);
+  is_frame = subst (λ f. IsFrame 2 (down_layout f x.split) s.down) p (subst (λ y. IsFrame 2 (down_layout before.program y) s.down) q is.is_frame);
+  updates = is.updates ∙ (λ i. served_updates (p i) (q i) before.store frame);
+  fit = subst (λ f. Each (IsUpdateIn f x.split) s.updates) p (subst (λ y. Each (IsUpdateIn before.program y) s.updates) q is.fit);
+  few = subst (λ f. length s.updates ≤ followed_writes f x.split) p (subst (λ y. length s.updates ≤ followed_writes before.program y) q is.few);
+  version = is.version;
+  told = is.told;
+  evaluated = is.evaluated ∙ (λ i. evaluated_steps (p i) (q i));
+}
+
+pub served_by : (x : Given) (c : Course) (server : Runtime) (frame : List ℕ) (s : Served) → IsSound x c → IsServed (server_of c.server) frame s (server_of server)
+    → IsServed (record (server_of c.server) { program = x.program; split = x.split }) frame s (record (server_of server) { program = x.program; split = x.split })
+served_by x c server frame s sound is = of_program x (server_of c.server) (server_of server) frame s sound.program sound.split is
+
+serve_sound : (x : Given) (c after : Course) (j n : ℕ) (frame : List ℕ) (s : Served) (server : Runtime) (fate : Fate) → ToldOf x → IsSound x c
+    → slice_get c.up.items j ≡ Some (n, frame) → IsServed (server_of c.server) frame s (server_of server)
+    → after.up.items ≡ remove c.up.items j → after.server ≡ server
+    → after.commit ≡ with_output c.commit (record { number = n; need = s.version; frame = s.down }) s.updates
+    → after.down.items ≡ c.down.items → after.fates.items ≡ slice_set c.fates.items n fate → after.idle ≤ after.events → IsSound x after
+serve_sound x c after j n frame s server fate told h here is up server_is commit down fates idle =
+    let done = served_by x c server frame s h is in
+    let output : Output = record { number = n; need = s.version; frame = s.down } in
+    let version : after.server.version ≡ version_after c.server.version s.updates = ap (λ z. z.version) server_is ∙ done.version in
+    let commands : after.commit.commands ≡ c.commit.commands ++ batch_of s.updates = ap (λ (k : Commit). k.commands) commit in
+    let held : after.commit.held ≡ c.commit.held ++ output ∷ [] = ap (λ (k : Commit). k.held) commit in
+    let more = length_join c.commit.commands (batch_of s.updates) in
+    let less : length after.up.items + 1 ≡ length c.up.items = ap (λ l. length l + 1) up ∙ length_remove c.up.items j (n, frame) here in
+    let as_many : length after.fates.items ≡ length c.fates.items = ap length fates ∙ length_set c.fates.items n fate in
+    record {
+      program = ap (λ z. (server_of z).program) server_is ∙ is.program ∙ h.program;
+      split = ap (λ z. (server_of z).split) server_is ∙ is.split ∙ h.split;
+      up = subst (Each (FramedUp x)) (sym up) (each_remove (FramedUp x) c.up.items j h.up);
+      held = subst (Each (FramedHeld x)) (sym held) (each_push (FramedHeld x) c.commit.held output h.held done.is_frame);
+      down = subst (Each (FramedDown x)) (sym down) h.down;
+      commands = subst (Each (IsCommandOf (code_for x))) (sym commands)
+          (each_join (IsCommandOf (code_for x)) c.commit.commands (batch_of s.updates) h.commands (each_command x told s.updates done.fit));
+      order = subst IsInOrder (sym commit) (record {
+        acked_within = h.order.acked_within;
+        done_within = h.order.done_within;
+        sent_within = still_within _ _ _ _ more h.order.sent_within;
+      });
+      version = version ∙ version_ons c.server.version c.commit.commands s.updates h.version ∙ ap ons (sym commands);
+      needs = subst (Each (Needs after.server.version)) (sym held) (each_push (Needs after.server.version) c.commit.held output
+          (each_more (Needs c.server.version) (Needs after.server.version) c.commit.held
+          (λ o k. subst (λ v. o.need ≤ v) (sym version) (before_next c.server.version s.updates o.need k)) h.needs)
+          (let same : s.version ≡ after.server.version = done.told ∙ sym (ap (λ z. z.version) server_is) in omega (arith, same)));
+      within = record {
+        idle = idle;
+        admitted = subst (λ k. k ≤ length x.packets) (sym as_many) h.within.admitted;
+        versions = undecided_served _ _ _ _ _ _ _ less as_many (let next = version_next c.server.version s.updates in omega (arith, version)) h.within.versions;
+        commands = commands_served _ _ _ _ _ _ _ _ _ (ap length commands ∙ more) less (ap (λ k. length x.packets - k) as_many)
+            (batch_count s.updates (whole x).writes done.few) h.within.commands;
+      };
+    }
+
+pub serve_turned : PlaceLaw → (x : Given) (c after : Course) (old new : PortState) (j n : ℕ) (frame : List ℕ) (s : Served) (server : Runtime) → ToldOf x → IsGoing x c old
+    → slice_get c.up.items j ≡ Some (n, frame) → IsServed (server_of c.server) frame s (server_of server)
+    → MadeRoom (unapplied c + length (batch_of s.updates)) old new
+    → after.up.items ≡ remove c.up.items j → after.server ≡ server
+    → after.commit ≡ with_output c.commit (record { number = n; need = s.version; frame = s.down }) s.updates
+    → after.down.items ≡ c.down.items
+    → after.fates.items ≡ slice_set c.fates.items n (fates_of.decided (c.events + 1) s.version (slice_get c.fates.items n))
+    → after.events ≡ c.events + 1 → after.idle ≡ c.idle → HasTurned x (event.Serve j) Did c old after new
+serve_turned places x c after old new j n frame s server told going here is made up server_is commit down fates events idle =
+    let h = going.sound in
+    let done = served_by x c server frame s h is in
+    let sound = serve_sound x c after j n frame s server _ told h here is up server_is commit down fates (let i = h.within.idle in omega (arith, events, idle)) in
+    let need : s.version ≡ after.server.version = done.told ∙ sym (ap (λ z. z.version) server_is) in
+    let spare : unapplied after ≤ new.spare = subst (λ (k : Commit). length k.commands - k.done ≤ new.spare) (sym commit)
+    (spare_served _ _ _ _ _ (length_join c.commit.commands (batch_of s.updates)) (enough _ _ _ h.order.done_within h.order.sent_within) made.spare) in
+    quiet_turned x (event.Serve j) Did c after old new going made.kept sound spare events (λ calls st shown may. refl) (λ events_so calls st replay shown.
+    let was = serve_shown (whole x) (setup_for x) calls st c after j n frame s.updates shown
+    (have_places places (setup_for x) (whole x) x.packets events_so calls st replay.answered) here up
+    (ap (λ z. z.store) server_is ∙ done.store) (ap (λ z. z.version) server_is ∙ done.version) (sym done.updates)
+    (commit ∙ (λ i. with_output c.commit (record { number = n; need = need i; frame = done.down i }) s.updates))
+    down (fates ∙ ap (λ v. slice_set c.fates.items n (fates_of.decided (c.events + 1) v (slice_get c.fates.items n))) need) events idle in
+    (ap stepped_by (sym was.0), was.1))
+
+-- ## What the calls ask for
+
+count_within : (n : ℕ) (test : ℕ → Bool) → count_below n test ≤ n
+count_within zero test = omega arith
+count_within (suc n) test = let h = count_within n test in by_test (test n) h
+  where
+    by_test : (b : Bool) → count_below n test ≤ n → count_below n test + (if b then 1 else 0) ≤ suc n
+    by_test true h = omega arith
+    by_test false h = omega arith
+
+-- a program within bounds has few writes
+few_writes : (x : Given) → IsReady x → (whole x).writes ≤ 4096
+few_writes x ready =
+    let h = count_within (length x.program.code) (λ i. is_followed x.program x.split (step_at x.program i).work) in
+    enough _ _ _ h ready.split.bounded.few
+
+pub few_updates : (x : Given) (c : Course) (port : PortState) (frame : List ℕ) (s : Served) (server : Runtime) → IsGoing x c port
+    → IsServed (server_of c.server) frame s (server_of server) → length s.updates ≤ 4096
+few_updates x c port frame s server going is = enough _ _ _ (served_by x c server frame s going.sound is).few (few_writes x going.plain.ready)
+
+-- the frame is one of those that went up
+pub framed_up : (x : Given) (c : Course) (port : PortState) (j n : ℕ) (frame : List ℕ) → IsGoing x c port
+    → slice_get c.up.items j ≡ Some (n, frame) → IsFrame 1 (up_layout (server_of c.server).program (server_of c.server).split) frame
+framed_up x c port j n frame going here =
+    let framed = each_at (FramedUp x) c.up.items j (n, frame) going.sound.up here in
+    subst (λ f. IsFrame 1 (up_layout f (server_of c.server).split) frame) (sym going.sound.program)
+    (subst (λ y. IsFrame 1 (up_layout x.program y) frame) (sym going.sound.split) framed)
+
+few_versions : (version u n k : ℕ) → version + u ≤ n → n * k < 2 ^ 32 → 2 ≤ k → version < 2 ^ 32 - 1
+few_versions version u n k h few two =
+    let same : n ≤ n = omega arith in let twice = mul-le-mul same two in omega arith
+
+-- there are versions left
+pub versions_left : (x : Given) (c : Course) (port : PortState) → IsGoing x c port → c.server.version < 2 ^ 32 - 1
+versions_left x c port going = few_versions _ _ _ (most_commands x) going.sound.within.versions going.plain.few (omega arith)
+
+few_commands : (n b up rest k total : ℕ) → n + (up + rest) * k ≤ total → 0 < up → b ≤ k → total < 2 ^ 32 → n + b < 2 ^ 32
+few_commands n b up rest k total h some few all =
+    let one : up + rest ≡ (up + rest - 1) + 1 = omega arith in
+    let m = one_more_times (up + rest - 1) k in
+    let g : n + (up + rest - 1) * k + k ≤ total = omega (arith, rw one at h) in
+    omega arith
+
+-- and room for the commands of a batch
+pub commands_left : (x : Given) (c : Course) (port : PortState) (j n : ℕ) (frame : List ℕ) (s : Served) (server : Runtime) → IsGoing x c port
+    → slice_get c.up.items j ≡ Some (n, frame) → IsServed (server_of c.server) frame s (server_of server)
+    → length c.commit.commands + length (batch_of s.updates) < 2 ^ 32
+commands_left x c port j n frame s server going here is =
+    let less = slice_get_within c.up.items j (n, frame) here in
+    few_commands _ _ (length c.up.items) _ (most_commands x) _ going.sound.within.commands
+    (omega arith) (batch_count s.updates (whole x).writes (served_by x c server frame s going.sound is).few) going.plain.few

@@ -1,0 +1,54 @@
+-- How many commands aren't applied after each call of the commands, and what stands then.
+use Rattle.std.proofs.Common.{◌≡◌, ◌<◌, ◌≤◌, ◌+◌, ◌-◌, ℕ, true, false, ltb, List, [], ◌∷◌, ◌++◌, Option, Some, None, inl, inr, refl, sym, ◌∙◌, ap, arith, length}
+use Rattle.std.specs.Prelude.{slice_get, remove}
+use Rattle.std.proofs.lemmas.Bool.{cases_Bool, ltb-true}
+use Rattle.writeback_table.specs.declared.command.Command.{Command}
+use Rattle.output_commit.specs.Commit.{Commit, IsInOrder, acknowledged, after_acknowledge, after_next, after_release, after_send, answer, next}
+use Rattle.output_commit.specs.declared.output.Output.{Output}
+use Rattle.output_commit.specs.declared.output.Release.TheVariants as release
+use Rattle.replay_contracts.specs.Given.{Given}
+use Rattle.replay_course.specs.declared.course.Course.{Course}
+use Rattle.replay_course.specs.Going.{IsSound}
+use Rattle.replay_course.proofs.Showing.{goes, next_none, next_some, stays}
+use Rattle.replay_course.proofs.Sounding.{hold_sound, idle_sound}
+
+abbrev pub left_of : Commit → ℕ
+left_of k = length k.commands - k.done
+
+pub release_same : (k : Commit) (j : ℕ) (o : Option Output) → left_of (after_release k j o) ≡ left_of k
+release_same k j None = refl
+release_same k j (Some out) = elim (cases_Bool (ltb (acknowledged k) out.need)) [ inl t ↦ rw t refl | inr f ↦ rw f refl ]
+
+pub send_same : (k : Commit) → left_of (after_send k) ≡ left_of k
+send_same k = elim (cases_Bool (ltb k.sent (length k.commands))) [ inl t ↦ rw t refl | inr f ↦ rw f refl ]
+
+pub acknowledge_same : (k : Commit) → left_of (after_acknowledge k) ≡ left_of k
+acknowledge_same k = elim (cases_Bool (ltb k.acked k.done)) [ inl t ↦ rw t refl | inr f ↦ rw f refl ]
+
+one_less : (total sent done : ℕ) → done < sent → sent ≤ total → total - done ≡ 1 + (total - (done + 1))
+one_less total sent done a b = omega arith
+
+pub next_left : (k : Commit) (command : Command) → IsInOrder k → Some command ≡ next k → left_of k ≡ 1 + left_of (after_next k)
+next_left k command h e =
+    let g = next_some k command e in
+    one_less (length k.commands) k.sent k.done (ltb-true k.done k.sent g.0) h.sent_within ∙ ap (λ z. 1 + left_of z) (sym g.2)
+
+pub none_left : (k : Commit) → IsInOrder k → None ≡ next k → left_of k ≡ 0 + left_of (after_next k)
+none_left k h e = let same = ap left_of (next_none k h.sent_within e).1 in omega arith
+
+-- ## Outputs that go, or wait
+
+pub goes_sound : (x : Given) (c after : Course) (j n : ℕ) (f : List ℕ) → IsSound x c → after.up.items ≡ c.up.items → after.server ≡ c.server
+    → after.commit ≡ after_release c.commit j (slice_get c.commit.held j) → release.Frame n f ≡ answer c.commit (slice_get c.commit.held j)
+    → after.down.items ≡ c.down.items ++ (n, f) ∷ [] → after.fates.items ≡ c.fates.items → after.idle ≤ after.events → IsSound x after
+goes_sound x c after j n f h up server commit ans down fates idle =
+    let g = goes c.commit (slice_get c.commit.held j) n f ans in
+    let now : after.commit ≡ record c.commit { held = remove c.commit.held j } = commit ∙ ap (after_release c.commit j) g.1 ∙ (rw g.2 refl) in
+    hold_sound x c after j g.0 h g.1 up server now (down ∙ (λ i. c.down.items ++ (sym g.3 i, sym g.4 i) ∷ [])) fates idle
+
+pub waits_sound : (x : Given) (c after : Course) (j : ℕ) → IsSound x c → after.up.items ≡ c.up.items → after.server ≡ c.server
+    → after.commit ≡ after_release c.commit j (slice_get c.commit.held j)
+    → ((n : ℕ) (f : List ℕ) → release.Frame n f ≡ answer c.commit (slice_get c.commit.held j) → ⊥)
+    → after.down.items ≡ c.down.items → after.fates.items ≡ c.fates.items → after.idle ≤ after.events → IsSound x after
+waits_sound x c after j h up server commit never down fates idle =
+    idle_sound x c after h up server (commit ∙ (stays c.commit j (slice_get c.commit.held j) never).0) down fates idle

@@ -1,0 +1,23 @@
+use Rattle.std.proofs.Common.{refl, sym, subst, ap, ◌∙◌}
+use Rattle.std.specs.Prelude.{IfSome}
+use Rattle.switch_ir.specs.Port.{IsCommandOf}
+use Rattle.replay_course.proofs.Calling.{commanded}
+use Rattle.replay_course.proofs.Turning.{apply_turned, next_named, no_command_turned}
+use Rattle.replay_course.proofs.course.Course.apply.Goals as goal
+
+pub command-requires-clause-named : goal.command-requires-clause-named
+command-requires-clause-named g c =
+    subst (λ o. IfSome o (λ code. IsCommandOf code c.in-Some.command)) (sym c.requires.going.loaded)
+    (next_named _ c.args.self.now c.in-Some.command c.requires.going.sound c.in-Some.ensures.next)
+
+pub returns-in_default-clause-turned : goal.returns-in_default-clause-turned
+returns-in_default-clause-turned g c =
+    let none = c.in_default.ensures in
+    no_command_turned _ c.args.self.now _ _ c.requires.going none.stepped none.asked none.shown none.sound (none.unapplied _ c.requires.going.sound) none.counted
+
+pub returns-in-Done-clause-turned : goal.returns-in-Done-clause-turned
+returns-in-Done-clause-turned g c =
+    let some = c.in-Some.ensures in
+    apply_turned _ c.args.self.now _ _ _ c.in-Some.command c.requires.going
+    (commanded _ c.in-Some.command _ _ (next_named _ c.args.self.now c.in-Some.command c.requires.going.sound some.next) c.in-Done.ensures)
+    c.in-Done.ensures.spare (some.sound _ c.requires.going.sound) (some.unapplied _ c.requires.going.sound) some.counted some.stepped some.asked some.shown

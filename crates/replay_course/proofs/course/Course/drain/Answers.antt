@@ -1,0 +1,35 @@
+use Rattle.std.proofs.Common.{◌≡◌, ◌<◌, ◌≤◌, ◌+◌, Some, sym, ap, ◌∙◌, length, arith}
+use Rattle.replay_contracts.specs.Replayer.{given_of}
+use Rattle.replay_course.specs.UnderWay.{course_left}
+use Rattle.replay_course.proofs.Draining.{drain_room, drains_more, few_drained, has_drained, left_falls, none_drained}
+use Rattle.replay_course.proofs.course.Course.drain.Goals as goal
+
+pub loop-event-init : goal.loop-event-init
+loop-event-init g c = (none_drained c.a_drain_goes_on.ensures.begins _ c.args.self.now _ c.requires.on_its_way.under_way.going, omega arith)
+
+pub returns-clause-drained : goal.returns-clause-drained
+returns-clause-drained g c = has_drained c.a_drain_ends.ensures _ c.loop-event.count c.args.self.now c.loop-event.self _ _ c.loop-event.invariant.0 c.in_default.ensures
+
+pub step-requires-clause-events : goal.step-requires-clause-events
+step-requires-clause-events g c = few_drained _ c.loop-event.count c.args.self.now c.loop-event.self _ _ c.loop-event.invariant.0 c.loop-event.invariant.1 c.requires.few
+
+pub step-requires-clause-room : goal.step-requires-clause-room
+step-requires-clause-room g c =
+    drain_room c.the_next_command_finds_room.ensures _ c.loop-event.count c.args.self.now c.loop-event.self _ _ c.requires.on_its_way c.loop-event.invariant.0
+
+pub loop-event-smaller : goal.loop-event-smaller
+loop-event-smaller g c =
+    left_falls c.split_programs_have_their_laws.ensures c.a_run_is_answered_by_its_calls.ensures.state_stays c.whole_runs_are_sound.ensures.few_answered
+    c.drain_ends.ensures.falls _ c.loop-event.count c.in-Some.event _ c.args.self.now c.loop-event.self c.step.new.self _ _ _
+    c.requires.on_its_way c.loop-event.invariant.0 c.in-Some.ensures c.in_ok-step.ensures.turned
+
+pub loop-event-preserved : goal.loop-event-preserved
+loop-event-preserved g c =
+    let falls = left_falls c.split_programs_have_their_laws.ensures c.a_run_is_answered_by_its_calls.ensures.state_stays c.whole_runs_are_sound.ensures.few_answered
+    c.drain_ends.ensures.falls _ c.loop-event.count c.in-Some.event _ c.args.self.now c.loop-event.self c.step.new.self _ _ _
+    c.requires.on_its_way c.loop-event.invariant.0 c.in-Some.ensures c.in_ok-step.ensures.turned in
+    let left = c.loop-event.invariant.1 in (
+      drains_more c.a_replay_goes_on.ensures c.a_drain_goes_on.ensures.more _ c.loop-event.count c.in-Some.event _ c.args.self.now c.loop-event.self c.step.new.self _ _ _
+          c.loop-event.invariant.0 c.in-Some.ensures c.in_ok-step.ensures.turned,
+      omega (arith, falls, left),
+    )

@@ -1,0 +1,18 @@
+use Rattle.std.proofs.Common.{◌++◌, ◌∷◌, [], sym, subst, take}
+use Rattle.std.proofs.lemmas.Option.{slice_get-get_or}
+use Rattle.replay_contracts.specs.Replayer.{given_of}
+use Rattle.replay_course.specs.UnderWay.{HasGone}
+use Rattle.replay_course.proofs.Lists.{take_next}
+use Rattle.replay_course.proofs.Going.{few_events, gone_on, not_gone, room_by}
+use Rattle.replay_course.proofs.course.Course.perform.Goals as goal
+
+pub step-requires-clause-room : goal.step-requires-clause-room
+step-requires-clause-room g c = room_by c.the_next_command_finds_room.ensures _ _ c.loop-event.self _ _ c.loop-event.invariant
+
+pub loop-event-preserved : goal.loop-event-preserved
+loop-event-preserved g c =
+    let i = c.loop-event.event-index in
+    let items = c.as_slice-event-items.result.now in
+    subst (λ es. HasGone (given_of c.args.job.now) es c.step.new.self (g.S.SwitchPort.seen c.args.port.now) (g.S.SwitchPort.seen c.step.new.port))
+    (sym (take_next items i _ (slice_get-get_or items i _ c.loop-event-test.true)))
+    (gone_on c.a_replay_goes_on.ensures _ (take i items) _ _ c.loop-event.self c.step.new.self _ _ _ c.loop-event.invariant c.in_ok-step.ensures.turned)

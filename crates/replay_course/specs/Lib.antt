@@ -1,0 +1,4 @@
+pub mod Fates
+pub mod Going
+pub mod Shown
+pub mod UnderWay

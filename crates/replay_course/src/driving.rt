@@ -1,0 +1,105 @@
+//! The events of a schedule, and those that end a run.
+ghost use Rattle.std.specs.Prelude.{◌≡◌, ◌<◌, ◌≤◌, ◌+◌, ◌-◌, ◌^◌, List, [], length, IfErr, IfOk, OnOk};
+ghost use Rattle.replay_state.specs.Drain.{next_event};
+ghost use Rattle.replay_state.specs.Journal.{Call};
+ghost use Rattle.replay_state.specs.State.{State};
+ghost use Rattle.replay_contracts.specs.Given.{Given, setup_for, whole};
+ghost use Rattle.replay_contracts.specs.Replayer.{CountsFault, given_of};
+ghost use Rattle.replay_course.specs.Going.{IsPlain, IsSound};
+ghost use Rattle.replay_course.specs.Shown.{IsShown};
+ghost use Rattle.replay_course.specs.UnderWay.{HasGone, IsDrained, IsOnItsWay, IsUnderWay, course_left, picked_by};
+
+use crate::course::Course;
+use crate::laws::the_next_command_finds_room;
+use replay_contracts::{Job, ReplayError, a_drain_ends, a_drain_goes_on, a_replay_goes_on};
+use replay_state::{a_run_is_answered_by_its_calls, drain_ends, whole_runs_are_sound};
+use run_model::Event;
+use split_answers::split_programs_have_their_laws;
+use std::alloc::Global;
+use switch_ir::SwitchPort;
+
+impl Course {
+    // The event that comes next, by what the course has.
+    fn picked(&self, packets: usize) -> Option<Event>
+        ensures { result ≡ picked_by packets self.now }
+    {
+        let commit = &self.commit;
+        if commit.acked() < commit.applied() {
+            Some(Event::Ack)
+        } else if commit.applied() < commit.sent() {
+            Some(Event::Apply)
+        } else if commit.sent() < commit.commands() {
+            Some(Event::Send)
+        } else if !self.down.is_empty() {
+            Some(Event::Down(0))
+        } else if self.commit.held() > 0 {
+            Some(Event::Hold(0))
+        } else if !self.up.is_empty() {
+            Some(Event::Serve(0))
+        } else if self.fates.len() < packets {
+            Some(Event::Admit)
+        } else {
+            None
+        }
+    }
+
+    /// The event that ends a run next: the first that applies of those that let the switch's answers come back, then of
+    /// those that bring commands and outputs down, and last those that let packets in.
+    pub fn next_event(&self, job: &Job) -> Option<Event>
+        ensures { (calls : List Call) (st : State) → IsPlain (given_of job.now) → IsSound (given_of job.now) self.now
+            → IsShown (whole (given_of job.now)) calls st self.now → result ≡ next_event (setup_for (given_of job.now)) st }
+    {
+        self.picked(job.packets.len())
+    }
+
+    /// All events of a job, from the start.
+    pub fn perform<S: SwitchPort>(
+        &mut self,
+        alloc: Global,
+        job: &Job,
+        port: &mut S,
+    ) -> Result<(), ReplayError>
+        requires few { length job.now.events < 2 ^ 32 - 1 }
+        requires started { IsUnderWay (given_of job.now) [] self.old (S.seen port.old) }
+        ensures gone { OnOk result
+            (HasGone (given_of job.now) job.now.events self.new (S.seen port.old) (S.seen port.new)) }
+        ensures fault { IfErr result (λ e. CountsFault e (S.seen port.old) (S.seen port.new)) }
+    {
+        a_replay_goes_on();
+        the_next_command_finds_room();
+        for event in job.events.as_slice() {
+            self.step(alloc, job, port, *event)?;
+        }
+        Ok(())
+    }
+
+    /// The events that end a run, one after the other, until every packet of the trace is released and nothing is on
+    /// its way. The answer is their number.
+    pub fn drain<S: SwitchPort>(
+        &mut self,
+        alloc: Global,
+        job: &Job,
+        port: &mut S,
+    ) -> Result<u32, ReplayError>
+        requires on_its_way { IsOnItsWay (given_of job.now) self.old (S.seen port.old) }
+        requires few { self.old.events + course_left (given_of job.now) self.old < 2 ^ 32 - 1 }
+        ensures drained { IfOk result (λ count.
+            IsDrained (given_of job.now) count self.old (S.seen port.old) self.new (S.seen port.new)) }
+        ensures fault { IfErr result (λ e. CountsFault e (S.seen port.old) (S.seen port.new)) }
+    {
+        a_replay_goes_on();
+        a_drain_goes_on();
+        a_drain_ends();
+        a_run_is_answered_by_its_calls();
+        drain_ends();
+        split_programs_have_their_laws();
+        the_next_command_finds_room();
+        whole_runs_are_sound();
+        let mut count = 0;
+        while let Some(event) = self.next_event(job) {
+            self.step(alloc, job, port, event)?;
+            count += 1;
+        }
+        Ok(count)
+    }
+}

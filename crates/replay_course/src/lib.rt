@@ -1,0 +1,13 @@
+//! What a replay keeps from event to event, what it shows of the state, and what each event does to it over a switch.
+#![tactic(auto)]
+
+mod course;
+mod driving;
+mod fates;
+mod laws;
+mod passes;
+mod serving;
+mod start;
+mod step;
+
+pub use course::Course;

@@ -1,0 +1,76 @@
+//! The start of a replay.
+ghost use Rattle.std.specs.Prelude.{◌≡◌, ◌≤◌, ◌<◌, ◌*◌, ◌^◌, [], length, IfErr, IfOk, OnOk};
+ghost use Rattle.std.specs.List.{AllByRecursion as Each};
+ghost use Rattle.packet_fields.specs.Sizes.{AreShort, largest_packet};
+ghost use Rattle.flat_ir.specs.Arrivals.{IsArrival};
+ghost use Rattle.flat_ir.specs.Program.{program_of};
+ghost use Rattle.switch_ir.specs.Code.{code_of};
+ghost use Rattle.switch_ir.specs.Emitted.{IsEmitted};
+ghost use Rattle.split_model.specs.Bounds.{HasFewStages};
+ghost use Rattle.switch_ir.specs.Port.{Loads};
+ghost use Rattle.split_answers.specs.Whole.{IsSplit};
+ghost use Rattle.replay_contracts.specs.Replayer.{CountsFault, given_of};
+ghost use Rattle.replay_course.specs.Going.{most_commands};
+ghost use Rattle.replay_course.specs.UnderWay.{HasGone};
+
+use crate::course::Course;
+use packet_fields::Packet;
+use replay_contracts::{Job, ReplayError, a_replay_begins};
+use server_runtime::Server;
+use state_store::Store;
+use std::alloc::Global;
+use switch_ir::{PortEnd, SwitchCode, SwitchPort, emit};
+
+// The port and the bytes of a packet have 8 bits.
+fn arrives(port: u8, bytes: &[u8])
+    requires { length bytes.now ≤ largest_packet }
+    ensures { IsArrival (record { port = port; bytes = bytes.now }) }
+{}
+
+// So it is for all packets of a trace.
+fn all_arrive(packets: &[Packet])
+    requires { AreShort packets.now }
+    ensures { Each IsArrival packets.now }
+{
+    for packet in packets {
+        arrives(packet.port, packet.bytes.as_slice());
+    }
+}
+
+// Loads the switch.
+fn load<S: SwitchPort>(alloc: Global, port: &mut S, code: &SwitchCode) -> Result<(), ReplayError>
+    requires { IsEmitted (code_of code.now) }
+    ensures loads { OnOk result (Loads PortEnd.Done (code_of code.now) (S.seen port.old) (S.seen port.new)) }
+    ensures fault { IfErr result (λ e. CountsFault e (S.seen port.old) (S.seen port.new)) }
+{
+    match port.load(alloc, code) {
+        PortEnd::Done => Ok(()),
+        PortEnd::Failed => Err(ReplayError::PortFault),
+        PortEnd::NoMemory => Err(ReplayError::NoMemory),
+    }
+}
+
+impl Course {
+    /// Loads the switch with the code of a job. No event has happened yet.
+    pub fn start<S: SwitchPort>(
+        alloc: Global,
+        job: &Job,
+        port: &mut S,
+    ) -> Result<Course, ReplayError>
+        requires split { IsSplit (program_of job.now.flat) job.now.split job.now.writeback }
+        requires stages { HasFewStages job.now.split }
+        requires writeback { job.now.writeback ≤ 65536 }
+        requires few { length job.now.packets * most_commands (given_of job.now) < 2 ^ 32 }
+        ensures started { IfOk result (λ course.
+            HasGone (given_of job.now) [] course (S.seen port.old) (S.seen port.new)) }
+        ensures fault { IfErr result (λ e. CountsFault e (S.seen port.old) (S.seen port.new)) }
+    {
+        a_replay_begins();
+        all_arrive(job.packets.as_slice());
+        let code = emit(alloc, &job.flat, &job.split, job.writeback)?;
+        load(alloc, port, &code)?;
+        let store = Store::new(alloc, &job.flat.objects)?;
+        let server = Server::new(alloc, &job.flat, &job.split, store)?;
+        Ok(Course::new(alloc, server))
+    }
+}
