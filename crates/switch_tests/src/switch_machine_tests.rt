@@ -1,5 +1,5 @@
 //! A switch in memory, and faults that are planned for it.
-ghost use Rattle.std.specs.Prelude.{◌≡◌, ◌≤◌, false, Some, replicate, IfOk, OnOk, IsTrue};
+ghost use Rattle.std.specs.Prelude.{◌≡◌, ◌≤◌, false, None, Some, replicate, IfOk, OnOk, IsTrue};
 ghost use Rattle.state_store.specs.declared.object.ObjectDecl.{ObjectDecl};
 ghost use Rattle.state_store.specs.Kept.{IsKept};
 ghost use Rattle.state_store.specs.Store.{start_store};
@@ -63,8 +63,9 @@ fn shows_first(code: &SwitchCode) -> bool
 }
 
 // Whether two values come down, whose numbers are below 8.
+#[tactic(auto, using(crate::proofs::Plain::two_fit))]
 fn brings_two(code: &SwitchCode) -> bool
-    ensures { IsTrue result → FitsLayout code.now.down (replicate 8 0) }
+    ensures { IsTrue result → FitsLayout code.now.down (record { plan = None; numbers = replicate 8 0 }) }
 {
     match code.down.as_slice() {
         [first, second] => first.number < second.number && second.number < 8,

@@ -56,6 +56,7 @@ fn holds(values: &Regs, numbers: &[(u32, u64)]) -> bool {
 }
 
 // Whether the values of a layout have registers, and are at most three.
+#[tactic(auto, using(crate::proofs::Plain::one_fits, crate::proofs::Plain::two_fit, crate::proofs::Plain::three_fit))]
 fn fits(layout: &Layout, values: &Regs) -> bool
     requires { values.now.plan ≡ None }
     ensures { IsTrue result → FitsLayout layout.now values.now }
