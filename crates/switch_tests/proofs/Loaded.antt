@@ -1,5 +1,6 @@
 -- What a call of a switch may be given, by the code that is loaded.
-use Rattle.std.proofs.Common.{◌≡◌, ℕ, false, List, [], ◌∷◌, Some, ap, refl, sym, subst}
+use Rattle.std.proofs.Common.{◌≡◌, ◌≤◌, ◌<◌, ◌∙◌, ℕ, false, List, [], ◌∷◌, Some, length, ap, refl, sym, subst, arith}
+use Rattle.std.specs.List.{slice_index_or}
 use Rattle.std.specs.Prelude.{IsSome, IfSome}
 use Rattle.state_store.specs.declared.object.ObjectDecl.{ObjectDecl}
 use Rattle.state_store.specs.Kinds.{is_table}
@@ -20,8 +21,21 @@ pub down_by : (state : PortState) (code : Code) (frame : List ℕ) → state.cod
     → IsDownFrame state frame
 down_by state code frame e is = subst (λ c. IfSome c (λ k. IsFrame 2 k.down frame)) (sym e) is
 
+-- a list of one table
+only : (tables : List Table) (t : Table) → 1 ≤ length tables → length tables < 2 → t ≡ slice_index_or tables 0 t → tables ≡ t ∷ []
+only [] t some few is = absurd (omega (arith, some))
+only (x ∷ []) t some few is = ap (λ y. y ∷ []) (sym is)
+only (x ∷ y ∷ zs) t some few is = absurd (omega (arith, few))
+
 -- a table of the first object, which can change
-pub first_shown : (code : Code) (d : ObjectDecl) → code.tables ≡ record { number = 0; object = d } ∷ []
-    → is_table d.kind ≡ false → (e : ObjectDecl) × IsReplicatedIn code 0 e
-first_shown code d tables kind =
-    (d, record { declared = ap (λ ts. declared_at ts 0) tables; changes = kind })
+pub first_shown : (code : Code) (t : Table) → 1 ≤ length code.tables → length code.tables < 2
+    → t ≡ slice_index_or code.tables 0 t → t.number ≡ 0 → is_table t.object.kind ≡ false
+    → (e : ObjectDecl) × IsReplicatedIn code 0 e
+first_shown code t some few is number kind = (
+  t.object,
+  record {
+    declared = ap (λ ts. declared_at ts 0) (only code.tables t some few is)
+        ∙ ap (λ n. declared_at (record { number = n; object = t.object } ∷ []) 0) number;
+    changes = kind;
+  },
+)

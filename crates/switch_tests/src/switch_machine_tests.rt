@@ -52,12 +52,14 @@ fn chain_code(alloc: Global) -> Result<SwitchCode, Fail>
 }
 
 // Whether the code looks up the first object alone, and that can change.
-#[tactic(auto, using(crate::proofs::Loaded::first_shown))]
 fn shows_first(code: &SwitchCode) -> bool
     ensures { IsTrue result → (d : ObjectDecl) × IsReplicatedIn (code_of code.now) 0 d }
 {
     match code.tables.as_slice() {
-        [table] => table.number == 0 && table.object.kind == Kind::Map,
+        [table] => match table.object.kind {
+            Kind::Map => table.number == 0,
+            _ => false,
+        },
         _ => false,
     }
 }
