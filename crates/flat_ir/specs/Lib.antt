@@ -11,6 +11,8 @@ pub mod Plan
 pub mod Planning
 pub mod Program
 pub mod Registers
+pub mod Renamed
+pub mod Renaming
 pub mod Run
 pub mod Sets
 pub mod Spans

@@ -12,6 +12,7 @@ mod program;
 mod reading;
 mod reg_plan;
 mod registers;
+mod renaming;
 mod spans;
 mod taken;
 mod well_formed;
@@ -29,6 +30,7 @@ pub use program::{Block, Blocks, Code, FieldValue, Flat, Instr, InstrKind, Out, 
 pub use reading::{Lookup, Numbers};
 pub use reg_plan::RegPlan;
 pub use registers::Results;
+pub use renaming::Renaming;
 pub use spans::{Span, Spans};
 pub use well_formed::is_well_formed;
 pub use work::{

@@ -1,7 +1,6 @@
 -- Postprocessing in its registers.
-use Rattle.std.proofs.Common.{◌≡◌, ◌≢◌, ◌≤◌, ◌<◌, ◌^◌, ◌==◌, ℕ, suc, true, false, List, [], length, sym, ◌∙◌, subst, arith}
+use Rattle.std.proofs.Common.{◌≡◌, ◌≢◌, ◌≤◌, ◌<◌, ◌^◌, ℕ, suc, true, false, List, [], length, arith}
 use Rattle.std.specs.Prelude.{Contains}
-use Rattle.std.specs.List.{AllByRecursion as Each}
 use Rattle.packet_fields.specs.declared.packet.Packet.{Packet}
 use Rattle.state_store.specs.Store.{Store}
 use Rattle.flat_ir.specs.Blocks.{Reading, nothing}
@@ -15,20 +14,15 @@ use Rattle.switch_ir.specs.Spans.{post_spans, results_in, written_in, Written}
 use Rattle.switch_ir.specs.Spans.{steps_of as steps_by_values}
 use Rattle.switch_machine.specs.declared.numbering.ValueRange.{ValueRange}
 use Rattle.switch_machine.specs.Keeping.{begins_down, kept_down}
-use Rattle.switch_machine.specs.Numbers.{stage_gives, stage_writes}
-use Rattle.switch_machine.specs.Planned.{BeginsWith, HaveRegisters, IsSetUp}
+use Rattle.switch_machine.specs.Numbers.{stage_gives}
+use Rattle.switch_machine.specs.Planned.{BeginsWith, IsSetUp}
 use Rattle.switch_machine.specs.Ranges.{entries, AreOrdered, AreRanges}
 use Rattle.switch_machine.specs.Staged.{of_stage}
 use Rattle.switch_machine.proofs.Beginning.{begins_with}
-use Rattle.switch_machine.proofs.Each.{each_map}
 use Rattle.switch_machine.proofs.Fitting.{results_one}
-use Rattle.switch_machine.proofs.Members.{each_has, has_among, has_each, of_contains}
-use Rattle.switch_machine.proofs.Numbered.{writes_are}
+use Rattle.switch_machine.proofs.Members.{each_has, of_contains}
 use Rattle.switch_machine.proofs.PassValues.{apart, begin_apart, begin_register, given_once, handed_fresh, handed_known}
-use Rattle.switch_machine.proofs.SettingUp.{all_have, given_fit, last_left, set_up, steps_fit}
-use Rattle.std.proofs.lemmas.Bool.{or_right}
-use Rattle.std.proofs.lemmas.List.Folds.{list_any-append}
-use Rattle.switch_machine.specs.Keeping.{numbers_in}
+use Rattle.switch_machine.proofs.SettingUp.{given_fit, last_left, set_up, steps_fit}
 
 module _ (code : Code) (can : CanBeRun code) (ordered : AreOrdered code) (few : code.values < 2 ^ 32)
     (ranges : List ValueRange) (are : AreRanges (entries code.tables code.down code.post) ranges)
@@ -39,9 +33,6 @@ module _ (code : Code) (can : CanBeRun code) (ordered : AreOrdered code) (few : 
 
   small : (w : Written) → Contains had w → suc w.number < 2 ^ 32
   small w there = omega (arith, each_has (λ (x : Written). x.number < code.values) had can.stages.post_numbers w (of_contains had w there), few)
-
-  pub down_have : HaveRegisters ranges code.post registers
-  down_have = all_have code.tables code.down [] code.post ordered.post small can.stages.post ordered.others ranges are law registers kept_apart
 
   pub down_set : (given : Reading) (seen : Store) (packet : Packet) → ArePlaced registers → BeginsWith ranges (begins_down ranges code) given registers
       → ((reads : Reading) (s : Step) → length (results reads false seen packet s.work) ≤ results_in code.tables s.work)
@@ -57,18 +48,6 @@ module _ (code : Code) (can : CanBeRun code) (ordered : AreOrdered code) (few : 
   has_one : (n : ℕ) → is_among n (begins_down ranges code) ≡ true → HasRegister registers n
   has_one n e =
       begin_register code.tables code.down [] code.post ordered.post small can.stages.post ordered.others ranges are [] tt no_number (post_spans code) (law no_number) registers kept_apart n e
-
-  -- each value that is given has a register
-  pub given_have : (packet : Packet)
-      → Each (λ (p : ℕ × ℕ). HasRegister registers p.0) (stage_gives ranges (of_stage 0 code.post.given) nothing [] packet)
-  given_have packet =
-      let own = of_stage 0 code.post.given in
-      let pairs = stage_gives ranges own nothing [] packet in
-      each_map (HasRegister registers) (λ (p : ℕ × ℕ). p.0) pairs
-      (subst (Each (HasRegister registers)) (sym (writes_are ranges nothing [] packet own))
-      (has_each (HasRegister registers) (stage_writes ranges own)
-      (λ n h. has_one n (list_any-append (λ (w : ℕ). w == n) (numbers_in code.down) (stage_writes ranges own)
-      ∙ or_right (is_among n (numbers_in code.down)) (is_among n (stage_writes ranges own)) (has_among n (stage_writes ranges own) h)))))
 
   -- what postprocessing begins with once it is given
   pub given_begins : ((rs : Registers) (value to other : ℕ) → place_of rs value ≢ place_of rs other → content_of (written rs value to) other ≡ content_of rs other)

@@ -26,13 +26,13 @@ use Rattle.switch_machine.specs.Ends.{EndsBy}
 use Rattle.switch_machine.specs.declared.numbering.ValueRange.{ValueRange}
 use Rattle.switch_machine.specs.Keeping.{kept_up, values_in}
 use Rattle.switch_machine.specs.Numbers.{content_at, number_in, reads_by}
-use Rattle.switch_machine.specs.Planned.{HaveRegisters, IsSetUp}
+use Rattle.switch_machine.specs.Planned.{IsSetUp}
 use Rattle.switch_machine.specs.Ranges.{entries, AreOrdered, AreRanges}
 use Rattle.switch_machine.proofs.Beginning.{value_same}
 use Rattle.switch_machine.proofs.Each.{each_at}
 use Rattle.switch_machine.proofs.Members.{any_has, each_has, has_each, has_made, made_has, of_contains, to_contains, Has}
 use Rattle.switch_machine.proofs.PassValues.{has_its_number}
-use Rattle.switch_machine.proofs.SettingUp.{all_have, last_up, set_up, steps_fit}
+use Rattle.switch_machine.proofs.SettingUp.{last_up, set_up, steps_fit}
 
 module _ (code : Code) (can : CanBeRun code) (ordered : AreOrdered code) (few : code.values < 2 ^ 32)
     (ranges : List ValueRange) (are : AreRanges (entries code.tables [] code.pre) ranges) where
@@ -44,9 +44,6 @@ module _ (code : Code) (can : CanBeRun code) (ordered : AreOrdered code) (few : 
 
   module _ (law : (number : ℕ → Contents → Contents) → AreSpansOf (steps_by_values code.tables [] code.up code.pre number) (pre_spans code))
       (registers : Registers) (kept_apart : AreKeptApart (pre_spans code) registers) where
-    pub up_have : HaveRegisters ranges code.pre registers
-    up_have = all_have code.tables [] code.up code.pre ordered.pre small can.stages.pre tt ranges are law registers kept_apart
-
     pub up_set : (seen : Store) (packet : Packet) → ((n : ℕ) → content_of registers n ≡ 0) → ArePlaced registers
         → ((reads : Reading) (s : Step) → length (results reads false seen packet s.work) ≤ results_in code.tables s.work)
         → IsSetUp ranges code.pre (kept_up code) nothing seen packet registers

@@ -16,6 +16,9 @@ mod Numbered
 mod Ordered
 mod PassValues
 mod Passing
+mod PlacedSteps
+mod Placing
+mod ReadyStages
 mod SettingUp
 mod StageLists
 mod StageRegisters

@@ -22,7 +22,7 @@ use Rattle.switch_ir.specs.Spans.{steps_of as steps_by_values}
 use Rattle.switch_machine.specs.declared.numbering.ValueRange.{ValueRange}
 use Rattle.switch_machine.specs.Keeping.{numbers_in}
 use Rattle.switch_machine.specs.Numbers.{is_number, is_read, number_in, range_at, stage_reads, stage_writes, values, AreOnce}
-use Rattle.switch_machine.specs.Planned.{first_writes, steps_of, AreNumberedApart, HaveRegisters}
+use Rattle.switch_machine.specs.Planned.{first_writes, steps_of, AreNumberedApart}
 use Rattle.switch_machine.specs.Ranges.{crossing_entry, entries, step_entry, AreInOrder, AreOthers, AreRanges, Entry}
 use Rattle.switch_machine.specs.Staged.{of_stage}
 use Rattle.switch_machine.proofs.Beginning.{same_value, value_same}
@@ -626,12 +626,6 @@ module _ (tables : List Table) (handed up : List Crossing) (pass : PassCode)
       has_register t n e =
           let h = has_span spans n (omega (arith, of.written t n (to_theirs t n e))) in
           subst (HasRegister registers) h.same (kept_apart.has h.span h.there)
-
-      pub have_registers : HaveRegisters ranges pass registers
-      have_registers t le =
-          has_each (HasRegister registers) (stage_writes ranges (of_stage t pass.steps))
-          (λ n h. has_register t n (list_any-append (λ (w : ℕ). w == n) (first_writes begins t) (stage_writes ranges (of_stage t pass.steps))
-          ∙ or_right (is_among n (first_writes begins t)) (is_among n (stage_writes ranges (of_stage t pass.steps))) (has_among n (stage_writes ranges (of_stage t pass.steps)) h)))
 
       pub begin_register : (n : ℕ) → is_among n begins ≡ true → HasRegister registers n
       begin_register n e = has_register 0 n (in_first 0 n refl e)

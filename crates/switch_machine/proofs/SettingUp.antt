@@ -28,11 +28,11 @@ use Rattle.switch_ir.specs.Spans.{steps_of as steps_by_values}
 use Rattle.switch_machine.specs.declared.numbering.ValueRange.{ValueRange}
 use Rattle.switch_machine.specs.Keeping.{conditions, left_with, lines_of, values_in}
 use Rattle.switch_machine.specs.Numbers.{range_at}
-use Rattle.switch_machine.specs.Planned.{BeginsWith, FitRanges, HaveRegisters, IsSetUp}
+use Rattle.switch_machine.specs.Planned.{BeginsWith, FitRanges, IsSetUp}
 use Rattle.switch_machine.specs.Ranges.{entries, AreInOrder, AreOthers, AreRanges}
 use Rattle.switch_machine.proofs.Beginning.{same_value}
 use Rattle.switch_machine.proofs.Members.{has_any, has_each, has_left, has_made, has_parts, has_right, Has}
-use Rattle.switch_machine.proofs.PassValues.{apart, begins, begins_fresh, have_registers, once, range_is, spans_mine}
+use Rattle.switch_machine.proofs.PassValues.{apart, begins, begins_fresh, once, range_is, spans_mine}
 
 module _ (tables : List Table) (handed up : List Crossing) (pass : PassCode)
     (order : AreInOrder (written_in tables handed pass)) (small : (w : Written) → Contains (written_in tables handed pass) w → suc w.number < 2 ^ 32)
@@ -70,9 +70,6 @@ module _ (tables : List Table) (handed up : List Crossing) (pass : PassCode)
     begin = begin;
     fit = fit;
   }
-
-  pub all_have : HaveRegisters ranges pass registers
-  all_have = have_registers tables handed up pass order small stages others ranges are [] tt (λ t contents n. 0) (pass_spans tables handed up pass) (law (λ t contents n. 0)) registers kept_apart
 
 -- ## What is kept is read last
 

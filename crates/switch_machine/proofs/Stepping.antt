@@ -1,49 +1,19 @@
 -- Instructions one after the other.
-use Rattle.std.proofs.Common.{◌≡◌, ℕ, ◌+◌, ◌==◌, ◌<◌, false, cond, List, [], ◌∷◌, ◌++◌, length, map, get_or, drop, refl, sym, ap, ◌∙◌, subst, append_assoc}
-use Rattle.std.specs.List.{AllByRecursion as Each}
-use Rattle.packet_fields.specs.declared.packet.Packet.{Packet}
-use Rattle.state_store.specs.Store.{Store}
-use Rattle.flat_ir.specs.Blocks.{Reading}
-use Rattle.flat_ir.specs.Operands.{CanRun}
-use Rattle.flat_ir.specs.Program.{work_of}
-use Rattle.flat_ir.specs.Run.{results}
+use Rattle.std.proofs.Common.{◌≡◌, ℕ, ◌+◌, ◌==◌, ◌<◌, cond, List, [], ◌∷◌, ◌++◌, length, map, get_or, drop, refl, sym, ap, ◌∙◌, subst}
 use Rattle.switch_ir.specs.declared.code.PassStep.{PassStep}
 use Rattle.switch_ir.specs.declared.code.Table.{Table}
 use Rattle.switch_ir.specs.Code.{Step, pass_step_of}
-use Rattle.switch_ir.specs.Sound.{CanStep}
 use Rattle.switch_machine.specs.declared.numbering.ValueRange.{ValueRange}
-use Rattle.switch_machine.specs.Numbers.{gives, range_at, stage_gives}
 use Rattle.switch_machine.specs.Ranges.{entered, step_entry, with_entry, AreBelow, Entry}
 use Rattle.switch_machine.proofs.Each.{each_at, each_map}
 use Rattle.switch_machine.proofs.Lists.{ahead}
 
--- an instruction that is placed can be computed
-pub can_at : (steps : List PassStep) (i : ℕ) (s : PassStep) → Each CanStep (map pass_step_of steps) → i < length steps → s ≡ get_or steps i s
-    → CanRun (work_of s.kind)
-can_at steps i s can lt is =
-    subst (λ (one : PassStep). CanRun (work_of one.kind)) (sym is)
-    (each_at (λ (one : PassStep). CanStep (pass_step_of one)) steps i s (each_map CanStep pass_step_of steps can) lt)
-
--- and has a lower number
+-- an instruction that is placed has a lower number
 pub below_at : (n : ℕ) (steps : List PassStep) (i : ℕ) (s : PassStep) → AreBelow n (map pass_step_of steps) → i < length steps → s ≡ get_or steps i s
     → s.instruction < n
 below_at n steps i s below lt is =
     subst (λ (one : PassStep). one.instruction < n) (sym is)
     (each_at (λ (one : PassStep). one.instruction < n) steps i s (each_map (λ (one : Step). one.instruction < n) pass_step_of steps below) lt)
-
--- one instruction more is read
-pub read_more : (ranges : List ValueRange) (reads : Reading) (tables : Store) (packet : Packet) (steps : List PassStep) (i : ℕ) (s : PassStep)
-    (before after all : List (ℕ × ℕ)) → i < length steps → s ≡ get_or steps i s
-    → after ≡ before ++ gives (range_at ranges s.instruction) (results reads false tables packet (work_of s.kind))
-    → before ++ stage_gives ranges (map pass_step_of (drop i steps)) reads tables packet ≡ all
-    → after ++ stage_gives ranges (map pass_step_of (drop (i + 1) steps)) reads tables packet ≡ all
-read_more ranges reads tables packet steps i s before after all lt is more so =
-    let one = gives (range_at ranges s.instruction) (results reads false tables packet (work_of s.kind)) in
-    let rest = stage_gives ranges (map pass_step_of (drop (i + 1) steps)) reads tables packet in
-    ap (λ gs. gs ++ rest) more
-    ∙ append_assoc before one rest
-    ∙ ap (λ (ss : List PassStep). before ++ stage_gives ranges (map pass_step_of ss) reads tables packet) (sym (ahead steps i s lt is))
-    ∙ so
 
 -- ranges that are the same everywhere
 pub entered_same : (es : List Entry) (before other : ℕ → ValueRange) → ((i : ℕ) → before i ≡ other i) → (i : ℕ) → entered es before i ≡ entered es other i

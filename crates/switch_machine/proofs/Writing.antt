@@ -8,7 +8,7 @@ use Rattle.transfer_header.specs.Steps.{is_among, pairs_written}
 
 -- ## Places stay
 
-size_by : (numbers : List ℕ) (place : Option ℕ) (to : ℕ) → length (set_by numbers place to) ≡ length numbers
+pub size_by : (numbers : List ℕ) (place : Option ℕ) (to : ℕ) → length (set_by numbers place to) ≡ length numbers
 size_by numbers None to = refl
 size_by numbers (Some place) to = length-set numbers place to
 
@@ -26,6 +26,10 @@ placed_pairs registers (p ∷ ps) placed = placed_pairs (written registers p.0 p
 pub plan_pairs : (registers : Registers) (pairs : List (ℕ × ℕ)) → (pairs_written registers pairs).plan ≡ registers.plan
 plan_pairs registers [] = refl
 plan_pairs registers (p ∷ ps) = plan_pairs (written registers p.0 p.1) ps
+
+pub size_pairs : (registers : Registers) (pairs : List (ℕ × ℕ)) → length (pairs_written registers pairs).numbers ≡ length registers.numbers
+size_pairs registers [] = refl
+size_pairs registers (p ∷ ps) = size_pairs (written registers p.0 p.1) ps ∙ size_by registers.numbers (place_of registers p.0) p.1
 
 pub same_places : (before after : Registers) → after.plan ≡ before.plan → length after.numbers ≡ length before.numbers
     → (value : ℕ) → place_of after value ≡ place_of before value

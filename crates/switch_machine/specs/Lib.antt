@@ -10,6 +10,7 @@ pub mod Machine
 pub mod Numbers
 pub mod Planned
 pub mod Ranges
+pub mod Ready
 pub mod Staged
 pub mod Views
 pub mod Workplaces

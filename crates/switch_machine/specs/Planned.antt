@@ -8,7 +8,7 @@ use Rattle.flat_ir.specs.declared.program.ValueId.{ValueId}
 use Rattle.flat_ir.specs.declared.spans.Span.{Span}
 use Rattle.flat_ir.specs.Blocks.{Reading}
 use Rattle.flat_ir.specs.Run.{results}
-use Rattle.transfer_header.specs.Registers.{Registers, content_of, HasRegister, ArePlaced}
+use Rattle.transfer_header.specs.Registers.{Registers, content_of, ArePlaced}
 use Rattle.transfer_header.specs.Steps.{Contents, Steps, is_among, pairs_written, AreSpansOf, AreKeptApart}
 use Rattle.switch_ir.specs.Code.{Step, PassCode}
 use Rattle.switch_machine.specs.declared.numbering.ValueRange.{ValueRange}
@@ -28,11 +28,6 @@ steps_of ranges pass begins kept number = record {
   writes = λ t. first_writes begins t ++ stage_writes ranges (of_stage t pass.steps);
   number = number;
 }
-
--- each value that a stage writes has a register
-abbrev pub HaveRegisters : List ValueRange → PassCode → Registers → Type 0
-HaveRegisters ranges pass registers = (t : ℕ) → t ≤ pass.highest
-    → Each (HasRegister registers) (stage_writes ranges (of_stage t pass.steps))
 
 -- no results that are left out have a number: there are at most as many as the instruction has values
 abbrev pub FitRanges : List ValueRange → List Step → Store → Packet → Type 0

@@ -1,5 +1,5 @@
 -- Where passes are computed.
-use Rattle.std.specs.Prelude.{◌≡◌, ◌<◌, ◌^◌, ℕ, List, Some}
+use Rattle.std.specs.Prelude.{◌≡◌, ◌<◌, ◌^◌, List, Some}
 use Rattle.std.specs.Coded.{Coded-set, coded_option}
 use Rattle.flat_ir.specs.Plan.{Plan, plan_code}
 use Rattle.split_model.specs.declared.layout.Crossing.{Crossing}

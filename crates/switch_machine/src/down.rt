@@ -16,9 +16,10 @@ ghost use Rattle.switch_machine.specs.Kept.{KeepsTables};
 ghost use Rattle.switch_machine.specs.Numbers.{AreHeld};
 ghost use Rattle.switch_machine.specs.Planned.{BeginsWith};
 
-use crate::laws::postprocessing_is_computed;
+use crate::laws::{a_pass_by_place, postprocessing_is_computed};
 use crate::loaded::Loaded;
-use crate::run::{Nothing, Run, read_stage, run_pass, write_stage};
+use crate::passes::{are_few, read_stage, run_pass, write_stage};
+use crate::run::{Nothing, Run};
 use crate::tables::SwitchTables;
 use flat_ir::{Arrival, leave, readings_that_agree};
 use gal_io::NoMemory;
@@ -96,11 +97,12 @@ fn give(loaded: &mut Loaded, alloc: Global, arrival: &Arrival<'_>) -> Result<(),
     ensures empty { OnOk result (loaded.new.down.computed.items ≡ []) }
 {
     postprocessing_is_computed();
+    a_pass_by_place();
     let none = SwitchTables::none(alloc);
     let place = &mut loaded.down;
+    are_few(&place.registers);
     read_stage(
         loaded.given.stage(0),
-        &loaded.post_numbering,
         &Nothing,
         &none,
         arrival,
@@ -129,12 +131,11 @@ fn run_down(
         (kept_down (code_of loaded.old.code))) }
 {
     postprocessing_is_computed();
-    let code = &loaded.code;
+    a_pass_by_place();
     let place = &mut loaded.down;
+    are_few(&place.registers);
     run_pass(
-        &code.post,
         &loaded.post,
-        &loaded.post_numbering,
         tables,
         arrival,
         &mut place.registers,

@@ -1,20 +1,24 @@
 //! What passes compute in registers.
-ghost use Rattle.std.specs.Prelude.{◌≡◌, ℕ, suc, List, []};
+ghost use Rattle.std.specs.Prelude.{◌≡◌, ◌<◌, ◌≤◌, ◌^◌, ℕ, suc, length, List, [], Some};
 ghost use Rattle.std.specs.List.{AllByRecursion as Each};
 ghost use Rattle.packet_fields.specs.declared.packet.Packet.{Packet};
 ghost use Rattle.state_store.specs.Store.{Store};
 ghost use Rattle.flat_ir.specs.declared.program.ValueId.{ValueId as Value};
 ghost use Rattle.flat_ir.specs.Blocks.{nothing, Reading};
+ghost use Rattle.flat_ir.specs.Plan.{Plan};
 ghost use Rattle.transfer_header.specs.Registers.{content_of, value_in, ArePlaced, FitsLayout, HasRegister, Registers};
 ghost use Rattle.transfer_header.specs.Steps.{pairs_written};
-ghost use Rattle.switch_ir.specs.Code.{Code, PassCode};
+ghost use Rattle.switch_ir.specs.Code.{Code, PassCode, Step};
 ghost use Rattle.switch_ir.specs.Meaning.{down_given, pass_values, up_values};
+ghost use Rattle.switch_ir.specs.Sound.{CanStep};
 ghost use Rattle.switch_ir.specs.Tables.{seen_tables, Told};
 ghost use Rattle.switch_machine.specs.declared.numbering.ValueRange.{ValueRange};
+ghost use Rattle.switch_machine.specs.declared.ready.ReadyStep.{ReadyStep};
 ghost use Rattle.switch_machine.specs.Keeping.{begins_down, kept_down, kept_up};
 ghost use Rattle.switch_machine.specs.Kept.{KeepsTables};
 ghost use Rattle.switch_machine.specs.Numbers.{stage_gives, AreHeld};
-ghost use Rattle.switch_machine.specs.Planned.{registers_at, BeginsWith, HaveRegisters, IsSetUp};
+ghost use Rattle.switch_machine.specs.Planned.{registers_at, BeginsWith, IsSetUp};
+ghost use Rattle.switch_machine.specs.Ready.{all_placed, place_name, placed_at, ready_at, ready_gives, AreReady, CanReady};
 ghost use Rattle.switch_machine.specs.Staged.{of_stage};
 ghost use Rattle.switch_machine.specs.Workplaces.{IsReadyFor};
 
@@ -37,10 +41,27 @@ fn a_pass_is_computed()
     a_list_is_written();
 }
 
+/// Computed by place, a pass leaves what it leaves by the numbers of its values.
+pub(crate) fn a_pass_by_place()
+    ensures can { (ranges : List ValueRange) (plan : Plan) (steps : List Step) (highest : ℕ)
+        (stages : List (List ReadyStep)) (t : ℕ) → AreReady ranges plan steps highest stages → Each CanStep steps
+        → t < length stages → Each CanReady (ready_at stages t) }
+    ensures stage { (ranges : List ValueRange) (plan : Plan) (steps : List Step) (highest : ℕ)
+        (stages : List (List ReadyStep)) (reads : Reading) (tables : Store) (packet : Packet) (registers : Registers)
+        (t : ℕ) → AreReady ranges plan steps highest stages → registers.plan ≡ Some plan
+        → length registers.numbers < 2 ^ 32 → t ≤ highest
+        → all_placed registers (ready_gives (ready_at stages t) reads tables packet)
+        ≡ pairs_written registers (stage_gives ranges (of_stage t steps) (λ v. reads (place_name ranges plan v)) tables
+        packet) }
+    ensures pass { (ranges : List ValueRange) (plan : Plan) (pass : PassCode) (stages : List (List ReadyStep))
+        (tables : Store) (packet : Packet) (start : Registers) → AreReady ranges plan pass.steps pass.highest stages
+        → start.plan ≡ Some plan → length start.numbers < 2 ^ 32
+        → placed_at stages tables packet start (length stages)
+        ≡ registers_at ranges pass tables packet start (suc pass.highest) }
+{}
+
 /// Registers by the plan of preprocessing serve for it and for what goes up, and it is computed in them.
 pub(crate) fn preprocessing_is_computed()
-    ensures has { (code : Code) (ranges : List ValueRange) (registers : Registers)
-        → IsReadyFor code [] code.up code.pre ranges registers → HaveRegisters ranges code.pre registers }
     ensures fits { (code : Code) (ranges : List ValueRange) (registers : Registers)
         → IsReadyFor code [] code.up code.pre ranges registers → FitsLayout code.up registers }
     ensures computed { (code : Code) (ranges : List ValueRange) (registers : Registers) (told : Told) (packet : Packet)
@@ -61,16 +82,10 @@ pub(crate) fn preprocessing_is_computed()
 pub(crate) fn postprocessing_is_computed()
     ensures fits { (code : Code) (ranges : List ValueRange) (registers : Registers)
         → IsReadyFor code code.down [] code.post ranges registers → FitsLayout code.down registers }
-    ensures given { (code : Code) (ranges : List ValueRange) (registers : Registers) (packet : Packet)
-        → IsReadyFor code code.down [] code.post ranges registers
-        → Each (λ (p : ℕ × ℕ). HasRegister registers p.0)
-        (stage_gives ranges (of_stage 0 code.post.given) nothing [] packet) }
     ensures begins { (code : Code) (ranges : List ValueRange) (registers : Registers) (packet : Packet)
         → IsReadyFor code code.down [] code.post ranges registers → ArePlaced registers
         → BeginsWith ranges (begins_down ranges code) (down_given code (value_in registers) packet)
         (pairs_written registers (stage_gives ranges (of_stage 0 code.post.given) nothing [] packet)) }
-    ensures has { (code : Code) (ranges : List ValueRange) (registers : Registers)
-        → IsReadyFor code code.down [] code.post ranges registers → HaveRegisters ranges code.post registers }
     ensures computed { (code : Code) (ranges : List ValueRange) (registers : Registers) (told : Told) (packet : Packet)
         (given : Reading) → IsReadyFor code code.down [] code.post ranges registers → KeepsTables code told
         → ArePlaced registers → BeginsWith ranges (begins_down ranges code) given registers

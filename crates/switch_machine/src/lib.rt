@@ -8,6 +8,8 @@ mod live;
 mod loaded;
 mod machine;
 mod numbering;
+mod passes;
+mod ready;
 mod run;
 mod stages;
 mod tables;

@@ -5,11 +5,11 @@ ghost use Rattle.switch_ir.specs.Code.{code_of, pass_of};
 ghost use Rattle.switch_ir.specs.Once.{can_be_run_prop};
 ghost use Rattle.switch_ir.specs.Sound.{CanBeRun};
 ghost use Rattle.switch_machine.specs.Ranges.{entries, ordered_prop, ranges_prop, AreOrdered, AreRanges};
-ghost use Rattle.switch_machine.specs.Staged.{stages_prop, AreStages};
+ghost use Rattle.switch_machine.specs.Ready.{ready_prop, AreReady};
 ghost use Rattle.switch_machine.specs.Workplaces.{plan_prop, IsPlanned};
 
 use crate::numbering::Numbering;
-use crate::stages::Stages;
+use crate::ready::ReadyStages;
 use flat_ir::RegPlan;
 use gal_io::NoMemory;
 use split_model::Crossing;
@@ -17,7 +17,7 @@ use std::alloc::Global;
 use switch_ir::{Pass, SwitchCode, Table};
 use transfer_header::Regs;
 
-/// Where a pass is computed: its registers, and what a stage has computed so far, by the number of each value.
+/// Where a pass is computed: its registers, and what a stage has computed so far, each number with its place.
 #[derive(Debug, Drop)]
 pub(crate) struct Workplace {
     pub registers: Regs,
@@ -53,10 +53,10 @@ impl Workplace {
 #[derive(Debug, Drop)]
 pub(crate) struct Loaded {
     pub code: SwitchCode,
-    pub pre: Stages,
-    pub post: Stages,
+    pub pre: ReadyStages,
+    pub post: ReadyStages,
     /// What postprocessing is given from the code and the packet, in one stage.
-    pub given: Stages,
+    pub given: ReadyStages,
     pub pre_numbering: Numbering,
     pub post_numbering: Numbering,
     pub up: Workplace,
@@ -64,9 +64,9 @@ pub(crate) struct Loaded {
     /// Which blocks are live.
     pub marks: Vec<bool>,
     ghost can: { CanBeRun (code_of code) } by { can_be_run_prop (code_of code) },
-    ghost pre_stages: { AreStages (pass_of code.pre).steps code.pre.highest pre } by { stages_prop (pass_of code.pre).steps code.pre.highest pre },
-    ghost post_stages: { AreStages (pass_of code.post).steps code.post.highest post } by { stages_prop (pass_of code.post).steps code.post.highest post },
-    ghost given_stage: { AreStages (pass_of code.post).given 0 given } by { stages_prop (pass_of code.post).given 0 given },
+    ghost pre_stages: { AreReady pre_numbering code.pre.plan (pass_of code.pre).steps code.pre.highest pre } by { ready_prop pre_numbering code.pre.plan (pass_of code.pre).steps code.pre.highest pre },
+    ghost post_stages: { AreReady post_numbering code.post.plan (pass_of code.post).steps code.post.highest post } by { ready_prop post_numbering code.post.plan (pass_of code.post).steps code.post.highest post },
+    ghost given_stage: { AreReady post_numbering code.post.plan (pass_of code.post).given 0 given } by { ready_prop post_numbering code.post.plan (pass_of code.post).given 0 given },
     ghost few: { code.values < 2 ^ 32 },
     ghost ordered: { AreOrdered (code_of code) } by { ordered_prop (code_of code) },
     ghost pre_ranges: { AreRanges (entries code.tables [] (pass_of code.pre)) pre_numbering } by { ranges_prop (entries code.tables [] (pass_of code.pre)) pre_numbering },
@@ -86,7 +86,7 @@ impl Loaded {
         let tables = copy.tables.as_slice();
         let pre = LoadedPass::of(alloc, tables, &[], &copy.pre)?;
         let post = LoadedPass::of(alloc, tables, copy.down.as_slice(), &copy.post)?;
-        let given = Stages::of(alloc, &copy.post.given, 0)?;
+        let given = ReadyStages::of(alloc, &copy.post.given, 0, &post.numbering, &copy.post.plan)?;
         Ok(Loaded {
             code: copy,
             pre: pre.stages,
@@ -104,7 +104,7 @@ impl Loaded {
 // What a pass takes.
 #[derive(Drop)]
 struct LoadedPass {
-    stages: Stages,
+    stages: ReadyStages,
     numbering: Numbering,
     place: Workplace,
 }
@@ -117,12 +117,13 @@ impl LoadedPass {
         handed: &[Crossing],
         pass: &Pass,
     ) -> Result<LoadedPass, NoMemory>
-        ensures stages { IfOk result (λ made. AreStages (pass_of pass.now).steps pass.now.highest made.stages) }
+        ensures stages { IfOk result (λ made.
+            AreReady made.numbering pass.now.plan (pass_of pass.now).steps pass.now.highest made.stages) }
         ensures ranges { IfOk result (λ made. AreRanges (entries tables.now handed.now (pass_of pass.now)) made.numbering) }
         ensures plan { IfOk result (λ made. IsPlanned pass.now.plan made.place.registers) }
     {
-        let stages = Stages::of(alloc, &pass.steps, pass.highest)?;
         let numbering = Numbering::of(alloc, tables, handed, pass)?;
+        let stages = ReadyStages::of(alloc, &pass.steps, pass.highest, &numbering, &pass.plan)?;
         let place = Workplace::new(alloc, &pass.plan)?;
         Ok(LoadedPass {
             stages,

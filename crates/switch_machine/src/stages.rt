@@ -36,12 +36,10 @@ impl Stages {
         Ok(Stages { items: stages })
     }
 
-    /// The instructions of a stage.
-    pub fn stage(&self, stage: usize) -> &[PassStep]
-        requires { stage < length self.now }
-        ensures { result.now ≡ slice_index_or self.now stage [] }
+    pub fn as_slice(&self) -> &[Steps]
+        ensures { result.now ≡ self.now }
     {
-        self.items[stage].as_slice()
+        self.items.as_slice()
     }
 }
 

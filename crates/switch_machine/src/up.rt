@@ -14,10 +14,11 @@ ghost use Rattle.switch_machine.specs.Keeping.{kept_up};
 ghost use Rattle.switch_machine.specs.Kept.{KeepsTables};
 ghost use Rattle.switch_machine.specs.Numbers.{AreHeld};
 
-use crate::laws::preprocessing_is_computed;
+use crate::laws::{a_pass_by_place, preprocessing_is_computed};
 use crate::live::leaves_work;
 use crate::loaded::Loaded;
-use crate::run::{Run, run_pass};
+use crate::passes::{are_few, run_pass};
+use crate::run::Run;
 use crate::tables::SwitchTables;
 use flat_ir::{Arrival, leave, readings_that_agree};
 use gal_io::NoMemory;
@@ -38,11 +39,11 @@ fn run_up(loaded: &mut Loaded, tables: &SwitchTables, arrival: &Arrival<'_>) -> 
         (kept_up (code_of loaded.new.code))) }
 {
     preprocessing_is_computed();
+    a_pass_by_place();
     loaded.up.clear();
+    are_few(&loaded.up.registers);
     run_pass(
-        &loaded.code.pre,
         &loaded.pre,
-        &loaded.pre_numbering,
         tables,
         arrival,
         &mut loaded.up.registers,

@@ -52,6 +52,10 @@ written registers value to = record {
   numbers = set_by registers.numbers (place_of registers value) to;
 }
 
+-- the registers with another number at a place
+abbrev pub placed : Registers → ℕ → ℕ → Registers
+placed registers place to = record { plan = registers.plan; numbers = slice_set registers.numbers place to }
+
 -- each value that has a register has a number
 abbrev pub ArePlaced : Registers → Type 0
 ArePlaced registers = (value place : ℕ) → place_of registers value ≡ Some place → place < length registers.numbers

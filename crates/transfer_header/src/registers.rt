@@ -1,6 +1,6 @@
 //! The numbers of a program's values.
-ghost use Rattle.std.specs.Prelude.{◌≡◌, ◌≢◌, ◌<◌, ℕ, length, replicate, IfOk, Some, None};
-ghost use Rattle.transfer_header.specs.Registers.{Registers, place_of, content_of, written, HasRegister, ArePlaced};
+ghost use Rattle.std.specs.Prelude.{◌≡◌, ◌≢◌, ◌<◌, ◌^◌, ℕ, length, replicate, IfOk, Some, None};
+ghost use Rattle.transfer_header.specs.Registers.{Registers, place_of, content_of, placed, written, HasRegister, ArePlaced};
 
 use flat_ir::RegPlan;
 use gal_io::NoMemory;
@@ -59,6 +59,24 @@ impl Regs {
         ensures placed { ArePlaced self.now }
     {
         self.items.len() as u32
+    }
+
+    /// The number at each place.
+    pub fn as_slice(&self) -> &[u64]
+        ensures numbers { result.now ≡ self.now.numbers }
+        ensures few { length self.now.numbers < 2 ^ 32 }
+    {
+        self.items.as_slice()
+    }
+
+    /// Puts another number at a place. Past all places this does nothing.
+    pub fn set_at(&mut self, place: u32, to: u64)
+        ensures { self.new ≡ placed self.old place to }
+    {
+        let place = place as usize;
+        if place < self.items.len() {
+            self.items[place] = to;
+        }
     }
 
     // Where the number of a value stands.

@@ -3,7 +3,7 @@ use Rattle.switch_ir.specs.Spans.{post_spans}
 use Rattle.switch_ir.specs.Tables.{seen_tables}
 use Rattle.switch_machine.specs.Keeping.{kept_down}
 use Rattle.switch_machine.proofs.Fitting.{results_few}
-use Rattle.switch_machine.proofs.GoingDown.{down_have, down_set, given_begins, given_have}
+use Rattle.switch_machine.proofs.GoingDown.{down_set, given_begins}
 use Rattle.switch_machine.proofs.laws.postprocessing_is_computed.Goals as goal
 
 pub returns-clause-fits : goal.returns-clause-fits
@@ -11,24 +11,12 @@ returns-clause-fits c code ranges registers ready =
     c.needed_values_fit.ensures code.down (post_spans code) registers 0
     (c.plans_of_spans.ensures.apart (post_spans code) ready.plan registers ready.of_spans ready.planned) ready.can.down ready.can.down_needed
 
-pub returns-clause-given : goal.returns-clause-given
-returns-clause-given c code ranges registers packet ready =
-    given_have code ready.can ready.ordered ready.few ranges ready.are
-    (λ number. c.passes_have_spans.ensures code.tables code.down [] code.post number ready.can.stages.post) registers
-    (c.plans_of_spans.ensures.apart (post_spans code) ready.plan registers ready.of_spans ready.planned) packet
-
 pub returns-clause-begins : goal.returns-clause-begins
 returns-clause-begins c code ranges registers packet ready placed =
     given_begins code ready.can ready.ordered ready.few ranges ready.are
     (λ number. c.passes_have_spans.ensures code.tables code.down [] code.post number ready.can.stages.post) registers
     (c.plans_of_spans.ensures.apart (post_spans code) ready.plan registers ready.of_spans ready.planned)
     c.a_write_keeps_others.ensures packet placed
-
-pub returns-clause-has : goal.returns-clause-has
-returns-clause-has c code ranges registers ready =
-    down_have code ready.can ready.ordered ready.few ranges ready.are
-    (λ number. c.passes_have_spans.ensures code.tables code.down [] code.post number ready.can.stages.post) registers
-    (c.plans_of_spans.ensures.apart (post_spans code) ready.plan registers ready.of_spans ready.planned)
 
 pub returns-clause-computed : goal.returns-clause-computed
 returns-clause-computed c code ranges registers told packet given ready safe placed begin =

@@ -4,14 +4,8 @@ use Rattle.switch_ir.specs.Spans.{pre_spans}
 use Rattle.switch_ir.specs.Tables.{seen_tables}
 use Rattle.switch_machine.specs.Keeping.{kept_up}
 use Rattle.switch_machine.proofs.Fitting.{results_few}
-use Rattle.switch_machine.proofs.GoingUp.{up_have, up_set}
+use Rattle.switch_machine.proofs.GoingUp.{up_set}
 use Rattle.switch_machine.proofs.laws.preprocessing_is_computed.Goals as goal
-
-pub returns-clause-has : goal.returns-clause-has
-returns-clause-has c code ranges registers ready =
-    up_have code ready.can ready.ordered ready.few ranges ready.are
-    (λ number. c.passes_have_spans.ensures code.tables [] code.up code.pre number ready.can.stages.pre) registers
-    (c.plans_of_spans.ensures.apart (pre_spans code) ready.plan registers ready.of_spans ready.planned)
 
 pub returns-clause-fits : goal.returns-clause-fits
 returns-clause-fits c code ranges registers ready =

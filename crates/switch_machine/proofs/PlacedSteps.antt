@@ -1,0 +1,74 @@
+-- Instructions by place, one after the other.
+use Rattle.std.proofs.Common.{◌≡◌, ◌∙◌, ◌<◌, ◌+◌, ◌++◌, ℕ, false, List, [], ◌∷◌, length, map, drop, refl, sym, ap, subst, add-one, append_assoc, get_or}
+use Rattle.std.specs.List.{AllByRecursion as Each}
+use Rattle.std.specs.Prelude.{slice_index, slice_index_or}
+use Rattle.packet_fields.specs.declared.packet.Packet.{Packet}
+use Rattle.state_store.specs.Store.{Store}
+use Rattle.flat_ir.specs.Blocks.{Reading}
+use Rattle.flat_ir.specs.Operands.{CanRun}
+use Rattle.flat_ir.specs.Program.{work_of}
+use Rattle.flat_ir.specs.Run.{results}
+use Rattle.transfer_header.specs.Registers.{Registers, placed}
+use Rattle.switch_machine.specs.declared.ready.ReadyStep.{ReadyStep}
+use Rattle.switch_machine.specs.Ready.{all_placed, first_placed, placed_at, placed_gives, places_of, reads_at, ready_at, ready_gives, ready_of, CanReady}
+use Rattle.switch_machine.proofs.Each.{each_at, each_map}
+use Rattle.switch_machine.proofs.Lists.{ahead}
+
+-- one result more has its place
+pub put_more : (places given : List ℕ) (k : ℕ) (start before after : List (ℕ × ℕ)) (place number : ℕ) → before ≡ start ++ first_placed places given k
+    → after ≡ before ++ (place, number) ∷ [] → place ≡ slice_index places k → number ≡ slice_index given k
+    → after ≡ start ++ first_placed places given (k + 1)
+put_more places given k start before after place number is more here so =
+    more ∙ ap (λ (xs : List (ℕ × ℕ)). xs ++ (place, number) ∷ []) is
+    ∙ append_assoc start (first_placed places given k) ((place, number) ∷ [])
+    ∙ ap (λ (p : ℕ). start ++ (first_placed places given k ++ (p, number) ∷ [])) here
+    ∙ ap (λ (n : ℕ). start ++ (first_placed places given k ++ (slice_index places k, n) ∷ [])) so
+    ∙ ap (λ (m : ℕ). start ++ first_placed places given m) (sym (add-one k))
+
+-- an instruction that is placed can be computed
+pub ready_can : (steps : List ReadyStep) (i : ℕ) (s : ReadyStep) → Each CanReady (map ready_of steps) → i < length steps → s ≡ get_or steps i s
+    → CanRun (work_of s.kind)
+ready_can steps i s can lt is =
+    subst (λ (one : ReadyStep). CanRun (work_of one.kind)) (sym is)
+    (each_at (λ (one : ReadyStep). CanReady (ready_of one)) steps i s (each_map CanReady ready_of steps can) lt)
+
+-- one instruction more is read
+pub ready_more : (reads : Reading) (tables : Store) (packet : Packet) (steps : List ReadyStep) (i : ℕ) (s : ReadyStep) (before after all : List (ℕ × ℕ))
+    → i < length steps → s ≡ get_or steps i s
+    → after ≡ before ++ placed_gives (places_of s.places) (results reads false tables packet (work_of s.kind))
+    → before ++ ready_gives (map ready_of (drop i steps)) reads tables packet ≡ all
+    → after ++ ready_gives (map ready_of (drop (i + 1) steps)) reads tables packet ≡ all
+ready_more reads tables packet steps i s before after all lt is more so =
+    let one = placed_gives (places_of s.places) (results reads false tables packet (work_of s.kind)) in
+    let rest = ready_gives (map ready_of (drop (i + 1) steps)) reads tables packet in
+    ap (λ gs. gs ++ rest) more
+    ∙ append_assoc before one rest
+    ∙ ap (λ (ss : List ReadyStep). before ++ ready_gives (map ready_of ss) reads tables packet) (sym (ahead steps i s lt is))
+    ∙ so
+
+-- ## Stages
+
+pub none_placed : (stages : List (List ReadyStep)) (tables : Store) (packet : Packet) (start : Registers) → start ≡ placed_at stages tables packet start 0
+unfolding placed_at
+none_placed stages tables packet start = refl
+
+-- once a stage is written, the registers are those before the next
+pub stage_more : (stages : List (List ReadyStep)) (tables : Store) (packet : Packet) (start : Registers) (t : ℕ) (own : List ReadyStep)
+    → own ≡ slice_index_or stages t [] → (registers after : Registers) → registers ≡ placed_at stages tables packet start t
+    → after ≡ all_placed registers (ready_gives (map ready_of own) (reads_at registers.numbers) tables packet)
+    → after ≡ placed_at stages tables packet start (t + 1)
+unfolding placed_at
+stage_more stages tables packet start t own is registers after before written =
+    written
+    ∙ ap (λ (ss : List ReadyStep). all_placed registers (ready_gives (map ready_of ss) (reads_at registers.numbers) tables packet)) is
+    ∙ ap (λ (rs : Registers). all_placed rs (ready_gives (ready_at stages t) (reads_at rs.numbers) tables packet)) before
+    ∙ ap (placed_at stages tables packet start) (sym (add-one t))
+
+pub can_of_stage : (stages : List (List ReadyStep)) (t : ℕ) (own : List ReadyStep) → own ≡ slice_index_or stages t []
+    → Each CanReady (ready_at stages t) → Each CanReady (map ready_of own)
+can_of_stage stages t own is can = subst (λ (ss : List ReadyStep). Each CanReady (map ready_of ss)) (sym is) can
+
+-- writing leaves the plan
+pub plan_placed : (registers : Registers) (pairs : List (ℕ × ℕ)) → (all_placed registers pairs).plan ≡ registers.plan
+plan_placed registers [] = refl
+plan_placed registers (p ∷ ps) = plan_placed (placed registers p.0 p.1) ps

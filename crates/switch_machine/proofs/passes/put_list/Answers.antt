@@ -1,0 +1,9 @@
+use Rattle.std.proofs.Common.{refl}
+use Rattle.flat_ir.specs.Registers.{results_of}
+use Rattle.switch_machine.proofs.PlacedSteps.{put_more}
+use Rattle.switch_machine.proofs.passes.put_list.Goals as goal
+
+pub loop-index-preserved : goal.loop-index-preserved
+loop-index-preserved c =
+    put_more c.args.places.now (results_of c.args.results.now) c.loop-index.index c.args.computed.now.items c.loop-index.computed.items c.push.new.self.items
+    _ c.result_at.result c.loop-index.invariant c.in_ok-push.ensures.items refl c.result_at.ensures
