@@ -15,6 +15,7 @@ use Rattle.replay_state.specs.Program.{plain_manner}
 use Rattle.replay_state.specs.State.{State, first_state}
 use Rattle.replay_state.specs.Step.{applies, step}
 use Rattle.split_answers.specs.Through.{HasTables}
+use Rattle.replay_contracts.specs.Called.{calls_in}
 use Rattle.replay_contracts.specs.declared.job.Job.{Job}
 use Rattle.replay_contracts.specs.declared.job.Replayed.{Replayed}
 use Rattle.replay_contracts.specs.declared.job.ReplayError.{ReplayError}
@@ -126,18 +127,22 @@ is_port_fault errors.NoMemory = false
 abbrev pub CountsFault : ReplayError → PortState → PortState → Type 0
 CountsFault e old new = IsCountedIf (is_port_fault e) old.faults new.faults
 
--- it fails now: the events so far and the job are kept, the port has its code, tells its tables where it told them
--- before, and may have been called more
+-- What an error leaves of a port: it has its code, tells its tables where it told them before, and may have been called
+-- more.
+pub record Fails (error : ReplayError) (old new : PortState) : Type 0 where
+  pub code : new.code ≡ old.code
+  pub told : is_some new.told ≡ is_some old.told
+  pub journal : (more : List Entry) × (calls_in new.journal ≡ calls_in old.journal ++ more)
+  pub fault : CountsFault error old new
+
+-- it fails now, and the events so far and the job are kept
 pub record HasFailed (old : Replayer) (error : ReplayError) (new : Replayer) : Type 0 where
   pub before : old.failed ≡ None
   pub failed : new.failed ≡ Some error
   pub given : new.given ≡ old.given
   pub events : new.events ≡ old.events
   pub steps : new.steps ≡ old.steps
-  pub told : is_some new.port.told ≡ is_some old.port.told
-  pub code : new.port.code ≡ old.port.code
-  pub journal : (more : List Entry) × (new.port.journal ≡ old.port.journal ++ more)
-  pub fault : CountsFault error old.port new.port
+  pub port : Fails error old.port new.port
 
 -- it had failed so before, and nothing changed
 pub record Repeats (old : Replayer) (error : ReplayError) (new : Replayer) : Type 0 where
@@ -146,14 +151,14 @@ pub record Repeats (old : Replayer) (error : ReplayError) (new : Replayer) : Typ
 
 -- ## A whole replay
 
--- What comes of a replay over any port: it tells of the state to which the port's calls lead by the events of the plan.
--- One call has ended each pass that has ended, so that each packet is released once.
-pub record IsReported (x : Given) (events : List Event) (drain : Bool) (replayed : Replayed) (old new : PortState)
+-- What comes of a replay over any port, as the port is then: it tells of the state to which the port's calls lead by the
+-- events of the plan. One call has ended each pass that has ended, so that each packet is released once.
+pub record IsReported (x : Given) (events : List Event) (drain : Bool) (replayed : Replayed) (port : PortState)
     : Type 0 where
   pub calls : List Call
   pub last : State
-  pub replay : IsReplay x (plan_events (setup_for x) (answered x calls) events drain) calls last new
-  pub reports : Reports x last old new replayed.run replayed.commands
+  pub replay : IsReplay x (plan_events (setup_for x) (answered x calls) events drain) calls last port
+  pub reports : Reports x last port port replayed.run replayed.commands
   pub once : EndOnce calls last
   pub drained : drain ≡ true → replayed.run.drained ≡ true
 
