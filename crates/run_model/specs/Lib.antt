@@ -1,5 +1,6 @@
 pub mod Fate
 pub mod Order
 pub mod Parts
+pub mod Sizes
 pub mod Meaning
 pub mod Serialises
