@@ -16,10 +16,10 @@ use Rattle.packet_fields.specs.declared.verdict.Verdict.{Verdict}
 use Rattle.packet_fields.specs.declared.verdict.Verdict.TheVariants.{Drop, Send}
 use Rattle.state_store.specs.declared.object.ObjectDecl.{ObjectDecl}
 use Rattle.state_store.specs.declared.object.Row.{Row}
-use Rattle.run_text.specs.declared.fate.Fate.{Fate}
-use Rattle.run_text.specs.declared.fate.Fate.TheVariants.{Up, Held, Slow, Fast}
-use Rattle.run_text.specs.declared.run.Part.{Part}
-use Rattle.run_text.specs.declared.run.Run.{Run}
+use Rattle.run_model.specs.declared.fate.Fate.{Fate}
+use Rattle.run_model.specs.declared.fate.Fate.TheVariants.{Pass, Up, Held, Slow, Fast}
+use Rattle.run_model.specs.declared.run.Part.{Part}
+use Rattle.run_model.specs.declared.run.Run.{Run}
 use Rattle.run_text.specs.Printed.{lined}
 use Rattle.run_text.specs.Report.{body_text, drained_line, events_line, fate_line, fate_lines, fate_text, key_text, line_end, name_in, order_line, order_text, packets_line, part_line, part_lines, report_of, row_line, row_lines, tables_text, version_line}
 use Rattle.report_text.specs.declared.head.Counts.{Counts}
@@ -71,6 +71,7 @@ lined_both [] ys = refl
 lined_both (x ∷ xs) ys = ap (λ l. x ++ (10 ∷ l)) (lined_both xs ys) ∙ sym (append_assoc x (10 ∷ lined xs) (lined ys))
 
 path_line : (f : Fate) (rest : List ℕ) → path_with f ++ (10 ∷ rest) ≡ codes " " ++ ((fate_text f ++ line_end) ++ rest)
+path_line (Pass a) rest = simp append_assoc refl
 path_line (Up a) rest = simp append_assoc refl
 path_line (Held a d v) rest = simp append_assoc refl
 path_line (Slow a d v r Drop) rest = simp append_assoc refl

@@ -1,7 +1,7 @@
 -- What lines tell, one after the other.
 use Rattle.std.proofs.Common.{◌≡◌, List, [], ◌∷◌, ◌++◌, Option, Some, None, refl, sym, ap, ◌∙◌}
 use Rattle.state_store.specs.declared.object.ObjectDecl.{ObjectDecl}
-use Rattle.run_text.specs.declared.run.Run.{Run}
+use Rattle.run_model.specs.declared.run.Run.{Run}
 use Rattle.std.specs.Prelude.{ℕ}
 use Rattle.report_text.specs.Parse.{◌>>=◌}
 use Rattle.report_text.specs.Machine.{State, ended, resume, step}
