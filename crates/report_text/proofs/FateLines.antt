@@ -216,14 +216,10 @@ fast_back a d v r y h small hy = rw (stamps_back (stamps_of a d v) (released_wit
 slow_path : (rest : List ℕ) (f : Fate) → slow_at rest ≡ Some f → path_at (codes " slow" ++ rest) ≡ Some f
 slow_path rest f h = rw (after_other (codes " pass") (codes " slow" ++ rest) refl, after_other (codes " up") (codes " slow" ++ rest) refl, after_back (codes " slow") rest) h
 
+-- ` slow` is as long as ` pass`, so that the first step deals with both
 fast_path : (rest : List ℕ) (f : Fate) → fast_at rest ≡ Some f → path_at (codes " fast" ++ rest) ≡ Some f
 fast_path rest f h =
-    rw (
-      after_other (codes " pass") (codes " fast" ++ rest) refl,
-      after_other (codes " up") (codes " fast" ++ rest) refl,
-      after_other (codes " slow") (codes " fast" ++ rest) refl,
-      after_back (codes " fast") rest,
-    ) h
+    rw (after_other (codes " pass") (codes " fast" ++ rest) refl, after_other (codes " up") (codes " fast" ++ rest) refl, after_back (codes " fast") rest) h
 
 path_back : (f : Fate) → IsFate f → path_at (path_with f) ≡ Some f
 path_back (Pass a) h = rw (after_back (codes " pass") (admitted_with a)) (rw (admitted_back a h) refl)
