@@ -1,5 +1,5 @@
 -- The lines of packets, printed and read.
-use Rattle.std.proofs.Common.{◌≡◌, ℕ, ◌≤◌, ◌<◌, ◌^◌, Bool, true, false, ◌&&◌, cond, eqb, List, [], ◌∷◌, ◌++◌, length, Option, Some, None, refl, sym, ap, ◌∙◌, subst, arith}
+use Rattle.std.proofs.Common.{◌≡◌, ℕ, ◌≤◌, ◌<◌, ◌^◌, Bool, true, false, ◌&&◌, cond, eqb, List, [], ◌∷◌, ◌++◌, Option, Some, None, refl, sym, ap, ◌∙◌, subst, arith}
 use Rattle.std.specs.Prelude.{codes, slice_index, ◌/◌, ◌%◌, Result, Ok, Err}
 use Rattle.std.specs.Fmt.{decimal}
 use Rattle.std.specs.Str.{bytes_eq}
@@ -16,7 +16,7 @@ use Rattle.run_text.specs.Report.{body_text}
 use Rattle.run_text.specs.Trace.{largest}
 use Rattle.report_text.specs.declared.fate.Stamps.{Stamps}
 use Rattle.report_text.specs.Form.{IsFate, IsVerdict}
-use Rattle.report_text.specs.Parse.{◌>>=◌, admitted_at, after, body_at, encoded_by, fast_at, fate_of, held_or, labelled, or_else, pass_at, path_at, released_at, send_at, slow_at, stamps_at, up_at, verdict_at, whole, slow_by, fast_by}
+use Rattle.report_text.specs.Parse.{◌>>=◌, admitted_at, after, body_at, encoded_by, fast_at, fate_of, labelled, or_else, pass_at, path_at, released_at, send_at, slow_at, stamps_at, up_at, verdict_at, slow_by}
 use Rattle.report_text.proofs.Pieces.{after_back, after_is, after_other, are_same, bound, is_cut, labelled_back, labelled_is, same_bytes, some_is, whole_is}
 
 -- ---- bytes
