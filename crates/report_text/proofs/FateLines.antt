@@ -1,5 +1,5 @@
 -- The lines of packets, printed and read.
-use Rattle.std.proofs.Common.{◌≡◌, ℕ, ◌≤◌, ◌<◌, ◌^◌, Bool, true, false, ◌&&◌, cond, eqb, List, [], ◌∷◌, ◌++◌, length, Option, Some, None, refl, sym, ap, ◌∙◌, subst, arith}
+use Rattle.std.proofs.Common.{◌≡◌, ℕ, ◌≤◌, ◌<◌, ◌^◌, Bool, true, false, ◌&&◌, cond, eqb, List, [], ◌∷◌, ◌++◌, Option, Some, None, refl, sym, ap, ◌∙◌, subst, arith}
 use Rattle.std.specs.Prelude.{codes, slice_index, ◌/◌, ◌%◌, Result, Ok, Err}
 use Rattle.std.specs.Fmt.{decimal}
 use Rattle.std.specs.Str.{bytes_eq}
@@ -10,13 +10,13 @@ use Rattle.hex.specs.declared.error.FromHexError.{FromHexError}
 use Rattle.hex.proofs.HexLemmas.{decode_of-encode_lower, decode_of-ok}
 use Rattle.packet_fields.specs.declared.verdict.Verdict.{Verdict}
 use Rattle.packet_fields.specs.declared.verdict.Verdict.TheVariants.{Drop, Send}
-use Rattle.run_text.specs.declared.fate.Fate.{Fate}
-use Rattle.run_text.specs.declared.fate.Fate.TheVariants.{Up, Held, Slow, Fast}
+use Rattle.run_model.specs.declared.fate.Fate.{Fate}
+use Rattle.run_model.specs.declared.fate.Fate.TheVariants.{Pass, Up, Held, Slow, Fast}
 use Rattle.run_text.specs.Report.{body_text}
 use Rattle.run_text.specs.Trace.{largest}
 use Rattle.report_text.specs.declared.fate.Stamps.{Stamps}
 use Rattle.report_text.specs.Form.{IsFate, IsVerdict}
-use Rattle.report_text.specs.Parse.{◌>>=◌, after, body_at, encoded_by, fast_at, fate_of, held_or, labelled, or_else, path_at, released_at, send_at, slow_at, stamps_at, up_at, verdict_at, whole, slow_by, fast_by}
+use Rattle.report_text.specs.Parse.{◌>>=◌, admitted_at, after, body_at, encoded_by, fast_at, fate_of, labelled, or_else, pass_at, path_at, released_at, send_at, slow_at, stamps_at, up_at, verdict_at, slow_by}
 use Rattle.report_text.proofs.Pieces.{after_back, after_is, after_other, are_same, bound, is_cut, labelled_back, labelled_is, same_bytes, some_is, whole_is}
 
 -- ---- bytes
@@ -180,8 +180,12 @@ stamps_is line x h =
 abbrev pub stamps_of : ℕ → ℕ → ℕ → Stamps
 stamps_of a d v = record { admitted = a; decided = d; version = v }
 
+abbrev pub admitted_with : ℕ → List ℕ
+admitted_with a = codes " admitted " ++ (decimal a ++ [])
+
 abbrev pub path_with : Fate → List ℕ
-path_with (Up a) = codes " up" ++ (codes " admitted " ++ (decimal a ++ []))
+path_with (Pass a) = codes " pass" ++ admitted_with a
+path_with (Up a) = codes " up" ++ admitted_with a
 path_with (Held a d v) = codes " slow" ++ stamps_with (stamps_of a d v) (codes " held")
 path_with (Slow a d v r y) = codes " slow" ++ stamps_with (stamps_of a d v) (released_with r y)
 path_with (Fast a d v r y) = codes " fast" ++ stamps_with (stamps_of a d v) (released_with r y)
@@ -193,9 +197,9 @@ fate_told number fate = codes "packet " ++ (decimal number ++ path_with fate)
 stamps_small : (a d v : ℕ) → a < 2 ^ 32 → d < 2 ^ 32 → v < 2 ^ 32 → AreStamps (stamps_of a d v)
 stamps_small a d v ha hd hv = record { admitted = omega arith; decided = omega arith; version = omega arith }
 
-up_back : (a : ℕ) → a < 2 ^ 32 → up_at (codes " admitted " ++ (decimal a ++ [])) ≡ Some (Up a)
-unfolding up_at
-up_back a h = rw (labelled_back largest a (codes " admitted ") [] (omega arith) (omega arith) refl) refl
+admitted_back : (a : ℕ) → a < 2 ^ 32 → admitted_at (admitted_with a) ≡ Some a
+unfolding admitted_at
+admitted_back a h = rw (labelled_back largest a (codes " admitted ") [] (omega arith) (omega arith) refl) refl
 
 held_back : (a d v : ℕ) → AreStamps (stamps_of a d v) → slow_at (stamps_with (stamps_of a d v) (codes " held")) ≡ Some (Held a d v)
 unfolding slow_at
@@ -210,14 +214,17 @@ unfolding fast_at
 fast_back a d v r y h small hy = rw (stamps_back (stamps_of a d v) (released_with r y) h refl, released_back r y small hy) refl
 
 slow_path : (rest : List ℕ) (f : Fate) → slow_at rest ≡ Some f → path_at (codes " slow" ++ rest) ≡ Some f
-slow_path rest f h = rw (after_other (codes " up") (codes " slow" ++ rest) refl, after_back (codes " slow") rest) h
+slow_path rest f h = rw (after_other (codes " pass") (codes " slow" ++ rest) refl, after_other (codes " up") (codes " slow" ++ rest) refl, after_back (codes " slow") rest) h
 
+-- ` slow` is as long as ` pass`, so that the first step deals with both
 fast_path : (rest : List ℕ) (f : Fate) → fast_at rest ≡ Some f → path_at (codes " fast" ++ rest) ≡ Some f
 fast_path rest f h =
-    rw (after_other (codes " up") (codes " fast" ++ rest) refl, after_other (codes " slow") (codes " fast" ++ rest) refl, after_back (codes " fast") rest) h
+    rw (after_other (codes " pass") (codes " fast" ++ rest) refl, after_other (codes " up") (codes " fast" ++ rest) refl, after_back (codes " fast") rest) h
 
 path_back : (f : Fate) → IsFate f → path_at (path_with f) ≡ Some f
-path_back (Up a) h = rw (after_back (codes " up") (codes " admitted " ++ (decimal a ++ []))) (up_back a h)
+path_back (Pass a) h = rw (after_back (codes " pass") (admitted_with a)) (rw (admitted_back a h) refl)
+path_back (Up a) h =
+    rw (after_other (codes " pass") (codes " up" ++ admitted_with a) refl, after_back (codes " up") (admitted_with a)) (rw (admitted_back a h) refl)
 path_back (Held a d v) h =
     slow_path (stamps_with (stamps_of a d v) (codes " held")) (Held a d v) (held_back a d v (stamps_small a d v h.0 h.1 h.2))
 path_back (Slow a d v r y) h =
@@ -226,6 +233,7 @@ path_back (Fast a d v r y) h =
     fast_path (stamps_with (stamps_of a d v) (released_with r y)) (Fast a d v r y) (fast_back a d v r y (stamps_small a d v h.0 h.1 h.2) (omega (arith, h.3)) h.4)
 
 path_cut : (f : Fate) → is_cut (path_with f) ≡ true
+path_cut (Pass a) = refl
 path_cut (Up a) = refl
 path_cut (Held a d v) = refl
 path_cut (Slow a d v r y) = refl
@@ -243,13 +251,29 @@ record HasPath (line : List ℕ) (f : Fate) : Type 0 where
   are : IsFate f
   is : line ≡ path_with f
 
+record HasAdmitted (line : List ℕ) (a : ℕ) : Type 0 where
+  small : a < 2 ^ 32
+  is : line ≡ admitted_with a
+
+admitted_is : (line : List ℕ) (a : ℕ) → admitted_at line ≡ Some a → HasAdmitted line a
+unfolding admitted_at
+admitted_is line a h =
+    bound (labelled largest (codes " admitted ") line) _ a h (λ x ex hx.
+    let w = whole_is _ a x.1 hx in
+    let l = labelled_is largest x (codes " admitted ") line (omega arith) ex in
+    subst (HasAdmitted line) w.1 (record { small = omega (arith, l.0); is = rw (l.1, w.0) refl }))
+
+pass_is : (line rest : List ℕ) (f : Fate) → line ≡ codes " pass" ++ rest → pass_at rest ≡ Some f → HasPath line f
+pass_is line rest f e h =
+    bound (admitted_at rest) _ f h (λ a ea ha.
+    let l = admitted_is rest a ea in
+    subst (HasPath line) (some_is _ f ha) (record { are = l.small; is = rw (e, l.is) refl }))
+
 up_is : (line rest : List ℕ) (f : Fate) → line ≡ codes " up" ++ rest → up_at rest ≡ Some f → HasPath line f
-unfolding up_at
 up_is line rest f e h =
-    bound (labelled largest (codes " admitted ") rest) _ f h (λ a ea ha.
-    let w = whole_is _ f a.1 ha in
-    let la = labelled_is largest a (codes " admitted ") rest (omega arith) ea in
-    subst (HasPath line) w.1 (record { are = omega (arith, la.0); is = rw (e, la.1, w.0) refl }))
+    bound (admitted_at rest) _ f h (λ a ea ha.
+    let l = admitted_is rest a ea in
+    subst (HasPath line) (some_is _ f ha) (record { are = l.small; is = rw (e, l.is) refl }))
 
 held_by : (t : Bool) (line rest : List ℕ) (s : Stamps) (f : Fate) → AreStamps s → line ≡ codes " slow" ++ stamps_with s rest
     → bytes_eq rest (codes " held") ≡ t → cond t (Some (Held s.admitted s.decided s.version)) (released_at rest >>= (λ o. Some (slow_by s o))) ≡ Some f → HasPath line f
@@ -293,6 +317,10 @@ up_or : (o : Option (List ℕ)) (line : List ℕ) (f : Fate) → after (codes " 
 up_or (Some rest) line f e h = up_is line rest f (after_is (codes " up") line rest e) h
 up_or None line f e h = slow_or (after (codes " slow") line) line f refl h
 
+path_is : (o : Option (List ℕ)) (line : List ℕ) (f : Fate) → after (codes " pass") line ≡ o → or_else o pass_at (or_else (after (codes " up") line) up_at (or_else (after (codes " slow") line) slow_at (after (codes " fast") line >>= fast_at))) ≡ Some f → HasPath line f
+path_is (Some rest) line f e h = pass_is line rest f (after_is (codes " pass") line rest e) h
+path_is None line f e h = up_or (after (codes " up") line) line f refl h
+
 pub record HasFate (n : ℕ) (line : List ℕ) (f : Fate) : Type 0 where
   pub are : IsFate f
   pub is : line ≡ fate_told n f
@@ -300,7 +328,7 @@ pub record HasFate (n : ℕ) (line : List ℕ) (f : Fate) : Type 0 where
 number_by : (t : Bool) (n : ℕ) (line rest : List ℕ) (m : ℕ) (f : Fate) → eqb m n ≡ t → line ≡ codes "packet " ++ (decimal m ++ rest) → cond t (path_at rest) None ≡ Some f → HasFate n line f
 number_by true n line rest m f t e h =
     let same : m ≡ n = eqb-true m n t in
-    let p = up_or (after (codes " up") rest) rest f refl h in
+    let p = path_is (after (codes " pass") rest) rest f refl h in
     record { are = p.are; is = rw (e, same, p.is) refl }
 number_by false n line rest m f t e h = cc h
 

@@ -1,6 +1,6 @@
 -- Each line of a printed report is one line, and isn't skipped.
-use Rattle.std.proofs.Common.{◌≡◌, ℕ, zero, suc, ◌+◌, ◌-◌, ◌^◌, ◌≤◌, ◌<◌, Bool, true, false, not, ◌&&◌, cond, eqb, leb, ltb, List, [], ◌∷◌, ◌++◌, length, take, map, get_or, Option, Some, None, refl, sym, ap, ◌∙◌, subst, arith, append_assoc, inl, inr}
-use Rattle.std.specs.Prelude.{IsTrue, codes, slice_get, slice_index, ◌/◌, ◌%◌}
+use Rattle.std.proofs.Common.{◌≡◌, ℕ, zero, suc, ◌-◌, ◌^◌, ◌≤◌, ◌<◌, Bool, true, false, eqb, leb, ltb, List, [], ◌∷◌, ◌++◌, length, map, get_or, Some, refl, ap, ◌∙◌, arith, append_assoc, inl, inr}
+use Rattle.std.specs.Prelude.{codes, slice_index, ◌/◌, ◌%◌}
 use Rattle.std.specs.Fmt.{decimal}
 use Rattle.std.specs.Str.{all_ascii_digits}
 use Rattle.std.specs.List.{AllByRecursion, list_all, onto_first}
@@ -15,10 +15,10 @@ use Rattle.gal_io.specs.Number.{spaced_numbers}
 use Rattle.packet_fields.specs.declared.verdict.Verdict.{Verdict}
 use Rattle.packet_fields.specs.declared.verdict.Verdict.TheVariants.{Drop, Send}
 use Rattle.state_store.specs.declared.object.Row.{Row}
-use Rattle.run_text.specs.declared.fate.Fate.{Fate}
-use Rattle.run_text.specs.declared.fate.Fate.TheVariants.{Up, Held, Slow, Fast}
+use Rattle.run_model.specs.declared.fate.Fate.{Fate}
+use Rattle.run_model.specs.declared.fate.Fate.TheVariants.{Pass, Up, Held, Slow, Fast}
 use Rattle.run_text.specs.Printed.{lined}
-use Rattle.run_text.specs.Report.{body_text, key_text, order_text}
+use Rattle.run_text.specs.Report.{body_text, key_text}
 use Rattle.report_text.specs.declared.head.Counts.{Counts}
 use Rattle.report_text.specs.declared.head.EventCounts.{EventCounts}
 use Rattle.report_text.specs.declared.head.Versions.{Versions}
@@ -149,6 +149,7 @@ stamps_plain a d v rest ha hd hv h =
     number_plain a _ (omega arith) (number_plain d _ (omega arith) (number_plain v rest (omega arith) h))
 
 path_plain : (f : Fate) → IsFate f → list_all plain (path_with f) ≡ true
+path_plain (Pass a) h = number_plain a [] (omega arith) refl
 path_plain (Up a) h = number_plain a [] (omega arith) refl
 path_plain (Held a d v) h = stamps_plain a d v (codes " held") h.0 h.1 h.2 refl
 path_plain (Slow a d v r y) h = stamps_plain a d v (released_with r y) h.0 h.1 h.2 (released_plain r y h.3 h.4)

@@ -13,10 +13,10 @@ use Rattle.state_store.specs.declared.object.Row.{Row}
 use Rattle.state_store.specs.Kinds.{is_table}
 use Rattle.state_store.specs.Kept.{have_widths}
 use Rattle.state_store.specs.Store.{key_cmp}
-use Rattle.run_text.specs.declared.fate.Fate.{Fate}
-use Rattle.run_text.specs.declared.fate.Fate.TheVariants.{Up, Held, Slow, Fast}
-use Rattle.run_text.specs.declared.run.Part.{Part}
-use Rattle.run_text.specs.declared.run.Run.{Run}
+use Rattle.run_model.specs.declared.fate.Fate.{Fate}
+use Rattle.run_model.specs.declared.fate.Fate.TheVariants.{Pass, Up, Held, Slow, Fast}
+use Rattle.run_model.specs.declared.run.Part.{Part}
+use Rattle.run_model.specs.declared.run.Run.{Run}
 
 -- A name that a line can hold: no byte of it is a blank or ends a line.
 abbrev pub is_plain : List ℕ → Bool
@@ -48,6 +48,7 @@ IsVerdict Drop = Unit {0}
 IsVerdict (Send port bytes) = (port ≤ 255) × IsBytes bytes
 
 abbrev pub IsFate : Fate → Type 0
+IsFate (Pass a) = IsSmall a
 IsFate (Up a) = IsSmall a
 IsFate (Held a d v) = IsSmall a × IsSmall d × IsSmall v
 IsFate (Slow a d v r y) = IsSmall a × IsSmall d × IsSmall v × IsSmall r × IsVerdict y

@@ -2,7 +2,7 @@
 use Rattle.std.specs.Prelude.{◌≡◌, ◌<◌, ◌≤◌, ℕ, suc, List, [], ◌∷◌, ◌++◌, length, take, if◌then◌else◌}
 use Rattle.gal_io.specs.Lines.{lines, is_skipped}
 use Rattle.state_store.specs.declared.object.ObjectDecl.{ObjectDecl}
-use Rattle.run_text.specs.declared.run.Run.{Run}
+use Rattle.run_model.specs.declared.run.Run.{Run}
 use Rattle.run_text.specs.Report.{report_of}
 use Rattle.report_text.specs.Form.{InForm}
 use Rattle.report_text.specs.declared.error.RunTextError.{RunTextError}

@@ -9,9 +9,9 @@ use Rattle.state_store.specs.declared.object.ObjectDecl.{ObjectDecl}
 use Rattle.state_store.specs.declared.object.Row.{Row}
 use Rattle.state_store.specs.Kinds.{is_table}
 use Rattle.state_store.specs.Store.{key_cmp}
-use Rattle.run_text.specs.declared.fate.Fate.{Fate}
-use Rattle.run_text.specs.declared.run.Part.{Part}
-use Rattle.run_text.specs.declared.run.Run.{Run}
+use Rattle.run_model.specs.declared.fate.Fate.{Fate}
+use Rattle.run_model.specs.declared.run.Part.{Part}
+use Rattle.run_model.specs.declared.run.Run.{Run}
 use Rattle.report_text.specs.declared.head.Counts.{Counts}
 use Rattle.report_text.specs.declared.head.EventCounts.{EventCounts}
 use Rattle.report_text.specs.declared.head.Versions.{Versions}

@@ -1,5 +1,5 @@
 -- What the lines of a report spell, one by one.
-use Rattle.std.specs.Prelude.{ℕ, zero, suc, ◌-◌, ◌^◌, Bool, List, [], ◌∷◌, ◌++◌, length, take, drop, nat_lt, ◌==◌}
+use Rattle.std.specs.Prelude.{ℕ, zero, suc, ◌-◌, ◌^◌, List, [], ◌∷◌, ◌++◌, length, take, drop, nat_lt, ◌==◌}
 use Rattle.std.specs.Prelude.{codes}
 use Rattle.std.specs.Prelude.{if◌then◌else◌, Option, Some, None, Result, Ok, Err}
 use Rattle.std.specs.Str.{bytes_eq}
@@ -10,8 +10,8 @@ use Rattle.gal_io.specs.Number.{number_up_to}
 use Rattle.packet_fields.specs.declared.verdict.Verdict.{Verdict}
 use Rattle.packet_fields.specs.declared.verdict.Verdict.TheVariants.{Drop, Send}
 use Rattle.state_store.specs.declared.object.Row.{Row}
-use Rattle.run_text.specs.declared.fate.Fate.{Fate}
-use Rattle.run_text.specs.declared.fate.Fate.TheVariants.{Up, Held, Slow, Fast}
+use Rattle.run_model.specs.declared.fate.Fate.{Fate}
+use Rattle.run_model.specs.declared.fate.Fate.TheVariants.{Pass, Up, Held, Slow, Fast}
 use Rattle.run_text.specs.Trace.{is_space, largest}
 use Rattle.report_text.specs.declared.head.Counts.{Counts}
 use Rattle.report_text.specs.declared.head.EventCounts.{EventCounts}
@@ -100,10 +100,17 @@ stamps_at line = do
   version ← labelled largest (codes " version ") decided.1
   Some (record { admitted = admitted.0; decided = decided.0; version = version.0 }, version.1)
 
-unfoldable pub up_at : List ℕ → Option Fate
-up_at line = do
+-- the event that admitted a packet, of which nothing else is told
+unfoldable pub admitted_at : List ℕ → Option ℕ
+admitted_at line = do
   admitted ← labelled largest (codes " admitted ") line
-  whole (Up admitted.0) admitted.1
+  whole admitted.0 admitted.1
+
+abbrev pub pass_at : List ℕ → Option Fate
+pass_at line = admitted_at line >>= (λ admitted. Some (Pass admitted))
+
+abbrev pub up_at : List ℕ → Option Fate
+up_at line = admitted_at line >>= (λ admitted. Some (Up admitted))
 
 abbrev pub slow_by : Stamps → ℕ × Verdict → Fate
 slow_by s o = Slow s.admitted s.decided s.version o.0 o.1
@@ -133,9 +140,10 @@ or_else None f other = other
 
 abbrev pub path_at : List ℕ → Option Fate
 path_at line =
-    or_else (after (codes " up") line) up_at
+    or_else (after (codes " pass") line) pass_at
+    (or_else (after (codes " up") line) up_at
     (or_else (after (codes " slow") line) slow_at
-    (after (codes " fast") line >>= fast_at))
+    (after (codes " fast") line >>= fast_at)))
 
 -- the fate of the packet of this number
 unfoldable pub fate_of : ℕ → List ℕ → Option Fate

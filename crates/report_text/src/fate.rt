@@ -1,13 +1,13 @@
 //! The line of a packet.
 ghost use Rattle.std.specs.Prelude.{◌≡◌, IfOk, MatchOption, None, Some};
-ghost use Rattle.report_text.specs.Parse.{body_at, fast_at, fate_of, path_at, released_at, slow_at, stamps_at, up_at};
-ghost use Rattle.report_text.specs.Parse.{verdict_at};
+ghost use Rattle.report_text.specs.Parse.{admitted_at, body_at, fast_at, fate_of, pass_at, path_at, released_at};
+ghost use Rattle.report_text.specs.Parse.{slow_at, stamps_at, up_at, verdict_at};
 
 use crate::piece::{after, labelled, labelled_up_to, whole};
 use gal_io::{Bytes, NoMemory};
 use hex::FromHexError;
 use packet_fields::Verdict;
-use run_text::Fate;
+use run_model::Fate;
 use std::alloc::Global;
 
 /// The events that admitted and decided a packet, and the version that it was decided at.
@@ -93,12 +93,27 @@ fn read_stamps(line: &[u8]) -> Option<(Stamps, &[u8])>
     ))
 }
 
-#[tactic(auto, unfolding(crate::specs::Parse::up_at))]
+// The event that admitted a packet, of which nothing else is told.
+#[tactic(auto, unfolding(crate::specs::Parse::admitted_at))]
+fn read_admitted(line: &[u8]) -> Option<u32>
+    ensures { result ≡ admitted_at line.now }
+{
+    let (admitted, rest) = labelled(b" admitted ", line)?;
+    whole(admitted, rest)
+}
+
+fn read_pass(line: &[u8]) -> Option<Fate>
+    ensures { result ≡ pass_at line.now }
+{
+    let admitted = read_admitted(line)?;
+    Some(Fate::Pass { admitted })
+}
+
 fn read_up(line: &[u8]) -> Option<Fate>
     ensures { result ≡ up_at line.now }
 {
-    let (admitted, rest) = labelled(b" admitted ", line)?;
-    whole(Fate::Up { admitted }, rest)
+    let admitted = read_admitted(line)?;
+    Some(Fate::Up { admitted })
 }
 
 #[tactic(auto, unfolding(crate::specs::Parse::slow_at))]
@@ -151,6 +166,9 @@ fn read_fast(alloc: Global, line: &[u8]) -> Result<Option<Fate>, NoMemory>
 fn read_path(alloc: Global, line: &[u8]) -> Result<Option<Fate>, NoMemory>
     ensures { IfOk result (λ fate. fate ≡ path_at line.now) }
 {
+    if let Some(rest) = after(b" pass", line) {
+        return Ok(read_pass(rest));
+    }
     if let Some(rest) = after(b" up", line) {
         return Ok(read_up(rest));
     }

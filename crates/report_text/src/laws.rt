@@ -1,7 +1,7 @@
 //! What holds of every report.
 ghost use Rattle.std.specs.Prelude.{◌≡◌, ℕ, IsTrue, List};
 ghost use Rattle.state_store.specs.declared.object.ObjectDecl.{ObjectDecl};
-ghost use Rattle.run_text.specs.declared.run.Run.{Run};
+ghost use Rattle.run_model.specs.declared.run.Run.{Run};
 ghost use Rattle.run_text.specs.Report.{report_of};
 ghost use Rattle.report_text.specs.Form.{InForm, are_declared};
 ghost use Rattle.report_text.specs.Lines.{IsFirstWrong, IsReport};

@@ -4,7 +4,7 @@ ghost use Rattle.report_text.specs.Parse.{all_numbers, number_below, numbers_at,
 
 use crate::piece::{after, labelled};
 use gal_io::NoMemory;
-use run_text::Order;
+use run_model::Order;
 use std::alloc::Global;
 
 // A number below a bound behind a space.

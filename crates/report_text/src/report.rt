@@ -2,12 +2,12 @@
 ghost use Rattle.std.specs.Prelude.{◌≡◌, ◌⊎◌, IfOk, IfErr, IsTrue};
 ghost use Rattle.report_text.specs.Form.{are_declared};
 ghost use Rattle.report_text.specs.Lines.{IsRefused, IsReport};
-ghost use Rattle.run_text.specs.declared.run.Run.{Run};
+ghost use Rattle.run_model.specs.declared.run.Run.{Run};
 
 use crate::error::RunTextError;
 use crate::reading::Reading;
 use gal_io::split_line;
-use run_text::Run;
+use run_model::Run;
 use state_store::Objects;
 use std::alloc::Global;
 

@@ -2,5 +2,6 @@ pub mod Fate
 pub mod Order
 pub mod Parts
 pub mod Sizes
+pub mod Stages
 pub mod Meaning
 pub mod Serialises

@@ -1,6 +1,7 @@
-pub mod SerialOrder
 pub mod LineSteps
+pub mod AllValues
 pub mod ShortPackets
+pub mod WholePasses
 pub mod Numbers
 pub mod PrintedLines
 pub mod PrintedBack

@@ -14,12 +14,12 @@ use Rattle.hex.proofs.HexLemmas.{decode_of-encode_lower, IsDigits-lower_digits}
 use Rattle.gal_io.specs.Lines.{is_skipped, lines}
 use Rattle.packet_fields.specs.declared.packet.Packet.{Packet}
 use Rattle.packet_fields.specs.Sizes.{largest_packet}
-use Rattle.run_text.specs.declared.event.Event.{Event}
-use Rattle.run_text.specs.declared.event.Event.TheVariants.{Admit, Serve, Send, Apply, Ack, Hold, Down}
+use Rattle.run_model.specs.declared.event.Event.{Event}
+use Rattle.run_model.specs.declared.event.Event.TheVariants.{Admit, Stage, Serve, Send, Apply, Ack, Hold, Down}
 use Rattle.run_text.specs.declared.plan.Plan.{Plan}
 use Rattle.run_text.specs.Report.{body_text}
 use Rattle.run_text.specs.Printed.{IsLineOf, drain_lines, event_text, lined, packet_text, schedule_text, trace_text}
-use Rattle.run_text.specs.Sizes.{most_packets, most_events}
+use Rattle.run_model.specs.Sizes.{most_packets, most_events}
 use Rattle.run_text.specs.Trace.{at_most, body_of, event_line, is_drain, largest, numbered, packet_line, schedule_of, trace_of, values_until}
 use Rattle.run_text.proofs.LineSteps.{ahead_values, all_lines}
 use Rattle.run_text.proofs.ShortPackets.{trace_values}
@@ -136,6 +136,7 @@ down_back j fits = record {
 
 no_drain : (event : Event) → is_drain (event_text event) ≡ false
 no_drain Admit = refl
+no_drain (Stage j) = refl
 no_drain (Serve j) = refl
 no_drain Send = refl
 no_drain Apply = refl

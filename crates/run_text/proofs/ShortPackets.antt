@@ -1,44 +1,22 @@
 -- No packet of a trace is long.
-use Rattle.std.proofs.Common.{◌≡◌, ap, ℕ, suc, ◌≤◌, true, false, inl, inr, List, [], ◌∷◌, length, arith}
+use Rattle.std.proofs.Common.{◌≡◌, ap, ℕ, ◌≤◌, true, false, inl, inr, List, [], ◌∷◌, length, arith}
 use Rattle.std.specs.Prelude.{All, IfOk, Option, Some, None, Result, Ok, Err, codes, nat_le, if◌then◌else◌}
 use Rattle.std.specs.List.{after_first, before_first, list_any}
 use Rattle.std.specs.Str.{bytes_eq}
 use Rattle.std.proofs.lemmas.Bool.Decides.{nat_tests}
 use Rattle.std.proofs.lemmas.Bool.{cases_Bool}
-use Rattle.std.proofs.lemmas.List.Elements.{All-nil, All-cons}
 use Rattle.hex.specs.Hex.{decode_of}
 use Rattle.hex.specs.declared.error.FromHexError.{FromHexError}
-use Rattle.gal_io.specs.Lines.{is_skipped, lines}
+use Rattle.gal_io.specs.Lines.{lines}
 use Rattle.gal_io.specs.Number.{number_up_to}
 use Rattle.packet_fields.specs.declared.packet.Packet.{Packet}
-use Rattle.run_text.specs.Trace.{at_most, body_bytes, body_of, is_space, line_values, packet_by, packet_line, packet_with, trace_of, values_until, with_line}
+use Rattle.run_text.specs.Trace.{at_most, body_bytes, body_of, is_space, line_values, packet_by, packet_line, packet_with, trace_of, values_until}
 use Rattle.run_text.specs.declared.refusal.LineKind.{LineKind}
 use Rattle.run_text.specs.declared.refusal.LineKind.TheVariants.{Form}
-use Rattle.run_text.specs.declared.refusal.LinesError.{LinesError}
-use Rattle.run_text.specs.declared.refusal.LinesError.TheVariants.{TooMany}
 use Rattle.run_text.proofs.LineSteps.{none_ends}
+use Rattle.run_text.proofs.AllValues.{all_lines, all_of_most}
 use Rattle.packet_fields.specs.Sizes.{largest_packet}
-use Rattle.run_text.specs.Sizes.{most_packets}
-
--- ---- what holds of the value of each line holds of all values
-
-behind_line : {X : Type 0} (P : X → Type 0) (n : ℕ) (given : Result X LineKind) (behind : Result (List X) LinesError) → IfOk given P → IfOk behind (All P) → IfOk (with_line n given behind) (All P)
-behind_line P n (Ok x) (Ok xs) first rest = All-cons P x xs first rest
-behind_line P n (Ok x) (Err e) first rest = tt
-behind_line P n (Err kind) behind first rest = tt
-
-all_lines : {X : Type 0} (P : X → Type 0) (value : List ℕ → Result X LineKind) → ((line : List ℕ) → IfOk (value line) P) → (n : ℕ) (ls : List (List ℕ)) → IfOk (line_values value n ls) (All P)
-all_lines P value each n [] = All-nil P
-all_lines P value each n (l ∷ ls) =
-    let rest = all_lines P value each (suc n) ls in
-    elim (is_skipped l) as (λ b. IfOk (if b then line_values value (suc n) ls else with_line n (value l) (line_values value (suc n) ls)) (All P)) [
-      | true ↦ rest
-      | false ↦ behind_line P n (value l) (line_values value (suc n) ls) (each l) rest
-    ]
-
-all_of_most : {X : Type 0} (P : X → Type 0) (most : ℕ) (given : Result (List X) LinesError) → IfOk given (All P) → IfOk (at_most most given) (All P)
-all_of_most P most (Ok xs) h = elim (nat_le (length xs) most) as (λ b. IfOk (if b then Ok xs else Err (TooMany (length xs) most)) (All P)) [ true ↦ h | false ↦ tt ]
-all_of_most P most (Err e) h = tt
+use Rattle.run_model.specs.Sizes.{most_packets}
 
 -- ---- a line of a trace
 

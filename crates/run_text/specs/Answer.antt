@@ -2,7 +2,7 @@
 use Rattle.std.specs.Prelude.{ℕ, suc, List, [], ◌∷◌, ◌++◌, codes, decimal}
 use Rattle.packet_fields.specs.declared.verdict.Verdict.{Verdict}
 use Rattle.state_store.specs.declared.object.ObjectDecl.{ObjectDecl}
-use Rattle.run_text.specs.declared.run.Part.{Part}
+use Rattle.run_model.specs.declared.run.Part.{Part}
 use Rattle.run_text.specs.Report.{line_end, verdict_text, part_lines}
 
 abbrev pub verdict_line : ℕ → Verdict → List ℕ

@@ -1,8 +1,4 @@
-pub mod Fate
-pub mod Sizes
 pub mod Trace
-pub mod Order
 pub mod Report
-pub mod Parts
 pub mod Answer
 pub mod Printed

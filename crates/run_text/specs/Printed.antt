@@ -3,8 +3,8 @@ use Rattle.std.specs.Prelude.{◌≡◌, ℕ, Bool, true, false, List, [], ◌�
 use Rattle.std.specs.List.{list_all}
 use Rattle.gal_io.specs.Lines.{is_skipped}
 use Rattle.packet_fields.specs.declared.packet.Packet.{Packet}
-use Rattle.run_text.specs.declared.event.Event.{Event}
-use Rattle.run_text.specs.declared.event.Event.TheVariants.{Admit, Serve, Send, Apply, Ack, Hold, Down}
+use Rattle.run_model.specs.declared.event.Event.{Event}
+use Rattle.run_model.specs.declared.event.Event.TheVariants.{Admit, Stage, Serve, Send, Apply, Ack, Hold, Down}
 use Rattle.run_text.specs.declared.plan.Plan.{Plan}
 use Rattle.run_text.specs.declared.refusal.LineKind.{LineKind}
 use Rattle.run_text.specs.Report.{body_text, line_end}
@@ -29,6 +29,7 @@ trace_text packets = lined (map packet_text packets)
 
 abbrev pub event_text : Event → List ℕ
 event_text Admit = codes "a"
+event_text (Stage j) = codes "s " ++ decimal j
 event_text (Serve j) = codes "u " ++ decimal j
 event_text Send = codes "c"
 event_text Apply = codes "w"

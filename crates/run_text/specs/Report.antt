@@ -5,12 +5,12 @@ use Rattle.hex.specs.Hex.{encode_lower}
 use Rattle.gal_io.specs.Number.{spaced_numbers}
 use Rattle.packet_fields.specs.declared.verdict.Verdict.{Verdict}
 use Rattle.packet_fields.specs.declared.verdict.Verdict.TheVariants.{Drop, Send}
-use Rattle.run_text.specs.declared.fate.Fate.{Fate}
-use Rattle.run_text.specs.declared.fate.Fate.TheVariants.{Up, Held, Slow, Fast}
+use Rattle.run_model.specs.declared.fate.Fate.{Fate}
+use Rattle.run_model.specs.declared.fate.Fate.TheVariants.{Pass, Up, Held, Slow, Fast}
 use Rattle.state_store.specs.declared.object.Row.{Row}
 use Rattle.state_store.specs.declared.object.ObjectDecl.{ObjectDecl}
-use Rattle.run_text.specs.declared.run.Part.{Part}
-use Rattle.run_text.specs.declared.run.Run.{Run}
+use Rattle.run_model.specs.declared.run.Part.{Part}
+use Rattle.run_model.specs.declared.run.Run.{Run}
 
 -- every line ends with LF
 abbrev pub line_end : List ℕ
@@ -36,6 +36,7 @@ abbrev pub released_text : ℕ → Verdict → List ℕ
 released_text released verdict = codes " released " ++ (decimal released ++ (codes " " ++ verdict_text verdict))
 
 abbrev pub fate_text : Fate → List ℕ
+fate_text (Pass admitted) = codes "pass admitted " ++ decimal admitted
 fate_text (Up admitted) = codes "up admitted " ++ decimal admitted
 fate_text (Held admitted decided version) = decided_text (codes "slow") admitted decided version ++ codes " held"
 fate_text (Slow admitted decided version released verdict) =

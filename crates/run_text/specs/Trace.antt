@@ -8,15 +8,15 @@ use Rattle.hex.specs.declared.error.FromHexError.{FromHexError}
 use Rattle.gal_io.specs.Lines.{lines, is_skipped}
 use Rattle.gal_io.specs.Number.{number_up_to}
 use Rattle.packet_fields.specs.declared.packet.Packet.{Packet}
-use Rattle.run_text.specs.declared.event.Event.{Event}
-use Rattle.run_text.specs.declared.event.Event.TheVariants.{Admit, Serve, Send, Apply, Ack, Hold, Down}
+use Rattle.run_model.specs.declared.event.Event.{Event}
+use Rattle.run_model.specs.declared.event.Event.TheVariants.{Admit, Serve, Send, Apply, Ack, Hold, Down}
 use Rattle.run_text.specs.declared.plan.Plan.{Plan}
 use Rattle.run_text.specs.declared.refusal.LineKind.{LineKind}
 use Rattle.run_text.specs.declared.refusal.LineKind.TheVariants.{Form, Number, Hex, Long, AfterDrain}
 use Rattle.run_text.specs.declared.refusal.LinesError.{LinesError}
 use Rattle.run_text.specs.declared.refusal.LinesError.TheVariants.{Line, TooMany}
 use Rattle.packet_fields.specs.Sizes.{largest_packet}
-use Rattle.run_text.specs.Sizes.{most_packets, most_events}
+use Rattle.run_model.specs.Sizes.{most_packets, most_events}
 
 -- a value in front of those of the lines behind
 abbrev pub in_front : {X : Type 0} → X → Result (List X) LinesError → Result (List X) LinesError

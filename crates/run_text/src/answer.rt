@@ -4,9 +4,9 @@ ghost use Rattle.run_text.specs.Answer.{answer_of, verdict_line, verdict_lines};
 
 use crate::parts::put_parts;
 use crate::report::{put_packet_number, put_verdict};
-use crate::run::Parts;
 use gal_io::{NoMemory, Text};
 use packet_fields::Verdict;
+use run_model::Parts;
 use state_store::Objects;
 use std::alloc::Global;
 

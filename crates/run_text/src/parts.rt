@@ -2,8 +2,8 @@
 ghost use Rattle.std.specs.Prelude.{◌≡◌, ◌++◌, OnOk, slice_get};
 ghost use Rattle.run_text.specs.Report.{key_text, part_line, part_lines, row_line, row_lines, name_in};
 
-use crate::run::Part;
 use gal_io::{NoMemory, Text};
+use run_model::Part;
 use state_store::{ObjectDecl, Row};
 
 fn put_key(numbers: &[u64], text: &mut Text) -> Result<(), NoMemory>

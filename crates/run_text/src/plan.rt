@@ -1,6 +1,6 @@
 //! What a schedule asks for.
 
-use crate::event::Events;
+use run_model::Events;
 
 /// The events of a schedule, and whether the run is to be drained behind them.
 #[derive(Debug, Drop)]

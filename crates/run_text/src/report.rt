@@ -6,11 +6,10 @@ ghost use Rattle.run_text.specs.Report.{fate_lines, fate_text, order_line, packe
 ghost use Rattle.run_text.specs.Report.{tables_text, verdict_text, version_line};
 ghost use Rattle.gal_io.specs.Number.{spaced_numbers};
 
-use crate::fate::Fate;
 use crate::parts::put_parts;
-use crate::run::Run;
 use gal_io::{NoMemory, Text};
 use packet_fields::Verdict;
+use run_model::{Fate, Run};
 use state_store::{ObjectDecl, Objects};
 use std::alloc::Global;
 
@@ -79,6 +78,7 @@ fn put_fate(alloc: Global, fate: &Fate, text: &mut Text) -> Result<(), NoMemory>
     ensures { OnOk result (text.new ≡ text.old ++ fate_text fate.now) }
 {
     match fate {
+        Fate::Pass { admitted } => put_labelled("pass admitted ", *admitted, text),
         Fate::Up { admitted } => put_labelled("up admitted ", *admitted, text),
         Fate::Held {
             admitted,

@@ -1,17 +1,18 @@
 //! The text of a schedule.
 ghost use Rattle.std.specs.Prelude.{◌≡◌, ◌≤◌, ◌⊎◌, ◌++◌, ◌∷◌, length, decimal, map, All, OnOk, IfOk, IfErr};
-ghost use Rattle.std.specs.Prelude.{MatchResult, Some, None, Ok, Err};
+ghost use Rattle.std.specs.Prelude.{MatchResult, Some, None, Ok, Err, false};
 ghost use Rattle.gal_io.specs.Number.{number_up_to};
+ghost use Rattle.run_model.specs.Sizes.{most_events};
+ghost use Rattle.run_model.specs.Stages.{NoStages, is_stage};
 ghost use Rattle.run_text.specs.Printed.{IsLineOf, event_text, lined, schedule_text};
 ghost use Rattle.run_text.specs.Report.{line_end};
-ghost use Rattle.run_text.specs.Sizes.{most_events};
 ghost use Rattle.run_text.specs.Trace.{event_line, is_drain, largest, schedule_of, word_event};
 
-use crate::event::{Event, Events};
 use crate::line_value::{LineValue, read_values, split_at_space};
 use crate::plan::Plan;
 use crate::refusal::{LineKind, LinesError, MAX_EVENTS};
 use gal_io::{NoMemory, Text, number_up_to};
+use run_model::{Event, Events};
 use std::alloc::Global;
 
 fn read_item(item: &[u8]) -> Result<u32, LineKind>
@@ -74,6 +75,7 @@ pub fn read_schedule(alloc: Global, text: &[u8]) -> Result<Plan, LinesError>
     ensures ok { IfOk result (λ plan. schedule_of text.now ≡ Ok plan) }
     ensures err { IfErr result (λ e. (e ≡ LinesError.NoMemory) ⊎ (schedule_of text.now ≡ Err e)) }
     ensures few { IfOk result (λ plan. length plan.events ≤ most_events) }
+    ensures whole { IfOk result (λ plan. NoStages plan.events) }
 {
     let lines = read_values(alloc, text, MAX_EVENTS)?;
     Ok(Plan {
@@ -94,10 +96,11 @@ fn put_item(letter: u8, item: u32, text: &mut Text) -> Result<(), NoMemory>
 
 fn put_event(event: &Event, text: &mut Text) -> Result<(), NoMemory>
     ensures text { OnOk result (text.new ≡ text.old ++ event_text event.now) }
-    ensures back { OnOk result (IsLineOf event_line (event_text event.now) event.now) }
+    ensures back { is_stage event.now ≡ false → OnOk result (IsLineOf event_line (event_text event.now) event.now) }
 {
     match event {
         Event::Admit => text.push(b'a'),
+        Event::Stage(item) => put_item(b's', *item, text),
         Event::Serve(item) => put_item(b'u', *item, text),
         Event::Send => text.push(b'c'),
         Event::Apply => text.push(b'w'),
@@ -109,7 +112,8 @@ fn put_event(event: &Event, text: &mut Text) -> Result<(), NoMemory>
 
 fn put_events(events: &[Event], text: &mut Text) -> Result<(), NoMemory>
     ensures text { OnOk result (text.new ≡ text.old ++ lined (map event_text events.now)) }
-    ensures back { OnOk result (All (λ event. IsLineOf event_line (event_text event) event) events.now) }
+    ensures back { OnOk result (All (λ event.
+        is_stage event ≡ false → IsLineOf event_line (event_text event) event) events.now) }
 {
     for event in events {
         put_event(event, text)?;
@@ -119,10 +123,11 @@ fn put_events(events: &[Event], text: &mut Text) -> Result<(), NoMemory>
 }
 
 /// The text of a schedule, with a line for each event. It reads back, where there are no more events than a schedule
-/// may have.
+/// may have, and none is a stage of a pass.
 pub fn print_schedule(alloc: Global, plan: &Plan) -> Result<Text, NoMemory>
     ensures text { IfOk result (λ text. text ≡ schedule_text plan.now) }
-    ensures back { length plan.now.events ≤ most_events → IfOk result (λ text. schedule_of text ≡ Ok plan.now) }
+    ensures back { length plan.now.events ≤ most_events → NoStages plan.now.events
+        → IfOk result (λ text. schedule_of text ≡ Ok plan.now) }
 {
     let mut text = Text::new(alloc);
     put_events(plan.events.as_slice(), &mut text)?;

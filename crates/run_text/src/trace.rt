@@ -3,7 +3,7 @@ ghost use Rattle.std.specs.Prelude.{◌≡◌, ◌≤◌, ◌⊎◌, ◌++◌, l
 ghost use Rattle.packet_fields.specs.Sizes.{AreShort, largest_packet};
 ghost use Rattle.run_text.specs.Printed.{IsLineOf, packet_text, trace_text};
 ghost use Rattle.run_text.specs.Report.{line_end};
-ghost use Rattle.run_text.specs.Sizes.{most_packets};
+ghost use Rattle.run_model.specs.Sizes.{most_packets};
 ghost use Rattle.run_text.specs.Trace.{body_of, packet_line, trace_of};
 
 use crate::line_value::{LineValue, read_values, split_at_space};

@@ -7,7 +7,8 @@ use crate::samples::{object, one, two};
 use gal_bits::Widths;
 use gal_io::NoMemory;
 use report_text::{RunTextError, read_run};
-use run_text::{Run, print_run};
+use run_model::{Fate, Run};
+use run_text::print_run;
 use state_store::{Kind, Objects};
 use std::alloc::Global;
 use std::test::Fail;
@@ -54,6 +55,47 @@ fn a_report_of_a_replay_is_printed_again(rt: HostRuntime) -> Result<(), Fail> {
     let run = read_run(alloc, &objects, TRANSLATED)?;
     let text = print_run(alloc, &objects, &run)?;
     assert_eq!(rt; text.as_slice(), TRANSLATED);
+    Ok(())
+}
+
+// One map of rows of one byte.
+fn bytes_to_bytes(alloc: Global) -> Result<Objects, NoMemory>
+    ensures { IfOk result (λ objects. IsTrue (are_declared objects)) }
+{
+    let mut objects = Objects::new(alloc);
+    objects.push(object(alloc, b"m", Kind::Map, one(8), one(8))?)?;
+    Ok(objects)
+}
+
+// The first packet went up after three stages, and the second was admitted then.
+const UNDER_WAY: &[u8] = b"report 1\n\
+    packets 2 admitted 2 decided 0 released 0\n\
+    events 5 idle 0\n\
+    version 0 visible 0\n\
+    drained no\n\
+    packet 0 up admitted 1\n\
+    packet 1 pass admitted 5\n\
+    order -\n\
+    object m 0\n\
+    switch m 0\n\
+    end\n";
+
+#[test]
+fn a_pass_under_way_is_read_and_printed(rt: HostRuntime) -> Result<(), Fail> {
+    let alloc = rt.alloc();
+    let objects = bytes_to_bytes(alloc)?;
+    let run = read_run(alloc, &objects, UNDER_WAY)?;
+    match run.fates.as_slice() {
+        [
+            Fate::Up { admitted: first },
+            Fate::Pass { admitted: second },
+        ] => {
+            assert_eq!(rt; (*first, *second), (1, 5));
+        }
+        _ => return Err(Fail::from("not up and under way")),
+    }
+    let text = print_run(alloc, &objects, &run)?;
+    assert_eq!(rt; text.as_slice(), UNDER_WAY);
     Ok(())
 }
 
@@ -118,7 +160,7 @@ const ACCEPTED: [[&str; 5]; 4] = [
 ];
 
 // Pieces of other texts, and the first line with which no report begins.
-const REFUSED: [([&str; 5], usize); 41] = [
+const REFUSED: [([&str; 5], usize); 44] = [
     (["", "", "", "", ""], 1),
     (["# a report\n\n", HEAD, FATES, ORDER, PARTS], 19),
     ([HEAD, FATES, ORDER, PARTS, SHOWN], 20),
@@ -181,6 +223,9 @@ const REFUSED: [([&str; 5], usize); 41] = [
     ([HEAD, "packet 1 up admitted 1\n", "", "", ""], 6),
     ([HEAD, "packet 0 up admitted 4294967296\n", "", "", ""], 6),
     ([HEAD, "packet 0 up admitted 4294967295 \n", "", "", ""], 6),
+    ([HEAD, "packet 0 pass admitted 1 \n", "", "", ""], 6),
+    ([HEAD, "packet 0 pass admitted 4294967296\n", "", "", ""], 6),
+    ([HEAD, "packet 0 pass\n", "", "", ""], 6),
     (
         [
             HEAD,

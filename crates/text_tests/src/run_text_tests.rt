@@ -4,9 +4,9 @@ use crate::samples::object;
 use gal_bits::{Values, Widths};
 use gal_io::{Bytes, NoMemory, Text};
 use packet_fields::{Packets, Verdict};
+use run_model::{Event, Events, Fate, Fates, Order, Part, Parts, Run, order};
 use run_text::{
-    Event, Events, Fate, Fates, LineKind, LinesError, Order, Part, Parts, Run, order, print_run,
-    print_schedule, print_trace, read_schedule, read_trace,
+    LineKind, LinesError, Plan, print_run, print_schedule, print_trace, read_schedule, read_trace,
 };
 use state_store::{Kind, ObjectDecl, Objects, Row, Rows};
 use std::alloc::Global;
@@ -123,6 +123,9 @@ fn lines_of_a_schedule(rt: HostRuntime) {
         (b" drain", refused(1, LineKind::Form)),
         (b"drain 1", refused(1, LineKind::Form)),
         (b"#drain\na", Ok(1)),
+        (b"s 0", refused(1, LineKind::Form)),
+        (b"fine\na", refused(1, LineKind::Form)),
+        (b"a\ns x", refused(2, LineKind::Form)),
     ] {
         let have = read_schedule(alloc, text).map(|plan| plan.events.len());
         assert_eq!(rt; have, want, "{text:?}");
@@ -245,6 +248,25 @@ fn schedules_are_printed(rt: HostRuntime) -> Result<(), Fail> {
     ] {
         assert_eq!(rt; printed_schedule(alloc, text)?.as_slice(), want);
     }
+    Ok(())
+}
+
+#[test]
+fn stages_are_printed(rt: HostRuntime) -> Result<(), Fail> {
+    let alloc = rt.alloc();
+    let mut events = Events::new(alloc);
+    for event in [Event::Admit, Event::Stage(0), Event::Stage(4_294_967_295)] {
+        events.push(event)?;
+    }
+    let plan = Plan {
+        events,
+        drain: true,
+    };
+    let text = print_schedule(alloc, &plan)?;
+    assert_eq!(rt;
+        text.as_slice(),
+        b"a\ns 0\ns 4294967295\ndrain\n".as_slice()
+    );
     Ok(())
 }
 
