@@ -1,16 +1,2 @@
-pub mod Lists
-pub mod Costs
-pub mod Sounding
-pub mod Travelling
-pub mod Calling
-pub mod Doings
-pub mod Goings
-pub mod Arms
-pub mod Serves
-pub mod Ongoing
-pub mod Showing
-pub mod Performing
-pub mod Draining
-pub mod Ending
-pub mod Reported
-pub mod Playing
+mod Concluding
+mod Playing

@@ -1,8 +1,2 @@
-pub mod Setup
-pub mod Entries
-pub mod Replayed
-pub mod Sound
-pub mod Views
-pub mod Steps
-pub mod Replaying
+pub mod Ended
 pub mod Replayer

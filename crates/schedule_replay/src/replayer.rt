@@ -1,30 +1,26 @@
 //! A replay that goes on call by call.
-ghost use Rattle.std.specs.Prelude.{◌≡◌, ◌≤◌, ◌<◌, ◌+◌, List, [], Some, None, Err, is_some, length, IfErr, IfOk, OnErr};
-ghost use Rattle.std.specs.Prelude.{OnOk};
+ghost use Rattle.std.specs.Prelude.{◌≡◌, ◌≤◌, ◌<◌, ◌++◌, ◌∷◌, [], List, Some, None, Err};
+ghost use Rattle.std.specs.Prelude.{is_some, length, IfErr, IfOk, OnOk};
 ghost use Rattle.flat_ir.specs.Program.{program_of};
+ghost use Rattle.run_model.specs.Sizes.{most_events, most_packets};
+ghost use Rattle.run_model.specs.declared.event.Event.{Event};
 ghost use Rattle.split_model.specs.Bounds.{HasFewStages};
-ghost use Rattle.split_program.specs.Whole.{IsSplit};
-ghost use Rattle.run_text.specs.Sizes.{most_events, most_packets};
-ghost use Rattle.run_text.specs.declared.event.Event.{Event};
-ghost use Rattle.split_world.specs.Answered.{Call};
-ghost use Rattle.schedule_replay.specs.Setup.{setup_of};
-ghost use Rattle.schedule_replay.specs.Steps.{CountsFault};
-ghost use Rattle.schedule_replay.specs.Replaying.{HasGone};
-ghost use Rattle.schedule_replay.specs.declared.job.ReplayError.{ReplayError};
+ghost use Rattle.split_answers.specs.Whole.{IsSplit};
+ghost use Rattle.replay_state.specs.Drain.{drain_bound};
+ghost use Rattle.replay_contracts.specs.Given.{setup_for};
+ghost use Rattle.replay_contracts.specs.declared.job.ReplayError.{ReplayError};
+ghost use Rattle.replay_contracts.specs.Replayer.{CountsFault, given_of};
+ghost use Rattle.replay_course.specs.UnderWay.{HasGone};
 
-use crate::course::{Course, Stepped};
-use crate::job::{Job, ReplayError, Replayed};
-use crate::laws::{a_replay_goes_on, the_next_command_finds_room};
 use gal_io::NoMemory;
-use run_text::{Event, Events};
-use split_program::split_programs_have_their_laws;
-use split_world::{
-    a_tied_replay_reports_the_run, a_tied_replay_takes_the_same_turns, drain_ends,
-    lookups_see_one_version,
+use replay_contracts::{
+    Job, ReplayError, Replayed, Stepped, a_journal_determines_its_replay, a_replay_goes_on,
+    a_run_keeps_its_promises, a_told_replay_reports_the_run,
 };
+use replay_course::{Course, few_events_are_left, the_next_command_finds_room};
+use run_model::{Event, Events};
 use std::alloc::Global;
 use switch_ir::SwitchPort;
-use told_switch::told_rows_are_the_visible_stores;
 
 /// A replay of a split program over a switch, event by event. It performs none of the job's own events by itself. Once
 /// it has failed, it answers the same error from then on.
@@ -47,8 +43,7 @@ pub struct Refused<S> {
 
 // A job without events of its own, in memory of its own.
 fn copy_job(alloc: Global, job: &Job) -> Result<Job, NoMemory>
-    ensures same { IfOk result (λ made. setup_of made ≡ setup_of job.now) }
-    ensures kept { IfOk result (λ made. made.flat.objects ≡ job.now.flat.objects) }
+    ensures { IfOk result (λ made. given_of made ≡ given_of job.now) }
 {
     Ok(Job {
         flat: job.flat.copy(alloc)?,
@@ -72,33 +67,37 @@ fn begin<S: SwitchPort>(alloc: Global, job: &Job, port: &mut S) -> Result<Begun,
     requires stages { HasFewStages job.now.split }
     requires writeback { job.now.writeback ≤ 65536 }
     requires few_packets { length job.now.packets ≤ most_packets }
-    ensures same { IfOk result (λ begun. setup_of begun.job ≡ setup_of job.now) }
+    ensures same { IfOk result (λ begun. given_of begun.job ≡ given_of job.now) }
     ensures begun { IfOk result (λ begun.
-        HasGone (setup_of job.now) [] begun.course (S.seen port.old) (S.seen port.new)) }
+        HasGone (given_of job.now) [] begun.course (S.seen port.old) (S.seen port.new)) }
+    ensures stays { is_some (S.seen port.new).told ≡ is_some (S.seen port.old).told }
     ensures fault { IfErr result (λ e. CountsFault e (S.seen port.old) (S.seen port.new)) }
 {
+    few_events_are_left();
     let copy = copy_job(alloc, job)?;
     let course = Course::start(alloc, job, port)?;
     Ok(Begun { job: copy, course })
 }
 
 impl<S: SwitchPort> Replayer<S> {
-    ghost use Rattle.schedule_replay.specs.Replayer.{state_of, HasEmptied, HasReported, HasTurned};
-    ghost use Rattle.schedule_replay.specs.Replayer.{IsAlive, IsNew, IsReplayer};
+    ghost use Rattle.replay_contracts.specs.Replayer.{HasEmptied, HasFailed, HasReported, HasStepped, IsNew, Repeats};
+    ghost use Rattle.schedule_replay.specs.Replayer.{HasPerformed, IsStanding, seen_as};
 
-    /// Loads the switch with the code of a job. After an error the switch is handed back.
+    /// Loads the switch with the code of a job. After an error the switch is handed back; it tells its tables where it
+    /// told them before.
     pub fn new(alloc: Global, job: &Job, port: S) -> Result<Replayer<S>, Refused<S>>
         requires split { IsSplit (program_of job.now.flat) job.now.split job.now.writeback }
         requires stages { HasFewStages job.now.split }
         requires writeback { job.now.writeback ≤ 65536 }
         requires few_packets { length job.now.packets ≤ most_packets }
-        ensures begun { IfOk result (λ made. IsNew (setup_of job.now) (state_of S.seen made)) }
-        ensures alive { IfOk result (λ made. IsAlive (state_of S.seen made)) }
-        ensures told { IfOk result (λ made.
-            is_some (state_of S.seen made).port.told ≡ is_some (S.seen port).told) }
-        ensures no_fault { IfOk result (λ made. (state_of S.seen made).port.faults ≡ (S.seen port).faults) }
+        ensures begun { IfOk result (λ made. IsNew (given_of job.now) (S.seen port) (seen_as S.seen [] made)) }
+        ensures performed { IfOk result (λ made. HasPerformed S.seen [] made) }
+        ensures stands { IfOk result (λ made. IsStanding S.seen made) }
+        ensures stays { IfErr result (λ refused.
+            is_some (S.seen refused.port).told ≡ is_some (S.seen port).told) }
         ensures fault { IfErr result (λ refused. CountsFault refused.error (S.seen port) (S.seen refused.port)) }
     {
+        few_events_are_left();
         let mut port = port;
         match begin(alloc, job, &mut port) {
             Ok(begun) => Ok(Replayer {
@@ -115,27 +114,24 @@ impl<S: SwitchPort> Replayer<S> {
 
     /// One event. It is idle exactly where it can't apply.
     pub fn step(&mut self, event: &Event) -> Result<Stepped, ReplayError>
-        requires alive { IsAlive (state_of S.seen self.old) }
-        requires few { (state_of S.seen self.old).steps < most_events }
-        ensures turned { (events : List Event) (calls : List Call)
-            → (state_of S.seen self.old).failed ≡ None → IsReplayer (state_of S.seen self.old) events calls
-            → IfOk result (λ stepped. HasTurned (state_of S.seen self.old) event.now stepped events calls
-            (state_of S.seen self.new)) }
-        ensures alive { IsAlive (state_of S.seen self.new) }
-        ensures counted { OnOk result
-            ((state_of S.seen self.new).steps ≡ (state_of S.seen self.old).steps + 1) }
-        ensures not_counted { OnErr result ((state_of S.seen self.new).steps ≡ (state_of S.seen self.old).steps) }
-        ensures ok { OnOk result ((state_of S.seen self.new).failed ≡ None) }
-        ensures err { IfErr result (λ e. (state_of S.seen self.new).failed ≡ Some e) }
-        ensures no_fault { OnOk result
-            ((state_of S.seen self.new).port.faults ≡ (state_of S.seen self.old).port.faults) }
-        ensures fault { IfErr result (λ e. (state_of S.seen self.old).failed ≡ None
-            → CountsFault e (state_of S.seen self.old).port (state_of S.seen self.new).port) }
-        ensures sticky { (e : ReplayError) → (state_of S.seen self.old).failed ≡ Some e → result ≡ Err e }
-        ensures stays { (e : ReplayError) → (state_of S.seen self.old).failed ≡ Some e
-            → state_of S.seen self.new ≡ state_of S.seen self.old }
+        requires stands { IsStanding S.seen self.old }
+        requires few { (seen_as S.seen [] self.old).steps < most_events }
+        ensures stepped { IfOk result (λ stepped. (events : List Event) → HasPerformed S.seen events self.old
+            → HasStepped (seen_as S.seen events self.old) event.now stepped
+            (seen_as S.seen (events ++ event.now ∷ []) self.new)) }
+        ensures performed { OnOk result ((events : List Event) → HasPerformed S.seen events self.old
+            → HasPerformed S.seen (events ++ event.now ∷ []) self.new) }
+        ensures stands { IsStanding S.seen self.new }
+        ensures fails { IfErr result (λ e. (events : List Event) → (seen_as S.seen [] self.old).failed ≡ None
+            → HasFailed (seen_as S.seen events self.old) e (seen_as S.seen events self.new)) }
+        ensures repeats { (e : ReplayError) → (seen_as S.seen [] self.old).failed ≡ Some e
+            → (result ≡ Err e)
+            × ((events : List Event) → Repeats (seen_as S.seen events self.old) e (seen_as S.seen events self.new)) }
+        ensures same { (e : ReplayError) → (seen_as S.seen [] self.old).failed ≡ Some e → self.new ≡ self.old }
     {
+        a_journal_determines_its_replay();
         a_replay_goes_on();
+        few_events_are_left();
         the_next_command_finds_room();
         if let Some(error) = self.failed {
             return Err(error);
@@ -158,26 +154,23 @@ impl<S: SwitchPort> Replayer<S> {
     /// The events that end a run, one after the other, until every packet of the trace is released and nothing is on
     /// its way. The answer is their number.
     pub fn drain(&mut self) -> Result<u64, ReplayError>
-        requires alive { IsAlive (state_of S.seen self.old) }
-        ensures emptied { (events : List Event) (calls : List Call)
-            → (state_of S.seen self.old).failed ≡ None → IsReplayer (state_of S.seen self.old) events calls
-            → IfOk result (λ count. HasEmptied (state_of S.seen self.old) count events calls
-            (state_of S.seen self.new)) }
-        ensures alive { IsAlive (state_of S.seen self.new) }
-        ensures steps { (state_of S.seen self.new).steps ≡ (state_of S.seen self.old).steps }
-        ensures ok { OnOk result ((state_of S.seen self.new).failed ≡ None) }
-        ensures err { IfErr result (λ e. (state_of S.seen self.new).failed ≡ Some e) }
-        ensures no_fault { OnOk result
-            ((state_of S.seen self.new).port.faults ≡ (state_of S.seen self.old).port.faults) }
-        ensures fault { IfErr result (λ e. (state_of S.seen self.old).failed ≡ None
-            → CountsFault e (state_of S.seen self.old).port (state_of S.seen self.new).port) }
-        ensures sticky { (e : ReplayError) → (state_of S.seen self.old).failed ≡ Some e → result ≡ Err e }
-        ensures stays { (e : ReplayError) → (state_of S.seen self.old).failed ≡ Some e
-            → state_of S.seen self.new ≡ state_of S.seen self.old }
+        requires stands { IsStanding S.seen self.old }
+        ensures emptied { IfOk result (λ count. (events : List Event) → HasPerformed S.seen events self.old
+            → (more : List Event)
+            × HasEmptied (seen_as S.seen events self.old) count (seen_as S.seen (events ++ more) self.new)
+            × HasPerformed S.seen (events ++ more) self.new) }
+        ensures bound { IfOk result (λ count.
+            count ≤ drain_bound (setup_for (seen_as S.seen [] self.old).given)) }
+        ensures stands { IsStanding S.seen self.new }
+        ensures fails { IfErr result (λ e. (events : List Event) → (seen_as S.seen [] self.old).failed ≡ None
+            → HasFailed (seen_as S.seen events self.old) e (seen_as S.seen events self.new)) }
+        ensures repeats { (e : ReplayError) → (seen_as S.seen [] self.old).failed ≡ Some e
+            → (result ≡ Err e)
+            × ((events : List Event) → Repeats (seen_as S.seen events self.old) e (seen_as S.seen events self.new)) }
+        ensures same { (e : ReplayError) → (seen_as S.seen [] self.old).failed ≡ Some e → self.new ≡ self.old }
     {
-        a_replay_goes_on();
-        drain_ends();
-        a_tied_replay_takes_the_same_turns();
+        a_journal_determines_its_replay();
+        few_events_are_left();
         if let Some(error) = self.failed {
             return Err(error);
         }
@@ -192,27 +185,22 @@ impl<S: SwitchPort> Replayer<S> {
 
     /// What is to be reported of the events so far. The replay can go on then.
     pub fn report(&mut self) -> Result<Replayed, ReplayError>
-        requires alive { IsAlive (state_of S.seen self.old) }
-        ensures reported { (events : List Event) (calls : List Call)
-            → (state_of S.seen self.old).failed ≡ None → IsReplayer (state_of S.seen self.old) events calls
-            → IfOk result (λ replayed. HasReported (state_of S.seen self.old) replayed events calls
-            (state_of S.seen self.new)) }
-        ensures alive { IsAlive (state_of S.seen self.new) }
-        ensures steps { (state_of S.seen self.new).steps ≡ (state_of S.seen self.old).steps }
-        ensures ok { OnOk result ((state_of S.seen self.new).failed ≡ None) }
-        ensures err { IfErr result (λ e. (state_of S.seen self.new).failed ≡ Some e) }
-        ensures no_fault { OnOk result
-            ((state_of S.seen self.new).port.faults ≡ (state_of S.seen self.old).port.faults) }
-        ensures fault { IfErr result (λ e. (state_of S.seen self.old).failed ≡ None
-            → CountsFault e (state_of S.seen self.old).port (state_of S.seen self.new).port) }
-        ensures sticky { (e : ReplayError) → (state_of S.seen self.old).failed ≡ Some e → result ≡ Err e }
-        ensures stays { (e : ReplayError) → (state_of S.seen self.old).failed ≡ Some e
-            → state_of S.seen self.new ≡ state_of S.seen self.old }
+        requires stands { IsStanding S.seen self.old }
+        ensures reported { IfOk result (λ replayed. (events : List Event) → HasPerformed S.seen events self.old
+            → HasReported (seen_as S.seen events self.old) replayed (seen_as S.seen events self.new)) }
+        ensures performed { OnOk result ((events : List Event) → HasPerformed S.seen events self.old
+            → HasPerformed S.seen events self.new) }
+        ensures stands { IsStanding S.seen self.new }
+        ensures fails { IfErr result (λ e. (events : List Event) → (seen_as S.seen [] self.old).failed ≡ None
+            → HasFailed (seen_as S.seen events self.old) e (seen_as S.seen events self.new)) }
+        ensures repeats { (e : ReplayError) → (seen_as S.seen [] self.old).failed ≡ Some e
+            → (result ≡ Err e)
+            × ((events : List Event) → Repeats (seen_as S.seen events self.old) e (seen_as S.seen events self.new)) }
+        ensures same { (e : ReplayError) → (seen_as S.seen [] self.old).failed ≡ Some e → self.new ≡ self.old }
     {
-        split_programs_have_their_laws();
-        lookups_see_one_version();
-        a_tied_replay_reports_the_run();
-        told_rows_are_the_visible_stores();
+        a_journal_determines_its_replay();
+        a_run_keeps_its_promises();
+        a_told_replay_reports_the_run();
         if let Some(error) = self.failed {
             return Err(error);
         }
@@ -227,7 +215,7 @@ impl<S: SwitchPort> Replayer<S> {
 
     /// The switch, as the calls so far left it.
     pub fn into_port(self) -> S
-        ensures { S.seen result ≡ (state_of S.seen self).port }
+        ensures { S.seen result ≡ (seen_as S.seen [] self).port }
     {
         self.port
     }

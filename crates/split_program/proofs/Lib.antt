@@ -1,5 +1,0 @@
-mod Follows
-mod Turns
-mod Runs
-mod Places
-mod Wholes

@@ -1,4 +1,0 @@
-mod Declared
-mod Commanded
-mod Seen
-mod Passed
