@@ -1,41 +1,36 @@
 -- The lines of a report in the form are read, to its run.
-use Rattle.std.proofs.Common.{◌≡◌, ℕ, zero, suc, ◌+◌, ◌*◌, ◌-◌, ◌^◌, ◌≤◌, ◌<◌, Bool, true, false, not, ◌&&◌, ◌||◌, cond, eqb, leb, ltb, List, [], ◌∷◌, ◌++◌, length, take, drop, map, Option, Some, None, refl, sym, ap, ◌∙◌, subst, arith, append_assoc, length-append}
-use Rattle.std.specs.Prelude.{IsTrue, codes, slice_get, slice_index}
+use Rattle.std.proofs.Common.{◌≡◌, ℕ, zero, suc, ◌+◌, ◌≤◌, ◌<◌, Bool, true, false, ◌&&◌, ◌||◌, cond, eqb, leb, ltb, List, [], ◌∷◌, ◌++◌, length, drop, map, Option, Some, None, refl, sym, ap, ◌∙◌, subst, arith, append_assoc, length-append}
+use Rattle.std.specs.Prelude.{IsTrue, codes, slice_get}
 use Rattle.std.specs.Str.{bytes_eq}
-use Rattle.std.specs.List.{AllByRecursion, list_all}
+use Rattle.std.specs.List.{AllByRecursion}
 use Rattle.std.specs.Ordering.{is_lt}
-use Rattle.std.specs.declared.cmp.Ordering.TheVariants.{Less, Equal, Greater}
-use Rattle.std.proofs.lemmas.Bool.{and_parts, leb-true, le-leb}
+use Rattle.std.proofs.lemmas.Bool.{le-leb}
 use Rattle.std.proofs.lemmas.List.{append-nil}
 use Rattle.std.proofs.lemmas.Bool.Decides.{nat_tests}
 use Rattle.state_store.specs.declared.object.ObjectDecl.{ObjectDecl}
 use Rattle.state_store.specs.declared.object.Row.{Row}
-use Rattle.state_store.specs.Kinds.{is_table}
-use Rattle.state_store.specs.Kept.{have_widths}
-use Rattle.state_store.specs.Store.{key_cmp}
 use Rattle.run_model.specs.declared.fate.Fate.{Fate}
 use Rattle.run_model.specs.declared.run.Part.{Part}
 use Rattle.run_model.specs.declared.run.Run.{Run}
 use Rattle.run_text.specs.Report.{name_in}
-use Rattle.run_text.specs.Trace.{largest}
 use Rattle.report_text.specs.declared.head.Counts.{Counts}
 use Rattle.report_text.specs.declared.head.EventCounts.{EventCounts}
 use Rattle.report_text.specs.declared.head.Versions.{Versions}
 use Rattle.report_text.specs.declared.stage.Side.{Side}
 use Rattle.report_text.specs.declared.stage.Side.TheVariants.{OnServer, OnSwitch}
 use Rattle.report_text.specs.declared.stage.Stage.{Stage}
-use Rattle.report_text.specs.declared.stage.Stage.TheVariants.{Title, Packets, Events, Version, Drained, Fates, Server, Switch, Table, Ended}
+use Rattle.report_text.specs.declared.stage.Stage.TheVariants.{Fates, Server, Switch, Table, Ended}
 use Rattle.report_text.specs.Form.{AreInOrder, AreRising, InForm, IsBelow, IsFate, IsPart, IsRowOf, are_widths, kept_from}
-use Rattle.report_text.specs.Parse.{◌>>=◌, counts_of, events_of, versions_of, fate_of, order_of, row_of, count_of}
-use Rattle.report_text.specs.Machine.{State, at_start, closed_by, count_by, has_keys, is_after, is_behind, keys_above, next_from, part_opened, resume, row_put, row_read, run_of, server_by, server_opened, server_read, shown_from, shown_opened, step, step_at, switch_read, with_left}
-use Rattle.report_text.proofs.HeadLines.{AreCounts, AreEvents, AreVersions, counts_back, counts_text, events_back, events_text, versions_back, versions_text}
-use Rattle.report_text.proofs.FateLines.{fate_back, fate_told}
+use Rattle.report_text.specs.Parse.{◌>>=◌, order_of, count_of}
+use Rattle.report_text.specs.Machine.{State, at_start, closed_by, count_by, has_keys, is_after, is_behind, keys_above, part_opened, resume, row_put, row_read, run_of, server_by, server_opened, shown_from, shown_opened, step, step_at, switch_read, with_left}
+use Rattle.report_text.proofs.HeadLines.{AreCounts, AreEvents, AreVersions, counts_back, events_back, versions_back}
+use Rattle.report_text.proofs.FateLines.{fate_back}
 use Rattle.report_text.proofs.PartLines.{AreBelow, count_back, order_back, order_told, part_told}
 use Rattle.report_text.proofs.RowLines.{row_back, row_told}
-use Rattle.report_text.proofs.Told.{counts_in, drained_text, events_in, fates_told, head_told, name_of, parts_told, report_told, versions_in}
-use Rattle.report_text.proofs.Declared.{AreKnown, IsKnown, drop_got, drop_next, got_drop, next_gone, next_is, next_kept, shown_back}
+use Rattle.report_text.proofs.Told.{counts_in, events_in, fates_told, head_told, name_of, parts_told, report_told, versions_in}
+use Rattle.report_text.proofs.Declared.{AreKnown, IsKnown, next_gone, next_is, next_kept, shown_back}
 use Rattle.report_text.proofs.Keys.{fewer_above, first_most}
-use Rattle.report_text.proofs.Sound.{keys_suc, last_more, last_of, numbers_of}
+use Rattle.report_text.proofs.Sound.{keys_suc, last_more, numbers_of}
 
 pub truth : (b : Bool) → IsTrue b → b ≡ true
 truth b h = h

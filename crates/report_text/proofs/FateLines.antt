@@ -1,5 +1,5 @@
 -- The lines of packets, printed and read.
-use Rattle.std.proofs.Common.{◌≡◌, ℕ, ◌≤◌, ◌<◌, ◌^◌, Bool, true, false, ◌&&◌, cond, eqb, List, [], ◌∷◌, ◌++◌, length, Option, Some, None, refl, sym, ap, ◌∙◌, subst, arith}
+use Rattle.std.proofs.Common.{◌≡◌, ℕ, ◌≤◌, ◌<◌, ◌^◌, Bool, true, false, ◌&&◌, cond, eqb, List, [], ◌∷◌, ◌++◌, Option, Some, None, refl, sym, ap, ◌∙◌, subst, arith}
 use Rattle.std.specs.Prelude.{codes, slice_index, ◌/◌, ◌%◌, Result, Ok, Err}
 use Rattle.std.specs.Fmt.{decimal}
 use Rattle.std.specs.Str.{bytes_eq}
@@ -16,7 +16,7 @@ use Rattle.run_text.specs.Report.{body_text}
 use Rattle.run_text.specs.Trace.{largest}
 use Rattle.report_text.specs.declared.fate.Stamps.{Stamps}
 use Rattle.report_text.specs.Form.{IsFate, IsVerdict}
-use Rattle.report_text.specs.Parse.{◌>>=◌, admitted_at, after, body_at, encoded_by, fast_at, fate_of, held_or, labelled, or_else, pass_at, path_at, released_at, send_at, slow_at, stamps_at, up_at, verdict_at, whole, slow_by, fast_by}
+use Rattle.report_text.specs.Parse.{◌>>=◌, admitted_at, after, body_at, encoded_by, fast_at, fate_of, labelled, or_else, pass_at, path_at, released_at, send_at, slow_at, stamps_at, up_at, verdict_at, slow_by}
 use Rattle.report_text.proofs.Pieces.{after_back, after_is, after_other, are_same, bound, is_cut, labelled_back, labelled_is, same_bytes, some_is, whole_is}
 
 -- ---- bytes
@@ -216,14 +216,10 @@ fast_back a d v r y h small hy = rw (stamps_back (stamps_of a d v) (released_wit
 slow_path : (rest : List ℕ) (f : Fate) → slow_at rest ≡ Some f → path_at (codes " slow" ++ rest) ≡ Some f
 slow_path rest f h = rw (after_other (codes " pass") (codes " slow" ++ rest) refl, after_other (codes " up") (codes " slow" ++ rest) refl, after_back (codes " slow") rest) h
 
+-- ` slow` is as long as ` pass`, so that the first step deals with both
 fast_path : (rest : List ℕ) (f : Fate) → fast_at rest ≡ Some f → path_at (codes " fast" ++ rest) ≡ Some f
 fast_path rest f h =
-    rw (
-      after_other (codes " pass") (codes " fast" ++ rest) refl,
-      after_other (codes " up") (codes " fast" ++ rest) refl,
-      after_other (codes " slow") (codes " fast" ++ rest) refl,
-      after_back (codes " fast") rest,
-    ) h
+    rw (after_other (codes " pass") (codes " fast" ++ rest) refl, after_other (codes " up") (codes " fast" ++ rest) refl, after_back (codes " fast") rest) h
 
 path_back : (f : Fate) → IsFate f → path_at (path_with f) ≡ Some f
 path_back (Pass a) h = rw (after_back (codes " pass") (admitted_with a)) (rw (admitted_back a h) refl)

@@ -1,12 +1,12 @@
 -- The first lines of a report, printed and read.
-use Rattle.std.proofs.Common.{◌≡◌, ℕ, ◌≤◌, ◌<◌, ◌^◌, List, [], ◌∷◌, ◌++◌, Option, Some, refl, sym, ap, ◌∙◌, subst, arith}
+use Rattle.std.proofs.Common.{◌≡◌, ℕ, ◌≤◌, List, [], ◌++◌, Some, refl, subst, arith}
 use Rattle.std.specs.Prelude.{codes}
 use Rattle.std.specs.Fmt.{decimal}
 use Rattle.run_text.specs.Trace.{largest}
 use Rattle.report_text.specs.declared.head.Counts.{Counts}
 use Rattle.report_text.specs.declared.head.EventCounts.{EventCounts}
 use Rattle.report_text.specs.declared.head.Versions.{Versions}
-use Rattle.report_text.specs.Parse.{◌>>=◌, counts_of, events_of, versions_of, labelled, whole}
+use Rattle.report_text.specs.Parse.{counts_of, events_of, versions_of, labelled}
 use Rattle.report_text.proofs.Pieces.{bound, labelled_back, labelled_is, whole_is}
 
 abbrev pub counts_text : Counts → List ℕ

@@ -1,18 +1,15 @@
 -- What was read can go on to the end of a report.
-use Rattle.std.proofs.Common.{◌≡◌, ℕ, zero, suc, ◌+◌, ◌*◌, ◌-◌, ◌^◌, ◌≤◌, ◌<◌, inl, inr, Bool, true, false, not, ◌&&◌, ◌||◌, cond, eqb, leb, ltb, List, [], ◌∷◌, ◌++◌, length, take, drop, map, Option, Some, None, refl, sym, ap, ◌∙◌, subst, arith, append_assoc, length-append}
-use Rattle.std.specs.Prelude.{codes, slice_get, replicate}
+use Rattle.std.proofs.Common.{◌≡◌, ℕ, zero, suc, ◌+◌, ◌-◌, ◌≤◌, ◌<◌, inl, inr, true, false, cond, leb, ltb, List, [], ◌∷◌, ◌++◌, length, drop, Option, Some, None, refl, sym, ap, ◌∙◌, subst, arith, length-append}
+use Rattle.std.specs.Prelude.{codes, slice_get}
 use Rattle.std.specs.List.{AllByRecursion}
 use Rattle.std.specs.Ordering.{is_lt}
 use Rattle.std.proofs.lemmas.Bool.{cases_lt, le-leb}
 use Rattle.std.proofs.lemmas.Bool.Decides.{nat_tests}
 use Rattle.state_store.specs.declared.object.ObjectDecl.{ObjectDecl}
 use Rattle.state_store.specs.declared.object.Row.{Row}
-use Rattle.state_store.specs.Kinds.{is_table}
 use Rattle.state_store.specs.Kept.{have_widths}
-use Rattle.run_model.specs.declared.fate.Fate.{Fate}
 use Rattle.run_model.specs.declared.fate.Fate.TheVariants.{Up}
 use Rattle.run_model.specs.declared.run.Run.{Run}
-use Rattle.run_text.specs.Trace.{largest}
 use Rattle.report_text.specs.declared.head.Counts.{Counts}
 use Rattle.report_text.specs.declared.head.EventCounts.{EventCounts}
 use Rattle.report_text.specs.declared.head.Versions.{Versions}
@@ -20,9 +17,9 @@ use Rattle.report_text.specs.declared.stage.Side.{Side}
 use Rattle.report_text.specs.declared.stage.Side.TheVariants.{OnServer, OnSwitch}
 use Rattle.report_text.specs.declared.stage.Stage.{Stage}
 use Rattle.report_text.specs.declared.stage.Stage.TheVariants.{Title, Packets, Events, Version, Drained, Fates, Server, Switch, Table, Ended}
-use Rattle.report_text.specs.Form.{IsRowOf, are_widths}
-use Rattle.report_text.specs.Parse.{◌>>=◌, counts_of, count_of, events_of, fate_of, order_of, row_of, versions_of}
-use Rattle.report_text.specs.Machine.{State, closed_by, count_by, counts_read, ended, ended_by, events_read, fate_read, has_keys, is_after, is_behind, keys_above, next_from, order_read, packet_read, part_opened, resume, row_put, row_read, run_of, server_by, server_opened, step, step_at, versions_read, with_left}
+use Rattle.report_text.specs.Form.{IsRowOf}
+use Rattle.report_text.specs.Parse.{◌>>=◌, fate_of, order_of}
+use Rattle.report_text.specs.Machine.{State, count_by, counts_read, ended_by, events_read, fate_read, is_after, is_behind, keys_above, next_from, order_read, part_opened, resume, row_put, row_read, run_of, server_by, server_opened, step_at, versions_read, with_left}
 use Rattle.report_text.proofs.HeadLines.{AreCounts, counts_back, counts_text, events_back, events_text, versions_back, versions_text}
 use Rattle.report_text.proofs.FateLines.{fate_back, fate_told}
 use Rattle.report_text.proofs.PartLines.{AreBelow, count_back, order_back, order_told, part_told}
@@ -31,7 +28,6 @@ use Rattle.report_text.proofs.Declared.{AreKnown, IsKnown, next_is}
 use Rattle.report_text.proofs.Keys.{above_inside, key_above, key_fits, key_with, less_of, size}
 use Rattle.report_text.proofs.Sound.{CanOrder, HasRoom, Stands, last_more, last_of}
 use Rattle.report_text.proofs.Complete.{both_true, truth}
-use Rattle.report_text.proofs.Steps.{step_goes}
 
 -- there are lines that end it
 pub record IsLive (declared : List ObjectDecl) (s : State) : Type 0 where

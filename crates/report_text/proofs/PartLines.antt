@@ -1,20 +1,16 @@
 -- The order line and the lines of parts, printed and read.
-use Rattle.std.proofs.Common.{◌≡◌, ℕ, zero, suc, ◌+◌, ◌-◌, ◌^◌, ◌≤◌, ◌<◌, Bool, true, false, ◌&&◌, cond, eqb, ltb, List, [], ◌∷◌, ◌++◌, length, Option, Some, None, refl, sym, ap, ◌∙◌, subst, arith, append_assoc}
+use Rattle.std.proofs.Common.{◌≡◌, ℕ, zero, suc, ◌^◌, ◌≤◌, ◌<◌, Bool, true, false, cond, ltb, List, [], ◌∷◌, ◌++◌, length, Some, None, refl, sym, ap, ◌∙◌, subst, arith, append_assoc}
 use Rattle.std.specs.Prelude.{codes}
 use Rattle.std.specs.Fmt.{decimal}
 use Rattle.std.specs.Str.{bytes_eq}
-use Rattle.std.specs.List.{AllByRecursion, list_all}
-use Rattle.std.proofs.lemmas.Bool.{and_parts}
+use Rattle.std.specs.List.{AllByRecursion}
 use Rattle.std.proofs.lemmas.List.{append-nil}
 use Rattle.std.proofs.lemmas.Bool.Decides.{nat_tests}
 use Rattle.gal_io.specs.Number.{spaced_numbers}
-use Rattle.state_store.specs.declared.object.Row.{Row}
-use Rattle.state_store.specs.Kept.{have_widths}
-use Rattle.run_text.specs.Report.{key_text, order_text}
+use Rattle.run_text.specs.Report.{order_text}
 use Rattle.run_text.specs.Trace.{largest}
-use Rattle.report_text.specs.Form.{are_widths}
-use Rattle.report_text.specs.Parse.{◌>>=◌, after, all_numbers, below, count_of, key_number, keys_at, labelled, most_of, number_at, number_below, numbers_at, order_at, order_of, row_of, values_at, whole}
-use Rattle.report_text.proofs.Pieces.{after_back, after_is, are_same, bound, is_cut, labelled_back, labelled_is, number_at_back, number_at_is, some_is, whole_is}
+use Rattle.report_text.specs.Parse.{after, all_numbers, below, count_of, labelled, number_below, numbers_at, order_at, order_of, whole}
+use Rattle.report_text.proofs.Pieces.{after_back, after_is, are_same, bound, is_cut, labelled_back, labelled_is, some_is, whole_is}
 
 spaced_cut : (ns : List ℕ) → is_cut (spaced_numbers ns) ≡ true
 spaced_cut [] = refl

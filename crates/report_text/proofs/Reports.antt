@@ -1,6 +1,6 @@
 -- Which texts are reports, and where another goes wrong.
-use Rattle.std.proofs.Common.{◌≡◌, ℕ, zero, suc, ◌+◌, ◌*◌, ◌-◌, ◌^◌, ◌≤◌, ◌<◌, inl, inr, Bool, true, false, not, ◌&&◌, cond, eqb, leb, ltb, List, [], ◌∷◌, ◌++◌, length, take, drop, map, Option, Some, None, refl, sym, ap, ◌∙◌, subst, arith, append_assoc}
-use Rattle.std.specs.Prelude.{IsTrue, codes, slice_get}
+use Rattle.std.proofs.Common.{◌≡◌, ℕ, zero, suc, ◌+◌, ◌^◌, ◌≤◌, ◌<◌, inl, inr, Bool, true, false, cond, ltb, List, [], ◌∷◌, ◌++◌, length, take, drop, map, Option, Some, None, refl, sym, ap, ◌∙◌, subst, arith, append_assoc}
+use Rattle.std.specs.Prelude.{codes}
 use Rattle.std.specs.List.{AllByRecursion}
 use Rattle.std.proofs.lemmas.Bool.{and_parts, cases_lt}
 use Rattle.std.proofs.lemmas.List.{append-nil, take-append-drop}
@@ -13,7 +13,6 @@ use Rattle.state_store.specs.Kept.{have_widths}
 use Rattle.run_model.specs.declared.fate.Fate.{Fate}
 use Rattle.run_model.specs.declared.run.Part.{Part}
 use Rattle.run_model.specs.declared.run.Run.{Run}
-use Rattle.run_text.specs.Printed.{lined}
 use Rattle.run_text.specs.Report.{name_in, report_of}
 use Rattle.report_text.specs.declared.head.Counts.{Counts}
 use Rattle.report_text.specs.declared.stage.Stage.{Stage}
@@ -24,14 +23,13 @@ use Rattle.report_text.specs.declared.error.RunTextError.TheVariants.{Line}
 use Rattle.report_text.specs.Parse.{◌>>=◌}
 use Rattle.report_text.specs.Machine.{State, at_start, ended, ended_by, line_read, resume, run_of, step, taken}
 use Rattle.report_text.proofs.Pieces.{bound, some_is}
-use Rattle.report_text.proofs.FateLines.{fate_told}
 use Rattle.report_text.proofs.PartLines.{order_told, part_told}
 use Rattle.report_text.proofs.RowLines.{is_width, row_told, width_small}
 use Rattle.report_text.proofs.Told.{counts_in, drained_text, events_in, fates_told, head_told, name_of, parts_told, report_both, report_told, versions_in}
 use Rattle.report_text.proofs.Plain.{IsTold, all_told, counts_plain, events_plain, fate_plain, lines_lined, object_plain, order_plain, row_plain, switch_plain, told_both, versions_plain}
 use Rattle.report_text.proofs.Walked.{resumed_both, walked, walked_both}
 use Rattle.report_text.proofs.Declared.{AreKnown, IsKnown}
-use Rattle.report_text.proofs.Sound.{Goes, Stands, numbers_of, told}
+use Rattle.report_text.proofs.Sound.{Goes, Stands, told}
 use Rattle.report_text.proofs.Steps.{step_goes}
 use Rattle.report_text.proofs.Complete.{all_read, truth}
 use Rattle.report_text.proofs.Live.{all_live}

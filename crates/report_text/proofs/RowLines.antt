@@ -1,8 +1,7 @@
 -- The lines of rows, printed and read.
-use Rattle.std.proofs.Common.{◌≡◌, ℕ, zero, suc, ◌+◌, ◌-◌, ◌^◌, ◌≤◌, ◌<◌, ◌⊎◌, inl, inr, Bool, true, false, ◌&&◌, cond, ltb, leb, List, [], ◌∷◌, ◌++◌, length, Option, Some, None, refl, sym, ap, ◌∙◌, subst, arith, append_assoc}
+use Rattle.std.proofs.Common.{◌≡◌, ℕ, ◌+◌, ◌^◌, ◌≤◌, ◌<◌, inl, inr, Bool, true, ◌&&◌, ltb, leb, List, [], ◌∷◌, ◌++◌, Some, refl, sym, ap, ◌∙◌, subst, arith, append_assoc}
 use Rattle.std.specs.Prelude.{codes}
 use Rattle.std.specs.Fmt.{decimal}
-use Rattle.std.specs.List.{list_all}
 use Rattle.std.proofs.lemmas.Bool.{and_parts, cases_lt}
 use Rattle.std.proofs.lemmas.List.{append-nil}
 use Rattle.std.proofs.lemmas.Nat.{pow_pos}
@@ -13,7 +12,7 @@ use Rattle.state_store.specs.declared.object.Row.{Row}
 use Rattle.state_store.specs.Kept.{have_widths}
 use Rattle.run_text.specs.Report.{key_text}
 use Rattle.report_text.specs.Form.{are_widths}
-use Rattle.report_text.specs.Parse.{◌>>=◌, after, key_number, keys_at, labelled, most_of, number_at, row_of, values_at, whole}
+use Rattle.report_text.specs.Parse.{after, key_number, keys_at, labelled, most_of, number_at, row_of, values_at}
 use Rattle.report_text.proofs.Pieces.{after_back, after_is, bound, is_cut, labelled_back, labelled_is, number_at_back, number_at_is, some_is, whole_is}
 
 -- ---- widths

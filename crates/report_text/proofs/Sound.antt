@@ -1,41 +1,30 @@
 -- What was read is in the form, and prints as the lines that were read.
-use Rattle.std.proofs.Common.{◌≡◌, ℕ, zero, suc, ◌+◌, ◌*◌, ◌-◌, ◌^◌, ◌≤◌, ◌<◌, ◌⊎◌, inl, inr, Bool, true, false, not, ◌&&◌, ◌||◌, cond, eqb, leb, ltb, List, [], ◌∷◌, ◌++◌, length, take, drop, map, Option, Some, None, refl, sym, ap, ◌∙◌, subst, arith, append_assoc, length-append}
-use Rattle.std.specs.Prelude.{IsTrue, codes, slice_get, slice_index}
-use Rattle.std.specs.Str.{bytes_eq}
-use Rattle.std.specs.List.{AllByRecursion, list_all}
+use Rattle.std.proofs.Common.{◌≡◌, ℕ, zero, suc, ◌+◌, ◌-◌, ◌^◌, ◌≤◌, ◌<◌, true, false, eqb, leb, List, [], ◌∷◌, ◌++◌, length, drop, map, Option, Some, None, refl, sym, ap, ◌∙◌, arith, append_assoc, length-append}
+use Rattle.std.specs.Prelude.{codes, slice_get}
+use Rattle.std.specs.List.{AllByRecursion}
 use Rattle.std.specs.Ordering.{is_lt}
 use Rattle.std.specs.declared.cmp.Ordering.{Ordering}
 use Rattle.std.specs.declared.cmp.Ordering.TheVariants.{Less, Equal, Greater}
-use Rattle.std.proofs.lemmas.Bool.{and_parts}
 use Rattle.std.proofs.lemmas.List.{append-nil}
 use Rattle.std.proofs.lemmas.Bool.Decides.{nat_tests}
 use Rattle.state_store.specs.declared.object.ObjectDecl.{ObjectDecl}
 use Rattle.state_store.specs.declared.object.Row.{Row}
 use Rattle.state_store.specs.Kinds.{is_table}
-use Rattle.state_store.specs.Kept.{have_widths}
 use Rattle.state_store.specs.Store.{key_cmp}
 use Rattle.run_model.specs.declared.fate.Fate.{Fate}
 use Rattle.run_model.specs.declared.run.Part.{Part}
-use Rattle.run_model.specs.declared.run.Run.{Run}
-use Rattle.run_text.specs.Report.{name_in}
-use Rattle.run_text.specs.Trace.{largest}
 use Rattle.report_text.specs.declared.head.Counts.{Counts}
-use Rattle.report_text.specs.declared.head.EventCounts.{EventCounts}
-use Rattle.report_text.specs.declared.head.Versions.{Versions}
 use Rattle.report_text.specs.declared.stage.Side.{Side}
 use Rattle.report_text.specs.declared.stage.Side.TheVariants.{OnServer, OnSwitch}
 use Rattle.report_text.specs.declared.stage.Stage.{Stage}
 use Rattle.report_text.specs.declared.stage.Stage.TheVariants.{Title, Packets, Events, Version, Drained, Fates, Server, Switch, Table, Ended}
-use Rattle.report_text.specs.Form.{AreInOrder, AreRising, InForm, IsBelow, IsFate, IsPart, IsRowOf, IsSmall, are_widths, kept_from}
-use Rattle.report_text.specs.Parse.{◌>>=◌, counts_of, events_of, versions_of, fate_of, order_of, row_of, count_of}
-use Rattle.report_text.specs.Machine.{State, at_start, closed_by, count_by, counts_read, drained_read, ended, events_read, fate_read, has_keys, is_after, is_behind, keys_above, next_from, order_read, packet_read, part_opened, row_put, row_read, run_of, server_by, server_opened, server_read, shown_from, shown_opened, step, step_at, switch_read, then_put, title_read, versions_read, with_left}
-use Rattle.report_text.proofs.Pieces.{are_same, bound, some_is}
-use Rattle.report_text.proofs.HeadLines.{AreCounts, AreEvents, AreVersions, counts_is, counts_text, events_is, events_text, versions_is, versions_text}
-use Rattle.report_text.proofs.FateLines.{fate_is, fate_told}
-use Rattle.report_text.proofs.PartLines.{AreBelow, count_is, order_is, order_told, part_told}
-use Rattle.report_text.proofs.RowLines.{row_is, row_told}
-use Rattle.report_text.proofs.Told.{drained_text, fates_told, head_told, name_of, parts_told, report_told}
-use Rattle.report_text.proofs.Declared.{AreKnown, IsKnown, IsNext, next_is, next_none, drop_got, drop_next}
+use Rattle.report_text.specs.Form.{AreInOrder, AreRising, IsFate, IsPart, IsRowOf, kept_from}
+use Rattle.report_text.specs.Machine.{State, closed_by, has_keys, is_after, is_behind, keys_above, with_left}
+use Rattle.report_text.proofs.HeadLines.{AreCounts, AreEvents, AreVersions, counts_text, events_text, versions_text}
+use Rattle.report_text.proofs.FateLines.{fate_told}
+use Rattle.report_text.proofs.PartLines.{AreBelow, order_told, part_told}
+use Rattle.report_text.proofs.RowLines.{row_told}
+use Rattle.report_text.proofs.Told.{fates_told, head_told, name_of, parts_told}
 
 -- ---- one more at the end
 

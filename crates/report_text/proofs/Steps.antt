@@ -1,17 +1,14 @@
 -- One line more keeps what holds of what was read.
-use Rattle.std.proofs.Common.{◌≡◌, ℕ, zero, suc, ◌+◌, ◌*◌, ◌-◌, ◌^◌, ◌≤◌, ◌<◌, Bool, true, false, not, ◌&&◌, ◌||◌, cond, eqb, leb, ltb, List, [], ◌∷◌, ◌++◌, length, take, drop, map, Option, Some, None, refl, sym, ap, ◌∙◌, subst, arith, append_assoc, length-append}
-use Rattle.std.specs.Prelude.{IsTrue, codes, slice_get, slice_index}
+use Rattle.std.proofs.Common.{◌≡◌, ℕ, zero, suc, ◌+◌, ◌≤◌, ◌<◌, Bool, true, false, ◌&&◌, ◌||◌, cond, eqb, leb, ltb, List, [], ◌∷◌, ◌++◌, length, drop, map, Option, Some, None, refl, sym, ap, ◌∙◌, subst, arith, append_assoc, length-append}
+use Rattle.std.specs.Prelude.{IsTrue, codes, slice_get}
 use Rattle.std.specs.Str.{bytes_eq}
-use Rattle.std.specs.List.{AllByRecursion, list_all}
+use Rattle.std.specs.List.{AllByRecursion}
 use Rattle.std.proofs.lemmas.Bool.{and_parts, leb-true}
 use Rattle.std.proofs.lemmas.List.{append-nil}
 use Rattle.std.proofs.lemmas.Bool.Decides.{nat_tests}
 use Rattle.state_store.specs.declared.object.ObjectDecl.{ObjectDecl}
 use Rattle.state_store.specs.declared.object.Row.{Row}
 use Rattle.state_store.specs.Kinds.{is_table}
-use Rattle.run_model.specs.declared.fate.Fate.{Fate}
-use Rattle.run_model.specs.declared.run.Part.{Part}
-use Rattle.run_model.specs.declared.run.Run.{Run}
 use Rattle.run_text.specs.Report.{name_in}
 use Rattle.run_text.specs.Trace.{largest}
 use Rattle.report_text.specs.declared.head.Counts.{Counts}
@@ -21,17 +18,17 @@ use Rattle.report_text.specs.declared.stage.Side.{Side}
 use Rattle.report_text.specs.declared.stage.Side.TheVariants.{OnServer, OnSwitch}
 use Rattle.report_text.specs.declared.stage.Stage.{Stage}
 use Rattle.report_text.specs.declared.stage.Stage.TheVariants.{Title, Packets, Events, Version, Drained, Fates, Server, Switch, Table, Ended}
-use Rattle.report_text.specs.Form.{AreInOrder, AreRising, InForm, IsFate, IsPart, IsRowOf, kept_from}
-use Rattle.report_text.specs.Parse.{◌>>=◌, counts_of, events_of, versions_of, fate_of, order_of, row_of, count_of}
-use Rattle.report_text.specs.Machine.{State, at_start, count_by, counts_read, drained_read, ended, events_read, fate_read, has_keys, is_after, keys_above, next_from, order_read, packet_read, part_opened, row_put, row_read, run_of, server_by, server_opened, server_read, shown_from, shown_opened, step, step_at, switch_read, then_put, title_read, versions_read, with_left}
+use Rattle.report_text.specs.Form.{AreRising, IsFate, IsPart, IsRowOf, kept_from}
+use Rattle.report_text.specs.Parse.{counts_of, events_of, versions_of, fate_of, order_of, row_of, count_of}
+use Rattle.report_text.specs.Machine.{State, counts_read, events_read, fate_read, has_keys, is_after, keys_above, next_from, order_read, part_opened, row_put, row_read, server_by, server_opened, shown_from, shown_opened, step_at, switch_read, then_put, title_read, versions_read, with_left}
 use Rattle.report_text.proofs.Pieces.{are_same, chosen, some_is}
-use Rattle.report_text.proofs.HeadLines.{AreCounts, AreEvents, AreVersions, counts_is, counts_text, events_is, events_text, versions_is, versions_text}
+use Rattle.report_text.proofs.HeadLines.{AreEvents, counts_is, counts_text, events_is, events_text, versions_is, versions_text}
 use Rattle.report_text.proofs.FateLines.{fate_is, fate_told}
-use Rattle.report_text.proofs.PartLines.{AreBelow, count_is, order_is, order_told, part_told}
+use Rattle.report_text.proofs.PartLines.{count_is, order_is, part_told}
 use Rattle.report_text.proofs.RowLines.{row_is, row_told}
-use Rattle.report_text.proofs.Told.{drained_text, fates_told, head_told, name_of, parts_told, report_told}
-use Rattle.report_text.proofs.Declared.{AreKnown, IsKnown, IsNext, next_is, next_none, shown_is}
-use Rattle.report_text.proofs.Sound.{AreWithin, Before, CanOrder, Goes, HasRoom, IsFresh, IsHead, IsLeft, IsNew, IsOrdered, IsPartly, IsRead, Stands, all_more, base, fates_more, front, front_on, in_order, keys_suc, last_more, last_of, left_read, numbers_of, rising_more, rows_more, told, with_part, within_later, word_of}
+use Rattle.report_text.proofs.Told.{drained_text, fates_told, head_told, name_of, parts_told}
+use Rattle.report_text.proofs.Declared.{AreKnown, IsNext, next_is, next_none, shown_is}
+use Rattle.report_text.proofs.Sound.{AreWithin, Before, CanOrder, Goes, HasRoom, IsFresh, IsHead, IsLeft, IsOrdered, IsPartly, IsRead, Stands, all_more, base, fates_more, front, front_on, in_order, keys_suc, last_more, last_of, left_read, numbers_of, rising_more, rows_more, told, with_part, within_later, word_of}
 
 fresh : (s : State) (c : Counts) (e : EventCounts) (v : Versions) (d : Bool) (st : Stage) → IsFresh s → IsFresh (record s { counts = c; events = e; versions = v; drained = d; stage = st })
 fresh s c e v d st f = record { fates = f.fates; server = f.server; switch = f.switch; rows = f.rows }

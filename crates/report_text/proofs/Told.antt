@@ -1,18 +1,7 @@
 -- The lines of a printed report.
-use Rattle.std.proofs.Common.{◌≡◌, ℕ, zero, suc, ◌+◌, ◌-◌, ◌^◌, ◌≤◌, ◌<◌, Bool, true, false, not, ◌&&◌, cond, eqb, leb, ltb, List, [], ◌∷◌, ◌++◌, length, take, map, get_or, Option, Some, None, refl, sym, ap, ◌∙◌, subst, arith, append_assoc, inl, inr}
-use Rattle.std.specs.Prelude.{codes, slice_get, slice_index, ◌/◌, ◌%◌}
+use Rattle.std.proofs.Common.{◌≡◌, ℕ, suc, Bool, true, false, List, [], ◌∷◌, ◌++◌, length, map, refl, sym, ap, ◌∙◌, append_assoc}
+use Rattle.std.specs.Prelude.{codes, slice_get}
 use Rattle.std.specs.Fmt.{decimal}
-use Rattle.std.specs.Str.{all_ascii_digits}
-use Rattle.std.specs.List.{AllByRecursion, list_all, onto_first}
-use Rattle.std.proofs.lemmas.Bool.{and_parts, cases_lt, le-leb, leb-true}
-use Rattle.std.proofs.lemmas.Bool.Decides.{nat_tests}
-use Rattle.std.proofs.lemmas.Option.{none-some}
-use Rattle.std.proofs.lemmas.Fmt.{decimal_nonempty}
-use Rattle.hex.specs.Hex.{IsBytes, encode_lower, encode_with, hex_digit_value, lower_digits}
-use Rattle.hex.proofs.HexLemmas.{IsDigits-lower_digits}
-use Rattle.gal_io.specs.Lines.{fed_lines, lines, without_return, is_skipped}
-use Rattle.gal_io.specs.Number.{spaced_numbers}
-use Rattle.packet_fields.specs.declared.verdict.Verdict.{Verdict}
 use Rattle.packet_fields.specs.declared.verdict.Verdict.TheVariants.{Drop, Send}
 use Rattle.state_store.specs.declared.object.ObjectDecl.{ObjectDecl}
 use Rattle.state_store.specs.declared.object.Row.{Row}
@@ -21,12 +10,12 @@ use Rattle.run_model.specs.declared.fate.Fate.TheVariants.{Pass, Up, Held, Slow,
 use Rattle.run_model.specs.declared.run.Part.{Part}
 use Rattle.run_model.specs.declared.run.Run.{Run}
 use Rattle.run_text.specs.Printed.{lined}
-use Rattle.run_text.specs.Report.{body_text, drained_line, events_line, fate_line, fate_lines, fate_text, key_text, line_end, name_in, order_line, order_text, packets_line, part_line, part_lines, report_of, row_line, row_lines, tables_text, version_line}
+use Rattle.run_text.specs.Report.{drained_line, events_line, fate_line, fate_lines, fate_text, line_end, name_in, order_line, packets_line, part_lines, report_of, row_lines, tables_text, version_line}
 use Rattle.report_text.specs.declared.head.Counts.{Counts}
 use Rattle.report_text.specs.declared.head.EventCounts.{EventCounts}
 use Rattle.report_text.specs.declared.head.Versions.{Versions}
 use Rattle.report_text.proofs.HeadLines.{counts_text, events_text, versions_text}
-use Rattle.report_text.proofs.FateLines.{fate_told, path_with, released_with, stamps_of, stamps_with, verdict_with}
+use Rattle.report_text.proofs.FateLines.{fate_told, path_with}
 use Rattle.report_text.proofs.PartLines.{order_told, part_told}
 use Rattle.report_text.proofs.RowLines.{row_told}
 

@@ -1,10 +1,9 @@
 -- What lines tell, one after the other.
-use Rattle.std.proofs.Common.{◌≡◌, List, [], ◌∷◌, ◌++◌, Option, Some, None, refl, sym, ap, ◌∙◌}
+use Rattle.std.proofs.Common.{◌≡◌, List, [], ◌∷◌, ◌++◌, Option, Some, None, refl}
 use Rattle.state_store.specs.declared.object.ObjectDecl.{ObjectDecl}
-use Rattle.run_model.specs.declared.run.Run.{Run}
 use Rattle.std.specs.Prelude.{ℕ}
 use Rattle.report_text.specs.Parse.{◌>>=◌}
-use Rattle.report_text.specs.Machine.{State, ended, resume, step}
+use Rattle.report_text.specs.Machine.{State, resume, step}
 
 -- what is known behind these lines
 abbrev pub walked : List ObjectDecl → State → List (List ℕ) → Option State

@@ -1,4 +1,4 @@
-use Rattle.std.proofs.Common.{◌≡◌, suc, ◌+◌, Some, None, true, false, ◌∷◌, [], drop, sym, ap, ◌∙◌, inr, arith}
+use Rattle.std.proofs.Common.{◌≡◌, suc, ◌+◌, Some, None, true, false, ◌∷◌, drop, sym, ap, ◌∙◌, inr, arith}
 use Rattle.std.proofs.lemmas.Bool.Decides.{nat_tests}
 use Rattle.gal_io.specs.Lines.{lines}
 use Rattle.report_text.specs.Machine.{ended, line_read}
