@@ -27,7 +27,8 @@ use Rattle.switch_ir.specs.Port.{PortState, IsCommandOf, IsUpdateOf}
 use Rattle.replay_state.specs.Journal.{Call, journal}
 use Rattle.replay_state.specs.State.{State}
 use Rattle.replay_state.specs.Step.{applies}
-use Rattle.replay_contracts.specs.Given.{Given, IsReady, code_for, setup_for, whole}
+use Rattle.split_answers.specs.Whole.{IsSplit}
+use Rattle.replay_contracts.specs.Given.{Given, code_for, setup_for, whole}
 use Rattle.replay_contracts.specs.Replayer.{stepped_by}
 use Rattle.replay_contracts.specs.declared.job.Stepped.TheVariants.{Did}
 use Rattle.replay_course.specs.Fates as fates_of
@@ -178,14 +179,14 @@ count_within (suc n) test = let h = count_within n test in by_test (test n) h
     by_test false h = omega arith
 
 -- a program within bounds has few writes
-few_writes : (x : Given) → IsReady x → (whole x).writes ≤ 4096
-few_writes x ready =
+pub few_writes : (x : Given) → IsSplit x.program x.split x.writeback → (whole x).writes ≤ 4096
+few_writes x is =
     let h = count_within (length x.program.code) (λ i. is_followed x.program x.split (step_at x.program i).work) in
-    enough _ _ _ h ready.split.bounded.few
+    enough _ _ _ h is.bounded.few
 
 pub few_updates : (x : Given) (c : Course) (port : PortState) (frame : List ℕ) (s : Served) (server : Runtime) → IsGoing x c port
     → IsServed (server_of c.server) frame s (server_of server) → length s.updates ≤ 4096
-few_updates x c port frame s server going is = enough _ _ _ (served_by x c server frame s going.sound is).few (few_writes x going.plain.ready)
+few_updates x c port frame s server going is = enough _ _ _ (served_by x c server frame s going.sound is).few (few_writes x going.plain.ready.split)
 
 -- the frame is one of those that went up
 pub framed_up : (x : Given) (c : Course) (port : PortState) (j n : ℕ) (frame : List ℕ) → IsGoing x c port

@@ -1,4 +1,5 @@
 pub mod Fates
 pub mod Going
 pub mod Shown
+pub mod Telling
 pub mod UnderWay

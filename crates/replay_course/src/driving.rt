@@ -4,7 +4,7 @@ ghost use Rattle.replay_state.specs.Drain.{next_event};
 ghost use Rattle.replay_state.specs.Journal.{Call};
 ghost use Rattle.replay_state.specs.State.{State};
 ghost use Rattle.replay_contracts.specs.Given.{Given, setup_for, whole};
-ghost use Rattle.replay_contracts.specs.Replayer.{CountsFault, given_of};
+ghost use Rattle.replay_contracts.specs.Replayer.{Fails, given_of};
 ghost use Rattle.replay_course.specs.Going.{IsPlain, IsSound};
 ghost use Rattle.replay_course.specs.Shown.{IsShown};
 ghost use Rattle.replay_course.specs.UnderWay.{HasGone, IsDrained, IsOnItsWay, IsUnderWay, course_left, picked_by};
@@ -63,7 +63,7 @@ impl Course {
         requires started { IsUnderWay (given_of job.now) [] self.old (S.seen port.old) }
         ensures gone { OnOk result
             (HasGone (given_of job.now) job.now.events self.new (S.seen port.old) (S.seen port.new)) }
-        ensures fault { IfErr result (λ e. CountsFault e (S.seen port.old) (S.seen port.new)) }
+        ensures fails { IfErr result (λ e. Fails e (S.seen port.old) (S.seen port.new)) }
     {
         a_replay_goes_on();
         the_next_command_finds_room();
@@ -85,7 +85,9 @@ impl Course {
         requires few { self.old.events + course_left (given_of job.now) self.old < 2 ^ 32 - 1 }
         ensures drained { IfOk result (λ count.
             IsDrained (given_of job.now) count self.old (S.seen port.old) self.new (S.seen port.new)) }
-        ensures fault { IfErr result (λ e. CountsFault e (S.seen port.old) (S.seen port.new)) }
+        ensures left { IfOk result (λ count.
+            count + course_left (given_of job.now) self.new ≤ course_left (given_of job.now) self.old) }
+        ensures fails { IfErr result (λ e. Fails e (S.seen port.old) (S.seen port.new)) }
     {
         a_replay_goes_on();
         a_drain_goes_on();

@@ -1,9 +1,12 @@
 //! What becomes of packets, by number.
-ghost use Rattle.std.specs.Prelude.{◌≡◌, slice_get, slice_set, Some};
+ghost use Rattle.std.specs.Prelude.{◌≡◌, ◌<◌, ◌^◌, count_by, length, slice_get, slice_set, IfOk, Some};
+ghost use Rattle.run_model.specs.Fate.{is_decided, is_released};
 ghost use Rattle.replay_course.specs.Fates.{decided, released};
 
+use gal_io::NoMemory;
 use packet_fields::Verdict;
-use run_model::Fate;
+use run_model::{Fate, Fates};
+use std::alloc::Global;
 use std::mem;
 
 /// The packet of this number is decided at an event, with this version.
@@ -60,4 +63,86 @@ fn release(fate: &mut Fate, event: u32, verdict: Verdict)
         },
         other => other,
     };
+}
+
+pub(crate) fn count_decided(fates: &[Fate]) -> u32
+    requires { length fates.now < 2 ^ 32 }
+    ensures { result ≡ count_by is_decided fates.now }
+{
+    fates.iter().filter(|fate| fate.is_decided()).count() as u32
+}
+
+pub(crate) fn count_released(fates: &[Fate]) -> u32
+    requires { length fates.now < 2 ^ 32 }
+    ensures { result ≡ count_by is_released fates.now }
+{
+    fates.iter().filter(|fate| fate.is_released()).count() as u32
+}
+
+/// The same fates again, in memory of their own.
+pub(crate) fn copy_fates(alloc: Global, fates: &[Fate]) -> Result<Fates, NoMemory>
+    ensures { IfOk result (λ made. made ≡ fates.now) }
+{
+    let mut copies = Vec::new(alloc);
+    for fate in fates {
+        copies.push(copy_fate(alloc, fate)?)?;
+    }
+    Ok(Fates::from(copies))
+}
+
+fn copy_fate(alloc: Global, fate: &Fate) -> Result<Fate, NoMemory>
+    ensures { IfOk result (λ made. made ≡ fate.now) }
+{
+    Ok(match fate {
+        Fate::Pass { admitted } => Fate::Pass {
+            admitted: *admitted,
+        },
+        Fate::Up { admitted } => Fate::Up {
+            admitted: *admitted,
+        },
+        Fate::Held {
+            admitted,
+            decided,
+            version,
+        } => Fate::Held {
+            admitted: *admitted,
+            decided: *decided,
+            version: *version,
+        },
+        Fate::Slow {
+            admitted,
+            decided,
+            version,
+            released,
+            verdict,
+        } => Fate::Slow {
+            admitted: *admitted,
+            decided: *decided,
+            version: *version,
+            released: *released,
+            verdict: copy_verdict(alloc, verdict)?,
+        },
+        Fate::Fast {
+            admitted,
+            decided,
+            version,
+            released,
+            verdict,
+        } => Fate::Fast {
+            admitted: *admitted,
+            decided: *decided,
+            version: *version,
+            released: *released,
+            verdict: copy_verdict(alloc, verdict)?,
+        },
+    })
+}
+
+fn copy_verdict(alloc: Global, verdict: &Verdict) -> Result<Verdict, NoMemory>
+    ensures { IfOk result (λ made. made ≡ verdict.now) }
+{
+    Ok(match verdict {
+        Verdict::Drop => Verdict::Drop,
+        Verdict::Send(port, bytes) => Verdict::Send(*port, bytes.copy(alloc)?),
+    })
 }

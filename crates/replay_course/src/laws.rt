@@ -1,20 +1,27 @@
-//! What the laws of the crates below come to for a course. This function does nothing: its contract is the law.
-ghost use Rattle.std.specs.Prelude.{List};
+//! What the laws of the crates below come to for a course. These functions do nothing: their contracts are the laws.
+ghost use Rattle.std.specs.Prelude.{◌≤◌, ◌<◌, ◌*◌, ◌^◌, List, length};
+ghost use Rattle.run_model.specs.Sizes.{most_packets};
 ghost use Rattle.run_model.specs.declared.event.Event.{Event};
+ghost use Rattle.replay_state.specs.Drain.{drain_bound};
 ghost use Rattle.replay_state.specs.Journal.{Call};
 ghost use Rattle.replay_state.specs.State.{State};
 ghost use Rattle.switch_ir.specs.Port.{PortState};
-ghost use Rattle.replay_contracts.specs.Given.{Given, whole};
+ghost use Rattle.split_answers.specs.Whole.{IsSplit};
+ghost use Rattle.replay_contracts.specs.declared.job.Stepped.{Stepped};
+ghost use Rattle.replay_contracts.specs.Given.{Given, setup_for, whole};
 ghost use Rattle.replay_contracts.specs.Replay.{IsReplay};
 ghost use Rattle.replay_course.specs.declared.course.Course.{Course};
-ghost use Rattle.replay_course.specs.Going.{HasRoomNext, IsGoing};
+ghost use Rattle.replay_course.specs.Going.{HasRoomNext, HasTurned, IsGoing, IsPlain, most_commands};
 ghost use Rattle.replay_course.specs.Shown.{IsShown};
+ghost use Rattle.replay_course.specs.UnderWay.{course_left};
 
-use replay_state::{lookups_see_one_version, whole_runs_are_sound};
+use replay_state::{
+    a_run_is_answered_by_its_calls, drain_ends, lookups_see_one_version, whole_runs_are_sound,
+};
 use split_answers::{a_told_command_finds_room, split_programs_have_their_laws};
 
 /// Where the port tells its tables, the next command finds room in them.
-pub(crate) fn the_next_command_finds_room()
+pub fn the_next_command_finds_room()
     ensures { (x : Given) (events : List Event) (calls : List Call) (st : State) (c : Course) (port : PortState)
         → IsReplay x events calls st port → IsShown (whole x) calls st c → IsGoing x c port → HasRoomNext c port }
 {
@@ -22,4 +29,24 @@ pub(crate) fn the_next_command_finds_room()
     whole_runs_are_sound();
     lookups_see_one_version();
     a_told_command_finds_room();
+}
+
+/// A trace of at most so many packets brings few commands, and few events end its run. An event leaves no more of
+/// these than there were before it.
+pub fn few_events_are_left()
+    ensures commands { (x : Given) → IsSplit x.program x.split x.writeback → length x.packets ≤ most_packets
+        → length x.packets * most_commands x < 2 ^ 32 }
+    ensures bound { (x : Given) → IsPlain x → length x.packets ≤ most_packets → drain_bound (setup_for x) < 2 ^ 30 }
+    ensures left { (x : Given) (events : List Event) (calls : List Call) (st : State) (c : Course) (port : PortState)
+        → IsReplay x events calls st port → IsShown (whole x) calls st c → IsGoing x c port
+        → course_left x c ≤ drain_bound (setup_for x) }
+    ensures stays { (x : Given) (events : List Event) (event : Event) (stepped : Stepped) (calls : List Call)
+        (st : State) (c after : Course) (old new : PortState)
+        → IsReplay x events calls st old → IsShown (whole x) calls st c → IsGoing x c old
+        → HasTurned x event stepped c old after new → course_left x after ≤ course_left x c }
+{
+    a_run_is_answered_by_its_calls();
+    drain_ends();
+    split_programs_have_their_laws();
+    whole_runs_are_sound();
 }

@@ -6,8 +6,10 @@ mod driving;
 mod fates;
 mod laws;
 mod passes;
+mod report;
 mod serving;
 mod start;
 mod step;
 
 pub use course::Course;
+pub use laws::{few_events_are_left, the_next_command_finds_room};

@@ -2,7 +2,7 @@
 ghost use Rattle.std.specs.Prelude.{◌≡◌, ◌<◌, ◌-◌, ◌^◌, IfErr, IfOk};
 ghost use Rattle.run_model.specs.declared.event.Event.TheVariants as event;
 ghost use Rattle.switch_ir.specs.Port.{IsDownFrame, IsLoaded, PassesDown};
-ghost use Rattle.replay_contracts.specs.Replayer.{CountsFault, given_of};
+ghost use Rattle.replay_contracts.specs.Replayer.{Fails, given_of};
 ghost use Rattle.replay_course.specs.Going.{HasRoomNext, HasTurned, IsGoing};
 
 use crate::course::Course;
@@ -24,7 +24,7 @@ fn pass_down<S: SwitchPort>(
     requires frame { IsDownFrame (S.seen port.old) frame.now }
     ensures passes { IfOk result (λ verdict.
         PassesDown (DownEnd.Verdict verdict) frame.now (S.seen port.old) (S.seen port.new)) }
-    ensures fault { IfErr result (λ e. CountsFault e (S.seen port.old) (S.seen port.new)) }
+    ensures fails { IfErr result (λ e. Fails e (S.seen port.old) (S.seen port.new)) }
 {
     match port.pass_down(alloc, frame.as_slice()) {
         DownEnd::Verdict(verdict) => Ok(verdict),
@@ -45,7 +45,7 @@ impl Course {
         requires events { self.old.events < 2 ^ 32 - 1 }
         ensures turned { IfOk result (λ stepped.
             HasTurned (given_of job.now) event.Admit stepped self.old (S.seen port.old) self.new (S.seen port.new)) }
-        ensures fault { IfErr result (λ e. CountsFault e (S.seen port.old) (S.seen port.new)) }
+        ensures fails { IfErr result (λ e. Fails e (S.seen port.old) (S.seen port.new)) }
     {
         a_run_is_answered_by_its_calls();
         packets_are_where_they_are_told();
@@ -69,7 +69,7 @@ impl Course {
         requires room { HasRoomNext self.old (S.seen port.old) }
         ensures turned { IfOk result (λ stepped.
             HasTurned (given_of job.now) event.Apply stepped self.old (S.seen port.old) self.new (S.seen port.new)) }
-        ensures fault { IfErr result (λ e. CountsFault e (S.seen port.old) (S.seen port.new)) }
+        ensures fails { IfErr result (λ e. Fails e (S.seen port.old) (S.seen port.new)) }
     {
         let Some(command) = self.next_command() else {
             return Ok(Stepped::Idle);
@@ -93,7 +93,7 @@ impl Course {
         ensures turned { IfOk result (λ stepped.
             HasTurned (given_of job.now) (event.Down j) stepped self.old (S.seen port.old) self.new
             (S.seen port.new)) }
-        ensures fault { IfErr result (λ e. CountsFault e (S.seen port.old) (S.seen port.new)) }
+        ensures fails { IfErr result (λ e. Fails e (S.seen port.old) (S.seen port.new)) }
     {
         a_run_is_answered_by_its_calls();
         packets_are_where_they_are_told();

@@ -7,7 +7,7 @@ ghost use Rattle.output_commit.specs.Commit.{batch_of};
 ghost use Rattle.server_runtime.specs.Serving.{IsServed};
 ghost use Rattle.server_runtime.specs.Views.{server_of};
 ghost use Rattle.switch_ir.specs.Port.{IsLoaded};
-ghost use Rattle.replay_contracts.specs.Replayer.{CountsFault, given_of};
+ghost use Rattle.replay_contracts.specs.Replayer.{Fails, given_of};
 ghost use Rattle.replay_course.specs.Going.{HasTurned, IsGoing, MadeRoom};
 
 use crate::course::Course;
@@ -47,7 +47,7 @@ fn reserve<S: SwitchPort>(
     requires spare { length commit.now.commands - commit.now.done ≤ (S.seen port.old).spare }
     ensures room { OnOk result (MadeRoom (length commit.now.commands - commit.now.done + length (batch_of updates.now))
         (S.seen port.old) (S.seen port.new)) }
-    ensures fault { IfErr result (λ e. CountsFault e (S.seen port.old) (S.seen port.new)) }
+    ensures fails { IfErr result (λ e. Fails e (S.seen port.old) (S.seen port.new)) }
 {
     if updates.is_empty() {
         return Ok(());
@@ -74,7 +74,7 @@ impl Course {
         ensures turned { IfOk result (λ stepped.
             HasTurned (given_of job.now) (event.Serve j) stepped self.old (S.seen port.old) self.new
             (S.seen port.new)) }
-        ensures fault { IfErr result (λ e. CountsFault e (S.seen port.old) (S.seen port.new)) }
+        ensures fails { IfErr result (λ e. Fails e (S.seen port.old) (S.seen port.new)) }
     {
         packets_are_where_they_are_told();
         replicated_objects_are_declared();

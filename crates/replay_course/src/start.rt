@@ -1,5 +1,5 @@
 //! The start of a replay.
-ghost use Rattle.std.specs.Prelude.{◌≡◌, ◌≤◌, ◌<◌, ◌*◌, ◌^◌, [], length, IfErr, IfOk, OnOk};
+ghost use Rattle.std.specs.Prelude.{◌≡◌, ◌≤◌, ◌<◌, ◌*◌, ◌^◌, [], length, is_some, IfErr, IfOk, OnOk};
 ghost use Rattle.std.specs.List.{AllByRecursion as Each};
 ghost use Rattle.packet_fields.specs.Sizes.{AreShort, largest_packet};
 ghost use Rattle.flat_ir.specs.Arrivals.{IsArrival};
@@ -9,7 +9,7 @@ ghost use Rattle.switch_ir.specs.Emitted.{IsEmitted};
 ghost use Rattle.split_model.specs.Bounds.{HasFewStages};
 ghost use Rattle.switch_ir.specs.Port.{Loads};
 ghost use Rattle.split_answers.specs.Whole.{IsSplit};
-ghost use Rattle.replay_contracts.specs.Replayer.{CountsFault, given_of};
+ghost use Rattle.replay_contracts.specs.Replayer.{CountsFault, Fails, given_of};
 ghost use Rattle.replay_course.specs.Going.{most_commands};
 ghost use Rattle.replay_course.specs.UnderWay.{HasGone};
 
@@ -41,7 +41,7 @@ fn all_arrive(packets: &[Packet])
 fn load<S: SwitchPort>(alloc: Global, port: &mut S, code: &SwitchCode) -> Result<(), ReplayError>
     requires { IsEmitted (code_of code.now) }
     ensures loads { OnOk result (Loads PortEnd.Done (code_of code.now) (S.seen port.old) (S.seen port.new)) }
-    ensures fault { IfErr result (λ e. CountsFault e (S.seen port.old) (S.seen port.new)) }
+    ensures fails { IfErr result (λ e. Fails e (S.seen port.old) (S.seen port.new)) }
 {
     match port.load(alloc, code) {
         PortEnd::Done => Ok(()),
@@ -63,6 +63,7 @@ impl Course {
         requires few { length job.now.packets * most_commands (given_of job.now) < 2 ^ 32 }
         ensures started { IfOk result (λ course.
             HasGone (given_of job.now) [] course (S.seen port.old) (S.seen port.new)) }
+        ensures stays { is_some (S.seen port.new).told ≡ is_some (S.seen port.old).told }
         ensures fault { IfErr result (λ e. CountsFault e (S.seen port.old) (S.seen port.new)) }
     {
         a_replay_begins();

@@ -1,6 +1,6 @@
 //! One event.
 ghost use Rattle.std.specs.Prelude.{◌≡◌, ◌<◌, ◌-◌, ◌^◌, IfErr, IfOk};
-ghost use Rattle.replay_contracts.specs.Replayer.{CountsFault, given_of};
+ghost use Rattle.replay_contracts.specs.Replayer.{Fails, given_of};
 ghost use Rattle.replay_course.specs.Going.{HasRoomNext, HasTurned, IsGoing};
 
 use crate::course::Course;
@@ -23,7 +23,7 @@ impl Course {
         requires room { HasRoomNext self.old (S.seen port.old) }
         ensures turned { IfOk result (λ stepped.
             HasTurned (given_of job.now) event stepped self.old (S.seen port.old) self.new (S.seen port.new)) }
-        ensures fault { IfErr result (λ e. CountsFault e (S.seen port.old) (S.seen port.new)) }
+        ensures fails { IfErr result (λ e. Fails e (S.seen port.old) (S.seen port.new)) }
     {
         match event {
             Event::Admit => self.admit(alloc, job, port),

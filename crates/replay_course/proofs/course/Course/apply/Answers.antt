@@ -3,6 +3,7 @@ use Rattle.std.specs.Prelude.{IfSome}
 use Rattle.switch_ir.specs.Port.{IsCommandOf}
 use Rattle.replay_course.proofs.Calling.{commanded}
 use Rattle.replay_course.proofs.Turning.{apply_turned, next_named, no_command_turned}
+use Rattle.replay_course.proofs.Failing.{fails_command}
 use Rattle.replay_course.proofs.course.Course.apply.Goals as goal
 
 pub command-requires-clause-named : goal.command-requires-clause-named
@@ -21,3 +22,6 @@ returns-in-Done-clause-turned g c =
     apply_turned _ c.args.self.now _ _ _ c.in-Some.command c.requires.going
     (commanded _ c.in-Some.command _ _ (next_named _ c.args.self.now c.in-Some.command c.requires.going.sound some.next) c.in-Done.ensures)
     c.in-Done.ensures.spare (some.sound _ c.requires.going.sound) (some.unapplied _ c.requires.going.sound) some.counted some.stepped some.asked some.shown
+
+pub returns-in-Failed-clause-fails : goal.returns-in-Failed-clause-fails
+returns-in-Failed-clause-fails g c = fails_command c.in-Some.command _ _ c.in-Failed.ensures

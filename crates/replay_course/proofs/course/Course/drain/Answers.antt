@@ -2,6 +2,8 @@ use Rattle.std.proofs.Common.{◌≡◌, ◌<◌, ◌≤◌, ◌+◌, Some, sym,
 use Rattle.replay_contracts.specs.Replayer.{given_of}
 use Rattle.replay_course.specs.UnderWay.{course_left}
 use Rattle.replay_course.proofs.Draining.{drain_room, drains_more, few_drained, has_drained, left_falls, none_drained}
+use Rattle.std.proofs.lemmas.Result.{err_from_is_err_and}
+use Rattle.replay_course.proofs.Failing.{fails_behind, goes_draining}
 use Rattle.replay_course.proofs.course.Course.drain.Goals as goal
 
 pub loop-event-init : goal.loop-event-init
@@ -33,3 +35,9 @@ loop-event-preserved g c =
           c.loop-event.invariant.0 c.in-Some.ensures c.in_ok-step.ensures.turned,
       omega (arith, falls, left),
     )
+
+pub returns-in_err-step-clause-fails : goal.returns-in_err-step-clause-fails
+returns-in_err-step-clause-fails g c =
+    let p = err_from_is_err_and c.from_residual.result c.from_residual.ensures.1 in
+    rw (p.1, p.2) (fails_behind _ _ _ _
+    (goes_draining _ c.loop-event.count c.args.self.now c.loop-event.self _ _ c.requires.on_its_way c.loop-event.invariant.0) c.in_err-step.ensures.fails)

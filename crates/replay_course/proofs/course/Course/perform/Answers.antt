@@ -4,6 +4,8 @@ use Rattle.replay_contracts.specs.Replayer.{given_of}
 use Rattle.replay_course.specs.UnderWay.{HasGone}
 use Rattle.replay_course.proofs.Lists.{take_next}
 use Rattle.replay_course.proofs.Going.{few_events, gone_on, not_gone, room_by}
+use Rattle.std.proofs.lemmas.Result.{err_from_is_err_and}
+use Rattle.replay_course.proofs.Failing.{fails_behind, goes_gone}
 use Rattle.replay_course.proofs.course.Course.perform.Goals as goal
 
 pub step-requires-clause-room : goal.step-requires-clause-room
@@ -16,3 +18,9 @@ loop-event-preserved g c =
     subst (λ es. HasGone (given_of c.args.job.now) es c.step.new.self (g.S.SwitchPort.seen c.args.port.now) (g.S.SwitchPort.seen c.step.new.port))
     (sym (take_next items i _ (slice_get-get_or items i _ c.loop-event-test.true)))
     (gone_on c.a_replay_goes_on.ensures _ (take i items) _ _ c.loop-event.self c.step.new.self _ _ _ c.loop-event.invariant c.in_ok-step.ensures.turned)
+
+pub returns-in_err-step-clause-fails : goal.returns-in_err-step-clause-fails
+returns-in_err-step-clause-fails g c =
+    let p = err_from_is_err_and c.from_residual.result c.from_residual.ensures.1 in
+    rw (p.1, p.2) (fails_behind _ _ _ _
+    (goes_gone _ _ c.args.self.now c.loop-event.self _ _ c.requires.started c.loop-event.invariant) c.in_err-step.ensures.fails)

@@ -1,0 +1,170 @@
+-- What an error leaves of a port.
+use Rattle.std.proofs.Common.{◌≡◌, ℕ, Bool, true, false, List, [], ◌∷◌, ◌++◌, Some, refl, sym, ap, subst, ◌∙◌, arith, map}
+use Rattle.std.specs.Prelude.{is_some}
+use Rattle.std.specs.List.{filter}
+use Rattle.std.proofs.lemmas.List.{append_assoc, append-nil}
+use Rattle.std.proofs.lemmas.List.Elements.{filter-append}
+use Rattle.gal_io.specs.Count.{IsCountedIf, count_after}
+use Rattle.writeback_table.specs.declared.command.Command.{Command}
+use Rattle.run_model.specs.declared.event.Event.{Event}
+use Rattle.switch_ir.specs.Code.{Code}
+use Rattle.switch_ir.specs.Port.{PortState, Commands, Keeps, Loads, MakesRoom, PassesDown, PassesUp, ShowsRows}
+use Rattle.switch_ir.specs.Port.{down_entry, down_failed, has_failed, rows_entry, rows_failed, up_entry, up_failed}
+use Rattle.switch_ir.specs.declared.journal.Entry.{Entry}
+use Rattle.switch_ir.specs.declared.journal.Entry.TheVariants as entry
+use Rattle.switch_ir.specs.declared.port.CommandEnd.TheVariants as command
+use Rattle.switch_ir.specs.declared.port.DownEnd.{DownEnd}
+use Rattle.switch_ir.specs.declared.port.PortEnd.{PortEnd}
+use Rattle.switch_ir.specs.declared.port.PortEnd.TheVariants as port
+use Rattle.switch_ir.specs.declared.port.RowsEnd.{RowsEnd}
+use Rattle.switch_ir.specs.declared.port.UpEnd.{UpEnd}
+use Rattle.replay_state.specs.Journal.{Call, question_of}
+use Rattle.replay_contracts.specs.Called.{HasCalls, KeepsCalls, WasCalled, calls_in, entries_of, is_of_replay, journal_of}
+use Rattle.replay_contracts.specs.Given.{Given, code_for}
+use Rattle.replay_contracts.specs.Replayer.{CountsFault, Fails, StaysTold, is_port_fault}
+use Rattle.replay_contracts.specs.declared.job.ReplayError.{ReplayError}
+use Rattle.replay_contracts.specs.declared.job.ReplayError.TheVariants as errors
+use Rattle.replay_course.specs.declared.course.Course.{Course}
+use Rattle.replay_course.specs.UnderWay.{HasGone, IsDraining, IsOnItsWay, IsUnderWay}
+use Rattle.replay_course.proofs.Calling.{called_stays, kept_stays}
+
+pub keeps_more : (old mid new : PortState) → KeepsCalls old mid → KeepsCalls mid new → KeepsCalls old new
+keeps_more old mid new one two = record {
+  code = two.code ∙ one.code;
+  told = two.told ∙ one.told;
+  journal = two.journal ∙ one.journal;
+  spare = let a = one.spare in let b = two.spare in omega arith;
+  faults = two.faults ∙ one.faults;
+}
+
+-- ## Calls that didn't fail
+
+-- the port kept its code and may have been called more, and no call of it failed
+pub record GoesOn (old new : PortState) : Type 0 where
+  pub code : new.code ≡ old.code
+  pub journal : (more : List Entry) × (calls_in new.journal ≡ calls_in old.journal ++ more)
+  pub stays : StaysTold old new
+
+pub goes_kept : (old new : PortState) → KeepsCalls old new → GoesOn old new
+goes_kept old new kept = record {
+  code = kept.code;
+  journal = ([], kept.journal ∙ sym (append-nil (calls_in old.journal)));
+  stays = kept_stays old new kept;
+}
+
+pub goes_called : (code : Code) (calls : List Call) (old new : PortState) → WasCalled code calls old new → GoesOn old new
+goes_called code calls old new called = record {
+  code = called.loaded;
+  journal = (journal_of calls, called.journal);
+  stays = called_stays code calls old new called;
+}
+
+journal_more : (calls more : List Call) → journal_of (calls ++ more) ≡ journal_of calls ++ journal_of more
+journal_more [] more = refl
+journal_more (call ∷ calls) more =
+    ap (λ l. entries_of call ++ l) (journal_more calls more) ∙ sym (append_assoc (entries_of call) (journal_of calls) (journal_of more))
+
+-- so it is from the calls of one moment to those of a later one
+pub goes_by : (code : Code) (calls more : List Call) (old new : PortState) → HasCalls code calls old → HasCalls code (calls ++ more) new
+    → StaysTold old new → GoesOn old new
+goes_by code calls more old new before after stays = record {
+  code = after.loaded ∙ sym before.loaded;
+  journal = (
+    journal_of more,
+    after.journal ∙ ap (λ l. entry.Load ∷ l) (journal_more calls more) ∙ ap (λ l. l ++ journal_of more) (sym before.journal),
+  );
+  stays = stays;
+}
+
+no_calls : (calls : List Call) → map question_of calls ≡ [] → calls ≡ []
+no_calls [] e = refl
+no_calls (call ∷ calls) e = cc
+
+pub goes_gone : (x : Given) (events : List Event) (c after : Course) (first port : PortState) → IsUnderWay x [] c first
+    → HasGone x events after first port → GoesOn first port
+goes_gone x events c after first port start gone =
+    goes_by (code_for x) [] gone.under_way.calls first port
+    (subst (λ cs. HasCalls (code_for x) cs first) (no_calls start.calls start.replay.answered.asked) start.replay.called)
+    gone.under_way.replay.called gone.stays
+
+pub goes_draining : (x : Given) (count : ℕ) (c mid : Course) (first port : PortState) → IsOnItsWay x c first
+    → IsDraining x count c first mid port → GoesOn first port
+goes_draining x count c mid first port way draining =
+    let before = way.under_way in
+    let on = draining.turns way.events before.calls before.st before.replay before.shown in
+    goes_by (code_for x) before.calls on.others first port before.replay.called on.picked.replay.called draining.stays
+
+-- ## Errors
+
+-- there was no memory behind them
+pub fails_there : (old new : PortState) → GoesOn old new → Fails errors.NoMemory old new
+fails_there old new goes = record {
+  code = goes.code;
+  told = goes.stays.told;
+  journal = goes.journal;
+  fault = goes.stays.faults;
+}
+
+pub fails_behind : (e : ReplayError) (first old new : PortState) → GoesOn first old → Fails e old new → Fails e first new
+fails_behind e first old new goes fails = record {
+  code = fails.code ∙ goes.code;
+  told = fails.told ∙ goes.stays.told;
+  journal = (
+    goes.journal.0 ++ fails.journal.0,
+    fails.journal.1 ∙ ap (λ l. l ++ fails.journal.0) goes.journal.1 ∙ append_assoc (calls_in first.journal) goes.journal.0 fails.journal.0,
+  );
+  fault = fails.fault ∙ ap (count_after (is_port_fault e)) goes.stays.faults;
+}
+
+-- a call that keeps code and tables, and adds these entries
+fails_by : (e : ReplayError) (failed : Bool) (entries : List Entry) (old new : PortState) → is_port_fault e ≡ failed → Keeps old new
+    → new.journal ≡ old.journal ++ entries → IsCountedIf failed old.faults new.faults → Fails e old new
+fails_by e failed entries old new same kept journal counted = record {
+  code = kept.code;
+  told = ap is_some kept.told;
+  journal = (calls_in entries, ap calls_in journal ∙ filter-append is_of_replay old.journal entries);
+  fault = subst (λ b. IsCountedIf b old.faults new.faults) (sym same) counted;
+}
+
+pub fails_up : (e : ReplayError) (end : UpEnd) (number arrival : ℕ) (packet : List ℕ) (old new : PortState) → is_port_fault e ≡ up_failed end
+    → PassesUp end number arrival packet old new → Fails e old new
+fails_up e end number arrival packet old new same passes =
+    fails_by e (up_failed end) (up_entry number arrival packet end) old new same passes.kept passes.journal passes.faults
+
+pub fails_down : (e : ReplayError) (end : DownEnd) (frame : List ℕ) (old new : PortState) → is_port_fault e ≡ down_failed end
+    → PassesDown end frame old new → Fails e old new
+fails_down e end frame old new same passes =
+    fails_by e (down_failed end) (down_entry frame end) old new same passes.kept passes.journal passes.faults
+
+pub fails_rows : (e : ReplayError) (end : RowsEnd) (o : ℕ) (old new : PortState) → is_port_fault e ≡ rows_failed end
+    → ShowsRows end o old new → Fails e old new
+fails_rows e end o old new same shows = fails_by e (rows_failed end) (rows_entry o end) old new same shows.kept shows.journal shows.faults
+
+-- one that made no entry
+fails_still : (e : ReplayError) (failed : Bool) (old new : PortState) → is_port_fault e ≡ failed → Keeps old new → new.journal ≡ old.journal
+    → IsCountedIf failed old.faults new.faults → Fails e old new
+fails_still e failed old new same kept journal counted =
+    fails_by e failed [] old new same kept (journal ∙ sym (append-nil old.journal)) counted
+
+pub fails_room : (commands : ℕ) (old new : PortState) → MakesRoom port.Failed commands old new → Fails errors.PortFault old new
+fails_room commands old new room = fails_still errors.PortFault true old new refl room.kept room.room room.faults
+
+pub no_room : (commands : ℕ) (old new : PortState) → MakesRoom port.NoMemory commands old new → Fails errors.NoMemory old new
+no_room commands old new room = fails_still errors.NoMemory false old new refl room.kept room.room room.faults
+
+pub fails_load : (code : Code) (old new : PortState) → Loads port.Failed code old new → Fails errors.PortFault old new
+fails_load code old new loads = fails_still errors.PortFault true old new refl loads.state.kept loads.state.journal loads.faults
+
+pub no_load : (code : Code) (old new : PortState) → Loads port.NoMemory code old new → Fails errors.NoMemory old new
+no_load code old new loads = fails_still errors.NoMemory false old new refl loads.state.kept loads.state.journal loads.faults
+
+pub fails_command : (c : Command) (old new : PortState) → Commands command.Failed c old new → Fails errors.PortFault old new
+fails_command c old new commands = record {
+  code = commands.code;
+  told = ap is_some commands.told;
+  journal = (
+    entry.Command c command.Failed ∷ [],
+    ap calls_in commands.journal ∙ filter-append is_of_replay old.journal (entry.Command c command.Failed ∷ []),
+  );
+  fault = commands.faults;
+}

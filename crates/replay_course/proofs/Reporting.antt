@@ -1,0 +1,88 @@
+-- What is told of a course is what is told of the state that it shows.
+use Rattle.std.proofs.Common.{◌≡◌, ◌<◌, ◌≤◌, ◌*◌, ◌^◌, ℕ, Bool, true, false, List, Some, refl, sym, ap, subst, ◌∙◌, arith, length, map, take, eqb}
+use Rattle.std.proofs.Math.Nat.{mul-le-mul}
+use Rattle.std.specs.Prelude.{◌&&◌, count_by}
+use Rattle.writeback_table.specs.Commands.{ons}
+use Rattle.run_model.specs.Fate.{is_decided, is_released}
+use Rattle.run_model.specs.Order.{order_of}
+use Rattle.run_model.specs.Parts.{parts_of}
+use Rattle.run_model.specs.declared.run.Part.{Part}
+use Rattle.run_model.specs.declared.run.Run.{Run}
+use Rattle.switch_ir.specs.Port.{PortState}
+use Rattle.output_commit.specs.Commit.{visible as seen_by}
+use Rattle.replay_state.specs.Drain.{is_drained}
+use Rattle.replay_state.specs.Journal.{Call}
+use Rattle.replay_state.specs.Run.{run_of}
+use Rattle.replay_state.specs.State.{State, Pass, fate_of, seen}
+use Rattle.replay_contracts.specs.Given.{Given, setup_for, whole}
+use Rattle.replay_contracts.specs.Promise.{Reports}
+use Rattle.replay_course.specs.declared.course.Course.{Course}
+use Rattle.replay_course.specs.Shown.{IsShown}
+use Rattle.replay_course.specs.Going.{IsGoing, IsPlain, IsSound}
+use Rattle.replay_course.specs.Telling.{ShowsParts, is_done, told_run}
+use Rattle.replay_course.proofs.Lists.{length_map}
+use Rattle.replay_course.proofs.Versions.{versions_by}
+
+map_length : {X Y : Type 0} (f : X → Y) (xs : List X) (ys : List Y) → map f xs ≡ ys → length xs ≡ length ys
+map_length f xs ys e = sym (length_map f xs) ∙ ap length e
+
+module _ (x : Given) (calls : List Call) (st : State) (c : Course) (h : IsShown (whole x) calls st c) where
+  done_is : is_done (length x.packets) c ≡ is_drained (setup_for x) st
+  done_is =
+      let up = map_length _ c.up.items st.up h.up in
+      let held = map_length _ c.commit.held st.held h.held in
+      let down = map_length _ c.down.items st.down h.down in
+      let fates : length c.fates.items ≡ length st.progress = ap length h.fates ∙ length_map fate_of st.progress in
+      (λ i. eqb (fates i) (length x.packets) && (eqb (up i) 0 && (eqb (held i) 0 && (eqb (down i) 0 && eqb (h.acked i) (length (h.commands i))))))
+      ∙ grouped (eqb (length st.progress) (length x.packets)) (eqb (length st.passes) 0) (eqb (length st.up) 0) (eqb (length st.held) 0) (eqb (length st.down) 0) _
+      (ap (λ (l : List Pass). eqb (length l) 0) h.passes)
+    where
+      grouped : (n p u k d a : Bool) → p ≡ true → (n && (u && (k && (d && a)))) ≡ (n && ((((p && u) && k) && d) && a))
+      grouped n true true true true a e = refl
+      grouped n true true true false a e = refl
+      grouped n true true false d a e = refl
+      grouped n true false k d a e = refl
+      grouped n false u k d a e = cc
+
+  pub tells_run : (parts : List Part) → told_run x c parts ≡ record (run_of (setup_for x) st) { switch = parts }
+  tells_run parts =
+      let vis : seen_by c.commit ≡ seen st = (λ i. ons (take (h.done i) (h.commands i))) ∙ sym (versions_by st.batches h.versions st.done) in
+      λ i. record {
+        total = length x.packets;
+        decided = count_by is_decided (h.fates i);
+        released = count_by is_released (h.fates i);
+        events = h.events i;
+        idle = h.idle i;
+        version = h.version i;
+        visible = vis i;
+        drained = done_is i;
+        fates = h.fates i;
+        order = order_of (h.fates i);
+        objects = parts_of x.program.objects (h.store i);
+        switch = parts;
+      }
+
+pub reported : (x : Given) (calls : List Call) (st : State) (c : Course) (old new : PortState) (parts : List Part) (run : Run) (commands : ℕ) → IsShown (whole x) calls st c
+    → ShowsParts x old new parts → run ≡ told_run x c parts → commands ≡ length c.commit.commands → Reports x st old new run commands
+reported x calls st c old new parts run commands h shows is count =
+    let same : run.switch ≡ parts = ap (λ (r : Run). r.switch) is in
+    record {
+      is = is ∙ tells_run x calls st c h parts ∙ ap (λ (l : List Part). with_parts l) (sym same);
+      count = count ∙ ap length h.commands;
+      kept = shows.kept;
+      rows = λ told told_is. same ∙ shows.rows told told_is;
+    }
+  where
+    with_parts : List Part → Run
+    with_parts l = record (run_of (setup_for x) st) { switch = l }
+
+-- ## Packets and fates are few
+
+less_by : (n k : ℕ) → n * k < 2 ^ 32 → 2 ≤ k → n < 2 ^ 32
+less_by n k few two = let same : n ≤ n = omega arith in let twice = mul-le-mul same two in omega arith
+
+pub few_packets : (x : Given) → IsPlain x → length x.packets < 2 ^ 32
+few_packets x plain = less_by _ _ plain.few (omega arith)
+
+pub few_fates : (x : Given) (c : Course) → IsPlain x → IsSound x c → length c.fates.items < 2 ^ 32
+few_fates x c plain sound = let few = few_packets x plain in let within = sound.within.admitted in omega arith

@@ -1,0 +1,122 @@
+//! What is reported of a replay.
+ghost use Rattle.std.specs.Prelude.{◌≡◌, ◌<◌, ◌^◌, List, Some, length, IfErr, IfOk};
+ghost use Rattle.flat_ir.specs.Program.{program_of};
+ghost use Rattle.switch_ir.specs.Port.{HasReplicated, IsLoaded, ShowsRows};
+ghost use Rattle.split_answers.specs.Whole.{IsSplit};
+ghost use Rattle.replay_state.specs.Journal.{Call};
+ghost use Rattle.replay_state.specs.State.{State};
+ghost use Rattle.replay_contracts.specs.Given.{code_for, whole};
+ghost use Rattle.replay_contracts.specs.Promise.{Reports};
+ghost use Rattle.replay_contracts.specs.Replayer.{Fails, given_of};
+ghost use Rattle.replay_course.specs.Going.{IsGoing};
+ghost use Rattle.replay_course.specs.Shown.{IsShown};
+ghost use Rattle.replay_course.specs.Telling.{ShowsParts, is_done, told_run};
+
+use crate::course::Course;
+use crate::fates::{copy_fates, count_decided, count_released};
+use gal_io::NoMemory;
+use replay_contracts::{Job, ReplayError, Replayed};
+use run_model::{Part, Parts, Run, order};
+use split_answers::replicated_objects_are_declared;
+use split_model::replicated;
+use state_store::Rows;
+use std::alloc::Global;
+use switch_ir::{RowsEnd, SwitchPort};
+
+// The rows of an object that lookups on the switch see.
+fn visible_rows<S: SwitchPort>(
+    alloc: Global,
+    port: &mut S,
+    object: u32,
+) -> Result<Rows, ReplayError>
+    requires loaded { IsLoaded (S.seen port.old) }
+    requires replicated { HasReplicated (S.seen port.old) object }
+    ensures shows { IfOk result (λ rows. ShowsRows (RowsEnd.Rows rows) object (S.seen port.old) (S.seen port.new)) }
+    ensures fails { IfErr result (λ e. Fails e (S.seen port.old) (S.seen port.new)) }
+{
+    match port.visible(alloc, object) {
+        RowsEnd::Rows(rows) => Ok(rows),
+        RowsEnd::Failed => Err(ReplayError::PortFault),
+        RowsEnd::NoMemory => Err(ReplayError::NoMemory),
+    }
+}
+
+// The rows of each replicated object that lookups on the switch see.
+fn switch_parts<S: SwitchPort>(alloc: Global, job: &Job, port: &mut S) -> Result<Parts, ReplayError>
+    requires split { IsSplit (program_of job.now.flat) job.now.split job.now.writeback }
+    requires code { (S.seen port.old).code ≡ Some (code_for (given_of job.now)) }
+    ensures shows { IfOk result (λ parts. ShowsParts (given_of job.now) (S.seen port.old) (S.seen port.new) parts) }
+    ensures fails { IfErr result (λ e. Fails e (S.seen port.old) (S.seen port.new)) }
+{
+    replicated_objects_are_declared();
+    let mut parts = Vec::new(alloc);
+    for number in 0..job.flat.objects.as_slice().len() {
+        let object = number as u32;
+        if replicated(&job.flat, &job.split, object) {
+            let rows = visible_rows(alloc, port, object)?;
+            parts.push(Part { object, rows })?;
+        }
+    }
+    Ok(Parts::from(parts))
+}
+
+impl Course {
+    // Whether every packet of a trace of so many was admitted, nothing is on its way, and every command is
+    // acknowledged.
+    fn is_drained(&self, packets: usize) -> bool
+        ensures { result ≡ is_done packets self.now }
+    {
+        self.fates.len() == packets
+            && self.up.is_empty()
+            && self.commit.held() == 0
+            && self.down.is_empty()
+            && self.commit.acked() == self.commit.commands()
+    }
+
+    // The run so far, with these rows of the switch.
+    fn run(&self, alloc: Global, job: &Job, switch: Parts) -> Result<Run, NoMemory>
+        requires split { IsSplit (program_of job.now.flat) job.now.split job.now.writeback }
+        requires few_packets { length job.now.packets < 2 ^ 32 }
+        requires few { length self.now.fates.items < 2 ^ 32 }
+        ensures { IfOk result (λ run. run ≡ told_run (given_of job.now) self.now switch) }
+    {
+        let objects = Parts::of(alloc, job.flat.objects.as_slice(), self.server.store())?;
+        let fates = copy_fates(alloc, &self.fates)?;
+        let packets = job.packets.len();
+        Ok(Run {
+            total: packets as u32,
+            decided: count_decided(fates.as_slice()),
+            released: count_released(fates.as_slice()),
+            events: self.events,
+            idle: self.idle,
+            version: self.server.version(),
+            visible: self.commit.visible(),
+            drained: self.is_drained(packets),
+            order: order(alloc, &fates)?,
+            fates,
+            objects,
+            switch,
+        })
+    }
+
+    /// What is reported of the events so far, with the rows that lookups on the switch see.
+    pub fn report<S: SwitchPort>(
+        &self,
+        alloc: Global,
+        job: &Job,
+        port: &mut S,
+    ) -> Result<Replayed, ReplayError>
+        requires going { IsGoing (given_of job.now) self.now (S.seen port.old) }
+        ensures reports { IfOk result (λ replayed. (calls : List Call) (st : State)
+            → IsShown (whole (given_of job.now)) calls st self.now
+            → Reports (given_of job.now) st (S.seen port.old) (S.seen port.new) replayed.run replayed.commands) }
+        ensures fails { IfErr result (λ e. Fails e (S.seen port.old) (S.seen port.new)) }
+    {
+        let switch = switch_parts(alloc, job, port)?;
+        let run = self.run(alloc, job, switch)?;
+        Ok(Replayed {
+            run,
+            commands: self.commit.commands(),
+        })
+    }
+}

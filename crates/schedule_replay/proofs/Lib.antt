@@ -1,0 +1,2 @@
+mod Concluding
+mod Playing

@@ -1,0 +1,356 @@
+-- A replayer goes on.
+use Rattle.std.proofs.Common.{◌≡◌, ◌<◌, ◌≤◌, ◌+◌, ◌-◌, ◌^◌, ℕ, Bool, false, List, [], ◌∷◌, ◌++◌, Option, Some, None, refl, sym, ap, subst, ◌∙◌, arith, length, map}
+use Rattle.std.specs.Prelude.{is_some}
+use Rattle.std.proofs.lemmas.Option.{none-some}
+use Rattle.state_store.specs.Store.{start_store}
+use Rattle.run_model.specs.declared.event.Event.{Event}
+use Rattle.switch_ir.specs.Port.{PortState}
+use Rattle.switch_ir.specs.Tables.{Told}
+use Rattle.replay_state.specs.Drain.{drain_bound}
+use Rattle.replay_state.specs.Journal.{Call, asked, question_of}
+use Rattle.replay_state.specs.State.{State, first_state}
+use Rattle.replay_state.specs.Step.{step}
+use Rattle.replay_contracts.specs.Called.{KeepsCalls, WasCalled}
+use Rattle.replay_contracts.specs.Given.{Given, IsReady, code_for, setup_for, whole}
+use Rattle.replay_contracts.specs.Promise.{Promises}
+use Rattle.replay_contracts.specs.Replay.{HasDrained, HasPicked, IsReplay, answered}
+use Rattle.replay_contracts.specs.Replayer.{Fails, HasEmptied, HasFailed, HasReported, HasStepped, IsAlive, IsNew, StaysTold}
+use Rattle.replay_contracts.specs.declared.job.Replayed.{Replayed}
+use Rattle.replay_contracts.specs.declared.job.ReplayError.{ReplayError}
+use Rattle.replay_contracts.specs.declared.job.Stepped.{Stepped}
+use Rattle.replay_course.specs.declared.course.Course.{Course}
+use Rattle.replay_course.specs.Going.{HasRoomNext, HasTurned, IsGoing}
+use Rattle.replay_course.specs.Shown.{IsShown}
+use Rattle.replay_course.specs.UnderWay.{HasGone, IsDrained, IsOnItsWay, IsUnderWay, course_left}
+use Rattle.schedule_replay.specs.Replayer.{IsKept, IsPerforming, view_of}
+use Rattle.schedule_replay.proofs.Concluding.{BoundLaw, LeftLaw, PromiseLaw, ReportsOf, RunLaw, kept_replay}
+
+-- ## The laws that are used
+
+abbrev pub OnLaw : Type 0
+OnLaw = (x : Given) (events : List Event) (event : Event) (calls one : List Call) (st : State) (old new : PortState)
+    → IsReady x → IsReplay x events calls st old
+    → map question_of one ≡ asked (setup_for x) (whole x) x.packets (calls ++ one) st event
+    → WasCalled (code_for x) one old new
+    → IsReplay x (events ++ event ∷ []) (calls ++ one) (step (setup_for x) (answered x (calls ++ one)) st event) new
+
+abbrev pub OneLaw : Type 0
+OneLaw = (x : Given) (events : List Event) (calls others : List Call) (st other : State) (port : PortState)
+    → IsReady x → x.manner.fine ≡ false → IsReplay x events calls st port → IsReplay x events others other port
+    → (calls ≡ others) × (st ≡ other)
+
+abbrev pub LessLaw : Type 0
+LessLaw = (x : Given) (events : List Event) (event : Event) (stepped : Stepped) (calls : List Call) (st : State)
+    (c after : Course) (old new : PortState) → IsReplay x events calls st old → IsShown (whole x) calls st c → IsGoing x c old
+    → HasTurned x event stepped c old after new → course_left x after ≤ course_left x c
+
+abbrev pub FindsRoom : Type 0
+FindsRoom = (x : Given) (events : List Event) (calls : List Call) (st : State) (c : Course) (port : PortState)
+    → IsReplay x events calls st port → IsShown (whole x) calls st c → IsGoing x c port → HasRoomNext c port
+
+-- ## Lists of events
+
+length_push : (events : List Event) (event : Event) → length (events ++ event ∷ []) ≡ length events + 1
+length_push [] event = refl
+length_push (e ∷ events) event = let h = length_push events event in omega arith
+
+length_join : (events more : List Event) → length (events ++ more) ≡ length events + length more
+length_join [] more = omega arith
+length_join (e ∷ events) more = let h = length_join events more in omega arith
+
+-- ## What the course shows
+
+-- of each replay of the same events over the port
+shown_at : OneLaw → (x : Given) (events : List Event) (c : Course) (port : PortState) (steps : ℕ) (calls : List Call) (st : State)
+    → IsPerforming x events c port steps → IsReplay x events calls st port → IsShown (whole x) calls st c
+shown_at one x events c port steps calls st now is =
+    let u = now.under_way in
+    let same = one x events u.calls calls u.st st port u.going.plain.ready (ap (λ m. m.fine) u.going.plain.manner) u.replay is in
+    subst (λ s. IsShown (whole x) calls s c) same.1 (subst (λ cs. IsShown (whole x) cs u.st c) same.0 u.shown)
+
+few_by : (events n left steps bound : ℕ) → events ≡ n → n + left ≤ steps + bound → steps ≤ 1048576 → bound < 2 ^ 30 → events + left < 2 ^ 32 - 1
+few_by events n left steps bound is within few small = omega arith
+
+pub few_left : BoundLaw → (x : Given) (c : Course) (port : PortState) (steps : ℕ) (failed : Option ReplayError) → IsKept x c port steps failed
+    → failed ≡ None → c.events + course_left x c < 2 ^ 32 - 1
+few_left bound x c port steps failed stands none =
+    let now = stands.performed none in
+    few_by c.events (length stands.events) (course_left x c) steps (drain_bound (setup_for x)) now.under_way.counted now.left stands.within
+    (bound x now.under_way.going.plain stands.few_packets)
+
+pub few_events : BoundLaw → (x : Given) (c : Course) (port : PortState) (steps : ℕ) (failed : Option ReplayError) → IsKept x c port steps failed
+    → failed ≡ None → c.events < 2 ^ 32 - 1
+few_events bound x c port steps failed stands none = let few = few_left bound x c port steps failed stands none in omega arith
+
+pub room_there : FindsRoom → (x : Given) (c : Course) (port : PortState) (steps : ℕ) (failed : Option ReplayError) → IsKept x c port steps failed
+    → failed ≡ None → HasRoomNext c port
+room_there law x c port steps failed stands none =
+    let u = (stands.performed none).under_way in
+    law x stands.events u.calls u.st c port u.replay u.shown u.going
+
+pub way_there : (x : Given) (c : Course) (port : PortState) (steps : ℕ) (failed : Option ReplayError) → IsKept x c port steps failed
+    → failed ≡ None → IsOnItsWay x c port
+way_there x c port steps failed stands none = record { events = stands.events; under_way = (stands.performed none).under_way }
+
+pub going_there : (x : Given) (c : Course) (port : PortState) (steps : ℕ) (failed : Option ReplayError) → IsKept x c port steps failed
+    → failed ≡ None → IsGoing x c port
+going_there x c port steps failed stands none = (stands.performed none).under_way.going
+
+few_of : (n left steps bound : ℕ) → n + left ≤ steps + bound → n ≤ steps + bound
+few_of n left steps bound h = omega arith
+
+-- so it stands
+pub stands_by : (x : Given) (events : List Event) (c : Course) (port : PortState) (steps : ℕ) (failed : Option ReplayError) → length x.packets ≤ 16384
+    → steps ≤ 1048576 → IsPerforming x events c port steps → IsKept x c port steps failed
+stands_by x events c port steps failed packets within now = record {
+  few_packets = packets;
+  within = within;
+  events = events;
+  alive = record {
+    ready = now.under_way.going.plain.ready;
+    few = few_of _ _ _ _ now.left;
+    replay = λ none. (now.under_way.calls, now.under_way.st, now.under_way.replay);
+  };
+  performed = λ none. now;
+}
+
+-- ## At the start
+
+no_calls : (calls : List Call) → map question_of calls ≡ [] → calls ≡ []
+no_calls [] e = refl
+no_calls (call ∷ calls) e = cc
+
+first_left : (left steps bound : ℕ) → left ≤ bound → 0 + left ≤ 0 + bound
+first_left left steps bound h = omega arith
+
+begun_performs : LeftLaw → (x : Given) (c : Course) (first port : PortState) → HasGone x [] c first port → IsPerforming x [] c port 0
+begun_performs left x c first port gone =
+    let u = gone.under_way in
+    record { under_way = u; left = first_left (course_left x c) 0 (drain_bound (setup_for x)) (left x [] u.calls u.st c port u.replay u.shown u.going) }
+
+begun_is_new : (x : Given) (c : Course) (first port : PortState) → HasGone x [] c first port → IsNew x first (view_of x [] 0 port None)
+begun_is_new x c first port gone =
+    let u = gone.under_way in
+    let calls : u.calls ≡ [] = no_calls u.calls u.replay.answered.asked in
+    record {
+      given = refl;
+      events = refl;
+      steps = refl;
+      failed = refl;
+      at = subst (λ s. IsReplay x [] [] s port) u.replay.answered.run (subst (λ cs. IsReplay x [] cs u.st port) calls u.replay);
+      stays = gone.stays;
+    }
+
+-- the job is a copy of the one that was given
+pub copy_is_new : (x y : Given) (c : Course) (first port : PortState) → y ≡ x → HasGone x [] c first port → IsNew x first (view_of y [] 0 port None)
+copy_is_new x y c first port same gone = subst (λ z. IsNew x first (view_of z [] 0 port None)) (sym same) (begun_is_new x c first port gone)
+
+pub copy_performs : LeftLaw → (x y : Given) (c : Course) (first port : PortState) → y ≡ x → HasGone x [] c first port → IsPerforming y [] c port 0
+copy_performs left x y c first port same gone = subst (λ z. IsPerforming z [] c port 0) (sym same) (begun_performs left x c first port gone)
+
+pub copy_stands : LeftLaw → (x y : Given) (c : Course) (first port : PortState) → y ≡ x → HasGone x [] c first port → length x.packets ≤ 16384
+    → IsKept y c port 0 None
+copy_stands left x y c first port same gone packets =
+    subst (λ z. IsKept z c port 0 None) (sym same) (stands_by x [] c port 0 None packets (omega arith) (begun_performs left x c first port gone))
+
+-- ## One event more
+
+stepped_left : (n n' left left' steps bound : ℕ) → n' ≡ n + 1 → left' ≤ left → n + left ≤ steps + bound → n' + left' ≤ steps + 1 + bound
+stepped_left n n' left left' steps bound one less h = omega arith
+
+pub step_performs : OnLaw → LessLaw → (x : Given) (events : List Event) (event : Event) (stepped : Stepped) (c after : Course) (old new : PortState) (steps : ℕ)
+    → HasTurned x event stepped c old after new → IsPerforming x events c old steps → IsPerforming x (events ++ event ∷ []) after new (steps + 1)
+step_performs law less x events event stepped c after old new steps turned now =
+    let u = now.under_way in
+    let t = turned.turns events u.calls u.st u.replay u.shown in
+    record {
+      under_way = record {
+        calls = u.calls ++ t.one;
+        st = step (setup_for x) (answered x (u.calls ++ t.one)) u.st event;
+        replay = law x events event u.calls t.one u.st old new u.going.plain.ready u.replay t.asks t.called;
+        shown = t.shown;
+        going = turned.going;
+        counted = turned.counted ∙ ap (λ n. n + 1) u.counted ∙ sym (length_push events event);
+      };
+      left = stepped_left _ _ (course_left x c) _ steps _ (length_push events event)
+          (less x events event stepped u.calls u.st c after old new u.replay u.shown u.going turned) now.left;
+    }
+
+pub has_stepped : OneLaw → OnLaw → (x : Given) (events : List Event) (event : Event) (stepped : Stepped) (c after : Course) (old new : PortState) (steps : ℕ)
+    (failed : Option ReplayError) → failed ≡ None → HasTurned x event stepped c old after new → IsPerforming x events c old steps
+    → HasStepped (view_of x events steps old failed) event stepped (view_of x (events ++ event ∷ []) (steps + 1) new failed)
+has_stepped one law x events event stepped c after old new steps failed none turned now = record {
+  given = refl;
+  events = refl;
+  steps = refl;
+  failed = none;
+  stays = turned.stays;
+  applied = λ calls st is. (turned.turns events calls st is (shown_at one x events c old steps calls st now is)).stepped_so;
+  next = λ calls st is.
+      let t = turned.turns events calls st is (shown_at one x events c old steps calls st now is) in
+      (t.one, law x events event calls t.one st old new now.under_way.going.plain.ready is t.asks t.called);
+}
+
+pub step_stands : OnLaw → LessLaw → (x : Given) (event : Event) (stepped : Stepped) (c after : Course) (old new : PortState) (steps : ℕ)
+    (failed : Option ReplayError) → failed ≡ None → steps < 1048576 → HasTurned x event stepped c old after new → IsKept x c old steps failed
+    → IsKept x after new (steps + 1) failed
+step_stands law less x event stepped c after old new steps failed none few turned stands =
+    stands_by x (stands.events ++ event ∷ []) after new (steps + 1) failed stands.few_packets (omega arith)
+    (step_performs law less x stands.events event stepped c after old new steps turned (stands.performed none))
+
+-- ## Drain
+
+drained_left : (n n' more count left left' steps bound : ℕ) → n' ≡ n + more → more ≡ count → count + left' ≤ left → n + left ≤ steps + bound
+    → n' + left' ≤ steps + bound
+drained_left n n' more count left left' steps bound is counted less h = omega arith
+
+counted_on : (a b n more count : ℕ) → b ≡ a + count → a ≡ n → more ≡ count → b ≡ n + more
+counted_on a b n more count is before counted = omega arith
+
+-- the events that drain picked, behind these
+abbrev pub drained_more : (x : Given) (events : List Event) (count : ℕ) (c after : Course) (old new : PortState) (steps : ℕ)
+    → IsDrained x count c old after new → IsPerforming x events c old steps → List Event
+drained_more x events count c after old new steps done now =
+    let u = now.under_way in (done.turns events u.calls u.st u.replay u.shown).on.more
+
+pub drain_performs : (x : Given) (events : List Event) (count : ℕ) (c after : Course) (old new : PortState) (steps : ℕ)
+    (done : IsDrained x count c old after new) → count + course_left x after ≤ course_left x c → (now : IsPerforming x events c old steps)
+    → IsPerforming x (events ++ drained_more x events count c after old new steps done now) after new steps
+drain_performs x events count c after old new steps done less now =
+    let u = now.under_way in
+    let on = (done.turns events u.calls u.st u.replay u.shown).on in
+    record {
+      under_way = record {
+        calls = u.calls ++ on.others;
+        st = on.last;
+        replay = on.picked.replay;
+        shown = on.shown;
+        going = done.going;
+        counted = counted_on _ _ _ _ count done.events u.counted on.counted ∙ sym (length_join events on.more);
+      };
+      left = drained_left _ _ _ count (course_left x c) (course_left x after) steps _ (length_join events on.more) on.counted less now.left;
+    }
+
+pub has_emptied : OneLaw → (x : Given) (events : List Event) (count : ℕ) (c after : Course) (old new : PortState) (steps : ℕ) (failed : Option ReplayError)
+    → failed ≡ None → (done : IsDrained x count c old after new) (now : IsPerforming x events c old steps)
+    → HasEmptied (view_of x events steps old failed) count
+    (view_of x (events ++ drained_more x events count c after old new steps done now) steps new failed)
+has_emptied one x events count c after old new steps failed none done now =
+    let u = now.under_way in
+    let all = done.turns events u.calls u.st u.replay u.shown in
+    let on = all.on in
+    record {
+      given = refl;
+      more = on.more;
+      events = refl;
+      counted = on.counted;
+      steps = refl;
+      failed = none;
+      stays = done.stays;
+      next = λ calls st is.
+          let same = (one x events u.calls calls u.st st old u.going.plain.ready (ap (λ m. m.fine) u.going.plain.manner) u.replay is).0 in (
+            on.others,
+            on.last,
+            subst (λ cs. HasPicked x events on.more (cs ++ on.others) on.last new) same on.picked,
+            subst (λ cs. HasDrained x events on.more (cs ++ on.others) on.last new) same all.drained,
+          );
+    }
+
+pub drain_stands : (x : Given) (count : ℕ) (c after : Course) (old new : PortState) (steps : ℕ) (failed : Option ReplayError) → failed ≡ None
+    → IsDrained x count c old after new → count + course_left x after ≤ course_left x c → IsKept x c old steps failed → IsKept x after new steps failed
+drain_stands x count c after old new steps failed none done less stands =
+    let now = stands.performed none in
+    stands_by x (stands.events ++ drained_more x stands.events count c after old new steps done now) after new steps failed stands.few_packets stands.within
+    (drain_performs x stands.events count c after old new steps done less now)
+
+short_by : (a b c d : ℕ) → a + b ≤ c → c ≤ d → a ≤ d
+short_by a b c d h k = omega arith
+
+pub drain_short : LeftLaw → (x : Given) (count : ℕ) (c after : Course) (old : PortState) (steps : ℕ) (failed : Option ReplayError) → failed ≡ None
+    → count + course_left x after ≤ course_left x c → IsKept x c old steps failed → count ≤ drain_bound (setup_for x)
+drain_short left x count c after old steps failed none less stands =
+    let u = (stands.performed none).under_way in
+    short_by count (course_left x after) _ _ less (left x stands.events u.calls u.st c old u.replay u.shown u.going)
+
+-- ## Report
+
+spare_kept : (a b c : ℕ) → a ≤ b → b ≤ c → a ≤ c
+spare_kept a b c h k = omega arith
+
+pub report_performs : (x : Given) (events : List Event) (replayed : Replayed) (c : Course) (old new : PortState) (steps : ℕ)
+    → ReportsOf x c old new replayed → IsPerforming x events c old steps → IsPerforming x events c new steps
+report_performs x events replayed c old new steps says now =
+    let u = now.under_way in
+    let kept = (says u.calls u.st u.shown).kept in
+    record {
+      under_way = record {
+        calls = u.calls;
+        st = u.st;
+        replay = kept_replay x events u.calls u.st old new u.replay kept;
+        shown = u.shown;
+        going = record {
+          plain = u.going.plain;
+          sound = u.going.sound;
+          loaded = kept.code ∙ u.going.loaded;
+          spare = spare_kept _ _ _ u.going.spare kept.spare;
+        };
+        counted = u.counted;
+      };
+      left = now.left;
+    }
+
+pub has_reported : OneLaw → RunLaw → PromiseLaw → (x : Given) (events : List Event) (replayed : Replayed) (c : Course) (old new : PortState) (steps : ℕ)
+    (failed : Option ReplayError) → failed ≡ None → ReportsOf x c old new replayed → IsPerforming x events c old steps
+    → HasReported (view_of x events steps old failed) replayed (view_of x events steps new failed)
+has_reported one run_law promise_law x events replayed c old new steps failed none says now =
+    let u = now.under_way in
+    let ready = u.going.plain.ready in
+    let here = says u.calls u.st u.shown in
+    record {
+      given = refl;
+      events = refl;
+      steps = refl;
+      failed = none;
+      stays = record { told = ap is_some here.kept.told; faults = here.kept.faults };
+      told = λ calls st is. (
+        says calls st (shown_at one x events c old steps calls st now is),
+        kept_replay x events calls st old new is here.kept,
+      );
+      promises = λ tables told_is.
+          subst (λ r. Promises x events r)
+          (sym (run_law x events u.calls u.st old new replayed.run replayed.commands tables ready u.replay here told_is)) (promise_law x events ready);
+    }
+
+pub report_stands : (x : Given) (replayed : Replayed) (c : Course) (old new : PortState) (steps : ℕ) (failed : Option ReplayError) → failed ≡ None
+    → ReportsOf x c old new replayed → IsKept x c old steps failed → IsKept x c new steps failed
+report_stands x replayed c old new steps failed none says stands =
+    stands_by x stands.events c new steps failed stands.few_packets stands.within
+    (report_performs x stands.events replayed c old new steps says (stands.performed none))
+
+-- ## Errors
+
+pub has_failed : (x : Given) (events : List Event) (e : ReplayError) (old new : PortState) (steps : ℕ) (failed : Option ReplayError) → failed ≡ None
+    → Fails e old new → HasFailed (view_of x events steps old failed) e (view_of x events steps new (Some e))
+has_failed x events e old new steps failed none fails = record {
+  before = none;
+  failed = refl;
+  given = refl;
+  events = refl;
+  steps = refl;
+  port = fails;
+}
+
+-- one that has failed stands, whatever its course and its port are
+pub failed_stands : (x : Given) (e : ReplayError) (c after : Course) (old new : PortState) (steps : ℕ) (failed : Option ReplayError)
+    → IsKept x c old steps failed → IsKept x after new steps (Some e)
+failed_stands x e c after old new steps failed stands = record {
+  few_packets = stands.few_packets;
+  within = stands.within;
+  events = stands.events;
+  alive = record {
+    ready = stands.alive.ready;
+    few = stands.alive.few;
+    replay = λ none. absurd (none-some e (sym none));
+  };
+  performed = λ none. absurd (none-some e (sym none));
+}

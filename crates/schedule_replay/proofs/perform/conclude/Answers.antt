@@ -1,0 +1,11 @@
+use Rattle.schedule_replay.proofs.Concluding.{ended_drained, few_to_drain}
+use Rattle.schedule_replay.proofs.perform.conclude.Goals as goal
+
+pub drain-requires-clause-few : goal.drain-requires-clause-few
+drain-requires-clause-few g c =
+    few_to_drain c.few_events_are_left.ensures.bound c.few_events_are_left.ensures.left _ _ c.args.course.now _ c.requires.under_way
+    c.requires.few_packets c.requires.few_events
+
+pub returns-in_ok-drain-clause-ended : goal.returns-in_ok-drain-clause-ended
+returns-in_ok-drain-clause-ended g c =
+    ended_drained _ _ _ c.in_ok-drain.field-0 c.args.course.now _ _ _ c.if-job.true c.requires.under_way c.in_ok-drain.ensures.drained

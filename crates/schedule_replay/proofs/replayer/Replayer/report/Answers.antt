@@ -1,0 +1,38 @@
+use Rattle.replay_contracts.specs.Replayer.{given_of}
+use Rattle.schedule_replay.proofs.Playing.{failed_stands, going_there, has_failed, has_reported, report_performs, report_stands}
+use Rattle.schedule_replay.proofs.replayer.Replayer.report.Goals as goal
+
+pub report-requires : goal.report-requires
+report-requires g c =
+    let me = c.args.self.now in
+    record { going = going_there (given_of me.job) me.course (g.S.SwitchPort.seen me.port) me.steps me.failed c.requires.stands c.in_default.is }
+
+pub returns-in-Ok-clause-reported : goal.returns-in-Ok-clause-reported
+returns-in-Ok-clause-reported g c = λ events now.
+    let me = c.args.self.now in
+    has_reported c.a_journal_determines_its_replay.ensures c.a_told_replay_reports_the_run.ensures c.a_run_keeps_its_promises.ensures (given_of me.job) events
+    c.in-Ok.replayed me.course (g.S.SwitchPort.seen me.port) (g.S.SwitchPort.seen c.report.new.port) me.steps me.failed c.in_default.is c.in-Ok.ensures.reports now
+
+pub returns-in-Ok-clause-performed : goal.returns-in-Ok-clause-performed
+returns-in-Ok-clause-performed g c = λ events now.
+    let me = c.args.self.now in
+    report_performs (given_of me.job) events c.in-Ok.replayed me.course (g.S.SwitchPort.seen me.port) (g.S.SwitchPort.seen c.report.new.port) me.steps
+    c.in-Ok.ensures.reports now
+
+pub returns-in-Ok-clause-stands : goal.returns-in-Ok-clause-stands
+returns-in-Ok-clause-stands g c =
+    let me = c.args.self.now in
+    report_stands (given_of me.job) c.in-Ok.replayed me.course (g.S.SwitchPort.seen me.port) (g.S.SwitchPort.seen c.report.new.port) me.steps me.failed
+    c.in_default.is c.in-Ok.ensures.reports c.requires.stands
+
+pub returns-in-Err-clause-stands : goal.returns-in-Err-clause-stands
+returns-in-Err-clause-stands g c =
+    let me = c.args.self.now in
+    failed_stands (given_of me.job) c.in-Err.error me.course me.course (g.S.SwitchPort.seen me.port) (g.S.SwitchPort.seen c.report.new.port)
+    me.steps me.failed c.requires.stands
+
+pub returns-in-Err-clause-fails : goal.returns-in-Err-clause-fails
+returns-in-Err-clause-fails g c = λ events none.
+    let me = c.args.self.now in
+    has_failed (given_of me.job) events c.in-Err.error (g.S.SwitchPort.seen me.port) (g.S.SwitchPort.seen c.report.new.port) me.steps me.failed none
+    c.in-Err.ensures.fails

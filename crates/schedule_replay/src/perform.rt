@@ -1,0 +1,71 @@
+//! A whole replay.
+ghost use Rattle.std.specs.Prelude.{◌≡◌, ◌≤◌, length, is_some, IfErr, IfOk, IsSome, OnOk};
+ghost use Rattle.flat_ir.specs.Program.{program_of};
+ghost use Rattle.run_model.specs.Sizes.{most_events, most_packets};
+ghost use Rattle.split_model.specs.Bounds.{HasFewStages};
+ghost use Rattle.split_answers.specs.Whole.{IsSplit};
+ghost use Rattle.replay_contracts.specs.Replayer.{CountsFault, Fails, IsReported, IsRunOf, given_of};
+ghost use Rattle.replay_course.specs.UnderWay.{IsUnderWay};
+ghost use Rattle.schedule_replay.specs.Ended.{HasEnded};
+
+use replay_contracts::{
+    Job, ReplayError, Replayed, a_quiet_switch_has_the_servers_tables, a_run_keeps_its_promises,
+    a_told_replay_reports_the_run,
+};
+use replay_course::{Course, few_events_are_left};
+use replay_state::a_run_is_answered_by_its_calls;
+use std::alloc::Global;
+use switch_ir::SwitchPort;
+
+// The events that end a run, where they are asked for.
+fn conclude<S: SwitchPort>(
+    alloc: Global,
+    job: &Job,
+    port: &mut S,
+    course: &mut Course,
+) -> Result<(), ReplayError>
+    requires few_packets { length job.now.packets ≤ most_packets }
+    requires few_events { length job.now.events ≤ most_events }
+    requires under_way { IsUnderWay (given_of job.now) job.now.events course.old (S.seen port.old) }
+    ensures ended { OnOk result
+        (HasEnded (given_of job.now) job.now.events job.now.drain course.new (S.seen port.old) (S.seen port.new)) }
+    ensures fails { IfErr result (λ e. Fails e (S.seen port.old) (S.seen port.new)) }
+{
+    few_events_are_left();
+    if job.drain {
+        course.drain(alloc, job, port)?;
+    }
+    Ok(())
+}
+
+/// Loads a switch with the code of a job, performs the job's events, and then, where it is asked for, those that end
+/// the run. No call of the switch failed then. After an error it is told of the switch only that just one call of it
+/// failed, or that none did and there was no memory; it tells its tables where it told them before.
+pub fn replay<S: SwitchPort>(
+    alloc: Global,
+    job: &Job,
+    port: &mut S,
+) -> Result<Replayed, ReplayError>
+    requires split { IsSplit (program_of job.now.flat) job.now.split job.now.writeback }
+    requires stages { HasFewStages job.now.split }
+    requires writeback { job.now.writeback ≤ 65536 }
+    requires few_packets { length job.now.packets ≤ most_packets }
+    requires few_events { length job.now.events ≤ most_events }
+    ensures answered { IfOk result (λ replayed.
+        IsReported (given_of job.now) job.now.events job.now.drain replayed (S.seen port.new)) }
+    ensures told { IsSome (S.seen port.old).told → IfOk result (λ replayed.
+        IsRunOf (given_of job.now) job.now.events job.now.drain replayed (S.seen port.new)) }
+    ensures stays { is_some (S.seen port.new).told ≡ is_some (S.seen port.old).told }
+    ensures no_fault { OnOk result ((S.seen port.new).faults ≡ (S.seen port.old).faults) }
+    ensures fault { IfErr result (λ e. CountsFault e (S.seen port.old) (S.seen port.new)) }
+{
+    a_quiet_switch_has_the_servers_tables();
+    a_run_is_answered_by_its_calls();
+    a_run_keeps_its_promises();
+    a_told_replay_reports_the_run();
+    few_events_are_left();
+    let mut course = Course::start(alloc, job, port)?;
+    course.perform(alloc, job, port)?;
+    conclude(alloc, job, port, &mut course)?;
+    course.report(alloc, job, port)
+}

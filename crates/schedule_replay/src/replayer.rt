@@ -1,0 +1,222 @@
+//! A replay that goes on call by call.
+ghost use Rattle.std.specs.Prelude.{◌≡◌, ◌≤◌, ◌<◌, ◌++◌, ◌∷◌, [], List, Some, None, Err};
+ghost use Rattle.std.specs.Prelude.{is_some, length, IfErr, IfOk, OnOk};
+ghost use Rattle.flat_ir.specs.Program.{program_of};
+ghost use Rattle.run_model.specs.Sizes.{most_events, most_packets};
+ghost use Rattle.run_model.specs.declared.event.Event.{Event};
+ghost use Rattle.split_model.specs.Bounds.{HasFewStages};
+ghost use Rattle.split_answers.specs.Whole.{IsSplit};
+ghost use Rattle.replay_state.specs.Drain.{drain_bound};
+ghost use Rattle.replay_contracts.specs.Given.{setup_for};
+ghost use Rattle.replay_contracts.specs.declared.job.ReplayError.{ReplayError};
+ghost use Rattle.replay_contracts.specs.Replayer.{CountsFault, given_of};
+ghost use Rattle.replay_course.specs.UnderWay.{HasGone};
+
+use gal_io::NoMemory;
+use replay_contracts::{
+    Job, ReplayError, Replayed, Stepped, a_journal_determines_its_replay, a_replay_goes_on,
+    a_run_keeps_its_promises, a_told_replay_reports_the_run,
+};
+use replay_course::{Course, few_events_are_left, the_next_command_finds_room};
+use run_model::{Event, Events};
+use std::alloc::Global;
+use switch_ir::SwitchPort;
+
+/// A replay of a split program over a switch, event by event. It performs none of the job's own events by itself. Once
+/// it has failed, it answers the same error from then on.
+#[derive(Drop)]
+pub struct Replayer<S> {
+    alloc: Global,
+    job: Job,
+    course: Course,
+    port: S,
+    steps: u32,
+    failed: Option<ReplayError>,
+}
+
+/// A switch with which no replay could begin, and why.
+#[derive(Drop)]
+pub struct Refused<S> {
+    pub port: S,
+    pub error: ReplayError,
+}
+
+// A job without events of its own, in memory of its own.
+fn copy_job(alloc: Global, job: &Job) -> Result<Job, NoMemory>
+    ensures { IfOk result (λ made. given_of made ≡ given_of job.now) }
+{
+    Ok(Job {
+        flat: job.flat.copy(alloc)?,
+        split: job.split.copy(alloc)?,
+        writeback: job.writeback,
+        packets: job.packets.copy(alloc)?,
+        events: Events::new(alloc),
+        drain: false,
+    })
+}
+
+// A copy of a job, and its course before any event.
+#[derive(Drop)]
+struct Begun {
+    job: Job,
+    course: Course,
+}
+
+fn begin<S: SwitchPort>(alloc: Global, job: &Job, port: &mut S) -> Result<Begun, ReplayError>
+    requires split { IsSplit (program_of job.now.flat) job.now.split job.now.writeback }
+    requires stages { HasFewStages job.now.split }
+    requires writeback { job.now.writeback ≤ 65536 }
+    requires few_packets { length job.now.packets ≤ most_packets }
+    ensures same { IfOk result (λ begun. given_of begun.job ≡ given_of job.now) }
+    ensures begun { IfOk result (λ begun.
+        HasGone (given_of job.now) [] begun.course (S.seen port.old) (S.seen port.new)) }
+    ensures stays { is_some (S.seen port.new).told ≡ is_some (S.seen port.old).told }
+    ensures fault { IfErr result (λ e. CountsFault e (S.seen port.old) (S.seen port.new)) }
+{
+    few_events_are_left();
+    let copy = copy_job(alloc, job)?;
+    let course = Course::start(alloc, job, port)?;
+    Ok(Begun { job: copy, course })
+}
+
+impl<S: SwitchPort> Replayer<S> {
+    ghost use Rattle.replay_contracts.specs.Replayer.{HasEmptied, HasFailed, HasReported, HasStepped, IsNew, Repeats};
+    ghost use Rattle.schedule_replay.specs.Replayer.{HasPerformed, IsStanding, seen_as};
+
+    /// Loads the switch with the code of a job. After an error the switch is handed back; it tells its tables where it
+    /// told them before.
+    pub fn new(alloc: Global, job: &Job, port: S) -> Result<Replayer<S>, Refused<S>>
+        requires split { IsSplit (program_of job.now.flat) job.now.split job.now.writeback }
+        requires stages { HasFewStages job.now.split }
+        requires writeback { job.now.writeback ≤ 65536 }
+        requires few_packets { length job.now.packets ≤ most_packets }
+        ensures begun { IfOk result (λ made. IsNew (given_of job.now) (S.seen port) (seen_as S.seen [] made)) }
+        ensures performed { IfOk result (λ made. HasPerformed S.seen [] made) }
+        ensures stands { IfOk result (λ made. IsStanding S.seen made) }
+        ensures stays { IfErr result (λ refused.
+            is_some (S.seen refused.port).told ≡ is_some (S.seen port).told) }
+        ensures fault { IfErr result (λ refused. CountsFault refused.error (S.seen port) (S.seen refused.port)) }
+    {
+        few_events_are_left();
+        let mut port = port;
+        match begin(alloc, job, &mut port) {
+            Ok(begun) => Ok(Replayer {
+                alloc,
+                job: begun.job,
+                course: begun.course,
+                port,
+                steps: 0,
+                failed: None,
+            }),
+            Err(error) => Err(Refused { port, error }),
+        }
+    }
+
+    /// One event. It is idle exactly where it can't apply.
+    pub fn step(&mut self, event: &Event) -> Result<Stepped, ReplayError>
+        requires stands { IsStanding S.seen self.old }
+        requires few { (seen_as S.seen [] self.old).steps < most_events }
+        ensures stepped { IfOk result (λ stepped. (events : List Event) → HasPerformed S.seen events self.old
+            → HasStepped (seen_as S.seen events self.old) event.now stepped
+            (seen_as S.seen (events ++ event.now ∷ []) self.new)) }
+        ensures performed { OnOk result ((events : List Event) → HasPerformed S.seen events self.old
+            → HasPerformed S.seen (events ++ event.now ∷ []) self.new) }
+        ensures stands { IsStanding S.seen self.new }
+        ensures fails { IfErr result (λ e. (events : List Event) → (seen_as S.seen [] self.old).failed ≡ None
+            → HasFailed (seen_as S.seen events self.old) e (seen_as S.seen events self.new)) }
+        ensures repeats { (e : ReplayError) → (seen_as S.seen [] self.old).failed ≡ Some e
+            → (result ≡ Err e)
+            × ((events : List Event) → Repeats (seen_as S.seen events self.old) e (seen_as S.seen events self.new)) }
+        ensures same { (e : ReplayError) → (seen_as S.seen [] self.old).failed ≡ Some e → self.new ≡ self.old }
+    {
+        a_journal_determines_its_replay();
+        a_replay_goes_on();
+        few_events_are_left();
+        the_next_command_finds_room();
+        if let Some(error) = self.failed {
+            return Err(error);
+        }
+        match self
+            .course
+            .step(self.alloc, &self.job, &mut self.port, *event)
+        {
+            Ok(stepped) => {
+                self.steps += 1;
+                Ok(stepped)
+            }
+            Err(error) => {
+                self.failed = Some(error);
+                Err(error)
+            }
+        }
+    }
+
+    /// The events that end a run, one after the other, until every packet of the trace is released and nothing is on
+    /// its way. The answer is their number.
+    pub fn drain(&mut self) -> Result<u64, ReplayError>
+        requires stands { IsStanding S.seen self.old }
+        ensures emptied { IfOk result (λ count. (events : List Event) → HasPerformed S.seen events self.old
+            → (more : List Event)
+            × HasEmptied (seen_as S.seen events self.old) count (seen_as S.seen (events ++ more) self.new)
+            × HasPerformed S.seen (events ++ more) self.new) }
+        ensures bound { IfOk result (λ count.
+            count ≤ drain_bound (setup_for (seen_as S.seen [] self.old).given)) }
+        ensures stands { IsStanding S.seen self.new }
+        ensures fails { IfErr result (λ e. (events : List Event) → (seen_as S.seen [] self.old).failed ≡ None
+            → HasFailed (seen_as S.seen events self.old) e (seen_as S.seen events self.new)) }
+        ensures repeats { (e : ReplayError) → (seen_as S.seen [] self.old).failed ≡ Some e
+            → (result ≡ Err e)
+            × ((events : List Event) → Repeats (seen_as S.seen events self.old) e (seen_as S.seen events self.new)) }
+        ensures same { (e : ReplayError) → (seen_as S.seen [] self.old).failed ≡ Some e → self.new ≡ self.old }
+    {
+        a_journal_determines_its_replay();
+        few_events_are_left();
+        if let Some(error) = self.failed {
+            return Err(error);
+        }
+        match self.course.drain(self.alloc, &self.job, &mut self.port) {
+            Ok(events) => Ok(u64::from(events)),
+            Err(error) => {
+                self.failed = Some(error);
+                Err(error)
+            }
+        }
+    }
+
+    /// What is to be reported of the events so far. The replay can go on then.
+    pub fn report(&mut self) -> Result<Replayed, ReplayError>
+        requires stands { IsStanding S.seen self.old }
+        ensures reported { IfOk result (λ replayed. (events : List Event) → HasPerformed S.seen events self.old
+            → HasReported (seen_as S.seen events self.old) replayed (seen_as S.seen events self.new)) }
+        ensures performed { OnOk result ((events : List Event) → HasPerformed S.seen events self.old
+            → HasPerformed S.seen events self.new) }
+        ensures stands { IsStanding S.seen self.new }
+        ensures fails { IfErr result (λ e. (events : List Event) → (seen_as S.seen [] self.old).failed ≡ None
+            → HasFailed (seen_as S.seen events self.old) e (seen_as S.seen events self.new)) }
+        ensures repeats { (e : ReplayError) → (seen_as S.seen [] self.old).failed ≡ Some e
+            → (result ≡ Err e)
+            × ((events : List Event) → Repeats (seen_as S.seen events self.old) e (seen_as S.seen events self.new)) }
+        ensures same { (e : ReplayError) → (seen_as S.seen [] self.old).failed ≡ Some e → self.new ≡ self.old }
+    {
+        a_journal_determines_its_replay();
+        a_run_keeps_its_promises();
+        a_told_replay_reports_the_run();
+        if let Some(error) = self.failed {
+            return Err(error);
+        }
+        match self.course.report(self.alloc, &self.job, &mut self.port) {
+            Ok(replayed) => Ok(replayed),
+            Err(error) => {
+                self.failed = Some(error);
+                Err(error)
+            }
+        }
+    }
+
+    /// The switch, as the calls so far left it.
+    pub fn into_port(self) -> S
+        ensures { S.seen result ≡ (seen_as S.seen [] self).port }
+    {
+        self.port
+    }
+}
