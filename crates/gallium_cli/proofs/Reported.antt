@@ -1,6 +1,6 @@
 -- What the report of a replay says of the source.
 use Rattle.std.proofs.Common.{◌≡◌, ◌∙◌, ℕ, zero, suc, List, [], ◌∷◌, ◌++◌, false, true, sym, ap, subst, refl, arith}
-use Rattle.std.proofs.Common.{Option, Some, None}
+use Rattle.std.proofs.Common.{Option, Some}
 use Rattle.std.specs.Prelude.{IsTrue, IsSome, IsSomeAnd, length, slice_get}
 use Rattle.std.specs.List.{AllByRecursion as Each}
 use Rattle.packet_fields.specs.declared.packet.Packet.{Packet}
