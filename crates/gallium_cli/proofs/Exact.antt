@@ -18,9 +18,9 @@ use Rattle.gallium_cli.specs.declared.refusal.Refusal.TheVariants.{Source, LongP
 use Rattle.gallium_cli.specs.declared.refusal.Refusal.TheVariants.{TooLong, ReadFault, WriteFault, SwitchFault, NoMemory}
 use Rattle.gallium_cli.specs.Call.{Call, Work}
 use Rattle.gallium_cli.specs.Lines.{status_of}
-use Rattle.gallium_cli.specs.Words.{Request, Run, Compile, Replay, ReplayWithin}
+use Rattle.gallium_cli.specs.Words.{Request, Run, Compile, Replay, Within}
 use Rattle.gallium_cli.specs.Roles.{Role, source, program, limits, trace, schedule, size_of, IsGood, IsBad}
-use Rattle.gallium_cli.specs.Roles.{Gate, File, Choice, gates_of, event_gates}
+use Rattle.gallium_cli.specs.Roles.{Gate, File, Choice, gates_of, split_gates, event_gates}
 use Rattle.gallium_cli.specs.Answers.{IsTraffic, IsAnswer}
 use Rattle.gallium_cli.specs.Loads.{IsFileRefused, IsBadSource, IsLongProgram, AreBadLimits, IsBadTrace, IsBadSchedule}
 use Rattle.gallium_cli.specs.Causes.{IsRefusedAt, IsPassed, IsFirstRefused, IsSwitchFaulty, IsNotWritten, after_line}
@@ -28,7 +28,7 @@ use Rattle.gallium_cli.specs.Causes.{IsTold, EndsFor}
 use Rattle.gallium_cli.specs.Promises.{IsWriteFault, IsFault, IsUnlessFault, refused_status, IsRefusedAs, IsOpen, AllOpen}
 use Rattle.gallium_cli.specs.Promises.{IsShut, IsFirstShut, IsExact, IsComplete}
 use Rattle.gallium_cli.proofs.Choices.{IsGreatestOne, IsKeptUnexceeded, refused_unchosen, open_over, over_status}
-use Rattle.gallium_cli.proofs.Files.{AllPassed, passed_source, passed_program, passed_limits, passed_trace, passed_schedule}
+use Rattle.gallium_cli.proofs.Files.{AllPassed, passed_source, passed_trace, passed_schedule, split_passed, passed_both}
 
 -- ## One file
 
@@ -209,19 +209,11 @@ pub answer_passed : (text : List ℕ) (request : Request) (f : FilesState) (p p'
     → IsAnswer text request f.told p p' → AllPassed (gates_of request) f
 answer_passed text (Run s t) f p p' (m, packets, input, printed) =
     (passed_source s f m input.source, (passed_trace t f packets input.trace, tt))
-answer_passed text (Compile s l shrink) f p p' (m, allowed, plan, made) = (
-  passed_program s f m plan.program.source plan.program.bounded.few,
-  (passed_limits l f allowed plan.limits, ((m, allowed, made.split, plan, made.choice.chosen), tt)),
-)
-answer_passed text (Replay s t c) f p p' (m, packets, plan, split, found, traffic, none, report) =
-    (passed_program s f m found.source found.bounded.few, traffic_passed f t c packets plan traffic)
-answer_passed text (ReplayWithin s t c l shrink) f p p' (m, allowed, packets, plan, split, found, traffic, choice, report) = (
-  passed_program s f m found.program.source found.program.bounded.few,
-  (
-    passed_limits l f allowed found.limits,
-    ((m, allowed, split, found, choice.chosen), traffic_passed f t c packets plan traffic),
-  ),
-)
+answer_passed text (Compile s l shrink) f p p' (m, split, writeback, found, printed) =
+    split_passed (Within l shrink) s f m split writeback found
+answer_passed text (Replay s t c by) f p p' (m, split, writeback, packets, plan, replayed, found, traffic, report) =
+    passed_both (split_gates s by) (event_gates t c) f (split_passed by s f m split writeback found)
+    (traffic_passed f t c packets plan traffic)
 
 -- ## How a call ends
 

@@ -7,6 +7,7 @@ use Rattle.packet_fields.specs.declared.packet.Packet.{Packet}
 use Rattle.element_lang.specs.Tree.{Tree}
 use Rattle.element_lang.specs.Accepted.{IsSource}
 use Rattle.flatten.specs.Flatten.{flat_of}
+use Rattle.split_model.specs.declared.split.Part.{Part}
 use Rattle.split_model.specs.Bounds.{IsBounded}
 use Rattle.resource_limits.specs.declared.limits.Limits.{Limits as Allowed}
 use Rattle.run_text.specs.declared.plan.Plan.{Plan}
@@ -15,10 +16,11 @@ use Rattle.gallium_cli.specs.declared.status.Status.TheVariants as statuses
 use Rattle.gallium_cli.specs.declared.refusal.Refusal.{Refusal}
 use Rattle.gallium_cli.specs.declared.refusal.Refusal.TheVariants.{Source, LongProgram, Limits, Trace, Schedule}
 use Rattle.gallium_cli.specs.declared.refusal.Refusal.TheVariants.{TooLong, ReadFault, NoMemory}
-use Rattle.gallium_cli.specs.Words.{Run}
+use Rattle.gallium_cli.specs.Words.{Splitting, Served, Within, Run}
 use Rattle.gallium_cli.specs.Roles.{Role, source, program, limits, trace, schedule, size_of}
-use Rattle.gallium_cli.specs.Roles.{IsShort, IsGood, AreLimits, Gate, File, Choice, gates_of, plan_gates, event_gates}
-use Rattle.gallium_cli.specs.Answers.{IsInput, IsOnlySource, IsProgram, IsPlan, IsTraffic}
+use Rattle.gallium_cli.specs.Roles.{IsShort, IsGood, AreLimits, Gate, File, Choice, gates_of, plan_gates, split_gates}
+use Rattle.gallium_cli.specs.Roles.{event_gates}
+use Rattle.gallium_cli.specs.Answers.{IsInput, IsOnlySource, IsProgram, IsPlan, IsSplitBy, IsTraffic}
 use Rattle.gallium_cli.specs.Loads.{GoesOn, IsUnread, IsFileRefused, IsLoaded}
 use Rattle.gallium_cli.specs.Causes.{IsRefusedAt, IsPassed, IsFirstRefused, IsUnchosen}
 
@@ -197,6 +199,21 @@ plan_files_passed s l f m allowed found = (
   passed_program s f m found.program.source found.program.bounded.few,
   (passed_limits l f allowed found.limits, tt),
 )
+
+-- what a split goes through that is found
+pub split_passed : (by : Splitting) (s : List ℕ) (f : FilesState) (m : Tree) (split : List Part) (writeback : ℕ)
+    → IsSplitBy by f.told s m split writeback → AllPassed (split_gates s by) f
+split_passed Served s f m split writeback found = (passed_program s f m found.0.source found.0.bounded.few, tt)
+split_passed (Within l shrink) s f m split writeback (allowed, plan, choice, rows) = (
+  passed_program s f m plan.program.source plan.program.bounded.few,
+  (passed_limits l f allowed plan.limits, ((m, allowed, split, plan, choice.chosen), tt)),
+)
+
+-- gates that are passed, and then others
+pub passed_both : (gates more : List Gate) (f : FilesState) → AllPassed gates f → AllPassed more f
+    → AllPassed (gates ++ more) f
+passed_both [] more f first second = second
+passed_both (gate ∷ gates) more f first second = (first.0, passed_both gates more f first.1 second)
 
 -- no split is chosen for the plan of two files that are passed
 pub choice_refused : (refusal : Refusal) (s l : List ℕ) (shrink : Bool) (f f' : FilesState) (m : Tree)

@@ -1,6 +1,7 @@
 -- What follows from how a call ends.
 use Rattle.std.proofs.Common.{◌≡◌, ◌⊎◌, Bool, true, false, List, [], ◌∷◌, Option, Some, None, sym, subst, ap, ◌∙◌, inl, inr}
 use Rattle.std.proofs.Common.{refl}
+use Rattle.std.specs.Prelude.{is_some}
 use Rattle.gal_io.specs.Count.{Rose}
 use Rattle.gal_io.specs.Files.{FilesState}
 use Rattle.gal_io.specs.Sink.{SinkState}
@@ -14,7 +15,7 @@ use Rattle.gallium_cli.specs.declared.refusal.Refusal.TheVariants.{Usage, Exceed
 use Rattle.gallium_cli.specs.declared.refusal.Refusal.TheVariants.{NoMemory}
 use Rattle.gallium_cli.specs.Call.{Call, Work}
 use Rattle.gallium_cli.specs.Lines.{status_of}
-use Rattle.gallium_cli.specs.Words.{Request, Run, Compile, Replay, ReplayWithin, is_replay, request_of}
+use Rattle.gallium_cli.specs.Words.{Request, Run, Compile, Replay, Served, Within, is_replay, request_of}
 use Rattle.gallium_cli.specs.Roles.{Gate, File, Choice, gates_of, names_in}
 use Rattle.gallium_cli.specs.Causes.{IsFirstRefused, IsSwitchKept, IsSwitchFaulty, IsNotWritten, IsIdle, IsDone, HasCause}
 use Rattle.gallium_cli.specs.Causes.{CountsFaults, after_line, EndsFor, Ends}
@@ -232,10 +233,11 @@ may_exceed refusal (Run s t) f f' is first = shrunk_unexceeded refusal (gates_of
 may_exceed refusal (Compile s l false) f f' is first = tt
 may_exceed refusal (Compile s l true) f f' is first =
     shrunk_unexceeded refusal (gates_of (Compile s l true)) f f' tt is first
-may_exceed refusal (Replay s t c) f f' is first = shrunk_unexceeded refusal (gates_of (Replay s t c)) f f' tt is first
-may_exceed refusal (ReplayWithin s t c l false) f f' is first = tt
-may_exceed refusal (ReplayWithin s t c l true) f f' is first =
-    shrunk_unexceeded refusal (gates_of (ReplayWithin s t c l true)) f f' tt is first
+may_exceed refusal (Replay s t c Served) f f' is first =
+    shrunk_unexceeded refusal (gates_of (Replay s t c Served)) f f' tt is first
+may_exceed refusal (Replay s t c (Within l false)) f f' is first = tt
+may_exceed refusal (Replay s t c (Within l true)) f f' is first =
+    shrunk_unexceeded refusal (gates_of (Replay s t c (Within l true))) f f' tt is first
 
 exceeded_ends : (request : Option Request) (status : Status) (call : Call)
     → EndsFor request status call → IsExceededStatus status → MayExceed request
@@ -329,6 +331,19 @@ aside_ends (Some request) status call (inl (is, (text, answer, taken, read, asid
 aside_ends (Some request) status call (inr (refusal, (why, few, aside), counts, told)) none =
     kept_aside (is_replay request) call.work.port call.work.port_after none aside
 
+kept_tells : (replays : Bool) (p p' : PortState) → IsSwitchKept replays p p' → is_some p'.told ≡ is_some p.told
+kept_tells true p p' kept = kept
+kept_tells false p p' kept = ap (λ (x : PortState). is_some x.told) kept
+
+tells_ends : (request : Option Request) (status : Status) (call : Call) → EndsFor request status call
+    → is_some call.work.port_after.told ≡ is_some call.work.port.told
+tells_ends None status call (inl done) = absurd done.1
+tells_ends None status call (inr (refusal, cause, counts, told)) = ap (λ (x : PortState). is_some x.told) cause.2.port
+tells_ends (Some request) status call (inl (is, (text, answer, taken, read, kept), counts, silent)) =
+    kept_tells (is_replay request) call.work.port call.work.port_after kept
+tells_ends (Some request) status call (inr (refusal, (why, few, kept), counts, told)) =
+    kept_tells (is_replay request) call.work.port call.work.port_after kept
+
 once_ends : (request : Option Request) (status : Status) (call : Call)
     → EndsFor request status call → IsReadOnce request status call
 once_ends None status call (inl done) = absurd done.1
@@ -350,6 +365,7 @@ promised status call one kept end =
       untouched = λ input. (idle_ends request status call end input).out;
       uncalled = λ input. (idle_ends request status call end input).port;
       aside = aside_ends request status call end;
+      tells = tells_ends request status call end;
       once = once_ends request status call end;
       usage = usage_ends request status call end;
       exact = exact_ends request status call one kept end;

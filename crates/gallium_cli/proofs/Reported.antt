@@ -1,6 +1,7 @@
 -- What the report of a replay says of the source.
-use Rattle.std.proofs.Common.{◌≡◌, ℕ, zero, suc, List, [], ◌∷◌, Some, sym, subst, inl, inr, arith, refl}
-use Rattle.std.specs.Prelude.{IsTrue, IsSome, slice_get}
+use Rattle.std.proofs.Common.{◌≡◌, ◌∙◌, ℕ, zero, suc, List, [], ◌∷◌, ◌++◌, false, true, sym, ap, subst, refl, arith}
+use Rattle.std.proofs.Common.{Option, Some}
+use Rattle.std.specs.Prelude.{IsTrue, IsSome, IsSomeAnd, length, slice_get}
 use Rattle.std.specs.List.{AllByRecursion as Each}
 use Rattle.packet_fields.specs.declared.packet.Packet.{Packet}
 use Rattle.state_store.specs.Kept.{IsKept}
@@ -14,16 +15,24 @@ use Rattle.flat_ir.specs.Program.{Program}
 use Rattle.flat_ir.specs.Run.{flat_store, flat_verdict}
 use Rattle.flatten.specs.Flatten.{flat_of}
 use Rattle.split_model.specs.declared.split.Part.{Part}
+use Rattle.run_model.specs.declared.event.Event.{Event}
+use Rattle.run_model.specs.declared.event.Event.TheVariants.{Admit}
+use Rattle.run_model.specs.declared.run.Run.{Run}
+use Rattle.run_model.specs.Meaning.{Meaning, AreAlike}
+use Rattle.run_model.specs.Serialises.{Serialises, AllReleased, IsDrained, is_passing}
 use Rattle.run_text.specs.declared.plan.Plan.{Plan}
-use Rattle.run_text.specs.declared.run.Run.{Run}
 use Rattle.run_text.specs.Report.{report_of}
-use Rattle.split_world.specs.Meaning.{Meaning, meaning_of, AreAlike, IsPacketOf}
-use Rattle.split_world.specs.Serialises.{Serialises, AllReleased, IsDrained}
 use Rattle.switch_ir.specs.Port.{PortState}
-use Rattle.schedule_replay.specs.declared.job.Replayed.{Replayed}
-use Rattle.schedule_replay.specs.Setup.{Setup, whole}
-use Rattle.schedule_replay.specs.Replayed.{IsReported, IsRunOf}
-use Rattle.gallium_cli.specs.Answers.{source_of, setup, IsSerialRun, IsReport}
+use Rattle.switch_ir.specs.Tables.{Told}
+use Rattle.replay_state.specs.Answers.{Answers, Setup}
+use Rattle.replay_state.specs.Program.{packet_at, plain_manner}
+use Rattle.replay_state.specs.Run.{job_run}
+use Rattle.replay_state.specs.Step.{applies, state_of}
+use Rattle.replay_contracts.specs.declared.job.Replayed.{Replayed}
+use Rattle.replay_contracts.specs.Given.{Given, meaning_for, setup_for, whole_runs}
+use Rattle.replay_contracts.specs.Promise.{Promises, state_for}
+use Rattle.replay_contracts.specs.Replayer.{IsReported, IsRunOf}
+use Rattle.gallium_cli.specs.Answers.{source_of, given, events_of, IsFastAsSeen, IsSerialRun, IsReport}
 
 -- ## The laws of sources and of flat programs
 
@@ -42,35 +51,30 @@ pub record MeansTheSame : Type 0 where
 
 -- a serial run of one program is one of each that means the same
 pub record CarriesOver : Type 0 where
-  pub serialises : (m n : Meaning) (packets : List Packet) (run : Run)
-      → AreAlike m n packets → Serialises m packets run → Serialises n packets run
-  pub released : (m n : Meaning) (packets : List Packet) (run : Run)
-      → AreAlike m n packets → AllReleased m packets run → AllReleased n packets run
-  pub drained : (m n : Meaning) (packets : List Packet) (run : Run)
-      → AreAlike m n packets → IsDrained m packets run → IsDrained n packets run
+  pub serialises : (m n : Meaning) (run : Run) → AreAlike m n run.total → Serialises m run → Serialises n run
+  pub released : (m n : Meaning) (run : Run)
+      → AreAlike m n run.total → Serialises m run → AllReleased m run → AllReleased n run
+  pub drained : (m n : Meaning) (run : Run)
+      → AreAlike m n run.total → Serialises m run → IsDrained m run → IsDrained n run
+
+-- where passes have no stages, the preprocessing of a packet that came in has ended
+abbrev pub EndsAtOnce : Type 0
+EndsAtOnce =
+    (setup : Setup) (a : Answers) (events more : List Event)
+    → (let st = state_of setup a events in
+    let fate = slice_get (job_run setup a (events ++ Admit ∷ more)).fates (length st.progress) in
+    setup.pre_stages ≡ 0 → applies setup st Admit ≡ true → is_passing fate ≡ false)
 
 -- ## Packets that arrive
 
--- each of these packets may arrive
-abbrev pub AllArrive : List Packet → Type 0
-AllArrive packets = (n : ℕ) (packet : Packet) → slice_get packets n ≡ Some packet → IsArrival packet
-
--- as a fact of each of them
-pub each_arrives : (packets : List Packet) → Each IsArrival packets → AllArrive packets
-each_arrives [] each n packet there = cc
-each_arrives (first ∷ packets) each zero packet there =
-    let same : first ≡ packet = cc in subst IsArrival same each.0
-each_arrives (first ∷ packets) each (suc n) packet there = each_arrives packets each.1 n packet there
-
-abbrev no_packet : Packet
-no_packet = record { port = 0; bytes = [] }
-
-nothing_arrives : IsArrival no_packet
+nothing_arrives : IsArrival (record { port = 0; bytes = [] })
 nothing_arrives = record { port = omega arith; bytes = λ i. omega arith; size = omega arith }
 
-arrives : (packets : List Packet) (packet : Packet) → AllArrive packets → IsPacketOf packets packet → IsArrival packet
-arrives packets packet all (inl (n, there)) = all n packet there
-arrives packets packet all (inr is) = subst IsArrival (sym is) nothing_arrives
+-- the packet of each number may arrive
+arrives : (packets : List Packet) (n : ℕ) → Each IsArrival packets → IsArrival (packet_at packets n)
+arrives [] n each = nothing_arrives
+arrives (first ∷ packets) zero each = each.0
+arrives (first ∷ packets) (suc n) each = arrives packets n each.1
 
 arrives_there : (packet : Packet) → IsArrival packet → interp.IsArrival packet
 arrives_there packet h = record { port = h.port; bytes = h.bytes; size = h.size }
@@ -78,48 +82,76 @@ arrives_there packet h = record { port = h.port; bytes = h.bytes; size = h.size 
 -- ## Reports
 
 -- the split program means what the source means
-pub split_is_source : (m : Tree) (split : List Part) (writeback : ℕ) (packets : List Packet) → KeepsStores
-    → MeansTheSame → IsTrue (is_good m) → AllArrive packets
-    → AreAlike (meaning_of (whole (setup m split writeback packets))) (source_of m) packets
-split_is_source m split writeback packets keeps same good all = record {
+split_is_source : (m : Tree) (split : List Part) (writeback total : ℕ) (packets : List Packet) → KeepsStores
+    → MeansTheSame → IsTrue (is_good m) → Each IsArrival packets
+    → AreAlike (meaning_for (given m split writeback packets)) (source_of m packets) total
+split_is_source m split writeback total packets keeps same good all = record {
   objects = refl;
   start = keeps.start m good;
-  after = λ store packet kept one. same.store m store packet good kept (arrives packets packet all one);
-  kept = λ store packet kept one.
-      let here = arrives packets packet all one in
+  after = λ store n kept low. same.store m store (packet_at packets n) good kept (arrives packets n all);
+  kept = λ store n kept low.
+      let packet = packet_at packets n in
+      let here = arrives packets n all in
       subst (λ (st : Store). IsKept m.objects st) (sym (same.store m store packet good kept here))
       (keeps.runs m store packet good (arrives_there packet here) kept);
-  verdict = λ store packet kept one. same.verdict m store packet good kept (arrives packets packet all one);
+  verdict = λ store n kept low. same.verdict m store (packet_at packets n) good kept (arrives packets n all);
 }
 
-serial_run : (m : Tree) (x : Setup) (plan : Plan) (run : Run) (port : PortState) → CarriesOver
-    → AreAlike (meaning_of (whole x)) (source_of m) x.packets → IsRunOf x plan.events plan.drain run port
-    → IsSerialRun m x plan run port
-serial_run m x plan run port over alike told = record {
-  run_is = told.is;
-  serialises = over.serialises (meaning_of (whole x)) (source_of m) x.packets run alike told.serialises;
-  quiet = λ ends. over.released (meaning_of (whole x)) (source_of m) x.packets run alike (told.released ends);
-  tables = told.tables;
-  drained = λ says. over.drained (meaning_of (whole x)) (source_of m) x.packets run alike (told.drained says);
-}
+-- each packet of the run is fast as lookups saw it, since its pass has ended
+fast_as_seen : (m : Tree) (split : List Part) (writeback : ℕ) (packets : List Packet) (events : List Event) (run : Run)
+    → EndsAtOnce
+    → (let x = given m split writeback packets in
+    Promises x events run → (before behind : List Event) → events ≡ before ++ Admit ∷ behind
+    → applies (setup_for x) (state_for x before) Admit ≡ true → IsFastAsSeen x before run)
+fast_as_seen m split writeback packets events run at_once promises before behind is there =
+    let x = given m split writeback packets in
+    let n = length (state_for x before).progress in
+    let same : run ≡ job_run (setup_for x) (whole_runs x) (before ++ Admit ∷ behind) =
+    promises.is ∙ ap (job_run (setup_for x) (whole_runs x)) is in
+    promises.fast before behind is there
+    (ap (λ (r : Run). is_passing (slice_get r.fates n)) same
+    ∙ at_once (setup_for x) (whole_runs x) before behind refl there)
+
+-- a port that tells the tables of which something holds
+told_there : (P : Told → Type 0) (told : Option Told) → ((tables : Told) × (told ≡ Some tables) × P tables)
+    → IsSomeAnd told P
+told_there P told found = subst (λ (x : Option Told). IsSomeAnd x P) (sym found.1) found.2
+
+serial_run : (m : Tree) (split : List Part) (writeback : ℕ) (packets : List Packet) (plan : Plan) (replayed : Replayed)
+    (port : PortState) → CarriesOver → EndsAtOnce
+    → (let x = given m split writeback packets in
+    AreAlike (meaning_for x) (source_of m packets) replayed.run.total
+    → IsRunOf x plan.events plan.drain replayed port → IsSerialRun m x plan replayed.run port)
+serial_run m split writeback packets plan replayed port over at_once alike told =
+    let x = given m split writeback packets in
+    let run = replayed.run in
+    let promises = told.promises in
+    let flat = promises.serialises in
+    record {
+      run_is = promises.is;
+      serialises = over.serialises (meaning_for x) (source_of m packets) run alike flat;
+      fast = fast_as_seen m split writeback packets (events_of x plan) run at_once promises;
+      quiet = λ ends.
+          over.released (meaning_for x) (source_of m packets) run alike flat (promises.released ends);
+      tables = λ ends. told_there _ port.told (told.tables ends);
+      drained = λ says. over.drained (meaning_for x) (source_of m packets) run alike flat (promises.drained says);
+    }
 
 pub reported : (m : Tree) (f : Program) (split : List Part) (writeback : ℕ) (packets : List Packet) (plan : Plan)
-    (replayed : Replayed) (text : List ℕ) (p p' : PortState) → KeepsStores → MeansTheSame → CarriesOver
-    → IsTrue (is_good m) → AllArrive packets → f ≡ flat_of m → text ≡ report_of m.objects replayed.run
-    → (let x : Setup = record { program = f; split = split; writeback = writeback; packets = packets } in
-    IsReported x plan.events plan.drain replayed p')
-    → (let x : Setup = record { program = f; split = split; writeback = writeback; packets = packets } in
-    IsSome p.told → IsRunOf x plan.events plan.drain replayed.run p')
-    → IsReport text m (setup m split writeback packets) plan p p'
-reported m f split writeback packets plan replayed text p p' keeps same over good all is printed answered told =
-    let at : Program → Setup =
-    λ g. record { program = g; split = split; writeback = writeback; packets = packets } in
-    let alike = split_is_source m split writeback packets keeps same good all in
-    record {
-      replayed = replayed;
-      printed = printed;
-      answered = subst (λ (g : Program). IsReported (at g) plan.events plan.drain replayed p') is answered;
-      serial = λ tells.
-          serial_run m (setup m split writeback packets) plan replayed.run p' over alike
-          (subst (λ (g : Program). IsRunOf (at g) plan.events plan.drain replayed.run p') is (told tells));
-    }
+    (replayed : Replayed) (text : List ℕ) (p p' : PortState) → KeepsStores → MeansTheSame → CarriesOver → EndsAtOnce
+    → IsTrue (is_good m) → Each IsArrival packets → f ≡ flat_of m → text ≡ report_of m.objects replayed.run
+    → (let x : Given =
+    record { program = f; split = split; writeback = writeback; packets = packets; manner = plain_manner } in
+    IsReported x plan.events plan.drain replayed p'
+    → (IsSome p.told → IsRunOf x plan.events plan.drain replayed p')
+    → IsReport text m (given m split writeback packets) plan replayed p p')
+reported m f split writeback packets plan replayed text p p' keeps same over at_once good all is printed answered told =
+    let at : Program → Given =
+    λ g. record { program = g; split = split; writeback = writeback; packets = packets; manner = plain_manner } in
+    let alike = split_is_source m split writeback replayed.run.total packets keeps same good all in (
+      printed,
+      subst (λ (g : Program). IsReported (at g) plan.events plan.drain replayed p') is answered,
+      λ tells.
+          serial_run m split writeback packets plan replayed p' over at_once alike
+          (subst (λ (g : Program). IsRunOf (at g) plan.events plan.drain replayed p') is (told tells)),
+    )

@@ -1,5 +1,5 @@
 -- What a text that was written leads to, and what a call that came to none.
-use Rattle.std.proofs.Common.{◌≡◌, ◌⊎◌, ◌≤◌, ◌+◌, ◌++◌, ℕ, Bool, true, false, List, [], ◌∷◌, length, Option, Some, Result, Ok, Err}
+use Rattle.std.proofs.Common.{◌≡◌, ◌⊎◌, ◌≤◌, ◌+◌, ◌++◌, ℕ, Bool, true, false, List, length, Option, Some, Result, Ok, Err}
 use Rattle.std.proofs.Common.{IfErr, inl, inr, refl, sym, ap, subst, ◌∙◌, append_assoc, arith}
 use Rattle.std.specs.Prelude.{OnOk}
 use Rattle.gal_io.specs.Count.{Rose}
@@ -11,26 +11,30 @@ use Rattle.flat_ir.specs.Program.{Program}
 use Rattle.flat_ir.specs.Listing.{listing}
 use Rattle.flatten.specs.Flatten.{flat_of}
 use Rattle.split_model.specs.declared.split.Part.{Part}
+use Rattle.split_model.specs.Greatest.{IsGreatestSplit}
+use Rattle.split_model.specs.Legal.{IsLegal}
 use Rattle.resource_limits.specs.declared.counting.Counts.{Counts}
 use Rattle.resource_limits.specs.declared.limits.Limits.{Limits}
 use Rattle.resource_limits.specs.Counts.{counts_of}
+use Rattle.resource_limits.specs.Kept.{KeepsLimits}
 use Rattle.split_validate.specs.SplitText.{split_text}
 use Rattle.split_validate.specs.CountsText.{counts_text}
 use Rattle.partition.specs.Choice.{IsChosen}
 use Rattle.run_text.specs.declared.plan.Plan.{Plan}
 use Rattle.switch_ir.specs.Port.{PortState}
+use Rattle.replay_contracts.specs.declared.job.Replayed.{Replayed}
 use Rattle.gallium_cli.specs.declared.status.Status.TheVariants as statuses
 use Rattle.gallium_cli.specs.declared.refusal.Refusal.{Refusal}
 use Rattle.gallium_cli.specs.declared.refusal.Refusal.TheVariants.{WriteFault, SwitchFault, NoMemory}
 use Rattle.gallium_cli.specs.Call.{work_of}
-use Rattle.gallium_cli.specs.Words.{Request, Replay, ReplayWithin, is_replay}
-use Rattle.gallium_cli.specs.Roles.{program, Gate, File, gates_of, plan_gates, event_gates, names_of}
-use Rattle.gallium_cli.specs.Answers.{IsAnswer, IsProgram, IsPlan, IsTraffic, IsChoice, IsNoChoice, IsCompilation}
-use Rattle.gallium_cli.specs.Answers.{IsReport, setup, heading_text, compiled_text}
+use Rattle.gallium_cli.specs.Words.{Splitting, Served, Within, Request, Replay, is_replay}
+use Rattle.gallium_cli.specs.Roles.{gates_of, split_gates, event_gates, names_of, split_reads}
+use Rattle.gallium_cli.specs.Answers.{IsAnswer, IsProgram, IsPlan, IsTraffic, IsChoice, IsNoChoice, IsSplitBy}
+use Rattle.gallium_cli.specs.Answers.{IsReport, given, heading_text, compiled_text}
 use Rattle.gallium_cli.specs.Loads.{GoesOn, raised_by}
 use Rattle.gallium_cli.specs.Puts.{IsPut, IsNotPut}
 use Rattle.gallium_cli.specs.Causes.{IsFirstRefused, IsNotWritten, IsSwitchKept, IsDone, HasCause, most_reads}
-use Rattle.gallium_cli.proofs.Files.{AllPassed, passed_program, passed_limits, first_before, refused_behind, traffic_before}
+use Rattle.gallium_cli.proofs.Files.{first_before, refused_behind, refused_of_more, split_passed, traffic_before}
 
 pub at_most : (n m : ℕ) → n ≡ m → n ≤ m
 at_most n m same = omega arith
@@ -39,7 +43,7 @@ at_most n m same = omega arith
 
 -- a switch that isn't called is kept
 pub switch_kept : (replays : Bool) (p : PortState) → IsSwitchKept replays p p
-switch_kept true p = tt
+switch_kept true p = refl
 switch_kept false p = refl
 
 -- a request that isn't let through a gate is refused there
@@ -101,17 +105,28 @@ unput_answer (Err refusal) request text f f' p p' o o' answer read kept put =
 
 -- ## Splits
 
--- the chosen split of a flat program is that of the middlebox
-pub compilation : (p q : Program) (split : List Part) (allowed : Limits) (writeback : ℕ) (shrink : Bool)
-    (text sent : List ℕ) → p ≡ q → IsChoice p allowed shrink split → writeback ≡ allowed.writeback
-    → text ≡ compiled_text p split writeback → sent ≡ text → IsCompilation sent q allowed shrink
-compilation p q split allowed writeback shrink text sent same choice rows printed put =
-    subst (λ (x : Program). IsCompilation sent x allowed shrink) same
-    record {
-      split = split;
-      printed = put ∙ printed ∙ ap (λ (n : ℕ). compiled_text p split n) rows;
-      choice = choice;
-    }
+-- the split of a flat program that leaves all to the server, and the chosen one, are those of the middlebox
+pub served_split : (told : List ℕ → Option (List ℕ)) (s : List ℕ) (m : Tree) (q : Program) (split : List Part)
+    → IsProgram told s m → q ≡ flat_of m → IsGreatestSplit q 0 false split → IsLegal q split
+    → IsSplitBy Served told s m split 0
+served_split told s m q split found same least legal =
+    (found, subst (λ (x : Program). IsNoChoice x split) same record { least = least; legal = legal }, refl)
+
+pub chosen_split : (told : List ℕ → Option (List ℕ)) (s l : List ℕ) (shrink : Bool) (m : Tree) (allowed : Limits)
+    (q : Program) (split : List Part) → IsPlan told s l m allowed → q ≡ flat_of m → IsChosen q allowed shrink split
+    → IsLegal q split → KeepsLimits q split allowed → IsSplitBy (Within l shrink) told s m split allowed.writeback
+chosen_split told s l shrink m allowed q split found same chosen legal keeps = (
+  allowed,
+  found,
+  subst (λ (x : Program). IsChoice x allowed shrink split) same record { chosen = chosen; legal = legal; keeps = keeps },
+  refl,
+)
+
+-- the text that tells a split of the flat program of a middlebox
+pub split_printed : (p q : Program) (split : List Part) (writeback : ℕ) (text sent : List ℕ) → p ≡ q
+    → text ≡ compiled_text p split writeback → sent ≡ text → sent ≡ compiled_text q split writeback
+split_printed p q split writeback text sent same printed put =
+    put ∙ printed ∙ ap (λ (x : Program). compiled_text x split writeback) same
 
 -- the parts of a text, one after the other, are the text that tells a split
 pub told_split : (f : Program) (split : List Part) (writeback n : ℕ) (counts : Counts)
@@ -133,94 +148,65 @@ told_split f split writeback n counts words head list parts some all counted wor
 reads_at_most : (a b x y z : ℕ) → y ≡ raised_by a x → z ≤ raised_by b y → z ≤ raised_by (a + b) x
 reads_at_most a b x y z one two = omega arith
 
+more_reads : (a b x y : ℕ) → y ≤ raised_by a x → y ≤ raised_by (a + b) x
+more_reads a b x y few = omega arith
+
 reads_in_all : (a b x y z : ℕ) → y ≡ raised_by a x → z ≡ raised_by b y → z ≡ raised_by (a + b) x
 reads_in_all a b x y z one two = omega arith
 
--- what a refusal at the trace or the schedule comes to, behind gates that are passed
-traffic_cause : (refusal : Refusal) (request : Request) (gates : List Gate) (t c : List ℕ) (f g h : FilesState)
-    (p : PortState) (o : SinkState) (a b : ℕ) → gates_of request ≡ gates ++ event_gates t c
-    → length (names_of request) ≡ a + b → AllPassed gates f → GoesOn statuses.Done f g → g.reads ≡ raised_by a f.reads
-    → IsFirstRefused refusal (event_gates t c) g h → h.reads ≤ raised_by b g.reads
-    → HasCause refusal (Some request) (work_of f h p p o o)
-traffic_cause refusal request gates t c f g h p o a b goes_by many passed goes one first two =
-    let before = first_before refusal (event_gates t c) f g h goes first in
-    let behind = refused_behind refusal gates (event_gates t c) f h passed before in
-    let few = reads_at_most a b f.reads g.reads h.reads one two in
-    gate_cause refusal request f h p o
-    (subst (λ (all : List Gate). IsFirstRefused refusal all f h) (sym goes_by) behind)
-    (subst (λ n. h.reads ≤ raised_by n f.reads) (sym many) few)
-
-pub served_refused : (refusal : Refusal) (s t c : List ℕ) (m : Tree) (f g h : FilesState) (p : PortState) (o : SinkState)
-    → IsProgram f.told s m → GoesOn statuses.Done f g → g.reads ≡ raised_by 1 f.reads
-    → IsFirstRefused refusal (event_gates t c) g h → h.reads ≤ raised_by 2 g.reads
-    → HasCause refusal (Some (Replay s t c)) (work_of f h p p o o)
-served_refused refusal s t c m f g h p o found goes one first two =
-    traffic_cause refusal (Replay s t c) (File s program ∷ []) t c f g h p o 1 2 refl refl
-    (passed_program s f m found.source found.bounded.few, tt) goes one first two
-
-pub chosen_refused : (refusal : Refusal) (s t c l : List ℕ) (shrink : Bool) (m : Tree) (allowed : Limits) (q : Program)
-    (split : List Part) (f g h : FilesState) (p : PortState) (o : SinkState) → IsPlan f.told s l m allowed
-    → q ≡ flat_of m → IsChoice q allowed shrink split → GoesOn statuses.Done f g → g.reads ≡ raised_by 2 f.reads
-    → IsFirstRefused refusal (event_gates t c) g h → h.reads ≤ raised_by 2 g.reads
-    → HasCause refusal (Some (ReplayWithin s t c l shrink)) (work_of f h p p o o)
-chosen_refused refusal s t c l shrink m allowed q split f g h p o found same choice goes one first two =
-    let chosen = subst (λ (x : Program). IsChosen x allowed shrink split) same choice.chosen in
-    traffic_cause refusal (ReplayWithin s t c l shrink) (plan_gates s l shrink) t c f g h p o 2 2 refl refl (
-      passed_program s f m found.program.source found.program.bounded.few,
-      (passed_limits l f allowed found.limits, ((m, allowed, split, found, chosen), tt)),
-    )
-    goes one first two
-
--- the report of a replay that was put on out is an answer
-report_put : (sent text : List ℕ) (m : Tree) (split : List Part) (writeback rows : ℕ) (packets : List Packet) (plan : Plan)
-    (p p' : PortState) → sent ≡ text → writeback ≡ rows → IsReport text m (setup m split writeback packets) plan p p'
-    → IsReport sent m (setup m split rows packets) plan p p'
-report_put sent text m split writeback rows packets plan p p' put same report =
-    subst (λ x. IsReport x m (setup m split rows packets) plan p p') (sym put)
-    (subst (λ n. IsReport text m (setup m split n packets) plan p p') same report)
-
-pub served_answer : (s t c : List ℕ) (m : Tree) (q : Program) (split : List Part) (writeback : ℕ) (packets : List Packet)
-    (plan : Plan) (text sent : List ℕ) (f g : FilesState) (p p' : PortState) → GoesOn statuses.Done f g → IsProgram f.told s m
-    → q ≡ flat_of m → IsNoChoice q split → writeback ≡ 0 → IsTraffic g.told t c packets plan
-    → IsReport text m (setup m split writeback packets) plan p p' → sent ≡ text
-    → IsAnswer sent (Replay s t c) f.told p p'
-served_answer s t c m q split writeback packets plan text sent f g p p' goes found same none rows traffic report put = (
-  m,
-  packets,
-  plan,
-  split,
-  found,
-  traffic_before t c f g packets plan goes traffic,
-  subst (λ (x : Program). IsNoChoice x split) same none,
-  report_put sent text m split writeback 0 packets plan p p' put rows report,
-)
-
-pub chosen_answer : (s t c l : List ℕ) (shrink : Bool) (m : Tree) (allowed : Limits) (q : Program) (split : List Part)
-    (writeback : ℕ) (packets : List Packet) (plan : Plan) (text sent : List ℕ) (f g : FilesState) (p p' : PortState)
-    → GoesOn statuses.Done f g → IsPlan f.told s l m allowed → q ≡ flat_of m → IsChoice q allowed shrink split
-    → writeback ≡ allowed.writeback → IsTraffic g.told t c packets plan
-    → IsReport text m (setup m split writeback packets) plan p p' → sent ≡ text
-    → IsAnswer sent (ReplayWithin s t c l shrink) f.told p p'
-chosen_answer s t c l shrink m allowed q split writeback packets plan text sent f g p p' goes found same choice rows traffic report put = (
-  m,
-  allowed,
-  packets,
-  plan,
-  split,
-  found,
-  traffic_before t c f g packets plan goes traffic,
-  subst (λ (x : Program). IsChoice x allowed shrink split) same choice,
-  report_put sent text m split writeback allowed.writeback packets plan p p' put rows report,
-)
+-- the files of a replay are those of its split, and two more
+replay_names : (s t c : List ℕ) (by : Splitting) → length (names_of (Replay s t c by)) ≡ split_reads s by + 2
+replay_names s t c Served = refl
+replay_names s t c (Within l shrink) = refl
 
 -- all reads of a replay
-pub served_reads : (f g h : FilesState) → g.reads ≡ raised_by 1 f.reads → h.reads ≡ raised_by 2 g.reads
-    → h.reads ≡ raised_by 3 f.reads
-served_reads f g h one two = reads_in_all 1 2 f.reads g.reads h.reads one two
+pub replay_reads : (s t c : List ℕ) (by : Splitting) (f g h : FilesState) → g.reads ≡ raised_by (split_reads s by) f.reads
+    → h.reads ≡ raised_by 2 g.reads → h.reads ≡ most_reads (Replay s t c by) f
+replay_reads s t c by f g h one two =
+    subst (λ n. h.reads ≡ raised_by n f.reads) (sym (replay_names s t c by))
+    (reads_in_all (split_reads s by) 2 f.reads g.reads h.reads one two)
 
-pub chosen_reads : (f g h : FilesState) → g.reads ≡ raised_by 2 f.reads → h.reads ≡ raised_by 2 g.reads
-    → h.reads ≡ raised_by 4 f.reads
-chosen_reads f g h one two = reads_in_all 2 2 f.reads g.reads h.reads one two
+-- what a refusal at the split comes to
+pub split_refused : (refusal : Refusal) (s t c : List ℕ) (by : Splitting) (f g : FilesState) (p : PortState) (o : SinkState)
+    → IsFirstRefused refusal (split_gates s by) f g → g.reads ≤ raised_by (split_reads s by) f.reads
+    → HasCause refusal (Some (Replay s t c by)) (work_of f g p p o o)
+split_refused refusal s t c by f g p o first few =
+    gate_cause refusal (Replay s t c by) f g p o
+    (refused_of_more refusal (split_gates s by) (event_gates t c) f g first)
+    (subst (λ n. g.reads ≤ raised_by n f.reads) (sym (replay_names s t c by))
+    (more_reads (split_reads s by) 2 f.reads g.reads few))
+
+-- what a refusal at the trace or the schedule comes to, behind a split that is found
+pub traffic_refused : (refusal : Refusal) (s t c : List ℕ) (by : Splitting) (m : Tree) (split : List Part) (writeback : ℕ)
+    (f g h : FilesState) (p : PortState) (o : SinkState) → IsSplitBy by f.told s m split writeback
+    → GoesOn statuses.Done f g → g.reads ≡ raised_by (split_reads s by) f.reads
+    → IsFirstRefused refusal (event_gates t c) g h → h.reads ≤ raised_by 2 g.reads
+    → HasCause refusal (Some (Replay s t c by)) (work_of f h p p o o)
+traffic_refused refusal s t c by m split writeback f g h p o found goes one first two =
+    let before = first_before refusal (event_gates t c) f g h goes first in
+    let passed = split_passed by s f m split writeback found in
+    gate_cause refusal (Replay s t c by) f h p o
+    (refused_behind refusal (split_gates s by) (event_gates t c) f h passed before)
+    (subst (λ n. h.reads ≤ raised_by n f.reads) (sym (replay_names s t c by))
+    (reads_at_most (split_reads s by) 2 f.reads g.reads h.reads one two))
+
+-- the report of a replay that was put on out is an answer
+pub replay_answer : (s t c : List ℕ) (by : Splitting) (m : Tree) (split : List Part) (writeback : ℕ)
+    (packets : List Packet) (plan : Plan) (text sent : List ℕ) (f g : FilesState) (p p' : PortState)
+    → GoesOn statuses.Done f g → IsSplitBy by f.told s m split writeback → IsTraffic g.told t c packets plan
+    → ((replayed : Replayed) × IsReport text m (given m split writeback packets) plan replayed p p') → sent ≡ text
+    → IsAnswer sent (Replay s t c by) f.told p p'
+replay_answer s t c by m split writeback packets plan text sent f g p p' goes found traffic report put = (
+  m,
+  split,
+  writeback,
+  packets,
+  plan,
+  report.0,
+  found,
+  traffic_before t c f g packets plan goes traffic,
+  subst (λ x. IsReport x m (given m split writeback packets) plan report.0 p p') (sym put) report.1,
+)
 
 -- ## What the words ask for
 

@@ -1,6 +1,6 @@
 -- What a text on out says.
-use Rattle.std.specs.Prelude.{◌≡◌, ◌≤◌, ℕ, List, ◌++◌, length, Option, IfSome, IsSome, Ok, Bool, true}
-use Rattle.std.specs.Prelude.{false, IsTrue, codes, decimal}
+use Rattle.std.specs.Prelude.{◌≡◌, ◌≤◌, ℕ, List, ◌∷◌, ◌++◌, length, slice_get, Option, IfSome, IsSome, IsSomeAnd, Ok}
+use Rattle.std.specs.Prelude.{Bool, true, false, IsTrue, codes, decimal}
 use Rattle.packet_fields.specs.declared.packet.Packet.{Packet}
 use Rattle.state_store.specs.Store.{start_store}
 use Rattle.element_lang.specs.Tree.{Tree}
@@ -19,21 +19,28 @@ use Rattle.resource_limits.specs.Counts.{counts_of}
 use Rattle.resource_limits.specs.Kept.{KeepsLimits}
 use Rattle.partition.specs.Choice.{IsChosen}
 use Rattle.run_text.specs.declared.plan.Plan.{Plan}
-use Rattle.run_text.specs.declared.run.Run.{Run as RunTold}
 use Rattle.run_text.specs.Trace.{trace_of, schedule_of}
 use Rattle.run_text.specs.Report.{report_of}
-use Rattle.run_text.specs.Parts.{parts_of}
 use Rattle.run_text.specs.Answer.{answer_of}
 use Rattle.split_model.specs.Greatest.{IsGreatestSplit}
-use Rattle.split_world.specs.Meaning.{Meaning}
-use Rattle.split_world.specs.Run.{is_quiet}
-use Rattle.split_world.specs.Drain.{plan_run, plan_world}
-use Rattle.split_world.specs.Serialises.{Serialises, AllReleased, IsDrained}
+use Rattle.run_model.specs.declared.event.Event.{Event}
+use Rattle.run_model.specs.declared.event.Event.TheVariants.{Admit}
+use Rattle.run_model.specs.declared.run.Run.{Run as RunTold}
+use Rattle.run_model.specs.Meaning.{Meaning}
+use Rattle.run_model.specs.Parts.{parts_of}
+use Rattle.run_model.specs.Serialises.{Serialises, AllReleased, IsDrained, is_fast}
 use Rattle.switch_ir.specs.Port.{PortState}
-use Rattle.schedule_replay.specs.declared.job.Replayed.{Replayed}
-use Rattle.schedule_replay.specs.Setup.{Setup, whole}
-use Rattle.schedule_replay.specs.Replayed.{HasNewestTables, IsReported}
-use Rattle.gallium_cli.specs.Words.{Request, Run, Compile, Replay, ReplayWithin}
+use Rattle.replay_state.specs.Drain.{is_quiet, plan_events}
+use Rattle.replay_state.specs.Program.{packet_at, plain_manner}
+use Rattle.replay_state.specs.Run.{job_run, seen_store}
+use Rattle.replay_state.specs.State.{State}
+use Rattle.replay_state.specs.Step.{applies}
+use Rattle.split_answers.specs.Through.{HasTables}
+use Rattle.replay_contracts.specs.declared.job.Replayed.{Replayed}
+use Rattle.replay_contracts.specs.Given.{Given, setup_for, whole, whole_runs}
+use Rattle.replay_contracts.specs.Promise.{state_for}
+use Rattle.replay_contracts.specs.Replayer.{IsReported}
+use Rattle.gallium_cli.specs.Words.{Splitting, Served, Within, Request, Run, Compile, Replay}
 use Rattle.gallium_cli.specs.Lines.{line_end}
 use Rattle.gallium_cli.specs.Roles.{source, program, limits, trace, schedule, size_of, AreLimits}
 
@@ -94,63 +101,90 @@ pub record IsNoChoice (f : Program) (split : List Part) : Type 0 where
   pub least : IsGreatestSplit f 0 false split
   pub legal : IsLegal f split
 
--- A text that tells a split of this program, and that very split is the one that is chosen for these limits.
-pub record IsCompilation (text : List ℕ) (f : Program) (allowed : Limits) (shrink : Bool) : Type 0 where
-  pub split : List Part
-  pub printed : text ≡ compiled_text f split allowed.writeback
-  pub choice : IsChoice f allowed shrink split
+-- The told contents spell this middlebox and this split of it, with so many rows in each write-back table: everything is
+-- left to the server, and there are none; or it is the one that is chosen for these limits.
+abbrev pub IsSplitBy : Splitting → (List ℕ → Option (List ℕ)) → List ℕ → Tree → List Part → ℕ → Type 0
+IsSplitBy Served told s m split writeback = IsProgram told s m × IsNoChoice (flat_of m) split × (writeback ≡ 0)
+IsSplitBy (Within l shrink) told s m split writeback =
+    (allowed : Limits) × IsPlan told s l m allowed × IsChoice (flat_of m) allowed shrink split
+    × (writeback ≡ allowed.writeback)
 
 -- ## Replays
 
--- what the source does to whole packets
-abbrev pub source_of : Tree → Meaning
-source_of m = record { objects = m.objects; after = source_store m; verdict = source_verdict m }
+-- what the source does to the packets of a trace, which go by their numbers
+abbrev pub source_of : Tree → List Packet → Meaning
+source_of m packets = record {
+  objects = m.objects;
+  after = λ store n. source_store m store (packet_at packets n);
+  verdict = λ store n. source_verdict m store (packet_at packets n);
+}
 
--- a split middlebox, and the packets of a trace
-abbrev pub setup : Tree → List Part → ℕ → List Packet → Setup
-setup m split writeback packets =
-    record { program = flat_of m; split = split; writeback = writeback; packets = packets }
+-- a split middlebox and the packets of a trace, as a replay takes them: each pass is one event, and each batch goes by
+-- itself
+abbrev pub given : Tree → List Part → ℕ → List Packet → Given
+given m split writeback packets = record {
+  program = flat_of m;
+  split = split;
+  writeback = writeback;
+  packets = packets;
+  manner = plain_manner;
+}
+
+-- the events of a plan, with those that drain picks where whole packets run over whole stores, and the state that they
+-- end in
+abbrev pub events_of : Given → Plan → List Event
+events_of x plan = plan_events (setup_for x) (whole_runs x) plan.events plan.drain
+
+abbrev pub end_of : Given → Plan → State
+end_of x plan = state_for x (events_of x plan)
 
 -- where nothing is left on its way at the end of a plan
-abbrev pub EndsQuiet : Setup → Plan → Type 0
-EndsQuiet x plan = IsTrue (is_quiet (plan_world (whole x) x.packets plan.events plan.drain))
+abbrev pub EndsQuiet : Given → Plan → Type 0
+EndsQuiet x plan = IsTrue (is_quiet (end_of x plan))
+
+-- the packet that comes in behind these events is fast just where it is over the store that lookups see then
+abbrev pub IsFastAsSeen : Given → List Event → RunTold → Type 0
+IsFastAsSeen x before run =
+    let st = state_for x before in
+    let n = length st.progress in
+    is_fast (slice_get run.fates n) ≡ (whole x).is_fast (seen_store st) (packet_at x.packets n)
 
 -- What a switch that tells its tables makes of a plan: a serial run of the source.
-pub record IsSerialRun (m : Tree) (x : Setup) (plan : Plan) (run : RunTold) (port : PortState) : Type 0 where
-  -- it is the run of the world
-  pub run_is : run ≡ plan_run (whole x) x.packets plan.events plan.drain
+pub record IsSerialRun (m : Tree) (x : Given) (plan : Plan) (run : RunTold) (port : PortState) : Type 0 where
+  -- it is the run of whole packets by these events
+  pub run_is : run ≡ job_run (setup_for x) (whole_runs x) (events_of x plan)
   -- what it releases, and what it leaves, is what the source does to the decided packets in the reported order
-  pub serialises : Serialises (source_of m) x.packets run
+  pub serialises : Serialises (source_of m x.packets) run
+  -- each packet that an event of the plan admits, or one of drain, is fast just where lookups saw it so
+  pub fast : (before behind : List Event) → events_of x plan ≡ before ++ Admit ∷ behind
+      → applies (setup_for x) (state_for x before) Admit ≡ true → IsFastAsSeen x before run
   -- where nothing is left on its way, every admitted packet was released with its verdict, and the switch has the
   -- server's tables
-  pub quiet : EndsQuiet x plan → AllReleased (source_of m) x.packets run
-  pub tables : EndsQuiet x plan → HasNewestTables x plan.events plan.drain port
+  pub quiet : EndsQuiet x plan → AllReleased (source_of m x.packets) run
+  pub tables : EndsQuiet x plan
+      → IsSomeAnd port.told (HasTables x.program x.split x.writeback (end_of x plan).store)
   -- and where it says `drained`, every packet of the trace was
-  pub drained : run.drained ≡ true → IsDrained (source_of m) x.packets run
+  pub drained : run.drained ≡ true → IsDrained (source_of m x.packets) run
 
--- A text that reports the replay of a split middlebox over a switch. Whatever the switch answers, the report is what
--- its calls make of the schedule; where it tells its tables, that very run is a serial run of the source.
-pub record IsReport (text : List ℕ) (m : Tree) (x : Setup) (plan : Plan) (port port_after : PortState) : Type 0 where
-  pub replayed : Replayed
-  pub printed : text ≡ report_of m.objects replayed.run
-  pub answered : IsReported x plan.events plan.drain replayed port_after
-  pub serial : IsSome port.told → IsSerialRun m x plan replayed.run port_after
+-- A text that reports this replay of a split middlebox over a switch. Whatever the switch answers, it tells what the
+-- calls of the switch make of the plan, each packet is released once, and a plan with `drain` ends drained; where the
+-- switch tells its tables, this very run is a serial run of the source.
+abbrev pub IsReport : List ℕ → Tree → Given → Plan → Replayed → PortState → PortState → Type 0
+IsReport text m x plan replayed port port_after =
+    (text ≡ report_of m.objects replayed.run) × IsReported x plan.events plan.drain replayed port_after
+    × (IsSome port.told → IsSerialRun m x plan replayed.run port_after)
 
 -- ## Answers
 
 -- A text that answers a request: for some middlebox, packets and events that the files spell, what the source does to
--- the packets one after the other; or for some middlebox and limits, the split that is chosen; or the report of the
--- replay of a middlebox by that split, or with every packet sent to the server.
+-- the packets one after the other; or the split that is asked for; or the report of a replay by that split.
 abbrev pub IsAnswer : List ℕ → Request → (List ℕ → Option (List ℕ)) → PortState → PortState → Type 0
 IsAnswer text (Run s t) told port port_after =
     (m : Tree) × (packets : List Packet) × IsInput told s t m packets × (text ≡ serial_answer m packets)
 IsAnswer text (Compile s l shrink) told port port_after =
-    (m : Tree) × (allowed : Limits) × IsPlan told s l m allowed × IsCompilation text (flat_of m) allowed shrink
-IsAnswer text (Replay s t c) told port port_after =
-    (m : Tree) × (packets : List Packet) × (plan : Plan) × (split : List Part)
-    × IsProgram told s m × IsTraffic told t c packets plan × IsNoChoice (flat_of m) split
-    × IsReport text m (setup m split 0 packets) plan port port_after
-IsAnswer text (ReplayWithin s t c l shrink) told port port_after =
-    (m : Tree) × (allowed : Limits) × (packets : List Packet) × (plan : Plan) × (split : List Part)
-    × IsPlan told s l m allowed × IsTraffic told t c packets plan × IsChoice (flat_of m) allowed shrink split
-    × IsReport text m (setup m split allowed.writeback packets) plan port port_after
+    (m : Tree) × (split : List Part) × (writeback : ℕ)
+    × IsSplitBy (Within l shrink) told s m split writeback × (text ≡ compiled_text (flat_of m) split writeback)
+IsAnswer text (Replay s t c by) told port port_after =
+    (m : Tree) × (split : List Part) × (writeback : ℕ) × (packets : List Packet) × (plan : Plan) × (replayed : Replayed)
+    × IsSplitBy by told s m split writeback × IsTraffic told t c packets plan
+    × IsReport text m (given m split writeback packets) plan replayed port port_after

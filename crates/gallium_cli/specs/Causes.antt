@@ -1,6 +1,6 @@
 -- How a call ends: why each refusal comes, and what it leaves on out and err.
 use Rattle.std.specs.Prelude.{◌≡◌, ◌≤◌, ◌⊎◌, ℕ, Bool, true, false, List, [], ◌∷◌, length, take}
-use Rattle.std.specs.Prelude.{Option, Some, None, IfSome}
+use Rattle.std.specs.Prelude.{Option, Some, None, IfSome, is_some}
 use Rattle.std.specs.Option.{option_map}
 use Rattle.std.specs.Io.KnownBytes.{append_known}
 use Rattle.gal_io.specs.Count.{Rose, IsCountedIf}
@@ -77,9 +77,9 @@ IsFirstRefused refusal (gate ∷ gates) f f' =
 abbrev pub most_reads : Request → FilesState → ℕ
 most_reads request f = raised_by (length (names_of request)) f.reads
 
--- only a replay calls the switch
+-- only a replay calls the switch, which then tells its tables just where it told them before
 abbrev pub IsSwitchKept : Bool → PortState → PortState → Type 0
-IsSwitchKept true port port_after = Unit {0}
+IsSwitchKept true port port_after = is_some port_after.told ≡ is_some port.told
 IsSwitchKept false port port_after = port_after ≡ port
 
 -- the answer to a request was taken whole by out, and there was one read for each of its files

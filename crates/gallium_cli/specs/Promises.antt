@@ -1,6 +1,6 @@
 -- What the program promises of a whole call.
 use Rattle.std.specs.Prelude.{◌≡◌, ◌<◌, ◌≤◌, ◌⊎◌, ◌≢◌, ℕ, true, false, List, [], ◌∷◌, length, Option, Some, None}
-use Rattle.std.specs.Prelude.{IsSomeAnd}
+use Rattle.std.specs.Prelude.{IsSomeAnd, is_some}
 use Rattle.std.specs.Io.KnownBytes.{append_known}
 use Rattle.gal_io.specs.Count.{Rose}
 use Rattle.element_lang.specs.Tree.{Tree}
@@ -20,7 +20,7 @@ use Rattle.gallium_cli.specs.declared.status.Status.TheVariants.{NoMemory}
 use Rattle.gallium_cli.specs.declared.refusal.Refusal.{Refusal}
 use Rattle.gallium_cli.specs.declared.refusal.Refusal.TheVariants as refusals
 use Rattle.gallium_cli.specs.Call.{Call, Work}
-use Rattle.gallium_cli.specs.Words.{Request, Compile, ReplayWithin, is_replay, request_of}
+use Rattle.gallium_cli.specs.Words.{Request, Compile, Replay, Within, is_replay, request_of}
 use Rattle.gallium_cli.specs.Lines.{status_of, line_of}
 use Rattle.gallium_cli.specs.Roles.{Role, source, program, limits, trace, schedule, size_of}
 use Rattle.gallium_cli.specs.Roles.{Gate, File, Choice, gates_of, names_of}
@@ -154,7 +154,7 @@ IsCauseTold (Some request) result call =
 -- a limit is exceeded only where a split may not shrink
 abbrev pub MayExceed : Option Request → Type 0
 MayExceed (Some (Compile s l false)) = Unit {0}
-MayExceed (Some (ReplayWithin s t c l false)) = Unit {0}
+MayExceed (Some (Replay s t c (Within l false))) = Unit {0}
 MayExceed _ = ⊥
 
 -- there is at most one read for each file of a request, and where it is done, just one; with no request there is none
@@ -197,6 +197,8 @@ pub record Promises (status : Status) (call : Call) : Type 0 where
   pub uncalled : BlamesInput status → call.work.port_after ≡ call.work.port
   -- what is no replay leaves the switch as it was
   pub aside : ¬ (IsReplay (request_of call.words)) → call.work.port_after ≡ call.work.port
+  -- however it ends, the switch tells its tables just where it told them before
+  pub tells : is_some call.work.port_after.told ≡ is_some call.work.port.told
   -- each file is read once
   pub once : IsReadOnce (request_of call.words) status call
   -- which status comes, by the words and the told texts

@@ -8,7 +8,7 @@ use Rattle.resource_limits.specs.Limits as texts
 use Rattle.resource_limits.specs.declared.limits.Limits.{Limits}
 use Rattle.run_text.specs.declared.plan.Plan.{Plan}
 use Rattle.run_text.specs.Trace.{trace_of, schedule_of}
-use Rattle.gallium_cli.specs.Words.{Request, Run, Compile, Replay, ReplayWithin}
+use Rattle.gallium_cli.specs.Words.{Splitting, Served, Within, Request, Run, Compile, Replay}
 
 -- what a file is read as
 pub data Role : Type 0 where
@@ -61,6 +61,11 @@ pub data Gate : Type 0 where
 abbrev pub plan_gates : List ℕ → List ℕ → Bool → List Gate
 plan_gates s l shrink = File s program ∷ (File l limits ∷ (Choice s l shrink ∷ []))
 
+-- what a split of a source goes through
+abbrev pub split_gates : List ℕ → Splitting → List Gate
+split_gates s Served = File s program ∷ []
+split_gates s (Within l shrink) = plan_gates s l shrink
+
 abbrev pub event_gates : List ℕ → List ℕ → List Gate
 event_gates t c = File t trace ∷ (File c schedule ∷ [])
 
@@ -68,8 +73,7 @@ event_gates t c = File t trace ∷ (File c schedule ∷ [])
 abbrev pub gates_of : Request → List Gate
 gates_of (Run s t) = File s source ∷ (File t trace ∷ [])
 gates_of (Compile s l shrink) = plan_gates s l shrink
-gates_of (Replay s t c) = File s program ∷ event_gates t c
-gates_of (ReplayWithin s t c l shrink) = plan_gates s l shrink ++ event_gates t c
+gates_of (Replay s t c by) = split_gates s by ++ event_gates t c
 
 -- the names of the files among them
 abbrev pub names_in : List Gate → List (List ℕ)
@@ -80,3 +84,7 @@ names_in (Choice s l shrink ∷ gates) = names_in gates
 -- the names of the files of a request, in that order
 abbrev pub names_of : Request → List (List ℕ)
 names_of request = names_in (gates_of request)
+
+-- how many files a split of a source is read from
+abbrev pub split_reads : List ℕ → Splitting → ℕ
+split_reads s by = length (names_in (split_gates s by))

@@ -6,7 +6,7 @@ use Rattle.flat_ir.specs.Program.{Program}
 use Rattle.flatten.specs.Flatten.{flat_of}
 use Rattle.split_model.specs.declared.split.Part.{Part}
 use Rattle.split_model.specs.Bounds.{HasFewStages}
-use Rattle.split_program.specs.Whole.{IsSplit}
+use Rattle.split_answers.specs.Whole.{IsSplit}
 
 -- the flat program of a middlebox, and a split of it for write-back tables of so many rows, as a replay asks for them
 pub record IsRunnable (m : Tree) (f : Program) (split : List Part) (writeback : ℕ) : Type 0 where

@@ -8,7 +8,7 @@ ghost use Rattle.flat_ir.specs.Program.{program_of};
 ghost use Rattle.flatten.specs.Flatten.{flat_of};
 ghost use Rattle.resource_limits.specs.Limits.{AreInRange};
 ghost use Rattle.split_model.specs.Bounds.{IsBounded};
-ghost use Rattle.run_text.specs.Sizes.{most_events, most_packets};
+ghost use Rattle.run_model.specs.Sizes.{most_events, most_packets};
 ghost use Rattle.run_text.specs.Trace.{trace_of, schedule_of};
 ghost use Rattle.gallium_cli.specs.Roles.{source, program, limits, trace, schedule, AreLimits};
 ghost use Rattle.gallium_cli.specs.Answers.{IsOnlySource};

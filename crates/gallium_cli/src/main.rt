@@ -13,6 +13,7 @@ mod load;
 mod output;
 mod refusal;
 mod replay;
+mod splitting;
 mod status;
 mod top;
 mod words;

@@ -1,33 +1,35 @@
 //! Replays of a middlebox over a switch.
-ghost use Rattle.std.specs.Prelude.{◌≡◌, ◌⊎◌, ◌≤◌, ◌∷◌, [], Some, IfOk, IfErr, OnOk, length};
+ghost use Rattle.std.specs.Prelude.{◌≡◌, ◌⊎◌, ◌≤◌, Some, IfOk, IfErr, OnOk, is_some, length};
 ghost use Rattle.gal_io.specs.Count.{Rose};
 ghost use Rattle.element_lang.specs.View.{tree};
 ghost use Rattle.flat_ir.specs.Program.{program_of};
-ghost use Rattle.run_text.specs.Sizes.{most_events, most_packets};
-ghost use Rattle.gallium_cli.specs.Answers.{IsNoChoice, IsProgram, IsReport, IsTraffic, setup};
+ghost use Rattle.run_model.specs.Sizes.{most_events, most_packets};
+ghost use Rattle.replay_contracts.specs.declared.job.Replayed.{Replayed};
+ghost use Rattle.gallium_cli.specs.Answers.{IsReport, IsTraffic, given};
 ghost use Rattle.gallium_cli.specs.Call.{work_of};
 ghost use Rattle.gallium_cli.specs.Causes.{CountsFaults, HasCause, IsDone, IsFirstRefused};
 ghost use Rattle.gallium_cli.specs.Lines.{status_of};
 ghost use Rattle.gallium_cli.specs.Loads.{GoesOn, raised_by};
-ghost use Rattle.gallium_cli.specs.Roles.{program, File, event_gates};
+ghost use Rattle.gallium_cli.specs.Roles.{event_gates};
 ghost use Rattle.gallium_cli.specs.Runnable.{IsRunnable};
-ghost use Rattle.gallium_cli.specs.Words.{Replay, ReplayWithin};
+ghost use Rattle.gallium_cli.specs.Words.{Replay, split_asked};
 
 use crate::arrivals::all_arrive;
-use crate::compile::{SplitMiddlebox, load_split};
-use crate::formats::{Flattened, ProgramFormat, ScheduleFormat, TraceFormat};
+use crate::formats::{Flattened, ScheduleFormat, TraceFormat};
 use crate::load::load;
 use crate::output::put;
 use crate::refusal::Refusal;
+use crate::splitting::{SplitMiddlebox, load_split};
 use crate::status::Status;
+use crate::words::SplitForm;
 use element_interp::stores_are_kept;
 use flatten::flattening_keeps_the_meaning;
 use gal_io::{Files, Sink, Text};
 use packet_fields::Packets;
-use partition::all_on_server;
+use replay_state::a_packet_is_fast_by_what_is_seen;
+use run_model::meanings_that_agree;
 use run_text::{Plan, print_run};
 use schedule_replay::{Job, ReplayError, replay};
-use split_world::meanings_that_agree;
 use std::alloc::Global;
 use switch_ir::SwitchPort;
 
@@ -56,36 +58,6 @@ fn load_traffic<'a, F: Files>(
     }
 }
 
-// The middlebox that a file spells, with every instruction left to the server.
-fn load_unsplit<'a, F: Files>(
-    alloc: Global,
-    source: &'a str,
-    files: &mut F,
-) -> Result<SplitMiddlebox, Refusal<'a>>
-    ensures ok { IfOk result (λ x. IsProgram (F.seen files.old).told source.now (tree x.program.middlebox)
-        × IsNoChoice (program_of x.program.flat) x.split × (x.writeback ≡ 0)) }
-    ensures runnable { IfOk result (λ x.
-        IsRunnable (tree x.program.middlebox) (program_of x.program.flat) x.split x.writeback) }
-    ensures err { IfErr result (λ refusal. IsFirstRefused refusal (File source.now program ∷ [])
-        (F.seen files.old) (F.seen files.new)) }
-    ensures stays { OnOk result (GoesOn Status.Done (F.seen files.old) (F.seen files.new)) }
-    ensures fault { IfErr result (λ refusal.
-        GoesOn (status_of refusal) (F.seen files.old) (F.seen files.new)) }
-    ensures read { OnOk result ((F.seen files.new).reads ≡ raised_by 1 (F.seen files.old).reads) }
-    ensures few_reads { (F.seen files.new).reads ≤ raised_by 1 (F.seen files.old).reads }
-{
-    stores_are_kept();
-    let program = load(alloc, files, &ProgramFormat, source)?;
-    match all_on_server(alloc, &program.flat) {
-        Ok(split) => Ok(SplitMiddlebox {
-            program,
-            split,
-            writeback: 0,
-        }),
-        Err(_) => Err(Refusal::NoMemory),
-    }
-}
-
 // The text that reports the replay of a split middlebox.
 fn report<S: SwitchPort>(
     alloc: Global,
@@ -99,13 +71,15 @@ fn report<S: SwitchPort>(
     requires few_packets { length packets ≤ most_packets }
     requires few_events { length plan.events ≤ most_events }
     ensures ok { IfOk result (λ text. let m = tree split_middlebox.program.middlebox in
-        IsReport text m (setup m split_middlebox.split split_middlebox.writeback packets) plan
-        (S.seen port.old) (S.seen port.new)) }
+        (replayed : Replayed) × IsReport text m (given m split_middlebox.split split_middlebox.writeback packets)
+        plan replayed (S.seen port.old) (S.seen port.new)) }
+    ensures stays { is_some (S.seen port.new).told ≡ is_some (S.seen port.old).told }
     ensures no_fault { OnOk result ((S.seen port.new).faults ≡ (S.seen port.old).faults) }
     ensures err { IfErr result (λ refusal.
         ((refusal ≡ Refusal.NoMemory) × ((S.seen port.new).faults ≡ (S.seen port.old).faults))
         ⊎ ((refusal ≡ Refusal.SwitchFault) × Rose (S.seen port.old).faults (S.seen port.new).faults)) }
 {
+    a_packet_is_fast_by_what_is_seen();
     stores_are_kept();
     flattening_keeps_the_meaning();
     meanings_that_agree();
@@ -135,53 +109,23 @@ fn report<S: SwitchPort>(
     }
 }
 
-/// Replays what three files spell with every packet sent to the server, and writes the report.
+/// Replays what three files spell with the split that is asked for, and writes the report.
 pub fn perform_replay<'a, F: Files, S: SwitchPort, O: Sink>(
     alloc: Global,
     source: &'a str,
     trace: &'a str,
     schedule: &'a str,
-    files: &mut F,
-    port: &mut S,
-    out: &mut O,
-) -> Result<(), Refusal<'a>>
-    ensures ok { OnOk result (IsDone (Some (Replay source.now trace.now schedule.now))
-        (work_of (F.seen files.old) (F.seen files.new) (S.seen port.old) (S.seen port.new)
-        (O.seen out.old) (O.seen out.new))) }
-    ensures err { IfErr result (λ refusal. HasCause refusal (Some (Replay source.now trace.now schedule.now))
-        (work_of (F.seen files.old) (F.seen files.new) (S.seen port.old) (S.seen port.new)
-        (O.seen out.old) (O.seen out.new))) }
-    ensures no_fault { OnOk result (CountsFaults Status.Done
-        (work_of (F.seen files.old) (F.seen files.new) (S.seen port.old) (S.seen port.new)
-        (O.seen out.old) (O.seen out.new))) }
-    ensures fault { IfErr result (λ refusal. CountsFaults (status_of refusal)
-        (work_of (F.seen files.old) (F.seen files.new) (S.seen port.old) (S.seen port.new)
-        (O.seen out.old) (O.seen out.new))) }
-{
-    let middlebox = load_unsplit(alloc, source, files)?;
-    let (packets, plan) = load_traffic(alloc, trace, schedule, files)?;
-    let text = report(alloc, middlebox, packets, plan, port)?;
-    put(out, text.as_slice())
-}
-
-/// Replays what three files spell with the split that the limits of a fourth allow, and writes the report.
-pub fn perform_replay_within<'a, F: Files, S: SwitchPort, O: Sink>(
-    alloc: Global,
-    source: &'a str,
-    trace: &'a str,
-    schedule: &'a str,
-    limits: &'a str,
-    shrink: bool,
+    split: SplitForm<'a>,
     files: &mut F,
     port: &mut S,
     out: &mut O,
 ) -> Result<(), Refusal<'a>>
     ensures ok { OnOk result (IsDone
-        (Some (ReplayWithin source.now trace.now schedule.now limits.now shrink))
+        (Some (Replay source.now trace.now schedule.now (split_asked split.entry)))
         (work_of (F.seen files.old) (F.seen files.new) (S.seen port.old) (S.seen port.new)
         (O.seen out.old) (O.seen out.new))) }
     ensures err { IfErr result (λ refusal. HasCause refusal
-        (Some (ReplayWithin source.now trace.now schedule.now limits.now shrink))
+        (Some (Replay source.now trace.now schedule.now (split_asked split.entry)))
         (work_of (F.seen files.old) (F.seen files.new) (S.seen port.old) (S.seen port.new)
         (O.seen out.old) (O.seen out.new))) }
     ensures no_fault { OnOk result (CountsFaults Status.Done
@@ -191,7 +135,7 @@ pub fn perform_replay_within<'a, F: Files, S: SwitchPort, O: Sink>(
         (work_of (F.seen files.old) (F.seen files.new) (S.seen port.old) (S.seen port.new)
         (O.seen out.old) (O.seen out.new))) }
 {
-    let middlebox = load_split(alloc, source, limits, shrink, files)?;
+    let middlebox = load_split(alloc, source, split, files)?;
     let (packets, plan) = load_traffic(alloc, trace, schedule, files)?;
     let text = report(alloc, middlebox, packets, plan, port)?;
     put(out, text.as_slice())

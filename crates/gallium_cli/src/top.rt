@@ -4,7 +4,7 @@ ghost use Rattle.std.specs.Prelude.{map, length, string_bytes};
 ghost use Rattle.packet_fields.specs.Sizes.{AreShort};
 ghost use Rattle.element_lang.specs.View.{tree};
 ghost use Rattle.element_lang.specs.Rules.{is_good};
-ghost use Rattle.run_text.specs.Sizes.{most_packets};
+ghost use Rattle.run_model.specs.Sizes.{most_packets};
 ghost use Rattle.gallium_cli.specs.Words.{request_of, Run};
 ghost use Rattle.gallium_cli.specs.Lines.{status_of};
 ghost use Rattle.gallium_cli.specs.Roles.{gates_of};
@@ -20,7 +20,7 @@ use crate::formats::{SourceFormat, TraceFormat};
 use crate::load::load;
 use crate::output::put;
 use crate::refusal::{Refusal, tell};
-use crate::replay::{perform_replay, perform_replay_within};
+use crate::replay::perform_replay;
 use crate::status::Status;
 use crate::words::{Form, form_of};
 use element_interp::run_all;
@@ -29,7 +29,8 @@ use gal_io::{Files, NoMemory, Sink, Text};
 use packet_fields::{Packet, Packets};
 use partition::greatest_split_is_one;
 use resource_limits::kept_limits_are_not_exceeded;
-use run_text::{Parts, print_answer};
+use run_model::Parts;
+use run_text::print_answer;
 use std::alloc::Global;
 use switch_ir::SwitchPort;
 
@@ -131,19 +132,9 @@ fn perform<'a, F: Files, S: SwitchPort, O: Sink>(
                 source,
                 trace,
                 schedule,
+                split,
             },
-        ) => perform_replay(alloc, source, trace, schedule, files, port, out),
-        Some(
-            Form::ReplayWithin {
-                source,
-                trace,
-                schedule,
-                limits,
-                shrink,
-            },
-        ) => perform_replay_within(
-            alloc, source, trace, schedule, limits, shrink, files, port, out,
-        ),
+        ) => perform_replay(alloc, source, trace, schedule, split, files, port, out),
         None => Err(Refusal::Usage),
     }
 }

@@ -2,6 +2,15 @@
 ghost use Rattle.std.specs.Prelude.{◌≡◌, Some, None, MatchOption, map, string_bytes};
 ghost use Rattle.gallium_cli.specs.Words.{request_of, asked_by};
 
+/// Whose split a replay goes by.
+#[derive(Clone, Copy, Debug)]
+pub enum SplitForm<'a> {
+    /// Every instruction is left to the server, and so every packet is sent there.
+    Served,
+    /// The split that `Compile` would print.
+    Within { limits: &'a str, shrink: bool },
+}
+
 /// What a command asks for. Each word is the name of a file.
 #[derive(Clone, Copy, Debug)]
 pub enum Form<'a> {
@@ -17,19 +26,12 @@ pub enum Form<'a> {
         limits: &'a str,
         shrink: bool,
     },
-    /// Replays a middlebox on a trace by a schedule, with every packet sent to the server.
+    /// Replays a middlebox on a trace by a schedule, with this split.
     Replay {
         source: &'a str,
         trace: &'a str,
         schedule: &'a str,
-    },
-    /// Replays a middlebox on a trace by a schedule, with the split that `Compile` would print.
-    ReplayWithin {
-        source: &'a str,
-        trace: &'a str,
-        schedule: &'a str,
-        limits: &'a str,
-        shrink: bool,
+        split: SplitForm<'a>,
     },
 }
 
@@ -61,6 +63,7 @@ pub fn form_of<'a>(words: &'a [String]) -> Option<Form<'a>>
                     source: source.as_str(),
                     trace: second.as_str(),
                     schedule: third.as_str(),
+                    split: SplitForm::Served,
                 });
             }
             if word.as_str() == "compile" {
@@ -76,12 +79,14 @@ pub fn form_of<'a>(words: &'a [String]) -> Option<Form<'a>>
         }
         [word, source, trace, schedule, limits] => {
             if word.as_str() == "replay" {
-                return Some(Form::ReplayWithin {
+                return Some(Form::Replay {
                     source: source.as_str(),
                     trace: trace.as_str(),
                     schedule: schedule.as_str(),
-                    limits: limits.as_str(),
-                    shrink: false,
+                    split: SplitForm::Within {
+                        limits: limits.as_str(),
+                        shrink: false,
+                    },
                 });
             }
             None
@@ -89,12 +94,14 @@ pub fn form_of<'a>(words: &'a [String]) -> Option<Form<'a>>
         [word, source, trace, schedule, limits, last] => {
             if word.as_str() == "replay" {
                 if last.as_str() == "shrink" {
-                    return Some(Form::ReplayWithin {
+                    return Some(Form::Replay {
                         source: source.as_str(),
                         trace: trace.as_str(),
                         schedule: schedule.as_str(),
-                        limits: limits.as_str(),
-                        shrink: true,
+                        split: SplitForm::Within {
+                            limits: limits.as_str(),
+                            shrink: true,
+                        },
                     });
                 }
             }

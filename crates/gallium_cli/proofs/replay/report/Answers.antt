@@ -4,20 +4,27 @@ use Rattle.packet_fields.specs.declared.packet.Packet.{Packet}
 use Rattle.element_lang.specs.View.{tree}
 use Rattle.flat_ir.specs.Arrivals.{IsArrival}
 use Rattle.flat_ir.specs.Program.{program_of}
-use Rattle.gallium_cli.proofs.Reported.{each_arrives, reported}
+use Rattle.gallium_cli.proofs.Reported.{reported}
 use Rattle.gallium_cli.proofs.replay.report.Goals as goal
 
 pub returns-in-Ok-print_run-clause-ok : goal.returns-in-Ok-print_run-clause-ok
 returns-in-Ok-print_run-clause-ok g c =
     let asked = c.requires.runnable in
-    let arrive = each_arrives c.args.packets (subst (λ (xs : List Packet). Each IsArrival xs) c.as_slice.ensures.value c.all_arrive.ensures) in
-    reported (tree c.args.split_middlebox.program.middlebox) (program_of c.args.split_middlebox.program.flat)
-    c.args.split_middlebox.split c.args.split_middlebox.writeback c.args.packets c.args.plan c.in-Ok.replayed _ _ _
-    record { start = c.stores_are_kept.ensures.start; runs = c.stores_are_kept.ensures.runs }
-    record { store = c.flattening_keeps_the_meaning.ensures.store; verdict = c.flattening_keeps_the_meaning.ensures.verdict }
-    record {
-      serialises = c.meanings_that_agree.ensures.serialises;
-      released = c.meanings_that_agree.ensures.released;
-      drained = c.meanings_that_agree.ensures.drained;
-    }
-    asked.good arrive asked.program c.in-Ok-print_run.ensures c.in-Ok.ensures.answered c.in-Ok.ensures.told
+    let arrive = subst (λ (xs : List Packet). Each IsArrival xs) c.as_slice.ensures.value c.all_arrive.ensures in (
+      c.in-Ok.replayed,
+      reported (tree c.args.split_middlebox.program.middlebox) (program_of c.args.split_middlebox.program.flat)
+          c.args.split_middlebox.split c.args.split_middlebox.writeback c.args.packets c.args.plan c.in-Ok.replayed _
+          (g.S.SwitchPort.seen c.args.port.now) (g.S.SwitchPort.seen c.replay.new.port)
+          record { start = c.stores_are_kept.ensures.start; runs = c.stores_are_kept.ensures.runs }
+          record {
+            store = c.flattening_keeps_the_meaning.ensures.store;
+            verdict = c.flattening_keeps_the_meaning.ensures.verdict;
+          }
+          record {
+            serialises = c.meanings_that_agree.ensures.serialises;
+            released = c.meanings_that_agree.ensures.released;
+            drained = c.meanings_that_agree.ensures.drained;
+          }
+          c.a_packet_is_fast_by_what_is_seen.ensures.at_once
+          asked.good arrive asked.program c.in-Ok-print_run.ensures c.in-Ok.ensures.answered c.in-Ok.ensures.told,
+    )

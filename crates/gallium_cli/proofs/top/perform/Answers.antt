@@ -1,5 +1,5 @@
 use Rattle.std.proofs.Common.{ap}
-use Rattle.gallium_cli.specs.Words.{Run, Compile, Replay, ReplayWithin, asked_by}
+use Rattle.gallium_cli.specs.Words.{Run, Compile, Replay, asked_by, split_asked}
 use Rattle.gallium_cli.proofs.Written.{asked_ok, asked_err}
 use Rattle.gallium_cli.proofs.top.perform.Goals as goal
 
@@ -24,18 +24,9 @@ returns-in-Some-Compile-clause-err g c =
 pub returns-in-Some-Replay-clause-ok : goal.returns-in-Some-Replay-clause-ok
 returns-in-Some-Replay-clause-ok g c =
     let arm = c.in-Some-Replay in
-    asked_ok c.perform_replay.result _ (asked_by arm.field-0) (Replay arm.source.now arm.trace.now arm.schedule.now)
+    asked_ok c.perform_replay.result _ (asked_by arm.field-0)
+    (Replay arm.source.now arm.trace.now arm.schedule.now (split_asked arm.split))
     (g.F.Files.seen c.args.files.now) (g.F.Files.seen c.perform_replay.new.files)
     (g.S.SwitchPort.seen c.args.port.now) (g.S.SwitchPort.seen c.perform_replay.new.port)
     (g.O.Sink.seen c.args.out.now) (g.O.Sink.seen c.perform_replay.new.out)
     arm.ensures (ap asked_by arm.field-0-is) c.perform_replay.ensures.ok
-
-pub returns-in-Some-ReplayWithin-clause-ok : goal.returns-in-Some-ReplayWithin-clause-ok
-returns-in-Some-ReplayWithin-clause-ok g c =
-    let arm = c.in-Some-ReplayWithin in
-    asked_ok c.perform_replay_within.result _ (asked_by arm.field-0)
-    (ReplayWithin arm.source.now arm.trace.now arm.schedule.now arm.limits.now arm.shrink)
-    (g.F.Files.seen c.args.files.now) (g.F.Files.seen c.perform_replay_within.new.files)
-    (g.S.SwitchPort.seen c.args.port.now) (g.S.SwitchPort.seen c.perform_replay_within.new.port)
-    (g.O.Sink.seen c.args.out.now) (g.O.Sink.seen c.perform_replay_within.new.out)
-    arm.ensures (ap asked_by arm.field-0-is) c.perform_replay_within.ensures.ok

@@ -1,6 +1,14 @@
 use Rattle.element_lang.specs.View.{tree}
 use Rattle.gallium_cli.proofs.Runnable.{served_runs}
-use Rattle.gallium_cli.proofs.replay.load_unsplit.Goals as goal
+use Rattle.gallium_cli.proofs.Written.{served_split}
+use Rattle.gallium_cli.proofs.splitting.load_served.Goals as goal
+
+pub returns-in-Ok-clause-ok : goal.returns-in-Ok-clause-ok
+returns-in-Ok-clause-ok g c =
+    let found = c.in_ok-program.ensures in
+    let split = c.in-Ok.ensures in
+    served_split _ c.args.source.now (tree c.in_ok-program.program.middlebox) _ c.in-Ok.split
+    record { source = found.ok; bounded = found.sound.1 } found.sound.0 split.greatest split.legal
 
 pub returns-in-Ok-clause-runnable : goal.returns-in-Ok-clause-runnable
 returns-in-Ok-clause-runnable g c =

@@ -1,0 +1,214 @@
+//! The split of a middlebox, as it is asked for.
+ghost use Rattle.std.specs.Prelude.{◌≡◌, ◌≤◌, ◌∷◌, [], IfOk, IfErr, IsTrue, OnOk};
+ghost use Rattle.std.specs.Option.{option_map};
+ghost use Rattle.element_lang.specs.View.{tree};
+ghost use Rattle.element_lang.specs.Rules.{is_good};
+ghost use Rattle.flat_ir.specs.Program.{program_of};
+ghost use Rattle.flat_ir.specs.Listing.{name_of};
+ghost use Rattle.flatten.specs.Flatten.{flat_of};
+ghost use Rattle.resource_limits.specs.Limits.{AreInRange};
+ghost use Rattle.resource_limits.specs.Kept.{KeepsLimits};
+ghost use Rattle.partition.specs.Choice.{IsChosen};
+ghost use Rattle.split_model.specs.Bounds.{HasFewStages, IsBounded};
+ghost use Rattle.split_model.specs.Legal.{IsLegal};
+ghost use Rattle.gallium_cli.specs.Words.{Served, Within, split_asked};
+ghost use Rattle.gallium_cli.specs.Lines.{status_of};
+ghost use Rattle.gallium_cli.specs.Roles.{program as program_role, limits as limits_role, File, plan_gates};
+ghost use Rattle.gallium_cli.specs.Roles.{split_gates, split_reads};
+ghost use Rattle.gallium_cli.specs.Answers.{IsPlan, IsSplitBy};
+ghost use Rattle.gallium_cli.specs.Loads.{GoesOn, raised_by};
+ghost use Rattle.gallium_cli.specs.Runnable.{IsRunnable};
+ghost use Rattle.gallium_cli.specs.Causes.{IsFirstRefused, IsUnchosen, excess_of};
+
+use crate::formats::{Flattened, LimitsFormat, ProgramFormat};
+use crate::load::load;
+use crate::refusal::{Excess, Refusal};
+use crate::status::Status;
+use crate::words::SplitForm;
+use element_interp::stores_are_kept;
+use flat_ir::Flat;
+use gal_io::{Files, NoMemory, Text};
+use partition::{PartError, all_on_server, partition};
+use resource_limits::{Limits, Over};
+use split_model::Split;
+use state_store::ObjectDecl;
+use std::alloc::Global;
+
+/// A middlebox with its flat program, its split, and how many rows each write-back table has.
+#[derive(Drop)]
+pub struct SplitMiddlebox {
+    pub program: Flattened,
+    pub split: Split,
+    pub writeback: u32,
+}
+
+// The flat program and the limits that two files spell.
+fn load_plan<'a, F: Files>(
+    alloc: Global,
+    source: &'a str,
+    limits: &'a str,
+    files: &mut F,
+) -> Result<(Flattened, Limits), Refusal<'a>>
+    ensures ok { IfOk result (λ x. IsPlan (F.seen files.old).told source.now limits.now (tree x.0.middlebox) x.1) }
+    ensures program { IfOk result (λ x. program_of x.0.flat ≡ flat_of (tree x.0.middlebox)) }
+    ensures good { IfOk result (λ x. IsTrue (is_good (tree x.0.middlebox))) }
+    ensures in_range { IfOk result (λ x. AreInRange x.1) }
+    ensures err { IfErr result (λ refusal. IsFirstRefused refusal
+        (File source.now program_role ∷ (File limits.now limits_role ∷ [])) (F.seen files.old) (F.seen files.new)) }
+    ensures stays { OnOk result (GoesOn Status.Done (F.seen files.old) (F.seen files.new)) }
+    ensures fault { IfErr result (λ refusal.
+        GoesOn (status_of refusal) (F.seen files.old) (F.seen files.new)) }
+    ensures read { OnOk result ((F.seen files.new).reads ≡ raised_by 2 (F.seen files.old).reads) }
+    ensures few_reads { (F.seen files.new).reads ≤ raised_by 2 (F.seen files.old).reads }
+{
+    let program = load(alloc, files, &ProgramFormat, source)?;
+    match load(alloc, files, &LimitsFormat, limits) {
+        Ok(allowed) => Ok((program, allowed)),
+        Err(refusal) => Err(refusal),
+    }
+}
+
+// The name of an object, if one is meant.
+fn owner(
+    alloc: Global,
+    objects: &[ObjectDecl],
+    object: Option<u32>,
+) -> Result<Option<Text>, NoMemory>
+    ensures { IfOk result (λ name. name ≡ option_map (name_of objects.now) object) }
+{
+    match object {
+        None => Ok(None),
+        Some(number) => {
+            let name = match objects.get(number as usize) {
+                Some(declared) => Text::from_slice(alloc, declared.name.as_slice())?,
+                None => Text::new(alloc),
+            };
+            Ok(Some(name))
+        }
+    }
+}
+
+// What is told of a limit that is exceeded.
+fn excess(alloc: Global, objects: &[ObjectDecl], over: Over) -> Result<Excess, NoMemory>
+    ensures { IfOk result (λ told. told ≡ excess_of objects.now over) }
+{
+    let object = owner(alloc, objects, over.object)?;
+    Ok(Excess {
+        limit: over.limit,
+        object,
+        have: over.have,
+        allowed: over.allowed,
+    })
+}
+
+// The split that these limits allow.
+fn choose(
+    alloc: Global,
+    f: &Flat,
+    allowed: &Limits,
+    shrink: bool,
+) -> Result<Split, Refusal<'static>>
+    requires bounded { IsBounded (program_of f.now) }
+    requires in_range { AreInRange allowed.now }
+    ensures chosen { IfOk result (λ split. IsChosen (program_of f.now) allowed.now shrink split) }
+    ensures legal { IfOk result (λ split. IsLegal (program_of f.now) split) }
+    ensures keeps { IfOk result (λ split. KeepsLimits (program_of f.now) split allowed.now) }
+    ensures low { IfOk result HasFewStages }
+    ensures err { IfErr result (λ refusal. IsUnchosen refusal (program_of f.now) allowed.now shrink) }
+{
+    match partition(alloc, f, allowed, shrink) {
+        Ok(split) => Ok(split),
+        Err(PartError::Exceeds(over)) => {
+            let told = excess(alloc, f.objects.as_slice(), over)?;
+            Err(Refusal::Exceeded(told))
+        }
+        Err(PartError::NoMemory) => Err(Refusal::NoMemory),
+    }
+}
+
+/// The split of what one file spells that is chosen within the limits that another tells.
+pub fn load_within<'a, F: Files>(
+    alloc: Global,
+    source: &'a str,
+    limits: &'a str,
+    shrink: bool,
+    files: &mut F,
+) -> Result<SplitMiddlebox, Refusal<'a>>
+    ensures ok { IfOk result (λ x. IsSplitBy (Within limits.now shrink) (F.seen files.old).told source.now
+        (tree x.program.middlebox) x.split x.writeback) }
+    ensures runnable { IfOk result (λ x.
+        IsRunnable (tree x.program.middlebox) (program_of x.program.flat) x.split x.writeback) }
+    ensures err { IfErr result (λ refusal. IsFirstRefused refusal (plan_gates source.now limits.now shrink)
+        (F.seen files.old) (F.seen files.new)) }
+    ensures stays { OnOk result (GoesOn Status.Done (F.seen files.old) (F.seen files.new)) }
+    ensures fault { IfErr result (λ refusal.
+        GoesOn (status_of refusal) (F.seen files.old) (F.seen files.new)) }
+    ensures read { OnOk result ((F.seen files.new).reads ≡ raised_by 2 (F.seen files.old).reads) }
+    ensures few_reads { (F.seen files.new).reads ≤ raised_by 2 (F.seen files.old).reads }
+{
+    stores_are_kept();
+    let (program, allowed) = load_plan(alloc, source, limits, files)?;
+    let split = choose(alloc, &program.flat, &allowed, shrink)?;
+    Ok(SplitMiddlebox {
+        program,
+        split,
+        writeback: allowed.writeback,
+    })
+}
+
+// The middlebox that a file spells, with every instruction left to the server.
+fn load_served<'a, F: Files>(
+    alloc: Global,
+    source: &'a str,
+    files: &mut F,
+) -> Result<SplitMiddlebox, Refusal<'a>>
+    ensures ok { IfOk result (λ x. IsSplitBy Served (F.seen files.old).told source.now
+        (tree x.program.middlebox) x.split x.writeback) }
+    ensures runnable { IfOk result (λ x.
+        IsRunnable (tree x.program.middlebox) (program_of x.program.flat) x.split x.writeback) }
+    ensures err { IfErr result (λ refusal. IsFirstRefused refusal (split_gates source.now Served)
+        (F.seen files.old) (F.seen files.new)) }
+    ensures stays { OnOk result (GoesOn Status.Done (F.seen files.old) (F.seen files.new)) }
+    ensures fault { IfErr result (λ refusal.
+        GoesOn (status_of refusal) (F.seen files.old) (F.seen files.new)) }
+    ensures read { OnOk result ((F.seen files.new).reads ≡ raised_by 1 (F.seen files.old).reads) }
+    ensures few_reads { (F.seen files.new).reads ≤ raised_by 1 (F.seen files.old).reads }
+{
+    stores_are_kept();
+    let program = load(alloc, files, &ProgramFormat, source)?;
+    match all_on_server(alloc, &program.flat) {
+        Ok(split) => Ok(SplitMiddlebox {
+            program,
+            split,
+            writeback: 0,
+        }),
+        Err(_) => Err(Refusal::NoMemory),
+    }
+}
+
+/// The split of what a file spells that is asked for.
+pub fn load_split<'a, F: Files>(
+    alloc: Global,
+    source: &'a str,
+    split: SplitForm<'a>,
+    files: &mut F,
+) -> Result<SplitMiddlebox, Refusal<'a>>
+    ensures ok { IfOk result (λ x. IsSplitBy (split_asked split.entry) (F.seen files.old).told source.now
+        (tree x.program.middlebox) x.split x.writeback) }
+    ensures runnable { IfOk result (λ x.
+        IsRunnable (tree x.program.middlebox) (program_of x.program.flat) x.split x.writeback) }
+    ensures err { IfErr result (λ refusal. IsFirstRefused refusal (split_gates source.now (split_asked split.entry))
+        (F.seen files.old) (F.seen files.new)) }
+    ensures stays { OnOk result (GoesOn Status.Done (F.seen files.old) (F.seen files.new)) }
+    ensures fault { IfErr result (λ refusal.
+        GoesOn (status_of refusal) (F.seen files.old) (F.seen files.new)) }
+    ensures read { OnOk result ((F.seen files.new).reads
+        ≡ raised_by (split_reads source.now (split_asked split.entry)) (F.seen files.old).reads) }
+    ensures few_reads { (F.seen files.new).reads
+        ≤ raised_by (split_reads source.now (split_asked split.entry)) (F.seen files.old).reads }
+{
+    match split {
+        SplitForm::Served => load_served(alloc, source, files),
+        SplitForm::Within { limits, shrink } => load_within(alloc, source, limits, shrink, files),
+    }
+}
