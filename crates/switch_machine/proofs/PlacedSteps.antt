@@ -1,7 +1,8 @@
 -- Instructions by place, one after the other.
-use Rattle.std.proofs.Common.{◌≡◌, ◌∙◌, ◌<◌, ◌+◌, ◌++◌, ℕ, false, List, [], ◌∷◌, length, map, drop, refl, sym, ap, subst, add-one, append_assoc, get_or}
+use Rattle.std.proofs.Common.{◌≡◌, ◌∙◌, ◌<◌, ◌+◌, ◌++◌, ℕ, false, List, [], ◌∷◌, length, map, drop, refl, sym, ap, subst, add-one, get_or}
 use Rattle.std.specs.List.{AllByRecursion as Each}
 use Rattle.std.specs.Prelude.{slice_index, slice_index_or}
+use Rattle.std.proofs.lemmas.List.{length-set}
 use Rattle.packet_fields.specs.declared.packet.Packet.{Packet}
 use Rattle.state_store.specs.Store.{Store}
 use Rattle.flat_ir.specs.Blocks.{Reading}
@@ -14,16 +15,21 @@ use Rattle.switch_machine.specs.Ready.{all_placed, first_placed, placed_at, plac
 use Rattle.switch_machine.proofs.Each.{each_at, each_map}
 use Rattle.switch_machine.proofs.Lists.{ahead}
 
--- one result more has its place
-pub put_more : (places given : List ℕ) (k : ℕ) (start before after : List (ℕ × ℕ)) (place number : ℕ) → before ≡ start ++ first_placed places given k
-    → after ≡ before ++ (place, number) ∷ [] → place ≡ slice_index places k → number ≡ slice_index given k
-    → after ≡ start ++ first_placed places given (k + 1)
+-- numbers that are put behind others
+pub placed_behind : (registers : Registers) (ps qs : List (ℕ × ℕ)) → all_placed registers (ps ++ qs) ≡ all_placed (all_placed registers ps) qs
+placed_behind registers [] qs = refl
+placed_behind registers (p ∷ ps) qs = placed_behind (placed registers p.0 p.1) ps qs
+
+-- one result more is put into its register
+pub put_more : (places given : List ℕ) (k : ℕ) (start before after : Registers) (place number : ℕ) → before ≡ all_placed start (first_placed places given k)
+    → after ≡ placed before place number → place ≡ slice_index places k → number ≡ slice_index given k
+    → after ≡ all_placed start (first_placed places given (k + 1))
 put_more places given k start before after place number is more here so =
-    more ∙ ap (λ (xs : List (ℕ × ℕ)). xs ++ (place, number) ∷ []) is
-    ∙ append_assoc start (first_placed places given k) ((place, number) ∷ [])
-    ∙ ap (λ (p : ℕ). start ++ (first_placed places given k ++ (p, number) ∷ [])) here
-    ∙ ap (λ (n : ℕ). start ++ (first_placed places given k ++ (slice_index places k, n) ∷ [])) so
-    ∙ ap (λ (m : ℕ). start ++ first_placed places given m) (sym (add-one k))
+    more ∙ ap (λ (rs : Registers). placed rs place number) is
+    ∙ ap (λ (p : ℕ). placed (all_placed start (first_placed places given k)) p number) here
+    ∙ ap (λ (n : ℕ). placed (all_placed start (first_placed places given k)) (slice_index places k) n) so
+    ∙ sym (placed_behind start (first_placed places given k) ((slice_index places k, slice_index given k) ∷ []))
+    ∙ ap (λ (m : ℕ). all_placed start (first_placed places given m)) (sym (add-one k))
 
 -- an instruction that is placed can be computed
 pub ready_can : (steps : List ReadyStep) (i : ℕ) (s : ReadyStep) → Each CanReady (map ready_of steps) → i < length steps → s ≡ get_or steps i s
@@ -32,18 +38,18 @@ ready_can steps i s can lt is =
     subst (λ (one : ReadyStep). CanRun (work_of one.kind)) (sym is)
     (each_at (λ (one : ReadyStep). CanReady (ready_of one)) steps i s (each_map CanReady ready_of steps can) lt)
 
--- one instruction more is read
-pub ready_more : (reads : Reading) (tables : Store) (packet : Packet) (steps : List ReadyStep) (i : ℕ) (s : ReadyStep) (before after all : List (ℕ × ℕ))
+-- one instruction more is computed
+pub ready_more : (reads : Reading) (tables : Store) (packet : Packet) (steps : List ReadyStep) (i : ℕ) (s : ReadyStep) (before after all : Registers)
     → i < length steps → s ≡ get_or steps i s
-    → after ≡ before ++ placed_gives (places_of s.places) (results reads false tables packet (work_of s.kind))
-    → before ++ ready_gives (map ready_of (drop i steps)) reads tables packet ≡ all
-    → after ++ ready_gives (map ready_of (drop (i + 1) steps)) reads tables packet ≡ all
+    → after ≡ all_placed before (placed_gives (places_of s.places) (results reads false tables packet (work_of s.kind)))
+    → all_placed before (ready_gives (map ready_of (drop i steps)) reads tables packet) ≡ all
+    → all_placed after (ready_gives (map ready_of (drop (i + 1) steps)) reads tables packet) ≡ all
 ready_more reads tables packet steps i s before after all lt is more so =
     let one = placed_gives (places_of s.places) (results reads false tables packet (work_of s.kind)) in
     let rest = ready_gives (map ready_of (drop (i + 1) steps)) reads tables packet in
-    ap (λ gs. gs ++ rest) more
-    ∙ append_assoc before one rest
-    ∙ ap (λ (ss : List ReadyStep). before ++ ready_gives (map ready_of ss) reads tables packet) (sym (ahead steps i s lt is))
+    ap (λ (rs : Registers). all_placed rs rest) more
+    ∙ sym (placed_behind before one rest)
+    ∙ ap (λ (ss : List ReadyStep). all_placed before (ready_gives (map ready_of ss) reads tables packet)) (sym (ahead steps i s lt is))
     ∙ so
 
 -- ## Stages
@@ -68,7 +74,17 @@ pub can_of_stage : (stages : List (List ReadyStep)) (t : ℕ) (own : List ReadyS
     → Each CanReady (ready_at stages t) → Each CanReady (map ready_of own)
 can_of_stage stages t own is can = subst (λ (ss : List ReadyStep). Each CanReady (map ready_of ss)) (sym is) can
 
--- writing leaves the plan
+-- writing leaves the plan, and as many numbers as there were
 pub plan_placed : (registers : Registers) (pairs : List (ℕ × ℕ)) → (all_placed registers pairs).plan ≡ registers.plan
 plan_placed registers [] = refl
 plan_placed registers (p ∷ ps) = plan_placed (placed registers p.0 p.1) ps
+
+pub count_placed : (registers : Registers) (pairs : List (ℕ × ℕ)) → length (all_placed registers pairs).numbers ≡ length registers.numbers
+count_placed registers [] = refl
+count_placed registers (p ∷ ps) = count_placed (placed registers p.0 p.1) ps ∙ length-set registers.numbers p.0 p.1
+
+pub plan_after : (before after : Registers) (pairs : List (ℕ × ℕ)) → after ≡ all_placed before pairs → after.plan ≡ before.plan
+plan_after before after pairs is = ap (λ (rs : Registers). rs.plan) is ∙ plan_placed before pairs
+
+pub count_after : (before after : Registers) (pairs : List (ℕ × ℕ)) → after ≡ all_placed before pairs → length after.numbers ≡ length before.numbers
+count_after before after pairs is = ap (λ (rs : Registers). length rs.numbers) is ∙ count_placed before pairs

@@ -1,5 +1,5 @@
 //! The pass over a packet that comes down from the server.
-ghost use Rattle.std.specs.Prelude.{◌≡◌, ◌≤◌, [], length, IfOk, OnOk};
+ghost use Rattle.std.specs.Prelude.{◌≡◌, ◌≤◌, length, IfOk};
 ghost use Rattle.packet_fields.specs.Shape.{shape_of};
 ghost use Rattle.packet_fields.specs.Sizes.{largest_packet};
 ghost use Rattle.flat_ir.specs.Blocks.{Reading};
@@ -18,7 +18,7 @@ ghost use Rattle.switch_machine.specs.Planned.{BeginsWith};
 
 use crate::laws::{a_pass_by_place, postprocessing_is_computed};
 use crate::loaded::Loaded;
-use crate::passes::{are_few, read_stage, run_pass, write_stage};
+use crate::passes::{are_few, run_pass, run_steps};
 use crate::run::{Nothing, Run};
 use crate::tables::SwitchTables;
 use flat_ir::{Arrival, leave, readings_that_agree};
@@ -65,14 +65,13 @@ fn finish(
     requires shape { arrival.now.shape ≡ shape_of arrival.now.bytes.now }
     requires safe { KeepsTables (code_of loaded.old.code) tables.now }
     requires placed { ArePlaced loaded.old.down.registers }
-    requires empty { loaded.old.down.computed.items ≡ [] }
     ensures code { code_of loaded.new.code ≡ code_of loaded.old.code }
     ensures end { IfOk result (λ verdict. verdict
         ≡ down_end (code_of loaded.old.code) (value_in loaded.old.down.registers) (seen_tables tables.now)
         (packet_of arrival.now)) }
 {
-    give(loaded, alloc, arrival)?;
-    run_down(loaded, tables, arrival)?;
+    give(loaded, alloc, arrival);
+    run_down(loaded, tables, arrival);
     readings_that_agree();
     let run = Run {
         numbering: &loaded.post_numbering,
@@ -83,52 +82,43 @@ fn finish(
 }
 
 // Puts the consts and fields that postprocessing is given into their registers.
-fn give(loaded: &mut Loaded, alloc: Global, arrival: &Arrival<'_>) -> Result<(), NoMemory>
+fn give(loaded: &mut Loaded, alloc: Global, arrival: &Arrival<'_>)
     requires size { length arrival.now.bytes.now ≤ largest_packet }
     requires shape { arrival.now.shape ≡ shape_of arrival.now.bytes.now }
     requires placed { ArePlaced loaded.old.down.registers }
-    requires empty { loaded.old.down.computed.items ≡ [] }
     ensures code { code_of loaded.new.code ≡ code_of loaded.old.code }
-    ensures begins { OnOk result (BeginsWith loaded.new.post_numbering
+    ensures begins { BeginsWith loaded.new.post_numbering
         (begins_down loaded.new.post_numbering (code_of loaded.old.code))
         (down_given (code_of loaded.old.code) (value_in loaded.old.down.registers) (packet_of arrival.now))
-        loaded.new.down.registers) }
-    ensures placed { OnOk result (ArePlaced loaded.new.down.registers) }
-    ensures empty { OnOk result (loaded.new.down.computed.items ≡ []) }
+        loaded.new.down.registers }
+    ensures placed { ArePlaced loaded.new.down.registers }
 {
     postprocessing_is_computed();
     a_pass_by_place();
     let none = SwitchTables::none(alloc);
     let place = &mut loaded.down;
     are_few(&place.registers);
-    read_stage(
+    run_steps(
         loaded.given.stage(0),
         &Nothing,
         &none,
         arrival,
-        &mut place.computed,
-    )?;
-    write_stage(&mut place.computed, &mut place.registers);
-    Ok(())
+        &mut place.registers,
+    );
 }
 
 // Computes postprocessing.
-fn run_down(
-    loaded: &mut Loaded,
-    tables: &SwitchTables,
-    arrival: &Arrival<'_>,
-) -> Result<(), NoMemory>
+fn run_down(loaded: &mut Loaded, tables: &SwitchTables, arrival: &Arrival<'_>)
     requires size { length arrival.now.bytes.now ≤ largest_packet }
     requires shape { arrival.now.shape ≡ shape_of arrival.now.bytes.now }
     requires safe { KeepsTables (code_of loaded.old.code) tables.now }
     requires placed { ArePlaced loaded.old.down.registers }
-    requires empty { loaded.old.down.computed.items ≡ [] }
     ensures code { code_of loaded.new.code ≡ code_of loaded.old.code }
     ensures values { (given : Reading) → BeginsWith loaded.old.post_numbering
         (begins_down loaded.old.post_numbering (code_of loaded.old.code)) given loaded.old.down.registers
-        → OnOk result (AreHeld loaded.new.post_numbering loaded.new.down.registers
+        → AreHeld loaded.new.post_numbering loaded.new.down.registers
         (pass_values (code_of loaded.old.code).post given (seen_tables tables.now) (packet_of arrival.now))
-        (kept_down (code_of loaded.old.code))) }
+        (kept_down (code_of loaded.old.code)) }
 {
     postprocessing_is_computed();
     a_pass_by_place();
@@ -139,6 +129,6 @@ fn run_down(
         tables,
         arrival,
         &mut place.registers,
-        &mut place.computed,
-    )
+        &mut place.before,
+    );
 }

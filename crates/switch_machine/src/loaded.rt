@@ -1,5 +1,5 @@
 //! Code that is loaded.
-ghost use Rattle.std.specs.Prelude.{◌≡◌, ◌<◌, ◌^◌, ℕ, [], IfOk};
+ghost use Rattle.std.specs.Prelude.{◌≡◌, ◌<◌, ◌^◌, ℕ, suc, [], length, IfOk};
 ghost use Rattle.transfer_header.specs.Registers.{content_of, ArePlaced};
 ghost use Rattle.switch_ir.specs.Code.{code_of, pass_of};
 ghost use Rattle.switch_ir.specs.Once.{can_be_run_prop};
@@ -17,34 +17,33 @@ use std::alloc::Global;
 use switch_ir::{Pass, SwitchCode, Table};
 use transfer_header::Regs;
 
-/// Where a pass is computed: its registers, and what a stage has computed so far, each number with its place.
+/// Where a pass is computed: its registers, and room for the numbers that they had before a stage.
 #[derive(Debug, Drop)]
 pub(crate) struct Workplace {
     pub registers: Regs,
-    pub computed: Vec<(u32, u64)>,
+    pub before: Vec<u64>,
 }
 
 impl Workplace {
     /// One with the registers of a plan.
     fn new(alloc: Global, plan: &RegPlan) -> Result<Workplace, NoMemory>
-        ensures { IfOk result (λ made. IsPlanned plan.now made.registers) }
+        ensures plan { IfOk result (λ made. IsPlanned plan.now made.registers) }
+        ensures room { IfOk result (λ made. length made.before.items ≡ length made.registers.numbers) }
     {
         let registers = Regs::planned(alloc, plan.copy(alloc)?)?;
-        Ok(Workplace {
-            registers,
-            computed: Vec::new(alloc),
-        })
+        let before = vec![in alloc; 0u64; registers.len() as usize]?;
+        Ok(Workplace { registers, before })
     }
 
-    /// Forgets what was computed. This takes no memory.
+    /// Forgets all numbers. This takes no memory.
     pub fn clear(&mut self)
         ensures plan { self.new.registers.plan ≡ self.old.registers.plan }
         ensures contents { (n : ℕ) → content_of self.new.registers n ≡ 0 }
         ensures placed { ArePlaced self.new.registers }
-        ensures empty { self.new.computed.items ≡ [] }
+        ensures count { length self.new.registers.numbers ≡ length self.old.registers.numbers }
+        ensures before { self.new.before ≡ self.old.before }
     {
         self.registers.clear();
-        self.computed.clear();
     }
 }
 
@@ -61,7 +60,7 @@ pub(crate) struct Loaded {
     pub post_numbering: Numbering,
     pub up: Workplace,
     pub down: Workplace,
-    /// Which blocks are live.
+    /// Which blocks are live: a mark for the root, and one for each block.
     pub marks: Vec<bool>,
     ghost can: { CanBeRun (code_of code) } by { can_be_run_prop (code_of code) },
     ghost pre_stages: { AreReady pre_numbering code.pre.plan (pass_of code.pre).steps code.pre.highest pre } by { ready_prop pre_numbering code.pre.plan (pass_of code.pre).steps code.pre.highest pre },
@@ -73,6 +72,9 @@ pub(crate) struct Loaded {
     ghost post_ranges: { AreRanges (entries code.tables code.down (pass_of code.post)) post_numbering } by { ranges_prop (entries code.tables code.down (pass_of code.post)) post_numbering },
     ghost pre_plan: { IsPlanned code.pre.plan up.registers } by { plan_prop code.pre.plan up.registers },
     ghost post_plan: { IsPlanned code.post.plan down.registers } by { plan_prop code.post.plan down.registers },
+    ghost marks_room: { length marks.items ≡ suc (length (pass_of code.pre).blocks) },
+    ghost up_room: { length up.before.items ≡ length up.registers.numbers },
+    ghost down_room: { length down.before.items ≡ length down.registers.numbers },
 }
 
 impl Loaded {
@@ -87,6 +89,7 @@ impl Loaded {
         let pre = LoadedPass::of(alloc, tables, &[], &copy.pre)?;
         let post = LoadedPass::of(alloc, tables, copy.down.as_slice(), &copy.post)?;
         let given = ReadyStages::of(alloc, &copy.post.given, 0, &post.numbering, &copy.post.plan)?;
+        let marks = vec![in alloc; false; copy.pre.blocks.as_slice().len() + 1]?;
         Ok(Loaded {
             code: copy,
             pre: pre.stages,
@@ -96,7 +99,7 @@ impl Loaded {
             post_numbering: post.numbering,
             up: pre.place,
             down: post.place,
-            marks: Vec::new(alloc),
+            marks,
         })
     }
 }
@@ -121,6 +124,7 @@ impl LoadedPass {
             AreReady made.numbering pass.now.plan (pass_of pass.now).steps pass.now.highest made.stages) }
         ensures ranges { IfOk result (λ made. AreRanges (entries tables.now handed.now (pass_of pass.now)) made.numbering) }
         ensures plan { IfOk result (λ made. IsPlanned pass.now.plan made.place.registers) }
+        ensures room { IfOk result (λ made. length made.place.before.items ≡ length made.place.registers.numbers) }
     {
         let numbering = Numbering::of(alloc, tables, handed, pass)?;
         let stages = ReadyStages::of(alloc, &pass.steps, pass.highest, &numbering, &pass.plan)?;

@@ -1,17 +1,16 @@
 //! How a pass is computed in registers that are read and written by place.
-ghost use Rattle.std.specs.Prelude.{◌≡◌, ℕ, ◌≤◌, ◌<◌, ◌^◌, ◌++◌, ◌∷◌, [], false, length, map, slice_index, OnOk};
+ghost use Rattle.std.specs.Prelude.{◌≡◌, ℕ, ◌≤◌, ◌<◌, ◌^◌, ◌∷◌, [], false, length, map, slice_index};
 ghost use Rattle.std.specs.List.{AllByRecursion as Each};
 ghost use Rattle.packet_fields.specs.Shape.{shape_of};
 ghost use Rattle.packet_fields.specs.Sizes.{largest_packet};
 ghost use Rattle.flat_ir.specs.Operands.{CanRun};
 ghost use Rattle.flat_ir.specs.Program.{work_of};
 ghost use Rattle.flat_ir.specs.Registers.{packet_of, results_of};
-ghost use Rattle.flat_ir.specs.Run.{results};
+ghost use Rattle.flat_ir.specs.Run.{looked, results};
 ghost use Rattle.switch_machine.specs.Ready.{all_placed, placed_at, placed_gives, places_of, reads_at, ready_at, ready_gives, ready_of, CanReady};
 
 use crate::ready::{Places, ReadyStages, ReadyStep};
 use flat_ir::{Arrival, InstrKind, Lookup, Numbers, Results, ValueId, given_number, look};
-use gal_io::NoMemory;
 use transfer_header::Regs;
 
 /// Numbers that are read by place.
@@ -53,158 +52,151 @@ fn result_at(results: &Results, place: usize) -> u64
     }
 }
 
-// Puts a result last for each of some places.
-fn put_list(
-    places: &[u32],
-    results: &Results,
-    computed: &mut Vec<(u32, u64)>,
-) -> Result<(), NoMemory>
-    ensures { OnOk result (computed.new.items
-        ≡ computed.old.items ++ placed_gives places.now (results_of results.now)) }
+// Puts a result into the register at each of some places.
+fn put_list(places: &[u32], results: &Results, registers: &mut Regs)
+    ensures { registers.new ≡ all_placed registers.old (placed_gives places.now (results_of results.now)) }
 {
     for index in 0..places.len() {
-        computed.push((places[index], result_at(results, index)))?;
+        registers.set_at(places[index], result_at(results, index));
     }
-    Ok(())
 }
 
-// Puts the results of a look last.
-fn put_results(
+// Puts the only result of an instruction into the register at the first of some places, and 0 at the others.
+fn put_first(places: &[u32], number: u64, registers: &mut Regs)
+    ensures { registers.new ≡ all_placed registers.old (placed_gives places.now (number ∷ [])) }
+{
+    put_list(places, &Results::one(number), registers);
+}
+
+// Puts the only result of an instruction into its register.
+fn put_number(places: &Places, number: u64, registers: &mut Regs)
+    ensures { registers.new ≡ all_placed registers.old (placed_gives (places_of places.now) (number ∷ [])) }
+{
+    match places {
+        Places::One(place) => registers.set_at(*place, number),
+        Places::Many(list) => put_first(list.as_slice(), number, registers),
+    }
+}
+
+// Puts the results of a look into their registers.
+fn put_results(places: &Places, results: &Results, registers: &mut Regs)
+    ensures { registers.new
+        ≡ all_placed registers.old (placed_gives (places_of places.now) (results_of results.now)) }
+{
+    match places {
+        Places::One(place) => registers.set_at(*place, results.first),
+        Places::Many(list) => put_list(list.as_slice(), results, registers),
+    }
+}
+
+// Looks a key up, and puts what was found into registers.
+fn run_look<L: Lookup, G: Numbers>(
+    object: u32,
+    keys: &[ValueId],
     places: &Places,
-    results: &Results,
-    computed: &mut Vec<(u32, u64)>,
-) -> Result<(), NoMemory>
-    ensures { OnOk result (computed.new.items
-        ≡ computed.old.items ++ placed_gives (places_of places.now) (results_of results.now)) }
+    numbers: &G,
+    tables: &L,
+    registers: &mut Regs,
+)
+    requires { length keys.now ≤ 8 }
+    ensures { registers.new ≡ all_placed registers.old (placed_gives (places_of places.now)
+        (looked (L.seen tables.now) object (map (G.reads numbers.now) keys.now))) }
 {
-    match places {
-        Places::One(place) => computed.push((*place, results.first))?,
-        Places::Many(list) => put_list(list.as_slice(), results, computed)?,
-    }
-    Ok(())
+    let results = look(tables, numbers, object, keys);
+    put_results(places, &results, registers);
 }
 
-// Puts the only result of an instruction last.
-fn put_number(places: &Places, number: u64, computed: &mut Vec<(u32, u64)>) -> Result<(), NoMemory>
-    ensures { OnOk result (computed.new.items
-        ≡ computed.old.items ++ placed_gives (places_of places.now) (number ∷ [])) }
-{
-    match places {
-        Places::One(place) => computed.push((*place, number))?,
-        Places::Many(list) => put_list(list.as_slice(), &Results::one(number), computed)?,
-    }
-    Ok(())
-}
-
-// Computes an instruction.
-fn read_step<L: Lookup, G: Numbers>(
+// Computes an instruction from numbers that are given, and puts its results into registers.
+fn run_step<L: Lookup, G: Numbers>(
     step: &ReadyStep,
     numbers: &G,
     tables: &L,
     arrival: &Arrival<'_>,
-    computed: &mut Vec<(u32, u64)>,
-) -> Result<(), NoMemory>
+    registers: &mut Regs,
+)
     requires can { CanRun (work_of step.now.kind) }
     requires size { length arrival.now.bytes.now ≤ largest_packet }
     requires shape { arrival.now.shape ≡ shape_of arrival.now.bytes.now }
-    ensures { OnOk result (computed.new.items ≡ computed.old.items ++ placed_gives (places_of step.now.places)
+    ensures { registers.new ≡ all_placed registers.old (placed_gives (places_of step.now.places)
         (results (G.reads numbers.now) false (L.seen tables.now) (packet_of arrival.now) (work_of step.now.kind))) }
 {
     match &step.kind {
         InstrKind::Look { object, keys } => {
-            let results = look(tables, numbers, *object, keys);
-            put_results(&step.places, &results, computed)
+            run_look(*object, keys, &step.places, numbers, tables, registers)
         }
         kind => {
             let number = given_number(arrival, numbers, kind);
-            put_number(&step.places, number, computed)
+            put_number(&step.places, number, registers);
         }
     }
 }
 
-/// Computes the instructions of a stage, all from the same numbers.
-pub(crate) fn read_stage<L: Lookup, G: Numbers>(
+/// Computes the instructions of a stage, all from the same numbers, and puts their results into registers.
+pub(crate) fn run_steps<L: Lookup, G: Numbers>(
     steps: &[ReadyStep],
     numbers: &G,
     tables: &L,
     arrival: &Arrival<'_>,
-    computed: &mut Vec<(u32, u64)>,
-) -> Result<(), NoMemory>
+    registers: &mut Regs,
+)
     requires can { Each CanReady (map ready_of steps.now) }
     requires size { length arrival.now.bytes.now ≤ largest_packet }
     requires shape { arrival.now.shape ≡ shape_of arrival.now.bytes.now }
-    ensures { OnOk result (computed.new.items ≡ computed.old.items ++ ready_gives (map ready_of steps.now)
+    ensures written { registers.new ≡ all_placed registers.old (ready_gives (map ready_of steps.now)
         (G.reads numbers.now) (L.seen tables.now) (packet_of arrival.now)) }
+    ensures plan { registers.new.plan ≡ registers.old.plan }
+    ensures count { length registers.new.numbers ≡ length registers.old.numbers }
 {
     for step in steps {
-        read_step(step, numbers, tables, arrival, computed)?;
-    }
-    Ok(())
-}
-
-// Writes numbers one after the other, each at its place.
-fn write_all(computed: &[(u32, u64)], registers: &mut Regs)
-    ensures { registers.new ≡ all_placed registers.old computed.now }
-{
-    for (place, number) in computed {
-        registers.set_at(*place, *number);
+        run_step(step, numbers, tables, arrival, registers);
     }
 }
 
-/// Writes what was computed, place by place.
-pub(crate) fn write_stage(computed: &mut Vec<(u32, u64)>, registers: &mut Regs)
-    ensures written { registers.new ≡ all_placed registers.old computed.old.items }
-    ensures plan { registers.new.plan ≡ registers.old.plan }
-    ensures empty { computed.new.items ≡ [] }
-{
-    write_all(computed.as_slice(), registers);
-    computed.clear();
-}
-
-// Computes a stage in registers. It reads all that it reads before it writes.
+// Computes a stage in registers. What it reads are the numbers that were there before it.
 fn run_stage<L: Lookup>(
     steps: &[ReadyStep],
     tables: &L,
     arrival: &Arrival<'_>,
     registers: &mut Regs,
-    computed: &mut Vec<(u32, u64)>,
-) -> Result<(), NoMemory>
+    before: &mut Vec<u64>,
+)
     requires can { Each CanReady (map ready_of steps.now) }
     requires size { length arrival.now.bytes.now ≤ largest_packet }
     requires shape { arrival.now.shape ≡ shape_of arrival.now.bytes.now }
-    requires empty { computed.old.items ≡ [] }
-    ensures written { OnOk result (registers.new ≡ all_placed registers.old
+    requires room { length before.old.items ≡ length registers.old.numbers }
+    ensures written { registers.new ≡ all_placed registers.old
         (ready_gives (map ready_of steps.now) (reads_at registers.old.numbers) (L.seen tables.now)
-        (packet_of arrival.now))) }
+        (packet_of arrival.now)) }
     ensures plan { registers.new.plan ≡ registers.old.plan }
-    ensures empty { OnOk result (computed.new.items ≡ []) }
+    ensures count { length registers.new.numbers ≡ length registers.old.numbers }
+    ensures room { length before.new.items ≡ length before.old.items }
 {
+    before.copy_from_slice(registers.as_slice());
     let numbers = Placed {
-        items: registers.as_slice(),
+        items: before.as_slice(),
     };
-    read_stage(steps, &numbers, tables, arrival, computed)?;
-    write_stage(computed, registers);
-    Ok(())
+    run_steps(steps, &numbers, tables, arrival, registers);
 }
 
-/// Computes a pass in registers, stage by stage. Where memory runs out, something may be left in `computed`.
+/// Computes a pass in registers, stage by stage. There is room in `before` for all their numbers.
 pub(crate) fn run_pass<L: Lookup>(
     stages: &ReadyStages,
     tables: &L,
     arrival: &Arrival<'_>,
     registers: &mut Regs,
-    computed: &mut Vec<(u32, u64)>,
-) -> Result<(), NoMemory>
+    before: &mut Vec<u64>,
+)
     requires can { (t : ℕ) → t < length stages.now → Each CanReady (ready_at stages.now t) }
     requires size { length arrival.now.bytes.now ≤ largest_packet }
     requires shape { arrival.now.shape ≡ shape_of arrival.now.bytes.now }
-    requires empty { computed.old.items ≡ [] }
-    ensures written { OnOk result (registers.new ≡ placed_at stages.now (L.seen tables.now)
-        (packet_of arrival.now) registers.old (length stages.now)) }
+    requires room { length before.old.items ≡ length registers.old.numbers }
+    ensures written { registers.new ≡ placed_at stages.now (L.seen tables.now)
+        (packet_of arrival.now) registers.old (length stages.now) }
     ensures plan { registers.new.plan ≡ registers.old.plan }
+    ensures count { length registers.new.numbers ≡ length registers.old.numbers }
+    ensures room { length before.new.items ≡ length before.old.items }
 {
     for stage in 0..stages.len() {
-        run_stage(stages.stage(stage), tables, arrival, registers, computed)?;
+        run_stage(stages.stage(stage), tables, arrival, registers, before);
     }
-    Ok(())
 }

@@ -1,5 +1,5 @@
 //! The pass over a packet that arrives.
-ghost use Rattle.std.specs.Prelude.{◌≡◌, ◌≤◌, ◌<◌, false, length, IfOk, OnOk};
+ghost use Rattle.std.specs.Prelude.{◌≡◌, ◌≤◌, ◌<◌, false, length, IfOk};
 ghost use Rattle.packet_fields.specs.Shape.{shape_of};
 ghost use Rattle.packet_fields.specs.Sizes.{largest_packet};
 ghost use Rattle.flat_ir.specs.Blocks.{Reading};
@@ -28,15 +28,15 @@ use switch_ir::UpEnd;
 use transfer_header::{frames_of_low_bits, pack_up};
 
 // Computes preprocessing.
-fn run_up(loaded: &mut Loaded, tables: &SwitchTables, arrival: &Arrival<'_>) -> Result<(), NoMemory>
+fn run_up(loaded: &mut Loaded, tables: &SwitchTables, arrival: &Arrival<'_>)
     requires size { length arrival.now.bytes.now ≤ largest_packet }
     requires shape { arrival.now.shape ≡ shape_of arrival.now.bytes.now }
     requires safe { KeepsTables (code_of loaded.old.code) tables.now }
     ensures code { code_of loaded.new.code ≡ code_of loaded.old.code }
-    ensures fits { OnOk result (FitsLayout loaded.new.code.up loaded.new.up.registers) }
-    ensures values { OnOk result (AreHeld loaded.new.pre_numbering loaded.new.up.registers
+    ensures fits { FitsLayout loaded.new.code.up loaded.new.up.registers }
+    ensures values { AreHeld loaded.new.pre_numbering loaded.new.up.registers
         (up_values (code_of loaded.new.code) (seen_tables tables.now) (packet_of arrival.now))
-        (kept_up (code_of loaded.new.code))) }
+        (kept_up (code_of loaded.new.code)) }
 {
     preprocessing_is_computed();
     a_pass_by_place();
@@ -47,8 +47,8 @@ fn run_up(loaded: &mut Loaded, tables: &SwitchTables, arrival: &Arrival<'_>) -> 
         tables,
         arrival,
         &mut loaded.up.registers,
-        &mut loaded.up.computed,
-    )
+        &mut loaded.up.before,
+    );
 }
 
 // What becomes of the packet once preprocessing is computed.
@@ -77,7 +77,7 @@ fn end_up(
         registers: &loaded.up.registers,
     };
     let pass = &loaded.code.pre;
-    let leaves = leaves_work(pass, &run, &mut loaded.marks)?;
+    let leaves = leaves_work(pass, &run, &mut loaded.marks);
     if leaves {
         let registers = &loaded.up.registers;
         let frame = pack_up(
@@ -116,6 +116,6 @@ pub(crate) fn go_up(
         bytes: packet,
         shape: Shape::of(packet),
     };
-    run_up(loaded, tables, &arrival)?;
+    run_up(loaded, tables, &arrival);
     end_up(alloc, loaded, number, &arrival)
 }

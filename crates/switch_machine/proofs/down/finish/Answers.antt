@@ -21,9 +21,9 @@ returns-clause-end c =
     let given = down_given (code_of start.code) (value_in start.down.registers) packet in
     let now = reads_by done.post_numbering (content_of done.down.registers) in
     let begins = subst (λ (code : Code). BeginsWith given_to.post_numbering (begins_down given_to.post_numbering code) given given_to.down.registers)
-    (sym c.give.ensures.code) c.in_ok-give.ensures.begins in
+    (sym c.give.ensures.code) c.give.ensures.begins in
     c.leave.ensures
     ∙ ap (λ (code : Code). leaves code.post now packet) c.run_down.ensures.code
     ∙ sent_same now (pass_values (code_of given_to.code).post given tables packet) (code_of given_to.code).post packet
-    (c.in_ok-run_down.ensures.values given begins)
+    (c.run_down.ensures.values given begins)
     ∙ ap (λ (code : Code). leaves code.post (pass_values code.post given tables packet) packet) c.give.ensures.code

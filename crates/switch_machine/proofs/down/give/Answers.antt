@@ -16,8 +16,8 @@ use Rattle.switch_machine.proofs.StageRegisters.{given_is}
 use Rattle.switch_machine.proofs.Writing.{placed_pairs}
 use Rattle.switch_machine.proofs.down.give.Goals as goal
 
-pub read_stage-requires-clause-can : goal.read_stage-requires-clause-can
-read_stage-requires-clause-can c =
+pub run_steps-requires-clause-can : goal.run_steps-requires-clause-can
+run_steps-requires-clause-can c =
     let l = c.args.loaded.now in
     let given = map pass_step_of l.code.post.given in
     can_of_stage l.given 0 c.stage.result.now c.stage.ensures
@@ -31,10 +31,9 @@ returns-clause-begins c =
     let packet = packet_of c.args.arrival.now in
     let given = map pass_step_of l.code.post.given in
     let gives = stage_gives l.post_numbering (of_stage 0 given) nothing [] packet in
-    let same : c.write_stage.new.registers ≡ pairs_written registers gives =
-    c.write_stage.ensures.written
-    ∙ ap (all_placed registers) (given_is l.given packet c.none-none.result c.none-none.ensures c.stage.result.now c.stage.ensures
-    l.down.computed.items c.read_stage.new.computed.items c.requires.empty c.in_ok-read_stage.ensures)
+    let same : c.run_steps.new.registers ≡ pairs_written registers gives =
+    c.run_steps.ensures.written
+    ∙ ap (all_placed registers) (given_is l.given packet c.none-none.result c.none-none.ensures c.stage.result.now c.stage.ensures)
     ∙ c.a_pass_by_place.ensures.stage l.post_numbering l.code.post.plan given 0 l.given nothing [] packet registers 0 l.given_stage l.post_plan
     c.are_few.ensures (omega arith) in
     subst (BeginsWith l.post_numbering (begins_down l.post_numbering code) (down_given code (value_in registers) packet)) (sym same)
@@ -47,10 +46,9 @@ returns-clause-placed c =
     let packet = packet_of c.args.arrival.now in
     let given = map pass_step_of l.code.post.given in
     let gives = stage_gives l.post_numbering (of_stage 0 given) nothing [] packet in
-    let same : c.write_stage.new.registers ≡ pairs_written registers gives =
-    c.write_stage.ensures.written
-    ∙ ap (all_placed registers) (given_is l.given packet c.none-none.result c.none-none.ensures c.stage.result.now c.stage.ensures
-    l.down.computed.items c.read_stage.new.computed.items c.requires.empty c.in_ok-read_stage.ensures)
+    let same : c.run_steps.new.registers ≡ pairs_written registers gives =
+    c.run_steps.ensures.written
+    ∙ ap (all_placed registers) (given_is l.given packet c.none-none.result c.none-none.ensures c.stage.result.now c.stage.ensures)
     ∙ c.a_pass_by_place.ensures.stage l.post_numbering l.code.post.plan given 0 l.given nothing [] packet registers 0 l.given_stage l.post_plan
     c.are_few.ensures (omega arith) in
     subst (λ (r : Registers). ArePlaced r) (sym same) (placed_pairs registers gives c.requires.placed)

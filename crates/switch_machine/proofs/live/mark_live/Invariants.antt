@@ -2,8 +2,8 @@ use Rattle.std.proofs.Common.{◌≡◌, ℕ, suc, ◌≤◌, false, length, get
 use Rattle.flat_ir.specs.Blocks.{is_live}
 use Rattle.switch_machine.proofs.live.mark_live.Given as goal
 
-abbrev pub invariant-loop-block : goal.invariant-loop-block
-invariant-loop-block g l = record {
-  count : length l.marks.items ≡ suc l.block-index;
-  exact : (b : ℕ) → b ≤ l.block-index → get_or l.marks.items b false ≡ is_live l.blocks (g.R.Numbers.reads l.numbers) b;
+abbrev pub invariant-loop-index : goal.invariant-loop-index
+invariant-loop-index g l = record {
+  count : length l.marks.items ≡ suc (length l.blocks);
+  exact : (b : ℕ) → b ≤ l.index → get_or l.marks.items b false ≡ is_live l.blocks (g.R.Numbers.reads l.numbers) b;
 }

@@ -5,5 +5,5 @@ use Rattle.switch_machine.proofs.passes.put_list.Goals as goal
 
 pub loop-index-preserved : goal.loop-index-preserved
 loop-index-preserved c =
-    put_more c.args.places.now (results_of c.args.results.now) c.loop-index.index c.args.computed.now.items c.loop-index.computed.items c.push.new.self.items
-    _ c.result_at.result c.loop-index.invariant c.in_ok-push.ensures.items refl c.result_at.ensures
+    put_more c.args.places.now (results_of c.args.results.now) c.loop-index.index c.args.registers.now c.loop-index.registers c.set_at.new.self
+    _ c.result_at.result c.loop-index.invariant c.set_at.ensures refl c.result_at.ensures

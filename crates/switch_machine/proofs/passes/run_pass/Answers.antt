@@ -7,7 +7,8 @@ pub loop-stage-init : goal.loop-stage-init
 loop-stage-init g c = record {
   written = none_placed c.args.stages.now (g.L.Lookup.seen c.args.tables.now) (packet_of c.args.arrival.now) c.args.registers.now;
   plan = refl;
-  empty = c.requires.empty;
+  count = refl;
+  room = refl;
 }
 
 pub run_stage-requires-clause-can : goal.run_stage-requires-clause-can
@@ -19,7 +20,8 @@ pub loop-stage-preserved : goal.loop-stage-preserved
 loop-stage-preserved g c = record {
   written = stage_more c.args.stages.now (g.L.Lookup.seen c.args.tables.now) (packet_of c.args.arrival.now) c.args.registers.now
       c.loop-stage.stage c.stage.result.now c.stage.ensures c.loop-stage.registers c.run_stage.new.registers
-      c.loop-stage.invariant.written c.in_ok-run_stage.ensures.written;
+      c.loop-stage.invariant.written c.run_stage.ensures.written;
   plan = c.run_stage.ensures.plan ∙ c.loop-stage.invariant.plan;
-  empty = c.in_ok-run_stage.ensures.empty;
+  count = c.run_stage.ensures.count ∙ c.loop-stage.invariant.count;
+  room = c.run_stage.ensures.room ∙ c.loop-stage.invariant.room;
 }

@@ -1,4 +1,4 @@
-use Rattle.std.proofs.Common.{◌≡◌, []}
+use Rattle.std.proofs.Common.{◌≡◌, length}
 use Rattle.flat_ir.specs.Registers.{packet_of}
 use Rattle.switch_machine.specs.Ready.{placed_at}
 use Rattle.switch_machine.proofs.passes.run_pass.Given as goal
@@ -8,5 +8,6 @@ invariant-loop-stage g l = record {
   written : l.registers
       ≡ placed_at l.stages (g.L.Lookup.seen l.tables) (packet_of l.arrival) l.fn.registers l.stage;
   plan : l.registers.plan ≡ l.fn.registers.plan;
-  empty : l.computed.items ≡ [];
+  count : length l.registers.numbers ≡ length l.fn.registers.numbers;
+  room : length l.before.items ≡ length l.fn.before.items;
 }

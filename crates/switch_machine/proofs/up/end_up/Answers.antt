@@ -26,7 +26,7 @@ returns-then-leaves-clause-ends c reads same =
     let lines = lines_of code.pre.blocks code.pre.rest in
     let rest = alike_right now reads (values_in code.up) (lines ++ left_with code.pre) same in (
       sym (tested_same now reads code.pre.blocks (λ f k each. c.readings_that_agree.ensures.live f now reads k each) code.pre.rest (alike_left now reads lines (left_with code.pre) rest))
-          ∙ sym c.in_ok-leaves.ensures ∙ c.if-leaves.true,
+          ∙ sym c.leaves_work-leaves.ensures.leaves ∙ c.if-leaves.true,
       c.in_ok-frame.ensures.reading reads (up_holds code loaded.can loaded.ordered loaded.few loaded.pre_numbering loaded.pre_ranges loaded.up.registers reads
           (alike_left now reads (values_in code.up) (lines ++ left_with code.pre) same)),
     )
@@ -39,6 +39,6 @@ returns-clause-ends c reads same =
     let lines = lines_of code.pre.blocks code.pre.rest in
     let rest = alike_right now reads (values_in code.up) (lines ++ left_with code.pre) same in (
       sym (tested_same now reads code.pre.blocks (λ f k each. c.readings_that_agree.ensures.live f now reads k each) code.pre.rest (alike_left now reads lines (left_with code.pre) rest))
-          ∙ sym c.in_ok-leaves.ensures ∙ c.if-leaves.false,
+          ∙ sym c.leaves_work-leaves.ensures.leaves ∙ c.if-leaves.false,
       c.leave.ensures ∙ sent_same now reads code.pre (packet_of c.args.arrival.now) (alike_right now reads lines (left_with code.pre) rest),
     )

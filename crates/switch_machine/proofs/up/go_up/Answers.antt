@@ -18,4 +18,4 @@ returns-clause-told c =
     let reads = up_values code (seen_tables told) packet in
     subst (λ (x : Code). IfOk c.end_up.result (EndsUp x told c.args.number packet)) c.run_up.ensures.code
     (ok_weaker (EndsBy code reads c.args.number packet) (EndsUp code told c.args.number packet) c.end_up.result (λ end e. ends_up code told c.args.number packet end e)
-    (c.end_up.ensures.ends reads c.in_ok-run_up.ensures.values))
+    (c.end_up.ensures.ends reads c.run_up.ensures.values))

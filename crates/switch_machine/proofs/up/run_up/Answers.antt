@@ -1,12 +1,10 @@
-use Rattle.std.proofs.Common.{◌≡◌, ◌∙◌, suc, length}
+use Rattle.std.proofs.Common.{◌∙◌, suc}
 use Rattle.flat_ir.specs.Registers.{packet_of}
 use Rattle.switch_ir.specs.Code.{code_of}
 use Rattle.switch_ir.specs.Meaning.{up_values}
 use Rattle.switch_ir.specs.Tables.{seen_tables}
 use Rattle.switch_machine.specs.Keeping.{kept_up}
 use Rattle.switch_machine.specs.Planned.{registers_at}
-use Rattle.switch_machine.specs.Ready.{placed_at}
-use Rattle.switch_machine.proofs.Lists.{on_ok, on_weaker}
 use Rattle.switch_machine.proofs.LoadedCode.{ready_up}
 use Rattle.switch_machine.proofs.StageRegisters.{held_by}
 use Rattle.switch_machine.proofs.up.run_up.Goals as goal
@@ -21,8 +19,7 @@ pub returns-clause-fits : goal.returns-clause-fits
 returns-clause-fits c =
     let l = c.args.loaded.now in
     let registers = c.run_pass.new.registers in
-    on_ok _ c.run_pass.result
-    (c.preprocessing_is_computed.ensures.fits (code_of l.code) l.pre_numbering registers (ready_up l registers (c.run_pass.ensures.plan ∙ c.clear.ensures.plan)))
+    c.preprocessing_is_computed.ensures.fits (code_of l.code) l.pre_numbering registers (ready_up l registers (c.run_pass.ensures.plan ∙ c.clear.ensures.plan))
 
 pub returns-clause-values : goal.returns-clause-values
 returns-clause-values c =
@@ -33,10 +30,9 @@ returns-clause-values c =
     let registers = c.clear.new.self.registers in
     let after = c.run_pass.new.registers in
     let last = registers_at l.pre_numbering code.pre (seen_tables told) packet registers (suc code.pre.highest) in
-    held_by l.pre_numbering last after (up_values code (seen_tables told) packet) (kept_up code) c.run_pass.result
-    (on_weaker (after ≡ placed_at l.pre (seen_tables told) packet registers (length l.pre)) (after ≡ last) c.run_pass.result
-    (λ is. is ∙ c.a_pass_by_place.ensures.pass l.pre_numbering l.code.pre.plan code.pre l.pre (seen_tables told) packet registers l.pre_stages
+    held_by l.pre_numbering last after (up_values code (seen_tables told) packet) (kept_up code)
+    (c.run_pass.ensures.written
+    ∙ c.a_pass_by_place.ensures.pass l.pre_numbering l.code.pre.plan code.pre l.pre (seen_tables told) packet registers l.pre_stages
     (c.clear.ensures.plan ∙ l.pre_plan) c.are_few.ensures)
-    c.run_pass.ensures.written)
     (c.preprocessing_is_computed.ensures.computed code l.pre_numbering registers told packet (ready_up l registers c.clear.ensures.plan)
     c.requires.safe c.clear.ensures.contents c.clear.ensures.placed)
