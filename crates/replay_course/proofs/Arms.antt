@@ -1,5 +1,5 @@
 -- What the calls in each event come to.
-use Rattle.std.proofs.Common.{◌≡◌, ◌<◌, ◌≤◌, ◌+◌, ◌-◌, ℕ, suc, Bool, true, false, List, [], ◌∷◌, ◌++◌, Option, Some, None, inl, inr, refl, sym, ap, subst, ◌∙◌, arith, length, get_or, ltb, map}
+use Rattle.std.proofs.Common.{◌≡◌, ◌<◌, ◌≤◌, ◌+◌, ℕ, true, false, List, Some, None, inl, inr, refl, sym, ap, subst, ◌∙◌, arith, length, get_or, map}
 use Rattle.std.specs.Prelude.{slice_get, slice_set, remove, nat_lt, IfSome}
 use Rattle.std.proofs.lemmas.Bool.{cases_lt}
 use Rattle.std.proofs.lemmas.Bool.Decides.{nat_tests}
@@ -7,9 +7,8 @@ use Rattle.std.proofs.lemmas.Option.{slice_get-get_or}
 use Rattle.packet_fields.specs.declared.packet.Packet.{Packet}
 use Rattle.packet_fields.specs.declared.verdict.Verdict.{Verdict}
 use Rattle.flat_ir.specs.Arrivals.{IsArrival}
-use Rattle.split_model.specs.Layouts.{down_layout, up_layout}
+use Rattle.split_model.specs.Layouts.{up_layout}
 use Rattle.transfer_header.specs.Frames.{IsFrame}
-use Rattle.writeback_table.specs.declared.command.Command.{Command}
 use Rattle.writeback_table.specs.declared.command.Update.{Update}
 use Rattle.run_model.specs.declared.event.Event.{Event}
 use Rattle.run_model.specs.declared.event.Event.TheVariants as event
@@ -17,13 +16,13 @@ use Rattle.switch_ir.specs.Port.{PortState, PassesUp, PassesDown, IsDownFrame}
 use Rattle.switch_ir.specs.declared.port.UpEnd.TheVariants as up
 use Rattle.switch_ir.specs.declared.port.DownEnd.TheVariants as down
 use Rattle.replay_state.specs.Answers.{Answers, Setup}
-use Rattle.replay_state.specs.Journal.{Call, Finished, SentUp, UpAnswer, journal, up_answer}
+use Rattle.replay_state.specs.Journal.{Call, Finished, SentUp, journal, up_answer}
 use Rattle.replay_state.specs.Places.{HavePlaces}
 use Rattle.replay_state.specs.Program.{SplitProgram}
 use Rattle.replay_state.specs.State.{State}
 use Rattle.replay_state.specs.Step.{applies, step}
 use Rattle.replay_contracts.specs.Given.{Given, code_for, setup_for, whole}
-use Rattle.replay_contracts.specs.Replay.{IsReplay, answered}
+use Rattle.replay_contracts.specs.Replay.{answered}
 use Rattle.replay_contracts.specs.Replayer.{stepped_by}
 use Rattle.replay_contracts.specs.declared.job.Stepped.{Stepped}
 use Rattle.replay_contracts.specs.declared.job.Stepped.TheVariants.{Did, Idle}
@@ -34,7 +33,6 @@ use Rattle.replay_course.specs.Shown.{IsShown, taken}
 use Rattle.replay_course.proofs.Calling.{came_down, finished, keeps_all, went_up}
 use Rattle.replay_course.proofs.Lists.{each_at, length_map}
 use Rattle.replay_course.proofs.Sounding.{FramedDown}
-use Rattle.replay_course.proofs.Travelling.{down_at}
 use Rattle.replay_course.proofs.Turning.{FreshDownLaw, FreshUpLaw, OnceLaw, PlaceLaw, StepLaw, admit_turned, down_turned, fates_count, idle_turned, no_merging, quiet_turned}
 
 -- ## Events that can't apply

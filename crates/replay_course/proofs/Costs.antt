@@ -1,5 +1,5 @@
 -- Counts of packets and commands, after one event.
-use Rattle.std.proofs.Common.{◌≡◌, ◌<◌, ◌≤◌, ◌+◌, ◌-◌, ◌*◌, ◌^◌, ℕ, arith, sym, subst}
+use Rattle.std.proofs.Common.{◌≡◌, ◌<◌, ◌≤◌, ◌+◌, ◌-◌, ◌*◌, ℕ, arith}
 use Rattle.std.proofs.Math.Nat.{mul-le-mul_right}
 
 pub one_more_times : (m c : ℕ) → (m + 1) * c ≡ m * c + c

@@ -1,7 +1,7 @@
 -- The events that end a run, one after the other.
-use Rattle.std.proofs.Common.{◌≡◌, ◌<◌, ◌≤◌, ◌+◌, ◌-◌, ◌*◌, ◌^◌, ◌⊎◌, ℕ, zero, suc, Bool, true, false, List, [], ◌∷◌, ◌++◌, Option, Some, None, inl, inr, refl, sym, ap, subst, ◌∙◌, arith, length, map, take}
-use Rattle.std.specs.Prelude.{slice_get, nat_le, nat_lt, not, ◌&&◌, if◌then◌else◌, is_some}
-use Rattle.std.proofs.lemmas.Bool.{cases_Bool, le-leb, lt-ltb, ltb-false, ltb-true}
+use Rattle.std.proofs.Common.{◌≡◌, ◌<◌, ◌≤◌, ◌+◌, ◌-◌, ◌*◌, ◌^◌, ℕ, suc, Bool, true, false, List, [], ◌∷◌, ◌++◌, Option, Some, None, inl, inr, refl, sym, ap, subst, ◌∙◌, arith, length, map, take}
+use Rattle.std.specs.Prelude.{slice_get, nat_lt, not, ◌&&◌, if◌then◌else◌, is_some}
+use Rattle.std.proofs.lemmas.Bool.{cases_Bool, le-leb, lt-ltb, ltb-false}
 use Rattle.std.proofs.lemmas.List.{append-nil, append_assoc}
 use Rattle.std.proofs.lemmas.Option.{none-some, same_Some}
 use Rattle.packet_fields.specs.declared.packet.Packet.{Packet}
@@ -22,9 +22,9 @@ use Rattle.replay_contracts.specs.Given.{Given, IsReady, code_for, setup_for, wh
 use Rattle.replay_contracts.specs.Replay.{HasDrained, HasPicked, IsReplay, answered}
 use Rattle.replay_contracts.specs.declared.job.Stepped.{Stepped}
 use Rattle.replay_course.specs.declared.course.Course.{Course}
-use Rattle.replay_course.specs.Going.{HasRoomNext, HasTurned, IsGoing, IsPlain, IsSound, Turns}
+use Rattle.replay_course.specs.Going.{HasRoomNext, HasTurned, IsGoing, IsPlain, IsSound}
 use Rattle.replay_course.specs.Shown.{IsShown}
-use Rattle.replay_course.specs.UnderWay.{HasDrainedOn, HasPickedOn, IsDrained, IsDraining, IsOnItsWay, course_left, picked_by}
+use Rattle.replay_course.specs.UnderWay.{IsDrained, IsDraining, IsOnItsWay, course_left, picked_by}
 use Rattle.replay_course.proofs.Calling.{stays_all, stays_more}
 use Rattle.replay_course.proofs.Lists.{each_at, length_map, length_push, take_past}
 use Rattle.replay_course.proofs.Room.{FindsRoom, SplitLaws, is_split_program}

@@ -1,7 +1,6 @@
 -- What an error leaves of a port.
-use Rattle.std.proofs.Common.{◌≡◌, ℕ, Bool, true, false, List, [], ◌∷◌, ◌++◌, Some, refl, sym, ap, subst, ◌∙◌, arith, map}
+use Rattle.std.proofs.Common.{◌≡◌, ℕ, Bool, true, false, List, [], ◌∷◌, ◌++◌, refl, sym, ap, subst, ◌∙◌, arith, map}
 use Rattle.std.specs.Prelude.{is_some}
-use Rattle.std.specs.List.{filter}
 use Rattle.std.proofs.lemmas.List.{append_assoc, append-nil}
 use Rattle.std.proofs.lemmas.List.Elements.{filter-append}
 use Rattle.gal_io.specs.Count.{IsCountedIf, count_after}
@@ -9,19 +8,18 @@ use Rattle.writeback_table.specs.declared.command.Command.{Command}
 use Rattle.run_model.specs.declared.event.Event.{Event}
 use Rattle.switch_ir.specs.Code.{Code}
 use Rattle.switch_ir.specs.Port.{PortState, Commands, Keeps, Loads, MakesRoom, PassesDown, PassesUp, ShowsRows}
-use Rattle.switch_ir.specs.Port.{down_entry, down_failed, has_failed, rows_entry, rows_failed, up_entry, up_failed}
+use Rattle.switch_ir.specs.Port.{down_entry, down_failed, rows_entry, rows_failed, up_entry, up_failed}
 use Rattle.switch_ir.specs.declared.journal.Entry.{Entry}
 use Rattle.switch_ir.specs.declared.journal.Entry.TheVariants as entry
 use Rattle.switch_ir.specs.declared.port.CommandEnd.TheVariants as command
 use Rattle.switch_ir.specs.declared.port.DownEnd.{DownEnd}
-use Rattle.switch_ir.specs.declared.port.PortEnd.{PortEnd}
 use Rattle.switch_ir.specs.declared.port.PortEnd.TheVariants as port
 use Rattle.switch_ir.specs.declared.port.RowsEnd.{RowsEnd}
 use Rattle.switch_ir.specs.declared.port.UpEnd.{UpEnd}
 use Rattle.replay_state.specs.Journal.{Call, question_of}
 use Rattle.replay_contracts.specs.Called.{HasCalls, KeepsCalls, WasCalled, calls_in, entries_of, is_of_replay, journal_of}
 use Rattle.replay_contracts.specs.Given.{Given, code_for}
-use Rattle.replay_contracts.specs.Replayer.{CountsFault, Fails, StaysTold, is_port_fault}
+use Rattle.replay_contracts.specs.Replayer.{Fails, StaysTold, is_port_fault}
 use Rattle.replay_contracts.specs.declared.job.ReplayError.{ReplayError}
 use Rattle.replay_contracts.specs.declared.job.ReplayError.TheVariants as errors
 use Rattle.replay_course.specs.declared.course.Course.{Course}

@@ -1,7 +1,6 @@
 -- How many commands and events there are at most.
 use Rattle.std.proofs.Common.{◌≡◌, ◌<◌, ◌≤◌, ◌+◌, ◌*◌, ◌^◌, ℕ, List, ◌++◌, sym, subst, arith, length}
 use Rattle.std.proofs.Math.Nat.{mul-le-mul}
-use Rattle.packet_fields.specs.declared.packet.Packet.{Packet}
 use Rattle.run_model.specs.Sizes.{most_packets}
 use Rattle.run_model.specs.declared.event.Event.{Event}
 use Rattle.switch_ir.specs.Port.{PortState}
@@ -9,7 +8,6 @@ use Rattle.split_answers.specs.Whole.{IsSplit}
 use Rattle.replay_state.specs.Answers.{Answers, Setup}
 use Rattle.replay_state.specs.Drain.{drain_bound, events_left}
 use Rattle.replay_state.specs.Journal.{Call}
-use Rattle.replay_state.specs.Program.{Manner, setup_of}
 use Rattle.replay_state.specs.Sound.{AreFew}
 use Rattle.replay_state.specs.State.{State}
 use Rattle.replay_state.specs.Step.{state_of, step}

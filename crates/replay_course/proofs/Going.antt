@@ -1,16 +1,14 @@
 -- The start of a replay, and the events of a schedule one after the other.
-use Rattle.std.proofs.Common.{◌≡◌, ◌<◌, ◌≤◌, ◌+◌, ◌*◌, ◌^◌, ◌-◌, ℕ, zero, suc, List, [], ◌∷◌, ◌++◌, Option, Some, None, refl, sym, ap, subst, ◌∙◌, arith, length, take}
-use Rattle.std.specs.Prelude.{is_some, slice_get}
+use Rattle.std.proofs.Common.{◌≡◌, ◌<◌, ◌≤◌, ◌+◌, ◌*◌, ◌^◌, ◌-◌, ℕ, zero, suc, List, [], ◌∷◌, ◌++◌, Option, Some, None, sym, ap, subst, ◌∙◌, arith, length, take}
+use Rattle.std.specs.Prelude.{is_some}
 use Rattle.std.specs.List.{AllByRecursion as Each}
 use Rattle.std.proofs.Math.Nat.{mul-le-mul}
 use Rattle.std.proofs.lemmas.Option.{none-some, same_Some}
-use Rattle.packet_fields.specs.declared.packet.Packet.{Packet}
-use Rattle.state_store.specs.Store.{Store, start_store}
+use Rattle.state_store.specs.Store.{start_store}
 use Rattle.flat_ir.specs.Arrivals.{IsArrival}
 use Rattle.gal_io.specs.Count.{IsCountedIf, count_after}
 use Rattle.run_model.specs.declared.event.Event.{Event}
 use Rattle.server_runtime.specs.Serving.{Server}
-use Rattle.server_runtime.specs.Views.{server_of}
 use Rattle.split_answers.specs.Whole.{IsSplit}
 use Rattle.switch_ir.specs.Code.{Code}
 use Rattle.switch_ir.specs.Port.{PortState, Loads, StartsTold}
@@ -18,15 +16,15 @@ use Rattle.switch_ir.specs.Tables.{IsStart, Told}
 use Rattle.switch_ir.specs.declared.port.PortEnd.TheVariants as port
 use Rattle.replay_state.specs.Journal.{Call}
 use Rattle.replay_state.specs.Program.{SplitProgram, plain_manner}
-use Rattle.replay_state.specs.State.{State, first_state}
+use Rattle.replay_state.specs.State.{first_state}
 use Rattle.replay_contracts.specs.Called.{calls_in}
 use Rattle.replay_contracts.specs.Given.{Given, IsReady, code_for, whole}
 use Rattle.replay_contracts.specs.Replay.{IsLoaded, IsReplay}
-use Rattle.replay_contracts.specs.Replayer.{StaysTold, is_port_fault}
+use Rattle.replay_contracts.specs.Replayer.{is_port_fault}
 use Rattle.replay_contracts.specs.declared.job.ReplayError.{ReplayError}
 use Rattle.replay_contracts.specs.declared.job.Stepped.{Stepped}
 use Rattle.replay_course.specs.declared.course.Course.{Course}
-use Rattle.replay_course.specs.Going.{HasRoomNext, HasTurned, IsGoing, IsPlain, IsSound, most_commands, unapplied}
+use Rattle.replay_course.specs.Going.{HasRoomNext, HasTurned, IsPlain, IsSound, most_commands, unapplied}
 use Rattle.replay_course.specs.Shown.{IsShown}
 use Rattle.replay_course.specs.UnderWay.{HasGone, IsUnderWay}
 use Rattle.replay_course.proofs.Calling.{stays_all, stays_more}

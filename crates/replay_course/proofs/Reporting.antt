@@ -1,5 +1,5 @@
 -- What is told of a course is what is told of the state that it shows.
-use Rattle.std.proofs.Common.{◌≡◌, ◌<◌, ◌≤◌, ◌*◌, ◌^◌, ℕ, Bool, true, false, List, Some, refl, sym, ap, subst, ◌∙◌, arith, length, map, take, eqb}
+use Rattle.std.proofs.Common.{◌≡◌, ◌<◌, ◌≤◌, ◌*◌, ◌^◌, ℕ, Bool, true, false, List, refl, sym, ap, ◌∙◌, arith, length, map, take, eqb}
 use Rattle.std.proofs.Math.Nat.{mul-le-mul}
 use Rattle.std.specs.Prelude.{◌&&◌, count_by}
 use Rattle.writeback_table.specs.Commands.{ons}
@@ -18,7 +18,7 @@ use Rattle.replay_contracts.specs.Given.{Given, setup_for, whole}
 use Rattle.replay_contracts.specs.Promise.{Reports}
 use Rattle.replay_course.specs.declared.course.Course.{Course}
 use Rattle.replay_course.specs.Shown.{IsShown}
-use Rattle.replay_course.specs.Going.{IsGoing, IsPlain, IsSound}
+use Rattle.replay_course.specs.Going.{IsPlain, IsSound}
 use Rattle.replay_course.specs.Telling.{ShowsParts, is_done, told_run}
 use Rattle.replay_course.proofs.Lists.{length_map}
 use Rattle.replay_course.proofs.Versions.{versions_by}

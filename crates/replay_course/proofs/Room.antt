@@ -1,5 +1,5 @@
 -- The next command finds room, where the tables are told.
-use Rattle.std.proofs.Common.{◌≡◌, ℕ, true, List, Option, Some, None, refl, sym, subst, ◌∙◌, ap}
+use Rattle.std.proofs.Common.{◌≡◌, ℕ, true, List, Option, Some, None, refl, sym, subst, ◌∙◌}
 use Rattle.std.specs.Prelude.{slice_get, IfSome}
 use Rattle.std.specs.List.{AllByRecursion as Each}
 use Rattle.flat_ir.specs.Arrivals.{IsArrival}
@@ -9,7 +9,6 @@ use Rattle.split_model.specs.declared.split.Part.{Part}
 use Rattle.split_model.specs.Shown.{is_replicated}
 use Rattle.writeback_table.specs.declared.command.Command.{Command}
 use Rattle.writeback_table.specs.Commands.{pair_through, room_for}
-use Rattle.output_commit.specs.Commit.{next}
 use Rattle.run_model.specs.declared.event.Event.{Event}
 use Rattle.switch_ir.specs.Emitted.{emitted}
 use Rattle.switch_ir.specs.Port.{PortState, IsCommandOf}
@@ -23,7 +22,7 @@ use Rattle.replay_state.specs.Step.{state_of}
 use Rattle.replay_state.specs.Tables.{IsSeen}
 use Rattle.split_answers.specs.Through.{IsThrough, first_pair}
 use Rattle.split_answers.specs.Whole.{IsSplit, whole_of}
-use Rattle.replay_contracts.specs.Given.{Given, code_for, setup_for, whole, whole_runs}
+use Rattle.replay_contracts.specs.Given.{Given, setup_for, whole, whole_runs}
 use Rattle.replay_contracts.specs.Replay.{IsReplay}
 use Rattle.replay_course.specs.declared.course.Course.{Course}
 use Rattle.replay_course.specs.Going.{HasRoomNext, IsGoing}

@@ -1,22 +1,20 @@
 -- What the server makes of a frame comes to what the split program says of it.
-use Rattle.std.proofs.Common.{◌≡◌, ◌<◌, ◌≤◌, ◌+◌, ◌-◌, ◌*◌, ◌^◌, ℕ, suc, zero, Bool, true, false, List, [], ◌∷◌, ◌++◌, Option, Some, None, refl, sym, ap, subst, ◌∙◌, arith, length, map}
+use Rattle.std.proofs.Common.{◌≡◌, ◌<◌, ◌≤◌, ◌+◌, ◌-◌, ◌*◌, ◌^◌, ℕ, suc, zero, Bool, true, false, List, [], ◌∷◌, ◌++◌, Some, refl, sym, ap, subst, ◌∙◌, arith, length, map}
 use Rattle.std.specs.Prelude.{slice_get, slice_set, remove, IsTrue, ◌&&◌, if◌then◌else◌}
 use Rattle.std.specs.List.{AllByRecursion as Each}
 use Rattle.std.proofs.lemmas.Option.{slice_get_within}
 use Rattle.std.proofs.Math.Nat.{mul-le-mul}
 use Rattle.state_store.specs.Kept.{have_widths}
-use Rattle.flat_ir.specs.Program.{Program, step_at}
+use Rattle.flat_ir.specs.Program.{step_at}
 use Rattle.split_model.specs.Counts.{count_below}
 use Rattle.split_model.specs.Layouts.{down_layout, up_layout}
 use Rattle.transfer_header.specs.Frames.{IsFrame}
-use Rattle.writeback_table.specs.declared.command.Command.{Command}
-use Rattle.writeback_table.specs.declared.command.Command.TheVariants.{Stage, On, Main, Off, Clear}
+use Rattle.writeback_table.specs.declared.command.Command.TheVariants.{Stage, Main}
 use Rattle.writeback_table.specs.declared.command.Update.{Update}
 use Rattle.writeback_table.specs.Commands.{clear_of, ons}
 use Rattle.writeback_table.specs.Widths.{has_value_widths}
 use Rattle.output_commit.specs.Commit.{Commit, IsInOrder, batch_of, with_output}
 use Rattle.output_commit.specs.declared.output.Output.{Output}
-use Rattle.run_model.specs.declared.event.Event.{Event}
 use Rattle.run_model.specs.declared.event.Event.TheVariants as event
 use Rattle.run_model.specs.declared.fate.Fate.{Fate}
 use Rattle.server_runtime.specs.declared.served.Served.{Served}
@@ -24,17 +22,13 @@ use Rattle.server_runtime.specs.declared.server.Server.{Server as Runtime}
 use Rattle.server_runtime.specs.Serving.{Server, IsServed, IsUpdateIn, evaluated_steps, followed_writes, is_followed, served_frame, served_store, served_updates, version_after}
 use Rattle.server_runtime.specs.Views.{server_of}
 use Rattle.switch_ir.specs.Port.{PortState, IsCommandOf, IsUpdateOf}
-use Rattle.replay_state.specs.Journal.{Call, journal}
-use Rattle.replay_state.specs.State.{State}
-use Rattle.replay_state.specs.Step.{applies}
 use Rattle.split_answers.specs.Whole.{IsSplit}
 use Rattle.replay_contracts.specs.Given.{Given, code_for, setup_for, whole}
 use Rattle.replay_contracts.specs.Replayer.{stepped_by}
 use Rattle.replay_contracts.specs.declared.job.Stepped.TheVariants.{Did}
 use Rattle.replay_course.specs.Fates as fates_of
 use Rattle.replay_course.specs.declared.course.Course.{Course}
-use Rattle.replay_course.specs.Going.{HasTurned, IsGoing, IsPlain, IsSound, MadeRoom, most_commands, unapplied}
-use Rattle.replay_course.specs.Shown.{IsShown}
+use Rattle.replay_course.specs.Going.{HasTurned, IsGoing, IsSound, MadeRoom, most_commands, unapplied}
 use Rattle.replay_course.proofs.Lists.{each_at, each_join, each_more, each_push, each_remove, length_join, length_remove, length_set}
 use Rattle.replay_course.proofs.Costs.{commands_served, enough, one_more_times, spare_served, still_within, undecided_served}
 use Rattle.replay_course.proofs.Sounding.{FramedDown, FramedHeld, FramedUp, Needs}

@@ -1,13 +1,12 @@
 -- What stands in a course stands after each event.
-use Rattle.std.proofs.Common.{◌≡◌, ◌<◌, ◌≤◌, ◌+◌, ◌-◌, ◌*◌, ℕ, Bool, true, false, ltb, List, [], ◌∷◌, ◌++◌, Option, Some, None, inl, inr, refl, sym, ◌∙◌, ap, subst, arith, length}
+use Rattle.std.proofs.Common.{◌≡◌, ◌<◌, ◌≤◌, ◌+◌, ◌-◌, ◌*◌, ℕ, ltb, List, [], ◌∷◌, ◌++◌, Some, inl, inr, refl, sym, ◌∙◌, ap, subst, arith, length}
 use Rattle.std.specs.Prelude.{slice_get, slice_set, remove}
 use Rattle.std.specs.List.{AllByRecursion as Each}
-use Rattle.std.proofs.lemmas.Bool.{cases_Bool, ltb-true, ltb-false}
+use Rattle.std.proofs.lemmas.Bool.{cases_Bool, ltb-true}
 use Rattle.split_model.specs.Layouts.{down_layout, up_layout}
 use Rattle.transfer_header.specs.Frames.{IsFrame}
-use Rattle.writeback_table.specs.declared.command.Command.{Command}
 use Rattle.writeback_table.specs.Commands.{ons}
-use Rattle.output_commit.specs.Commit.{Commit, IsInOrder, acknowledged, after_acknowledge, after_next, after_release, after_send, first, next}
+use Rattle.output_commit.specs.Commit.{Commit, IsInOrder, after_acknowledge, after_next, after_send, first}
 use Rattle.output_commit.specs.declared.output.Output.{Output}
 use Rattle.run_model.specs.declared.fate.Fate.{Fate}
 use Rattle.server_runtime.specs.Views.{server_of}
@@ -15,7 +14,7 @@ use Rattle.switch_ir.specs.Port.{IsCommandOf}
 use Rattle.replay_contracts.specs.Given.{Given, code_for}
 use Rattle.replay_course.specs.declared.course.Course.{Course}
 use Rattle.replay_course.specs.Going.{IsSound, IsWithin, most_commands, undecided}
-use Rattle.replay_course.proofs.Lists.{each_at, each_push, each_remove, length_push, length_remove, length_set}
+use Rattle.replay_course.proofs.Lists.{each_at, each_push, each_remove, length_push, length_set}
 use Rattle.replay_course.proofs.Costs.{admit_undecided, commands_after, first_within, versions_stay, within_by}
 
 -- the frames of a course have the layouts of their ways

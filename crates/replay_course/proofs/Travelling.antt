@@ -1,7 +1,6 @@
 -- What a course shows after an event that is idle, and after packets go up, are served and come down.
-use Rattle.std.proofs.Common.{◌≡◌, ℕ, ◌+◌, ◌-◌, ◌<◌, ◌≤◌, Bool, true, false, eqb, ltb, List, [], ◌∷◌, ◌++◌, Option, Some, None, inl, inr, refl, sym, ◌∙◌, ap, subst, arith, zero, suc, map, length, take}
+use Rattle.std.proofs.Common.{◌≡◌, ℕ, ◌+◌, ◌≤◌, true, false, eqb, List, [], ◌∷◌, ◌++◌, Option, Some, None, inl, inr, refl, sym, ◌∙◌, ap, subst, arith, zero, suc, map, length}
 use Rattle.std.specs.Prelude.{slice_get, slice_set, remove}
-use Rattle.std.specs.List.{AllByRecursion as Each}
 use Rattle.std.specs.Option.{option_map}
 use Rattle.std.proofs.lemmas.Bool.{cases_Bool, eq-eqb, eqb-true, lt-ltb}
 use Rattle.std.proofs.lemmas.List.{append-nil}
@@ -10,20 +9,18 @@ use Rattle.packet_fields.specs.declared.packet.Packet.{Packet}
 use Rattle.packet_fields.specs.declared.verdict.Verdict.{Verdict}
 use Rattle.state_store.specs.Store.{Store}
 use Rattle.writeback_table.specs.declared.command.Update.{Update}
-use Rattle.writeback_table.specs.Commands.{ons}
 use Rattle.output_commit.specs.Commit.{Commit, batch_of, with_output}
 use Rattle.output_commit.specs.declared.output.Output.{Output}
 use Rattle.run_model.specs.declared.event.Event.{Event}
 use Rattle.run_model.specs.declared.event.Event.TheVariants as event
-use Rattle.run_model.specs.declared.fate.Fate.{Fate}
 use Rattle.run_model.specs.declared.fate.Fate.TheVariants as fate
 use Rattle.server_runtime.specs.Serving.{version_after}
 use Rattle.replay_state.specs.Answers.{Answers, Setup}
-use Rattle.replay_state.specs.Journal.{Call, CalledDown, CalledUp, Released, SentUp, UpAnswer, down_answer, down_frame, ends_up, frame_in, journal, only_for, or_else, over_in, told, up_answer, verdict_in}
+use Rattle.replay_state.specs.Journal.{Call, CalledDown, CalledUp, Released, SentUp, UpAnswer, down_answer, down_frame, frame_in, journal, only_for, or_else, over_in, told, up_answer, verdict_in}
 use Rattle.replay_state.specs.Places.{HavePlaces, IsHeld}
 use Rattle.replay_state.specs.Program.{SplitProgram}
-use Rattle.replay_state.specs.State.{State, Batch, Entered, Held, Pass, Progress, Slow, Up, commands_in, fate_of, seen}
-use Rattle.replay_state.specs.Step.{applies, came_down, came_in, came_out, decided, ended, idled, ran, released, served, step, tick, went_up, with_changes}
+use Rattle.replay_state.specs.State.{State, Batch, Entered, Held, Progress, Slow, Up, commands_in, fate_of, seen}
+use Rattle.replay_state.specs.Step.{applies, came_down, came_in, came_out, decided, idled, ran, released, served, step, tick, went_up, with_changes}
 use Rattle.replay_course.specs.Fates as fates_of
 use Rattle.replay_course.specs.declared.course.Course.{Course}
 use Rattle.replay_course.specs.Shown.{IsShown, taken}

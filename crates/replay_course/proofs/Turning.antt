@@ -1,6 +1,6 @@
 -- An event leads from one replay that a course shows to the next.
-use Rattle.std.proofs.Common.{◌≡◌, ◌<◌, ◌≤◌, ◌+◌, ◌-◌, ℕ, suc, Bool, true, false, List, [], ◌∷◌, ◌++◌, Option, Some, None, inl, inr, refl, sym, ap, subst, ◌∙◌, arith, length, map, get_or, ltb, eqb}
-use Rattle.std.specs.Prelude.{slice_get, slice_set, remove, if◌then◌else◌}
+use Rattle.std.proofs.Common.{◌≡◌, ◌≤◌, ◌+◌, ◌-◌, ℕ, suc, true, false, List, [], ◌∷◌, ◌++◌, Some, None, inl, inr, refl, sym, ap, subst, ◌∙◌, arith, length, map, ltb, eqb}
+use Rattle.std.specs.Prelude.{slice_get, slice_set, remove}
 use Rattle.std.proofs.lemmas.Bool.{cases_Bool, eq-eqb, lt-ltb}
 use Rattle.std.proofs.lemmas.List.{append-nil}
 use Rattle.std.proofs.lemmas.Option.{none-some, same_Some, slice_get-get_or, slice_get_within}
@@ -13,7 +13,7 @@ use Rattle.run_model.specs.declared.event.Event.TheVariants as event
 use Rattle.switch_ir.specs.Port.{PortState, IsCommandOf}
 use Rattle.output_commit.specs.Commit.{Commit, next}
 use Rattle.replay_state.specs.Answers.{Answers, Setup}
-use Rattle.replay_state.specs.Journal.{AsksDown, AsksUp, Call, CalledCommand, CalledDown, CalledUp, EndOnce, IsAnswered, Question, Released, UpAnswer, asked, asks, asks_command, asks_down, down_answer, down_ends, down_frame, frame_in, has_come_down, has_passed, is_up_end, journal, one_if, over_in, question_of, up_answer, up_ends}
+use Rattle.replay_state.specs.Journal.{AsksDown, AsksUp, Call, CalledCommand, CalledDown, CalledUp, EndOnce, IsAnswered, Released, UpAnswer, asked, asks, asks_command, asks_down, down_answer, down_ends, down_frame, frame_in, has_come_down, has_passed, is_up_end, journal, one_if, over_in, question_of, up_answer, up_ends}
 use Rattle.replay_state.specs.Places.{HavePlaces}
 use Rattle.replay_state.specs.Program.{SplitProgram, packet_at, setup_of}
 use Rattle.replay_state.specs.State.{State, fate_of}
@@ -26,7 +26,7 @@ use Rattle.replay_contracts.specs.declared.job.Stepped.{Stepped}
 use Rattle.replay_contracts.specs.declared.job.Stepped.TheVariants.{Did, Idle}
 use Rattle.replay_course.specs.Fates as fates_of
 use Rattle.replay_course.specs.declared.course.Course.{Course}
-use Rattle.replay_course.specs.Going.{HasTurned, IsGoing, IsPlain, IsSound, Turns, unapplied}
+use Rattle.replay_course.specs.Going.{HasTurned, IsGoing, IsPlain, IsSound, unapplied}
 use Rattle.replay_course.specs.Shown.{IsShown, taken}
 use Rattle.replay_course.proofs.Calling.{called_stays, keeps_all, kept_calls, kept_stays}
 use Rattle.replay_course.proofs.Lists.{each_at, length_map, none_at_end}

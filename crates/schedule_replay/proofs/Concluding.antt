@@ -1,7 +1,7 @@
 -- A whole replay, from its start to what is reported.
 use Rattle.std.proofs.Common.{◌≡◌, ◌<◌, ◌≤◌, ◌+◌, ◌-◌, ◌^◌, ◌++◌, ℕ, Bool, true, false, List, Option, Some, None, refl, sym, ap, subst, ◌∙◌, arith, length}
-use Rattle.std.specs.Prelude.{IsSome, IsTrue, is_some}
-use Rattle.std.specs.Result.{IfOk, IfErr, IsErrAnd}
+use Rattle.std.specs.Prelude.{IsSome, IsTrue}
+use Rattle.std.specs.Result.{IfOk, IfErr}
 use Rattle.std.specs.Prelude.{Result, Ok, Err}
 use Rattle.gal_io.specs.Count.{IsCountedIf, count_after}
 use Rattle.run_model.specs.declared.event.Event.{Event}
@@ -11,7 +11,7 @@ use Rattle.switch_ir.specs.Tables.{Told}
 use Rattle.split_answers.specs.Through.{HasTables}
 use Rattle.packet_fields.specs.declared.packet.Packet.{Packet}
 use Rattle.replay_state.specs.Answers.{Setup}
-use Rattle.replay_state.specs.Drain.{drain_bound, is_drained, is_quiet, plan_events}
+use Rattle.replay_state.specs.Drain.{drain_bound, is_quiet, plan_events}
 use Rattle.replay_state.specs.Journal.{Call, EndOnce, IsAnswered}
 use Rattle.replay_state.specs.Program.{SplitProgram}
 use Rattle.replay_state.specs.Run.{job_run}
@@ -20,7 +20,7 @@ use Rattle.replay_contracts.specs.Called.{KeepsCalls}
 use Rattle.replay_contracts.specs.Given.{Given, IsReady, setup_for, whole, whole_runs}
 use Rattle.replay_contracts.specs.Promise.{Promises, Reports, state_for}
 use Rattle.replay_contracts.specs.Replay.{IsReplay, answered}
-use Rattle.replay_contracts.specs.Replayer.{IsReported, IsRunOf, StaysTold, is_port_fault}
+use Rattle.replay_contracts.specs.Replayer.{IsReported, IsRunOf, is_port_fault}
 use Rattle.replay_contracts.specs.declared.job.Replayed.{Replayed}
 use Rattle.replay_contracts.specs.declared.job.ReplayError.{ReplayError}
 use Rattle.replay_course.specs.declared.course.Course.{Course}

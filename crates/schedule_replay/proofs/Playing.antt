@@ -1,27 +1,25 @@
 -- A replayer goes on.
-use Rattle.std.proofs.Common.{◌≡◌, ◌<◌, ◌≤◌, ◌+◌, ◌-◌, ◌^◌, ℕ, Bool, false, List, [], ◌∷◌, ◌++◌, Option, Some, None, refl, sym, ap, subst, ◌∙◌, arith, length, map}
+use Rattle.std.proofs.Common.{◌≡◌, ◌<◌, ◌≤◌, ◌+◌, ◌-◌, ◌^◌, ℕ, false, List, [], ◌∷◌, ◌++◌, Option, Some, None, refl, sym, ap, subst, ◌∙◌, arith, length, map}
 use Rattle.std.specs.Prelude.{is_some}
 use Rattle.std.proofs.lemmas.Option.{none-some}
-use Rattle.state_store.specs.Store.{start_store}
 use Rattle.run_model.specs.declared.event.Event.{Event}
 use Rattle.switch_ir.specs.Port.{PortState}
-use Rattle.switch_ir.specs.Tables.{Told}
 use Rattle.replay_state.specs.Drain.{drain_bound}
 use Rattle.replay_state.specs.Journal.{Call, asked, question_of}
-use Rattle.replay_state.specs.State.{State, first_state}
+use Rattle.replay_state.specs.State.{State}
 use Rattle.replay_state.specs.Step.{step}
-use Rattle.replay_contracts.specs.Called.{KeepsCalls, WasCalled}
+use Rattle.replay_contracts.specs.Called.{WasCalled}
 use Rattle.replay_contracts.specs.Given.{Given, IsReady, code_for, setup_for, whole}
 use Rattle.replay_contracts.specs.Promise.{Promises}
 use Rattle.replay_contracts.specs.Replay.{HasDrained, HasPicked, IsReplay, answered}
-use Rattle.replay_contracts.specs.Replayer.{Fails, HasEmptied, HasFailed, HasReported, HasStepped, IsAlive, IsNew, StaysTold}
+use Rattle.replay_contracts.specs.Replayer.{Fails, HasEmptied, HasFailed, HasReported, HasStepped, IsNew}
 use Rattle.replay_contracts.specs.declared.job.Replayed.{Replayed}
 use Rattle.replay_contracts.specs.declared.job.ReplayError.{ReplayError}
 use Rattle.replay_contracts.specs.declared.job.Stepped.{Stepped}
 use Rattle.replay_course.specs.declared.course.Course.{Course}
 use Rattle.replay_course.specs.Going.{HasRoomNext, HasTurned, IsGoing}
 use Rattle.replay_course.specs.Shown.{IsShown}
-use Rattle.replay_course.specs.UnderWay.{HasGone, IsDrained, IsOnItsWay, IsUnderWay, course_left}
+use Rattle.replay_course.specs.UnderWay.{HasGone, IsDrained, IsOnItsWay, course_left}
 use Rattle.schedule_replay.specs.Replayer.{IsKept, IsPerforming, view_of}
 use Rattle.schedule_replay.proofs.Concluding.{BoundLaw, LeftLaw, PromiseLaw, ReportsOf, RunLaw, kept_replay}
 

@@ -1,7 +1,7 @@
-use Rattle.std.proofs.Common.{◌≡◌, ◌<◌, ◌≤◌, ◌∙◌, sym, length, ap, subst}
+use Rattle.std.proofs.Common.{◌<◌, ◌≤◌, ◌∙◌, sym, length, ap, subst}
 use Rattle.replay_contracts.specs.Replayer.{given_of}
 use Rattle.replay_course.specs.Telling.{ShowsParts}
-use Rattle.replay_course.proofs.Rows.{is_loaded, has_replicated, rows_kept, shows_none, shows_past, shows_more, shows_all, shows_same}
+use Rattle.replay_course.proofs.Rows.{is_loaded, has_replicated, rows_kept, shows_past, shows_more, shows_all, shows_same}
 use Rattle.std.proofs.lemmas.Result.{err_from_is_err_and}
 use Rattle.replay_course.proofs.Failing.{fails_there, goes_kept, keeps_more}
 use Rattle.replay_course.proofs.report.switch_parts.Goals as goal

@@ -1,4 +1,4 @@
-use Rattle.std.proofs.Common.{refl, sym, subst, ap, ◌∙◌}
+use Rattle.std.proofs.Common.{sym, subst}
 use Rattle.std.specs.Prelude.{IfSome}
 use Rattle.switch_ir.specs.Port.{IsCommandOf}
 use Rattle.replay_course.proofs.Calling.{commanded}

@@ -1,6 +1,4 @@
-use Rattle.std.proofs.Common.{◌≡◌, ◌<◌, ◌≤◌, ◌+◌, Some, sym, ap, ◌∙◌, length, arith}
-use Rattle.replay_contracts.specs.Replayer.{given_of}
-use Rattle.replay_course.specs.UnderWay.{course_left}
+use Rattle.std.proofs.Common.{arith}
 use Rattle.replay_course.proofs.Draining.{drain_room, drains_more, few_drained, has_drained, left_falls, none_drained}
 use Rattle.std.proofs.lemmas.Result.{err_from_is_err_and}
 use Rattle.replay_course.proofs.Failing.{fails_behind, goes_draining}

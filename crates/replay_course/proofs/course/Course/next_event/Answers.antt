@@ -1,4 +1,4 @@
-use Rattle.std.proofs.Common.{ap, sym, ◌∙◌}
+use Rattle.std.proofs.Common.{ap, ◌∙◌}
 use Rattle.replay_contracts.specs.Replayer.{given_of}
 use Rattle.replay_course.specs.UnderWay.{picked_by}
 use Rattle.replay_course.proofs.Draining.{picked_is}

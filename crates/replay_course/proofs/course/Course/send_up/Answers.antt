@@ -1,4 +1,4 @@
-use Rattle.std.proofs.Common.{◌≡◌, [], ◌∷◌, ◌++◌, ◌+◌, ◌∙◌, ap, arith, length, refl}
+use Rattle.std.proofs.Common.{◌≡◌, [], ◌∷◌, ◌++◌, ◌∙◌, ap, arith, length, refl}
 use Rattle.replay_course.proofs.Sounding.{send_up_sound}
 use Rattle.replay_course.proofs.Travelling.{send_up_shown}
 use Rattle.replay_course.proofs.course.Course.send_up.Goals as goal
