@@ -13,6 +13,7 @@ pub mod Numbers
 pub mod Outcomes
 pub mod Results
 pub mod Rows
+pub mod Seats
 pub mod Running
 pub mod Spanned
 pub mod Steps

@@ -1,8 +1,8 @@
 -- Which values need registers at the same time.
-use Rattle.std.proofs.Common.{◌≡◌, ◌+◌, ◌-◌, ◌<◌, ◌≤◌, ◌==◌, ◌&&◌, ◌||◌, ℕ, suc, Bool, true, false, cond, max, List, [], ◌∷◌, ◌++◌, get_or, map, length, replicate, nat_lt, slice_get, Some, Option, IsTrue, IsSome, is_some, not, refl, sym, ap, ◌∙◌, subst, arith, inl, inr, true≢false}
-use Rattle.std.specs.Prelude.{nat_le, All, Contains}
+use Rattle.std.proofs.Common.{◌≡◌, ◌<◌, ◌≤◌, ◌==◌, ◌&&◌, ℕ, suc, Bool, true, false, cond, max, List, [], ◌∷◌, get_or, map, length, replicate, slice_get, Some, Option, IsTrue, IsSome, is_some, not, refl, sym, ap, ◌∙◌, subst, arith, inl, inr, true≢false}
+use Rattle.std.specs.Prelude.{nat_le, All}
 use Rattle.std.specs.List.{filter, AllByRecursion as Each}
-use Rattle.std.proofs.lemmas.Bool.{and_from, and_parts, cases_Bool, eq-eqb, false_from_ne_true, le-leb, lt-ltb, not_from_false, or_left, or_parts, or_right}
+use Rattle.std.proofs.lemmas.Bool.{and_from, and_parts, cases_Bool, eq-eqb, le-leb, lt-ltb, not_from_false, or_left, or_parts, or_right}
 use Rattle.std.proofs.lemmas.List.{length-replicate, map-append}
 use Rattle.std.proofs.lemmas.List.Elements.{All-contains, All-map, All-weaker, filter_passes}
 use Rattle.std.proofs.lemmas.List.Folds.{list_any-append, list_any_at}
@@ -11,7 +11,7 @@ use Rattle.flat_ir.specs.declared.program.ValueId.{ValueId}
 use Rattle.flat_ir.specs.declared.spans.Span.{Span}
 use Rattle.flat_ir.specs.Kinds.{is_input}
 use Rattle.flat_ir.specs.Program.{is_named, step_at, Program}
-use Rattle.flat_ir.specs.Spans.{covers, last_step, spans_of}
+use Rattle.flat_ir.specs.Spans.{covers, last_step}
 use Rattle.flat_ir.specs.WellFormed.{IsWellFormed}
 use Rattle.split_model.specs.declared.layout.Crossing.{Crossing}
 use Rattle.split_model.specs.declared.split.Part.{Part}
@@ -22,7 +22,7 @@ use Rattle.split_model.specs.Layouts.{crossing, down_layout, down_values, number
 use Rattle.split_model.specs.Passes.{server_fields}
 use Rattle.split_model.specs.Split.{is_carried, is_carried_up, is_post, is_served, is_server, part_at, stage_after}
 use Rattle.transfer_header.specs.Registers.{place_by, place_of, Registers}
-use Rattle.transfer_header.specs.Steps.{is_among, AreKeptApart, AreSpansOf, Contents, IsNeeded, IsSpanOf, Steps}
+use Rattle.transfer_header.specs.Steps.{is_among, AreSpansOf, IsNeeded, IsSpanOf, Steps}
 use Rattle.server_runtime.specs.Registers.{AreServing}
 use Rattle.server_runtime.specs.Spans.{is_taken, is_turn, last_read, numbers_of, reads_at, server_spans, span_from, values_at, values_kept, values_read, writes_at}
 use Rattle.server_runtime.proofs.Contents.{among_filtered, among_results}

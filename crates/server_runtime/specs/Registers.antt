@@ -1,12 +1,13 @@
 -- The numbers of a program's values, in registers.
-use Rattle.std.specs.Prelude.{◌≡◌, ℕ, suc, ◌+◌, ◌-◌, ◌<◌, ◌≤◌, List, length, slice_get, slice_index, Option, Some, None, if◌then◌else◌}
+use Rattle.std.specs.Prelude.{◌≡◌, ℕ, suc, ◌+◌, ◌-◌, ◌^◌, ◌<◌, ◌≤◌, List, length, slice_get, slice_index, Option, Some, None, if◌then◌else◌, unwrap_or}
 use Rattle.flat_ir.specs.declared.program.ValueId.{ValueId}
 use Rattle.flat_ir.specs.Blocks.{Reading}
+use Rattle.flat_ir.specs.Plan.{Plan, register_of}
 use Rattle.flat_ir.specs.Program.{Program, is_named, result_count, step_at}
 use Rattle.split_model.specs.declared.split.Part.{Part}
 use Rattle.split_model.specs.Crossing.{crosses_up}
 use Rattle.split_model.specs.Layouts.{number_of, values_below, values_of}
-use Rattle.transfer_header.specs.Registers.{Registers, content_of, ArePlaced, HasRegister}
+use Rattle.transfer_header.specs.Registers.{Registers, content_of, place_of, ArePlaced, HasRegister}
 use Rattle.transfer_header.specs.Steps.{Contents, all_written, AreKeptApart}
 use Rattle.server_runtime.specs.Spans.{numbers_of, server_spans, values_at}
 
@@ -50,3 +51,26 @@ pub record AreServing (f : Program) (split : List Part) (registers : Registers) 
 pub record AreFirsts (f : Program) (firsts : List ℕ) : Type 0 where
   pub count : length firsts ≡ suc (length f.code)
   pub each : (i : ℕ) → i ≤ length f.code → slice_index firsts i ≡ length (values_below f i)
+
+-- a place past all registers
+abbrev pub no_place : ℕ
+no_place = 2 ^ 32 - 1
+
+-- an instruction's first value
+abbrev pub first_of : ℕ → ValueId
+first_of i = record { instruction = i; result = 0 }
+
+-- where the number of an instruction's first value stands among the registers, past all of them if nowhere
+abbrev pub seat_in : Program → Registers → ℕ → ℕ
+seat_in f registers i =
+    unwrap_or (if is_named f (first_of i) then place_of registers (number_of f (first_of i)) else None) no_place
+
+-- the same by a plan
+abbrev pub seat_by : Program → Plan → ℕ → ℕ
+seat_by f plan i =
+    unwrap_or (if is_named f (first_of i) then register_of plan (number_of f (first_of i)) else None) no_place
+
+-- for each instruction, where the number of its first value stands
+pub record AreSeats (f : Program) (seats : List ℕ) (registers : Registers) : Type 0 where
+  pub count : length seats ≡ length f.code
+  pub each : (i : ℕ) → i < length f.code → slice_index seats i ≡ seat_in f registers i

@@ -13,7 +13,7 @@ ghost use Rattle.server_runtime.specs.Plans.{AreReplicated, IsPrepared};
 ghost use Rattle.server_runtime.specs.Registers.{AreFirsts};
 ghost use Rattle.server_runtime.specs.Serving.{followed_writes, is_followed};
 
-use crate::spans::registers_of;
+use crate::spans::{Seated, registers_of};
 use flat_ir::{FieldValue, Flat, InstrKind, ValueId};
 use gal_io::NoMemory;
 use split_model::{Layout, Split, down_layout, replicated, up_layout};
@@ -31,6 +31,8 @@ pub(crate) struct SplitProgram {
     pub down: Layout,
     /// The number of each instruction's first value, and behind them how many values there are.
     pub firsts: Vec<u32>,
+    /// Where the number of each instruction's first value stands among the registers. Empty until these are planned.
+    pub seats: Vec<u32>,
     /// The fields that the server sets.
     pub fields: Vec<FieldValue>,
     /// Whether the object is replicated, for each object.
@@ -50,14 +52,15 @@ impl Model for Plan {
     ghost use Rattle.flat_ir.specs.Program.{program_of};
     ghost use Rattle.server_runtime.specs.Plans as plans;
     ghost use Rattle.server_runtime.specs.Plans.{IsPrepared};
-    ghost use Rattle.server_runtime.specs.Registers.{AreServing};
+    ghost use Rattle.server_runtime.specs.Registers.{AreSeats, AreServing};
 
     ghost Value = { plans.Plan };
 
     ghost view = { λ plan. record { program = program_of plan.whole.flat; split = plan.whole.split } };
 
     ghost invariant = { λ plan. IsPrepared plan.whole
-        × AreServing (program_of plan.whole.flat) plan.whole.split plan.values };
+        × AreServing (program_of plan.whole.flat) plan.whole.split plan.values
+        × AreSeats (program_of plan.whole.flat) plan.whole.seats.items plan.values };
 }
 
 impl Plan {
@@ -68,8 +71,9 @@ impl Plan {
         ensures program { IfOk result (λ plan. plan.program ≡ program_of f.now) }
         ensures split { IfOk result (λ plan. plan.split ≡ s.now) }
     {
-        let whole = SplitProgram::of(alloc, f, s)?;
-        let values = registers_of(alloc, &whole)?;
+        let mut whole = SplitProgram::of(alloc, f, s)?;
+        let Seated { values, seats } = registers_of(alloc, &whole)?;
+        whole.take_seats(seats);
         Ok(Plan { whole, values })
     }
 }
@@ -212,10 +216,22 @@ impl SplitProgram {
             up: layouts.up,
             down: layouts.down,
             firsts: lists.firsts,
+            seats: Vec::new(alloc),
             fields: lists.fields,
             followed: lists.followed,
             writes,
         })
+    }
+
+    // Takes the places of the instructions' first values.
+    fn take_seats(&mut self, seats: Vec<u32>)
+        requires { IsPrepared self.old }
+        ensures prepared { IsPrepared self.new }
+        ensures seats { self.new.seats ≡ seats }
+        ensures flat { self.new.flat ≡ self.old.flat }
+        ensures split { self.new.split ≡ self.old.split }
+    {
+        self.seats = seats;
     }
 
     /// The number of an instruction's first value.

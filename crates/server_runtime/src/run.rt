@@ -15,7 +15,7 @@ ghost use Rattle.transfer_header.specs.Frames.{HasRoom, IsFrame};
 ghost use Rattle.transfer_header.specs.Steps.{IsReady};
 ghost use Rattle.transfer_header.specs.Told.{number_in, packet_in, reads_in};
 ghost use Rattle.server_runtime.specs.Plans.{IsPrepared};
-ghost use Rattle.server_runtime.specs.Registers.{contents_of, handed, register_reads, AreServing};
+ghost use Rattle.server_runtime.specs.Registers.{contents_of, handed, register_reads, AreSeats, AreServing};
 ghost use Rattle.server_runtime.specs.Serving.{evaluated_steps, followed_writes};
 ghost use Rattle.server_runtime.specs.Spans.{server_spans};
 ghost use Rattle.server_runtime.specs.Turns.{IsOutcome, IsRead, IsServing};
@@ -57,6 +57,7 @@ fn take_turns(
     updates: &mut Vec<Update>,
 ) -> u32
     requires prepared { IsPrepared whole.now }
+    requires seats { AreSeats (program_of whole.now.flat) whole.now.seats.items values.old }
     requires kept { IsKept whole.now.flat.objects store.old }
     requires ready { let f = program_of whole.now.flat in
         IsReady (server_spans f whole.now.split) values.old (contents_of f (handed f whole.now.split values.old)) 1 }
@@ -68,6 +69,7 @@ fn take_turns(
     ensures run { let f = program_of whole.now.flat in
         IsServing f whole.now.split (handed f whole.now.split values.old) store.old (packet_of arrival.now)
         (length f.code) values.new store.new updates.new.items }
+    ensures seats { AreSeats (program_of whole.now.flat) whole.now.seats.items values.new }
     ensures kept { IsKept whole.now.flat.objects store.new }
     ensures evaluated { result ≡ evaluated_steps (program_of whole.now.flat) whole.now.split }
 {
@@ -88,6 +90,7 @@ fn set_fields(
     mut frame: Vec<u8>,
 ) -> Bytes
     requires prepared { IsPrepared whole.now }
+    requires seats { AreSeats (program_of whole.now.flat) whole.now.seats.items values.now }
     requires size { length arrival.now.bytes.now ≤ largest_packet }
     requires shape { arrival.now.shape ≡ shape_of arrival.now.bytes.now }
     requires within { length arrival.now.bytes.now ≤ length frame.items }
@@ -118,6 +121,7 @@ fn run(
     room: Room,
 ) -> Ran
     requires prepared { IsPrepared whole.now }
+    requires seats { AreSeats (program_of whole.now.flat) whole.now.seats.items values.old }
     requires kept { IsKept whole.now.flat.objects store.old }
     requires ready { let f = program_of whole.now.flat in
         IsReady (server_spans f whole.now.split) values.old (contents_of f (handed f whole.now.split values.old)) 1 }
@@ -131,6 +135,7 @@ fn run(
         IsOutcome f whole.now.split store.old number (packet_of arrival.now) (handed f whole.now.split values.old)
         store.new result }
     ensures serving { AreServing (program_of whole.now.flat) whole.now.split values.new }
+    ensures seats { AreSeats (program_of whole.now.flat) whole.now.seats.items values.new }
     ensures kept { IsKept whole.now.flat.objects store.new }
 {
     a_server_run_has_an_outcome();
@@ -157,9 +162,11 @@ fn run(
 fn read(whole: &SplitProgram, frame: &[u8], values: &mut Regs) -> Result<Head, Malformed>
     requires prepared { IsPrepared whole.now }
     requires serving { AreServing (program_of whole.now.flat) whole.now.split values.old }
+    requires seats { AreSeats (program_of whole.now.flat) whole.now.seats.items values.old }
     ensures ok { IfOk result (λ head. IsRead (program_of whole.now.flat) whole.now.split frame.now values.new head) }
     ensures exact { (IsOk result) ↔ (IsFrame 1 (up_layout (program_of whole.now.flat) whole.now.split) frame.now) }
     ensures serving { AreServing (program_of whole.now.flat) whole.now.split values.new }
+    ensures seats { AreSeats (program_of whole.now.flat) whole.now.seats.items values.new }
 {
     a_frame_is_read();
     values.clear();

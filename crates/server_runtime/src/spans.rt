@@ -9,7 +9,7 @@ ghost use Rattle.split_model.specs.Passes.{server_fields};
 ghost use Rattle.transfer_header.specs.BlockSteps.{greatest, step_if};
 ghost use Rattle.transfer_header.specs.Steps.{is_among};
 ghost use Rattle.server_runtime.specs.Plans.{IsPrepared};
-ghost use Rattle.server_runtime.specs.Registers.{AreServing};
+ghost use Rattle.server_runtime.specs.Registers.{seat_by, AreSeats, AreServing};
 ghost use Rattle.server_runtime.specs.Noting.{is_condition_of, is_operand_at, is_written_at};
 ghost use Rattle.server_runtime.specs.Spans.{last_below, last_read, numbers_of, reads_at};
 ghost use Rattle.server_runtime.specs.Spans.{server_spans, values_at, values_kept, writes_at};
@@ -309,14 +309,57 @@ fn spans_of(alloc: Global, whole: &SplitProgram) -> Result<Spans, NoMemory>
     Ok(spans)
 }
 
-/// Registers in which the values of a run are computed, with a zero in each.
-pub(crate) fn registers_of(alloc: Global, whole: &SplitProgram) -> Result<Regs, NoMemory>
+/// Registers in which the values of a run are computed, and where each instruction's first value has its own.
+#[derive(Drop)]
+pub(crate) struct Seated {
+    pub values: Regs,
+    pub seats: Vec<u32>,
+}
+
+// Where the number of an instruction's first value stands by a plan, past all registers if nowhere.
+fn seat_of(whole: &SplitProgram, plan: &RegPlan, instruction: usize) -> u32
+    requires prepared { IsPrepared whole.now }
+    requires within { instruction < length whole.now.flat.code }
+    ensures { let f = program_of whole.now.flat in
+        result ≡ seat_by f plan.now instruction }
+{
+    let value = ValueId {
+        instruction: instruction as u32,
+        result: 0,
+    };
+    match whole.number(value) {
+        Some(number) => plan.register(number).unwrap_or(u32::MAX),
+        None => u32::MAX,
+    }
+}
+
+// Where each instruction's first value stands by a plan.
+fn seats_of(alloc: Global, whole: &SplitProgram, plan: &RegPlan) -> Result<Vec<u32>, NoMemory>
     requires { IsPrepared whole.now }
-    ensures { IfOk result (λ values. AreServing (program_of whole.now.flat) whole.now.split values) }
+    ensures count { IfOk result (λ seats. length seats.items ≡ length whole.now.flat.code) }
+    ensures each { let f = program_of whole.now.flat in
+        IfOk result (λ seats. (i : ℕ) → i < length whole.now.flat.code
+        → slice_index seats.items i ≡ seat_by f plan.now i) }
+{
+    let count = whole.flat.code.len();
+    let mut seats = Vec::with_capacity(alloc, count)?;
+    for instruction in 0..count {
+        seats.push(seat_of(whole, plan, instruction))?;
+    }
+    Ok(seats)
+}
+
+/// Registers for a run, with a zero in each.
+pub(crate) fn registers_of(alloc: Global, whole: &SplitProgram) -> Result<Seated, NoMemory>
+    requires { IsPrepared whole.now }
+    ensures serving { IfOk result (λ made. AreServing (program_of whole.now.flat) whole.now.split made.values) }
+    ensures seats { IfOk result (λ made. AreSeats (program_of whole.now.flat) made.seats.items made.values) }
 {
     a_plan_keeps_apart();
     a_server_run_goes_by_steps();
     let spans = spans_of(alloc, whole)?;
     let plan = RegPlan::of(alloc, &spans)?;
-    Regs::planned(alloc, plan)
+    let seats = seats_of(alloc, whole, &plan)?;
+    let values = Regs::planned(alloc, plan)?;
+    Ok(Seated { values, seats })
 }

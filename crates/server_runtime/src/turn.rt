@@ -9,7 +9,7 @@ ghost use Rattle.flat_ir.specs.Registers.{packet_of};
 ghost use Rattle.flat_ir.specs.Run.{looked, made};
 ghost use Rattle.split_model.specs.Split.{is_server};
 ghost use Rattle.server_runtime.specs.Plans.{IsPrepared};
-ghost use Rattle.server_runtime.specs.Registers.{register_reads, with_row, HaveRegisters};
+ghost use Rattle.server_runtime.specs.Registers.{register_reads, with_row, AreSeats, HaveRegisters};
 ghost use Rattle.server_runtime.specs.Serving.{is_evaluated, updates_of};
 ghost use Rattle.server_runtime.specs.Spans.{is_turn};
 ghost use Rattle.server_runtime.specs.Turns.{changed_by, told_of, wanted, HasRoomFor, HasTurned, IsAtTurn};
@@ -121,10 +121,12 @@ fn give_number(
     requires instr { step_of instr.now ≡ step_at (program_of whole.now.flat) instruction }
     requires number { is_look (work_of instr.now.kind) ≡ false }
     requires has { HaveRegisters (program_of whole.now.flat) instruction values.old }
+    requires seats { AreSeats (program_of whole.now.flat) whole.now.seats.items values.old }
     requires room { HasRoomFor (program_of whole.now.flat) whole.now.split (packet_of arrival.now) instruction true
         values.old store.old (vec_len updates.old) (vec_capacity updates.old) }
     ensures turn { HasTurned (program_of whole.now.flat) whole.now.split (packet_of arrival.now) instruction true
         values.old store.old values.new store.new updates.old.items updates.new.items }
+    ensures seats { AreSeats (program_of whole.now.flat) whole.now.seats.items values.new }
     ensures room { vec_capacity updates.old ≤ vec_capacity updates.new }
 {
     let numbers = Registers { whole, values };
@@ -146,12 +148,14 @@ fn look_up(
     requires within { instruction < length whole.now.flat.code }
     requires few { length keys.now ≤ 8 }
     requires has { HaveRegisters (program_of whole.now.flat) instruction values.old }
+    requires seats { AreSeats (program_of whole.now.flat) whole.now.seats.items values.old }
     requires count { let f = program_of whole.now.flat in
         length (looked store.now object (map (register_reads f values.old) keys.now))
         ≡ result_count f.objects (step_at f instruction).work }
-    ensures { let f = program_of whole.now.flat in
+    ensures row { let f = program_of whole.now.flat in
         values.new
         ≡ with_row f instruction (looked store.now object (map (register_reads f values.old) keys.now)) values.old }
+    ensures seats { AreSeats (program_of whole.now.flat) whole.now.seats.items values.new }
 {
     let results = look(store, &Registers { whole, values }, object, keys);
     set_results(whole, values, instruction, &results);
@@ -170,11 +174,13 @@ fn evaluate(
     requires at { IsAtTurn whole.now arrival.now instruction }
     requires instr { step_of instr.now ≡ step_at (program_of whole.now.flat) instruction }
     requires has { HaveRegisters (program_of whole.now.flat) instruction values.old }
+    requires seats { AreSeats (program_of whole.now.flat) whole.now.seats.items values.old }
     requires kept { IsKept whole.now.flat.objects store.old }
     requires room { HasRoomFor (program_of whole.now.flat) whole.now.split (packet_of arrival.now) instruction true
         values.old store.old (vec_len updates.old) (vec_capacity updates.old) }
     ensures turn { HasTurned (program_of whole.now.flat) whole.now.split (packet_of arrival.now) instruction true
         values.old store.old values.new store.new updates.old.items updates.new.items }
+    ensures seats { AreSeats (program_of whole.now.flat) whole.now.seats.items values.new }
     ensures room { vec_capacity updates.old ≤ vec_capacity updates.new }
 {
     match &instr.kind {
@@ -206,6 +212,7 @@ pub(crate) fn take_turn(
     requires at { IsAtTurn whole.now arrival.now instruction }
     requires has { let f = program_of whole.now.flat in
         is_turn f whole.now.split instruction ≡ true → HaveRegisters f instruction values.old }
+    requires seats { AreSeats (program_of whole.now.flat) whole.now.seats.items values.old }
     requires kept { IsKept whole.now.flat.objects store.old }
     requires room { let f = program_of whole.now.flat in
         HasRoomFor f whole.now.split (packet_of arrival.now) instruction (is_turn f whole.now.split instruction)
@@ -213,6 +220,7 @@ pub(crate) fn take_turn(
     ensures turn { let f = program_of whole.now.flat in
         HasTurned f whole.now.split (packet_of arrival.now) instruction (is_turn f whole.now.split instruction)
         values.old store.old values.new store.new updates.old.items updates.new.items }
+    ensures seats { AreSeats (program_of whole.now.flat) whole.now.seats.items values.new }
     ensures room { vec_capacity updates.old ≤ vec_capacity updates.new }
     ensures evaluated { result
         ≡ (if is_evaluated (program_of whole.now.flat) whole.now.split instruction then 1 else 0) }

@@ -5,6 +5,7 @@ use Rattle.split_model.specs.Layouts.{values_below}
 use Rattle.transfer_header.specs.Registers.{written, HasRegister}
 use Rattle.server_runtime.proofs.Numbers.{below_suc}
 use Rattle.server_runtime.proofs.Rows.{row_more, row_part}
+use Rattle.server_runtime.proofs.Seats.{still_seats}
 use Rattle.server_runtime.proofs.registers.set_results.Goals as goal
 
 pub overflow_sub-count : goal.overflow_sub-count
@@ -37,11 +38,16 @@ loop-place-preserved c =
       places = λ v. c.set.ensures.places v ∙ now.places v;
     }
 
-pub returns : goal.returns
-returns c =
+pub returns-clause-row : goal.returns-clause-row
+returns-clause-row c =
     let f = program_of c.args.whole.now.flat in
     let i = c.args.instruction in
     let all : c.loop-place.place ≡ length (results_of c.args.results.now) =
     omega (arith, c.loop-place.auto.place-end, c.loop-place-test.false, c.first-first.ensures, c.first.ensures, ap (λ n. length (values_below f n)) (add-one i), below_suc f i, c.requires.count)
     in
     c.loop-place.invariant.written ∙ ap (row_part f i c.args.values.now (results_of c.args.results.now)) (all ∙ c.requires.count)
+
+pub returns-clause-seats : goal.returns-clause-seats
+returns-clause-seats c =
+    let whole = c.args.whole.now in
+    still_seats (program_of whole.flat) whole.seats.items c.args.values.now c.loop-place.values c.loop-place.invariant.places c.requires.seats

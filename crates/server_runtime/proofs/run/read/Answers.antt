@@ -4,10 +4,11 @@ use Rattle.split_model.specs.Layouts.{up_layout}
 use Rattle.transfer_header.specs.declared.frame.Head.{Head}
 use Rattle.transfer_header.specs.Frames.{IsUnpacked}
 use Rattle.transfer_header.specs.Registers.{FitsLayout}
-use Rattle.server_runtime.specs.Registers.{AreServing}
+use Rattle.server_runtime.specs.Registers.{AreSeats, AreServing}
 use Rattle.server_runtime.specs.Turns.{IsRead}
 use Rattle.server_runtime.proofs.Handed.{by_result, ok_more}
 use Rattle.server_runtime.proofs.Needed.{cleared_serving, still_serving}
+use Rattle.server_runtime.proofs.Seats.{planned_seats, still_seats}
 use Rattle.server_runtime.proofs.run.read.Goals as goal
 
 pub unpack_up-requires : goal.unpack_up-requires
@@ -41,4 +42,16 @@ returns-clause-serving c =
     let cleared = cleared_serving f split c.args.values.now before c.clear.ensures.plan c.clear.ensures.numbers c.requires.serving in
     by_result (λ (head : Head). IsUnpacked 1 c.args.whole.now.up c.args.frame.now before after head) (after ≡ before) (AreServing f split after)
     (λ head h. still_serving f split before after h.kept.plan h.kept.count cleared) (λ e. subst (AreServing f split) (sym e) cleared)
+    c.unpack_up.result c.unpack_up.ensures.ok c.unpack_up.ensures.kept
+
+pub returns-clause-seats : goal.returns-clause-seats
+returns-clause-seats c =
+    let whole = c.args.whole.now in
+    let f = program_of whole.flat in
+    let seats = whole.seats.items in
+    let before = c.clear.new.self in
+    let after = c.unpack_up.new.into in
+    let cleared = still_seats f seats c.args.values.now before c.clear.ensures.places c.requires.seats in
+    by_result (λ (head : Head). IsUnpacked 1 whole.up c.args.frame.now before after head) (after ≡ before) (AreSeats f seats after)
+    (λ head h. planned_seats f seats before after h.kept.plan h.kept.count cleared) (λ e. subst (AreSeats f seats) (sym e) cleared)
     c.unpack_up.result c.unpack_up.ensures.ok c.unpack_up.ensures.kept

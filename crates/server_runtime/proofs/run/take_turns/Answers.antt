@@ -61,6 +61,7 @@ loop-i-preserved c =
           c.take_turn-evaluated.new.values c.take_turn-evaluated.new.store c.take_turn-evaluated.new.updates.items
           (begun_of whole up c.args.store.now packet c.requires.prepared c.requires.kept c.requires.fit c.requires.arrives) c.loop-i.invariant.serving
           (omega (arith, c.loop-i-test.true, c.len-i-end.ensures, code_length whole.flat)) c.take_turn-evaluated.ensures.turn;
+      seats = c.take_turn-evaluated.ensures.seats;
       room = omega (arith, c.take_turn-evaluated.ensures.room, c.loop-i.invariant.room);
       evaluated = rw (add-one c.loop-i.i) (omega (arith, c.loop-i.invariant.evaluated, c.take_turn-evaluated.ensures.evaluated));
     }

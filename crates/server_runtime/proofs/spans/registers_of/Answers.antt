@@ -1,12 +1,12 @@
-use Rattle.std.proofs.Common.{◌≡◌, ◌↔◌, ℕ, List, length, Some, None, sym, ap, subst, arith, add-one}
+use Rattle.std.proofs.Common.{◌∙◌, ◌≡◌, ◌↔◌, ℕ, List, length, None, sym, ap, subst, arith, add-one}
 use Rattle.flat_ir.specs.declared.spans.Span.{Span}
 use Rattle.flat_ir.specs.Plan.{register_of, AreApart}
 use Rattle.flat_ir.specs.Program.{program_of}
 use Rattle.flat_ir.specs.Spans.{spans_of, ValuesDiffer}
-use Rattle.transfer_header.specs.Registers.{ArePlaced, Registers}
-use Rattle.server_runtime.specs.Registers.{AreServing}
 use Rattle.server_runtime.specs.Spans.{server_spans, spans_below}
-use Rattle.server_runtime.proofs.Few.{both_ok, spans_few}
+use Rattle.server_runtime.proofs.Few.{spans_few}
+use Rattle.server_runtime.proofs.Seats.{seats_by_plan}
+use Rattle.server_runtime.proofs.Steps.{code_length}
 use Rattle.server_runtime.proofs.spans.registers_of.Goals as goal
 
 pub of-requires-clause-few : goal.of-requires-clause-few
@@ -26,16 +26,21 @@ of-requires-clause-differ c =
     let f = program_of c.args.whole.now.flat in
     subst ValuesDiffer (sym c.in_ok-spans.ensures) (c.a_server_run_goes_by_steps.ensures.differ f c.args.whole.now.split c.requires.bounded.formed)
 
-pub returns : goal.returns
-returns c =
+pub returns-clause-serving : goal.returns-clause-serving
+returns-clause-serving c =
     let f = program_of c.args.whole.now.flat in
     let split = c.args.whole.now.split in
     let plan = c.in_ok-plan.plan in
     let is = c.in_ok-spans.ensures in
-    both_ok (λ (made : Registers). made.plan ≡ Some plan) ArePlaced (AreServing f split) c.planned.result c.planned.ensures.plan c.planned.ensures.placed
-    (λ values planned placed. record {
-      apart = c.a_plan_keeps_apart.ensures (server_spans f split) plan values
+    record {
+      apart = c.a_plan_keeps_apart.ensures (server_spans f split) plan c.in_ok-values.values
           (subst (λ (spans : List Span). (value : ℕ) → (register_of plan value ≡ None) ↔ (spans_of spans value ≡ 0)) is c.in_ok-plan.ensures.registers)
-          (subst (λ (spans : List Span). AreApart spans plan.rows) is c.in_ok-plan.ensures.apart) planned;
-      placed = placed;
-    })
+          (subst (λ (spans : List Span). AreApart spans plan.rows) is c.in_ok-plan.ensures.apart) c.in_ok-values.ensures.plan;
+      placed = c.in_ok-values.ensures.placed;
+    }
+
+pub returns-clause-seats : goal.returns-clause-seats
+returns-clause-seats c =
+    let flat = c.args.whole.now.flat in
+    seats_by_plan (program_of flat) c.in_ok-seats.seats.items c.in_ok-plan.plan c.in_ok-values.values c.in_ok-values.ensures.plan
+    (c.in_ok-seats.ensures.count ∙ sym (code_length flat)) (λ i lt. c.in_ok-seats.ensures.each i (omega (arith, lt, code_length flat)))

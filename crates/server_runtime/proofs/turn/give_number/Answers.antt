@@ -39,4 +39,4 @@ returns-clause-turn c =
     let f = program_of c.args.whole.now.flat in
     number_turned f c.args.whole.now.split (packet_of c.args.arrival.now) c.args.instruction c.args.values.now c.args.store.now
     (step_of c.args.instr.now) c.compute_number-number.result c.set_number.new.values c.compute_number-number.new.store c.args.updates.now.items c.tell.new.updates.items
-    c.requires.instr c.compute_number-number.ensures.number c.compute_number-number.ensures.after c.set_number.ensures c.tell.ensures.told
+    c.requires.instr c.compute_number-number.ensures.number c.compute_number-number.ensures.after c.set_number.ensures.row c.tell.ensures.told
