@@ -1,0 +1,39 @@
+//! Numbers of a capture, in either byte order.
+ghost use Rattle.std.specs.Prelude.{◌≡◌, ◌≤◌, length, take};
+ghost use Rattle.std.specs.Int.{w16, w32};
+ghost use Rattle.pcap_trace.specs.Format.{number};
+
+// The bytes of a number of 16 bits.
+pub(crate) fn u16_bytes(big: bool, value: u16) -> [u8; 2]
+    ensures { result ≡ number big w16 value }
+{
+    if big {
+        value.to_be_bytes()
+    } else {
+        value.to_le_bytes()
+    }
+}
+
+// The bytes of a number of 32 bits.
+pub(crate) fn u32_bytes(big: bool, value: u32) -> [u8; 4]
+    ensures { result ≡ number big w32 value }
+{
+    if big {
+        value.to_be_bytes()
+    } else {
+        value.to_le_bytes()
+    }
+}
+
+// The number of 32 bits that the first four bytes spell.
+pub(crate) fn u32_of(big: bool, bytes: &[u8]) -> u32
+    requires { 4 ≤ length bytes.now }
+    ensures { number big w32 result ≡ take 4 bytes.now }
+{
+    let first = [bytes[0], bytes[1], bytes[2], bytes[3]];
+    if big {
+        u32::from_be_bytes(first)
+    } else {
+        u32::from_le_bytes(first)
+    }
+}
