@@ -11,7 +11,7 @@ use Rattle.pcap_trace.specs.Records.{most_records}
 -- the bytes have a header's length, and begin as the captures of this order and unit
 pub record Begins (bytes : List ℕ) (big nano : Bool) : Type 0 where
   pub long : 24 ≤ length bytes
-  pub front : take 8 bytes ≡ front big nano
+  pub begin : take 8 bytes ≡ front big nano
 
 -- the bytes begin with a capture, which ends at this byte; the rest stands behind it
 pub record StandsIn (bytes : List ℕ) (p : Pcap) (rest : List ℕ) (at : ℕ) : Type 0 where

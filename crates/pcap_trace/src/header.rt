@@ -1,14 +1,13 @@
 //! The header of a capture.
-ghost use Rattle.std.specs.Prelude.{◌≡◌, ◌≤◌, ◌^◌, ◌<◌, ◌↔◌, Bool, length, take, IsTrue, IfNone, IfSome, IfOk, IfErr, OnOk};
+ghost use Rattle.std.specs.Prelude.{◌≡◌, ◌≤◌, ◌^◌, ◌<◌, ◌↔◌, Bool, length, take, IsTrue, IfNone, IfSome, IfOk, IfErr};
 ghost use Rattle.pcap_trace.specs.Format.{front, header, magic};
 ghost use Rattle.pcap_trace.specs.Header.{IsHeader, capture_of};
 ghost use Rattle.pcap_trace.specs.Refused.{Begins, IsRefused};
 
-use crate::number::{u16_bytes, u32_bytes, u32_of};
+use crate::number::{u16_bytes, u32_at, u32_bytes};
 use crate::pcap::Pcap;
 use crate::records::Records;
 use crate::refusal::PcapError;
-use gal_io::{Bytes, NoMemory};
 
 // How many bytes a header has.
 pub(crate) const HEADER_BYTES: usize = 24;
@@ -47,15 +46,30 @@ fn begins(bytes: &[u8], big: bool, nano: bool) -> bool
     bytes.len() >= HEADER_BYTES && &bytes[..8] == front(big, nano).as_slice()
 }
 
+// The unit of the capture of this order whose header the bytes begin with.
+fn unit_in(bytes: &[u8], big: bool) -> Option<bool>
+    ensures found { IfSome result (λ nano. Begins bytes.now big nano) }
+    ensures none { IfNone result ((nano : Bool) → Begins bytes.now big nano → ⊥) }
+{
+    if begins(bytes, big, true) {
+        return Some(true);
+    }
+    if begins(bytes, big, false) {
+        return Some(false);
+    }
+    None
+}
+
 // The order and the unit of the capture whose header the bytes begin with.
 fn order_and_unit(bytes: &[u8]) -> Option<(bool, bool)>
     ensures found { IfSome result (λ kind. Begins bytes.now kind.0 kind.1) }
     ensures none { IfNone result ((big nano : Bool) → Begins bytes.now big nano → ⊥) }
 {
-    for kind in [(true, true), (true, false), (false, true), (false, false)] {
-        if begins(bytes, kind.0, kind.1) {
-            return Some(kind);
-        }
+    if let Some(nano) = unit_in(bytes, true) {
+        return Some((true, nano));
+    }
+    if let Some(nano) = unit_in(bytes, false) {
+        return Some((false, nano));
     }
     None
 }
@@ -79,15 +93,15 @@ impl Header {
         let Some((big, nano)) = order_and_unit(bytes) else {
             return Err(PcapError::Header);
         };
-        if u32_of(big, &bytes[20..]) != ETHERNET {
+        if u32_at(big, bytes, 20) != ETHERNET {
             return Err(PcapError::Link);
         }
         Ok(Header {
             big,
             nano,
-            zone: u32_of(big, &bytes[8..]),
-            sigfigs: u32_of(big, &bytes[12..]),
-            snaplen: u32_of(big, &bytes[16..]),
+            zone: u32_at(big, bytes, 8),
+            sigfigs: u32_at(big, bytes, 12),
+            snaplen: u32_at(big, bytes, 16),
         })
     }
 
@@ -104,18 +118,18 @@ impl Header {
             records,
         }
     }
-}
 
-// The bytes of a capture's header.
-pub(crate) fn header_bytes(p: &Pcap) -> [u8; 24]
-    ensures { result ≡ header p.now.big p.now.nano p.now.zone p.now.sigfigs p.now.snaplen }
-{
-    let [a, b, c, d, e, f, g, h] = front(p.big, p.nano);
-    let [i, j, k, l] = u32_bytes(p.big, p.zone);
-    let [m, n, o, q] = u32_bytes(p.big, p.sigfigs);
-    let [r, s, t, u] = u32_bytes(p.big, p.snaplen);
-    let [v, w, x, y] = u32_bytes(p.big, ETHERNET);
-    [
-        a, b, c, d, e, f, g, h, i, j, k, l, m, n, o, q, r, s, t, u, v, w, x, y,
-    ]
+    // The bytes of the header.
+    pub fn bytes(&self) -> [u8; 24]
+        ensures { result ≡ header self.now.big self.now.nano self.now.zone self.now.sigfigs self.now.snaplen }
+    {
+        let [a, b, c, d, e, f, g, h] = front(self.big, self.nano);
+        let [i, j, k, l] = u32_bytes(self.big, self.zone);
+        let [m, n, o, p] = u32_bytes(self.big, self.sigfigs);
+        let [q, r, s, t] = u32_bytes(self.big, self.snaplen);
+        let [u, v, w, x] = u32_bytes(self.big, ETHERNET);
+        [
+            a, b, c, d, e, f, g, h, i, j, k, l, m, n, o, p, q, r, s, t, u, v, w, x,
+        ]
+    }
 }

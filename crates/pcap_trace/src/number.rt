@@ -1,5 +1,5 @@
 //! Numbers of a capture, in either byte order.
-ghost use Rattle.std.specs.Prelude.{◌≡◌, ◌≤◌, length, take};
+ghost use Rattle.std.specs.Prelude.{◌≡◌, ◌+◌, ◌≤◌, drop, length, take};
 ghost use Rattle.std.specs.Int.{w16, w32};
 ghost use Rattle.pcap_trace.specs.Format.{number};
 
@@ -25,15 +25,15 @@ pub(crate) fn u32_bytes(big: bool, value: u32) -> [u8; 4]
     }
 }
 
-// The number of 32 bits that the first four bytes spell.
-pub(crate) fn u32_of(big: bool, bytes: &[u8]) -> u32
-    requires { 4 ≤ length bytes.now }
-    ensures { number big w32 result ≡ take 4 bytes.now }
+// The number of 32 bits that the four bytes from `at` on spell.
+pub(crate) fn u32_at(big: bool, bytes: &[u8], at: usize) -> u32
+    requires { at + 4 ≤ length bytes.now }
+    ensures { number big w32 result ≡ take 4 (drop at bytes.now) }
 {
-    let first = [bytes[0], bytes[1], bytes[2], bytes[3]];
+    let four = [bytes[at], bytes[at + 1], bytes[at + 2], bytes[at + 3]];
     if big {
-        u32::from_be_bytes(first)
+        u32::from_be_bytes(four)
     } else {
-        u32::from_le_bytes(first)
+        u32::from_le_bytes(four)
     }
 }

@@ -3,7 +3,7 @@ ghost use Rattle.std.specs.Prelude.{◌≡◌, ◌≤◌, ◌++◌, length, IfOk
 ghost use Rattle.packet_fields.specs.Sizes.{largest_packet};
 ghost use Rattle.pcap_trace.specs.Format.{IsPcap, pcap_bytes, record_bytes};
 
-use crate::header::header_bytes;
+use crate::header::Header;
 use crate::pcap::Pcap;
 use crate::records::{Record, RecordHeader};
 use gal_io::{Bytes, NoMemory};
@@ -29,7 +29,14 @@ pub fn print_pcap(alloc: Global, p: &Pcap) -> Result<Bytes, NoMemory>
     ensures text { IfOk result (λ text. text ≡ pcap_bytes p.now) }
     ensures taken { IsPcap p.now }
 {
-    let mut text = Bytes::from_slice(alloc, &header_bytes(p))?;
+    let header = Header {
+        big: p.big,
+        nano: p.nano,
+        zone: p.zone,
+        sigfigs: p.sigfigs,
+        snaplen: p.snaplen,
+    };
+    let mut text = Bytes::from_slice(alloc, &header.bytes())?;
     for item in p.records.as_slice() {
         put_record(p.big, item, &mut text)?;
     }

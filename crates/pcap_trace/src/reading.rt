@@ -1,11 +1,11 @@
 //! Reading a capture.
-ghost use Rattle.std.specs.Prelude.{◌≡◌, ◌≢◌, ◌⊎◌, ◌+◌, ◌<◌, ◌≤◌, ◌++◌, ◌∷◌, [], List, length, take, drop, slice_range};
+ghost use Rattle.std.specs.Prelude.{◌≡◌, ◌≢◌, ◌⊎◌, ◌<◌, ◌≤◌, ◌++◌, ◌∷◌, [], length, take, drop};
 ghost use Rattle.std.specs.Prelude.{IfOk, IfErr, OnOk, MatchResult};
 ghost use Rattle.pcap_trace.specs.declared.pcap.Pcap.{Pcap};
 ghost use Rattle.pcap_trace.specs.declared.refusal.PcapError.{PcapError};
 ghost use Rattle.pcap_trace.specs.Format.{IsPcap, pcap_bytes};
 ghost use Rattle.pcap_trace.specs.Header.{IsHeader, capture_of};
-ghost use Rattle.pcap_trace.specs.Reading.{IsStop, IsWhole, record_with};
+ghost use Rattle.pcap_trace.specs.Reading.{Answers, IsStop, IsWhole, record_with};
 ghost use Rattle.pcap_trace.specs.Records.{most_records};
 ghost use Rattle.pcap_trace.specs.Refused.{IsRefused};
 
@@ -23,16 +23,16 @@ fn header_at(big: bool, bytes: &[u8], at: usize) -> Result<RecordHeader, PcapErr
     ensures ok { IfOk result (IsWhole big (drop at bytes.now)) }
     ensures err { IfErr result (IsStop big (drop at bytes.now) at) }
 {
-    let rest = &bytes[at..];
-    if rest.len() < RECORD_HEADER_BYTES {
+    let left = bytes.len() - at;
+    if left < RECORD_HEADER_BYTES {
         return Err(PcapError::Record(at));
     }
-    let header = RecordHeader::of(big, rest);
+    let header = RecordHeader::at(big, bytes, at);
     let captured = header.captured as usize;
     if captured > MAX_PACKET_BYTES {
         return Err(PcapError::Long(at));
     }
-    if rest.len() - RECORD_HEADER_BYTES < captured {
+    if left < RECORD_HEADER_BYTES + captured {
         return Err(PcapError::Record(at));
     }
     Ok(header)
@@ -45,7 +45,7 @@ fn keep(
     header: RecordHeader,
     bytes: &[u8],
 ) -> Result<(), NoMemory>
-    requires few { length records.old.items ≤ most_records }
+    requires { length records.old.items ≤ most_records }
     ensures { OnOk result
         (records.new.items ≡ take most_records (records.old.items ++ record_with header bytes.now ∷ [])) }
 {
@@ -85,6 +85,15 @@ fn records_behind(alloc: Global, header: Header, bytes: &[u8]) -> Result<Records
     Ok(Records::of(records))
 }
 
+// The same answer as `read_pcap`'s: what it says of the bytes.
+fn read(alloc: Global, bytes: &[u8]) -> Result<Pcap, PcapError>
+    ensures { Answers bytes.now result }
+{
+    let header = Header::of(bytes)?;
+    let records = records_behind(alloc, header, bytes)?;
+    Ok(header.with(records))
+}
+
 /// The capture that the bytes are. A record whose packet had more bytes than were captured is taken as it stands, and
 /// the snap length limits nothing.
 pub fn read_pcap(alloc: Global, bytes: &[u8]) -> Result<Pcap, PcapError>
@@ -101,7 +110,5 @@ pub fn read_pcap(alloc: Global, bytes: &[u8]) -> Result<Pcap, PcapError>
     ensures exact { (e : PcapError) → e ≢ PcapError.NoMemory → IsRefused bytes.now e
         → MatchResult result (λ _. ⊥) (λ found. (found ≡ e) ⊎ (found ≡ PcapError.NoMemory)) }
 {
-    let header = Header::of(bytes)?;
-    let records = records_behind(alloc, header, bytes)?;
-    Ok(header.with(records))
+    read(alloc, bytes)
 }

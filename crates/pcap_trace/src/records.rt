@@ -1,11 +1,11 @@
 //! The records of a capture.
-ghost use Rattle.std.specs.Prelude.{◌≡◌, ◌≤◌, ◌↔◌, ◌+◌, [], length, take, drop, IfOk, IsTrue, OnOk};
-ghost use Rattle.packet_fields.specs.Sizes.{largest_packet};
+ghost use Rattle.std.specs.Prelude.{◌≡◌, ◌+◌, ◌≤◌, ◌↔◌, [], drop, length, take, IsTrue};
 ghost use Rattle.pcap_trace.specs.Format.{record_header};
-ghost use Rattle.pcap_trace.specs.Records.{AreRecords, IsRecord};
+ghost use Rattle.pcap_trace.specs.Reading.{HasFields};
+ghost use Rattle.pcap_trace.specs.Records.{AreRecords};
 
-use crate::number::{u32_bytes, u32_of};
-use gal_io::{Bytes, NoMemory};
+use crate::number::{u32_at, u32_bytes};
+use gal_io::Bytes;
 use std::alloc::Global;
 use std::marker::Model;
 
@@ -95,16 +95,18 @@ pub(crate) struct RecordHeader {
 pub(crate) const RECORD_HEADER_BYTES: usize = 16;
 
 impl RecordHeader {
-    // The header that these bytes begin with.
-    pub fn of(big: bool, bytes: &[u8]) -> RecordHeader
-        requires { 16 ≤ length bytes.now }
-        ensures { record_header big result.seconds result.fraction result.captured result.original ≡ take 16 bytes.now }
+    // The header in the bytes from `at` on.
+    pub fn at(big: bool, bytes: &[u8], at: usize) -> RecordHeader
+        requires { at + 16 ≤ length bytes.now }
+        ensures text { record_header big result.seconds result.fraction result.captured result.original
+            ≡ take 16 (drop at bytes.now) }
+        ensures fits { HasFields result }
     {
         RecordHeader {
-            seconds: u32_of(big, bytes),
-            fraction: u32_of(big, &bytes[4..]),
-            captured: u32_of(big, &bytes[8..]),
-            original: u32_of(big, &bytes[12..]),
+            seconds: u32_at(big, bytes, at),
+            fraction: u32_at(big, bytes, at + 4),
+            captured: u32_at(big, bytes, at + 8),
+            original: u32_at(big, bytes, at + 12),
         }
     }
 
