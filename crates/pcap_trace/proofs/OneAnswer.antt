@@ -1,6 +1,6 @@
 -- Of each list of bytes one answer holds: a capture that they are, or the cause of one refusal.
 use Rattle.std.proofs.Common.{◌≡◌, ◌≢◌, ◌⊎◌, ℕ, ◌+◌, ◌<◌, ◌≤◌, ◌^◌, Bool, List, [], ◌++◌, length, take, drop, Result, Ok, Err, refl, sym, ap, ◌∙◌, subst, arith, inl, inr}
-use Rattle.std.specs.Prelude.{MatchResult}
+use Rattle.std.specs.Prelude.{IfErr, IfOk, MatchResult}
 use Rattle.std.specs.Int.{w32}
 use Rattle.std.proofs.lemmas.List.{append-nil}
 use Rattle.packet_fields.specs.Sizes.{largest_packet}
@@ -8,12 +8,21 @@ use Rattle.pcap_trace.specs.declared.pcap.Pcap.{Pcap}
 use Rattle.pcap_trace.specs.declared.refusal.PcapError.{PcapError}
 use Rattle.pcap_trace.specs.declared.refusal.PcapError.TheVariants as errors
 use Rattle.pcap_trace.specs.Format.{IsCapture, IsPcap, ethernet, number, pcap_bytes}
-use Rattle.pcap_trace.specs.Reading.{Answers}
 use Rattle.pcap_trace.specs.Records.{most_records}
 use Rattle.pcap_trace.specs.Refused.{Begins, IsCut, IsLong, IsRefused, StandsIn, Tells}
 use Rattle.pcap_trace.proofs.NumberLemmas.{one_number}
 use Rattle.pcap_trace.proofs.OneRecord.{IsStuck, cut_is_stuck, long_is_stuck, none_is_stuck}
 use Rattle.pcap_trace.proofs.OneCapture.{begins_of, link_of, one_capture, one_kind}
+
+-- what an answer says of the bytes
+abbrev pub Answers : List ℕ → Result Pcap PcapError → Type 0
+Answers bytes (Ok p) = IsPcap p × (pcap_bytes p ≡ bytes)
+Answers bytes (Err e) = IsRefused bytes e
+
+pub answers_of : (bytes : List ℕ) (answer : Result Pcap PcapError) → IfOk answer (λ p. pcap_bytes p ≡ bytes) → IfOk answer IsPcap
+    → IfErr answer (IsRefused bytes) → Answers bytes answer
+answers_of bytes (Ok p) same is refused = (is, same)
+answers_of bytes (Err e) same is refused = refused
 
 -- what an answer says of the capture that the bytes begin with, and of the rest behind it
 Says : Pcap → List ℕ → Result Pcap PcapError → Type 0
@@ -30,10 +39,10 @@ record Ends (bytes : List ℕ) (p : Pcap) (rest : List ℕ) : Type 0 where
   stuck : IsStuck p.big rest
 
 data Found (bytes : List ℕ) (answer : Result Pcap PcapError) : Type 0 where
-  none : answer ≡ Err errors.Header → ((big nano : Bool) → Begins bytes big nano → ⊥) → Found bytes answer
-  other : (big nano : Bool) → answer ≡ Err errors.Link → Begins bytes big nano → (take 4 (drop 20 bytes) ≢ number big w32 ethernet) → Found bytes answer
-  capture : (p : Pcap) (rest : List ℕ) → Ends bytes p rest → Says p rest answer → Found bytes answer
-  free : answer ≡ Err errors.NoMemory → Found bytes answer
+  Headless : answer ≡ Err errors.Header → ((big nano : Bool) → Begins bytes big nano → ⊥) → Found bytes answer
+  Linked : (big nano : Bool) → answer ≡ Err errors.Link → Begins bytes big nano → (take 4 (drop 20 bytes) ≢ number big w32 ethernet) → Found bytes answer
+  Captured : (p : Pcap) (rest : List ℕ) → Ends bytes p rest → Says p rest answer → Found bytes answer
+  Free : answer ≡ Err errors.NoMemory → Found bytes answer
 
 whole : (bytes : List ℕ) (p : Pcap) → pcap_bytes p ≡ bytes → bytes ≡ pcap_bytes p ++ []
 whole bytes p same = sym (append-nil (pcap_bytes p) ∙ same)
@@ -41,16 +50,16 @@ whole bytes p same = sym (append-nil (pcap_bytes p) ∙ same)
 found : (bytes : List ℕ) (answer : Result Pcap PcapError) → Answers bytes answer → Found bytes answer
 unfolding Says
 found bytes (Ok p) says =
-    capture p [] (record { capture = says.0.capture; parts = whole bytes p says.1; stuck = none_is_stuck p.big }) (refl, refl, says.0.few)
-found bytes (Err errors.Header) says = none refl says
-found bytes (Err errors.Link) says = other says.0 says.1 refl says.2 says.3
+    Captured p [] (record { capture = says.0.capture; parts = whole bytes p says.1; stuck = none_is_stuck p.big }) (refl, refl, says.0.few)
+found bytes (Err errors.Header) says = Headless refl says
+found bytes (Err errors.Link) says = Linked says.0 says.1 refl says.2 says.3
 found bytes (Err (errors.Long at)) says =
-    capture says.0 says.1 (record { capture = says.2.capture; parts = says.2.parts; stuck = long_is_stuck says.0.big says.1 says.3 }) (says.2.place, says.3)
+    Captured says.0 says.1 (record { capture = says.2.capture; parts = says.2.parts; stuck = long_is_stuck says.0.big says.1 says.3 }) (says.2.place, says.3)
 found bytes (Err (errors.Record at)) says =
-    capture says.0 says.1 (record { capture = says.2.capture; parts = says.2.parts; stuck = cut_is_stuck says.0.big says.1 says.3 }) (says.2.place, says.3)
+    Captured says.0 says.1 (record { capture = says.2.capture; parts = says.2.parts; stuck = cut_is_stuck says.0.big says.1 says.3 }) (says.2.place, says.3)
 found bytes (Err (errors.TooMany have)) says =
-    capture says.0 [] (record { capture = says.1; parts = whole bytes says.0 says.2; stuck = none_is_stuck says.0.big }) (sym says.3, refl, says.4)
-found bytes (Err errors.NoMemory) says = free refl
+    Captured says.0 [] (record { capture = says.1; parts = whole bytes says.0 says.2; stuck = none_is_stuck says.0.big }) (sym says.3, refl, says.4)
+found bytes (Err errors.NoMemory) says = Free refl
 
 -- a rest is none, or too long, or cut
 long_not_none : (big : Bool) (rest : List ℕ) → IsLong big rest → rest ≡ [] → ⊥
@@ -116,18 +125,18 @@ same_end bytes p q x y b p_ends q_ends says =
 
 one_found : (bytes : List ℕ) (a b : Result Pcap PcapError) → a ≢ Err errors.NoMemory → b ≢ Err errors.NoMemory
     → Found bytes a → Found bytes b → a ≡ b
-one_found bytes a b a_told b_told (none a_is _) (none b_is _) = cc
-one_found bytes a b a_told b_told (none _ nothing) (other big nano _ begins _) = absurd (nothing big nano begins)
-one_found bytes a b a_told b_told (none _ nothing) (capture p rest ends _) = absurd (nothing p.big p.nano (begins_of bytes p rest ends.parts))
-one_found bytes a b a_told b_told (other big nano _ begins _) (none _ nothing) = absurd (nothing big nano begins)
-one_found bytes a b a_told b_told (other _ _ a_is _ _) (other _ _ b_is _ _) = cc
-one_found bytes a b a_told b_told (other big nano _ begins wrong) (capture p rest ends _) = absurd (other_not_capture bytes big nano p rest begins wrong ends)
-one_found bytes a b a_told b_told (capture p rest ends _) (none _ nothing) = absurd (nothing p.big p.nano (begins_of bytes p rest ends.parts))
-one_found bytes a b a_told b_told (capture p rest ends _) (other big nano _ begins wrong) = absurd (other_not_capture bytes big nano p rest begins wrong ends)
-one_found bytes a b a_told b_told (capture p x p_ends p_says) (capture q y q_ends q_says) =
+one_found bytes a b a_told b_told (Headless a_is _) (Headless b_is _) = cc
+one_found bytes a b a_told b_told (Headless _ nothing) (Linked big nano _ begins _) = absurd (nothing big nano begins)
+one_found bytes a b a_told b_told (Headless _ nothing) (Captured p rest ends _) = absurd (nothing p.big p.nano (begins_of bytes p rest ends.parts))
+one_found bytes a b a_told b_told (Linked big nano _ begins _) (Headless _ nothing) = absurd (nothing big nano begins)
+one_found bytes a b a_told b_told (Linked _ _ a_is _ _) (Linked _ _ b_is _ _) = cc
+one_found bytes a b a_told b_told (Linked big nano _ begins wrong) (Captured p rest ends _) = absurd (other_not_capture bytes big nano p rest begins wrong ends)
+one_found bytes a b a_told b_told (Captured p rest ends _) (Headless _ nothing) = absurd (nothing p.big p.nano (begins_of bytes p rest ends.parts))
+one_found bytes a b a_told b_told (Captured p rest ends _) (Linked big nano _ begins wrong) = absurd (other_not_capture bytes big nano p rest begins wrong ends)
+one_found bytes a b a_told b_told (Captured p x p_ends p_says) (Captured q y q_ends q_says) =
     one_saying p x a b p_says (same_end bytes p q x y b p_ends q_ends q_says)
-one_found bytes a b a_told b_told (free a_is) _ = absurd (a_told a_is)
-one_found bytes a b a_told b_told _ (free b_is) = absurd (b_told b_is)
+one_found bytes a b a_told b_told (Free a_is) _ = absurd (a_told a_is)
+one_found bytes a b a_told b_told _ (Free b_is) = absurd (b_told b_is)
 
 one_answer : (bytes : List ℕ) (a b : Result Pcap PcapError) → a ≢ Err errors.NoMemory → b ≢ Err errors.NoMemory
     → Answers bytes a → Answers bytes b → a ≡ b

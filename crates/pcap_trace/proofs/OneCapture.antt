@@ -1,5 +1,5 @@
 -- Bytes begin with one capture at most, behind which no record stands.
-use Rattle.std.proofs.Common.{◌≡◌, ℕ, ◌+◌, ◌*◌, ◌<◌, ◌≤◌, ◌^◌, Bool, true, false, List, [], ◌∷◌, ◌++◌, length, get_or, take, drop, refl, sym, ap, ◌∙◌, append_assoc, subst, arith}
+use Rattle.std.proofs.Common.{◌≡◌, ℕ, ◌+◌, ◌*◌, ◌<◌, ◌≤◌, ◌^◌, Bool, true, false, List, [], ◌∷◌, ◌++◌, length, get_or, take, drop, refl, sym, ap, ◌∙◌, append_assoc, subst, lit<, arith}
 use Rattle.std.specs.Int.{w16, w32}
 use Rattle.std.specs.List.{flat_map}
 use Rattle.std.proofs.lemmas.List.{drop_at, length-append, take_at}
@@ -150,3 +150,20 @@ link_of bytes p x same =
     ap (λ (b : List ℕ). take 4 (drop 20 b)) (same ∙ grouped)
     ∙ (ap (λ (b : List ℕ). take 4 b) (drop_at lead (number p.big w32 ethernet ++ (records ++ x)) 20 twenty)
     ∙ take_at (number p.big w32 ethernet) (records ++ x) 4 (length-number_4 p.big ethernet))
+
+-- another link type than Ethernet's
+pub other_link : (big : Bool) (bytes : List ℕ) (n : ℕ) → n < 2 ^ 32 → number big w32 n ≡ take 4 (drop 20 bytes) → (n ≡ ethernet → ⊥)
+    → take 4 (drop 20 bytes) ≡ number big w32 ethernet → ⊥
+other_link big bytes n fits is other same = other (one_number big n ethernet fits (lit< tt) (is ∙ same))
+
+-- none of two units
+pub neither_unit : (bytes : List ℕ) (big : Bool) → (Begins bytes big true → ⊥) → (Begins bytes big false → ⊥)
+    → (nano : Bool) → Begins bytes big nano → ⊥
+neither_unit bytes big nanoseconds microseconds true begins = nanoseconds begins
+neither_unit bytes big nanoseconds microseconds false begins = microseconds begins
+
+-- none of two orders
+pub neither_order : (bytes : List ℕ) → ((nano : Bool) → Begins bytes true nano → ⊥) → ((nano : Bool) → Begins bytes false nano → ⊥)
+    → (big nano : Bool) → Begins bytes big nano → ⊥
+neither_order bytes high low true nano begins = high nano begins
+neither_order bytes high low false nano begins = low nano begins

@@ -13,15 +13,14 @@ packet_of port r = record { port = port; bytes = r.bytes }
 abbrev pub packets_of : Pcap → ℕ → List Packet
 packets_of p port = map (packet_of port) p.records
 
--- the whole packet, captured at this second
-abbrev pub record_of : ℕ → Packet → Record
-record_of second packet =
-    record { seconds = second; fraction = 0; original = length packet.bytes; bytes = packet.bytes }
+-- a packet of these bytes, captured whole at this second
+abbrev pub whole_record : ℕ → List ℕ → Record
+whole_record second bytes = record { seconds = second; fraction = 0; original = length bytes; bytes = bytes }
 
 -- a record for each packet, second by second
 abbrev pub records_from : ℕ → List Packet → List Record
 records_from second [] = []
-records_from second (packet ∷ packets) = record_of second packet ∷ records_from (suc second) packets
+records_from second (packet ∷ packets) = whole_record second packet.bytes ∷ records_from (suc second) packets
 
 -- a capture of whole packets, of which packet i was captured at second i
 abbrev pub pcap_of : List Packet → Bool → Bool → Pcap

@@ -1,13 +1,12 @@
 -- Records where they stand.
-use Rattle.std.specs.Prelude.{◌≡◌, ℕ, ◌+◌, ◌<◌, ◌≤◌, ◌^◌, Bool, List, length, take, Result, Ok, Err}
+use Rattle.std.specs.Prelude.{◌≡◌, ℕ, ◌+◌, ◌<◌, ◌≤◌, ◌^◌, Bool, List, length, take}
 use Rattle.packet_fields.specs.Sizes.{largest_packet}
-use Rattle.pcap_trace.specs.declared.pcap.Pcap.{Pcap}
 use Rattle.pcap_trace.specs.declared.records.Record.{Record}
 use Rattle.pcap_trace.specs.declared.records.RecordHeader.{RecordHeader}
 use Rattle.pcap_trace.specs.declared.refusal.PcapError.{PcapError}
 use Rattle.pcap_trace.specs.declared.refusal.PcapError.TheVariants as errors
-use Rattle.pcap_trace.specs.Format.{IsPcap, pcap_bytes, record_header}
-use Rattle.pcap_trace.specs.Refused.{IsCut, IsLong, IsRefused}
+use Rattle.pcap_trace.specs.Format.{record_header}
+use Rattle.pcap_trace.specs.Refused.{IsCut, IsLong}
 
 -- the record of a header and captured bytes
 abbrev pub record_with : RecordHeader → List ℕ → Record
@@ -33,8 +32,3 @@ abbrev pub IsStop : Bool → List ℕ → ℕ → PcapError → Type 0
 IsStop big rest at (errors.Long place) = (place ≡ at) × IsLong big rest
 IsStop big rest at (errors.Record place) = (place ≡ at) × IsCut big rest
 IsStop big rest at _ = ⊥
-
--- what an answer says of the bytes: they are a capture, or have the cause of a refusal
-abbrev pub Answers : List ℕ → Result Pcap PcapError → Type 0
-Answers bytes (Ok p) = IsPcap p × (pcap_bytes p ≡ bytes)
-Answers bytes (Err e) = IsRefused bytes e

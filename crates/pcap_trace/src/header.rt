@@ -1,5 +1,5 @@
 //! The header of a capture.
-ghost use Rattle.std.specs.Prelude.{◌≡◌, ◌≤◌, ◌^◌, ◌<◌, ◌↔◌, Bool, length, take, IsTrue, IfNone, IfSome, IfOk, IfErr};
+ghost use Rattle.std.specs.Prelude.{◌≡◌, ◌↔◌, ◌++◌, Bool, IsTrue, IfNone, IfSome, IfOk, IfErr, OnOk};
 ghost use Rattle.pcap_trace.specs.Format.{front, header, magic};
 ghost use Rattle.pcap_trace.specs.Header.{IsHeader, capture_of};
 ghost use Rattle.pcap_trace.specs.Refused.{Begins, IsRefused};
@@ -8,6 +8,7 @@ use crate::number::{u16_bytes, u32_at, u32_bytes};
 use crate::pcap::Pcap;
 use crate::records::Records;
 use crate::refusal::PcapError;
+use gal_io::{Bytes, NoMemory};
 
 // How many bytes a header has.
 pub(crate) const HEADER_BYTES: usize = 24;
@@ -119,17 +120,15 @@ impl Header {
         }
     }
 
-    // The bytes of the header.
-    pub fn bytes(&self) -> [u8; 24]
-        ensures { result ≡ header self.now.big self.now.nano self.now.zone self.now.sigfigs self.now.snaplen }
+    // Puts the bytes of the header at the end.
+    pub fn put(&self, text: &mut Bytes) -> Result<(), NoMemory>
+        ensures { OnOk result (text.new ≡ text.old
+            ++ header self.now.big self.now.nano self.now.zone self.now.sigfigs self.now.snaplen) }
     {
-        let [a, b, c, d, e, f, g, h] = front(self.big, self.nano);
-        let [i, j, k, l] = u32_bytes(self.big, self.zone);
-        let [m, n, o, p] = u32_bytes(self.big, self.sigfigs);
-        let [q, r, s, t] = u32_bytes(self.big, self.snaplen);
-        let [u, v, w, x] = u32_bytes(self.big, ETHERNET);
-        [
-            a, b, c, d, e, f, g, h, i, j, k, l, m, n, o, p, q, r, s, t, u, v, w, x,
-        ]
+        text.extend(&front(self.big, self.nano))?;
+        text.extend(&u32_bytes(self.big, self.zone))?;
+        text.extend(&u32_bytes(self.big, self.sigfigs))?;
+        text.extend(&u32_bytes(self.big, self.snaplen))?;
+        text.extend(&u32_bytes(self.big, ETHERNET))
     }
 }

@@ -4,6 +4,7 @@ ghost use Rattle.std.specs.Int.{w16, w32};
 ghost use Rattle.pcap_trace.specs.Format.{number};
 
 // The bytes of a number of 16 bits.
+#[tactic(auto, using(crate::proofs::NumberLemmas::number_big, crate::proofs::NumberLemmas::number_little))]
 pub(crate) fn u16_bytes(big: bool, value: u16) -> [u8; 2]
     ensures { result ≡ number big w16 value }
 {
@@ -15,6 +16,7 @@ pub(crate) fn u16_bytes(big: bool, value: u16) -> [u8; 2]
 }
 
 // The bytes of a number of 32 bits.
+#[tactic(auto, using(crate::proofs::NumberLemmas::number_big, crate::proofs::NumberLemmas::number_little))]
 pub(crate) fn u32_bytes(big: bool, value: u32) -> [u8; 4]
     ensures { result ≡ number big w32 value }
 {

@@ -1,7 +1,7 @@
 //! The packets of a trace, out of a capture and into one.
-ghost use Rattle.std.specs.Prelude.{◌≡◌, ◌≤◌, ℕ, length, IfOk};
+ghost use Rattle.std.specs.Prelude.{◌≡◌, ◌≤◌, length, IfOk};
 ghost use Rattle.packet_fields.specs.Sizes.{AreShort, largest_packet};
-ghost use Rattle.pcap_trace.specs.Packets.{packet_of, packets_of, pcap_of, record_of, records_from};
+ghost use Rattle.pcap_trace.specs.Packets.{packet_of, packets_of, pcap_of, records_from, whole_record};
 ghost use Rattle.pcap_trace.specs.Records.{IsRecord, most_records};
 
 use crate::pcap::Pcap;
@@ -33,8 +33,7 @@ pub fn packets_of(alloc: Global, p: &Pcap, port: u8) -> Result<Packets, NoMemory
 // The record of a packet of these bytes that was captured at this second.
 fn record_at(alloc: Global, second: u32, bytes: &[u8]) -> Result<Record, NoMemory>
     requires { length bytes.now ≤ largest_packet }
-    ensures value { IfOk result (λ made. (port : ℕ) →
-        made ≡ record_of second (record { port = port; bytes = bytes.now })) }
+    ensures value { IfOk result (λ made. made ≡ whole_record second bytes.now) }
     ensures good { IfOk result IsRecord }
 {
     Ok(Record {

@@ -20,7 +20,7 @@ fn put_record(big: bool, item: &Record, text: &mut Bytes) -> Result<(), NoMemory
         captured: item.bytes.len() as u32,
         original: item.original,
     };
-    text.extend(&header.bytes(big))?;
+    header.put(big, text)?;
     text.extend(item.bytes.as_slice())
 }
 
@@ -36,7 +36,8 @@ pub fn print_pcap(alloc: Global, p: &Pcap) -> Result<Bytes, NoMemory>
         sigfigs: p.sigfigs,
         snaplen: p.snaplen,
     };
-    let mut text = Bytes::from_slice(alloc, &header.bytes())?;
+    let mut text = Bytes::new(alloc);
+    header.put(&mut text)?;
     for item in p.records.as_slice() {
         put_record(p.big, item, &mut text)?;
     }

@@ -5,7 +5,7 @@ ghost use Rattle.pcap_trace.specs.declared.pcap.Pcap.{Pcap};
 ghost use Rattle.pcap_trace.specs.declared.refusal.PcapError.{PcapError};
 ghost use Rattle.pcap_trace.specs.Format.{IsPcap, pcap_bytes};
 ghost use Rattle.pcap_trace.specs.Header.{IsHeader, capture_of};
-ghost use Rattle.pcap_trace.specs.Reading.{Answers, IsStop, IsWhole, record_with};
+ghost use Rattle.pcap_trace.specs.Reading.{IsStop, IsWhole, record_with};
 ghost use Rattle.pcap_trace.specs.Records.{most_records};
 ghost use Rattle.pcap_trace.specs.Refused.{IsRefused};
 
@@ -85,9 +85,11 @@ fn records_behind(alloc: Global, header: Header, bytes: &[u8]) -> Result<Records
     Ok(Records::of(records))
 }
 
-// The same answer as `read_pcap`'s: what it says of the bytes.
+// The capture, or the cause of a refusal. That there is one answer is said by `read_pcap`.
 fn read(alloc: Global, bytes: &[u8]) -> Result<Pcap, PcapError>
-    ensures { Answers bytes.now result }
+    ensures ok { IfOk result (λ p. pcap_bytes p ≡ bytes.now) }
+    ensures taken { IfOk result IsPcap }
+    ensures refused { IfErr result (IsRefused bytes.now) }
 {
     let header = Header::of(bytes)?;
     let records = records_behind(alloc, header, bytes)?;

@@ -1,11 +1,11 @@
 //! The records of a capture.
-ghost use Rattle.std.specs.Prelude.{◌≡◌, ◌+◌, ◌≤◌, ◌↔◌, [], drop, length, take, IsTrue};
+ghost use Rattle.std.specs.Prelude.{◌≡◌, ◌+◌, ◌≤◌, ◌↔◌, ◌++◌, [], drop, length, take, IsTrue, OnOk};
 ghost use Rattle.pcap_trace.specs.Format.{record_header};
 ghost use Rattle.pcap_trace.specs.Reading.{HasFields};
 ghost use Rattle.pcap_trace.specs.Records.{AreRecords};
 
 use crate::number::{u32_at, u32_bytes};
-use gal_io::Bytes;
+use gal_io::{Bytes, NoMemory};
 use std::alloc::Global;
 use std::marker::Model;
 
@@ -110,14 +110,14 @@ impl RecordHeader {
         }
     }
 
-    // The bytes of the header.
-    pub fn bytes(&self, big: bool) -> [u8; 16]
-        ensures { result ≡ record_header big self.now.seconds self.now.fraction self.now.captured self.now.original }
+    // Puts the bytes of the header at the end.
+    pub fn put(&self, big: bool, text: &mut Bytes) -> Result<(), NoMemory>
+        ensures { OnOk result (text.new ≡ text.old
+            ++ record_header big self.now.seconds self.now.fraction self.now.captured self.now.original) }
     {
-        let [a, b, c, d] = u32_bytes(big, self.seconds);
-        let [e, f, g, h] = u32_bytes(big, self.fraction);
-        let [i, j, k, l] = u32_bytes(big, self.captured);
-        let [m, n, o, p] = u32_bytes(big, self.original);
-        [a, b, c, d, e, f, g, h, i, j, k, l, m, n, o, p]
+        text.extend(&u32_bytes(big, self.seconds))?;
+        text.extend(&u32_bytes(big, self.fraction))?;
+        text.extend(&u32_bytes(big, self.captured))?;
+        text.extend(&u32_bytes(big, self.original))
     }
 }
