@@ -1,7 +1,7 @@
 -- Numbers and their bytes.
-use Rattle.std.proofs.Common.{◌≡◌, ℕ, zero, suc, ◌+◌, ◌<◌, ◌≤◌, ◌^◌, Bool, true, false, List, [], ◌∷◌, ◌++◌, length, get_or, take, drop, refl, sym, ap, ◌∙◌, add-zero, lit<, arith}
+use Rattle.std.proofs.Common.{◌≡◌, ℕ, zero, suc, ◌+◌, ◌<◌, ◌≤◌, ◌^◌, Bool, true, false, List, [], ◌∷◌, ◌++◌, length, get_or, take, drop, refl, sym, ap, ◌∙◌, add-zero, append_assoc, lit<, arith}
 use Rattle.std.specs.Int.{Width, w16, w32, from_be_bytes, from_le_bytes, to_be_bytes, to_le_bytes}
-use Rattle.std.proofs.lemmas.List.{drop-drop, drop_at, get_or-drop, length-append, length-drop, take_at}
+use Rattle.std.proofs.lemmas.List.{drop-drop, drop_at, get_or-drop, length-append, length-drop, take_all, take_at}
 use Rattle.std.proofs.Math.Seq.{take-add}
 use Rattle.std.proofs.lemmas.Nat.{be_bytes_4, le_bytes_4, from_be_bytes-to_be_bytes_4, from_le_bytes-to_le_bytes_4}
 use Rattle.packet_fields.specs.Several.{AreBytes}
@@ -159,3 +159,44 @@ header_read big nano bytes zone sigfigs snaplen front_is zone_is sigfigs_is snap
     let second = next_part 4 8 12 16 bytes refl in
     let third = next_part 4 4 16 20 bytes refl in
     cc
+
+quad : (xs : List ℕ) → length xs ≡ 4 → four_from xs 0 ≡ xs
+quad xs long = first_four xs (omega arith) ∙ take_all 4 xs (omega arith)
+
+abbrev two_from : List ℕ → List ℕ
+two_from xs = get_or xs 0 0 ∷ get_or xs 1 0 ∷ []
+
+pair : (xs : List ℕ) → length xs ≡ 2 → two_from xs ≡ xs
+pair [] long = absurd (omega arith)
+pair (a ∷ []) long = absurd (omega arith)
+pair (a ∷ b ∷ []) long = refl
+pair (a ∷ b ∷ c ∷ rest) long = absurd (omega arith)
+
+-- three numbers, byte by byte, make the front
+pub front_made : (big nano : Bool) (m v w : List ℕ) → m ≡ number big w32 (magic nano) → v ≡ number big w16 2 → w ≡ number big w16 4
+    → get_or m 0 0 ∷ get_or m 1 0 ∷ get_or m 2 0 ∷ get_or m 3 0 ∷ get_or v 0 0 ∷ get_or v 1 0 ∷ get_or w 0 0 ∷ get_or w 1 0 ∷ [] ≡ front big nano
+unfolding front
+front_made big nano m v w m_is v_is w_is =
+    let first : four_from m 0 ≡ number big w32 (magic nano) = quad m (ap (λ (b : List ℕ). length b) m_is ∙ length-number_4 big (magic nano)) ∙ m_is in
+    let second : two_from v ≡ number big w16 2 = pair v (ap (λ (b : List ℕ). length b) v_is ∙ length-number_2 big 2) ∙ v_is in
+    let third : two_from w ≡ number big w16 4 = pair w (ap (λ (b : List ℕ). length b) w_is ∙ length-number_2 big 4) ∙ w_is in
+    ap (λ (b : List ℕ). b ++ (two_from v ++ two_from w)) first
+    ∙ (ap (λ (b : List ℕ). number big w32 (magic nano) ++ (b ++ two_from w)) second
+    ∙ ap (λ (b : List ℕ). number big w32 (magic nano) ++ (number big w16 2 ++ b)) third)
+
+-- what is put behind a text, number by number
+pub header_put : (big nano : Bool) (zone sigfigs snaplen : ℕ) (text t1 t2 t3 t4 t5 f z s n l : List ℕ)
+    → t1 ≡ text ++ f → t2 ≡ t1 ++ z → t3 ≡ t2 ++ s → t4 ≡ t3 ++ n → t5 ≡ t4 ++ l
+    → f ≡ front big nano → z ≡ number big w32 zone → s ≡ number big w32 sigfigs → n ≡ number big w32 snaplen → l ≡ number big w32 ethernet
+    → t5 ≡ text ++ header big nano zone sigfigs snaplen
+unfolding header
+header_put big nano zone sigfigs snaplen text t1 t2 t3 t4 t5 f z s n l t1_is t2_is t3_is t4_is t5_is f_is z_is s_is n_is l_is =
+    rw (t5_is, t4_is, t3_is, t2_is, t1_is, f_is, z_is, s_is, n_is, l_is) (simp append_assoc)
+
+pub record_header_put : (big : Bool) (a b c d : ℕ) (text t1 t2 t3 t4 w x y z : List ℕ)
+    → t1 ≡ text ++ w → t2 ≡ t1 ++ x → t3 ≡ t2 ++ y → t4 ≡ t3 ++ z
+    → w ≡ number big w32 a → x ≡ number big w32 b → y ≡ number big w32 c → z ≡ number big w32 d
+    → t4 ≡ text ++ record_header big a b c d
+unfolding record_header
+record_header_put big a b c d text t1 t2 t3 t4 w x y z t1_is t2_is t3_is t4_is w_is x_is y_is z_is =
+    rw (t4_is, t3_is, t2_is, t1_is, w_is, x_is, y_is, z_is) (simp append_assoc)

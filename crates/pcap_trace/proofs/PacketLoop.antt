@@ -1,12 +1,12 @@
 -- Records of a capture, one after another: those that are made of packets, the packets of them, and their bytes.
-use Rattle.std.proofs.Common.{◌≡◌, ℕ, zero, suc, ◌+◌, ◌<◌, ◌≤◌, ◌^◌, Bool, List, [], ◌∷◌, ◌++◌, length, map, get_or, take, drop, refl, sym, ap, ◌∙◌, subst, arith}
+use Rattle.std.proofs.Common.{◌≡◌, ℕ, zero, suc, ◌+◌, ◌<◌, ◌≤◌, ◌^◌, Bool, List, [], ◌∷◌, ◌++◌, length, map, get_or, take, drop, refl, sym, ap, ◌∙◌, append_assoc, subst, arith}
 use Rattle.std.specs.List.{AllByRecursion as Each, flat_map}
 use Rattle.std.proofs.lemmas.List.{flat_map_more, length-take-le, map-append, take_all, take_more}
 use Rattle.packet_fields.specs.declared.packet.Packet.{Packet}
 use Rattle.packet_fields.specs.Sizes.{largest_packet}
 use Rattle.pcap_trace.specs.declared.pcap.Pcap.{Pcap}
 use Rattle.pcap_trace.specs.declared.records.Record.{Record}
-use Rattle.pcap_trace.specs.Format.{header, pcap_bytes, record_bytes}
+use Rattle.pcap_trace.specs.Format.{IsPcap, header, pcap_bytes, record_bytes, record_header}
 use Rattle.pcap_trace.specs.Packets.{records_from, whole_record}
 use Rattle.pcap_trace.specs.Records.{AreRecords, IsRecord, most_records}
 
@@ -101,3 +101,14 @@ pub all_printed : (p : Pcap) (text : List ℕ) (items : List Record) (i : ℕ) �
 unfolding pcap_bytes
 all_printed p text items i same end is =
     is ∙ ap (λ (rs : List Record). header p.big p.nano p.zone p.sigfigs p.snaplen ++ flat_map (record_bytes p.big) rs) (take_all i items end ∙ same)
+
+pub record_put : (big : Bool) (r : Record) (text t1 t2 bytes : List ℕ) (n : ℕ) → n ≡ length r.bytes → bytes ≡ r.bytes
+    → t1 ≡ text ++ record_header big r.seconds r.fraction n r.original → t2 ≡ t1 ++ bytes → t2 ≡ text ++ record_bytes big r
+unfolding record_bytes
+record_put big r text t1 t2 bytes n n_is bytes_is t1_is t2_is = rw (t2_is, t1_is, n_is, bytes_is) (simp append_assoc)
+
+pub is_taken : (p : Pcap) → p.zone < 2 ^ 32 → p.sigfigs < 2 ^ 32 → p.snaplen < 2 ^ 32 → AreRecords p.records → IsPcap p
+is_taken p zone sigfigs snaplen are = record {
+  capture = record { zone = zone; sigfigs = sigfigs; snaplen = snaplen; records = are.each };
+  few = are.few;
+}

@@ -1,10 +1,10 @@
 -- Records that are read one after another.
-use Rattle.std.proofs.Common.{◌≡◌, ℕ, ◌+◌, ◌-◌, ◌<◌, ◌≤◌, ◌^◌, Bool, List, [], ◌∷◌, ◌++◌, length, take, drop, refl, sym, ap, ◌∙◌, append_assoc, subst, arith, inl, inr}
+use Rattle.std.proofs.Common.{◌≡◌, ℕ, ◌+◌, ◌-◌, ◌<◌, ◌≤◌, ◌^◌, Bool, List, [], ◌∷◌, ◌++◌, length, take, drop, refl, sym, ap, ◌∙◌, append_assoc, subst, lit<, arith, inl, inr}
 use Rattle.std.specs.Int.{w32}
 use Rattle.std.specs.List.{AllByRecursion as Each, flat_map}
 use Rattle.std.proofs.lemmas.Bool.{cases_lt}
 use Rattle.std.proofs.lemmas.Grind.{flat_map-append}
-use Rattle.std.proofs.lemmas.List.{append-nil, drop-drop, drop_at, length-append, length-drop, length-take, take-append-drop, take-append-le, take_all, take_at}
+use Rattle.std.proofs.lemmas.List.{append-nil, drop-drop, drop_at, get_or-drop, get_or-take, get_or_past, length-append, length-drop, length-take, take-append-drop, take-append-le, take_all, take_at}
 use Rattle.packet_fields.specs.Several.{AreBytes}
 use Rattle.packet_fields.specs.Sizes.{largest_packet}
 use Rattle.pcap_trace.specs.declared.header.Header.{Header}
@@ -16,7 +16,7 @@ use Rattle.pcap_trace.specs.declared.refusal.PcapError.TheVariants as errors
 use Rattle.pcap_trace.specs.Format.{IsCapture, IsPcap, header, number, pcap_bytes, record_bytes, record_header}
 use Rattle.pcap_trace.specs.Header.{IsHeader, capture_of}
 use Rattle.pcap_trace.specs.Reading.{HasFields, IsStop, IsWhole, record_with}
-use Rattle.pcap_trace.specs.Records.{IsRecord, most_records}
+use Rattle.pcap_trace.specs.Records.{AreRecords, IsRecord, most_records}
 use Rattle.pcap_trace.specs.Refused.{IsRefused, StandsIn, Tells}
 use Rattle.pcap_trace.proofs.NumberLemmas.{length-number_4}
 use Rattle.pcap_trace.proofs.OneRecord.{length-record_bytes}
@@ -193,3 +193,22 @@ whole_is_taken h bytes records count place so_far end few =
       capture = subst (λ (rs : List Record). IsCapture (capture_of h rs)) (sym kept) so_far.stands.capture;
       few = omega (arith, ap (λ (rs : List Record). length rs) kept, so_far.counted);
     }
+
+pub kept_few : (h : Header) (bytes : List ℕ) (records : List Record) (count place : ℕ) → SoFar h bytes records count place
+    → length records ≤ most_records
+kept_few h bytes records count place so_far =
+    omega (arith, ap (λ (rs : List Record). length rs) so_far.kept, length-take most_records so_far.read)
+
+pub records_are_taken : (h : Header) (bytes : List ℕ) (records : List Record) (count place : ℕ) → SoFar h bytes records count place
+    → length bytes ≤ place → count ≤ most_records → AreRecords records
+records_are_taken h bytes records count place so_far end few =
+    let taken = whole_is_taken h bytes records count place so_far end few in
+    record { each = taken.capture.records; few = taken.few }
+
+-- bytes of a part
+pub part_are_bytes : (n m : ℕ) (bytes : List ℕ) → AreBytes bytes → AreBytes (take n (drop m bytes))
+part_are_bytes n m bytes are i =
+    elim (cases_lt i n) [
+      | inl below ↦ rw (get_or-take n (drop m bytes) i 0 below, get_or-drop m bytes i 0) (are (m + i))
+      | inr past ↦ rw (get_or_past (take n (drop m bytes)) i 0 (omega (arith, length-take n (drop m bytes)))) (lit< tt)
+    ]

@@ -129,6 +129,7 @@ impl Header {
         text.extend(&u32_bytes(self.big, self.zone))?;
         text.extend(&u32_bytes(self.big, self.sigfigs))?;
         text.extend(&u32_bytes(self.big, self.snaplen))?;
-        text.extend(&u32_bytes(self.big, ETHERNET))
+        text.extend(&u32_bytes(self.big, ETHERNET))?;
+        Ok(())
     }
 }

@@ -21,7 +21,8 @@ fn put_record(big: bool, item: &Record, text: &mut Bytes) -> Result<(), NoMemory
         original: item.original,
     };
     header.put(big, text)?;
-    text.extend(item.bytes.as_slice())
+    text.extend(item.bytes.as_slice())?;
+    Ok(())
 }
 
 /// The bytes of a capture. They are read as the same capture, since each value is one that `read_pcap` takes.
@@ -29,6 +30,7 @@ pub fn print_pcap(alloc: Global, p: &Pcap) -> Result<Bytes, NoMemory>
     ensures text { IfOk result (λ text. text ≡ pcap_bytes p.now) }
     ensures taken { IsPcap p.now }
 {
+    let items = p.records.as_slice();
     let header = Header {
         big: p.big,
         nano: p.nano,
@@ -38,7 +40,7 @@ pub fn print_pcap(alloc: Global, p: &Pcap) -> Result<Bytes, NoMemory>
     };
     let mut text = Bytes::new(alloc);
     header.put(&mut text)?;
-    for item in p.records.as_slice() {
+    for item in items {
         put_record(p.big, item, &mut text)?;
     }
     Ok(text)

@@ -118,6 +118,7 @@ impl RecordHeader {
         text.extend(&u32_bytes(big, self.seconds))?;
         text.extend(&u32_bytes(big, self.fraction))?;
         text.extend(&u32_bytes(big, self.captured))?;
-        text.extend(&u32_bytes(big, self.original))
+        text.extend(&u32_bytes(big, self.original))?;
+        Ok(())
     }
 }
