@@ -112,10 +112,13 @@ length-header big nano zone sigfigs snaplen =
     let sigfigs_long = length-number_4 big sigfigs in
     let snaplen_long = length-number_4 big snaplen in
     let link_long = length-number_4 big ethernet in
-    omega (arith, length-append (front big nano) (number big w32 zone ++ (number big w32 sigfigs ++ (number big w32 snaplen ++ number big w32 ethernet))),
-        length-append (number big w32 zone) (number big w32 sigfigs ++ (number big w32 snaplen ++ number big w32 ethernet)),
-        length-append (number big w32 sigfigs) (number big w32 snaplen ++ number big w32 ethernet),
-        length-append (number big w32 snaplen) (number big w32 ethernet))
+    omega (
+      arith,
+      length-append (front big nano) (number big w32 zone ++ (number big w32 sigfigs ++ (number big w32 snaplen ++ number big w32 ethernet))),
+      length-append (number big w32 zone) (number big w32 sigfigs ++ (number big w32 snaplen ++ number big w32 ethernet)),
+      length-append (number big w32 sigfigs) (number big w32 snaplen ++ number big w32 ethernet),
+      length-append (number big w32 snaplen) (number big w32 ethernet),
+    )
 
 pub length-record_header : (big : Bool) (seconds fraction captured original : ℕ)
     → length (record_header big seconds fraction captured original) ≡ 16
@@ -125,9 +128,12 @@ length-record_header big seconds fraction captured original =
     let fraction_long = length-number_4 big fraction in
     let captured_long = length-number_4 big captured in
     let original_long = length-number_4 big original in
-    omega (arith, length-append (number big w32 seconds) (number big w32 fraction ++ (number big w32 captured ++ number big w32 original)),
-        length-append (number big w32 fraction) (number big w32 captured ++ number big w32 original),
-        length-append (number big w32 captured) (number big w32 original))
+    omega (
+      arith,
+      length-append (number big w32 seconds) (number big w32 fraction ++ (number big w32 captured ++ number big w32 original)),
+      length-append (number big w32 fraction) (number big w32 captured ++ number big w32 original),
+      length-append (number big w32 captured) (number big w32 original),
+    )
 
 -- bytes in two parts, of which the second begins at a place
 next_part : (n m at to : ℕ) (bytes : List ℕ) → to ≡ at + n → take (n + m) (drop at bytes) ≡ take n (drop at bytes) ++ take m (drop to bytes)

@@ -62,10 +62,11 @@ same_numbers : (big : Bool) (z f s z' f' s' : ℕ) (link : List ℕ) → z < 2 ^
     → (z ≡ z') × (f ≡ f') × (s ≡ s')
 same_numbers big z f s z' f' s' link hz hz' hf hf' hs hs' same =
     let after_z = behind_number big z z' (number big w32 f ++ (number big w32 s ++ link)) (number big w32 f' ++ (number big w32 s' ++ link)) same in
-    let after_f = behind_number big f f' (number big w32 s ++ link) (number big w32 s' ++ link) after_z in
-    (number_in_front big z z' (number big w32 f ++ (number big w32 s ++ link)) (number big w32 f' ++ (number big w32 s' ++ link)) hz hz' same,
-     number_in_front big f f' (number big w32 s ++ link) (number big w32 s' ++ link) hf hf' after_z,
-     number_in_front big s s' link link hs hs' after_f)
+    let after_f = behind_number big f f' (number big w32 s ++ link) (number big w32 s' ++ link) after_z in (
+      number_in_front big z z' (number big w32 f ++ (number big w32 s ++ link)) (number big w32 f' ++ (number big w32 s' ++ link)) hz hz' same,
+      number_in_front big f f' (number big w32 s ++ link) (number big w32 s' ++ link) hf hf' after_z,
+      number_in_front big s s' link link hs hs' after_f,
+    )
 
 one_header : (p q : Pcap) → IsCapture p → IsCapture q → header_of p ≡ header_of q → SameHeader p q
 unfolding header_of header tail_of
@@ -73,9 +74,9 @@ one_header p q p_is q_is same =
     let long : length (front p.big p.nano) ≡ length (front q.big q.nano) = length-front p.big p.nano ∙ sym (length-front q.big q.nano) in
     let kind = one_front p.big p.nano q.big q.nano (first_parts (front p.big p.nano) (front q.big q.nano) (tail_of p.big p.zone p.sigfigs p.snaplen) (tail_of q.big q.zone q.sigfigs q.snaplen) long same) in
     let tails : tail_of p.big p.zone p.sigfigs p.snaplen ≡ tail_of q.big q.zone q.sigfigs q.snaplen =
-        second_parts (front p.big p.nano) (front q.big q.nano) (tail_of p.big p.zone p.sigfigs p.snaplen) (tail_of q.big q.zone q.sigfigs q.snaplen) long same in
+    second_parts (front p.big p.nano) (front q.big q.nano) (tail_of p.big p.zone p.sigfigs p.snaplen) (tail_of q.big q.zone q.sigfigs q.snaplen) long same in
     let ordered : tail_of p.big p.zone p.sigfigs p.snaplen ≡ tail_of p.big q.zone q.sigfigs q.snaplen =
-        tails ∙ ap (λ (big : Bool). tail_of big q.zone q.sigfigs q.snaplen) (sym kind.order) in
+    tails ∙ ap (λ (big : Bool). tail_of big q.zone q.sigfigs q.snaplen) (sym kind.order) in
     let numbers = same_numbers p.big p.zone p.sigfigs p.snaplen q.zone q.sigfigs q.snaplen (number p.big w32 ethernet) p_is.zone q_is.zone p_is.sigfigs q_is.sigfigs p_is.snaplen q_is.snaplen ordered in
     record { order = kind.order; unit = kind.unit; zone = numbers.0; sigfigs = numbers.1; snaplen = numbers.2 }
 
@@ -106,11 +107,11 @@ one_capture p q x y p_is q_is x_ends y_ends same =
     let q_records = flat_map (record_bytes q.big) q.records in
     let long : length (header_of p) ≡ length (header_of q) = length-header p.big p.nano p.zone p.sigfigs p.snaplen ∙ sym (length-header q.big q.nano q.zone q.sigfigs q.snaplen) in
     let grouped : header_of p ++ (p_records ++ x) ≡ header_of q ++ (q_records ++ y) =
-        sym (append_assoc (header_of p) p_records x) ∙ (same ∙ append_assoc (header_of q) q_records y) in
+    sym (append_assoc (header_of p) p_records x) ∙ (same ∙ append_assoc (header_of q) q_records y) in
     let headers = one_header p q p_is q_is (first_parts (header_of p) (header_of q) (p_records ++ x) (q_records ++ y) long grouped) in
     let bodies : p_records ++ x ≡ q_records ++ y = second_parts (header_of p) (header_of q) (p_records ++ x) (q_records ++ y) long grouped in
     let ordered : flat_map (record_bytes p.big) p.records ++ x ≡ flat_map (record_bytes p.big) q.records ++ y =
-        bodies ∙ ap (λ (big : Bool). flat_map (record_bytes big) q.records ++ y) (sym headers.order) in
+    bodies ∙ ap (λ (big : Bool). flat_map (record_bytes big) q.records ++ y) (sym headers.order) in
     let y_ends_so : IsStuck p.big y = subst (λ (big : Bool). IsStuck big y) (sym headers.order) y_ends in
     let lists = one_list p.big p.records q.records x y p_is.records q_is.records x_ends y_ends_so ordered in
     record { value = same_capture p q headers lists.items; rest = lists.rest }
@@ -127,8 +128,11 @@ front_of p x =
 pub length-pcap_bytes : (p : Pcap) → length (pcap_bytes p) ≡ 24 + length (flat_map (record_bytes p.big) p.records)
 unfolding pcap_bytes
 length-pcap_bytes p =
-    omega (arith, length-append (header p.big p.nano p.zone p.sigfigs p.snaplen) (flat_map (record_bytes p.big) p.records),
-        length-header p.big p.nano p.zone p.sigfigs p.snaplen)
+    omega (
+      arith,
+      length-append (header p.big p.nano p.zone p.sigfigs p.snaplen) (flat_map (record_bytes p.big) p.records),
+      length-header p.big p.nano p.zone p.sigfigs p.snaplen,
+    )
 
 pub begins_of : (bytes : List ℕ) (p : Pcap) (x : List ℕ) → bytes ≡ pcap_bytes p ++ x → Begins bytes p.big p.nano
 begins_of bytes p x same = record {
@@ -143,10 +147,16 @@ link_of bytes p x same =
     let lead = front p.big p.nano ++ (number p.big w32 p.zone ++ (number p.big w32 p.sigfigs ++ number p.big w32 p.snaplen)) in
     let records = flat_map (record_bytes p.big) p.records in
     let grouped : pcap_bytes p ++ x ≡ lead ++ (number p.big w32 ethernet ++ (records ++ x)) = simp append_assoc in
-    let twenty : length lead ≡ 20 = omega (arith, length-front p.big p.nano, length-number_4 p.big p.zone, length-number_4 p.big p.sigfigs, length-number_4 p.big p.snaplen,
-        length-append (front p.big p.nano) (number p.big w32 p.zone ++ (number p.big w32 p.sigfigs ++ number p.big w32 p.snaplen)),
-        length-append (number p.big w32 p.zone) (number p.big w32 p.sigfigs ++ number p.big w32 p.snaplen),
-        length-append (number p.big w32 p.sigfigs) (number p.big w32 p.snaplen)) in
+    let twenty : length lead ≡ 20 = omega (
+      arith,
+      length-front p.big p.nano,
+      length-number_4 p.big p.zone,
+      length-number_4 p.big p.sigfigs,
+      length-number_4 p.big p.snaplen,
+      length-append (front p.big p.nano) (number p.big w32 p.zone ++ (number p.big w32 p.sigfigs ++ number p.big w32 p.snaplen)),
+      length-append (number p.big w32 p.zone) (number p.big w32 p.sigfigs ++ number p.big w32 p.snaplen),
+      length-append (number p.big w32 p.sigfigs) (number p.big w32 p.snaplen),
+    ) in
     ap (λ (b : List ℕ). take 4 (drop 20 b)) (same ∙ grouped)
     ∙ (ap (λ (b : List ℕ). take 4 b) (drop_at lead (number p.big w32 ethernet ++ (records ++ x)) 20 twenty)
     ∙ take_at (number p.big w32 ethernet) (records ++ x) 4 (length-number_4 p.big ethernet))

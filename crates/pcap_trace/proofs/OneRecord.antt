@@ -13,8 +13,11 @@ use Rattle.pcap_trace.proofs.NumberLemmas.{behind_number, first_parts, length-nu
 pub length-record_bytes : (big : Bool) (r : Record) → length (record_bytes big r) ≡ 16 + length r.bytes
 unfolding record_bytes
 length-record_bytes big r =
-    omega (arith, length-append (record_header big r.seconds r.fraction (length r.bytes) r.original) r.bytes,
-        length-record_header big r.seconds r.fraction (length r.bytes) r.original)
+    omega (
+      arith,
+      length-append (record_header big r.seconds r.fraction (length r.bytes) r.original) r.bytes,
+      length-record_header big r.seconds r.fraction (length r.bytes) r.original,
+    )
 
 -- the four numbers of two equal headers
 pub record Same4 (a b c d a' b' c' d' : ℕ) : Type 0 where

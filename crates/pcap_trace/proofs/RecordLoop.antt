@@ -30,7 +30,7 @@ tells_of big rest h long fits text =
     let lead = number big w32 h.seconds ++ number big w32 h.fraction in
     let behind = number big w32 h.original ++ drop 16 rest in
     let grouped : rest ≡ lead ++ (number big w32 h.captured ++ behind) =
-        sym (take-append-drop 16 rest) ∙ (ap (λ (b : List ℕ). b ++ drop 16 rest) (sym text) ∙ simp append_assoc) in
+    sym (take-append-drop 16 rest) ∙ (ap (λ (b : List ℕ). b ++ drop 16 rest) (sym text) ∙ simp append_assoc) in
     let eight : length lead ≡ 8 = omega (arith, length-append (number big w32 h.seconds) (number big w32 h.fraction), length-number_4 big h.seconds, length-number_4 big h.fraction) in
     record {
       long = long;
@@ -52,8 +52,8 @@ first_kept n xs x =
     elim (cases_lt (length xs) n) [
       | inl below ↦ ap (λ (ys : List Record). take n (ys ++ x ∷ [])) (take_all n xs (omega arith))
       | inr full ↦
-        take-append-le n (take n xs) (x ∷ []) (omega (arith, length-take n xs))
-        ∙ (take_all n (take n xs) (omega (arith, length-take n xs)) ∙ sym (take-append-le n xs (x ∷ []) full))
+          take-append-le n (take n xs) (x ∷ []) (omega (arith, length-take n xs))
+          ∙ (take_all n (take n xs) (omega (arith, length-take n xs)) ∙ sym (take-append-le n xs (x ∷ []) full))
     ]
 
 -- all records up to a byte are read, and of them the first are kept
@@ -105,8 +105,8 @@ whole_record big bytes place h body whole is long =
     let behind : drop 16 (drop place bytes) ≡ drop (place + 16) bytes = drop-drop 16 place bytes in
     let after : drop h.captured (drop (place + 16) bytes) ≡ drop (place + 16 + h.captured) bytes = drop-drop h.captured (place + 16) bytes in
     let split : body ++ drop (place + 16 + h.captured) bytes ≡ drop (place + 16) bytes =
-        ap (λ (b : List ℕ). b ++ drop (place + 16 + h.captured) bytes) is
-        ∙ (ap (λ (b : List ℕ). take h.captured (drop (place + 16) bytes) ++ b) (sym after) ∙ take-append-drop h.captured (drop (place + 16) bytes)) in
+    ap (λ (b : List ℕ). b ++ drop (place + 16 + h.captured) bytes) is
+    ∙ (ap (λ (b : List ℕ). take h.captured (drop (place + 16) bytes) ++ b) (sym after) ∙ take-append-drop h.captured (drop (place + 16) bytes)) in
     sym (take-append-drop 16 (drop place bytes))
     ∙ (ap (λ (b : List ℕ). b ++ drop 16 (drop place bytes)) (whole.text ∙ told)
     ∙ (ap (λ (b : List ℕ). record_header big h.seconds h.fraction (length body) h.original ++ b) (behind ∙ sym split)
@@ -120,7 +120,7 @@ one_more f bytes records after count place end h body so_far whole inside end_is
     let r = record_with h body in
     let rest_long : 16 + h.captured ≤ length bytes - place = omega (arith, whole.there, length-drop place bytes) in
     let long : length body ≡ h.captured =
-        ap (λ (b : List ℕ). length b) body_is ∙ (length-take h.captured (drop (place + 16) bytes) ∙ omega (arith, length-drop (place + 16) bytes)) in
+    ap (λ (b : List ℕ). length b) body_is ∙ (length-take h.captured (drop (place + 16) bytes) ∙ omega (arith, length-drop (place + 16) bytes)) in
     let is : IsRecord r = record { seconds = whole.fits.seconds; fraction = whole.fits.fraction; original = whole.fits.original; bytes = are; size = omega (arith, whole.size) } in
     let all = so_far.read ++ r ∷ [] in
     let front = whole_record f.big bytes place h body whole body_is long in
@@ -138,8 +138,13 @@ one_more f bytes records after count place end h body so_far whole inside end_is
             ∙ (ap (λ (b : List ℕ). pcap_bytes (capture_of f so_far.read) ++ b) (front ∙ ap (λ (b : List ℕ). record_bytes f.big r ++ b) ended)
             ∙ (sym (append_assoc (pcap_bytes (capture_of f so_far.read)) (record_bytes f.big r) (drop end bytes))
             ∙ ap (λ (b : List ℕ). b ++ drop end bytes) (sym (more_bytes f so_far.read r))));
-        place = omega (arith, ap (λ (b : List ℕ). length b) (more_bytes f so_far.read r), so_far.stands.place,
-            length-append (pcap_bytes (capture_of f so_far.read)) (record_bytes f.big r), length-record_bytes f.big r);
+        place = omega (
+          arith,
+          ap (λ (b : List ℕ). length b) (more_bytes f so_far.read r),
+          so_far.stands.place,
+          length-append (pcap_bytes (capture_of f so_far.read)) (record_bytes f.big r),
+          length-record_bytes f.big r,
+        );
       };
       kept = after_is ∙ (ap (λ (xs : List Record). take most_records (xs ++ r ∷ [])) so_far.kept ∙ first_kept most_records so_far.read r);
       counted = omega (arith, so_far.counted, length-append so_far.read (r ∷ []));

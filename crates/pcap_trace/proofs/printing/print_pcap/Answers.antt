@@ -4,11 +4,11 @@ use Rattle.pcap_trace.proofs.printing.print_pcap.Goals as goal
 
 pub returns-in_err-put-clause-taken : goal.returns-in_err-put-clause-taken
 returns-in_err-put-clause-taken c =
-    is_taken c.args.p.now (omega arith) (omega arith) (omega arith) c.as_slice-items.ensures.records
+    is_taken c.args.p.now c.numbers_fit.ensures.zone c.numbers_fit.ensures.sigfigs c.numbers_fit.ensures.snaplen c.as_slice-items.ensures.records
 
 pub returns-in_err-put_record-clause-taken : goal.returns-in_err-put_record-clause-taken
 returns-in_err-put_record-clause-taken c =
-    is_taken c.args.p.now (omega arith) (omega arith) (omega arith) c.as_slice-items.ensures.records
+    is_taken c.args.p.now c.numbers_fit.ensures.zone c.numbers_fit.ensures.sigfigs c.numbers_fit.ensures.snaplen c.as_slice-items.ensures.records
 
 pub returns-clause-text : goal.returns-clause-text
 returns-clause-text c =
@@ -17,4 +17,4 @@ returns-clause-text c =
 
 pub returns-clause-taken : goal.returns-clause-taken
 returns-clause-taken c =
-    is_taken c.args.p.now (omega arith) (omega arith) (omega arith) c.as_slice-items.ensures.records
+    is_taken c.args.p.now c.numbers_fit.ensures.zone c.numbers_fit.ensures.sigfigs c.numbers_fit.ensures.snaplen c.as_slice-items.ensures.records

@@ -32,4 +32,4 @@ of-requires c =
 pub returns-clause-ok : goal.returns-clause-ok
 returns-clause-ok c =
     rw c.of.ensures (whole_is_read c.args.header c.args.bytes.now c.loop-at.records.items c.loop-at.count c.loop-at.at
-        c.loop-at.invariant (omega arith) (omega arith))
+    c.loop-at.invariant (omega arith) (omega arith))
