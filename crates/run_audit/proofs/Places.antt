@@ -1,9 +1,9 @@
 -- Places in the serial order of fates.
-use Rattle.std.proofs.Common.{◌≡◌, ◌<◌, ◌≤◌, ℕ, zero, suc, Bool, true, false, cond, List, [], ◌∷◌, map, Option, Some, None, is_some, ◌⊎◌, inl, inr, refl, sym, ◌∙◌, ap, subst, arith, eq-eqb}
-use Rattle.std.specs.Prelude.{slice_get, option_map}
-use Rattle.std.proofs.lemmas.Bool.{cases_Bool, cases_lt, ne_eqb}
+use Rattle.std.proofs.Common.{◌≡◌, ◌<◌, ◌≤◌, ℕ, zero, suc, Bool, true, false, cond, List, [], ◌∷◌, map, Option, Some, None, ◌⊎◌, inl, inr, refl, sym, ◌∙◌, ap, subst, arith}
+use Rattle.std.specs.Prelude.{slice_get, is_some}
+use Rattle.std.proofs.lemmas.Bool.{cases_lt, eq-eqb, ne_eqb}
 use Rattle.std.proofs.lemmas.Bool.Decides.{nat_tests}
-use Rattle.std.proofs.lemmas.Option.{same_Some, slice_get-map}
+use Rattle.std.proofs.lemmas.Option.{same_Some}
 use Rattle.run_model.specs.declared.fate.Fate.{Fate}
 use Rattle.run_model.specs.declared.fate.Fate.TheVariants.{Pass, Up, Held, Slow, Fast}
 use Rattle.run_model.specs.declared.serial.Decided.{Decided}
@@ -32,10 +32,6 @@ decided_entry n (Some (Up a)) x h = cc
 decided_entry n (Some (Held a d v)) x h = ap (λ z. Some (decision n z)) (same_Some _ _ h)
 decided_entry n (Some (Slow a d v r y)) x h = ap (λ z. Some (decision n z)) (same_Some _ _ h)
 decided_entry n (Some (Fast a d v r y)) x h = ap (λ z. Some (decision n z)) (same_Some _ _ h)
-
-pub decided_cases : (o : Option (ℕ × ℕ)) → ((o ≡ None)) ⊎ ((x : ℕ × ℕ) × (o ≡ Some x))
-decided_cases None = inl refl
-decided_cases (Some x) = inr (x, refl)
 
 -- ---- members and places
 

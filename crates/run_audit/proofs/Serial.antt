@@ -1,13 +1,18 @@
 -- The serial run, packet by packet, against the verdicts that are told.
-use Rattle.std.proofs.Common.{◌≡◌, ◌<◌, ◌≤◌, ◌+◌, ℕ, zero, suc, Bool, true, false, List, [], ◌∷◌, length, drop, Option, Some, None, ◌↔◌, inl, inr, refl, sym, ◌∙◌, ap, subst, arith}
-use Rattle.std.specs.Prelude.{slice_get, MatchOption, IsTrue}
+use Rattle.std.proofs.Common.{◌≡◌, ◌<◌, ◌≤◌, ◌+◌, ℕ, zero, suc, Bool, true, false, List, [], ◌∷◌, length, drop, get_or, Option, Some, None, ◌↔◌, inl, inr, refl, sym, ◌∙◌, ap, subst, arith}
+use Rattle.std.specs.Prelude.{slice_get, MatchOption, IsTrue, All}
 use Rattle.std.proofs.lemmas.Bool.{cases_lt}
-use Rattle.std.proofs.lemmas.Option.{same_Some, slice_get_within}
+use Rattle.std.proofs.lemmas.Option.{same_Some, slice_get_within, slice_get-get_or, slice_get_read, get_or_from_slice_get}
+use Rattle.packet_fields.specs.declared.packet.Packet.{Packet}
 use Rattle.packet_fields.specs.declared.verdict.Verdict.{Verdict}
 use Rattle.state_store.specs.Store.{Store, start_store}
+use Rattle.element_lang.specs.Tree.{Tree}
+use Rattle.element_lang.specs.Meaning.{source_store, source_verdict}
 use Rattle.run_model.specs.Meaning.{Meaning, serial_store, serial_verdicts}
+use Rattle.run_model.specs.declared.fate.Fate.{Fate}
 use Rattle.run_model.specs.declared.run.Run.{Run}
 use Rattle.run_model.specs.Serialises.{released_at, run_store, run_verdicts}
+use Rattle.run_audit.specs.Source.{source_of, packet_at}
 use Rattle.run_audit.specs.Told.{HasVerdicts, IsFalse, IsFirst}
 
 -- ---- a list from a place on
@@ -105,13 +110,70 @@ first_false m run n p r y store has here out other =
 
 -- ---- what `agrees` answers
 
-pub agreed : (told : Option (ℕ × Verdict)) (b : Bool) (v : Verdict)
+agreed : (told : Option (ℕ × Verdict)) (b : Bool) (v : Verdict)
     → MatchOption told (b ≡ true) (λ t. IsTrue b ↔ (v ≡ t.1)) → b ≡ true → (r : ℕ) (y : Verdict) → told ≡ Some (r, y) → v ≡ y
-agreed None b v h yes r y is = cc
-agreed (Some t) b v h yes r y is = h.0 yes ∙ ap (λ (z : ℕ × Verdict). z.1) (same_Some t (r, y) is)
+agreed None b v h said r y is = cc
+agreed (Some t) b v h said r y is = h.0 said ∙ ap (λ (z : ℕ × Verdict). z.1) (same_Some t (r, y) is)
 
-pub disagreed : (told : Option (ℕ × Verdict)) (b : Bool) (v : Verdict)
+disagreed : (told : Option (ℕ × Verdict)) (b : Bool) (v : Verdict)
     → MatchOption told (b ≡ true) (λ t. IsTrue b ↔ (v ≡ t.1)) → b ≡ false
     → (r : ℕ) × (y : Verdict) × (told ≡ Some (r, y)) × (v ≡ y → ⊥)
-disagreed None b v h no = cc
-disagreed (Some t) b v h no = (t.0, t.1, refl, λ same. let yes : b ≡ true = h.1 same in cc)
+disagreed None b v h denied = let wrong : true ≡ false = sym h ∙ denied in cc
+disagreed (Some t) b v h denied =
+    (t.0, t.1, refl, λ same. let wrong : true ≡ false = sym (h.1 same) ∙ denied in cc)
+
+-- ---- one turn of the loop
+
+abbrev packet_with : ℕ → List ℕ → Packet
+packet_with port bytes = record { port = port; bytes = bytes }
+
+-- what is read of slices is read of the lists that they hold
+pub taken_from : (packets arrived : List Packet) (order numbers : List ℕ) (n : ℕ) (packet : Packet) → arrived ≡ packets
+    → numbers ≡ order → packet ≡ get_or arrived (get_or numbers n 0) packet → packet ≡ get_or packets (get_or order n 0) packet
+taken_from packets arrived order numbers n packet same one is =
+    is ∙ ap (λ l. get_or l (get_or numbers n 0) packet) same ∙ ap (λ l. get_or packets (get_or l n 0) packet) one
+
+pub told_from : (run : Run) (fates : List Fate) (numbers : List ℕ) (n : ℕ) (v : Verdict) (b : Bool) → fates ≡ run.fates
+    → numbers ≡ run.order
+    → MatchOption (released_at (slice_get fates (get_or numbers n 0))) (b ≡ true) (λ t. IsTrue b ↔ (v ≡ t.1))
+    → MatchOption (released_at (slice_get run.fates (get_or run.order n 0))) (b ≡ true) (λ t. IsTrue b ↔ (v ≡ t.1))
+told_from run fates numbers n v b same one told =
+    subst (λ l. MatchOption (released_at (slice_get run.fates (get_or l n 0))) (b ≡ true) (λ t. IsTrue b ↔ (v ≡ t.1))) one
+    (subst (λ l. MatchOption (released_at (slice_get l (get_or numbers n 0))) (b ≡ true) (λ t. IsTrue b ↔ (v ≡ t.1))) same told)
+
+module _ (m : Tree) (packets : List Packet) (run : Run) (n : ℕ) (packet : Packet) (bytes : List ℕ)
+    (within : All (λ k. k < length packets) run.order) (low : n < length run.order)
+    (is : packet ≡ get_or packets (get_or run.order n 0) packet) (whole : bytes ≡ packet.bytes) where
+  abbrev number : ℕ
+  number = get_or run.order n 0
+
+  abbrev arrived : Packet
+  arrived = record { port = packet.port; bytes = bytes }
+
+  here : slice_get run.order n ≡ Some number
+  here = slice_get-get_or run.order n 0 low
+
+  taken : arrived ≡ packet_at packets number
+  taken =
+      let few : number < length packets = within n 0 low in
+      let there : slice_get packets number ≡ Some packet = slice_get_read packets (length packets) number packet refl few is in
+      ap (λ b. packet_with packet.port b) whole
+      ∙ sym (get_or_from_slice_get packets number packet (packet_with 0 []) there)
+
+  pub turn_goes_on : (store next : Store) (v : Verdict) (b : Bool) → HasRun (source_of m packets) run n store
+      → next ≡ source_store m store arrived → v ≡ source_verdict m store arrived
+      → MatchOption (released_at (slice_get run.fates number)) (b ≡ true) (λ t. IsTrue b ↔ (v ≡ t.1)) → b ≡ true
+      → HasRun (source_of m packets) run (n + 1) next
+  turn_goes_on store next v b has after verdict told said =
+      one_more_run (source_of m packets) run n number store next has here (after ∙ ap (source_store m store) taken)
+      (λ r y out. sym (verdict ∙ ap (source_verdict m store) taken)
+      ∙ agreed (released_at (slice_get run.fates number)) b v told said r y out)
+
+  pub turn_ends : (store : Store) (v : Verdict) (b : Bool) → HasRun (source_of m packets) run n store
+      → v ≡ source_verdict m store arrived
+      → MatchOption (released_at (slice_get run.fates number)) (b ≡ true) (λ t. IsTrue b ↔ (v ≡ t.1)) → b ≡ false
+      → IsFirst (IsFalse (source_of m packets) run) run.order number
+  turn_ends store v b has verdict told denied =
+      let wrong = disagreed (released_at (slice_get run.fates number)) b v told denied in
+      first_false (source_of m packets) run n number (wrong.0) (wrong.1) store has here wrong.2
+      (λ same. wrong.3 (verdict ∙ ap (source_verdict m store) taken ∙ same))

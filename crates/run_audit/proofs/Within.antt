@@ -1,13 +1,13 @@
 -- Where the counts agree, the numbers of the order are those of packets of the trace.
-use Rattle.std.proofs.Common.{◌≡◌, ◌<◌, ◌≤◌, ℕ, zero, suc, List, [], ◌∷◌, length, get_or, Some, ◌∙◌, ap, arith}
-use Rattle.std.specs.Prelude.{slice_get, All}
+use Rattle.std.proofs.Common.{◌≡◌, ◌<◌, ◌≤◌, ℕ, zero, suc, List, [], ◌∷◌, length, get_or, Option, Some, None, ◌∙◌, ap, arith}
+use Rattle.std.specs.Prelude.{slice_get, All, MatchOption}
 use Rattle.std.proofs.lemmas.Option.{slice_get-get_or}
 use Rattle.packet_fields.specs.declared.packet.Packet.{Packet}
 use Rattle.run_model.specs.declared.fate.Fate.{Fate}
 use Rattle.run_model.specs.declared.run.Run.{Run}
 use Rattle.run_model.specs.Serialises.{decided_at, times}
 use Rattle.run_audit.specs.Counts.{CountsAgree}
-use Rattle.run_audit.specs.Order.{InOrder}
+use Rattle.run_audit.specs.Order.{InOrder, IsMisplaced}
 use Rattle.run_audit.proofs.Places.{once_in_order}
 use Rattle.run_audit.proofs.OneOrder.{placed_decided}
 
@@ -25,3 +25,8 @@ within_trace packets run counts order = λ k d low.
     let few : p < length run.fates = decided_within run.fates p (found.0) found.1 in
     let admitted : length run.fates ≤ length packets = counts.admitted in
     omega arith
+
+pub in_order_from : (run : Run) (found : Option ℕ) → MatchOption found (InOrder run) (λ p. IsMisplaced run p)
+    → found ≡ None → InOrder run
+in_order_from run None h is = h
+in_order_from run (Some p) h is = cc

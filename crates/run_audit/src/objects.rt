@@ -9,6 +9,12 @@ use run_model::{Part, Parts, Run};
 use state_store::{Row, Store};
 use std::alloc::Global;
 
+fn is_same_row(one: Row, other: Row) -> bool
+    ensures { IsTrue result ↔ (one ≡ other) }
+{
+    one.keys == other.keys && one.values == other.values
+}
+
 // Whether two lists have the same rows.
 fn are_same_rows(some: &[Row], others: &[Row]) -> bool
     ensures { IsTrue result ↔ (some.now ≡ others.now) }
@@ -17,7 +23,7 @@ fn are_same_rows(some: &[Row], others: &[Row]) -> bool
         return false;
     }
     for place in 0..some.len() {
-        if some[place].keys != others[place].keys || some[place].values != others[place].values {
+        if !is_same_row(some[place], others[place]) {
             return false;
         }
     }
