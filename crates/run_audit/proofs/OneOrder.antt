@@ -161,7 +161,7 @@ own_events fates order once ascends p q x hp hq =
       | inr high ↦ elim (cases_lt (j.0) (i.0)) [
         | inl low ↦ absurd (not_earlier x (ascends (j.0) (i.0) q p x x j.1 i.1 hq hp low))
         | inr near ↦
-          let same : i.0 ≡ j.0 = omega arith in
-          same_Some p q (sym i.1 ∙ subst (λ z. slice_get order z ≡ Some q) (sym same) j.1)
+            let same : i.0 ≡ j.0 = omega arith in
+            same_Some p q (sym i.1 ∙ subst (λ z. slice_get order z ≡ Some q) (sym same) j.1)
       ]
     ]

@@ -49,8 +49,8 @@ first_one Is order p q one two = elim (cases_lt (one.place) (two.place)) [
   | inr high ↦ elim (cases_lt (two.place) (one.place)) [
     | inl low ↦ absurd (one.first (two.place) low two.is)
     | inr near ↦
-      let same : two.place ≡ one.place = omega arith in
-      same_Some p q (sym one.number ∙ subst (λ z. slice_get order z ≡ Some q) same two.number)
+        let same : two.place ≡ one.place = omega arith in
+        same_Some p q (sym one.number ∙ subst (λ z. slice_get order z ≡ Some q) same two.number)
   ]
 ]
 

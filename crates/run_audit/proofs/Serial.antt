@@ -67,10 +67,10 @@ one_more_run m run n p store next has here after told =
       right = λ i q r y low at out. elim (cases_lt i n) [
         | inl before ↦ has.right i q r y before at out
         | inr last ↦
-          let is : i ≡ n = omega arith in
-          let one : p ≡ q = same_Some p q (sym here ∙ subst (λ k. slice_get run.order k ≡ Some q) is at) in
-          subst (λ k. slice_get (run_verdicts m run) k ≡ Some y) (sym is)
-          (now.0 ∙ ap Some (told r y (subst (λ k. released_at (slice_get run.fates k) ≡ Some (r, y)) (sym one) out)))
+            let is : i ≡ n = omega arith in
+            let one : p ≡ q = same_Some p q (sym here ∙ subst (λ k. slice_get run.order k ≡ Some q) is at) in
+            subst (λ k. slice_get (run_verdicts m run) k ≡ Some y) (sym is)
+            (now.0 ∙ ap Some (told r y (subst (λ k. released_at (slice_get run.fates k) ≡ Some (r, y)) (sym one) out)))
       ];
     } in
     let more : suc n ≡ n + 1 = omega arith in

@@ -151,35 +151,35 @@ pub first_late_is : (fates : List Fate) (order : List ℕ) (n : ℕ) → late_in
 first_late_is fates [] n h = cc
 first_late_is fates (x ∷ xs) n h = elim (late_cases (is_late fates x xs) x n (late_in fates xs) h) [
   | inl here ↦
-    let above = above_is (admitted_at (slice_get fates x)) (least_in fates (x ∷ xs)) here.0 in
-    let from = least_from fates (x ∷ xs) (above.1) above.3 in
-    record {
-      place = 0;
-      number = ap Some here.1;
-      is = record {
-        i = from.0;
-        p = from.1;
-        q = x;
-        r = above.1;
-        a = above.0;
-        y = from.2;
-        other = from.3;
-        this = refl;
-        released = from.4;
-        admitted = above.2;
-        earlier = above.4;
-        not_before = omega arith;
-      };
-      first = λ i low late. omega arith;
-    }
+      let above = above_is (admitted_at (slice_get fates x)) (least_in fates (x ∷ xs)) here.0 in
+      let from = least_from fates (x ∷ xs) (above.1) above.3 in
+      record {
+        place = 0;
+        number = ap Some here.1;
+        is = record {
+          i = from.0;
+          p = from.1;
+          q = x;
+          r = above.1;
+          a = above.0;
+          y = from.2;
+          other = from.3;
+          this = refl;
+          released = from.4;
+          admitted = above.2;
+          earlier = above.4;
+          not_before = omega arith;
+        };
+        first = λ i low late. omega arith;
+      }
   | inr rest ↦
-    let found = first_late_is fates xs n rest.1 in
-    record {
-      place = suc found.place;
-      number = found.number;
-      is = later fates x xs (found.place) found.is;
-      first = none_before fates x xs (found.place) rest.0 found.first;
-    }
+      let found = first_late_is fates xs n rest.1 in
+      record {
+        place = suc found.place;
+        number = found.number;
+        is = later fates x xs (found.place) found.is;
+        first = none_before fates x xs (found.place) rest.0 found.first;
+      }
 ]
 
 -- ---- the answer

@@ -22,12 +22,7 @@ use state_store::Store;
 use std::alloc::Global;
 
 // Whether a report is true, or why it is refused.
-fn judge(
-    alloc: Global,
-    m: &Middlebox,
-    packets: &Packets,
-    run: &Run,
-) -> Result<(), AuditError>
+fn judge(alloc: Global, m: &Middlebox, packets: &Packets, run: &Run) -> Result<(), AuditError>
     requires good { IsTrue (is_good (tree m.now)) }
     requires few_objects { length m.now.objects < 2 ^ 32 }
     ensures { IsAnswer (tree m.now) packets.now run.now result }
@@ -57,12 +52,7 @@ fn judge(
 /// counts of events, versions and `drained` are judged.
 ///
 /// Of several causes the first one in the order of `AuditError` is answered.
-pub fn audit(
-    alloc: Global,
-    m: &Middlebox,
-    packets: &Packets,
-    run: &Run,
-) -> Result<(), AuditError>
+pub fn audit(alloc: Global, m: &Middlebox, packets: &Packets, run: &Run) -> Result<(), AuditError>
     requires good { IsTrue (is_good (tree m.now)) }
     requires few_objects { length m.now.objects < 2 ^ 32 }
     ensures ok { OnOk result (IsTrueReport (tree m.now) packets.now run.now) }
