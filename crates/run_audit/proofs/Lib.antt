@@ -1,0 +1,10 @@
+mod Lists
+mod Walks
+mod Serial
+mod Sorting
+mod Places
+mod OneOrder
+mod True
+mod Refusals
+mod Answers
+mod Within

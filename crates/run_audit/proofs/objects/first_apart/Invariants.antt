@@ -1,0 +1,6 @@
+use Rattle.run_audit.proofs.Lists.{AlikeTo}
+use Rattle.run_audit.proofs.objects.first_apart.Given as goal
+
+-- the parts so far are those that are wanted
+abbrev pub invariant-loop-place : goal.invariant-loop-place
+invariant-loop-place l = AlikeTo l.told l.wanted l.place

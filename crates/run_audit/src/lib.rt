@@ -1,0 +1,15 @@
+//! An audit of one report: whether it tells a serial run of its source, found from the source and the trace alone.
+#![tactic(auto)]
+
+mod counts;
+mod error;
+mod laws;
+mod objects;
+mod order;
+mod times;
+mod verdicts;
+mod whole;
+
+pub use error::AuditError;
+pub use laws::true_reports_serialise;
+pub use whole::audit;

@@ -1,0 +1,68 @@
+//! The rows of a report.
+ghost use Rattle.std.specs.Prelude.{◌≡◌, ◌↔◌, ◌<◌, ◌^◌, length, IsTrue, IfOk, MatchOption};
+ghost use Rattle.run_model.specs.Parts.{parts_of};
+ghost use Rattle.run_audit.specs.Told.{IsFirstUnlike};
+
+use element_lang::Middlebox;
+use gal_io::NoMemory;
+use run_model::{Part, Parts, Run};
+use state_store::{Row, Store};
+use std::alloc::Global;
+
+fn is_same_row(one: Row, other: Row) -> bool
+    ensures { IsTrue result ↔ (one ≡ other) }
+{
+    one.keys == other.keys && one.values == other.values
+}
+
+// Whether two lists have the same rows.
+fn are_same_rows(some: &[Row], others: &[Row]) -> bool
+    ensures { IsTrue result ↔ (some.now ≡ others.now) }
+{
+    if some.len() != others.len() {
+        return false;
+    }
+    for place in 0..some.len() {
+        if !is_same_row(some[place], others[place]) {
+            return false;
+        }
+    }
+    true
+}
+
+fn is_same_part(one: &Part, other: &Part) -> bool
+    ensures { IsTrue result ↔ (one.now ≡ other.now) }
+{
+    one.object == other.object && are_same_rows(one.rows.as_slice(), other.rows.as_slice())
+}
+
+// The object of the wanted part at the first place at which the part that is told isn't the wanted one, or of the told
+// one where no more are wanted.
+fn first_apart(told: &[Part], wanted: &[Part]) -> Option<u32>
+    ensures { MatchOption result (told.now ≡ wanted.now) (λ object. IsFirstUnlike told.now wanted.now object) }
+{
+    for place in 0..wanted.len() {
+        if place >= told.len() || !is_same_part(&told[place], &wanted[place]) {
+            return Some(wanted[place].object);
+        }
+    }
+    match told.get(wanted.len()) {
+        Some(part) => Some(part.object),
+        None => None,
+    }
+}
+
+/// The first object whose rows aren't those of the store that the serial run leaves.
+pub(crate) fn first_unlike(
+    alloc: Global,
+    m: &Middlebox,
+    store: &Store,
+    run: &Run,
+) -> Result<Option<u32>, NoMemory>
+    requires { length m.now.objects < 2 ^ 32 }
+    ensures { IfOk result (λ found. MatchOption found (run.now.objects ≡ parts_of m.now.objects store.now)
+        (λ object. IsFirstUnlike run.now.objects (parts_of m.now.objects store.now) object)) }
+{
+    let wanted = Parts::of(alloc, m.objects.as_slice(), store)?;
+    Ok(first_apart(run.objects.as_slice(), wanted.as_slice()))
+}
