@@ -1,5 +1,7 @@
 //! The text of a split.
-ghost use Rattle.std.specs.Prelude.{◌≡◌, ◌++◌, OnOk, IfOk, string_bytes};
+ghost use Rattle.std.specs.Prelude.{◌≡◌, ◌++◌, length, OnOk, IfOk, string_bytes};
+ghost use Rattle.split_model.specs.Bounds.{HasFewStages};
+ghost use Rattle.split_validate.specs.SplitLines.{IsSplitText};
 ghost use Rattle.split_validate.specs.SplitText.{part_line, part_lines, pre_text, slow_text, split_text};
 
 use gal_io::{NoMemory, Text};
@@ -48,9 +50,11 @@ fn put_parts(alloc: Global, parts: &[Part], text: &mut Text) -> Result<(), NoMem
 
 /// The text of a split: a line `split 1 N` with the number of its instructions, a line for each of them in order, and
 /// the line `end`. The line of an instruction has its number, its stage in preprocessing or `-`, and `carried`,
-/// `server`, or `post` and a stage. One space stands between words.
+/// `server`, or `post` and a stage. One space stands between words. It is read back as that split, where no stage is
+/// above 4,096.
 pub fn print_split(alloc: Global, s: &Split) -> Result<Text, NoMemory>
-    ensures { IfOk result (λ text. text ≡ split_text s.now) }
+    ensures text { IfOk result (λ text. text ≡ split_text s.now) }
+    ensures back { IfOk result (λ text. HasFewStages s.now → IsSplitText (length s.now) text s.now) }
 {
     let parts = s.as_slice();
     let number = parts.len();
