@@ -1,0 +1,10 @@
+pub mod Words
+pub mod Numbers
+pub mod Plain
+pub mod Operands
+pub mod Gone
+pub mod PartLines
+pub mod Told
+pub mod Steps
+pub mod Reads
+pub mod Guards

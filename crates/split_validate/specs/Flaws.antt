@@ -27,12 +27,11 @@ has_flaw (NotBelow pass own) split i = is_not_lower (stage_in pass split i) own
 abbrev pub any_flawed : Flaw → List Part → List ValueId → Bool
 any_flawed flaw split values = list_any (λ v. has_flaw flaw split v.instruction) values
 
--- the marks say of each block, the root first, whether its condition or that of one above it is a value of
--- postprocessing
-pub record ArePostGuarded (f : Program) (split : List Part) (marks : List Bool) : Type 0 where
-  pub count : length marks ≡ length f.blocks + 1
-  pub exact : (b : ℕ) → b ≤ length f.blocks
-      → slice_index_or marks b false ≡ list_any (is_post_condition f split) (line f.blocks b)
+-- the marks say of each block up to number n, the root first, whether its condition or that of one above it is a value
+-- of postprocessing
+pub record ArePostGuarded (f : Program) (split : List Part) (n : ℕ) (marks : List Bool) : Type 0 where
+  pub count : length marks ≡ n + 1
+  pub exact : (b : ℕ) → b ≤ n → slice_index_or marks b false ≡ list_any (is_post_condition f split) (line f.blocks b)
 
 -- none of the first n instructions breaks the rule
 abbrev pub KeepsRule : Program → List Part → ℕ → ℕ → Type 0

@@ -4,6 +4,7 @@ use Rattle.std.specs.Prelude.{if◌then◌else◌, Option, Some, None}
 use Rattle.std.specs.Option.{option_map}
 use Rattle.std.specs.Str.{bytes_eq}
 use Rattle.std.specs.List.{before_first, after_first, list_any}
+use Rattle.gal_io.specs.Lines.{is_skipped}
 use Rattle.gal_io.specs.Number.{number_up_to}
 use Rattle.split_model.specs.declared.split.Slow.{Slow}
 use Rattle.split_model.specs.declared.split.Slow.TheVariants.{Carried, Server, Post}
@@ -70,3 +71,13 @@ step count line All parts = None
 abbrev pub taken : Bool → Progress → List Part → Option (Progress × List Part) → Type 0
 taken true progress parts after = after ≡ Some (progress, parts)
 taken false progress parts after = after ≡ None
+
+-- the same after one more line, which may be skipped
+abbrev pub line_read : ℕ → List ℕ → Progress → List Part → Option (Progress × List Part)
+line_read count line progress parts = if is_skipped line then Some (progress, parts) else step count line progress parts
+
+-- the parts, where all lines were read
+abbrev pub ended : Progress → List Part → Option (List Part)
+ended Nothing parts = None
+ended Title parts = None
+ended All parts = Some parts

@@ -1,14 +1,14 @@
 //! A split that is read.
-ghost use Rattle.std.specs.Prelude.{◌≡◌, ◌⊎◌, List, length, IfOk, IfErr};
+ghost use Rattle.std.specs.Prelude.{◌≡◌, ◌⊎◌, List, [], length, IfOk, IfErr};
 ghost use Rattle.split_model.specs.declared.split.Part.{Part as PartOf};
 ghost use Rattle.split_validate.specs.SplitLines.{IsRefused, IsSplitText};
-ghost use Rattle.split_validate.specs.SplitSteps.{step, taken};
+ghost use Rattle.split_validate.specs.SplitSteps.{ended, line_read, step, taken};
 
 use crate::part_line::{is_title, read_part};
 use flat_ir::Flat;
 use gal_io::{NoMemory, is_skipped, split_line};
 use split_model::{Part, Split};
-use std::alloc::{AllocFailed, Global};
+use std::alloc::Global;
 use thiserror::Error;
 
 /// Why a text is no split of a program.
@@ -50,8 +50,30 @@ struct Reading {
 }
 
 impl Reading {
-    // Takes the next line that isn't skipped of a text for so many instructions, and answers whether it goes on so.
+    // Before the first line.
+    fn new(alloc: Global) -> Reading
+        ensures progress { result.progress ≡ Progress.Nothing }
+        ensures parts { result.parts.items ≡ [] }
+    {
+        Reading {
+            progress: Progress::Nothing,
+            parts: Vec::new(alloc),
+        }
+    }
+
+    // Takes the next line of a text for so many instructions, and answers whether such a text goes on with it.
     fn take_line(&mut self, count: usize, line: &[u8]) -> Result<bool, NoMemory>
+        ensures { IfOk result (λ ok. taken ok self.new.progress self.new.parts.items
+            (line_read count line.now self.old.progress self.old.parts.items)) }
+    {
+        if is_skipped(line) {
+            return Ok(true);
+        }
+        self.take_told(count, line)
+    }
+
+    // The same of a line that isn't skipped.
+    fn take_told(&mut self, count: usize, line: &[u8]) -> Result<bool, NoMemory>
         ensures { IfOk result (λ ok. taken ok self.new.progress self.new.parts.items
             (step count line.now self.old.progress self.old.parts.items)) }
     {
@@ -65,7 +87,7 @@ impl Reading {
         }
     }
 
-    // Takes the line of the next part, or the last line behind all of them.
+    // Takes the line of the next part, or behind all of them the last line.
     fn take_part(&mut self, count: usize, line: &[u8]) -> Result<bool, NoMemory>
         ensures { IfOk result (λ ok. taken ok self.new.progress self.new.parts.items
             (step count line.now Progress.Title self.old.parts.items)) }
@@ -82,6 +104,16 @@ impl Reading {
             None => Ok(false),
         }
     }
+
+    // The split, where all lines were read.
+    fn finish(self) -> Option<Split>
+        ensures { result ≡ ended self.progress self.parts.items }
+    {
+        match self.progress {
+            Progress::All => Some(Split::from(self.parts)),
+            Progress::Nothing | Progress::Title => None,
+        }
+    }
 }
 
 /// The split of a program that a text spells, as [`print_split`](crate::print_split) writes it: `split 1 N` with the
@@ -96,25 +128,19 @@ pub fn read_split(alloc: Global, f: &Flat, text: &[u8]) -> Result<Split, SplitTe
         (e ≡ SplitTextError.NoMemory) ⊎ IsRefused (length f.now.code) text.now e) }
 {
     let count = f.code.len();
-    let mut reading = Reading {
-        progress: Progress::Nothing,
-        parts: Vec::new(alloc),
-    };
+    let mut reading = Reading::new(alloc);
     let mut number: usize = 0;
     let mut ahead = text;
     while let Some((line, behind)) = split_line(ahead) {
         number += 1;
         ahead = behind;
-        if is_skipped(line) {
-            continue;
-        }
         let taken = reading.take_line(count, line)?;
         if !taken {
             return Err(SplitTextError::Line(number));
         }
     }
-    match reading.progress {
-        Progress::All => Ok(Split::from(reading.parts)),
-        Progress::Nothing | Progress::Title => Err(SplitTextError::Line(number + 1)),
+    match reading.finish() {
+        Some(split) => Ok(split),
+        None => Err(SplitTextError::Line(number + 1)),
     }
 }

@@ -1,10 +1,11 @@
 //! The nine rules of a legal split, each as a test of one instruction.
-ghost use Rattle.std.specs.Prelude.{◌≡◌, ◌<◌, ◌≤◌, ◌==◌, ◌||◌, not, length, IfOk};
-ghost use Rattle.flat_ir.specs.Blocks.{same};
+ghost use Rattle.std.specs.Prelude.{◌≡◌, ◌+◌, ◌<◌, ◌≤◌, ◌==◌, ◌||◌, not, length, IfOk};
+ghost use Rattle.std.specs.List.{list_any};
+ghost use Rattle.flat_ir.specs.Blocks.{line, same};
 ghost use Rattle.flat_ir.specs.Kinds.{fits_switch, is_field, is_input, is_mutable_look};
 ghost use Rattle.flat_ir.specs.Program.{program_of, step_of, work_of};
 ghost use Rattle.flat_ir.specs.WellFormed.{IsWellFormed};
-ghost use Rattle.split_model.specs.Legal.{breaks, is_misplaced, rule_1, rule_2, rule_3, rule_4, rule_5, rule_6};
+ghost use Rattle.split_model.specs.Legal.{breaks, is_misplaced, is_post_condition, rule_1, rule_2, rule_3, rule_4, rule_5, rule_6};
 ghost use Rattle.split_model.specs.Legal.{rule_7, rule_8, rule_9};
 ghost use Rattle.split_validate.specs.Flaws.{ArePostGuarded, stage_in};
 
@@ -15,21 +16,31 @@ use gal_io::NoMemory;
 use split_model::Split;
 use std::alloc::Global;
 
+// Whether the condition of block `k + 1`, or of one above it, is a value of postprocessing, by the marks of those up to
+// block `k`.
+fn is_guarded(f: &Flat, s: &Split, marks: &[bool], k: usize) -> bool
+    requires formed { IsWellFormed (program_of f.now) }
+    requires inside { k < length f.now.blocks }
+    requires marks { ArePostGuarded (program_of f.now) s.now k marks.now }
+    ensures { result ≡ list_any (is_post_condition (program_of f.now) s.now) (line f.now.blocks (k + 1)) }
+{
+    lines_of_blocks();
+    let block = f.blocks.as_slice()[k];
+    let own = s.is_post(block.cond.instruction as usize);
+    let above = marks[block.parent as usize];
+    own || above
+}
+
 /// For each block, the root first, whether its condition or that of one above it is a value of postprocessing. It takes
 /// one step a block.
 pub(crate) fn post_guarded(alloc: Global, f: &Flat, s: &Split) -> Result<Vec<bool>, NoMemory>
     requires { IsWellFormed (program_of f.now) }
-    ensures { IfOk result (λ marks. ArePostGuarded (program_of f.now) s.now marks.items) }
+    ensures { IfOk result (λ marks. ArePostGuarded (program_of f.now) s.now (length f.now.blocks) marks.items) }
 {
-    lines_of_blocks();
-    let blocks = f.blocks.as_slice();
-    let mut marks = Vec::new(alloc);
-    marks.push(false)?;
-    for k in 0..blocks.len() {
-        let block = blocks[k];
-        let own = s.is_post(block.cond.instruction as usize);
-        let above = marks[block.parent as usize];
-        marks.push(own || above)?;
+    let mut marks = vec![in alloc; false]?;
+    for k in 0..f.blocks.len() {
+        let mark = is_guarded(f, s, &marks, k);
+        marks.push(mark)?;
     }
     Ok(marks)
 }
@@ -43,6 +54,7 @@ fn breaks_1(f: &Flat, s: &Split, i: usize) -> bool
 }
 
 // Preprocessing lacks an operand.
+#[tactic(auto, using(crate::proofs::Operands::not_all))]
 fn breaks_2(f: &Flat, s: &Split, i: usize) -> bool
     requires { i < length f.now.code }
     ensures { result ≡ rule_2 (program_of f.now) s.now i }
@@ -66,6 +78,7 @@ fn breaks_4(f: &Flat, s: &Split, i: usize) -> bool
 }
 
 // What is carried has an operand that isn't.
+#[tactic(auto, using(crate::proofs::Operands::not_all))]
 fn breaks_5(f: &Flat, s: &Split, i: usize) -> bool
     requires { i < length f.now.code }
     ensures { result ≡ rule_5 (program_of f.now) s.now i }
@@ -76,7 +89,7 @@ fn breaks_5(f: &Flat, s: &Split, i: usize) -> bool
 // The server needs a value of postprocessing, as an operand or as the condition of a write.
 fn breaks_6(f: &Flat, s: &Split, guarded: &[bool], i: usize) -> bool
     requires formed { IsWellFormed (program_of f.now) }
-    requires guarded { ArePostGuarded (program_of f.now) s.now guarded.now }
+    requires guarded { ArePostGuarded (program_of f.now) s.now (length f.now.blocks) guarded.now }
     requires inside { i < length f.now.code }
     ensures { result ≡ rule_6 (program_of f.now) s.now i }
 {
@@ -143,7 +156,7 @@ pub(crate) const RULES: u8 = 9;
 pub(crate) fn breaks(rule: u8, f: &Flat, s: &Split, guarded: &[bool], i: usize) -> bool
     requires rule { (1 ≤ rule) × (rule ≤ 9) }
     requires formed { IsWellFormed (program_of f.now) }
-    requires guarded { ArePostGuarded (program_of f.now) s.now guarded.now }
+    requires guarded { ArePostGuarded (program_of f.now) s.now (length f.now.blocks) guarded.now }
     requires inside { i < length f.now.code }
     ensures { result ≡ breaks rule (program_of f.now) s.now i }
 {

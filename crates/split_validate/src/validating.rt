@@ -43,7 +43,7 @@ impl From<NoMemory> for Illegal {
 fn first_of(rule: u8, f: &Flat, s: &Split, guarded: &[bool]) -> Option<usize>
     requires rule { (1 ≤ rule) × (rule ≤ 9) }
     requires bounded { IsBounded (program_of f.now) }
-    requires guarded { ArePostGuarded (program_of f.now) s.now guarded.now }
+    requires guarded { ArePostGuarded (program_of f.now) s.now (length f.now.blocks) guarded.now }
     ensures { MatchOption result (KeepsRule (program_of f.now) s.now rule (length f.now.code))
         (IsFirstOf (program_of f.now) s.now rule) }
 {
@@ -65,7 +65,7 @@ struct Broken {
 // The lowest broken rule, and the first instruction that breaks it.
 fn first_broken(f: &Flat, s: &Split, guarded: &[bool]) -> Option<Broken>
     requires bounded { IsBounded (program_of f.now) }
-    requires guarded { ArePostGuarded (program_of f.now) s.now guarded.now }
+    requires guarded { ArePostGuarded (program_of f.now) s.now (length f.now.blocks) guarded.now }
     ensures { MatchOption result ((rule : ℕ) → KeepsRule (program_of f.now) s.now rule (length f.now.code))
         (λ broken. IsFirstBroken (program_of f.now) s.now broken.rule broken.instruction) }
 {
