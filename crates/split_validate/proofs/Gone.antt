@@ -57,3 +57,7 @@ HasCount count All parts = length parts ≡ count
 pub record Fits (count : ℕ) (progress : Progress) (parts : List Part) : Type 0 where
   pub count_is : HasCount count progress parts
   pub low : AreLow parts
+
+-- what was read, and the parts
+abbrev pub at : Progress → List Part → Progress × List Part
+at progress parts = (progress, parts)

@@ -6,5 +6,6 @@ pub mod Gone
 pub mod PartLines
 pub mod Told
 pub mod Steps
-pub mod Reads
+pub mod TextLines
 pub mod Guards
+pub mod Verdicts

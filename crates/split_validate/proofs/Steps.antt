@@ -7,11 +7,11 @@ use Rattle.std.proofs.lemmas.Bool.Decides.{nat_tests}
 use Rattle.std.proofs.lemmas.List.{append-nil}
 use Rattle.split_model.specs.declared.split.Slow.TheVariants.{Server}
 use Rattle.split_model.specs.declared.split.Part.{Part}
-use Rattle.split_validate.specs.SplitSteps.{part_of, step, title, with_part}
+use Rattle.split_validate.specs.SplitSteps.{is_title, part_of, step, title, with_part}
 use Rattle.split_validate.specs.declared.reading.Progress.{Progress}
 use Rattle.split_validate.specs.declared.reading.Progress.TheVariants.{Nothing, Title, All}
-use Rattle.split_validate.proofs.Gone.{AreLow, Fits, IsLow, last, part_told, parts_told, so_far, split_told}
-use Rattle.split_validate.proofs.PartLines.{are_same, part_back, part_sound, same_bytes, some_is}
+use Rattle.split_validate.proofs.Gone.{AreLow, Fits, IsLow, at, last, part_told, parts_told, so_far, split_told}
+use Rattle.split_validate.proofs.PartLines.{are_same, part_back, part_sound, same_bytes, some_is, title_back, title_sound}
 
 -- ## Lists
 
@@ -45,13 +45,13 @@ taken_one : {A : Type 0} (t : Bool) (x y : A) → cond t (Some x) None ≡ Some 
 taken_one true x y h = (refl, some_is x y h)
 taken_one false x y h = cc
 
-with_one : (parts : List Part) (o : Option Part) (after : Progress × List Part) → with_part parts o ≡ Some after → (part : Part) × (o ≡ Some part) × ((Title, parts ++ part ∷ []) ≡ after)
+with_one : (parts : List Part) (o : Option Part) (after : Progress × List Part) → with_part parts o ≡ Some after → (part : Part) × (o ≡ Some part) × (at Title (parts ++ part ∷ []) ≡ after)
 with_one parts None after h = cc
-with_one parts (Some part) after h = (part, refl, some_is (Title, parts ++ part ∷ []) after h)
+with_one parts (Some part) after h = (part, refl, some_is (at Title (parts ++ part ∷ [])) after h)
 
-part_goes : (count : ℕ) (line : List ℕ) (parts : List Part) (part : Part) → Fits count Title parts → length parts < count → part_of (length parts) line ≡ Some part → GoesTo count line Title parts (Title, parts ++ part ∷ [])
-part_goes count line parts part f less e =
-    let found = part_sound (length parts) part line e in
+part_goes : (count : ℕ) (line : List ℕ) (parts : List Part) (part : Part) → count < 2 ^ 64 → Fits count Title parts → length parts < count → part_of (length parts) line ≡ Some part → GoesTo count line Title parts (at Title (parts ++ part ∷ []))
+part_goes count line parts part small f less e =
+    let found = part_sound (length parts) part line (omega (arith, less, small)) e in
     let from : 0 + length parts ≡ length parts = omega arith in
     record {
       fits = record {
@@ -61,7 +61,7 @@ part_goes count line parts part f less e =
       told = ap (λ l. title count ∷ l) (parts_both 0 parts (part ∷ []) ∙ ap (λ n. parts_told 0 parts ++ part_told n part ∷ []) from ∙ ap (λ l. parts_told 0 parts ++ l ∷ []) (sym found.0));
     }
 
-last_goes : (count : ℕ) (line : List ℕ) (parts : List Part) → Fits count Title parts → count ≤ length parts → line ≡ last → GoesTo count line Title parts (All, parts)
+last_goes : (count : ℕ) (line : List ℕ) (parts : List Part) → Fits count Title parts → count ≤ length parts → line ≡ last → GoesTo count line Title parts (at All parts)
 last_goes count line parts f full e =
     let few : length parts ≤ count = f.count_is in
     record {
@@ -69,16 +69,16 @@ last_goes count line parts f full e =
       told = ap (λ l. title count ∷ (parts_told 0 parts ++ l ∷ [])) (sym e);
     }
 
-title_goes : (b : Bool) (count : ℕ) (line : List ℕ) (parts : List Part) (after : Progress × List Part) → ltb (length parts) count ≡ b → Fits count Title parts
-    → cond b (with_part parts (part_of (length parts) line)) (cond (bytes_eq line last) (Some (All, parts)) None) ≡ Some after → GoesTo count line Title parts after
-title_goes true count line parts after b f h =
+title_goes : (b : Bool) (count : ℕ) (line : List ℕ) (parts : List Part) (after : Progress × List Part) → count < 2 ^ 64 → ltb (length parts) count ≡ b → Fits count Title parts
+    → cond b (with_part parts (part_of (length parts) line)) (cond (bytes_eq line last) (Some (at All parts)) None) ≡ Some after → GoesTo count line Title parts after
+title_goes true count line parts after small b f h =
     let found = with_one parts (part_of (length parts) line) after h in
-    subst (GoesTo count line Title parts) found.2 (part_goes count line parts found.0 f (ltb-true (length parts) count b) found.1)
-title_goes false count line parts after b f h =
-    let found = taken_one (bytes_eq line last) (All, parts) after h in
+    subst (GoesTo count line Title parts) found.2 (part_goes count line parts found.0 small f (ltb-true (length parts) count b) found.1)
+title_goes false count line parts after small b f h =
+    let found = taken_one (bytes_eq line last) (at All parts) after h in
     subst (GoesTo count line Title parts) found.1 (last_goes count line parts f (not_below (length parts) count b) (are_same line last found.0))
 
-first_goes : (count : ℕ) (line : List ℕ) (parts : List Part) → Fits count Nothing parts → line ≡ title count → GoesTo count line Nothing parts (Title, parts)
+first_goes : (count : ℕ) (line : List ℕ) (parts : List Part) → Fits count Nothing parts → line ≡ title count → GoesTo count line Nothing parts (at Title parts)
 first_goes count line parts f e =
     let none : parts ≡ [] = f.count_is in
     record {
@@ -86,12 +86,12 @@ first_goes count line parts f e =
       told = ap (λ q. title count ∷ parts_told 0 q) none ∙ ap (λ l. l ∷ []) (sym e);
     }
 
-pub step_goes : (count : ℕ) (line : List ℕ) (progress : Progress) (parts : List Part) (after : Progress × List Part) → Fits count progress parts → step count line progress parts ≡ Some after → GoesTo count line progress parts after
-step_goes count line Nothing parts after f h =
-    let found = taken_one (bytes_eq line (title count)) (Title, parts) after h in
-    subst (GoesTo count line Nothing parts) found.1 (first_goes count line parts f (are_same line (title count) found.0))
-step_goes count line Title parts after f h = title_goes (ltb (length parts) count) count line parts after refl f h
-step_goes count line All parts after f h = cc
+pub step_goes : (count : ℕ) (line : List ℕ) (progress : Progress) (parts : List Part) (after : Progress × List Part) → count < 2 ^ 64 → Fits count progress parts → step count line progress parts ≡ Some after → GoesTo count line progress parts after
+step_goes count line Nothing parts after small f h =
+    let found = taken_one (is_title count line) (at Title parts) after h in
+    subst (GoesTo count line Nothing parts) found.1 (first_goes count line parts f (title_sound count line small found.0))
+step_goes count line Title parts after small f h = title_goes (ltb (length parts) count) count line parts after small refl f h
+step_goes count line All parts after small f h = cc
 
 -- ## A line that isn't
 
@@ -146,14 +146,14 @@ last_stops count line parts f full h split more is low e =
     true≢false (sym (same_bytes line) ∙ ap (bytes_eq line) (sym same) ∙ h)
 
 title_stops : (b : Bool) (count : ℕ) (line : List ℕ) (parts : List Part) → count < 2 ^ 64 → ltb (length parts) count ≡ b → Fits count Title parts
-    → cond b (with_part parts (part_of (length parts) line)) (cond (bytes_eq line last) (Some (All, parts)) None) ≡ None → Stops count line Title parts
+    → cond b (with_part parts (part_of (length parts) line)) (cond (bytes_eq line last) (Some (at All parts)) None) ≡ None → Stops count line Title parts
 title_stops true count line parts small b f h = part_stops count line parts small (ltb-true (length parts) count b) (with_none parts (part_of (length parts) line) h)
-title_stops false count line parts small b f h = last_stops count line parts f (not_below (length parts) count b) (refused_one (bytes_eq line last) (All, parts) h)
+title_stops false count line parts small b f h = last_stops count line parts f (not_below (length parts) count b) (refused_one (bytes_eq line last) (at All parts) h)
 
-first_stops : (count : ℕ) (line : List ℕ) (parts : List Part) → bytes_eq line (title count) ≡ false → Stops count line Nothing parts
-first_stops count line parts h split more is low e =
+first_stops : (count : ℕ) (line : List ℕ) (parts : List Part) → count < 2 ^ 64 → is_title count line ≡ false → Stops count line Nothing parts
+first_stops count line parts small h split more is low e =
     let same : title (length split) ≡ line = head_is (title (length split)) line (parts_told 0 split ++ last ∷ []) more e in
-    true≢false (sym (same_bytes line) ∙ ap (bytes_eq line) (sym same ∙ ap title is) ∙ h)
+    true≢false (sym (title_back count small) ∙ ap (is_title count) (ap title (sym is) ∙ same) ∙ h)
 
 all_stops : (count : ℕ) (line : List ℕ) (parts : List Part) → Fits count All parts → Stops count line All parts
 all_stops count line parts f split more is low e =
@@ -166,7 +166,7 @@ all_stops count line parts f split more is low e =
     cc none
 
 pub step_stops : (count : ℕ) (line : List ℕ) (progress : Progress) (parts : List Part) → count < 2 ^ 64 → Fits count progress parts → step count line progress parts ≡ None → Stops count line progress parts
-step_stops count line Nothing parts small f h = first_stops count line parts (refused_one (bytes_eq line (title count)) (Title, parts) h)
+step_stops count line Nothing parts small f h = first_stops count line parts small (refused_one (is_title count line) (at Title parts) h)
 step_stops count line Title parts small f h = title_stops (ltb (length parts) count) count line parts small refl f h
 step_stops count line All parts small f h = all_stops count line parts f
 

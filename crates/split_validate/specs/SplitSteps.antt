@@ -1,5 +1,5 @@
 -- Only proofs need this. What a reader of a split text does with each line.
-use Rattle.std.specs.Prelude.{ℕ, List, [], ◌∷◌, ◌++◌, length, nat_lt, codes, decimal, ◌==◌, ◌≡◌, Bool, true, false}
+use Rattle.std.specs.Prelude.{ℕ, List, [], ◌∷◌, ◌++◌, length, nat_lt, codes, decimal, ◌==◌, ◌≡◌, Bool, true, false, ◌&&◌}
 use Rattle.std.specs.Prelude.{if◌then◌else◌, Option, Some, None}
 use Rattle.std.specs.Option.{option_map}
 use Rattle.std.specs.Str.{bytes_eq}
@@ -44,16 +44,36 @@ words_of words =
     if list_any is_space words
     then part_with (pre_of (before_first is_space words)) (slow_of (after_first is_space words)) else None
 
+abbrev pub is_it : ℕ → Option ℕ → Bool
+is_it number None = false
+is_it number (Some read) = read == number
+
+-- the word is this number
+abbrev pub writes : ℕ → List ℕ → Bool
+writes number word = is_it number (number_up_to number word)
+
 -- the part of instruction i
 abbrev pub part_of : ℕ → List ℕ → Option Part
 part_of i line =
     if list_any is_space line
-    then (if bytes_eq (before_first is_space line) (decimal i) then words_of (after_first is_space line) else None)
+    then (if writes i (before_first is_space line) then words_of (after_first is_space line) else None)
     else None
 
 -- the first line, without its end
 abbrev pub title : ℕ → List ℕ
 title count = codes "split 1 " ++ decimal count
+
+-- the version of the text, and a number of instructions
+abbrev pub is_count : ℕ → List ℕ → Bool
+is_count count words =
+    list_any is_space words
+    && (bytes_eq (before_first is_space words) (codes "1") && writes count (after_first is_space words))
+
+-- the line is the first one
+abbrev pub is_title : ℕ → List ℕ → Bool
+is_title count line =
+    list_any is_space line
+    && (bytes_eq (before_first is_space line) (codes "split") && is_count count (after_first is_space line))
 
 abbrev pub with_part : List Part → Option Part → Option (Progress × List Part)
 with_part parts None = None
@@ -61,7 +81,7 @@ with_part parts (Some part) = Some (Title, parts ++ part ∷ [])
 
 -- what was read, and the parts so far, after one more line that isn't skipped
 abbrev pub step : ℕ → List ℕ → Progress → List Part → Option (Progress × List Part)
-step count line Nothing parts = if bytes_eq line (title count) then Some (Title, parts) else None
+step count line Nothing parts = if is_title count line then Some (Title, parts) else None
 step count line Title parts =
     if nat_lt (length parts) count then with_part parts (part_of (length parts) line)
     else (if bytes_eq line (codes "end") then Some (All, parts) else None)

@@ -1,9 +1,8 @@
 //! The lines of a split text, one by one.
-ghost use Rattle.std.specs.Prelude.{◌≡◌, ◌≤◌, false, true, length, IsTrue, MatchOption, decimal};
-ghost use Rattle.std.specs.Str.{bytes_eq};
+ghost use Rattle.std.specs.Prelude.{◌≡◌, ◌≤◌, false, true, length, MatchOption};
 ghost use Rattle.std.specs.List.{after_first, before_first, list_any, position_or_len};
-ghost use Rattle.split_validate.specs.SplitSteps.{is_space, part_of, post_of, pre_of, slow_of, stage_of, title};
-ghost use Rattle.split_validate.specs.SplitSteps.{words_of};
+ghost use Rattle.split_validate.specs.SplitSteps.{is_count, is_space, is_title, part_of, post_of, pre_of, slow_of};
+ghost use Rattle.split_validate.specs.SplitSteps.{stage_of, words_of, writes};
 
 use gal_io::number_up_to;
 use split_model::{Part, Slow};
@@ -36,9 +35,12 @@ fn split_at_space(line: &[u8]) -> Option<(&[u8], &[u8])>
 
 // Whether a word writes this number.
 fn writes_number(word: &[u8], number: usize) -> bool
-    ensures { result ≡ bytes_eq word.now (decimal number) }
+    ensures { result ≡ writes number word.now }
 {
-    number_up_to(word, number as u64) == Some(number as u64)
+    match number_up_to(word, number as u64) {
+        Some(read) => read == number as u64,
+        None => false,
+    }
 }
 
 // The stage that a word writes.
@@ -112,10 +114,22 @@ pub(crate) fn read_part(line: &[u8], number: usize) -> Option<Part>
     read_words(words)
 }
 
+// Whether words tell the version of the text, and so many instructions.
+fn is_count(words: &[u8], count: usize) -> bool
+    ensures { result ≡ is_count count words.now }
+{
+    match split_at_space(words) {
+        Some((version, number)) => version == b"1".as_slice() && writes_number(number, count),
+        None => false,
+    }
+}
+
 /// Whether a line is the first of a split text for so many instructions.
 pub(crate) fn is_title(line: &[u8], count: usize) -> bool
-    ensures { result ≡ bytes_eq line.now (title count) }
+    ensures { result ≡ is_title count line.now }
 {
-    let (front, word) = line.split_at(line.len().min(8));
-    front == b"split 1 ".as_slice() && writes_number(word, count)
+    match split_at_space(line) {
+        Some((word, words)) => word == b"split".as_slice() && is_count(words, count),
+        None => false,
+    }
 }

@@ -1,4 +1,4 @@
-use Rattle.split_validate.proofs.Reads.{first_wrong_once}
+use Rattle.split_validate.proofs.TextLines.{first_wrong_once}
 use Rattle.split_validate.proofs.laws.one_line_is_first_wrong.Goals as goal
 
 pub returns : goal.returns

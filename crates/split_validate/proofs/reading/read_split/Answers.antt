@@ -5,8 +5,8 @@ use Rattle.split_validate.specs.SplitLines.{IsRefused, IsSplitText}
 use Rattle.split_validate.specs.SplitSteps.{ended, line_read}
 use Rattle.split_validate.specs.declared.reading.Progress.TheVariants.{Nothing}
 use Rattle.split_validate.specs.declared.reading.SplitTextError.TheVariants.{Line}
-use Rattle.split_validate.proofs.Gone.{Fits}
-use Rattle.split_validate.proofs.Reads.{all_read, drop_inside, drop_more, ended_early, line_on, line_stop, read_is, read_only, taken_no, taken_yes, text_stop}
+use Rattle.split_validate.proofs.Gone.{at}
+use Rattle.split_validate.proofs.TextLines.{all_read, drop_inside, drop_more, ended_early, line_on, line_stop, read_is, read_only, taken_no, taken_yes, text_stop}
 use Rattle.split_validate.proofs.reading.read_split.Goals as goal
 
 pub loop-line-preserved : goal.loop-line-preserved
@@ -21,7 +21,7 @@ loop-line-preserved c =
     let next : drop n ls ≡ l ∷ rest = sym i.ahead ∙ c.in-Some.ensures.parts in
     let yes_it_is : c.in_ok-taken.taken ≡ true = grind (arith, nat_tests, c.if-not-taken.false) in
     let after = taken_yes c.in_ok-taken.taken new.progress new.parts.items _ c.in_ok-taken.ensures yes_it_is in
-    let turn = line_on c.len-count.result n ls rest l old.progress old.parts.items (new.progress, new.parts.items) next i.fits i.told after in
+    let turn = line_on c.len-count.result n ls rest l old.progress old.parts.items (at new.progress new.parts.items) i.small next i.fits i.told after in
     record {
       small = i.small;
       within = omega (arith, drop_inside n l ls rest next);

@@ -12,7 +12,7 @@ use Rattle.split_validate.specs.declared.reading.SplitTextError.TheVariants.{Lin
 use Rattle.split_validate.specs.SplitSteps.{ended, line_read, step, taken, title}
 use Rattle.split_validate.specs.declared.reading.Progress.{Progress}
 use Rattle.split_validate.specs.declared.reading.Progress.TheVariants.{Nothing, Title, All}
-use Rattle.split_validate.proofs.Gone.{AreLow, Fits, last, parts_told, so_far, split_told}
+use Rattle.split_validate.proofs.Gone.{AreLow, Fits, at, last, parts_told, so_far, split_told}
 use Rattle.split_validate.proofs.PartLines.{some_is}
 use Rattle.split_validate.proofs.Plain.{IsTold, all_told}
 use Rattle.split_validate.proofs.Told.{all_plain, few_of, low_of, text_lines}
@@ -84,7 +84,7 @@ turn_taken n ls rest told l e spoken t =
     ap (λ m. told_of (take m ls)) up ∙ ap told_of (take_next n l ls rest e) ∙ told_append (take n ls) (l ∷ [])
     ∙ ap (λ m. told_of (take n ls) ++ m) one ∙ ap (λ m. m ++ l ∷ []) t
 
-pub taken_yes : (b : Bool) (progress : Progress) (parts : List Part) (o : Option (Progress × List Part)) → taken b progress parts o → b ≡ true → o ≡ Some (progress, parts)
+pub taken_yes : (b : Bool) (progress : Progress) (parts : List Part) (o : Option (Progress × List Part)) → taken b progress parts o → b ≡ true → o ≡ Some (at progress parts)
 taken_yes true progress parts o h e = h
 taken_yes false progress parts o h e = cc e
 
@@ -97,17 +97,17 @@ pub record TurnsTo (count n : ℕ) (ls : List (List ℕ)) (after : Progress × L
   pub fits : Fits count after.0 after.1
   pub told : told_of (take (n + 1) ls) ≡ so_far count after.0 after.1
 
-line_by : (b : Bool) (count n : ℕ) (ls rest : List (List ℕ)) (l : List ℕ) (progress : Progress) (parts : List Part) (after : Progress × List Part) → is_skipped l ≡ b → drop n ls ≡ l ∷ rest → Fits count progress parts
-    → told_of (take n ls) ≡ so_far count progress parts → cond b (Some (progress, parts)) (step count l progress parts) ≡ Some after → TurnsTo count n ls after
-line_by true count n ls rest l progress parts after b e f t h =
-    subst (TurnsTo count n ls) (some_is (progress, parts) after h) (record { fits = f; told = turn_skipped n ls rest (so_far count progress parts) l e b t })
-line_by false count n ls rest l progress parts after b e f t h =
-    let goes = step_goes count l progress parts after f h in
+line_by : (b : Bool) (count n : ℕ) (ls rest : List (List ℕ)) (l : List ℕ) (progress : Progress) (parts : List Part) (after : Progress × List Part) → count < 2 ^ 64 → is_skipped l ≡ b → drop n ls ≡ l ∷ rest → Fits count progress parts
+    → told_of (take n ls) ≡ so_far count progress parts → cond b (Some (at progress parts)) (step count l progress parts) ≡ Some after → TurnsTo count n ls after
+line_by true count n ls rest l progress parts after small b e f t h =
+    subst (TurnsTo count n ls) (some_is (at progress parts) after h) (record { fits = f; told = turn_skipped n ls rest (so_far count progress parts) l e b t })
+line_by false count n ls rest l progress parts after small b e f t h =
+    let goes = step_goes count l progress parts after small f h in
     record { fits = goes.fits; told = turn_taken n ls rest (so_far count progress parts) l e b t ∙ sym goes.told }
 
-pub line_on : (count n : ℕ) (ls rest : List (List ℕ)) (l : List ℕ) (progress : Progress) (parts : List Part) (after : Progress × List Part) → drop n ls ≡ l ∷ rest → Fits count progress parts
+pub line_on : (count n : ℕ) (ls rest : List (List ℕ)) (l : List ℕ) (progress : Progress) (parts : List Part) (after : Progress × List Part) → count < 2 ^ 64 → drop n ls ≡ l ∷ rest → Fits count progress parts
     → told_of (take n ls) ≡ so_far count progress parts → line_read count l progress parts ≡ Some after → TurnsTo count n ls after
-line_on count n ls rest l progress parts after e f t h = line_by (is_skipped l) count n ls rest l progress parts after refl e f t h
+line_on count n ls rest l progress parts after small e f t h = line_by (is_skipped l) count n ls rest l progress parts after small refl e f t h
 
 -- ## Texts
 
@@ -169,7 +169,7 @@ wrong_line count n ls rest l progress parts small e spoken f t stops =
     }
 
 stop_by : (b : Bool) (count n : ℕ) (ls rest : List (List ℕ)) (l : List ℕ) (progress : Progress) (parts : List Part) → is_skipped l ≡ b → count < 2 ^ 64 → drop n ls ≡ l ∷ rest → Fits count progress parts
-    → told_of (take n ls) ≡ so_far count progress parts → cond b (Some (progress, parts)) (step count l progress parts) ≡ None → IsFirstWrong count ls n
+    → told_of (take n ls) ≡ so_far count progress parts → cond b (Some (at progress parts)) (step count l progress parts) ≡ None → IsFirstWrong count ls n
 stop_by true count n ls rest l progress parts b small e f t h = cc h
 stop_by false count n ls rest l progress parts b small e f t h = wrong_line count n ls rest l progress parts small e b f t h
 
