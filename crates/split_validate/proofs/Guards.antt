@@ -33,16 +33,28 @@ one_marked f split k marks mark h e = record {
   ];
 }
 
+abbrev pub root : Block
+root = record { parent = 0; cond = record { instruction = 0; result = 0 }; polarity = true }
+
+-- the block at a place, whatever stands for one past the end
+pub block_is : (blocks read : List Block) (k : ℕ) (d : Block) → read ≡ blocks → k < length blocks → get_or read k d ≡ block_at blocks k
+block_is blocks read k d same inside = ap (λ bs. get_or bs k d) same ∙ get_or_default blocks k d root inside
+
+pub parent_there : (f : Program) (split : List Part) (k : ℕ) (marks : List Bool) (block : Block) → HasLowParents f.blocks → k < length f.blocks → ArePostGuarded f split k marks → block ≡ block_at f.blocks k → block.parent < length marks
+parent_there f split k marks block low inside h is =
+    let parent : block.parent ≤ k = subst (λ (b : Block). b.parent ≤ k) (sym is) (low k inside) in
+    let c = h.count in
+    omega (arith, c, parent)
+
 -- a block is guarded so where its own condition is, or its parent
-pub above_guarded : (f : Program) (split : List Part) (k : ℕ) (marks : List Bool) (block : Block) (above : Bool) → HasLowParents f.blocks
+pub above_guarded : (f : Program) (split : List Part) (k : ℕ) (marks : List Bool) (block : Block) → HasLowParents f.blocks
     → line f.blocks (suc k) ≡ suc k ∷ line f.blocks (block_at f.blocks k).parent → k < length f.blocks → ArePostGuarded f split k marks → block ≡ block_at f.blocks k
-    → above ≡ get_or marks block.parent above → (is_post split block.cond.instruction || above) ≡ guarded_by f split (k + 1)
-above_guarded f split k marks block above low up inside h is mark =
+    → (is_post split block.cond.instruction || get_or marks block.parent false) ≡ guarded_by f split (k + 1)
+above_guarded f split k marks block low up inside h is =
     let parent : block.parent ≤ k = subst (λ (b : Block). b.parent ≤ k) (sym is) (low k inside) in
     let next : k + 1 ≡ suc k = omega arith in
-    let there : block.parent < length marks = let c = h.count in omega (arith, c, parent) in
-    let marked : above ≡ guarded_by f split (block_at f.blocks k).parent =
-    mark ∙ get_or_default marks block.parent above false there ∙ h.exact block.parent parent ∙ ap (λ (b : Block). guarded_by f split b.parent) is in
+    let marked : get_or marks block.parent false ≡ guarded_by f split (block_at f.blocks k).parent =
+    h.exact block.parent parent ∙ ap (λ (b : Block). guarded_by f split b.parent) is in
     ap (λ b. is_post split block.cond.instruction || b) marked
     ∙ ap (λ (b : Block). is_post split b.cond.instruction || guarded_by f split (block_at f.blocks k).parent) is
     ∙ sym (ap (list_any (is_post_condition f split)) (ap (line f.blocks) next ∙ up))

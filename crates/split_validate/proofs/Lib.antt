@@ -9,3 +9,4 @@ pub mod Steps
 pub mod TextLines
 pub mod Guards
 pub mod Verdicts
+pub mod Instructions

@@ -1,8 +1,7 @@
 -- What a line adds to what was read, and which lines a split text can't go on with.
 use Rattle.std.proofs.Common.{◌≡◌, ℕ, zero, suc, ◌+◌, ◌-◌, ◌≤◌, ◌<◌, ◌^◌, Bool, true, false, cond, ltb, List, [], ◌∷◌, ◌++◌, length, Option, Some, None, refl, sym, ap, subst, ◌∙◌, arith, append_assoc, length-append}
 use Rattle.std.specs.Str.{bytes_eq}
-use Rattle.std.specs.List.{AllByRecursion}
-use Rattle.std.proofs.lemmas.Bool.{false≢true, true≢false, ltb-true}
+use Rattle.std.proofs.lemmas.Bool.{true≢false, ltb-true}
 use Rattle.std.proofs.lemmas.Bool.Decides.{nat_tests}
 use Rattle.std.proofs.lemmas.List.{append-nil}
 use Rattle.split_model.specs.declared.split.Slow.TheVariants.{Server}
@@ -210,10 +209,12 @@ filling zero = []
 filling (suc n) = blank ∷ filling n
 
 length-filling : (n : ℕ) → length (filling n) ≡ n
+unfolding filling
 length-filling zero = refl
 length-filling (suc n) = ap suc (length-filling n)
 
 filling_low : (n : ℕ) → AreLow (filling n)
+unfolding filling blank
 filling_low zero = tt
 filling_low (suc n) = ((tt, tt), filling_low n)
 

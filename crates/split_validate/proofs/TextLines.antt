@@ -12,11 +12,11 @@ use Rattle.split_validate.specs.declared.reading.SplitTextError.TheVariants.{Lin
 use Rattle.split_validate.specs.SplitSteps.{ended, line_read, step, taken, title}
 use Rattle.split_validate.specs.declared.reading.Progress.{Progress}
 use Rattle.split_validate.specs.declared.reading.Progress.TheVariants.{Nothing, Title, All}
-use Rattle.split_validate.proofs.Gone.{AreLow, Fits, at, last, parts_told, so_far, split_told}
+use Rattle.split_validate.proofs.Gone.{Fits, at, last, parts_told, so_far, split_told}
 use Rattle.split_validate.proofs.PartLines.{some_is}
 use Rattle.split_validate.proofs.Plain.{IsTold, all_told}
 use Rattle.split_validate.proofs.Told.{all_plain, few_of, low_of, text_lines}
-use Rattle.split_validate.proofs.Steps.{CanGo, IsEarly, can_go, early_stops, one_split, step_goes, step_stops, tail_is}
+use Rattle.split_validate.proofs.Steps.{IsEarly, can_go, early_stops, one_split, step_goes, step_stops, tail_is}
 
 -- ## Lines
 

@@ -1,28 +1,21 @@
 -- Rules that are kept, one after the other, and what is told of a split then.
-use Rattle.std.proofs.Common.{◌≡◌, ℕ, zero, suc, ◌+◌, ◌≤◌, ◌<◌, inl, inr, Bool, true, false, List, length, map, Some, None, refl, sym, ap, subst, ◌∙◌, arith}
+use Rattle.std.proofs.Common.{◌≡◌, ℕ, zero, suc, ◌+◌, ◌≤◌, ◌<◌, inl, inr, Bool, true, false, List, length, refl, sym, ap, subst, ◌∙◌, arith}
 use Rattle.std.proofs.lemmas.Bool.{true≢false, cases_lt}
-use Rattle.std.proofs.lemmas.List.{get_or_past, length-map}
+use Rattle.std.proofs.lemmas.List.{get_or_past}
 use Rattle.flat_ir.specs.declared.program.Flat.{Flat}
-use Rattle.flat_ir.specs.Program.{Program, program_of, step_of}
+use Rattle.flat_ir.specs.Program.{Program, program_of}
 use Rattle.split_model.specs.declared.split.Part.{Part}
 use Rattle.split_model.specs.Legal.{IsFirstBroken, IsLegal, breaks, rules}
-use Rattle.resource_limits.specs.declared.counting.Counts.{Counts}
-use Rattle.resource_limits.specs.declared.exceeding.Over.{Over}
 use Rattle.resource_limits.specs.declared.limits.Limits.{Limits}
-use Rattle.resource_limits.specs.Counts.{counts_of}
-use Rattle.resource_limits.specs.Kept.{Keeps, first_over}
 use Rattle.split_validate.specs.Flaws.{IsFirstOf, KeepsRule}
-use Rattle.split_validate.specs.Validated.{IsAccepted, IsExceeding}
+use Rattle.split_validate.proofs.Instructions.{same_count}
+use Rattle.split_validate.specs.Validated.{IsAccepted}
 
 -- there are nine rules
 no_rule : (f : Program) (split : List Part) (rule i : ℕ) → 9 < rule → breaks rule f split i ≡ false
 no_rule f split zero i h = absurd (omega (arith, h))
 no_rule f split (suc n) i h =
     ap (λ (test : Program → List Part → ℕ → Bool). test f split i) (get_or_past rules n (λ (f : Program) (split : List Part) (i : ℕ). false) (omega (arith, h)))
-
--- as many instructions as the program has
-pub same_count : (f : Flat) → length (program_of f).code ≡ length f.code
-same_count f = length-map f.code step_of
 
 pub none_lower : (f : Program) (split : List Part) (n : ℕ) → (lower : ℕ) → lower < 1 → KeepsRule f split lower n
 none_lower f split n lower less j inside = let zero_it_is : 0 ≡ lower = omega (arith, less) in subst (λ r. breaks r f split j ≡ false) zero_it_is refl

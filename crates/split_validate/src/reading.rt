@@ -2,7 +2,7 @@
 ghost use Rattle.std.specs.Prelude.{◌≡◌, ◌⊎◌, List, [], length, IfOk, IfErr};
 ghost use Rattle.split_model.specs.declared.split.Part.{Part as PartOf};
 ghost use Rattle.split_validate.specs.SplitLines.{IsRefused, IsSplitText};
-ghost use Rattle.split_validate.specs.SplitSteps.{ended, line_read, step, taken};
+ghost use Rattle.split_validate.specs.SplitSteps.{ended, line_read, part_of, step, taken, with_part};
 
 use crate::part_line::{is_title, read_part};
 use flat_ir::Flat;
@@ -82,20 +82,30 @@ impl Reading {
                 self.progress = Progress::Title;
                 Ok(is_title(line, count))
             }
-            Progress::Title => self.take_part(count, line),
+            Progress::Title => self.take_next(count, line),
             Progress::All => Ok(false),
         }
     }
 
     // Takes the line of the next part, or behind all of them the last line.
-    fn take_part(&mut self, count: usize, line: &[u8]) -> Result<bool, NoMemory>
+    fn take_next(&mut self, count: usize, line: &[u8]) -> Result<bool, NoMemory>
+        requires { self.old.progress ≡ Progress.Title }
         ensures { IfOk result (λ ok. taken ok self.new.progress self.new.parts.items
             (step count line.now Progress.Title self.old.parts.items)) }
     {
-        if self.parts.len() == count {
-            self.progress = Progress::All;
-            return Ok(line == b"end".as_slice());
+        if self.parts.len() < count {
+            return self.take_part(line);
         }
+        self.progress = Progress::All;
+        Ok(line == b"end".as_slice())
+    }
+
+    // Takes the line of the next part.
+    fn take_part(&mut self, line: &[u8]) -> Result<bool, NoMemory>
+        requires { self.old.progress ≡ Progress.Title }
+        ensures { IfOk result (λ ok. taken ok self.new.progress self.new.parts.items
+            (with_part self.old.parts.items (part_of (length self.old.parts.items) line.now))) }
+    {
         match read_part(line, self.parts.len()) {
             Some(part) => {
                 self.parts.push(part)?;

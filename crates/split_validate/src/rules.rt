@@ -54,7 +54,6 @@ fn breaks_1(f: &Flat, s: &Split, i: usize) -> bool
 }
 
 // Preprocessing lacks an operand.
-#[tactic(auto, using(crate::proofs::Operands::not_all))]
 fn breaks_2(f: &Flat, s: &Split, i: usize) -> bool
     requires { i < length f.now.code }
     ensures { result ≡ rule_2 (program_of f.now) s.now i }
@@ -78,7 +77,6 @@ fn breaks_4(f: &Flat, s: &Split, i: usize) -> bool
 }
 
 // What is carried has an operand that isn't.
-#[tactic(auto, using(crate::proofs::Operands::not_all))]
 fn breaks_5(f: &Flat, s: &Split, i: usize) -> bool
     requires { i < length f.now.code }
     ensures { result ≡ rule_5 (program_of f.now) s.now i }

@@ -1,9 +1,8 @@
-use Rattle.std.proofs.Common.{◌≡◌, ◌+◌, Some, None, true, false, tt, refl, ◌∷◌, [], drop, length, sym, ap, subst, ◌∙◌, inr, arith}
+use Rattle.std.proofs.Common.{◌≡◌, ◌+◌, Some, None, true, false, ◌∷◌, drop, sym, ap, subst, ◌∙◌, inr, arith}
 use Rattle.std.proofs.lemmas.Bool.Decides.{nat_tests}
 use Rattle.gal_io.specs.Lines.{lines}
 use Rattle.split_validate.specs.SplitLines.{IsRefused, IsSplitText}
-use Rattle.split_validate.specs.SplitSteps.{ended, line_read}
-use Rattle.split_validate.specs.declared.reading.Progress.TheVariants.{Nothing}
+use Rattle.split_validate.specs.SplitSteps.{ended}
 use Rattle.split_validate.specs.declared.reading.SplitTextError.TheVariants.{Line}
 use Rattle.split_validate.proofs.Gone.{at}
 use Rattle.split_validate.proofs.TextLines.{all_read, drop_inside, drop_more, ended_early, line_on, line_stop, read_is, read_only, taken_no, taken_yes, text_stop}

@@ -1,7 +1,7 @@
-use Rattle.std.proofs.Common.{◌≡◌, sym, subst, ◌∙◌, arith}
+use Rattle.std.proofs.Common.{◌+◌, sym, subst}
 use Rattle.flat_ir.specs.Program.{program_of}
 use Rattle.split_validate.specs.Flaws.{ArePostGuarded}
-use Rattle.split_validate.proofs.Guards.{one_marked, root_marked}
+use Rattle.split_validate.proofs.Guards.{one_marked}
 use Rattle.split_validate.proofs.rules.post_guarded.Goals as goal
 
 pub loop-k-preserved : goal.loop-k-preserved

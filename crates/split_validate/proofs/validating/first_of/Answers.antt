@@ -1,5 +1,5 @@
 use Rattle.std.proofs.Common.{sym, ◌∙◌, arith}
-use Rattle.split_validate.proofs.Verdicts.{same_count}
+use Rattle.split_validate.proofs.Instructions.{same_count}
 use Rattle.split_validate.proofs.validating.first_of.Goals as goal
 
 pub returns-then-breaks : goal.returns-then-breaks
