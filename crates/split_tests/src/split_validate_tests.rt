@@ -194,7 +194,11 @@ enum Answer {
     Isnt(Illegal),
 }
 
-fn is_answer(alloc: Global, found: Result<Counts, Illegal>, want: &Answer) -> Result<bool, NoMemory> {
+fn is_answer(
+    alloc: Global,
+    found: Result<Counts, Illegal>,
+    want: &Answer,
+) -> Result<bool, NoMemory> {
     match (found, want) {
         (Ok(counts), Answer::Takes(text)) => {
             let printed = print_counts(alloc, &counts)?;
@@ -205,7 +209,13 @@ fn is_answer(alloc: Global, found: Result<Counts, Illegal>, want: &Answer) -> Re
     }
 }
 
-fn answers(alloc: Global, f: &Flat, s: &Split, l: &Limits, want: &Answer) -> Result<bool, NoMemory> {
+fn answers(
+    alloc: Global,
+    f: &Flat,
+    s: &Split,
+    l: &Limits,
+    want: &Answer,
+) -> Result<bool, NoMemory> {
     if !is_bounded(f) || s.len() != f.code.len() {
         return Ok(false);
     }

@@ -126,7 +126,7 @@ impl Reading {
     }
 }
 
-/// The split of a program that a text spells, as [`print_split`](crate::print_split) writes it: `split 1 N` with the
+/// The split of a program that a text spells, as `print_split` writes it: `split 1 N` with the
 /// number of the program's instructions, a line for each of them in order, and `end`. A stage is at most 4,096. Lines
 /// that are empty or begin with `#` are skipped, and a line may end with CR and LF. Whether the split is legal isn't
 /// asked.

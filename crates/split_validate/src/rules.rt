@@ -5,8 +5,8 @@ ghost use Rattle.flat_ir.specs.Blocks.{line, same};
 ghost use Rattle.flat_ir.specs.Kinds.{fits_switch, is_field, is_input, is_mutable_look};
 ghost use Rattle.flat_ir.specs.Program.{program_of, step_of, work_of};
 ghost use Rattle.flat_ir.specs.WellFormed.{IsWellFormed};
-ghost use Rattle.split_model.specs.Legal.{breaks, is_misplaced, is_post_condition, rule_1, rule_2, rule_3, rule_4, rule_5, rule_6};
-ghost use Rattle.split_model.specs.Legal.{rule_7, rule_8, rule_9};
+ghost use Rattle.split_model.specs.Legal.{breaks, is_misplaced, is_post_condition, rule_1, rule_2, rule_3, rule_4};
+ghost use Rattle.split_model.specs.Legal.{rule_5, rule_6, rule_7, rule_8, rule_9};
 ghost use Rattle.split_validate.specs.Flaws.{ArePostGuarded, stage_in};
 
 use crate::kinds::{fits_switch, is_field, is_mutable_look};
