@@ -1,0 +1,12 @@
+pub mod Words
+pub mod Numbers
+pub mod Plain
+pub mod Operands
+pub mod Gone
+pub mod PartLines
+pub mod Told
+pub mod Steps
+pub mod TextLines
+pub mod Guards
+pub mod Verdicts
+pub mod Instructions

@@ -1,2 +1,6 @@
 pub mod SplitText
+pub mod SplitLines
+pub mod SplitSteps
 pub mod CountsText
+pub mod Validated
+pub mod Flaws

@@ -1,5 +1,7 @@
 //! The text of a split.
-ghost use Rattle.std.specs.Prelude.{◌≡◌, ◌++◌, OnOk, IfOk, string_bytes};
+ghost use Rattle.std.specs.Prelude.{◌≡◌, ◌++◌, ◌<◌, ◌^◌, length, OnOk, IfOk, string_bytes};
+ghost use Rattle.split_model.specs.Bounds.{HasFewStages};
+ghost use Rattle.split_validate.specs.SplitLines.{IsSplitText};
 ghost use Rattle.split_validate.specs.SplitText.{part_line, part_lines, pre_text, slow_text, split_text};
 
 use gal_io::{NoMemory, Text};
@@ -46,16 +48,27 @@ fn put_parts(alloc: Global, parts: &[Part], text: &mut Text) -> Result<(), NoMem
     Ok(())
 }
 
-/// The text of a split: a line `split 1 N` with the number of its instructions, a line for each of them in order, and
-/// the line `end`. The line of an instruction has its number, its stage in preprocessing or `-`, and `carried`,
-/// `server`, or `post` and a stage. One space stands between words.
-pub fn print_split(alloc: Global, s: &Split) -> Result<Text, NoMemory>
-    ensures { IfOk result (λ text. text ≡ split_text s.now) }
+// The whole text.
+fn whole_text(alloc: Global, s: &Split) -> Result<Text, NoMemory>
+    ensures text { IfOk result (λ text. text ≡ split_text s.now) }
+    ensures few { length s.now < 2 ^ 64 }
 {
     let parts = s.as_slice();
     let number = parts.len();
     let mut text = Text::from_slice(alloc, format!(in alloc; "split 1 {number}\n")?.as_bytes())?;
     put_parts(alloc, parts, &mut text)?;
     text.extend(b"end\n")?;
+    Ok(text)
+}
+
+/// The text of a split: a line `split 1 N` with the number of its instructions, a line for each of them in order, and
+/// the line `end`. The line of an instruction has its number, its stage in preprocessing or `-`, and `carried`,
+/// `server`, or `post` and a stage. One space stands between words. It is read back as that split, where no stage is
+/// above 4,096.
+pub fn print_split(alloc: Global, s: &Split) -> Result<Text, NoMemory>
+    ensures text { IfOk result (λ text. text ≡ split_text s.now) }
+    ensures back { IfOk result (λ text. HasFewStages s.now → IsSplitText (length s.now) text s.now) }
+{
+    let text = whole_text(alloc, s)?;
     Ok(text)
 }
