@@ -98,7 +98,11 @@ fn prints_again(alloc: Global, bytes: &[u8]) -> Result<bool, PcapError> {
 fn each_order_and_unit(rt: HostRuntime) {
     let alloc = rt.alloc();
     for (big, nano, bytes) in KINDS {
-        assert_eq!(rt; reads_sample(alloc, bytes, big, nano), Ok(true), "{big} {nano}");
+        assert_eq!(rt;
+            reads_sample(alloc, bytes, big, nano),
+            Ok(true),
+            "{big} {nano}"
+        );
         assert_eq!(rt; prints_again(alloc, bytes), Ok(true), "{big} {nano}");
     }
 }
@@ -151,8 +155,14 @@ fn gives_packet(alloc: Global, bytes: &[u8], port: u8, want: &[u8]) -> Result<bo
 #[test]
 fn packets_of_captures(rt: HostRuntime) {
     let alloc = rt.alloc();
-    assert_eq!(rt; gives_packet(alloc, ONE_BYTE, 3, b"\xff".as_slice()), Ok(true));
-    assert_eq!(rt; gives_packet(alloc, LITTLE_MICRO, 3, b"".as_slice()), Ok(false));
+    assert_eq!(rt;
+        gives_packet(alloc, ONE_BYTE, 3, b"\xff".as_slice()),
+        Ok(true)
+    );
+    assert_eq!(rt;
+        gives_packet(alloc, LITTLE_MICRO, 3, b"".as_slice()),
+        Ok(false)
+    );
 }
 
 #[test]
@@ -165,7 +175,7 @@ fn refusals(rt: HostRuntime) {
         (ONE_BYTE, Ok(1)),
         // 23 bytes.
         (&BIG_NANO[..23], Err(PcapError::Header)),
-        // Another number in front, and the bytes of a magic number in halves.
+        // Another number in front.
         (
             b"\xa1\xb2\xc3\xd5\0\x02\0\x04\0\0\0\0\0\0\0\0\0\0\x24\0\0\0\0\x01".as_slice(),
             Err(PcapError::Header),
@@ -292,6 +302,9 @@ fn count_of_longest(alloc: Global, behind: &[u8]) -> Result<usize, PcapError> {
 fn the_longest_record(rt: HostRuntime) -> Result<(), Fail> {
     let alloc = rt.alloc();
     assert_eq!(rt; count_of_longest(alloc, b"".as_slice()), Ok(1));
-    assert_eq!(rt; count_of_longest(alloc, b"\0".as_slice()), Err(PcapError::Record(9_256)));
+    assert_eq!(rt;
+        count_of_longest(alloc, b"\0".as_slice()),
+        Err(PcapError::Record(9_256))
+    );
     Ok(())
 }
