@@ -175,7 +175,7 @@ fn refusals(rt: HostRuntime) {
         (ONE_BYTE, Ok(1)),
         // 23 bytes.
         (&BIG_NANO[..23], Err(PcapError::Header)),
-        // Another number in front, and the bytes of a magic number in halves.
+        // Another number in front.
         (
             b"\xa1\xb2\xc3\xd5\0\x02\0\x04\0\0\0\0\0\0\0\0\0\0\x24\0\0\0\0\x01".as_slice(),
             Err(PcapError::Header),
