@@ -1,15 +1,15 @@
 -- A list that has each decided packet once and ascends is the serial order, and then no two are decided together.
-use Rattle.std.proofs.Common.{◌≡◌, ◌<◌, ◌≤◌, ℕ, zero, suc, Bool, true, false, cond, List, [], ◌∷◌, map, Option, Some, None, ◌⊎◌, inl, inr, refl, sym, ◌∙◌, ap, subst, arith, eqb}
+use Rattle.std.proofs.Common.{◌≡◌, ◌<◌, ℕ, zero, suc, cond, List, [], ◌∷◌, map, Option, Some, None, inl, inr, refl, sym, ◌∙◌, ap, subst, arith, eqb}
 use Rattle.std.specs.Prelude.{slice_get, unwrap_or, is_some}
 use Rattle.std.proofs.lemmas.Bool.{cases_Bool, cases_lt, eqb-true, eq-eqb}
 use Rattle.std.proofs.lemmas.Option.{same_Some}
 use Rattle.run_model.specs.declared.fate.Fate.{Fate}
 use Rattle.run_model.specs.declared.serial.Decided.{Decided}
-use Rattle.run_model.specs.Order.{sorted, decided_from, order_of}
+use Rattle.run_model.specs.Order.{order_of}
 use Rattle.run_model.specs.Serialises.{decided_at, times, IsEarlier}
 use Rattle.run_audit.specs.Order.{HaveOwnEvents}
-use Rattle.run_audit.proofs.Sorting.{Member, Before, Rising, IsOrder, order_unique, entry_of, entry_number}
-use Rattle.run_audit.proofs.Places.{decision, decided_entry, entry_decided, get_member, member_get, get_mapped}
+use Rattle.run_audit.proofs.Sorting.{Member, Before, Rising, IsOrder, order_unique, entry_of}
+use Rattle.run_audit.proofs.Places.{decision, decided_entry, entry_decided, member_get, get_mapped}
 
 -- ---- numbers that stand in a list
 

@@ -1,5 +1,5 @@
 -- Places in the serial order of fates.
-use Rattle.std.proofs.Common.{◌≡◌, ◌<◌, ◌≤◌, ℕ, zero, suc, Bool, true, false, cond, List, [], ◌∷◌, map, Option, Some, None, ◌⊎◌, inl, inr, refl, sym, ◌∙◌, ap, subst, arith}
+use Rattle.std.proofs.Common.{◌≡◌, ◌<◌, ◌≤◌, ℕ, zero, suc, cond, List, [], ◌∷◌, map, Option, Some, None, inl, inr, refl, sym, ◌∙◌, ap, subst, arith}
 use Rattle.std.specs.Prelude.{slice_get, is_some}
 use Rattle.std.proofs.lemmas.Bool.{cases_lt, eq-eqb, ne_eqb}
 use Rattle.std.proofs.lemmas.Bool.Decides.{nat_tests}
@@ -10,7 +10,7 @@ use Rattle.run_model.specs.declared.serial.Decided.{Decided}
 use Rattle.run_model.specs.Order.{sorted, decided_from, order_of}
 use Rattle.run_model.specs.Serialises.{decided_at, times, IsEarlier}
 use Rattle.run_audit.specs.Order.{HaveOwnEvents}
-use Rattle.run_audit.proofs.Sorting.{Member, Before, Rising, before_self, IsOrder, is_order, entry_of, entry_number}
+use Rattle.run_audit.proofs.Sorting.{Member, Before, Rising, before_self, IsOrder, is_order, entry_of}
 
 -- ---- what a fate says of its decision
 

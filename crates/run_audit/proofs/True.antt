@@ -1,5 +1,5 @@
 -- A true report serialises where no two packets are decided together, and one that serialises is true.
-use Rattle.std.proofs.Common.{◌≡◌, ◌≤◌, ℕ, List, length, Some, sym, ◌∙◌, ap, subst, arith}
+use Rattle.std.proofs.Common.{List, sym, ◌∙◌, ap, arith}
 use Rattle.std.specs.Prelude.{slice_get}
 use Rattle.packet_fields.specs.declared.packet.Packet.{Packet}
 use Rattle.element_lang.specs.Tree.{Tree}

@@ -24,8 +24,8 @@ abbrev pub first_of : Option ℕ → Option ℕ → Option ℕ
 first_of (Some n) other = Some n
 first_of None other = other
 
--- the number that is told at the first place at which it isn't the one that is wanted; where no more are told, it is the
--- one that is missing
+-- the number that is told at the first place at which it isn't the one that is wanted; where no more are told, it is
+-- the one that is missing
 pub record IsFirstApart (told wanted : List ℕ) (p : ℕ) : Type 0 where
   pub place : ℕ
   pub first : DifferFirst told wanted place

@@ -1,5 +1,5 @@
 -- Why a report is refused.
-use Rattle.std.specs.Prelude.{ℕ, List, Result, Ok, Err}
+use Rattle.std.specs.Prelude.{List, Result, Ok, Err}
 use Rattle.packet_fields.specs.declared.packet.Packet.{Packet}
 use Rattle.element_lang.specs.Tree.{Tree}
 use Rattle.run_model.specs.declared.run.Run.{Run}
@@ -14,7 +14,8 @@ use Rattle.run_audit.specs.Told.{Respects, HasVerdicts, IsLate, IsFalse, IsFirst
 abbrev pub IsRefused : Tree → List Packet → Run → AuditError → Type 0
 IsRefused m packets run Counts = CountsAgree packets run → ⊥
 IsRefused m packets run (Order p) = CountsAgree packets run × IsMisplaced run p
-IsRefused m packets run (Time p) = CountsAgree packets run × InOrder run × IsFirst (IsLate run.fates run.order) run.order p
+IsRefused m packets run (Time p) =
+    CountsAgree packets run × InOrder run × IsFirst (IsLate run.fates run.order) run.order p
 IsRefused m packets run (Verdict p) =
     CountsAgree packets run × InOrder run × Respects run × IsFirst (IsFalse (source_of m packets) run) run.order p
 IsRefused m packets run (Object o) =

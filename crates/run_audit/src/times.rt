@@ -50,8 +50,8 @@ fn is_above(event: Option<u32>, other: Option<u32>) -> bool
     }
 }
 
-// The walk goes from the end of the order: so far, `least` is the earliest release from a place on, and `late` the first
-// packet from there on that was admitted behind one.
+// The walk goes from the end of the order: so far, `least` is the earliest release from a place on, and `late` the
+// first packet from there on that was admitted behind one.
 fn late_in_order(fates: &[Fate], order: &[u32]) -> Option<u32>
     ensures { result ≡ late_in fates.now order.now }
 {
@@ -69,7 +69,8 @@ fn late_in_order(fates: &[Fate], order: &[u32]) -> Option<u32>
 
 /// The first packet in the order that was admitted after one was released that doesn't stand before it.
 pub(crate) fn first_late(run: &Run) -> Option<u32>
-    ensures { MatchOption result (Respects run.now) (λ p. IsFirst (IsLate run.now.fates run.now.order) run.now.order p) }
+    ensures { MatchOption result (Respects run.now)
+        (λ p. IsFirst (IsLate run.now.fates run.now.order) run.now.order p) }
 {
     late_in_order(run.fates.as_slice(), run.order.as_slice())
 }

@@ -1,4 +1,4 @@
-use Rattle.std.proofs.Common.{◌≡◌, ◌≤◌, drop, length}
+use Rattle.std.proofs.Common.{◌≡◌, drop}
 use Rattle.run_audit.specs.Walk.{least_in, late_in}
 use Rattle.run_audit.proofs.times.late_in_order.Given as goal
 

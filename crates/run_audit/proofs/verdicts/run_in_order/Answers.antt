@@ -1,5 +1,4 @@
-use Rattle.std.proofs.Common.{◌≡◌, ◌<◌, ◌≤◌, length, get_or, sym, ◌∙◌, ap, subst, arith}
-use Rattle.std.specs.Prelude.{slice_get, MatchOption, IsTrue}
+use Rattle.std.proofs.Common.{◌<◌, ◌≤◌, length, get_or, sym, ap, subst, arith}
 use Rattle.element_lang.specs.View.{tree}
 use Rattle.run_audit.specs.Source.{source_of}
 use Rattle.run_audit.specs.Told.{IsFalse, IsFirst}
