@@ -3,14 +3,13 @@
 // Draws a source beside its split: for each statement the instructions that it became, and where each of them is done.
 // The page makes the flat program of the source itself, and draws this only where that is the one of the answer.
 
-// The places of an instruction, each a column.
+// The places of an instruction, each a column: its name, its title, what is done there, and which instructions are.
 const COLUMNS = [
-  ["before", "switch, before", "done by the switch, to find out whether the packet is fast; for a packet that isn't, "
-    + "again by the server or after it", ({ before, slow }) => before !== null && slow !== "carried"],
-  ["carried", "carried", "done by the switch before the server, once and for every packet, and handed up where it is "
-    + "needed", ({ slow }) => slow === "carried"],
-  ["server", "server", "done by the server, for packets that visit it", ({ slow }) => slow === "server"],
-  ["after", "switch, after", "done by the switch on the way back", ({ slow }) => slow === "post"],
+  ["before", "switch, before", "to finish fast packets; done again for the others",
+    ({ before, slow }) => before !== null && slow !== "carried"],
+  ["carried", "carried", "on the switch before the server, for every packet", ({ slow }) => slow === "carried"],
+  ["server", "server", "for packets that visit it", ({ slow }) => slow === "server"],
+  ["after", "switch, after", "on the way back from the server", ({ slow }) => slow === "post"],
 ];
 
 // So many instructions of one statement are shown in a column at first.
@@ -57,9 +56,9 @@ class SourceDrawing {
     }
     const heads = COLUMNS.map(([name, title, told]) => {
       const count = this.split.answer.instructions.filter(this.fitsOf(name)).length;
-      const head = makeWith("span", `place ${name}`, [make("b", "", title), make("small", "", ` ${grouped(count)}`)]);
-      head.title = told;
-      return tellOf(head, () => ({ note: `In this column: ${told}.`, lines: [] }));
+      return makeWith("span", `place ${name}`, [
+        make("b", "", title), make("small", "", grouped(count)), make("small", "what", told),
+      ]);
     });
     const head = makeWith("div", "source-row source-head", [make("span", "text", "the source"), ...heads]);
     return makeWith("div", "source-part", [
@@ -69,10 +68,10 @@ class SourceDrawing {
   }
 
   told() {
-    return "Each mark is an instruction of the split, with its number. What the switch does before the server stands in "
-      + "the first two columns. A select called `join` doesn't stand in the source: it chooses the value that holds "
-      + "behind an `if`, or behind a statement that may have ended the run, and stands with that statement. The page has "
-      + "made these instructions of the source by itself, and they are those of the split, one by one.";
+    return "Each mark is an instruction of the split, with its number; where it runs is told by its column. A `join` "
+      + "doesn't stand in the source: it is a select of the value that holds behind an `if`, or behind a statement that "
+      + "may have ended the run, and it stands with that statement. The page has made these instructions of the source "
+      + "by itself, and found them to be those of the split, one by one.";
   }
 
   fitsOf(column) {

@@ -16,7 +16,7 @@ function countsOfNumbers() {
   return [
     ...meant.map((meaning) => `rows-${meaning} ${textsOf(`.state .address.${meaning}`)}`),
     ...meant.map((meaning) => `changed-${meaning} ${textsOf(`.change .address.${meaning}`)}`),
-    `constants ${textsOf(".lane .chip.const .word")}`,
+    `constants ${textsOf(".lane .chip.const .word").split(" ").filter((word) => /[.:]/.test(word)).join(" ")}`,
     `arrived ${[...drawing.querySelectorAll(".serial-row td:nth-child(3)")].map((cell) => cell.textContent).join("; ")}`,
   ];
 }
@@ -87,6 +87,8 @@ function writeCounts(name, milliseconds) {
   lines.push(`version-list ${list.join(" ")}`);
   lines.push(`stages ${stages.join(" ")}`, `crossing ${told.join(" | ")}`);
   lines.push(`order ${[...drawing.querySelectorAll(".seat b")].map((seat) => seat.textContent).join(" ")}`);
+  lines.push(`fields ${document.querySelectorAll(".fields input[type=file]").length}`,
+    `links ${document.querySelectorAll("#examples:not([open]) .examples a").length}`);
   lines.push(...countsOfSource(), ...countsOfNumbers(), ...countsOfHidden(), ...countsOfStrangers());
   lines.push(`refusal ${document.getElementById("refusal").textContent}`, `milliseconds ${Math.round(milliseconds)}`);
   const counts = make("pre", "counts", `counts of ${name}\n${lines.join("\n")}\nend of counts\n`);

@@ -209,7 +209,7 @@ class SourceReader {
   }
 
   takeCall(kind) {
-    const given = kind === "cast" ? Number(this.takeNumber()) : 0;
+    const given = kind === "cast" ? Number(this.takeNumber()) : null;
     const operands = [];
     while (operands.length < { byte: 1, cast: 1, select: 3, adjust: 3 }[kind]) {
       if (operands.length > 0 || kind === "cast") {
@@ -217,7 +217,7 @@ class SourceReader {
       }
       operands.push(this.takeExpression());
     }
-    const width = { byte: 8, cast: given, adjust: 16 }[kind] || operands[1].width;
+    const width = kind === "select" ? operands[1].width : { byte: 8, cast: given, adjust: 16 }[kind];
     return { kind, operands, width };
   }
 

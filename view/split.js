@@ -59,7 +59,7 @@ class SplitDrawing {
       make("h3", "", "The way of a packet"), lanes,
       makeWith("div", "beside", [this.drawTables(), this.drawBlocks()]),
     ]);
-    letKeysMove(section, ".stage, .boxes, .values, .list", ".stage");
+    letKeysMove(section, ".stage, .boxes, .values, .list, .source-row", ".stage");
     return section;
   }
 
