@@ -23,7 +23,8 @@ function countsOf(answer, source) {
 }
 
 function wrongCount(answer, source) {
-  const found = [...countsOf(answer, source)].find(([name, count]) => count !== null && count !== answer.counts.get(name));
+  const isWrong = ([name, count]) => count !== null && count !== answer.counts.get(name);
+  const found = [...countsOf(answer, source)].find(isWrong);
   return found ? `the second line of the answer tells ${found[0]} ${grouped(answer.counts.get(found[0]))}, and its `
     + `instructions take ${grouped(found[1])}` : null;
 }
@@ -68,15 +69,19 @@ function sourceAndAnswer({ source, answer, limits }) {
   return wrongTableBits(source, answer, limits);
 }
 
-// Whether rows can be those of the objects that a source declares.
-function sourceAndRows(source, parts, title) {
+// Whether rows can be those of the objects that a source declares: the server's, and those that the switch shows.
+function sourceAndRows(source, { objects: parts, tables }, title) {
   const kept = [...source.objects].filter(([, { kind }]) => kind !== "table");
   const [wanted, have] = [kept.map(([name]) => name), parts.map(({ name }) => name)];
   if (wanted.join(" ") !== have.join(" ")) {
     return `the source has the objects ${namesOf(wanted) || "none"}, and the ${title} tells of ${
       namesOf(have) || "none"}`;
   }
-  for (const { name, rows } of parts) {
+  const foreign = tables.map(({ name }) => name).filter((name) => !wanted.includes(name));
+  if (foreign.length > 0) {
+    return `the source has no object ${namesOf(foreign)}, of which the ${title} tells what the switch shows`;
+  }
+  for (const { name, rows } of [...parts, ...tables]) {
     const { kind, keys, values, rows: size } = source.objects.get(name);
     if (kind === "map" ? rows.length > size : rows.length !== size) {
       return `\`${name}\` has ${counted(rows.length, "row")} in the ${title}, and the source gives it ${grouped(size)}`;
@@ -99,7 +104,8 @@ function traceAndPackets(trace, packets, total, title) {
     return `the trace has ${counted(trace.packets.length, "packet")}, and the ${title} tells of ${grouped(total)}`;
   }
   const isSent = ({ port }) => port !== undefined && port !== null;
-  const other = packets.find((packet) => isSent(packet) && packet.bytes !== trace.packets[packet.number].bytes);
+  const isOther = (packet) => isSent(packet) && packet.bytes !== trace.packets[packet.number].bytes;
+  const other = packets.slice(0, total).find(isOther);
   return other ? `packet ${other.number} has ${counted(trace.packets[other.number].bytes, "byte")} in the trace, and ${
     grouped(other.bytes)} in the ${title}` : null;
 }
@@ -127,7 +133,8 @@ function reportAndAnswer({ report, answer, source }) {
     return `the split changes ${namesOf(unknown)}, of which the report tells no rows`;
   }
   if (mostChangesOf(answer, report) === null) {
-    return `the split makes no change that the switch keeps, and the report tells of version ${grouped(report.version)}`;
+    return `the split makes no change that the switch keeps, and the report tells of version ${
+      grouped(report.version)}`;
   }
   const outside = blocksOutside(answer);
   const first = (way) => report.packets.find((packet) => packet.way === way);
@@ -151,8 +158,8 @@ function reportAndRun({ report, run }) {
 const PAIRS = [
   [["answer"], ({ answer, source }) => wrongCount(answer, source && source.flat ? source : null)],
   [["source", "answer"], sourceAndAnswer],
-  [["source", "report"], ({ source, report }) => sourceAndRows(source, report.objects, "report")],
-  [["source", "run"], ({ source, run }) => sourceAndRows(source, run.objects, "answer of run")],
+  [["source", "report"], ({ source, report }) => sourceAndRows(source, report, "report")],
+  [["source", "run"], ({ source, run }) => sourceAndRows(source, run, "answer of run")],
   [["answer", "report"], reportAndAnswer],
   [["trace", "report"], ({ trace, report }) => traceAndPackets(trace, report.packets, report.total, "report")],
   [["trace", "run"], ({ trace, run }) => traceAndPackets(trace, run.packets, run.packets.length, "answer of run")],

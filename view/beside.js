@@ -28,8 +28,9 @@ function piecesOf(source) {
     const statements = starts.get(line) || [];
     const cuts = [offset, ...statements.slice(1).map(({ at }) => at), offset + text.length];
     const pieces = cuts.slice(1).map((end, at) => ({
-      line, text: source.text.slice(cuts[at], end).replace(/\r$/, ""), statement: statements[at] || null, isFirst: at === 0,
-      object: objects.get(line) || null, isProcess: at === 0 && line === source.processLine,
+      line, isFirst: at === 0, text: source.text.slice(cuts[at], end).replace(/\r$/, ""),
+      statement: statements[at] || null, object: objects.get(line) || null,
+      isProcess: at === 0 && line === source.processLine,
     }));
     offset += text.length + 1;
     return pieces;
@@ -69,9 +70,9 @@ class SourceDrawing {
 
   told() {
     return "Each mark is an instruction of the split, with its number; where it runs is told by its column. A `join` "
-      + "doesn't stand in the source: it is a select of the value that holds behind an `if`, or behind a statement that "
-      + "may have ended the run, and it stands with that statement. The page has made these instructions of the source "
-      + "by itself, and found them to be those of the split, one by one.";
+      + "doesn't stand in the source: it is a select of the value that holds behind an `if`, or behind a statement "
+      + "that may have ended the run, and it stands with that statement. The page has made these instructions of the "
+      + "source by itself, and found them to be those of the split, one by one.";
   }
 
   fitsOf(column) {
@@ -148,7 +149,8 @@ class SourceDrawing {
     const start = isProcess ? "Every program begins with three constants and the fields that it names. " : "";
     const turns = statement && this.isInRepeat(statement) ? ", of all turns of the `repeat` together" : "";
     const became = given.length > 0 ? `${start}${counted(given.length, "instruction")}${turns}: ${told}.`
-      : "It became no instruction of its own: it only says which value stands for what from here on, or how the run ends.";
+      : "It became no instruction of its own: it only says which value stands for what from here on, or how the run "
+        + "ends.";
     const mine = given.flatMap(({ instruction }) => this.split.marks[instruction.number]);
     return {
       note: `Line ${line}. ${statement || isProcess ? became : ""}`, lines: [{ kind: "source", line }],

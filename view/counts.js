@@ -13,11 +13,12 @@ function countsOfSource() {
 function countsOfNumbers() {
   const textsOf = (shape) => [...drawing.querySelectorAll(shape)].map((element) => element.textContent).join(" ");
   const meant = [...MEANINGS.keys()];
+  const arrived = [...drawing.querySelectorAll(".serial-row td:nth-child(3)")].map((cell) => cell.textContent);
   return [
     ...meant.map((meaning) => `rows-${meaning} ${textsOf(`.state .address.${meaning}`)}`),
     ...meant.map((meaning) => `changed-${meaning} ${textsOf(`.change .address.${meaning}`)}`),
     `constants ${textsOf(".lane .chip.const .word").split(" ").filter((word) => /[.:]/.test(word)).join(" ")}`,
-    `arrived ${[...drawing.querySelectorAll(".serial-row td:nth-child(3)")].map((cell) => cell.textContent).join("; ")}`,
+    `arrived ${arrived.join("; ")}`,
   ];
 }
 

@@ -1,8 +1,8 @@
 "use strict";
 
 // Makes the flat program of a source, as docs/flat.md says: the blocks, the instructions and the output that `compile`
-// lists. Each instruction knows the statement that it comes of, and whether it chooses between two values that may stand
-// for the same thing from there on.
+// lists. Each instruction knows the statement that it comes of, and whether it chooses between two values that may
+// stand for the same thing from there on.
 
 const MOST_INSTRUCTIONS = 4096;
 

@@ -9,10 +9,14 @@ const FIELD_MEANINGS = new Map([
   ["meta.port", "way"],
 ]);
 
+const digitsOf = (number, count) => number.toString(16).padStart(count, "0");
+
 const MEANINGS = new Map([
-  ["ip", { title: "IPv4 address", textOf: (number) => [24n, 16n, 8n, 0n].map((at) => (number >> at) & 255n).join(".") }],
-  ["mac", { title: "MAC address", textOf: (number) => number.toString(16).padStart(12, "0").replace(/..(?=.)/g, "$&:") }],
-  ["type", { title: "Ethernet type", textOf: (number) => `0x${number.toString(16).padStart(4, "0")}` }],
+  ["ip", {
+    title: "IPv4 address", textOf: (number) => [24n, 16n, 8n, 0n].map((at) => (number >> at) & 255n).join("."),
+  }],
+  ["mac", { title: "MAC address", textOf: (number) => digitsOf(number, 12).replace(/..(?=.)/g, "$&:") }],
+  ["type", { title: "Ethernet type", textOf: (number) => `0x${digitsOf(number, 4)}` }],
   ["port", { title: "port", textOf: String }],
   ["way", { title: "port of the switch", textOf: String }],
 ]);
@@ -47,7 +51,8 @@ class Meanings {
       const top = this.groups.top(name);
       this.fields.set(top, (this.fields.get(top) || new Set()).add(field));
     };
-    program.instructions.filter(({ kind }) => kind === "field").forEach(({ number, field }) => meet(`${number}.0`, field));
+    program.instructions.filter(({ kind }) => kind === "field")
+      .forEach(({ number, field }) => meet(`${number}.0`, field));
     program.writes.forEach(({ field, value }) => meet(valueName(value), field));
     meet(valueName(program.port), "meta.port");
   }
@@ -68,5 +73,5 @@ class Meanings {
 // A constant of an answer of compile, as what it means.
 function constantText(answer, value) {
   const { constant } = atValue(answer, value);
-  return textOfNumber(constant, answer.meanings ? answer.meanings.of(valueName(value)) : null);
+  return textOfNumber(constant, answer.meanings.of(valueName(value)));
 }

@@ -117,7 +117,8 @@ function partsOf(name, rows, meanings) {
     (meanings ? meanings.ofParts(name, place === 0 ? "key" : "value", numbers.length) : []));
   const told = (part) => {
     const list = part === "keys" ? keys : values;
-    return list.some(Boolean) ? list.map((meaning) => (meaning ? MEANINGS.get(meaning).title : "number")).join(", ") : "";
+    const titles = list.map((meaning) => (meaning ? MEANINGS.get(meaning).title : "number"));
+    return list.some(Boolean) ? titles.join(", ") : "";
   };
   return { keys, values, told };
 }

@@ -187,7 +187,8 @@ class RunDrawing {
   // What the marks that are drawn mean.
   drawLegend() {
     const samples = [
-      ["mark admitted", "admitted"], ["wait pass", "in its first pass"], ["wait up", "waits for the server"], ["mark decided", "decided by the server"],
+      ["mark admitted", "admitted"], ["wait pass", "in its first pass"], ["wait up", "waits for the server"],
+      ["mark decided", "decided by the server"],
       ["wait kept", "its output isn't out yet"], ["wait held", "held until its version is acknowledged"],
       ["wait free", "held, and may go"], ["wait perhaps", "one or the other"],
       ["wait down", "let go, on its way down"], ["mark sent", "sent"],
@@ -429,8 +430,8 @@ class RunDrawing {
     const waited = (from, to) => `waited ${counted(to - from, "event")}`;
     if (way === "fast") {
       const start = admitted < released ? ` began its first pass at event ${admitted}, and` : "";
-      return `Packet ${number}${start} never visited the server: the switch finished it at event ${released}, on version ${
-        version}`;
+      return `Packet ${number}${start} never visited the server: the switch finished it at event ${released}, on `
+        + `version ${version}`;
     }
     const start = `Packet ${number} was admitted at event ${admitted}`;
     if (way === "pass") {
@@ -465,8 +466,10 @@ class RunDrawing {
     if (!released || port === null) {
       return "";
     }
-    const texts = changesOf(arrived.hex, hex).map(({ field, before, after }) =>
-      `${field} ${textOfNumber(before, FIELD_MEANINGS.get(field))} → ${textOfNumber(after, FIELD_MEANINGS.get(field))}`);
+    const texts = changesOf(arrived.hex, hex).map(({ field, before, after }) => {
+      const textOf = (number) => textOfNumber(number, FIELD_MEANINGS.get(field));
+      return `${field} ${textOf(before)} → ${textOf(after)}`;
+    });
     return texts.length > 0 ? ` Changed: ${texts.join(", ")}.` : " It left as it arrived.";
   }
 

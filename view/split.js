@@ -119,7 +119,7 @@ class SplitDrawing {
       make("span", "number", number), make("span", "word", word),
     ]);
     chip.tabIndex = -1;
-    chip.title = instruction.constant === undefined ? word : `${word}, the number ${instruction.constant}`;
+    chip.title = instruction.constant === undefined ? word : this.titleOfConstant(instruction);
     const isTwice = before !== null && slow === "server";
     if (isTwice || (before !== null && slow === "post")) {
       chip.classList.add(isTwice ? "twice" : "anew");
@@ -133,6 +133,12 @@ class SplitDrawing {
     }
     this.marks[number].push(chip);
     return tellOf(chip, () => this.tellInstruction(instruction));
+  }
+
+  // The number of a constant, and what it stands for where that is known.
+  titleOfConstant({ number, constant }) {
+    const meaning = this.answer.meanings.of(`${number}.0`);
+    return meaning ? `${constant}, as ${MEANINGS.get(meaning).title}` : constant;
   }
 
   tellInstruction(instruction) {
