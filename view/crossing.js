@@ -66,11 +66,10 @@ function crossingsOf(answer) {
   return { up: up.inOrder(), down: down.inOrder() };
 }
 
-// Sets of things that have one width, which is known or not.
-class Widths {
+// Sets of things that are alike in something.
+class Groups {
   constructor() {
     this.above = new Map();
-    this.known = new Map();
   }
 
   top(name) {
@@ -85,9 +84,22 @@ class Widths {
     const [from, to] = [this.top(one), this.top(other)];
     if (from !== to) {
       this.above.set(from, to);
-      if (this.known.has(from)) {
-        this.known.set(to, this.known.get(from));
-      }
+    }
+  }
+}
+
+// Sets of things that have one width, which is known or not.
+class Widths extends Groups {
+  constructor() {
+    super();
+    this.known = new Map();
+  }
+
+  join(one, other) {
+    const [from, to] = [this.top(one), this.top(other)];
+    super.join(one, other);
+    if (from !== to && this.known.has(from)) {
+      this.known.set(to, this.known.get(from));
     }
   }
 
@@ -101,45 +113,60 @@ class Widths {
 }
 
 const COMPARISONS = new Set(["eq", "ne", "lt", "le"]);
+const isAccess = ({ kind }) => kind === "look" || kind === "put" || kind === "del";
+
+// How many keys each object has, as far as the source or a look or a del tells it.
+function keyCountsOf(program, source) {
+  const counts = new Map();
+  for (const { kind, object, operands } of program.instructions) {
+    if (kind === "look" || kind === "del") {
+      counts.set(object, operands.length);
+    }
+  }
+  for (const [name, object] of source ? source.objects : []) {
+    counts.set(name, object.keys.length);
+  }
+  return counts;
+}
+
+// Calls `join` for each two things of an instruction that stand for the same: operands and the keys and values of an
+// object, what is compared, and what a select chooses from.
+function joinAlike(program, { kind, number, object, operands }, keyCounts, join) {
+  const names = operands.map(valueName);
+  if (isAccess({ kind })) {
+    const keys = keyCounts.get(object);
+    const partOf = (place) => (place < keys ? `key ${place}` : `value ${place - keys}`);
+    (keys === undefined ? [] : names).forEach((name, place) => join(name, `${object} ${partOf(place)}`));
+  } else if (COMPARISONS.has(kind)) {
+    join(names[0], names[1]);
+  } else if (kind === "select") {
+    join(names[1], `${number}.0`);
+    join(names[2], `${number}.0`);
+  }
+  operands.filter((value) => value.result > 0 && atValue(program, value).kind === "look").forEach((value) =>
+    join(valueName(value), `${atValue(program, value).object} value ${value.result - 1}`));
+}
 
 // The widths of values as far as operators, fields, constants and the declarations of a source tell them.
 function widthsOf(answer, source) {
   const widths = new Widths();
-  const keyCounts = new Map();
+  const keyCounts = keyCountsOf(answer, source);
   for (const [name, object] of source ? source.objects : []) {
-    keyCounts.set(name, object.keys.length);
     object.keys.forEach((width, place) => widths.set(`${name} key ${place}`, width));
     object.values.forEach((width, place) => widths.set(`${name} value ${place}`, width));
   }
-  for (const { kind, object, operands } of answer.instructions) {
-    if (kind === "look" || kind === "del") {
-      keyCounts.set(object, operands.length);
-    }
-  }
   for (const instruction of answer.instructions) {
-    const { kind, number, object, width } = instruction;
+    const { kind, number, width } = instruction;
     const operands = instruction.operands.map(valueName);
-    const isAccess = kind === "look" || isWrite(instruction);
-    widths.set(`${number}.0`, isAccess || COMPARISONS.has(kind) ? 1 : width);
-    if (isAccess) {
-      const keys = keyCounts.get(object);
-      const partOf = (place) => (place < keys ? `key ${place}` : `value ${place - keys}`);
-      const fitting = keys === undefined ? [] : operands;
-      fitting.forEach((operand, place) => widths.join(operand, `${object} ${partOf(place)}`));
-    } else if (COMPARISONS.has(kind)) {
-      widths.join(operands[0], operands[1]);
-    } else if (kind === "byte") {
+    widths.set(`${number}.0`, isAccess(instruction) || COMPARISONS.has(kind) ? 1 : width);
+    joinAlike(answer, instruction, keyCounts, (one, other) => widths.join(one, other));
+    if (kind === "byte") {
       widths.set(operands[0], 16);
     } else if (kind === "select") {
       widths.set(operands[0], 1);
-      widths.join(operands[1], `${number}.0`);
-      widths.join(operands[2], `${number}.0`);
-    } else if (kind !== "cast") {
+    } else if (kind !== "cast" && !isAccess(instruction) && !COMPARISONS.has(kind)) {
       operands.forEach((operand) => widths.join(operand, `${number}.0`));
     }
-    operands.map((name) => readValue(name, answer.instructions.length))
-      .filter((value) => value.result > 0 && atValue(answer, value).kind === "look")
-      .forEach((value) => widths.join(valueName(value), `${atValue(answer, value).object} value ${value.result - 1}`));
   }
   answer.writes.forEach(({ field, value }) => widths.set(valueName(value), FIELD_WIDTHS.get(field)));
   widths.set(valueName(answer.send), 1);
@@ -182,12 +209,12 @@ const SYMBOLS = new Map([
 
 // The value as an expression over fields and tables, down to some depth; below it stand the numbers of values.
 function expressionOf(answer, value, depth) {
-  const { kind, constant, field, object, operands, shift, width } = atValue(answer, value);
+  const { kind, field, object, operands, shift, width } = atValue(answer, value);
   const part = (operand) => expressionOf(answer, operand, depth - 1);
   const isInfix = (operand) => SYMBOLS.has(atValue(answer, operand).kind);
   const bracketed = (operand) => (isInfix(operand) && depth > 1 ? `(${part(operand)})` : part(operand));
   if (kind === "const") {
-    return constant;
+    return constantText(answer, value);
   }
   if (kind === "field") {
     return field;

@@ -67,6 +67,28 @@ function tell(target) {
   marked.forEach(({ element, name }) => element.classList.add(name));
 }
 
+// A line above something that can be scrolled sideways: how many of its columns can't be seen, and how they can.
+function tellHidden(scrolled, columnSelector, word) {
+  const hint = make("p", "hidden-columns");
+  const recount = () => {
+    const box = scrolled.getBoundingClientRect();
+    const columns = [...scrolled.querySelectorAll(columnSelector)].map((column) => column.getBoundingClientRect());
+    const before = columns.filter(({ left }) => left < box.left - 2).length;
+    const behind = columns.filter(({ right }) => right > box.right + 2).length;
+    const sides = [[before, "to the left"], [behind, "to the right"]].filter(([count]) => count > 0);
+    const told = sides.map(([count, side]) => `${counted(count, word)} ${side}`).join(" and ");
+    hint.textContent = told && `Not all of it is in sight: ${told}. Scroll sideways, or use the arrow keys.`;
+    hint.dataset.hidden = before + behind;
+  };
+  scrolled.addEventListener("scroll", recount);
+  new ResizeObserver(recount).observe(scrolled);
+  recountHidden.add(recount);
+  return hint;
+}
+
+// What counts hidden columns anew; called once a drawing stands in the page.
+const recountHidden = new Set();
+
 const shortened = (line) => (line.length > 400 ? `${line.slice(0, 400)} …` : line);
 
 // Makes the marks of a drawing one stop of the tab key, from which the arrow keys go on. Marks stand in groups. In a

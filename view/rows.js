@@ -68,30 +68,38 @@ function drawVersion(run, version) {
   }));
 }
 
-function drawState(report) {
+// `kind` is the kind of the text that tells the rows.
+function drawState(report, kind, meanings) {
   const tables = new Map(report.tables.map((part) => [part.name, part]));
   const objects = new Map(report.objects.map((part) => [part.name, part]));
   const names = new Set([...objects.keys(), ...tables.keys()]);
-  const parts = [...names].map((name) => drawObject(name, objects.get(name), tables.get(name)));
+  const parts = [...names].map((name) => drawObject(name, objects.get(name), tables.get(name), kind, meanings));
   const none = make("p", "", "The source declares no object.");
   const state = makeWith("div", "state", [
-    make("h3", "", "Rows at the end"), makeWith("div", "objects", parts.length ? parts : [none]),
+    make("h3", "", "Rows at the end"),
+    ...(meanings || parts.length === 0 ? [] : [make("p", "source",
+      "Addresses are told as such where the source or the split stands beside the rows.")]),
+    makeWith("div", "objects", parts.length ? parts : [none]),
   ]);
   letKeysMove(state, "tbody", "tbody");
   return state;
 }
 
 // The rows of an object, by key.
-function drawObject(name, server, table) {
+function drawObject(name, server, table, kind, meanings) {
   const merged = new Map();
   (server ? server.rows : []).forEach((row) => merged.set(row.key, { server: row }));
   (table ? table.rows : []).forEach((row) => merged.set(row.key, { ...merged.get(row.key), table: row }));
   const all = [...merged.entries()];
   const differing = table ? all.filter(([, rows]) => !isSameRow(rows.server, rows.table)).length : 0;
   const body = make("tbody");
-  const more = fillRows(body, all.map(([key, rows]) => () => drawRow(key, rows, table !== undefined)));
-  const titles = ["key", "server", ...(table ? ["switch"] : [])].map((title) => make("th", "", title));
-  const onServer = `${name}: ${counted(server ? server.rows.length : 0, "row")} on the server`;
+  const parts = partsOf(name, all, meanings);
+  const more = fillRows(body, all.map(([key, rows]) => () => drawRow(key, rows, table !== undefined, kind, parts)));
+  const titleOf = (title, told) => makeWith("th", "", [title, ...(told ? [make("small", "", told)] : [])]);
+  const isSerial = kind === "run";
+  const titles = [titleOf("key", parts.told("keys")), titleOf(isSerial ? "row" : "server", parts.told("values")),
+    ...(table ? [titleOf("switch", parts.told("values"))] : [])];
+  const onServer = `${name}: ${counted(server ? server.rows.length : 0, "row")}${isSerial ? "" : " on the server"}`;
   const onSwitch = !table ? "" : `, ${grouped(table.rows.length)} shown by the switch: ${
     differing === 0 ? "the same" : counted(differing, "differs", "differ")}`;
   return makeWith("div", "object", [
@@ -102,20 +110,34 @@ function drawObject(name, server, table) {
   ]);
 }
 
+// What the keys and the values of an object's rows mean.
+function partsOf(name, rows, meanings) {
+  const [first] = rows.map(([key, { server, table }]) => [numbersOf(key), numbersOf((server || table).values)]);
+  const [keys, values] = (first || [[], []]).map((numbers, place) =>
+    (meanings ? meanings.ofParts(name, place === 0 ? "key" : "value", numbers.length) : []));
+  const told = (part) => {
+    const list = part === "keys" ? keys : values;
+    const titles = list.map((meaning) => (meaning ? MEANINGS.get(meaning).title : "number"));
+    return list.some(Boolean) ? titles.join(", ") : "";
+  };
+  return { keys, values, told };
+}
+
 // Whether the switch shows under the key what the server has.
 const isSameRow = (server, table) => server !== undefined && table !== undefined && server.values === table.values;
 
-function drawRow(key, { server, table }, isCopied) {
+function drawRow(key, { server, table }, isCopied, kind, parts) {
   const isSame = !isCopied || isSameRow(server, table);
-  const valuesOf = (row) => (row ? row.values : "no row");
-  const cells = [make("td", "key", key || "–"), make("td", "", valuesOf(server))];
+  const valuesOf = (row) => (row ? drawNumbers(numbersOf(row.values), parts.values) : ["no row"]);
+  const cells = [makeWith("td", "key", key ? drawNumbers(numbersOf(key), parts.keys) : ["–"]),
+    makeWith("td", "", valuesOf(server))];
   if (isCopied) {
-    cells.push(make("td", isSame ? "" : "differs", valuesOf(table)));
+    cells.push(makeWith("td", isSame ? "" : "differs", valuesOf(table)));
   }
   const row = makeWith("tr", isSame ? "mark state-row" : "mark state-row other", cells);
   row.tabIndex = -1;
   return tellOf(row, () => ({
     note: isSame ? "" : "The switch doesn't show what the server has.",
-    lines: [server, table].filter(Boolean).map(({ line }) => ({ kind: "report", line })),
+    lines: [server, table].filter(Boolean).map(({ line }) => ({ kind, line })),
   }));
 }

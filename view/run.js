@@ -11,10 +11,13 @@ function rangeOf({ least, most }, word) {
 }
 
 class RunDrawing {
-  constructor(report, schedule, trace, answer) {
+  // Beside the report stand the texts that are there: schedule, trace and answer, and what numbers mean.
+  constructor(report, { schedule, trace, answer, meanings }) {
     this.report = report;
     this.trace = trace;
-    this.warnings = [];
+    this.meanings = meanings;
+    // What speaks against the texts belonging together, as strangersOf tells it.
+    this.strangers = [];
     this.told = toldEvents(report);
     this.derive(schedule, answer);
     this.versions = versionsOf(report);
@@ -29,29 +32,33 @@ class RunDrawing {
     this.pictures = [];
   }
 
-  // Goes through the schedule, where there is one, as far as it can be that of the report.
+  // Goes through the schedule, where there is one, as far as it is that of the report.
   derive(schedule, answer) {
-    const strangeness = schedule ? strangenessOf(this.report, schedule) : null;
-    let most = schedule && answer ? mostChangesOf(answer, this.report) : null;
-    let isSplit = !schedule || !answer || most !== null;
-    const first = schedule && !strangeness ? new Derivation(this.report, schedule, most) : null;
-    let derivation = first;
-    if (first && first.isOther && most !== null) {
-      most = null;
-      derivation = new Derivation(this.report, schedule, null);
-      isSplit = derivation.isOther === true;
+    const { report } = this;
+    this.schedule = schedule;
+    this.most = schedule && answer ? mostChangesOf(answer, report) : null;
+    this.derived = null;
+    this.failure = schedule && isFine(report) ? "each stage of a pass was an event of its own, and the page doesn't "
+      + "follow such runs" : null;
+    if (!schedule || this.failure) {
+      return;
     }
-    const isOther = strangeness || (derivation && derivation.isOther ? derivation.failure : null);
-    if (isOther) {
-      this.warnings.push(`The schedule isn't drawn, since it isn't that of the report: ${isOther}.`);
+    const derivation = new Derivation(report, schedule, this.most);
+    if (derivation.isOther) {
+      this.tellOther(schedule, derivation);
+    } else if (derivation.failure) {
+      this.failure = derivation.failure;
+    } else {
+      this.derived = derivation;
     }
-    if (!isSplit) {
-      this.warnings.push("No run with this split does what the report tells, so the run is drawn without the split.");
-    }
-    this.schedule = isOther ? null : schedule;
-    this.derived = derivation && !derivation.failure ? derivation : null;
-    this.most = most;
-    this.failure = derivation && !derivation.isOther ? derivation.failure : null;
+  }
+
+  // No run does what the report tells. Where without the split one does, it is another split; else another schedule.
+  tellOther(schedule, derivation) {
+    const isSplit = this.most !== null && !new Derivation(this.report, schedule, null).isOther;
+    this.strangers.push(isSplit
+      ? { kinds: ["answer", "report"], why: `with the changes that this split can make, ${derivation.failure}` }
+      : { kinds: ["schedule", "report"], why: derivation.failure });
   }
 
   // When each version was shown, by the schedule's events.
@@ -103,10 +110,11 @@ class RunDrawing {
     this.timeline.append(makeWith("div", "ways", [this.strips, this.drawWays()]), this.drawOrder());
     const section = makeWith("section", "run", [
       make("h2", "", "What became of the packets"), ...this.drawFacts(), this.drawLegend(),
-      make("p", "source", this.sourceOfDrawing()), this.drawWindow(), this.timeline, ...drawVersions(this),
-      drawState(this.report),
+      make("p", "source", this.sourceOfDrawing()), this.drawWindow(), this.hint, this.timeline, ...drawVersions(this),
+      drawState(this.report, "report", this.meanings),
     ]);
     this.show(0.5, this.last);
+    new ResizeObserver(() => this.tellHiddenEvents()).observe(this.timeline);
     letKeysMove(this.timeline, ".row, .seats", null);
     return section;
   }
@@ -137,7 +145,7 @@ class RunDrawing {
       ["drained", report.drained ? "yes" : "no"],
     ];
     const pairs = facts.map(([name, value]) => makeWith("div", "", [make("dt", "", name), make("dd", "", value)]));
-    return [makeWith("dl", "facts", pairs), ...this.warnings.map((warning) => make("p", "warning", warning))];
+    return [makeWith("dl", "facts", pairs)];
   }
 
   // How many events an output waited until its version was acknowledged, where that is derived: { least, most }.
@@ -179,7 +187,8 @@ class RunDrawing {
   // What the marks that are drawn mean.
   drawLegend() {
     const samples = [
-      ["mark admitted", "admitted"], ["wait up", "waits for the server"], ["mark decided", "decided by the server"],
+      ["mark admitted", "admitted"], ["wait pass", "in its first pass"], ["wait up", "waits for the server"],
+      ["mark decided", "decided by the server"],
       ["wait kept", "its output isn't out yet"], ["wait held", "held until its version is acknowledged"],
       ["wait free", "held, and may go"], ["wait perhaps", "one or the other"],
       ["wait down", "let go, on its way down"], ["mark sent", "sent"],
@@ -206,6 +215,7 @@ class RunDrawing {
     this.inputs = [from.input, to.input];
     this.inputs.forEach((input) => input.addEventListener("change", () =>
       this.show(Number(from.input.value) - 0.5, Number(to.input.value) + 0.5)));
+    this.hint = make("p", "hidden-columns");
     const button = (title, change) => {
       const made = make("button", "", title);
       made.type = "button";
@@ -246,7 +256,10 @@ class RunDrawing {
     this.timeline.style.setProperty("--span", span);
     this.inputs[0].value = this.from + 0.5;
     this.inputs[1].value = this.to - 0.5;
-    for (const { picture, heightsOf } of this.pictures) {
+    for (const { picture, heightsOf, fill } of this.pictures) {
+      if (fill) {
+        fill(this.from, this.to);
+      }
       const [top, height] = heightsOf(this.from, this.to);
       picture.setAttribute("viewBox", `${this.from} ${top} ${span} ${height}`);
     }
@@ -259,6 +272,26 @@ class RunDrawing {
       ticks.push(tick);
     }
     this.axis.querySelector(".track").replaceChildren(...ticks);
+    this.tellHiddenEvents();
+  }
+
+  // Which events aren't in sight, and whether more than one stand in one column of the screen.
+  tellHiddenEvents() {
+    const { events } = this.report;
+    const [first, last] = [this.from + 0.5, this.to - 0.5];
+    const stretches = [[1, first - 1], [last + 1, events]].filter(([one, other]) => one <= other);
+    const hidden = stretches.reduce((sum, [one, other]) => sum + other - one + 1, 0);
+    const named = stretches.map(([one, other]) => rangeOf({ least: one, most: other }, ""));
+    const width = this.axis.querySelector(".track").clientWidth;
+    const shared = width > 0 ? Math.ceil((last - first + 1) / width) : 1;
+    const told = hidden === 0 ? [] : [`${grouped(hidden)} of ${grouped(events)} columns of events are hidden: ${
+      named.join(" and ")}. The button "all" shows them, "earlier" and "later" go there.`];
+    if (shared > 1) {
+      told.push(`Up to ${counted(shared, "event")} stand in one column of the screen, one behind the other. The button `
+        + "\"closer\" draws them apart.");
+    }
+    this.hint.textContent = told.join(" ");
+    this.hint.dataset.hidden = hidden;
   }
 
   // The stretch between two events, with a mark at its ends.
@@ -284,9 +317,11 @@ class RunDrawing {
     const verdict = make("span", "verdict");
     const open = released ? "" : " open";
     const end = released || this.last;
-    if (way === "up") {
-      track.append(this.stretch("up open", admitted, end), this.point("admitted", admitted));
-      verdict.textContent = "… waits for the server";
+    if (way === "up" || way === "pass") {
+      track.append(this.stretch(`${way} open`, admitted, end), this.point("admitted", admitted));
+      verdict.textContent = way === "up" ? "… waits for the server" : "… in its first pass";
+    } else if (way === "fast" && admitted < released) {
+      track.append(this.stretch("pass", admitted, released), this.point("admitted", admitted));
     } else if (way === "slow") {
       track.append(this.stretch("up", admitted, decided));
       const parts = this.partsOf(packet, end);
@@ -394,10 +429,14 @@ class RunDrawing {
     const { number, way, admitted, decided, released, version } = packet;
     const waited = (from, to) => `waited ${counted(to - from, "event")}`;
     if (way === "fast") {
-      return `Packet ${number} never visited the server: the switch finished it at event ${admitted}, on version ${
-        version}`;
+      const start = admitted < released ? ` began its first pass at event ${admitted}, and` : "";
+      return `Packet ${number}${start} never visited the server: the switch finished it at event ${released}, on `
+        + `version ${version}`;
     }
     const start = `Packet ${number} was admitted at event ${admitted}`;
+    if (way === "pass") {
+      return `${start}, and its first pass on the switch is under way`;
+    }
     if (way === "up") {
       return `${start} and waits for the server, ${counted(this.report.events - admitted, "event")} so far`;
     }
@@ -422,6 +461,18 @@ class RunDrawing {
     return `${decision}. ${need}; ${end}`;
   }
 
+  // Which fields a packet left with that it didn't arrive with.
+  changesNoteOf({ released, port, hex }, arrived) {
+    if (!released || port === null) {
+      return "";
+    }
+    const texts = changesOf(arrived.hex, hex).map(({ field, before, after }) => {
+      const textOf = (number) => textOfNumber(number, FIELD_MEANINGS.get(field));
+      return `${field} ${textOf(before)} → ${textOf(after)}`;
+    });
+    return texts.length > 0 ? ` Changed: ${texts.join(", ")}.` : " It left as it arrived.";
+  }
+
   tellPacket(packet, place, event) {
     const { number, way, version, released, port, line } = packet;
     const isMade = way === "slow" && this.versions.makers[version] === packet;
@@ -430,7 +481,8 @@ class RunDrawing {
     parts.push(released ? `. It was ${left} at event ${released}.` : ". It isn't out yet.");
     const arrived = this.trace && this.trace.packets[number];
     if (arrived) {
-      parts.push(` It arrived by port ${arrived.port} with ${counted(arrived.bytes, "byte")}.`);
+      parts.push(` It arrived by port ${arrived.port} with ${counted(arrived.bytes, "byte")}: ${
+        summaryOf(arrived.hex)}.`, this.changesNoteOf(packet, arrived));
     }
     const performed = this.schedule && this.schedule.events[event - 1];
     const seat = this.places.get(number);

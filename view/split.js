@@ -5,9 +5,9 @@
 const bytesFor = (bits) => Math.ceil(bits / 8);
 
 // What an instruction does, in a word or two.
-function wordOf({ kind, constant, field, object, width, shift }) {
+function wordOf(answer, { number, kind, field, object, width, shift }) {
   if (kind === "const") {
-    return `= ${constant}`;
+    return `= ${constantText(answer, { instruction: number, result: 0 })}`;
   }
   if (SYMBOLS.has(kind)) {
     return shift === undefined ? SYMBOLS.get(kind) : `${SYMBOLS.get(kind)} ${shift}`;
@@ -40,6 +40,7 @@ class SplitDrawing {
       new Set(operands.map(({ instruction }) => instruction)).forEach((giver) => this.users[giver].push(number));
     }
     this.upward = new Set(this.crossings.up.map(({ instruction }) => instruction));
+    this.beside = source ? new SourceDrawing(this, source) : null;
   }
 
   draw() {
@@ -52,10 +53,13 @@ class SplitDrawing {
       this.drawPass("after", "Switch, after the server", this.drawOutput()),
     ]);
     const section = makeWith("section", "split", [
-      make("h2", "", "Where each instruction is done"), this.drawGauges(), this.drawLegend(), lanes,
+      make("h2", "", "Where each instruction is done"), this.drawGauges(), this.drawLegend(),
+      ...(this.beside ? [this.beside.draw()] : [make("p", "source",
+        "With the source beside it, the page tells what each statement became.")]),
+      make("h3", "", "The way of a packet"), lanes,
       makeWith("div", "beside", [this.drawTables(), this.drawBlocks()]),
     ]);
-    letKeysMove(section, ".stage, .boxes, .values, .list", ".stage");
+    letKeysMove(section, ".stage, .boxes, .values, .list, .source-row", ".stage");
     return section;
   }
 
@@ -110,10 +114,12 @@ class SplitDrawing {
   // A mark for an instruction in a lane.
   drawChip(instruction, lane) {
     const { number, block, before, slow } = instruction;
+    const word = wordOf(this.answer, instruction);
     const chip = makeWith("span", `mark chip ${shapeOf(instruction)}`, [
-      make("span", "number", number), make("span", "word", wordOf(instruction)),
+      make("span", "number", number), make("span", "word", word),
     ]);
     chip.tabIndex = -1;
+    chip.title = instruction.constant === undefined ? word : this.titleOfConstant(instruction);
     const isTwice = before !== null && slow === "server";
     if (isTwice || (before !== null && slow === "post")) {
       chip.classList.add(isTwice ? "twice" : "anew");
@@ -122,16 +128,22 @@ class SplitDrawing {
     if (lane === "before" && this.upward.has(number)) {
       chip.append(make("span", "tag", "↑"));
     }
-    if (lane !== "server" && block !== 0) {
+    if ((lane === "before" || lane === "after") && block !== 0) {
       chip.append(make("span", "block", `b${block}`));
     }
     this.marks[number].push(chip);
     return tellOf(chip, () => this.tellInstruction(instruction));
   }
 
+  // The number of a constant, and what it stands for where that is known.
+  titleOfConstant({ number, constant }) {
+    const meaning = this.answer.meanings.of(`${number}.0`);
+    return meaning ? `${constant}, as ${MEANINGS.get(meaning).title}` : constant;
+  }
+
   tellInstruction(instruction) {
     const { number, block, before, after, slow, line, partLine, operands } = instruction;
-    const parts = [`Instruction ${number}, ${wordOf(instruction)}: `];
+    const parts = [`Instruction ${number}, ${wordOf(this.answer, instruction)}: `];
     if (before !== null) {
       parts.push(`the switch does it in stage ${before}, before the server`);
       parts.push(slow === "carried" ? "" : "; for a packet that visits the server, ");
@@ -148,12 +160,17 @@ class SplitDrawing {
     const givers = [...new Set(operands.map((value) => value.instruction))];
     parts.push(listed(" It reads", givers), listed(" It is read by", this.users[number]));
     const mine = (numbers, name) => numbers.flatMap((other) => this.marks[other].map((element) => ({ element, name })));
+    const statement = this.beside ? this.beside.statementOf(number) : null;
+    const row = statement ? this.beside.rows.get(statement) : null;
     return {
       note: parts.join(""),
-      lines: [line, partLine, this.answer.blocks[block].line].map((place) => ({ kind: "answer", line: place })),
+      lines: [
+        ...(statement ? [{ kind: "source", line: statement.line }] : []),
+        ...[line, partLine, this.answer.blocks[block].line].map((place) => ({ kind: "answer", line: place })),
+      ],
       related: [
         ...mine([number], "same"), ...mine(givers, "needed"),
-        ...mine(this.users[number], "user"),
+        ...mine(this.users[number], "user"), { element: row, name: "origin" },
       ],
     };
   }
@@ -177,9 +194,10 @@ class SplitDrawing {
     const depth = counted(Math.max(0, stages.length - 1), "stage");
     const told = mine.length ? `${counted(mine.length, "instruction")}, ${depth}` : "nothing is done here";
     const kept = columns.filter((column) => column.querySelector(".mark"));
+    const strip = makeWith("div", "stages", kept);
     return makeWith("div", `lane switch ${lane}`, [
       makeWith("header", "", [make("h3", "", title), make("span", "told-count", told)]),
-      makeWith("div", "stages", kept), foot,
+      tellHidden(strip, ".stage", "stage"), strip, foot,
     ]);
   }
 
@@ -239,7 +257,7 @@ class SplitDrawing {
 
   // Which packets leave the switch without the server.
   exitOf() {
-    const outside = new Set(this.answer.instructions.filter(({ before }) => before === null).map(({ block }) => block));
+    const outside = blocksOutside(this.answer);
     const exit = make("p", "exit");
     if (outside.size === 0) {
       exit.textContent = "◆ Every packet is fast: it leaves here, and never visits the server.";
@@ -268,7 +286,7 @@ class SplitDrawing {
       const width = this.widths.of(valueName(value));
       const giver = atValue(this.answer, value);
       const cell = makeWith("span", width === undefined ? "mark value unknown" : "mark value", [
-        make("b", "", valueName(value)), make("span", "word", wordOf(giver)),
+        make("b", "", valueName(value)), make("span", "word", wordOf(this.answer, giver)),
         make("span", "width", width === undefined ? "" : counted(width, "bit")),
       ]);
       cell.tabIndex = -1;

@@ -78,6 +78,20 @@ function tellEvent(run, event) {
   };
 }
 
+// The events by what `nameOf` says of them, but for those that are nearer than a gap to the one before.
+function ticksOf(events, gap, nameOf) {
+  const ticks = new Map();
+  let last = -gap;
+  for (const event of events) {
+    if (event - last >= gap) {
+      ticks.set(nameOf(event), ticks.get(nameOf(event)) || []);
+      ticks.get(nameOf(event)).push(event);
+      last = event;
+    }
+  }
+  return ticks;
+}
+
 // The events of the schedule, and those of drain as far as they are derived, a line for each letter.
 function drawScheduleStrip(run) {
   const { schedule, derived, report } = run;
@@ -90,27 +104,24 @@ function drawScheduleStrip(run) {
     }
   }
   const used = LETTERS.filter(([letter]) => places.get(letter).length > 0);
-  const gap = report.events / DRAWN_EVENTS;
   const picture = makeVector("svg", { preserveAspectRatio: "none", class: "events" });
-  run.pictures.push({ picture, heightsOf: () => [0, Math.max(1, used.length)] });
   if (report.events > own) {
     picture.append(makeVector("rect", {
       x: own + 0.5, y: 0, width: report.events - own, height: Math.max(1, used.length), class: "drain",
     }));
   }
-  used.forEach(([letter], place) => {
-    const ticks = new Map();
-    let last = -gap;
-    for (const event of places.get(letter)) {
-      if (event - last >= gap) {
-        const name = event > own ? "drain" : derived ? derived.stateOf(event) : "done";
-        ticks.set(name, ticks.get(name) || []);
-        ticks.get(name).push(`M${event} ${place + 0.15}v.7`);
-        last = event;
-      }
-    }
-    ticks.forEach((some, name) => picture.append(makeVector("path", { d: some.join(""), class: `${name} ${letter}` })));
-  });
+  const fill = (from, to) => {
+    picture.querySelectorAll("path").forEach((path) => path.remove());
+    used.forEach(([letter], place) => {
+      const isShown = (event) => event >= from && event <= to;
+      const ticks = ticksOf(places.get(letter).filter(isShown), (to - from) / DRAWN_EVENTS, (event) =>
+        (event > own ? "drain" : derived ? derived.stateOf(event) : "done"));
+      ticks.forEach((some, name) => picture.append(makeVector("path", {
+        d: some.map((event) => `M${event} ${place + 0.15}v.7`).join(""), class: `${name} ${letter}`,
+      })));
+    });
+  };
+  run.pictures.push({ picture, heightsOf: () => [0, Math.max(1, used.length)], fill });
   const names = used.map(([letter, title]) => makeWith("span", "", [make("b", "", letter), ` ${title}`]));
   const behind = !schedule.drain ? "" : derived && report.events > own ? "▒ by drain, derived" : "then drain";
   const band = drawBand(makeWith("span", "label letters", names), [picture], behind, Math.max(1, used.length));

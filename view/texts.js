@@ -237,7 +237,7 @@ function readAnswer(text) {
 const EVENT = "([1-9][0-9]{0,9})";
 const VERDICT = "(drop|send (0|[1-9][0-9]{0,2}) (-|(?:[0-9a-f]{2})+))";
 const PACKET_FORMS = new RegExp(
-  `^packet ${NUMBER} (?:(up) admitted ${EVENT}|(slow|fast) admitted ${EVENT} decided ${EVENT} version ${NUMBER} ` +
+  `^packet ${NUMBER} (?:(up|pass) admitted ${EVENT}|(slow|fast) admitted ${EVENT} decided ${EVENT} version ${NUMBER} ` +
   `(?:(held)|released ${EVENT} ${VERDICT}))$`);
 
 function readPacket(reader, number) {
@@ -248,7 +248,7 @@ function readPacket(reader, number) {
     throw new Refusal(line, `${wanted} is wanted, in one of its forms`);
   }
   const packet = { number, line, way: parts[2] || parts[4], admitted: Number(parts[3] || parts[5]) };
-  if (packet.way === "up") {
+  if (packet.way === "up" || packet.way === "pass") {
     return packet;
   }
   packet.decided = Number(parts[6]);
@@ -258,7 +258,8 @@ function readPacket(reader, number) {
   }
   packet.released = Number(parts[9]);
   packet.port = parts[11] === undefined ? null : Number(parts[11]);
-  packet.bytes = parts[12] === "-" ? 0 : (parts[12] || "").length / 2;
+  packet.hex = parts[12] === "-" ? "" : parts[12] || "";
+  packet.bytes = packet.hex.length / 2;
   const inTurn = packet.admitted <= packet.decided && packet.decided <= packet.released;
   if (!inTurn || packet.port > 255) {
     throw new Refusal(line, `${wanted} is wanted, with events that follow one another`);
@@ -321,6 +322,25 @@ function readReport(text) {
   };
 }
 
+// The answer of a run: the verdict of each packet, and the rows at the end.
+function readRun(text) {
+  const reader = new LineReader(text, isSkipped);
+  const packets = [];
+  for (let line = reader.number, parts = reader.match(`packet ${NUMBER} ${VERDICT}`); parts;
+    line = reader.number, parts = reader.match(`packet ${NUMBER} ${VERDICT}`)) {
+    const port = parts[3] === undefined ? null : Number(parts[3]);
+    if (Number(parts[1]) !== packets.length || port > 255) {
+      throw new Refusal(line, `packet ${packets.length} is wanted, with its verdict`);
+    }
+    const hex = port === null || parts[4] === "-" ? "" : parts[4];
+    packets.push({ number: packets.length, line, port, hex, bytes: hex.length / 2 });
+  }
+  const objects = readParts(reader, "object");
+  reader.take("end", "a packet, an object or `end`");
+  reader.end();
+  return { packets, objects, tables: [], lines: reader.lines };
+}
+
 // The schedule: the letter, item and line of each event, and whether it ends with `drain`.
 function readSchedule(text) {
   const reader = new LineReader(text, isSkipped);
@@ -350,7 +370,8 @@ function readTrace(text) {
     if (Number(parts[1]) > 255) {
       throw new Refusal(line, "a port up to 255 is wanted");
     }
-    packets.push({ port: Number(parts[1]), bytes: parts[2] === "-" ? 0 : parts[2].length / 2, line });
+    const hex = parts[2] === "-" ? "" : parts[2];
+    packets.push({ port: Number(parts[1]), hex, bytes: hex.length / 2, line });
   }
   return { packets, lines: reader.lines };
 }
@@ -374,79 +395,13 @@ function readLimits(text) {
   return { limits, lines: reader.lines };
 }
 
-// The declarations of a source: kind, widths and size of each object. What follows `process` isn't read.
-function readSource(text) {
-  const tokens = [];
-  const pattern = /\/\/[^\n]*|->|[A-Za-z0-9_.]+|\S/g;
-  for (let found = pattern.exec(text); found; found = pattern.exec(text)) {
-    if (!found[0].startsWith("//")) {
-      tokens.push({ word: found[0], at: found.index });
-    }
-  }
-  let place = 0;
-  const lineOf = (offset) => text.slice(0, offset).split("\n").length;
-  const take = (wanted) => {
-    const token = tokens[place];
-    if (!token || !wanted.test(token.word)) {
-      throw new Refusal(lineOf(token ? token.at : text.length), "a declaration or `process` is wanted");
-    }
-    place += 1;
-    return token.word;
-  };
-  const takeNumber = () => Number(take(/^[0-9]/));
-  const takeWidths = () => {
-    const widths = [];
-    take(/^\($/);
-    do {
-      widths.push(takeNumber());
-    } while (take(/^[,)]$/) === ",");
-    return widths;
-  };
-  const objects = new Map();
-  for (let kind = take(/^(table|map|vector|int|process)$/); kind !== "process";
-    kind = take(/^(table|map|vector|int|process)$/)) {
-    const name = take(/^[A-Za-z]/);
-    const object = { kind, keys: [], values: [], rows: 1 };
-    if (kind === "int") {
-      take(/^:$/);
-      object.values = [takeNumber()];
-      take(/^=$/);
-      takeNumber();
-      take(/^;$/);
-    } else if (kind === "vector") {
-      take(/^length$/);
-      object.rows = takeNumber();
-      take(/^->$/);
-      object.keys = [32];
-      object.values = takeWidths();
-      take(/^;$/);
-    } else {
-      object.keys = takeWidths();
-      take(/^->$/);
-      object.values = takeWidths();
-      if (kind === "map") {
-        take(/^capacity$/);
-        object.rows = takeNumber();
-        take(/^;$/);
-      } else {
-        take(/^\{$/);
-        object.rows = 0;
-        for (let word = take(/./); word !== "}"; word = take(/./)) {
-          object.rows += word === ";" ? 1 : 0;
-        }
-      }
-    }
-    objects.set(name, object);
-  }
-  return { objects, lines: linesOf(text) };
-}
-
 // The kinds of texts, with their readers and what they are called on the page.
 const TEXT_KINDS = new Map([
   ["answer", { title: "answer of compile", read: readAnswer }],
   ["limits", { title: "limits", read: readLimits }],
-  ["source", { title: "source", read: readSource }],
+  ["source", { title: "source", read: (text) => readSource(text) }],
   ["report", { title: "report", read: readReport }],
+  ["run", { title: "answer of run", read: readRun }],
   ["schedule", { title: "schedule", read: readSchedule }],
   ["trace", { title: "trace", read: readTrace }],
   ["nothing", { title: "tells nothing", read: (text) => ({ lines: linesOf(text) }) }],
@@ -467,6 +422,9 @@ function kindOf(text) {
   if (line.startsWith("report")) {
     return "report";
   }
+  if (/^(packet |object |end$)/.test(line)) {
+    return "run";
+  }
   if (/^(a|c|w|k|drain|[uhd] .*)$/.test(line)) {
     return "schedule";
   }
@@ -480,5 +438,5 @@ function kindOf(text) {
     return "source";
   }
   throw new Refusal(place + 1,
-    "the beginning of an answer of compile, of a report, or of a text that goes with one is wanted");
+    "the beginning of what compile, run or replay print, or of a text that goes with it, is wanted");
 }

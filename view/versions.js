@@ -38,6 +38,10 @@ function versionsOf(report) {
   return { made, makers, notYet, shown };
 }
 
+// Whether stages of passes were events of their own.
+const isFine = (report) => report.packets.some(({ way, admitted, released }) =>
+  way === "pass" || (way === "fast" && admitted < released));
+
 // What the report tells of events: the letter and the packet of each event that admits, decides or releases one.
 function toldEvents(report) {
   const told = new Map();
@@ -58,6 +62,9 @@ function strangenessOf(report, schedule) {
   const total = schedule.events.length;
   if (report.events < total || (report.events > total && !schedule.drain)) {
     return `the report has ${counted(report.events, "event")}, and the schedule ${grouped(total)}`;
+  }
+  if (isFine(report)) {
+    return null;
   }
   const letters = { admitted: "a", decided: "u", released: "d" };
   for (const packet of report.packets) {

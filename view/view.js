@@ -5,6 +5,7 @@
 const texts = new Map();
 const drawing = document.getElementById("drawing");
 let pasted = 0;
+let shownRun = null;
 
 function refuse(name, refusal) {
   const lines = linesOf(texts.get(name) ? texts.get(name).text : "");
@@ -13,16 +14,9 @@ function refuse(name, refusal) {
     ...(lines[refusal.line - 1] ? [make("code", "", shortened(lines[refusal.line - 1]))] : []));
 }
 
-// Reads all texts anew and draws what they tell. Where one of them isn't in the form, nothing is drawn.
-function redraw() {
+// Reads all texts. Answers what they tell, by kind; or null where one of them isn't in the form, which is then told.
+function readTexts() {
   const read = new Map();
-  shownTexts = read;
-  drawing.replaceChildren();
-  document.getElementById("refusal").replaceChildren();
-  document.getElementById("note").textContent = "";
-  document.getElementById("lines").replaceChildren();
-  showTexts();
-  document.body.classList.toggle("empty", texts.size === 0);
   for (const [name, { text }] of texts) {
     try {
       const kind = kindOf(text);
@@ -31,21 +25,80 @@ function redraw() {
       if (!(refusal instanceof Refusal)) {
         throw refusal;
       }
-      read.clear();
       refuse(name, refusal);
-      return;
+      return null;
     }
   }
-  if (read.has("report")) {
-    drawing.append(
-      new RunDrawing(read.get("report"), read.get("schedule"), read.get("trace"), read.get("answer")).draw());
+  return read;
+}
+
+// What numbers mean is told by a flat program: the one of the answer, or the one that the page makes of the source.
+function takeMeanings(read) {
+  const [answer, source] = [read.get("answer"), read.get("source")];
+  if (source) {
+    source.flat = flatOf(source);
+  }
+  const program = answer || (source && source.flat);
+  const meanings = program ? new Meanings(program, source) : null;
+  if (answer) {
+    answer.meanings = meanings;
+  }
+  return meanings;
+}
+
+// Tells which texts don't belong together, and why.
+function tellStrangers(strangers) {
+  const nameOf = (kind) => [...texts].find(([, text]) => text.kind === kind)[0];
+  document.getElementById("refusal").replaceChildren(
+    make("b", "", "These texts don't belong together, so nothing is drawn."),
+    makeWith("ul", "", strangers.map(({ kinds, why }) => {
+      const names = kinds.map((kind) => `${nameOf(kind)} (${TEXT_KINDS.get(kind).title})`);
+      return makeWith("li", "stranger", [make("b", "", names.join(" and ")), `: ${why}.`]);
+    })),
+    make("p", "", "Take one of them away with its ×, or give the one that belongs to the others."));
+}
+
+// Reads all texts anew and draws what they tell. Where one of them isn't in the form, or where they don't belong
+// together, nothing is drawn.
+function redraw() {
+  drawing.replaceChildren();
+  recountHidden.clear();
+  shownRun = null;
+  ["refusal", "lines", "note"].forEach((name) => document.getElementById(name).replaceChildren());
+  showTexts();
+  document.body.classList.toggle("empty", texts.size === 0);
+  const read = readTexts();
+  shownTexts = read || new Map();
+  if (!read) {
+    return;
+  }
+  const meanings = takeMeanings(read);
+  const strangers = strangersOf(read);
+  if (strangers.length === 0 && read.has("report")) {
+    shownRun = new RunDrawing(read.get("report"), { ...Object.fromEntries(read), meanings });
+    strangers.push(...shownRun.strangers);
+  }
+  if (strangers.length > 0) {
+    tellStrangers(strangers);
+    return;
+  }
+  drawAll(read, meanings);
+}
+
+function drawAll(read, meanings) {
+  if (shownRun) {
+    drawing.append(shownRun.draw());
+  }
+  if (read.has("run")) {
+    drawing.append(new SerialDrawing(read.get("run"), read.get("trace"), meanings).draw());
   }
   if (read.has("answer")) {
     drawing.append(new SplitDrawing(read.get("answer"), read.get("source"), read.get("limits")).draw());
   }
   if (texts.size > 0 && drawing.children.length === 0) {
-    document.getElementById("refusal").textContent = "Give an answer of compile or a report too, and it is drawn.";
+    document.getElementById("refusal").textContent = "Give what compile, replay or run prints too, and it is drawn.";
   }
+  recountHidden.forEach((recount) => recount());
 }
 
 function showTexts() {
@@ -85,8 +138,10 @@ function takeFiles(files) {
 }
 
 // The examples are named in the address behind the #.
+const exampleInAddress = () => decodeURIComponent(location.hash.slice(1));
+
 function takeExample() {
-  const name = decodeURIComponent(location.hash.slice(1));
+  const name = exampleInAddress();
   const example = EXAMPLES.find((one) => one.name === name);
   document.querySelectorAll(".examples a").forEach((link) => {
     link.removeAttribute("aria-current");
@@ -96,55 +151,17 @@ function takeExample() {
   });
   if (example) {
     texts.clear();
+    document.getElementById("examples").open = false;
     take(Object.entries(example.texts));
   }
-}
-
-// With ?count the page writes how many marks it has drawn, for its test.
-function writeCounts(milliseconds) {
-  const shapes = {
-    before: ".lane.before .chip", server: ".lane.server .chip", after: ".lane.after .chip",
-    twice: ".lane.server .chip.twice", blocks: ".block-line", tables: ".mark.table", gauges: ".gauge .used",
-    over: ".used.over",
-    up: ".crossing.up .value", returned: ".crossing.down .value", unknown: ".value.unknown", outputs: ".mark.output",
-    rows: ".rows .row", fast: ".rows .mark.fast", admitted: ".rows .mark.admitted", decided: ".rows .mark.decided",
-    sent: ".rows .mark.sent", dropped: ".rows .mark.dropped, .rows .mark.drops", open: ".rows .row.open",
-    seats: ".mark.seat", slopes: ".slopes path", state: ".state-row", differs: ".differs", warnings: ".warning",
-    versions: ".versions path.shown", made: ".version-row", others: ".state-row.other",
-    held: ".rows .wait.held", kept: ".rows .wait.kept", free: ".rows .wait.free", down: ".rows .wait.down",
-    uncertain: ".rows .wait.perhaps",
-  };
-  const lines = Object.entries(shapes).map(([name, shape]) => `${name} ${drawing.querySelectorAll(shape).length}`);
-  const told = [...drawing.querySelectorAll(".crossing .told-count")].map((element) => element.textContent);
-  const stages = [...drawing.querySelectorAll(".lane.switch")].map((lane) => {
-    const titles = [...lane.querySelectorAll(".stage h4")].map((title) => Number(title.textContent.split(" ")[1]));
-    return Math.max(0, ...titles);
-  });
-  const ticksOf = (shape) => [...drawing.querySelectorAll(`.events path${shape}`)]
-    .map((path) => path.getAttribute("d")).join("").split("M").slice(1).map((tick) => Number(tick.split(" ")[0]));
-  lines.push(`ticks ${ticksOf(":not(.drain)").length}`, `drains ${ticksOf(".drain").length}`);
-  for (const [letter] of LETTERS) {
-    lines.push(`ticks-${letter} ${ticksOf(`.${letter}`).sort((one, other) => one - other).join(" ")}`);
-  }
-  const placesOf = (row, shape) => [...row.querySelectorAll(shape)]
-    .map(({ style }) => `${style.getPropertyValue("--at")}-${style.getPropertyValue("--until")}`);
-  const ways = (shape) => [...drawing.querySelectorAll(".rows .row")]
-    .flatMap((row) => placesOf(row, shape).map((place) => `${row.querySelector(".label b").textContent}:${place}`));
-  lines.push(`waits ${ways(".wait.held").join(" ")}`, `comes-down ${ways(".wait.down").join(" ")}`);
-  const list = [...drawing.querySelectorAll(".version-row")].map((row) =>
-    [...row.children].map((cell) => cell.textContent).join(","));
-  lines.push(`version-list ${list.join(" ")}`);
-  lines.push(`stages ${stages.join(" ")}`, `crossing ${told.join(" | ")}`);
-  lines.push(`order ${[...drawing.querySelectorAll(".seat b")].map((seat) => seat.textContent).join(" ")}`);
-  lines.push(`refusal ${document.getElementById("refusal").textContent}`, `milliseconds ${Math.round(milliseconds)}`);
-  const counts = make("pre", "", `${lines.join("\n")}\n`);
-  counts.id = "counts";
-  document.body.append(counts);
 }
 
 // How large an example is, by the first lines of its answer.
 function sizeOf(example) {
   const lines = linesOf(Object.values(example.texts)[0]);
+  if (example.kind === "serials") {
+    return counted(lines.filter((line) => line.startsWith("packet ")).length, "packet");
+  }
   const told = (line, word) => counted(Number(new RegExp(`${word}s ([0-9]+)`).exec(line)[1]), word);
   return lines[0] === "report 1" ? `${told(lines[1], "packet")}, ${told(lines[2], "event")}`
     : `${told(lines[0], "instruction")}, ${told(lines[1], "stage")}`;
@@ -152,13 +169,13 @@ function sizeOf(example) {
 
 function start() {
   const paste = document.getElementById("paste");
-  const files = document.getElementById("files");
   for (const example of EXAMPLES) {
     const link = make("a", "", example.title);
     link.href = `#${example.name}`;
     document.getElementById(example.kind).append(makeWith("li", "", [link, make("small", "", sizeOf(example))]));
   }
-  files.addEventListener("change", () => takeFiles(files.files));
+  document.querySelectorAll(".fields input").forEach((field) =>
+    field.addEventListener("change", () => takeFiles(field.files)));
   document.getElementById("draw").addEventListener("click", () => {
     pasted += 1;
     take([[`pasted text ${pasted}`, paste.value]]);
@@ -172,12 +189,11 @@ function start() {
   drawing.addEventListener("pointerover", (moved) => tell(moved.target));
   drawing.addEventListener("focusin", (moved) => tell(moved.target));
   window.addEventListener("hashchange", takeExample);
-  const before = performance.now();
   redraw();
   takeExample();
-  drawing.getBoundingClientRect();
-  if (location.search === "?count") {
-    writeCounts(performance.now() - before);
+  const asked = new URLSearchParams(location.search);
+  if (asked.has("count")) {
+    countExamples(asked);
   }
 }
 

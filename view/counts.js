@@ -1,0 +1,97 @@
+"use strict";
+
+// What the page's test asks for: numbers of marks, and some texts, a line for each.
+
+// For each line of the source that has instructions, their numbers by column.
+function countsOfSource() {
+  const places = COLUMNS.map(([name]) => name);
+  return [...drawing.querySelectorAll(".source-row.filled")].map((row) => `beside ${row.dataset.line} ${places
+    .map((name) => row.querySelector(`.place.${name}`).dataset.numbers.replaceAll(" ", ",") || "-").join(" ")}`);
+}
+
+// What stands for addresses and ports in the rows at the end, the changes of packets, and the constants of the split.
+function countsOfNumbers() {
+  const textsOf = (shape) => [...drawing.querySelectorAll(shape)].map((element) => element.textContent).join(" ");
+  const meant = [...MEANINGS.keys()];
+  const arrived = [...drawing.querySelectorAll(".serial-row td:nth-child(3)")].map((cell) => cell.textContent);
+  return [
+    ...meant.map((meaning) => `rows-${meaning} ${textsOf(`.state .address.${meaning}`)}`),
+    ...meant.map((meaning) => `changed-${meaning} ${textsOf(`.change .address.${meaning}`)}`),
+    `constants ${textsOf(".lane .chip.const .word").split(" ").filter((word) => /[.:]/.test(word)).join(" ")}`,
+    `arrived ${arrived.join("; ")}`,
+  ];
+}
+
+// How many columns aren't in sight, and what is said of them.
+function countsOfHidden() {
+  return [...drawing.querySelectorAll(".hidden-columns")].flatMap((hint, place) =>
+    [`hidden-${place} ${hint.dataset.hidden}`, `hint-${place} ${hint.textContent}`]);
+}
+
+// What is said of texts that don't belong together.
+function countsOfStrangers() {
+  const strangers = [...document.querySelectorAll(".stranger")].map((stranger) => stranger.textContent);
+  return [`strangers ${strangers.length}`, ...strangers.map((text, place) => `stranger-${place} ${text}`)];
+}
+
+// With ?count the page draws the example behind the #, or all of them where there is none, and writes for each how many
+// marks it has drawn. With ?count&events=5-20 these events are shown alone.
+function countExamples(asked) {
+  const named = EXAMPLES.filter(({ name }) => exampleInAddress() === "" || name === exampleInAddress());
+  for (const example of named) {
+    const before = performance.now();
+    texts.clear();
+    take(Object.entries(example.texts));
+    if (shownRun && asked.has("events")) {
+      const [from, to] = asked.get("events").split("-").map(Number);
+      shownRun.show(from - 0.5, to + 0.5);
+    }
+    drawing.getBoundingClientRect();
+    writeCounts(example.name, performance.now() - before);
+  }
+}
+
+function writeCounts(name, milliseconds) {
+  const shapes = {
+    before: ".lane.before .chip", server: ".lane.server .chip", after: ".lane.after .chip",
+    twice: ".lane.server .chip.twice", blocks: ".block-line", tables: ".mark.table", gauges: ".gauge .used",
+    over: ".used.over",
+    up: ".crossing.up .value", returned: ".crossing.down .value", unknown: ".value.unknown", outputs: ".mark.output",
+    rows: ".rows .row", fast: ".rows .mark.fast", admitted: ".rows .mark.admitted", decided: ".rows .mark.decided",
+    sent: ".rows .mark.sent", dropped: ".rows .mark.dropped, .rows .mark.drops", open: ".rows .row.open",
+    seats: ".mark.seat", slopes: ".slopes path", state: ".state-row", differs: ".differs",
+    passing: ".rows .wait.pass", serial: ".serial-row", "serial-sent": ".serial-row .sent-text", changes: ".change",
+    "source-rows": ".source-row.filled", chooses: ".source-lines .chooses",
+    versions: ".versions path.shown", made: ".version-row", others: ".state-row.other",
+    held: ".rows .wait.held", kept: ".rows .wait.kept", free: ".rows .wait.free", down: ".rows .wait.down",
+    uncertain: ".rows .wait.perhaps",
+  };
+  const lines = Object.entries(shapes).map(([name, shape]) => `${name} ${drawing.querySelectorAll(shape).length}`);
+  const told = [...drawing.querySelectorAll(".crossing .told-count")].map((element) => element.textContent);
+  const stages = [...drawing.querySelectorAll(".lane.switch")].map((lane) => {
+    const titles = [...lane.querySelectorAll(".stage h4")].map((title) => Number(title.textContent.split(" ")[1]));
+    return Math.max(0, ...titles);
+  });
+  const ticksOf = (shape) => [...drawing.querySelectorAll(`.events path${shape}`)]
+    .map((path) => path.getAttribute("d")).join("").split("M").slice(1).map((tick) => Number(tick.split(" ")[0]));
+  lines.push(`ticks ${ticksOf(":not(.drain)").length}`, `drains ${ticksOf(".drain").length}`);
+  for (const [letter] of LETTERS) {
+    lines.push(`ticks-${letter} ${ticksOf(`.${letter}`).sort((one, other) => one - other).join(" ")}`);
+  }
+  const placesOf = (row, shape) => [...row.querySelectorAll(shape)]
+    .map(({ style }) => `${style.getPropertyValue("--at")}-${style.getPropertyValue("--until")}`);
+  const ways = (shape) => [...drawing.querySelectorAll(".rows .row")]
+    .flatMap((row) => placesOf(row, shape).map((place) => `${row.querySelector(".label b").textContent}:${place}`));
+  lines.push(`waits ${ways(".wait.held").join(" ")}`, `comes-down ${ways(".wait.down").join(" ")}`);
+  const list = [...drawing.querySelectorAll(".version-row")].map((row) =>
+    [...row.children].map((cell) => cell.textContent).join(","));
+  lines.push(`version-list ${list.join(" ")}`);
+  lines.push(`stages ${stages.join(" ")}`, `crossing ${told.join(" | ")}`);
+  lines.push(`order ${[...drawing.querySelectorAll(".seat b")].map((seat) => seat.textContent).join(" ")}`);
+  lines.push(`fields ${document.querySelectorAll(".fields input[type=file]").length}`,
+    `links ${document.querySelectorAll("#examples:not([open]) .examples a").length}`);
+  lines.push(...countsOfSource(), ...countsOfNumbers(), ...countsOfHidden(), ...countsOfStrangers());
+  lines.push(`refusal ${document.getElementById("refusal").textContent}`, `milliseconds ${Math.round(milliseconds)}`);
+  const counts = make("pre", "counts", `counts of ${name}\n${lines.join("\n")}\nend of counts\n`);
+  document.body.append(counts);
+}
