@@ -13,4 +13,4 @@ returns c =
     let two = c.in_ok-extend-2.ensures.ok ∙ ap (λ x. c.extend.new.self ++ x) c.as_slice-3.ensures in
     told_split (program_of c.args.f.now) c.args.split.now c.args.writeback c.len.result c.in_ok-counts.counts
     c.in_ok-words.words c.in_ok-text.text c.in_ok-listing.listing c.in_ok-parts.parts c.extend.new.self c.extend-2.new.self
-    c.in_ok-counts.ensures c.in_ok-words.ensures number headed c.in_ok-listing.ensures c.in_ok-parts.ensures one two
+    c.in_ok-counts.ensures c.in_ok-words.ensures number headed c.in_ok-listing.ensures c.in_ok-parts.ensures.text one two
