@@ -6,18 +6,20 @@ use Rattle.gal_io.specs.Files.{FilesState}
 use Rattle.gal_io.specs.Sink.{SinkState}
 use Rattle.gal_io.specs.declared.sink.SinkEnd.TheVariants as ends
 use Rattle.element_text.specs.declared.error.TextError.{TextError}
+use Rattle.pcap_trace.specs.declared.refusal.PcapError.{PcapError}
 use Rattle.resource_limits.specs.declared.limits.LimitsError.{LimitsError}
 use Rattle.run_text.specs.declared.refusal.LinesError.{LinesError}
 use Rattle.gallium_cli.specs.declared.status.Status.{Status}
 use Rattle.gallium_cli.specs.declared.refusal.Refusal.{Refusal}
 use Rattle.gallium_cli.specs.declared.refusal.Refusal.TheVariants.{Source, LongProgram, Limits, Trace, Schedule}
-use Rattle.gallium_cli.specs.declared.refusal.Refusal.TheVariants.{TooLong, ReadFault, NoMemory}
+use Rattle.gallium_cli.specs.declared.refusal.Refusal.TheVariants.{TooLong, ReadFault, NoMemory, Pcap}
 use Rattle.gallium_cli.specs.Call.{Call}
 use Rattle.gallium_cli.specs.Lines.{status_of, line_of}
 use Rattle.gallium_cli.specs.Words.{Request}
-use Rattle.gallium_cli.specs.Roles.{Role, source, program, limits, trace, schedule, size_of, IsBad}
+use Rattle.gallium_cli.specs.Roles.{Role, source, program, limits, trace, schedule, capture, size_of, IsBad}
 use Rattle.gallium_cli.specs.Roles.{Gate, File, Choice, gates_of}
 use Rattle.gallium_cli.specs.Loads.{IsBadSource, IsLongProgram, AreBadLimits, IsBadTrace, IsBadSchedule, IsFileRefused}
+use Rattle.gallium_cli.specs.Loads.{IsBadCapture}
 use Rattle.gallium_cli.specs.Causes.{IsRefusedAt, IsFirstRefused, IsTold, EndsFor}
 use Rattle.gallium_cli.specs.Promises.{IsFault, refused_status, IsRefusedAs, IsShut, IsCause, IsShutFor, IsFirstShut}
 use Rattle.gallium_cli.specs.Promises.{IsFirstCause, IsCauseTold}
@@ -54,6 +56,7 @@ cause_is_bad LongProgram program text why = (why.0.0, why.1)
 cause_is_bad (Limits fault) limits text why = no_limits fault text why
 cause_is_bad (Trace fault) trace text why = no_trace fault text why
 cause_is_bad (Schedule fault) schedule text why = no_schedule fault text why
+cause_is_bad (Pcap fault) capture text why = why.1
 cause_is_bad _ role text why = absurd why
 
 not_long : (cause : Refusal) (role : Role) (told : Option (List ℕ)) → IsSomeAnd told (IsCause cause role)
@@ -96,6 +99,11 @@ same_in_schedule (Schedule fault) found text why bad =
     let one = why.1 in let other = bad.1 in let same : fault ≡ found = cc in ap Schedule same
 same_in_schedule _ found text why bad = absurd why
 
+same_in_capture : (cause : Refusal) (found : PcapError) (text : List ℕ) → IsCause cause capture text
+    → IsBadCapture found text → cause ≡ Pcap found
+same_in_capture (Pcap fault) found text why bad = ap Pcap (bad.1.only fault why.0 why.2)
+same_in_capture _ found text why bad = absurd why
+
 same_told : (P : List ℕ → Type 0) (cause found : Refusal) (role : Role)
     → ((text : List ℕ) → IsCause cause role text → P text → cause ≡ found) → (told : Option (List ℕ))
     → IsSomeAnd told (IsCause cause role) → IfSome told P → cause ≡ found
@@ -124,6 +132,9 @@ cause_file (Trace found) trace name cause result f f' e e' why refused told =
 cause_file (Schedule found) schedule name cause result f f' e e' why refused told =
     let same = same_told (IsBadSchedule found) cause (Schedule found) schedule (same_in_schedule cause found) (f.told name) why refused.1 in
     line_of_cause (Schedule found) cause result e e' same told
+cause_file (Pcap found) capture name cause result f f' e e' why refused told =
+    let same = same_told (IsBadCapture found) cause (Pcap found) capture (same_in_capture cause found) (f.told name) why refused.1 in
+    line_of_cause (Pcap found) cause result e e' same told
 cause_file (TooLong blamed) role name cause result f f' e e' why refused told =
     absurd (not_long cause role (f.told name) why refused.1)
 cause_file (ReadFault blamed) role name cause result f f' e e' why refused told =
@@ -140,6 +151,7 @@ cause_status LongProgram program text why = refl
 cause_status (Limits fault) limits text why = refl
 cause_status (Trace fault) trace text why = refl
 cause_status (Schedule fault) schedule text why = refl
+cause_status (Pcap fault) capture text why = refl
 cause_status _ role text why = absurd why
 
 refused_as : (cause : Refusal) (role : Role) (told : Option (List ℕ)) → IsSomeAnd told (IsCause cause role)

@@ -9,26 +9,29 @@ use Rattle.packet_fields.specs.declared.packet.Packet.{Packet}
 use Rattle.run_text.specs.declared.plan.Plan.{Plan}
 use Rattle.run_text.specs.declared.refusal.LinesError.{LinesError}
 use Rattle.element_text.specs.declared.error.TextError.{TextError}
+use Rattle.pcap_trace.specs.declared.refusal.PcapError.{PcapError}
 use Rattle.resource_limits.specs.declared.limits.LimitsError.{LimitsError}
 use Rattle.switch_ir.specs.Port.{PortState}
 use Rattle.gallium_cli.specs.declared.status.Status.{Status}
 use Rattle.gallium_cli.specs.declared.status.Status.TheVariants as statuses
 use Rattle.gallium_cli.specs.declared.refusal.Refusal.{Refusal}
 use Rattle.gallium_cli.specs.declared.refusal.Refusal.TheVariants.{Source, LongProgram, Limits, Trace, Schedule}
-use Rattle.gallium_cli.specs.declared.refusal.Refusal.TheVariants.{TooLong, ReadFault, WriteFault, SwitchFault, NoMemory}
+use Rattle.gallium_cli.specs.declared.refusal.Refusal.TheVariants.{TooLong, ReadFault, WriteFault, SwitchFault, NoMemory, Pcap}
 use Rattle.gallium_cli.specs.Call.{Call, Work}
 use Rattle.gallium_cli.specs.Lines.{status_of}
-use Rattle.gallium_cli.specs.Words.{Request, Run, Compile, Replay, Within}
-use Rattle.gallium_cli.specs.Roles.{Role, source, program, limits, trace, schedule, size_of, IsGood, IsBad}
+use Rattle.gallium_cli.specs.Words.{Request, Run, Compile, Replay, PcapIn, PcapOut, Within}
+use Rattle.gallium_cli.specs.Roles.{Role, source, program, limits, trace, schedule, capture, size_of, IsGood, IsBad}
 use Rattle.gallium_cli.specs.Roles.{Gate, File, Choice, gates_of, split_gates, event_gates}
 use Rattle.gallium_cli.specs.Answers.{IsTraffic, IsAnswer}
 use Rattle.gallium_cli.specs.Loads.{IsFileRefused, IsBadSource, IsLongProgram, AreBadLimits, IsBadTrace, IsBadSchedule}
+use Rattle.gallium_cli.specs.Loads.{IsBadCapture}
 use Rattle.gallium_cli.specs.Causes.{IsRefusedAt, IsPassed, IsFirstRefused, IsSwitchFaulty, IsNotWritten, after_line}
 use Rattle.gallium_cli.specs.Causes.{IsTold, EndsFor}
 use Rattle.gallium_cli.specs.Promises.{IsWriteFault, IsFault, IsUnlessFault, refused_status, IsRefusedAs, IsOpen, AllOpen}
 use Rattle.gallium_cli.specs.Promises.{IsShut, IsFirstShut, IsExact, IsComplete}
 use Rattle.gallium_cli.proofs.Choices.{IsGreatestOne, IsKeptUnexceeded, refused_unchosen, open_over, over_status}
-use Rattle.gallium_cli.proofs.Files.{AllPassed, passed_source, passed_trace, passed_schedule, split_passed, passed_both}
+use Rattle.gallium_cli.proofs.Files.{AllPassed, passed_source, passed_trace, passed_schedule, passed_capture, split_passed}
+use Rattle.gallium_cli.proofs.Files.{passed_both}
 
 -- ## One file
 
@@ -88,6 +91,10 @@ bad_schedule : (fault : LinesError) (told : Option (List ℕ)) → IfSome told (
     → IfSome told (IsBad schedule)
 bad_schedule fault told = if_told (IsBadSchedule fault) (IsBad schedule) (no_schedule fault) told
 
+bad_capture : (fault : PcapError) (told : Option (List ℕ)) → IfSome told (IsBadCapture fault)
+    → IfSome told (IsBad capture)
+bad_capture fault told = if_told (IsBadCapture fault) (IsBad capture) (λ bytes bad. bad.0) told
+
 -- what is refused of a good file is a fault
 good_refused : (refusal : Refusal) (role : Role) (name : List ℕ) (f f' : FilesState)
     → IsSomeAnd (f.told name) (IsGood role) → IsFileRefused refusal role name f f' → IsFault (status_of refusal)
@@ -103,6 +110,8 @@ good_refused (Trace fault) trace name f f' good refused =
     good_not_bad trace (f.told name) good (bad_trace fault (f.told name) refused.1)
 good_refused (Schedule fault) schedule name f f' good refused =
     good_not_bad schedule (f.told name) good (bad_schedule fault (f.told name) refused.1)
+good_refused (Pcap fault) capture name f f' good refused =
+    good_not_bad capture (f.told name) good (bad_capture fault (f.told name) refused.1)
 good_refused (TooLong blamed) role name f f' good refused = good_not_long role (f.told name) good refused.1
 good_refused (ReadFault blamed) role name f f' good refused = tt
 good_refused NoMemory role name f f' good refused = tt
@@ -137,6 +146,8 @@ exact_file (Trace fault) trace name status f f' bad refused =
     inl (sym (bad_only trace status (f.told name) bad (bad_trace fault (f.told name) refused.1)))
 exact_file (Schedule fault) schedule name status f f' bad refused =
     inl (sym (bad_only schedule status (f.told name) bad (bad_schedule fault (f.told name) refused.1)))
+exact_file (Pcap fault) capture name status f f' bad refused =
+    inl (sym (bad_only capture status (f.told name) bad (bad_capture fault (f.told name) refused.1)))
 exact_file (TooLong blamed) role name status f f' bad refused =
     inl (sym (long_only role status (f.told name) bad refused.1))
 exact_file (ReadFault blamed) role name status f f' bad refused = inr tt
@@ -214,6 +225,8 @@ answer_passed text (Compile s l shrink) f p p' (m, split, writeback, found, prin
 answer_passed text (Replay s t c by) f p p' (m, split, writeback, packets, plan, replayed, found, traffic, report) =
     passed_both (split_gates s by) (event_gates t c) f (split_passed by s f m split writeback found)
     (traffic_passed f t c packets plan traffic)
+answer_passed text (PcapIn c port) f p p' (found, told, printed) = (passed_capture c f found told, tt)
+answer_passed text (PcapOut t big nano) f p p' (packets, told, printed) = (passed_trace t f packets told, tt)
 
 -- ## How a call ends
 

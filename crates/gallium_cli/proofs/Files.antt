@@ -12,14 +12,15 @@ use Rattle.split_model.specs.Bounds.{IsBounded}
 use Rattle.resource_limits.specs.declared.limits.Limits.{Limits as Allowed}
 use Rattle.run_text.specs.declared.plan.Plan.{Plan}
 use Rattle.run_text.specs.Trace.{trace_of, schedule_of}
+use Rattle.pcap_trace.specs.declared.pcap.Pcap.{Pcap as Captured}
 use Rattle.gallium_cli.specs.declared.status.Status.TheVariants as statuses
 use Rattle.gallium_cli.specs.declared.refusal.Refusal.{Refusal}
 use Rattle.gallium_cli.specs.declared.refusal.Refusal.TheVariants.{Source, LongProgram, Limits, Trace, Schedule}
-use Rattle.gallium_cli.specs.declared.refusal.Refusal.TheVariants.{TooLong, ReadFault, NoMemory}
+use Rattle.gallium_cli.specs.declared.refusal.Refusal.TheVariants.{TooLong, ReadFault, NoMemory, Pcap}
 use Rattle.gallium_cli.specs.Words.{Splitting, Served, Within, Run}
-use Rattle.gallium_cli.specs.Roles.{Role, source, program, limits, trace, schedule, size_of}
+use Rattle.gallium_cli.specs.Roles.{Role, source, program, limits, trace, schedule, capture, size_of}
 use Rattle.gallium_cli.specs.Roles.{IsShort, IsGood, AreLimits, Gate, File, Choice, gates_of, plan_gates, split_gates}
-use Rattle.gallium_cli.specs.Roles.{event_gates}
+use Rattle.gallium_cli.specs.Roles.{event_gates, IsCaptured}
 use Rattle.gallium_cli.specs.Answers.{IsInput, IsOnlySource, IsProgram, IsPlan, IsSplitBy, IsTraffic}
 use Rattle.gallium_cli.specs.Loads.{GoesOn, IsUnread, IsFileRefused, IsLoaded}
 use Rattle.gallium_cli.specs.Causes.{IsRefusedAt, IsPassed, IsFirstRefused, IsUnchosen}
@@ -33,6 +34,7 @@ small_size program = omega arith
 small_size limits = omega arith
 small_size trace = omega arith
 small_size schedule = omega arith
+small_size capture = omega arith
 
 -- what the bytes that were read spell, the told content spells
 told_text : (P : List ℕ → Type 0) (bytes : List ℕ) (told : Option (List ℕ))
@@ -55,6 +57,8 @@ unread_refused (Trace fault) trace bytes name f f' loaded unread =
     (unread.0, told_text _ bytes (f.told name) loaded.1 (loaded.0, unread.1))
 unread_refused (Schedule fault) schedule bytes name f f' loaded unread =
     (unread.0, told_text _ bytes (f.told name) loaded.1 (loaded.0, unread.1))
+unread_refused (Pcap fault) capture bytes name f f' loaded unread =
+    (unread.0, told_text _ bytes (f.told name) loaded.1 ((loaded.0, unread.1), unread.2))
 unread_refused NoMemory role bytes name f f' loaded unread = tt
 unread_refused _ role bytes name f f' loaded unread = absurd unread
 
@@ -103,6 +107,12 @@ passed_schedule c f plan spelled =
     if_spelled (λ text. (length text ≤ size_of schedule) × (schedule_of text ≡ Ok plan)) (IsGood schedule) (f.told c)
     (λ text h. (h.0, (plan, h.1))) spelled
 
+pub passed_capture : (c : List ℕ) (f : FilesState) (p : Captured)
+    → IfSome (f.told c) (λ bytes. (length bytes ≤ size_of capture) × IsCaptured bytes p) → IsPassed (File c capture) f
+passed_capture c f p spelled =
+    if_spelled (λ bytes. (length bytes ≤ size_of capture) × IsCaptured bytes p) (IsGood capture) (f.told c)
+    (λ bytes h. (h.0, (p, h.1))) spelled
+
 -- ## After other reads
 
 -- what is told of a content is as before
@@ -119,6 +129,7 @@ refused_later LongProgram program name f g h goes refused = told_before _ f g na
 refused_later (Limits fault) limits name f g h goes refused = (refused.0, told_before _ f g name goes refused.1)
 refused_later (Trace fault) trace name f g h goes refused = (refused.0, told_before _ f g name goes refused.1)
 refused_later (Schedule fault) schedule name f g h goes refused = (refused.0, told_before _ f g name goes refused.1)
+refused_later (Pcap fault) capture name f g h goes refused = (refused.0, told_before _ f g name goes refused.1)
 refused_later (TooLong blamed) role name f g h goes refused =
     (refused.0, told_before _ f g name goes refused.1, refused.2, refused.3 ∙ ap one_more goes.overlong)
 refused_later (ReadFault blamed) role name f g h goes refused =

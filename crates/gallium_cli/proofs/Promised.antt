@@ -15,7 +15,7 @@ use Rattle.gallium_cli.specs.declared.refusal.Refusal.TheVariants.{Usage, Exceed
 use Rattle.gallium_cli.specs.declared.refusal.Refusal.TheVariants.{NoMemory}
 use Rattle.gallium_cli.specs.Call.{Call, Work}
 use Rattle.gallium_cli.specs.Lines.{status_of}
-use Rattle.gallium_cli.specs.Words.{Request, Run, Compile, Replay, Served, Within, is_replay, request_of}
+use Rattle.gallium_cli.specs.Words.{Request, Run, Compile, Replay, PcapIn, PcapOut, Served, Within, is_replay, request_of}
 use Rattle.gallium_cli.specs.Roles.{Gate, File, Choice, gates_of, names_in}
 use Rattle.gallium_cli.specs.Causes.{IsFirstRefused, IsSwitchKept, IsSwitchFaulty, IsNotWritten, IsIdle, IsDone, HasCause}
 use Rattle.gallium_cli.specs.Causes.{CountsFaults, after_line, EndsFor, Ends}
@@ -238,6 +238,9 @@ may_exceed refusal (Replay s t c Served) f f' is first =
 may_exceed refusal (Replay s t c (Within l false)) f f' is first = tt
 may_exceed refusal (Replay s t c (Within l true)) f f' is first =
     shrunk_unexceeded refusal (gates_of (Replay s t c (Within l true))) f f' tt is first
+may_exceed refusal (PcapIn c port) f f' is first = shrunk_unexceeded refusal (gates_of (PcapIn c port)) f f' tt is first
+may_exceed refusal (PcapOut t big nano) f f' is first =
+    shrunk_unexceeded refusal (gates_of (PcapOut t big nano)) f f' tt is first
 
 exceeded_ends : (request : Option Request) (status : Status) (call : Call)
     → EndsFor request status call → IsExceededStatus status → MayExceed request

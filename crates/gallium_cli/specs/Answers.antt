@@ -22,6 +22,10 @@ use Rattle.run_text.specs.declared.plan.Plan.{Plan}
 use Rattle.run_text.specs.Trace.{trace_of, schedule_of}
 use Rattle.run_text.specs.Report.{report_of}
 use Rattle.run_text.specs.Answer.{answer_of}
+use Rattle.run_text.specs.Printed.{trace_text}
+use Rattle.pcap_trace.specs.declared.pcap.Pcap.{Pcap}
+use Rattle.pcap_trace.specs.Format.{pcap_bytes}
+use Rattle.pcap_trace.specs.Packets.{packets_of, pcap_of}
 use Rattle.split_model.specs.Greatest.{IsGreatestSplit}
 use Rattle.run_model.specs.declared.event.Event.{Event}
 use Rattle.run_model.specs.declared.event.Event.TheVariants.{Admit}
@@ -40,9 +44,9 @@ use Rattle.replay_contracts.specs.declared.job.Replayed.{Replayed}
 use Rattle.replay_contracts.specs.Given.{Given, setup_for, whole, whole_runs}
 use Rattle.replay_contracts.specs.Promise.{state_for}
 use Rattle.replay_contracts.specs.Replayer.{IsReported}
-use Rattle.gallium_cli.specs.Words.{Splitting, Served, Within, Request, Run, Compile, Replay}
+use Rattle.gallium_cli.specs.Words.{Splitting, Served, Within, Request, Run, Compile, Replay, PcapIn, PcapOut}
 use Rattle.gallium_cli.specs.Lines.{line_end}
-use Rattle.gallium_cli.specs.Roles.{source, program, limits, trace, schedule, size_of, AreLimits}
+use Rattle.gallium_cli.specs.Roles.{source, program, limits, trace, schedule, capture, size_of, AreLimits, IsCaptured}
 
 -- the told contents spell this middlebox and these packets, each within its size
 pub record IsInput (told : List ℕ → Option (List ℕ)) (s t : List ℕ) (m : Tree) (packets : List Packet) : Type 0 where
@@ -174,10 +178,21 @@ IsReport text m x plan replayed port port_after =
     (text ≡ report_of m.objects replayed.run) × IsReported x plan.events plan.drain replayed port_after
     × (IsSome port.told → IsSerialRun m x plan replayed.run port_after)
 
+-- ## Captures
+
+-- the told content is this capture
+abbrev pub IsToldCapture : (List ℕ → Option (List ℕ)) → List ℕ → Pcap → Type 0
+IsToldCapture told c p = IfSome (told c) (λ bytes. (length bytes ≤ size_of capture) × IsCaptured bytes p)
+
+-- the told content spells these packets
+abbrev pub IsToldTrace : (List ℕ → Option (List ℕ)) → List ℕ → List Packet → Type 0
+IsToldTrace told t packets = IfSome (told t) (λ text. (length text ≤ size_of trace) × (trace_of text ≡ Ok packets))
+
 -- ## Answers
 
 -- A text that answers a request: for some middlebox, packets and events that the files spell, what the source does to
--- the packets one after the other; or the split that is asked for; or the report of a replay by that split.
+-- the packets one after the other; or the split that is asked for; or the report of a replay by that split. Or the trace
+-- of a capture's packets by one port, or the bytes of the capture of a trace's packets.
 abbrev pub IsAnswer : List ℕ → Request → (List ℕ → Option (List ℕ)) → PortState → PortState → Type 0
 IsAnswer text (Run s t) told port port_after =
     (m : Tree) × (packets : List Packet) × IsInput told s t m packets × (text ≡ serial_answer m packets)
@@ -188,3 +203,7 @@ IsAnswer text (Replay s t c by) told port port_after =
     (m : Tree) × (split : List Part) × (writeback : ℕ) × (packets : List Packet) × (plan : Plan) × (replayed : Replayed)
     × IsSplitBy by told s m split writeback × IsTraffic told t c packets plan
     × IsReport text m (given m split writeback packets) plan replayed port port_after
+IsAnswer text (PcapIn c by) told port port_after =
+    (p : Pcap) × IsToldCapture told c p × (text ≡ trace_text (packets_of p by))
+IsAnswer text (PcapOut t big nano) told port port_after =
+    (packets : List Packet) × IsToldTrace told t packets × (text ≡ pcap_bytes (pcap_of packets big nano))

@@ -8,6 +8,8 @@ use Rattle.resource_limits.specs.Limits.{name_of}
 use Rattle.resource_limits.specs.Kept.{limit_name}
 use Rattle.resource_limits.specs.declared.limits.LimitsError.{LimitsError}
 use Rattle.resource_limits.specs.declared.limits.LimitsError.TheVariants as faults
+use Rattle.pcap_trace.specs.declared.refusal.PcapError.{PcapError}
+use Rattle.pcap_trace.specs.declared.refusal.PcapError.TheVariants as pcaps
 use Rattle.run_text.specs.declared.refusal.LineKind.{LineKind}
 use Rattle.run_text.specs.declared.refusal.LineKind.TheVariants as kinds
 use Rattle.run_text.specs.declared.refusal.LinesError.{LinesError}
@@ -18,7 +20,7 @@ use Rattle.gallium_cli.specs.declared.refusal.Excess.{Excess}
 use Rattle.gallium_cli.specs.declared.refusal.Refusal.{Refusal}
 use Rattle.gallium_cli.specs.declared.refusal.Refusal.TheVariants.{Usage, Source, LongProgram, Limits, Exceeded}
 use Rattle.gallium_cli.specs.declared.refusal.Refusal.TheVariants.{Trace, Schedule, TooLong, ReadFault, WriteFault}
-use Rattle.gallium_cli.specs.declared.refusal.Refusal.TheVariants.{SwitchFault, NoMemory}
+use Rattle.gallium_cli.specs.declared.refusal.Refusal.TheVariants.{SwitchFault, NoMemory, Pcap}
 
 abbrev pub line_end : List ℕ
 line_end = 10 ∷ []
@@ -80,6 +82,15 @@ lines_line file values (lines.TooMany have allowed) =
     file ++ (codes ": " ++ (values ++ (codes " have " ++ numbers_text have allowed)))
 lines_line file values lines.NoMemory = codes "no memory" ++ line_end
 
+-- the line of a capture that is refused; places are bytes from its start
+abbrev pub pcap_line : PcapError → List ℕ
+pcap_line pcaps.Header = codes "pcap: header at 0" ++ line_end
+pcap_line pcaps.Link = codes "pcap: link at 20" ++ line_end
+pcap_line (pcaps.Long at) = codes "pcap: long at " ++ (decimal at ++ line_end)
+pcap_line (pcaps.Record at) = codes "pcap: record at " ++ (decimal at ++ line_end)
+pcap_line (pcaps.TooMany have) = codes "pcap: packets have " ++ (decimal have ++ (codes ", allowed 16384" ++ line_end))
+pcap_line pcaps.NoMemory = codes "no memory" ++ line_end
+
 abbrev pub status_of : Refusal → Status
 status_of Usage = statuses.Usage
 status_of (Source fault) = statuses.Source
@@ -93,6 +104,7 @@ status_of (ReadFault name) = statuses.ReadFault
 status_of WriteFault = statuses.WriteFault
 status_of SwitchFault = statuses.SwitchFault
 status_of NoMemory = statuses.NoMemory
+status_of (Pcap fault) = statuses.Pcap
 
 abbrev pub line_of : Refusal → List ℕ
 line_of Usage = codes "usage: gallium run, compile, check, replay or gen" ++ line_end
@@ -107,3 +119,4 @@ line_of (ReadFault name) = codes "read fault: " ++ (name.now ++ line_end)
 line_of WriteFault = codes "write fault" ++ line_end
 line_of SwitchFault = codes "switch fault" ++ line_end
 line_of NoMemory = codes "no memory" ++ line_end
+line_of (Pcap fault) = pcap_line fault

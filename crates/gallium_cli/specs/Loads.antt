@@ -10,6 +10,9 @@ use Rattle.resource_limits.specs.declared.limits.LimitsError.TheVariants as faul
 use Rattle.element_text.specs.Refused.{IsRefused}
 use Rattle.element_text.specs.declared.error.TextError.{TextError}
 use Rattle.element_text.specs.declared.error.TextError.TheVariants as errors
+use Rattle.pcap_trace.specs.Refused as pcap
+use Rattle.pcap_trace.specs.declared.refusal.PcapError.{PcapError}
+use Rattle.pcap_trace.specs.declared.refusal.PcapError.TheVariants as pcaps
 use Rattle.run_text.specs.Trace.{trace_of, schedule_of}
 use Rattle.run_text.specs.declared.refusal.LinesError.{LinesError}
 use Rattle.run_text.specs.declared.refusal.LinesError.TheVariants as lines
@@ -17,8 +20,8 @@ use Rattle.gallium_cli.specs.declared.status.Status.{Status}
 use Rattle.gallium_cli.specs.declared.status.Status.TheVariants as statuses
 use Rattle.gallium_cli.specs.declared.refusal.Refusal.{Refusal}
 use Rattle.gallium_cli.specs.declared.refusal.Refusal.TheVariants.{Source, LongProgram, Limits, Trace, Schedule}
-use Rattle.gallium_cli.specs.declared.refusal.Refusal.TheVariants.{TooLong, ReadFault, NoMemory}
-use Rattle.gallium_cli.specs.Roles.{Role, source, program, limits, trace, schedule, size_of}
+use Rattle.gallium_cli.specs.declared.refusal.Refusal.TheVariants.{TooLong, ReadFault, NoMemory, Pcap}
+use Rattle.gallium_cli.specs.Roles.{Role, source, program, limits, trace, schedule, capture, size_of}
 use Rattle.gallium_cli.specs.Roles.{IsSpelled, IsGood, IsBad}
 
 -- the text is refused for this cause, and for no other
@@ -45,6 +48,15 @@ IsBadTrace fault text = (length text ≤ size_of trace) × (trace_of text ≡ Er
 abbrev pub IsBadSchedule : LinesError → List ℕ → Type 0
 IsBadSchedule fault text = (length text ≤ size_of schedule) × (schedule_of text ≡ Err fault)
 
+-- the bytes are no capture for this cause, and for no other
+pub record IsOnlyFault (fault : PcapError) (bytes : List ℕ) : Type 0 where
+  pub cause : pcap.IsRefused bytes fault
+  pub only : (other : PcapError) → other ≢ pcaps.NoMemory → pcap.IsRefused bytes other → other ≡ fault
+
+-- they are a bad capture, for this cause
+abbrev pub IsBadCapture : PcapError → List ℕ → Type 0
+IsBadCapture fault bytes = IsBad capture bytes × IsOnlyFault fault bytes
+
 -- Why a text isn't read. What is refused for what it holds has a cause that isn't want of memory.
 abbrev pub IsUnread : Refusal → Role → List ℕ → Type 0
 IsUnread (Source fault) source text = (fault ≢ errors.NoMemory) × ¬ (IsSpelled source text) × IsOnlyCause fault text
@@ -53,6 +65,7 @@ IsUnread LongProgram program text = IsSpelled source text × ¬ (IsSpelled progr
 IsUnread (Limits fault) limits text = (fault ≢ faults.NoMemory) × (texts.refusal_of text ≡ Some fault)
 IsUnread (Trace fault) trace text = (fault ≢ lines.NoMemory) × (trace_of text ≡ Err fault)
 IsUnread (Schedule fault) schedule text = (fault ≢ lines.NoMemory) × (schedule_of text ≡ Err fault)
+IsUnread (Pcap fault) capture text = (fault ≢ pcaps.NoMemory) × ¬ (IsSpelled capture text) × IsOnlyFault fault text
 IsUnread NoMemory role text = Unit {0}
 IsUnread _ role text = ⊥
 
@@ -65,6 +78,7 @@ IsFileRefused (Limits fault) limits name f f' = (fault ≢ faults.NoMemory) × I
 IsFileRefused (Trace fault) trace name f f' = (fault ≢ lines.NoMemory) × IfSome (f.told name) (IsBadTrace fault)
 IsFileRefused (Schedule fault) schedule name f f' =
     (fault ≢ lines.NoMemory) × IfSome (f.told name) (IsBadSchedule fault)
+IsFileRefused (Pcap fault) capture name f f' = (fault ≢ pcaps.NoMemory) × IfSome (f.told name) (IsBadCapture fault)
 IsFileRefused (TooLong blamed) role name f f' =
     (blamed.now ≡ name) × IfSome (f.told name) (λ text. size_of role < length text)
     × (f'.overlong_name ≡ Some name) × Rose f.overlong f'.overlong

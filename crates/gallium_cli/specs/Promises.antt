@@ -12,17 +12,18 @@ use Rattle.resource_limits.specs.declared.exceeding.Over.{Over}
 use Rattle.partition.specs.Choice as choice
 use Rattle.element_text.specs.Refused.{IsRefused}
 use Rattle.element_text.specs.declared.error.TextError.TheVariants as errors
+use Rattle.pcap_trace.specs.Refused as pcap
+use Rattle.pcap_trace.specs.declared.refusal.PcapError.TheVariants as pcaps
 use Rattle.gallium_cli.specs.declared.status.Status.{Status}
 use Rattle.gallium_cli.specs.declared.status.Status.TheVariants.{Done, Usage, Source, Limits as BadLimits, Exceeded}
 use Rattle.gallium_cli.specs.declared.status.Status.TheVariants.{Trace, Schedule, TooLong, ReadFault, WriteFault}
-use Rattle.gallium_cli.specs.declared.status.Status.TheVariants.{SwitchFault}
-use Rattle.gallium_cli.specs.declared.status.Status.TheVariants.{NoMemory}
+use Rattle.gallium_cli.specs.declared.status.Status.TheVariants.{SwitchFault, NoMemory, Pcap}
 use Rattle.gallium_cli.specs.declared.refusal.Refusal.{Refusal}
 use Rattle.gallium_cli.specs.declared.refusal.Refusal.TheVariants as refusals
 use Rattle.gallium_cli.specs.Call.{Call, Work}
 use Rattle.gallium_cli.specs.Words.{Request, Compile, Replay, Within, is_replay, request_of}
 use Rattle.gallium_cli.specs.Lines.{status_of, line_of}
-use Rattle.gallium_cli.specs.Roles.{Role, source, program, limits, trace, schedule, size_of}
+use Rattle.gallium_cli.specs.Roles.{Role, source, program, limits, trace, schedule, capture, size_of}
 use Rattle.gallium_cli.specs.Roles.{Gate, File, Choice, gates_of, names_of}
 use Rattle.gallium_cli.specs.Roles.{IsGood, IsBad, IsShort, AreLimits}
 use Rattle.gallium_cli.specs.Loads.{IsLongProgram, AreBadLimits, IsBadTrace, IsBadSchedule}
@@ -80,6 +81,7 @@ refused_status program = Source
 refused_status limits = BadLimits
 refused_status trace = Trace
 refused_status schedule = Schedule
+refused_status capture = Pcap
 
 -- a text is above its size, or spells nothing
 abbrev pub IsRefusedAs : Role → Status → List ℕ → Type 0
@@ -124,6 +126,7 @@ IsCause refusals.LongProgram program text = IsLongProgram text
 IsCause (refusals.Limits fault) limits text = AreBadLimits fault text
 IsCause (refusals.Trace fault) trace text = IsBadTrace fault text
 IsCause (refusals.Schedule fault) schedule text = IsBadSchedule fault text
+IsCause (refusals.Pcap fault) capture text = (fault ≢ pcaps.NoMemory) × IsBad capture text × pcap.IsRefused text fault
 IsCause _ role text = ⊥
 
 -- a content is told and refused for this cause, or the greatest split exceeds this limit first and may not shrink
@@ -188,7 +191,7 @@ IsReplay (Some request) = is_replay request ≡ true
 pub record Promises (status : Status) (call : Call) : Type 0 where
   pub ends : Ends status call
   -- the answer was written: of one run, which is a serial run of the source, whatever the schedule; or one split, which
-  -- is the chosen one, is legal and keeps the limits
+  -- is the chosen one, is legal and keeps the limits; or the trace of a capture, or the capture of a trace
   pub done : status ≡ Done → IsDone (request_of call.words) call.work
   -- err is as it was, its count too
   pub silent : status ≡ Done → call.err_after ≡ call.err

@@ -8,7 +8,9 @@ use Rattle.resource_limits.specs.Limits as texts
 use Rattle.resource_limits.specs.declared.limits.Limits.{Limits}
 use Rattle.run_text.specs.declared.plan.Plan.{Plan}
 use Rattle.run_text.specs.Trace.{trace_of, schedule_of}
-use Rattle.gallium_cli.specs.Words.{Splitting, Served, Within, Request, Run, Compile, Replay}
+use Rattle.pcap_trace.specs.declared.pcap.Pcap.{Pcap}
+use Rattle.pcap_trace.specs.Format.{IsPcap, pcap_bytes}
+use Rattle.gallium_cli.specs.Words.{Splitting, Served, Within, Request, Run, Compile, Replay, PcapIn, PcapOut}
 
 -- what a file is read as
 pub data Role : Type 0 where
@@ -18,14 +20,16 @@ pub data Role : Type 0 where
   limits : Role
   trace : Role
   schedule : Role
+  capture : Role
 
--- the most bytes of such a file: 256 KiB of a source, and 64 MiB of any other text
+-- the most bytes of such a file: 256 KiB of a source, and 64 MiB of any other
 abbrev pub size_of : Role → ℕ
 size_of source = 262144
 size_of program = 262144
 size_of limits = 67108864
 size_of trace = 67108864
 size_of schedule = 67108864
+size_of capture = 67108864
 
 -- the flat program of a middlebox has at most 4,096 instructions
 abbrev pub IsShort : Tree → Type 0
@@ -35,6 +39,10 @@ IsShort m = length (flat_of m).code ≤ 4096
 abbrev pub AreLimits : List ℕ → Limits → Type 0
 AreLimits text allowed = texts.TellsLimits text allowed × (texts.refusal_of text ≡ None)
 
+-- the bytes are those of this capture
+abbrev pub IsCaptured : List ℕ → Pcap → Type 0
+IsCaptured bytes p = IsPcap p × (pcap_bytes p ≡ bytes)
+
 -- the text of such a file spells a value
 abbrev pub IsSpelled : Role → List ℕ → Type 0
 IsSpelled source text = (m : Tree) × IsSource text m
@@ -42,6 +50,7 @@ IsSpelled program text = (m : Tree) × IsSource text m × IsShort m
 IsSpelled limits text = (allowed : Limits) × AreLimits text allowed
 IsSpelled trace text = (packets : List Packet) × (trace_of text ≡ Ok packets)
 IsSpelled schedule text = (plan : Plan) × (schedule_of text ≡ Ok plan)
+IsSpelled capture text = (p : Pcap) × IsCaptured text p
 
 -- a text of this role is within its size and spells a value
 abbrev pub IsGood : Role → List ℕ → Type 0
@@ -74,6 +83,8 @@ abbrev pub gates_of : Request → List Gate
 gates_of (Run s t) = File s source ∷ (File t trace ∷ [])
 gates_of (Compile s l shrink) = plan_gates s l shrink
 gates_of (Replay s t c by) = split_gates s by ++ event_gates t c
+gates_of (PcapIn c port) = File c capture ∷ []
+gates_of (PcapOut t big nano) = File t trace ∷ []
 
 -- the names of the files among them
 abbrev pub names_in : List Gate → List (List ℕ)

@@ -2,7 +2,7 @@
 use Rattle.std.specs.Prelude.{ℕ}
 use Rattle.gallium_cli.specs.declared.status.Status.{Status}
 use Rattle.gallium_cli.specs.declared.status.Status.TheVariants.{Done, Usage, Source, Limits, Exceeded, Trace, Schedule}
-use Rattle.gallium_cli.specs.declared.status.Status.TheVariants.{TooLong, ReadFault, WriteFault, SwitchFault, NoMemory}
+use Rattle.gallium_cli.specs.declared.status.Status.TheVariants.{TooLong, ReadFault, WriteFault, SwitchFault, NoMemory, Pcap}
 
 abbrev pub code_of : Status → ℕ
 code_of Done = 0
@@ -17,3 +17,4 @@ code_of ReadFault = 10
 code_of WriteFault = 11
 code_of SwitchFault = 12
 code_of NoMemory = 13
+code_of Pcap = 15

@@ -1,6 +1,7 @@
 -- The words of a command.
 use Rattle.std.specs.Prelude.{ℕ, Bool, true, false, ◌&&◌, List, [], ◌∷◌, Option, Some, None, if◌then◌else◌, codes}
 use Rattle.std.specs.Str.{bytes_eq}
+use Rattle.gal_io.specs.Number.{number_up_to}
 use Rattle.gallium_cli.specs.declared.words.Form.{Form}
 use Rattle.gallium_cli.specs.declared.words.Form.TheVariants as forms
 use Rattle.gallium_cli.specs.declared.words.SplitForm.{SplitForm}
@@ -18,6 +19,41 @@ pub data Request : Type 0 where
   Run : (source trace : List ℕ) → Request
   Compile : (source limits : List ℕ) (shrink : Bool) → Request
   Replay : (source trace schedule : List ℕ) (by : Splitting) → Request
+  -- the packets of a capture, each of which arrives by this port
+  PcapIn : (capture : List ℕ) (port : ℕ) → Request
+  -- a capture of the packets of a trace: its numbers have the highest byte first where `big`, and its fractions of
+  -- seconds are nanoseconds where `nano`
+  PcapOut : (trace : List ℕ) (big nano : Bool) → Request
+
+-- a port in decimal
+abbrev pub port_of : List ℕ → Option ℕ
+port_of word = number_up_to 255 word
+
+-- whether the highest byte comes first
+abbrev pub order_of : List ℕ → Option Bool
+order_of word =
+    if bytes_eq word (codes "big") then Some true else (if bytes_eq word (codes "little") then Some false else None)
+
+-- whether fractions are nanoseconds
+abbrev pub unit_of : List ℕ → Option Bool
+unit_of word =
+    if bytes_eq word (codes "nano") then Some true else (if bytes_eq word (codes "micro") then Some false else None)
+
+abbrev pub with_port : List ℕ → Option ℕ → Option Request
+with_port capture (Some port) = Some (PcapIn capture port)
+with_port capture None = None
+
+abbrev pub with_kind : List ℕ → Option Bool → Option Bool → Option Request
+with_kind trace (Some big) (Some nano) = Some (PcapOut trace big nano)
+with_kind trace big nano = None
+
+-- what these words behind `pcap` ask for
+abbrev pub pcap_in : List ℕ → List ℕ → List ℕ → Option Request
+pcap_in way capture port = if bytes_eq way (codes "in") then with_port capture (port_of port) else None
+
+abbrev pub pcap_out : List ℕ → List ℕ → List ℕ → List ℕ → Option Request
+pcap_out way trace order unit =
+    if bytes_eq way (codes "out") then with_kind trace (order_of order) (unit_of unit) else None
 
 -- what these words ask for: the place of a word alone tells what it is
 abbrev pub request_of : List (List ℕ) → Option Request
@@ -25,11 +61,13 @@ request_of (word ∷ source ∷ second ∷ []) =
     if bytes_eq word (codes "run") then Some (Run source second)
     else (if bytes_eq word (codes "compile") then Some (Compile source second false) else None)
 request_of (word ∷ source ∷ second ∷ third ∷ []) =
-    if bytes_eq word (codes "replay") then Some (Replay source second third Served)
+    if bytes_eq word (codes "pcap") then pcap_in source second third
+    else (if bytes_eq word (codes "replay") then Some (Replay source second third Served)
     else (if bytes_eq word (codes "compile") && bytes_eq third (codes "shrink") then Some (Compile source second true)
-    else None)
+    else None))
 request_of (word ∷ source ∷ trace ∷ schedule ∷ limits ∷ []) =
-    if bytes_eq word (codes "replay") then Some (Replay source trace schedule (Within limits false)) else None
+    if bytes_eq word (codes "pcap") then pcap_out source trace schedule limits
+    else (if bytes_eq word (codes "replay") then Some (Replay source trace schedule (Within limits false)) else None)
 request_of (word ∷ source ∷ trace ∷ schedule ∷ limits ∷ last ∷ []) =
     if bytes_eq word (codes "replay") && bytes_eq last (codes "shrink")
     then Some (Replay source trace schedule (Within limits true))
@@ -44,9 +82,13 @@ abbrev pub asked_by : Form → Request
 asked_by (forms.Run source trace) = Run source.now trace.now
 asked_by (forms.Compile source limits shrink) = Compile source.now limits.now shrink
 asked_by (forms.Replay source trace schedule split) = Replay source.now trace.now schedule.now (split_asked split)
+asked_by (forms.PcapIn capture port) = PcapIn capture.now port
+asked_by (forms.PcapOut trace big nano) = PcapOut trace.now big nano
 
 -- a replay, which is what calls the switch
 abbrev pub is_replay : Request → Bool
 is_replay (Run s t) = false
 is_replay (Compile s l shrink) = false
 is_replay (Replay s t c by) = true
+is_replay (PcapIn c port) = false
+is_replay (PcapOut t big nano) = false

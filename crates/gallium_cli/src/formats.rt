@@ -10,7 +10,7 @@ ghost use Rattle.resource_limits.specs.Limits.{AreInRange};
 ghost use Rattle.split_model.specs.Bounds.{IsBounded};
 ghost use Rattle.run_model.specs.Sizes.{most_events, most_packets};
 ghost use Rattle.run_text.specs.Trace.{trace_of, schedule_of};
-ghost use Rattle.gallium_cli.specs.Roles.{source, program, limits, trace, schedule, AreLimits};
+ghost use Rattle.gallium_cli.specs.Roles.{source, program, limits, trace, schedule, capture, AreLimits, IsCaptured};
 ghost use Rattle.gallium_cli.specs.Answers.{IsOnlySource};
 ghost use Rattle.gallium_cli.specs.Loads.{refusal_of, IsUnread};
 
@@ -21,6 +21,7 @@ use element_text::TextError;
 use flat_ir::Flat;
 use flatten::{FlatError, flatten};
 use packet_fields::Packets;
+use pcap_trace::{Pcap, PcapError, read_pcap};
 use resource_limits::{Limits, LimitsError, read_limits};
 use run_text::{LinesError, Plan, read_schedule, read_trace};
 use std::alloc::Global;
@@ -28,7 +29,7 @@ use std::alloc::Global;
 /// The most bytes of a source.
 const MAX_SOURCE: usize = 262_144;
 
-/// The most bytes of any other text file.
+/// The most bytes of any other file.
 const MAX_TEXT: usize = 67_108_864;
 
 /// The source of a middlebox.
@@ -45,6 +46,9 @@ pub struct TraceFormat;
 
 /// The events of a schedule, and whether it ends with `drain`.
 pub struct ScheduleFormat;
+
+/// The packets of a capture, with what stands beside them.
+pub struct CaptureFormat;
 
 /// A middlebox with its flat program.
 #[derive(Drop)]
@@ -101,6 +105,18 @@ fn with_flat(
         Ok(flat) => Ok(Flattened { middlebox, flat }),
         Err(FlatError::TooLarge) => Err(Refusal::LongProgram),
         Err(FlatError::NoMemory) => Err(Refusal::NoMemory),
+    }
+}
+
+// The capture that the bytes are.
+fn captured(alloc: Global, bytes: &[u8]) -> Result<Pcap, Refusal<'static>>
+    ensures ok { IfOk result (λ p. IsCaptured bytes.now p) }
+    ensures err { IfErr result (λ refusal. IsUnread refusal capture bytes.now) }
+{
+    match read_pcap(alloc, bytes) {
+        Ok(p) => Ok(p),
+        Err(PcapError::NoMemory) => Err(Refusal::NoMemory),
+        Err(fault) => Err(Refusal::Pcap(fault)),
     }
 }
 
@@ -189,5 +205,23 @@ impl Format for ScheduleFormat {
             Err(LinesError::NoMemory) => Err(Refusal::NoMemory),
             Err(fault) => Err(Refusal::Schedule(fault)),
         }
+    }
+}
+
+impl Format for CaptureFormat {
+    type Value = Pcap;
+
+    ghost role = { λ _. capture };
+
+    ghost spells = { λ _ bytes p. IsCaptured bytes p };
+
+    ghost sound = { λ p. Unit {0} };
+
+    fn size(&self) -> usize {
+        MAX_TEXT
+    }
+
+    fn read(&self, alloc: Global, text: &[u8]) -> Result<Pcap, Refusal<'static>> {
+        captured(alloc, text)
     }
 }

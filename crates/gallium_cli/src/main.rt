@@ -1,5 +1,6 @@
 //! The program: reads a middlebox and a trace, and writes what a run of it, or a replay by a schedule, comes to; or
-//! reads a middlebox and limits, and writes how it is split between a switch and a server.
+//! reads a middlebox and limits, and writes how it is split between a switch and a server; or makes a trace of a
+//! capture, or a capture of a trace.
 #![tactic(auto)]
 
 ghost use Rattle.std.specs.Prelude.{◌≡◌};
@@ -7,6 +8,7 @@ ghost use Rattle.std.specs.Process.{exit_status};
 ghost use Rattle.gallium_cli.specs.Status.{code_of};
 
 mod arrivals;
+mod captures;
 mod compile;
 mod formats;
 mod load;

@@ -3,13 +3,14 @@ ghost use Rattle.std.specs.Prelude.{◌≡◌, ◌++◌, IfOk, string_bytes};
 ghost use Rattle.gallium_cli.specs.declared.refusal.Refusal.{Refusal};
 ghost use Rattle.gallium_cli.specs.declared.refusal.Excess.{Excess};
 ghost use Rattle.gallium_cli.specs.Lines.{status_of, line_of, line_end, what_text, kind_text};
-ghost use Rattle.gallium_cli.specs.Lines.{source_line, limits_line, excess_line, lines_line, owner_text};
+ghost use Rattle.gallium_cli.specs.Lines.{source_line, limits_line, excess_line, lines_line, owner_text, pcap_line};
 ghost use Rattle.gallium_cli.specs.Causes.{IsTold};
 
 use crate::status::Status;
 use element_lang::What;
 use element_text::TextError;
 use gal_io::{NoMemory, Sink, SinkEnd, Text};
+use pcap_trace::PcapError;
 use resource_limits::{LimitName, LimitsError};
 use run_text::{LineKind, LinesError};
 use std::alloc::Global;
@@ -51,6 +52,8 @@ pub enum Refusal<'a> {
     SwitchFault,
     /// No memory was found.
     NoMemory,
+    /// The capture is refused, for this cause, which isn't want of memory.
+    Pcap(PcapError),
 }
 
 impl From<NoMemory> for Refusal<'_> {
@@ -80,6 +83,7 @@ fn status(refusal: &Refusal<'_>) -> Status
         Refusal::WriteFault => Status::WriteFault,
         Refusal::SwitchFault => Status::SwitchFault,
         Refusal::NoMemory => Status::NoMemory,
+        Refusal::Pcap(_) => Status::Pcap,
     }
 }
 
@@ -211,6 +215,23 @@ fn lines_line(alloc: Global, file: &str, values: &str, fault: LinesError) -> Res
     }
 }
 
+// The line of a capture that is refused.
+fn pcap_line(alloc: Global, fault: PcapError) -> Result<Text, NoMemory>
+    ensures { IfOk result (λ text. text ≡ pcap_line fault) }
+{
+    match fault {
+        PcapError::Header => Text::from_slice(alloc, b"pcap: header at 0\n"),
+        PcapError::Link => Text::from_slice(alloc, b"pcap: link at 20\n"),
+        PcapError::Long(at) => told(alloc, format!(in alloc; "pcap: long at {at}\n")?),
+        PcapError::Record(at) => told(alloc, format!(in alloc; "pcap: record at {at}\n")?),
+        PcapError::TooMany(have) => told(
+            alloc,
+            format!(in alloc; "pcap: packets have {have}, allowed 16384\n")?,
+        ),
+        PcapError::NoMemory => Text::from_slice(alloc, b"no memory\n"),
+    }
+}
+
 // The line of a refusal.
 fn line(alloc: Global, refusal: &Refusal<'_>) -> Result<Text, NoMemory>
     ensures { IfOk result (λ text. text ≡ line_of refusal.now) }
@@ -231,6 +252,7 @@ fn line(alloc: Global, refusal: &Refusal<'_>) -> Result<Text, NoMemory>
         Refusal::WriteFault => Text::from_slice(alloc, b"write fault\n"),
         Refusal::SwitchFault => Text::from_slice(alloc, b"switch fault\n"),
         Refusal::NoMemory => Text::from_slice(alloc, b"no memory\n"),
+        Refusal::Pcap(fault) => pcap_line(alloc, *fault),
     }
 }
 

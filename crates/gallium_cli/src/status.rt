@@ -27,6 +27,8 @@ pub enum Status {
     SwitchFault,
     /// No memory was found.
     NoMemory,
+    /// The capture is refused.
+    Pcap,
 }
 
 impl Status {
@@ -50,6 +52,7 @@ impl Status {
             Status::WriteFault => 11,
             Status::SwitchFault => 12,
             Status::NoMemory => 13,
+            Status::Pcap => 15,
         }
     }
 }

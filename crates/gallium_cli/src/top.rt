@@ -15,6 +15,7 @@ ghost use Rattle.gallium_cli.specs.Causes.{CountsFaults, HasCause, IsDone, IsFir
 ghost use Rattle.gallium_cli.specs.Call.{Call, work_of};
 ghost use Rattle.gallium_cli.specs.Promises.{Promises};
 
+use crate::captures::{perform_pcap_in, perform_pcap_out};
 use crate::compile::perform_compile;
 use crate::formats::{SourceFormat, TraceFormat};
 use crate::load::load;
@@ -135,6 +136,10 @@ fn perform<'a, F: Files, S: SwitchPort, O: Sink>(
                 split,
             },
         ) => perform_replay(alloc, source, trace, schedule, split, files, port, out),
+        Some(Form::PcapIn { capture, port: by }) => perform_pcap_in(alloc, capture, by, files, out),
+        Some(Form::PcapOut { trace, big, nano }) => {
+            perform_pcap_out(alloc, trace, big, nano, files, out)
+        }
         None => Err(Refusal::Usage),
     }
 }

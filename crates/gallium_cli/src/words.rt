@@ -1,6 +1,9 @@
 //! The words of a command.
 ghost use Rattle.std.specs.Prelude.{◌≡◌, Some, None, MatchOption, map, string_bytes};
-ghost use Rattle.gallium_cli.specs.Words.{request_of, asked_by};
+ghost use Rattle.gallium_cli.specs.Words.{request_of, asked_by, pcap_in, pcap_out};
+ghost use Rattle.gallium_cli.specs.Words.{port_of, order_of, unit_of};
+
+use gal_io::number_up_to;
 
 /// Whose split a replay goes by.
 #[derive(Clone, Copy, Debug)]
@@ -11,7 +14,7 @@ pub enum SplitForm<'a> {
     Within { limits: &'a str, shrink: bool },
 }
 
-/// What a command asks for. Each word is the name of a file.
+/// What a command asks for. Each text is the name of a file.
 #[derive(Clone, Copy, Debug)]
 pub enum Form<'a> {
     /// Runs a middlebox on the packets of a trace, one after the other.
@@ -33,6 +36,78 @@ pub enum Form<'a> {
         schedule: &'a str,
         split: SplitForm<'a>,
     },
+    /// Prints the packets of a capture as a trace. Each arrives by this port.
+    PcapIn {
+        capture: &'a str,
+        port: u8,
+    },
+    /// Prints the packets of a trace as a capture: whether its numbers have the highest byte first, and whether its
+    /// fractions of seconds are nanoseconds.
+    PcapOut {
+        trace: &'a str,
+        big: bool,
+        nano: bool,
+    },
+}
+
+// The port that a word is.
+fn port_of(word: &str) -> Option<u8>
+    ensures { result ≡ port_of word.now }
+{
+    match number_up_to(word.as_bytes(), 255) {
+        None => None,
+        Some(port) => Some(port as u8),
+    }
+}
+
+// Whether a word asks for the highest byte first.
+fn order_of(word: &str) -> Option<bool>
+    ensures { result ≡ order_of word.now }
+{
+    if word == "big" {
+        return Some(true);
+    }
+    if word == "little" {
+        return Some(false);
+    }
+    None
+}
+
+// Whether a word asks for nanoseconds.
+fn unit_of(word: &str) -> Option<bool>
+    ensures { result ≡ unit_of word.now }
+{
+    if word == "nano" {
+        return Some(true);
+    }
+    if word == "micro" {
+        return Some(false);
+    }
+    None
+}
+
+// The form of these words behind `pcap`, if they have one.
+fn pcap_in<'a>(way: &str, capture: &'a str, port: &str) -> Option<Form<'a>>
+    ensures { MatchOption result (pcap_in way.now capture.now port.now ≡ None)
+        (λ form. pcap_in way.now capture.now port.now ≡ Some (asked_by form)) }
+{
+    if way != "in" {
+        return None;
+    }
+    let port = port_of(port)?;
+    Some(Form::PcapIn { capture, port })
+}
+
+fn pcap_out<'a>(way: &str, trace: &'a str, order: &str, unit: &str) -> Option<Form<'a>>
+    ensures { MatchOption result (pcap_out way.now trace.now order.now unit.now ≡ None)
+        (λ form. pcap_out way.now trace.now order.now unit.now ≡ Some (asked_by form)) }
+{
+    if way != "out" {
+        return None;
+    }
+    let big = order_of(order)?;
+    let nano = unit_of(unit)?;
+    Some(Form::PcapOut { trace, big, nano })
 }
 
 /// The form of the words after the program's name, if they have one.
@@ -58,6 +133,9 @@ pub fn form_of<'a>(words: &'a [String]) -> Option<Form<'a>>
             None
         }
         [word, source, second, third] => {
+            if word.as_str() == "pcap" {
+                return pcap_in(source.as_str(), second.as_str(), third.as_str());
+            }
             if word.as_str() == "replay" {
                 return Some(Form::Replay {
                     source: source.as_str(),
@@ -78,6 +156,14 @@ pub fn form_of<'a>(words: &'a [String]) -> Option<Form<'a>>
             None
         }
         [word, source, trace, schedule, limits] => {
+            if word.as_str() == "pcap" {
+                return pcap_out(
+                    source.as_str(),
+                    trace.as_str(),
+                    schedule.as_str(),
+                    limits.as_str(),
+                );
+            }
             if word.as_str() == "replay" {
                 return Some(Form::Replay {
                     source: source.as_str(),

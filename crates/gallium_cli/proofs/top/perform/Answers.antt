@@ -1,5 +1,5 @@
 use Rattle.std.proofs.Common.{ap}
-use Rattle.gallium_cli.specs.Words.{Run, Compile, Replay, asked_by, split_asked}
+use Rattle.gallium_cli.specs.Words.{Run, Compile, Replay, PcapIn, PcapOut, asked_by, split_asked}
 use Rattle.gallium_cli.proofs.Written.{asked_ok, asked_err}
 use Rattle.gallium_cli.proofs.top.perform.Goals as goal
 
@@ -30,3 +30,21 @@ returns-in-Some-Replay-clause-ok g c =
     (g.S.SwitchPort.seen c.args.port.now) (g.S.SwitchPort.seen c.perform_replay.new.port)
     (g.O.Sink.seen c.args.out.now) (g.O.Sink.seen c.perform_replay.new.out)
     arm.ensures (ap asked_by arm.field-0-is) c.perform_replay.ensures.ok
+
+pub returns-in-Some-PcapIn-clause-err : goal.returns-in-Some-PcapIn-clause-err
+returns-in-Some-PcapIn-clause-err g c =
+    let arm = c.in-Some-PcapIn in
+    asked_err c.perform_pcap_in.result _ (asked_by arm.field-0) (PcapIn arm.capture.now arm.by)
+    (g.F.Files.seen c.args.files.now) (g.F.Files.seen c.perform_pcap_in.new.files)
+    (g.S.SwitchPort.seen c.args.port.now) (g.S.SwitchPort.seen c.args.port.now)
+    (g.O.Sink.seen c.args.out.now) (g.O.Sink.seen c.perform_pcap_in.new.out)
+    arm.ensures (ap asked_by arm.field-0-is) (c.perform_pcap_in.ensures.err (g.S.SwitchPort.seen c.args.port.now))
+
+pub returns-in-Some-PcapOut-clause-err : goal.returns-in-Some-PcapOut-clause-err
+returns-in-Some-PcapOut-clause-err g c =
+    let arm = c.in-Some-PcapOut in
+    asked_err c.perform_pcap_out.result _ (asked_by arm.field-0) (PcapOut arm.trace.now arm.big arm.nano)
+    (g.F.Files.seen c.args.files.now) (g.F.Files.seen c.perform_pcap_out.new.files)
+    (g.S.SwitchPort.seen c.args.port.now) (g.S.SwitchPort.seen c.args.port.now)
+    (g.O.Sink.seen c.args.out.now) (g.O.Sink.seen c.perform_pcap_out.new.out)
+    arm.ensures (ap asked_by arm.field-0-is) (c.perform_pcap_out.ensures.err (g.S.SwitchPort.seen c.args.port.now))
