@@ -27,10 +27,10 @@ use Rattle.gallium_cli.specs.declared.status.Status.TheVariants as statuses
 use Rattle.gallium_cli.specs.declared.refusal.Refusal.{Refusal}
 use Rattle.gallium_cli.specs.declared.refusal.Refusal.TheVariants.{WriteFault, SwitchFault, NoMemory}
 use Rattle.gallium_cli.specs.Call.{work_of}
-use Rattle.gallium_cli.specs.Words.{Splitting, Served, Within, Request, Replay, is_replay}
+use Rattle.gallium_cli.specs.Words.{Splitting, Served, Within, Spelled, Request, Replay, is_replay}
 use Rattle.gallium_cli.specs.Roles.{gates_of, split_gates, event_gates, names_of, split_reads}
-use Rattle.gallium_cli.specs.Answers.{IsAnswer, IsProgram, IsPlan, IsTraffic, IsChoice, IsNoChoice, IsSplitBy}
-use Rattle.gallium_cli.specs.Answers.{IsReport, given, heading_text, compiled_text}
+use Rattle.gallium_cli.specs.Answers.{IsAnswer, IsProgram, IsPlan, IsTraffic, IsChoice, IsNoChoice, IsGivenSplit}
+use Rattle.gallium_cli.specs.Answers.{IsSplitBy, IsReport, given, heading_text, compiled_text, checked_text}
 use Rattle.gallium_cli.specs.Loads.{GoesOn, raised_by}
 use Rattle.gallium_cli.specs.Puts.{IsPut, IsNotPut}
 use Rattle.gallium_cli.specs.Causes.{IsFirstRefused, IsNotWritten, IsSwitchKept, IsDone, HasCause, most_reads}
@@ -122,6 +122,18 @@ chosen_split told s l shrink m allowed q split found same chosen legal keeps = (
   refl,
 )
 
+pub given_split : (told : List ℕ → Option (List ℕ)) (s l p : List ℕ) (m : Tree) (allowed : Limits) (q : Program)
+    (split : List Part) → IsPlan told s l m allowed → q ≡ flat_of m → IsGivenSplit told p q allowed split
+    → IsSplitBy (Spelled l p) told s m split allowed.writeback
+given_split told s l p m allowed q split found same given =
+    (allowed, found, subst (λ (x : Program). IsGivenSplit told p x allowed split) same given, refl)
+
+-- the line of a split of the flat program of a middlebox
+pub check_printed : (p q : Program) (split : List Part) (writeback : ℕ) (text sent : List ℕ) → p ≡ q
+    → text ≡ checked_text p split writeback → sent ≡ text → sent ≡ checked_text q split writeback
+check_printed p q split writeback text sent same printed put =
+    put ∙ printed ∙ ap (λ (x : Program). checked_text x split writeback) same
+
 -- the text that tells a split of the flat program of a middlebox
 pub split_printed : (p q : Program) (split : List Part) (writeback : ℕ) (text sent : List ℕ) → p ≡ q
     → text ≡ compiled_text p split writeback → sent ≡ text → sent ≡ compiled_text q split writeback
@@ -158,6 +170,7 @@ reads_in_all a b x y z one two = omega arith
 replay_names : (s t c : List ℕ) (by : Splitting) → length (names_of (Replay s t c by)) ≡ split_reads s by + 2
 replay_names s t c Served = refl
 replay_names s t c (Within l shrink) = refl
+replay_names s t c (Spelled l p) = refl
 
 -- all reads of a replay
 pub replay_reads : (s t c : List ℕ) (by : Splitting) (f g h : FilesState) → g.reads ≡ raised_by (split_reads s by) f.reads
