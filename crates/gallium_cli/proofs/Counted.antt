@@ -158,6 +158,10 @@ gate_counts refusal gates g f f' p o first goes = record {
   switch = subst (λ b. IsCountedIf b p.faults p.faults) (sym (gates_no_switch refusal gates g f' first)) refl;
 }
 
+-- no file was read
+pub unread : (f : FilesState) → GoesOn statuses.Done f f
+unread f = record { told = λ name. refl; faults = refl; fault_name = refl; overlong = refl; overlong_name = refl }
+
 -- words with no form
 pub usage_counts : (f : FilesState) (p : PortState) (o : SinkState)
     → CountsFaults (status_of Usage) (work_of f f p p o o)

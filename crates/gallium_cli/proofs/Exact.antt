@@ -22,7 +22,7 @@ use Rattle.gallium_cli.specs.declared.refusal.Refusal.TheVariants.{Source, LongP
 use Rattle.gallium_cli.specs.declared.refusal.Refusal.TheVariants.{TooLong, ReadFault, WriteFault, SwitchFault, NoMemory, Pcap}
 use Rattle.gallium_cli.specs.Call.{Call, Work}
 use Rattle.gallium_cli.specs.Lines.{status_of}
-use Rattle.gallium_cli.specs.Words.{Request, Run, Compile, Replay, Check, PcapIn, PcapOut, Within, Spelled}
+use Rattle.gallium_cli.specs.Words.{Request, Run, Compile, Replay, Check, Gen, PcapIn, PcapOut, Within, Spelled}
 use Rattle.gallium_cli.specs.Roles.{Role, source, program, limits, legal_split, trace, schedule, capture, size_of, IsGood}
 use Rattle.gallium_cli.specs.Roles.{IsBad, Gate, File, Choice, SplitFile, gates_of, split_gates, event_gates}
 use Rattle.gallium_cli.specs.Splits.{IsBadSplit}
@@ -257,6 +257,7 @@ answer_passed text (Replay s t c by) f p p' (m, split, writeback, packets, plan,
     (traffic_passed f t c packets plan traffic)
 answer_passed text (Check s l split) f p p' (m, parts, writeback, found, printed) =
     split_passed (Spelled l split) s f m parts writeback found
+answer_passed text (Gen seed count) f p p' answer = tt
 answer_passed text (PcapIn c port) f p p' (found, told, printed) = (passed_capture c f found told, tt)
 answer_passed text (PcapOut t big nano) f p p' (packets, told, printed) = (passed_trace t f packets told, tt)
 

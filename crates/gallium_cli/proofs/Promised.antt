@@ -16,7 +16,7 @@ use Rattle.gallium_cli.specs.declared.refusal.Refusal.TheVariants.{Usage, Exceed
 use Rattle.gallium_cli.specs.declared.refusal.Refusal.TheVariants.{NoMemory}
 use Rattle.gallium_cli.specs.Call.{Call, Work}
 use Rattle.gallium_cli.specs.Lines.{status_of}
-use Rattle.gallium_cli.specs.Words.{Request, Run, Compile, Replay, Check, PcapIn, PcapOut, Served, Within, Spelled}
+use Rattle.gallium_cli.specs.Words.{Request, Run, Compile, Replay, Check, Gen, PcapIn, PcapOut, Served, Within, Spelled}
 use Rattle.gallium_cli.specs.Words.{is_replay, request_of}
 use Rattle.gallium_cli.specs.Roles.{Role, legal_split, Gate, File, Choice, SplitFile, gates_of, names_in}
 use Rattle.gallium_cli.specs.Loads.{IsFileRefused}
@@ -263,6 +263,7 @@ may_exceed refusal (Replay s t c (Within l true)) f f' is first =
     shrunk_unexceeded refusal (gates_of (Replay s t c (Within l true))) f f' (tt, (tt, (tt, (tt, tt)))) is first
 may_exceed refusal (Replay s t c (Spelled l p)) f f' is first = tt
 may_exceed refusal (Check s l p) f f' is first = tt
+may_exceed refusal (Gen seed count) f f' is first = absurd first
 may_exceed refusal (PcapIn c port) f f' is first =
     shrunk_unexceeded refusal (gates_of (PcapIn c port)) f f' (tt, tt) is first
 may_exceed refusal (PcapOut t big nano) f f' is first =

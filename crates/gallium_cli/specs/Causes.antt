@@ -65,9 +65,14 @@ IsFirstRefused refusal gates f f' = IsFirst (λ gate. IsPassed gate f) (λ gate.
 
 -- ## How a request ends
 
+-- a count of reads after one of each of these files
+abbrev pub reads_after : List (List ℕ) → ℕ → ℕ
+reads_after [] count = count
+reads_after (name ∷ names) count = raised_by (length (name ∷ names)) count
+
 -- there was at most one read for each file of a request, or just one
 abbrev pub most_reads : Request → FilesState → ℕ
-most_reads request f = raised_by (length (names_of request)) f.reads
+most_reads request f = reads_after (names_of request) f.reads
 
 -- only a replay calls the switch, which then tells its tables just where it told them before
 abbrev pub IsSwitchKept : Bool → PortState → PortState → Type 0

@@ -15,7 +15,7 @@ use Rattle.run_text.specs.Trace.{trace_of, schedule_of}
 use Rattle.pcap_trace.specs.declared.pcap.Pcap.{Pcap}
 use Rattle.pcap_trace.specs.Format.{IsPcap, pcap_bytes}
 use Rattle.gallium_cli.specs.Words.{Splitting, Served, Within, Spelled}
-use Rattle.gallium_cli.specs.Words.{Request, Run, Compile, Replay, Check, PcapIn, PcapOut}
+use Rattle.gallium_cli.specs.Words.{Request, Run, Compile, Replay, Check, Gen, PcapIn, PcapOut}
 
 -- what a file is read as
 pub data Role : Type 0 where
@@ -104,6 +104,7 @@ gates_of (Run s t) = File s source ∷ (File t trace ∷ [])
 gates_of (Compile s l shrink) = plan_gates s l shrink
 gates_of (Replay s t c by) = split_gates s by ++ event_gates t c
 gates_of (Check s l p) = given_gates s l p
+gates_of (Gen seed count) = []
 gates_of (PcapIn c port) = File c capture ∷ []
 gates_of (PcapOut t big nano) = File t trace ∷ []
 

@@ -9,6 +9,7 @@ mod check;
 mod compile;
 mod exceeding;
 mod formats;
+mod generated;
 mod given;
 mod load;
 mod output;

@@ -66,8 +66,8 @@ fn load_plan<'a, F: Files>(
     }
 }
 
-// The split that these limits allow.
-fn choose(
+/// The split that these limits allow.
+pub fn choose(
     alloc: Global,
     f: &Flat,
     allowed: &Limits,

@@ -19,6 +19,7 @@ use crate::captures::{perform_pcap_in, perform_pcap_out};
 use crate::check::perform_check;
 use crate::compile::perform_compile;
 use crate::formats::{SourceFormat, TraceFormat};
+use crate::generated::perform_gen;
 use crate::load::load;
 use crate::output::put;
 use crate::refusal::{Refusal, tell};
@@ -145,6 +146,7 @@ fn perform<'a, F: Files, S: SwitchPort, O: Sink>(
                 split,
             },
         ) => perform_check(alloc, source, limits, split, files, out),
+        Some(Form::Gen { seed, count }) => perform_gen(alloc, seed, count, port, out),
         Some(Form::PcapIn { capture, port: by }) => perform_pcap_in(alloc, capture, by, files, out),
         Some(Form::PcapOut { trace, big, nano }) => {
             perform_pcap_out(alloc, trace, big, nano, files, out)

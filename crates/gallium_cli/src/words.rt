@@ -1,9 +1,10 @@
 //! The words of a command.
 ghost use Rattle.std.specs.Prelude.{◌≡◌, Some, None, MatchOption, map, string_bytes};
 ghost use Rattle.gallium_cli.specs.Words.{request_of, asked_by, pcap_in, pcap_out};
-ghost use Rattle.gallium_cli.specs.Words.{port_of, order_of, unit_of};
+ghost use Rattle.gallium_cli.specs.Words.{count_of, made_by, port_of, order_of, unit_of};
 
 use gal_io::number_up_to;
+use traffic_generator::Count;
 
 /// Whose split a replay goes by.
 #[derive(Clone, Copy, Debug)]
@@ -43,6 +44,11 @@ pub enum Form<'a> {
         source: &'a str,
         limits: &'a str,
         split: &'a str,
+    },
+    /// Replays so many packets that are made from a seed, and prints a summary.
+    Gen {
+        seed: u64,
+        count: Count,
     },
     /// Prints the packets of a capture as a trace. Each arrives by this port.
     PcapIn {
@@ -118,6 +124,24 @@ fn pcap_out<'a>(way: &str, trace: &'a str, order: &str, unit: &str) -> Option<Fo
     Some(Form::PcapOut { trace, big, nano })
 }
 
+// The number of packets that a word is.
+fn count_of(word: &str) -> Option<Count>
+    ensures { MatchOption result (count_of word.now ≡ None) (λ count. count_of word.now ≡ Some count.packets) }
+{
+    let number = number_up_to(word.as_bytes(), 16_384)?;
+    Count::of(number)
+}
+
+// The form of these words behind `gen`, if they have one.
+fn made_by<'a>(seed: &str, count: &str) -> Option<Form<'a>>
+    ensures { MatchOption result (made_by seed.now count.now ≡ None)
+        (λ form. made_by seed.now count.now ≡ Some (asked_by form)) }
+{
+    let seed = number_up_to(seed.as_bytes(), u64::MAX)?;
+    let count = count_of(count)?;
+    Some(Form::Gen { seed, count })
+}
+
 /// The form of the words after the program's name, if they have one.
 pub fn form_of<'a>(words: &'a [String]) -> Option<Form<'a>>
     ensures { MatchOption result (request_of (map string_bytes words.now) ≡ None)
@@ -137,6 +161,9 @@ pub fn form_of<'a>(words: &'a [String]) -> Option<Form<'a>>
                     limits: second.as_str(),
                     shrink: false,
                 });
+            }
+            if word.as_str() == "gen" {
+                return made_by(source.as_str(), second.as_str());
             }
             None
         }

@@ -81,7 +81,9 @@ fn a_last_round_of_one_packet(rt: HostRuntime) {
 
 #[test]
 fn counts_of_packets(rt: HostRuntime) {
-    assert!(rt; Count::of(0).is_none() && Count::of(16_385).is_none() && Count::of(16_384).is_some());
+    assert!(rt;
+        Count::of(0).is_none() && Count::of(16_385).is_none() && Count::of(16_384).is_some()
+    );
 }
 
 fn slow(verdict: Verdict) -> Fate {
