@@ -21,7 +21,6 @@ use Rattle.run_model.specs.declared.run.Run.{Run}
 use Rattle.run_model.specs.Meaning.{Meaning, AreAlike}
 use Rattle.run_model.specs.Serialises.{Serialises, AllReleased, IsDrained, is_passing}
 use Rattle.run_text.specs.declared.plan.Plan.{Plan}
-use Rattle.run_text.specs.Report.{report_of}
 use Rattle.switch_ir.specs.Port.{PortState}
 use Rattle.switch_ir.specs.Tables.{Told}
 use Rattle.replay_state.specs.Answers.{Answers, Setup}
@@ -32,7 +31,7 @@ use Rattle.replay_contracts.specs.declared.job.Replayed.{Replayed}
 use Rattle.replay_contracts.specs.Given.{Given, meaning_for, setup_for, whole_runs}
 use Rattle.replay_contracts.specs.Promise.{Promises, state_for}
 use Rattle.replay_contracts.specs.Replayer.{IsReported, IsRunOf}
-use Rattle.gallium_cli.specs.Answers.{source_of, given, events_of, IsFastAsSeen, IsSerialRun, IsReport}
+use Rattle.gallium_cli.specs.Answers.{source_of, given, events_of, IsFastAsSeen, IsSerialRun, IsReplayed}
 
 -- ## The laws of sources and of flat programs
 
@@ -137,21 +136,21 @@ serial_run m split writeback packets plan replayed port over at_once alike told 
       drained = λ says. over.drained (meaning_for x) (source_of m packets) run alike flat (promises.drained says);
     }
 
-pub reported : (m : Tree) (f : Program) (split : List Part) (writeback : ℕ) (packets : List Packet) (plan : Plan)
-    (replayed : Replayed) (text : List ℕ) (p p' : PortState) → KeepsStores → MeansTheSame → CarriesOver → EndsAtOnce
-    → IsTrue (is_good m) → Each IsArrival packets → f ≡ flat_of m → text ≡ report_of m.objects replayed.run
+pub source_replayed : (m : Tree) (f : Program) (split : List Part) (writeback : ℕ) (packets : List Packet) (plan : Plan)
+    (replayed : Replayed) (p p' : PortState) → KeepsStores → MeansTheSame → CarriesOver → EndsAtOnce
+    → IsTrue (is_good m) → Each IsArrival packets → f ≡ flat_of m
     → (let x : Given =
     record { program = f; split = split; writeback = writeback; packets = packets; manner = plain_manner } in
     IsReported x plan.events plan.drain replayed p'
     → (IsSome p.told → IsRunOf x plan.events plan.drain replayed p')
-    → IsReport text m (given m split writeback packets) plan replayed p p')
-reported m f split writeback packets plan replayed text p p' keeps same over at_once good all is printed answered told =
+    → IsReplayed m (given m split writeback packets) plan replayed p p')
+source_replayed m f split writeback packets plan replayed p p' keeps same over at_once good all is answered told =
     let at : Program → Given =
     λ g. record { program = g; split = split; writeback = writeback; packets = packets; manner = plain_manner } in
-    let alike = split_is_source m split writeback replayed.run.total packets keeps same good all in (
-      printed,
-      subst (λ (g : Program). IsReported (at g) plan.events plan.drain replayed p') is answered,
-      λ tells.
+    let alike = split_is_source m split writeback replayed.run.total packets keeps same good all in
+    record {
+      reported = subst (λ (g : Program). IsReported (at g) plan.events plan.drain replayed p') is answered;
+      serial = λ tells.
           serial_run m split writeback packets plan replayed p' over at_once alike
-          (subst (λ (g : Program). IsRunOf (at g) plan.events plan.drain replayed p') is (told tells)),
-    )
+          (subst (λ (g : Program). IsRunOf (at g) plan.events plan.drain replayed p') is (told tells));
+    }

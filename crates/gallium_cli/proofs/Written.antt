@@ -11,12 +11,14 @@ use Rattle.flat_ir.specs.Program.{Program}
 use Rattle.flat_ir.specs.Listing.{listing}
 use Rattle.flatten.specs.Flatten.{flat_of}
 use Rattle.split_model.specs.declared.split.Part.{Part}
+use Rattle.split_model.specs.Bounds.{IsBounded}
 use Rattle.split_model.specs.Greatest.{IsGreatestSplit}
 use Rattle.split_model.specs.Legal.{IsLegal}
 use Rattle.resource_limits.specs.declared.counting.Counts.{Counts}
 use Rattle.resource_limits.specs.declared.limits.Limits.{Limits}
 use Rattle.resource_limits.specs.Counts.{counts_of}
 use Rattle.resource_limits.specs.Kept.{KeepsLimits}
+use Rattle.resource_limits.specs.Limits.{AreInRange}
 use Rattle.split_validate.specs.SplitText.{split_text}
 use Rattle.split_validate.specs.CountsText.{counts_text}
 use Rattle.partition.specs.Choice.{IsChosen}
@@ -27,13 +29,17 @@ use Rattle.gallium_cli.specs.declared.status.Status.TheVariants as statuses
 use Rattle.gallium_cli.specs.declared.refusal.Refusal.{Refusal}
 use Rattle.gallium_cli.specs.declared.refusal.Refusal.TheVariants.{WriteFault, SwitchFault, NoMemory}
 use Rattle.gallium_cli.specs.Call.{work_of}
-use Rattle.gallium_cli.specs.Words.{Splitting, Served, Within, Request, Replay, is_replay}
+use Rattle.traffic_generator.specs.Packets.{packets_of as made_packets}
+use Rattle.traffic_generator.specs.Summary.{summary_of}
+use Rattle.traffic_generator.specs.Translator.{translator_limits, translator_text}
+use Rattle.gallium_cli.specs.Words.{Splitting, Served, Within, Spelled, Request, Replay, is_replay}
 use Rattle.gallium_cli.specs.Roles.{gates_of, split_gates, event_gates, names_of, split_reads}
-use Rattle.gallium_cli.specs.Answers.{IsAnswer, IsProgram, IsPlan, IsTraffic, IsChoice, IsNoChoice, IsSplitBy}
-use Rattle.gallium_cli.specs.Answers.{IsReport, given, heading_text, compiled_text}
+use Rattle.gallium_cli.specs.Answers.{IsAnswer, IsProgram, IsPlan, IsTraffic, IsChoice, IsNoChoice, IsGivenSplit}
+use Rattle.gallium_cli.specs.Answers.{IsSplitBy, IsReport, IsReplayed, given, heading_text, compiled_text, checked_text}
+use Rattle.gallium_cli.specs.Answers.{IsOnlySource, IsMadeSplit, IsSummary, made_plan}
 use Rattle.gallium_cli.specs.Loads.{GoesOn, raised_by}
 use Rattle.gallium_cli.specs.Puts.{IsPut, IsNotPut}
-use Rattle.gallium_cli.specs.Causes.{IsFirstRefused, IsNotWritten, IsSwitchKept, IsDone, HasCause, most_reads}
+use Rattle.gallium_cli.specs.Causes.{IsFirstRefused, IsNotWritten, IsSwitchKept, IsDone, HasCause, most_reads, reads_after}
 use Rattle.gallium_cli.proofs.Files.{first_before, refused_behind, refused_of_more, split_passed, traffic_before}
 
 pub at_most : (n m : ℕ) → n ≡ m → n ≤ m
@@ -122,6 +128,18 @@ chosen_split told s l shrink m allowed q split found same chosen legal keeps = (
   refl,
 )
 
+pub given_split : (told : List ℕ → Option (List ℕ)) (s l p : List ℕ) (m : Tree) (allowed : Limits) (q : Program)
+    (split : List Part) → IsPlan told s l m allowed → q ≡ flat_of m → IsGivenSplit told p q allowed split
+    → IsSplitBy (Spelled l p) told s m split allowed.writeback
+given_split told s l p m allowed q split found same given =
+    (allowed, found, subst (λ (x : Program). IsGivenSplit told p x allowed split) same given, refl)
+
+-- the line of a split of the flat program of a middlebox
+pub check_printed : (p q : Program) (split : List Part) (writeback : ℕ) (text sent : List ℕ) → p ≡ q
+    → text ≡ checked_text p split writeback → sent ≡ text → sent ≡ checked_text q split writeback
+check_printed p q split writeback text sent same printed put =
+    put ∙ printed ∙ ap (λ (x : Program). checked_text x split writeback) same
+
 -- the text that tells a split of the flat program of a middlebox
 pub split_printed : (p q : Program) (split : List Part) (writeback : ℕ) (text sent : List ℕ) → p ≡ q
     → text ≡ compiled_text p split writeback → sent ≡ text → sent ≡ compiled_text q split writeback
@@ -155,15 +173,17 @@ reads_in_all : (a b x y z : ℕ) → y ≡ raised_by a x → z ≡ raised_by b y
 reads_in_all a b x y z one two = omega arith
 
 -- the files of a replay are those of its split, and two more
-replay_names : (s t c : List ℕ) (by : Splitting) → length (names_of (Replay s t c by)) ≡ split_reads s by + 2
-replay_names s t c Served = refl
-replay_names s t c (Within l shrink) = refl
+replay_names : (s t c : List ℕ) (by : Splitting) (count : ℕ)
+    → reads_after (names_of (Replay s t c by)) count ≡ raised_by (split_reads s by + 2) count
+replay_names s t c Served count = refl
+replay_names s t c (Within l shrink) count = refl
+replay_names s t c (Spelled l p) count = refl
 
 -- all reads of a replay
 pub replay_reads : (s t c : List ℕ) (by : Splitting) (f g h : FilesState) → g.reads ≡ raised_by (split_reads s by) f.reads
     → h.reads ≡ raised_by 2 g.reads → h.reads ≡ most_reads (Replay s t c by) f
 replay_reads s t c by f g h one two =
-    subst (λ n. h.reads ≡ raised_by n f.reads) (sym (replay_names s t c by))
+    subst (λ n. h.reads ≡ n) (sym (replay_names s t c by f.reads))
     (reads_in_all (split_reads s by) 2 f.reads g.reads h.reads one two)
 
 -- what a refusal at the split comes to
@@ -173,7 +193,7 @@ pub split_refused : (refusal : Refusal) (s t c : List ℕ) (by : Splitting) (f g
 split_refused refusal s t c by f g p o first few =
     gate_cause refusal (Replay s t c by) f g p o
     (refused_of_more refusal (split_gates s by) (event_gates t c) f g first)
-    (subst (λ n. g.reads ≤ raised_by n f.reads) (sym (replay_names s t c by))
+    (subst (λ n. g.reads ≤ n) (sym (replay_names s t c by f.reads))
     (more_reads (split_reads s by) 2 f.reads g.reads few))
 
 -- what a refusal at the trace or the schedule comes to, behind a split that is found
@@ -187,7 +207,7 @@ traffic_refused refusal s t c by m split writeback f g h p o found goes one firs
     let passed = split_passed by s f m split writeback found in
     gate_cause refusal (Replay s t c by) f h p o
     (refused_behind refusal (split_gates s by) (event_gates t c) f h passed before)
-    (subst (λ n. h.reads ≤ raised_by n f.reads) (sym (replay_names s t c by))
+    (subst (λ n. h.reads ≤ n) (sym (replay_names s t c by f.reads))
     (reads_at_most (split_reads s by) 2 f.reads g.reads h.reads one two))
 
 -- the report of a replay that was put on out is an answer
@@ -207,6 +227,53 @@ replay_answer s t c by m split writeback packets plan text sent f g p p' goes fo
   traffic_before t c f g packets plan goes traffic,
   subst (λ x. IsReport x m (given m split writeback packets) plan report.0 p p') (sym put) report.1,
 )
+
+-- ## Made work
+
+-- the chosen split of the middlebox that packets are made for
+pub made_split : (m : Tree) (allowed : Limits) (q : Program) (split : List Part) (writeback : ℕ)
+    → IsOnlySource translator_text m → IsBounded (flat_of m) → q ≡ flat_of m → allowed ≡ translator_limits
+    → IsChosen q allowed false split → IsLegal q split → KeepsLimits q split allowed → writeback ≡ allowed.writeback
+    → IsMadeSplit m split writeback
+made_split m allowed q split writeback source bounded same is chosen legal keeps rows =
+    let here : IsChoice q allowed false split = record { chosen = chosen; legal = legal; keeps = keeps } in
+    let there : IsChoice (flat_of m) allowed false split = subst (λ (x : Program). IsChoice x allowed false split) same here in
+    record {
+      source = source;
+      bounded = bounded;
+      choice = subst (λ (a : Limits). IsChoice (flat_of m) a false split) is there;
+      rows = rows ∙ ap (λ (a : Limits). a.writeback) is;
+    }
+
+-- the limits of its split are in their ranges
+pub limits_in_range : (allowed : Limits) → allowed ≡ translator_limits → AreInRange allowed
+limits_in_range allowed is =
+    subst (λ (a : Limits). AreInRange a) (sym is) (omega arith, omega arith, omega arith, omega arith, omega arith)
+
+-- the summary of the replay of what was made
+pub made_summary : (text : List ℕ) (seed count : ℕ) (m : Tree) (split : List Part) (writeback : ℕ) (packets : List Packet)
+    (plan : Plan) (replayed : Replayed) (p p' : PortState) → IsMadeSplit m split writeback
+    → packets ≡ made_packets seed count → plan ≡ made_plan count
+    → text ≡ summary_of seed count replayed.run replayed.commands
+    → IsReplayed m (given m split writeback packets) plan replayed p p' → IsSummary text seed count p p'
+made_summary text seed count m split writeback packets plan replayed p p' made packets_are plan_is told replay =
+    record {
+      m = m;
+      split = split;
+      writeback = writeback;
+      replayed = replayed;
+      made = made;
+      told = told;
+      replay =
+          subst (λ (made : Plan). IsReplayed m (given m split writeback (made_packets seed count)) made replayed p p') plan_is
+          (subst (λ (ps : List Packet). IsReplayed m (given m split writeback ps) plan replayed p p') packets_are replay);
+    }
+
+-- the text that was put on out is that summary
+pub summary_put : (text sent : List ℕ) (seed count : ℕ) (p p' : PortState) → IsSummary text seed count p p'
+    → sent ≡ text → IsSummary sent seed count p p'
+summary_put text sent seed count p p' summary put =
+    subst (λ (x : List ℕ). IsSummary x seed count p p') (sym put) summary
 
 -- ## What the words ask for
 

@@ -5,7 +5,7 @@ ghost use Rattle.element_lang.specs.View.{tree};
 ghost use Rattle.flat_ir.specs.Program.{program_of};
 ghost use Rattle.run_model.specs.Sizes.{most_events, most_packets};
 ghost use Rattle.replay_contracts.specs.declared.job.Replayed.{Replayed};
-ghost use Rattle.gallium_cli.specs.Answers.{IsReport, IsTraffic, given};
+ghost use Rattle.gallium_cli.specs.Answers.{IsReplayed, IsReport, IsTraffic, given};
 ghost use Rattle.gallium_cli.specs.Call.{work_of};
 ghost use Rattle.gallium_cli.specs.Causes.{CountsFaults, HasCause, IsDone, IsFirstRefused};
 ghost use Rattle.gallium_cli.specs.Lines.{status_of};
@@ -23,13 +23,14 @@ use crate::splitting::{SplitMiddlebox, load_split};
 use crate::status::Status;
 use crate::words::SplitForm;
 use element_interp::stores_are_kept;
+use element_lang::Middlebox;
 use flatten::flattening_keeps_the_meaning;
 use gal_io::{Files, Sink, Text};
 use packet_fields::Packets;
 use replay_state::a_packet_is_fast_by_what_is_seen;
 use run_model::meanings_that_agree;
 use run_text::{Plan, print_run};
-use schedule_replay::{Job, ReplayError, replay};
+use schedule_replay::{Job, ReplayError, Replayed, replay};
 use std::alloc::Global;
 use switch_ir::SwitchPort;
 
@@ -58,21 +59,22 @@ fn load_traffic<'a, F: Files>(
     }
 }
 
-// The text that reports the replay of a split middlebox.
-fn report<S: SwitchPort>(
+/// Replays packets by a plan with a split middlebox, and gives the middlebox back with what came of it.
+pub fn replayed<S: SwitchPort>(
     alloc: Global,
     split_middlebox: SplitMiddlebox,
     packets: Packets,
     plan: Plan,
     port: &mut S,
-) -> Result<Text, Refusal<'static>>
+) -> Result<(Middlebox, Replayed), Refusal<'static>>
     requires runnable { IsRunnable (tree split_middlebox.program.middlebox) (program_of split_middlebox.program.flat)
         split_middlebox.split split_middlebox.writeback }
     requires few_packets { length packets ≤ most_packets }
     requires few_events { length plan.events ≤ most_events }
-    ensures ok { IfOk result (λ text. let m = tree split_middlebox.program.middlebox in
-        (replayed : Replayed) × IsReport text m (given m split_middlebox.split split_middlebox.writeback packets)
-        plan replayed (S.seen port.old) (S.seen port.new)) }
+    ensures same { IfOk result (λ x. x.0 ≡ split_middlebox.program.middlebox) }
+    ensures ok { IfOk result (λ x. let m = tree split_middlebox.program.middlebox in
+        IsReplayed m (given m split_middlebox.split split_middlebox.writeback packets) plan x.1
+        (S.seen port.old) (S.seen port.new)) }
     ensures stays { is_some (S.seen port.new).told ≡ is_some (S.seen port.old).told }
     ensures no_fault { OnOk result ((S.seen port.new).faults ≡ (S.seen port.old).faults) }
     ensures err { IfErr result (λ refusal.
@@ -100,12 +102,39 @@ fn report<S: SwitchPort>(
         drain,
     };
     match replay(alloc, &job, port) {
-        Ok(replayed) => match print_run(alloc, &middlebox.objects, &replayed.run) {
+        Ok(replayed) => Ok((middlebox, replayed)),
+        Err(ReplayError::PortFault) => Err(Refusal::SwitchFault),
+        Err(ReplayError::NoMemory) => Err(Refusal::NoMemory),
+    }
+}
+
+// The text that reports the replay of a split middlebox.
+fn report<S: SwitchPort>(
+    alloc: Global,
+    split_middlebox: SplitMiddlebox,
+    packets: Packets,
+    plan: Plan,
+    port: &mut S,
+) -> Result<Text, Refusal<'static>>
+    requires runnable { IsRunnable (tree split_middlebox.program.middlebox) (program_of split_middlebox.program.flat)
+        split_middlebox.split split_middlebox.writeback }
+    requires few_packets { length packets ≤ most_packets }
+    requires few_events { length plan.events ≤ most_events }
+    ensures ok { IfOk result (λ text. let m = tree split_middlebox.program.middlebox in
+        (replayed : Replayed) × IsReport text m (given m split_middlebox.split split_middlebox.writeback packets)
+        plan replayed (S.seen port.old) (S.seen port.new)) }
+    ensures stays { is_some (S.seen port.new).told ≡ is_some (S.seen port.old).told }
+    ensures no_fault { OnOk result ((S.seen port.new).faults ≡ (S.seen port.old).faults) }
+    ensures err { IfErr result (λ refusal.
+        ((refusal ≡ Refusal.NoMemory) × ((S.seen port.new).faults ≡ (S.seen port.old).faults))
+        ⊎ ((refusal ≡ Refusal.SwitchFault) × Rose (S.seen port.old).faults (S.seen port.new).faults)) }
+{
+    match replayed(alloc, split_middlebox, packets, plan, port) {
+        Ok((middlebox, told)) => match print_run(alloc, &middlebox.objects, &told.run) {
             Ok(text) => Ok(text),
             Err(_) => Err(Refusal::NoMemory),
         },
-        Err(ReplayError::PortFault) => Err(Refusal::SwitchFault),
-        Err(ReplayError::NoMemory) => Err(Refusal::NoMemory),
+        Err(refusal) => Err(refusal),
     }
 }
 

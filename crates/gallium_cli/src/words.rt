@@ -1,9 +1,10 @@
 //! The words of a command.
 ghost use Rattle.std.specs.Prelude.{◌≡◌, Some, None, MatchOption, map, string_bytes};
 ghost use Rattle.gallium_cli.specs.Words.{request_of, asked_by, pcap_in, pcap_out};
-ghost use Rattle.gallium_cli.specs.Words.{port_of, order_of, unit_of};
+ghost use Rattle.gallium_cli.specs.Words.{count_of, made_by, port_of, order_of, unit_of};
 
 use gal_io::number_up_to;
+use traffic_generator::Count;
 
 /// Whose split a replay goes by.
 #[derive(Clone, Copy, Debug)]
@@ -12,6 +13,8 @@ pub enum SplitForm<'a> {
     Served,
     /// The split that `Compile` would print.
     Within { limits: &'a str, shrink: bool },
+    /// The split that a file spells, which has to keep these limits.
+    Spelled { limits: &'a str, split: &'a str },
 }
 
 /// What a command asks for. Each text is the name of a file.
@@ -35,6 +38,17 @@ pub enum Form<'a> {
         trace: &'a str,
         schedule: &'a str,
         split: SplitForm<'a>,
+    },
+    /// Prints what the split takes that a file spells, where it is legal and keeps these limits.
+    Check {
+        source: &'a str,
+        limits: &'a str,
+        split: &'a str,
+    },
+    /// Replays so many packets that are made from a seed, and prints a summary.
+    Gen {
+        seed: u64,
+        count: Count,
     },
     /// Prints the packets of a capture as a trace. Each arrives by this port.
     PcapIn {
@@ -110,6 +124,24 @@ fn pcap_out<'a>(way: &str, trace: &'a str, order: &str, unit: &str) -> Option<Fo
     Some(Form::PcapOut { trace, big, nano })
 }
 
+// The number of packets that a word is.
+fn count_of(word: &str) -> Option<Count>
+    ensures { MatchOption result (count_of word.now ≡ None) (λ count. count_of word.now ≡ Some count.packets) }
+{
+    let number = number_up_to(word.as_bytes(), 16_384)?;
+    Count::of(number)
+}
+
+// The form of these words behind `gen`, if they have one.
+fn made_by<'a>(seed: &str, count: &str) -> Option<Form<'a>>
+    ensures { MatchOption result (made_by seed.now count.now ≡ None)
+        (λ form. made_by seed.now count.now ≡ Some (asked_by form)) }
+{
+    let seed = number_up_to(seed.as_bytes(), u64::MAX)?;
+    let count = count_of(count)?;
+    Some(Form::Gen { seed, count })
+}
+
 /// The form of the words after the program's name, if they have one.
 pub fn form_of<'a>(words: &'a [String]) -> Option<Form<'a>>
     ensures { MatchOption result (request_of (map string_bytes words.now) ≡ None)
@@ -130,6 +162,9 @@ pub fn form_of<'a>(words: &'a [String]) -> Option<Form<'a>>
                     shrink: false,
                 });
             }
+            if word.as_str() == "gen" {
+                return made_by(source.as_str(), second.as_str());
+            }
             None
         }
         [word, source, second, third] => {
@@ -142,6 +177,13 @@ pub fn form_of<'a>(words: &'a [String]) -> Option<Form<'a>>
                     trace: second.as_str(),
                     schedule: third.as_str(),
                     split: SplitForm::Served,
+                });
+            }
+            if word.as_str() == "check" {
+                return Some(Form::Check {
+                    source: source.as_str(),
+                    limits: second.as_str(),
+                    split: third.as_str(),
                 });
             }
             if word.as_str() == "compile" {
@@ -187,6 +229,22 @@ pub fn form_of<'a>(words: &'a [String]) -> Option<Form<'a>>
                         split: SplitForm::Within {
                             limits: limits.as_str(),
                             shrink: true,
+                        },
+                    });
+                }
+            }
+            None
+        }
+        [word, source, trace, schedule, limits, by, split] => {
+            if word.as_str() == "replay" {
+                if by.as_str() == "split" {
+                    return Some(Form::Replay {
+                        source: source.as_str(),
+                        trace: trace.as_str(),
+                        schedule: schedule.as_str(),
+                        split: SplitForm::Spelled {
+                            limits: limits.as_str(),
+                            split: split.as_str(),
                         },
                     });
                 }

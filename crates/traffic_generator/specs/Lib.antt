@@ -1,0 +1,5 @@
+pub mod Count
+pub mod Packets
+pub mod Schedule
+pub mod Summary
+pub mod Translator
