@@ -1,5 +1,5 @@
 -- Which line a shut gate leads to.
-use Rattle.std.proofs.Common.{◌≡◌, ◌<◌, ◌⊎◌, ℕ, List, [], ◌∷◌, length, Option, Some, None, IfSome, IsSomeAnd, sym}
+use Rattle.std.proofs.Common.{◌≡◌, ◌<◌, ◌⊎◌, ℕ, List, length, Option, Some, None, IfSome, IsSomeAnd, sym}
 use Rattle.std.proofs.Common.{refl, ap, subst, ◌∙◌, inl, inr, arith}
 use Rattle.std.specs.Io.KnownBytes.{append_known}
 use Rattle.gal_io.specs.Files.{FilesState}

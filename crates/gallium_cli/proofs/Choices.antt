@@ -20,7 +20,7 @@ use Rattle.gallium_cli.specs.declared.status.Status.TheVariants as statuses
 use Rattle.gallium_cli.specs.declared.refusal.Refusal.{Refusal}
 use Rattle.gallium_cli.specs.declared.refusal.Refusal.TheVariants.{Exceeded, NoMemory}
 use Rattle.gallium_cli.specs.Lines.{status_of}
-use Rattle.gallium_cli.specs.Roles.{Role, program, limits, legal_split, size_of, AreLimits}
+use Rattle.gallium_cli.specs.Roles.{program, limits, legal_split, size_of, AreLimits}
 use Rattle.gallium_cli.specs.Answers.{IsOnlySource, IsPlan}
 use Rattle.gallium_cli.specs.Splits.{excess_of}
 use Rattle.gallium_cli.specs.Causes.{IsOverLimit}

@@ -349,8 +349,8 @@ switch_fault_ends request status call (inr (refusal, cause, counts, (ends.NoMemo
 -- ## Who calls the switch, and how often files are read
 
 kept_aside : (replays : Bool) (p p' : PortState) → (replays ≡ true → ⊥) → IsSwitchKept replays p p' → p' ≡ p
-kept_aside true p p' nlaws = absurd (none refl)
-kept_aside false p p' nlaws = kept
+kept_aside true p p' none kept = absurd (none refl)
+kept_aside false p p' none kept = kept
 
 aside_ends : (request : Option Request) (status : Status) (call : Call) → EndsFor request status call
     → (IsReplay request → ⊥) → call.work.port_after ≡ call.work.port

@@ -1,25 +1,26 @@
 -- Why the split that a file spells isn't taken: for one cause, and not where it is.
-use Rattle.std.proofs.Common.{◌≡◌, ◌<◌, ◌≤◌, ◌^◌, ◌⊎◌, ℕ, suc, true, false, List, length, Option, Some, None, IfSome, IsSomeAnd}
+use Rattle.std.proofs.Common.{◌≡◌, ◌<◌, ◌≤◌, ◌^◌, ◌⊎◌, ℕ, suc, List, length, Option, Some, None, IfSome, IsSomeAnd}
 use Rattle.std.proofs.Common.{refl, sym, ap, subst, ◌∙◌, inl, inr, arith}
 use Rattle.std.proofs.lemmas.Bool.{cases_lt, true≢false}
 use Rattle.flat_ir.specs.Program.{Program}
 use Rattle.split_model.specs.declared.split.Part.{Part}
+use Rattle.split_model.specs.Bounds.{IsBounded}
 use Rattle.split_model.specs.Legal.{IsLegal, IsFirstBroken}
 use Rattle.split_validate.specs.SplitLines.{IsSplitText, IsFirstWrong, IsRefused}
+use Rattle.split_validate.specs.declared.reading.SplitTextError.{SplitTextError}
 use Rattle.split_validate.specs.declared.reading.SplitTextError.TheVariants as errors
 use Rattle.resource_limits.specs.declared.limits.Limits.{Limits as Allowed}
 use Rattle.resource_limits.specs.declared.exceeding.Over.{Over}
 use Rattle.resource_limits.specs.Counts.{counts_of}
 use Rattle.resource_limits.specs.Kept.{first_over}
 use Rattle.gallium_cli.specs.declared.status.Status.{Status}
-use Rattle.gallium_cli.specs.declared.refusal.Excess.{Excess}
 use Rattle.gallium_cli.specs.declared.refusal.Refusal.{Refusal}
 use Rattle.gallium_cli.specs.declared.refusal.Refusal.TheVariants.{Split, Exceeded}
-use Rattle.gallium_cli.specs.declared.refusal.SplitFault.{SplitFault}
 use Rattle.gallium_cli.specs.declared.refusal.SplitFault.TheVariants.{Line, Rule}
 use Rattle.gallium_cli.specs.Lines.{status_of}
 use Rattle.gallium_cli.specs.Roles.{legal_split, IsBad, IsSpelled}
-use Rattle.gallium_cli.specs.Splits.{IsUnkept, IsBadSplit, SpellsLegal, excess_of}
+use Rattle.gallium_cli.specs.Loads.{IsUnread}
+use Rattle.gallium_cli.specs.Splits.{IsUnkept, IsBadSplit, excess_of}
 use Rattle.gallium_cli.specs.Promises.{IsStatusOf, IsRefusedAs}
 use Rattle.gallium_cli.proofs.Choices.{IsGreatestOne, IsKeptUnexceeded}
 
@@ -139,6 +140,9 @@ one_cause laws (Exceeded excess) (Exceeded excess') f allowed text few (split, o
     let first : List Part → Option Over = λ (s : List Part). first_over (counts_of f s allowed.writeback) allowed in
     let overs = one_over (first split) over over' exceeding.first (sym (ap first same) ∙ exceeding'.first) in
     ap Exceeded (is ∙ ap (excess_of f.objects) overs ∙ sym is')
+one_cause laws (Split (Line a)) _ f allowed text few one two = absurd two
+one_cause laws (Split (Rule rule i)) _ f allowed text few one two = absurd two
+one_cause laws (Exceeded excess) _ f allowed text few one two = absurd two
 one_cause laws _ other f allowed text few one two = absurd one
 
 -- ## Bad texts
@@ -177,18 +181,12 @@ cause_split laws (Exceeded excess) f allowed text why =
 cause_split laws _ f allowed text why = absurd why.cause
 
 -- it has no other
-split_status : Laws → (cause : Refusal) (f : Program) (allowed : Allowed) (status : Status) (text : List ℕ)
-    → IsStatusOf status (legal_split f allowed) text → IsBadSplit cause f allowed text → status_of cause ≡ status
-split_status laws cause f allowed status text is why = one_status status (status_of cause) f allowed text is
-    (cause_split laws cause f allowed text why)
-  where
-    one_status : (status other : Status) (f : Program) (allowed : Allowed) (text : List ℕ)
-        → IsStatusOf status (legal_split f allowed) text → IsStatusOf other (legal_split f allowed) text
-        → other ≡ status
-    one_status status other f allowed text (inl one) (inl two) = two.0 ∙ sym one.0
-    one_status status other f allowed text (inl one) (inr two) = absurd (one.1 two.1)
-    one_status status other f allowed text (inr one) (inl two) = absurd (two.1 one.1)
-    one_status status other f allowed text (inr one) (inr two) = two.0 ∙ sym one.0
+one_status : (f : Program) (allowed : Allowed) (text : List ℕ) (status other : Status)
+    → IsStatusOf status (legal_split f allowed) text → IsStatusOf other (legal_split f allowed) text → other ≡ status
+one_status f allowed text status other (inl one) (inl two) = two.0 ∙ sym one.0
+one_status f allowed text status other (inl one) (inr two) = absurd (one.1 two.1)
+one_status f allowed text status other (inr one) (inl two) = absurd (two.1 one.1)
+one_status f allowed text status other (inr one) (inr two) = two.0 ∙ sym one.0
 
 pub exact_split : Laws → (cause : Refusal) (f : Program) (allowed : Allowed) (status : Status) (told : Option (List ℕ))
     → IsSomeAnd told (IsRefusedAs (legal_split f allowed) status) → IfSome told (IsBadSplit cause f allowed)
@@ -197,4 +195,19 @@ exact_split laws cause f allowed status None refused why = absurd refused
 exact_split laws cause f allowed status (Some text) (inl long) why =
     let short = why.size in let above = long.1 in absurd (omega arith)
 exact_split laws cause f allowed status (Some text) (inr here) why =
-    split_status laws cause f allowed status text here.0 why
+    one_status f allowed text status (status_of cause) here.0 (cause_split laws cause f allowed text why)
+
+-- ## What a reader answers
+
+-- a text that is refused at a line
+pub line_unread : (f : Program) (allowed : Allowed) (text : List ℕ) (n number : ℕ) → IsBounded f → n ≡ length f.code
+    → IsRefused n text (errors.Line number) → IsUnread (Split (Line number)) (legal_split f allowed) text
+line_unread f allowed text n number bounded same refused =
+    (bounded.few, subst (λ k. IsRefused k text (errors.Line number)) same refused)
+
+pub line_answered : (f : Program) (allowed : Allowed) (text : List ℕ) (n number : ℕ) (e : SplitTextError)
+    → IsBounded f → n ≡ length f.code → (e ≡ errors.NoMemory) ⊎ IsRefused n text e → e ≡ errors.Line number
+    → IsUnread (Split (Line number)) (legal_split f allowed) text
+line_answered f allowed text n number e bounded same (inl none) is = cc
+line_answered f allowed text n number e bounded same (inr refused) is =
+    line_unread f allowed text n number bounded same (subst (IsRefused n text) is refused)

@@ -1,5 +1,5 @@
 -- Walks over the same gates.
-use Rattle.std.proofs.Common.{◌⊎◌, List, [], ◌∷◌, inl, inr}
+use Rattle.std.proofs.Common.{List, [], ◌∷◌, inl, inr}
 use Rattle.gallium_cli.specs.Roles.{Gate, IsFirst}
 
 -- What two walks come to: both end at one gate, or one ends where the other goes on.

@@ -1,7 +1,7 @@
 -- What a text that was written leads to, and what a call that came to none.
 use Rattle.std.proofs.Common.{◌≡◌, ◌⊎◌, ◌≤◌, ◌+◌, ◌++◌, ℕ, Bool, true, false, List, length, Option, Some, Result, Ok, Err}
 use Rattle.std.proofs.Common.{IfErr, inl, inr, refl, sym, ap, subst, ◌∙◌, append_assoc, arith}
-use Rattle.std.specs.Prelude.{OnOk}
+use Rattle.std.specs.Prelude.{OnOk, codes}
 use Rattle.gal_io.specs.Count.{Rose}
 use Rattle.gal_io.specs.Files.{FilesState}
 use Rattle.gal_io.specs.Sink.{SinkState}
@@ -32,6 +32,7 @@ use Rattle.gallium_cli.specs.Call.{work_of}
 use Rattle.traffic_generator.specs.Packets.{packets_of as made_packets}
 use Rattle.traffic_generator.specs.Summary.{summary_of}
 use Rattle.traffic_generator.specs.Translator.{translator_limits, translator_text}
+use Rattle.gallium_cli.specs.Lines.{line_end}
 use Rattle.gallium_cli.specs.Words.{Splitting, Served, Within, Spelled, Request, Replay, is_replay}
 use Rattle.gallium_cli.specs.Roles.{gates_of, split_gates, event_gates, names_of, split_reads}
 use Rattle.gallium_cli.specs.Answers.{IsAnswer, IsProgram, IsPlan, IsTraffic, IsChoice, IsNoChoice, IsGivenSplit}
@@ -139,6 +140,15 @@ pub check_printed : (p q : Program) (split : List Part) (writeback : ℕ) (text 
     → text ≡ checked_text p split writeback → sent ≡ text → sent ≡ checked_text q split writeback
 check_printed p q split writeback text sent same printed put =
     put ∙ printed ∙ ap (λ (x : Program). checked_text x split writeback) same
+
+-- the parts of a line, one after the other, are the line of a split
+pub told_check : (f : Program) (split : List Part) (writeback : ℕ) (counts : Counts) (words sent head some all : List ℕ)
+    → counts ≡ counts_of f split writeback → words ≡ counts_text counts → sent ≡ words → head ≡ codes "ok "
+    → some ≡ head ++ sent → all ≡ some ++ line_end → all ≡ checked_text f split writeback
+told_check f split writeback counts words sent head some all counted worded same headed one two =
+    two ∙ ap (λ x. x ++ line_end) one ∙ append_assoc head sent line_end
+    ∙ ap (λ x. x ++ (sent ++ line_end)) headed
+    ∙ ap (λ x. codes "ok " ++ (x ++ line_end)) (same ∙ worded ∙ ap counts_text counted)
 
 -- the text that tells a split of the flat program of a middlebox
 pub split_printed : (p q : Program) (split : List Part) (writeback : ℕ) (text sent : List ℕ) → p ≡ q

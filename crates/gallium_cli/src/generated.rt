@@ -1,5 +1,5 @@
 //! Replays of packets that are made from a number.
-ghost use Rattle.std.specs.Prelude.{◌≡◌, ◌⊎◌, ◌≤◌, Some, IfOk, IfErr, IsTrue, OnOk, is_some, length};
+ghost use Rattle.std.specs.Prelude.{◌≡◌, ◌⊎◌, ◌≤◌, false, Some, IfOk, IfErr, IsTrue, OnOk, is_some, length};
 ghost use Rattle.gal_io.specs.Count.{Rose};
 ghost use Rattle.gal_io.specs.Files.{FilesState};
 ghost use Rattle.element_lang.specs.View.{tree};

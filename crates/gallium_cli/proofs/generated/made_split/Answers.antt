@@ -10,14 +10,14 @@ pub returns-clause-ok : goal.returns-clause-ok
 returns-clause-ok c =
     let found = c.in_ok-flattened.ensures in
     let parts = c.in_ok-parts.ensures in
-    made_split (tree c.in_ok-flattened.flattened.middlebox) c.translator_limits.result _ c.in_ok-parts.parts _
-    found.source found.bounded found.program c.translator_limits.ensures parts.chosen parts.legal parts.keeps refl
+    made_split (tree c.in_ok-flattened.flattened.middlebox) c.translator_limits-allowed.result _ c.in_ok-parts.parts _
+    found.source found.bounded found.program c.translator_limits-allowed.ensures parts.chosen parts.legal parts.keeps refl
 
 pub returns-clause-runnable : goal.returns-clause-runnable
 returns-clause-runnable c =
     let m = tree c.in_ok-flattened.flattened.middlebox in
     let found = c.in_ok-flattened.ensures in
     let parts = c.in_ok-parts.ensures in
-    chosen_runs m _ c.in_ok-parts.parts c.translator_limits.result _ found.good found.program found.bounded
+    chosen_runs m _ c.in_ok-parts.parts c.translator_limits-allowed.result _ found.good found.program found.bounded
     (c.stores_are_kept.ensures.start m found.good) parts.legal parts.keeps parts.low
-    (limits_in_range _ c.translator_limits.ensures) refl
+    (limits_in_range _ c.translator_limits-allowed.ensures) refl

@@ -75,3 +75,6 @@ returns-in-Some-PcapOut-clause-err g c =
     (g.S.SwitchPort.seen c.args.port.now) (g.S.SwitchPort.seen c.args.port.now)
     (g.O.Sink.seen c.args.out.now) (g.O.Sink.seen c.perform_pcap_out.new.out)
     arm.ensures (ap asked_by arm.field-0-is) (c.perform_pcap_out.ensures.err (g.S.SwitchPort.seen c.args.port.now))
+
+pub returns-in-Some-PcapOut-clause-fault : goal.returns-in-Some-PcapOut-clause-fault
+returns-in-Some-PcapOut-clause-fault g c = c.perform_pcap_out.ensures.fault (g.S.SwitchPort.seen c.args.port.now)
