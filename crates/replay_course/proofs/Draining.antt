@@ -15,7 +15,8 @@ use Rattle.replay_state.specs.Drain.{drain_order, events_left, first_of, next_ev
 use Rattle.replay_state.specs.Journal.{Call, IsAnswered, asked, journal, question_of}
 use Rattle.replay_state.specs.Program.{IsSplitProgram, Manner, SplitProgram, setup_of}
 use Rattle.replay_state.specs.Sound.{AreFew}
-use Rattle.replay_state.specs.State.{State, Pass, fate_of, visible}
+use Rattle.output_commit.specs.Batches.{visible}
+use Rattle.replay_state.specs.State.{State, Pass, fate_of}
 use Rattle.replay_state.specs.Step.{applies, may_go, state_of, step}
 use Rattle.replay_contracts.specs.Called.{WasCalled}
 use Rattle.replay_contracts.specs.Given.{Given, IsReady, code_for, setup_for, whole}

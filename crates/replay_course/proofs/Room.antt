@@ -17,7 +17,8 @@ use Rattle.replay_state.specs.Answers.{Answers, Setup}
 use Rattle.replay_state.specs.Journal.{Call}
 use Rattle.replay_state.specs.Program.{IsSplitProgram, Manner, SplitProgram, plain, setup_of}
 use Rattle.replay_state.specs.Sound.{AreSound}
-use Rattle.replay_state.specs.State.{State, applied_commands, commands_in}
+use Rattle.output_commit.specs.Batches.{commands_in}
+use Rattle.replay_state.specs.State.{State, applied_commands}
 use Rattle.replay_state.specs.Step.{state_of}
 use Rattle.replay_state.specs.Tables.{IsSeen}
 use Rattle.split_answers.specs.Through.{IsThrough, first_pair}

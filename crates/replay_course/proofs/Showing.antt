@@ -20,8 +20,9 @@ use Rattle.packet_fields.specs.declared.verdict.Verdict.{Verdict}
 use Rattle.replay_state.specs.Answers.{Answers, Setup}
 use Rattle.replay_state.specs.Journal.{Call, CalledUp, Finished, SentUp, UpAnswer, down_frame, ends_up, frame_in, journal, only_for, or_else, over_in, up_answer, verdict_in}
 use Rattle.replay_state.specs.Program.{SplitProgram}
-use Rattle.replay_state.specs.State.{State, Batch, Entered, Fast, Pass, Progress, commands_in, fate_of, seen, visible}
-use Rattle.replay_state.specs.Step.{applies, came_in, disturbs, finished, idled, let_go, may_go, merged, step, take_up, tick, waits}
+use Rattle.output_commit.specs.Batches.{Batch, commands_in, merged, take_up, visible}
+use Rattle.replay_state.specs.State.{State, Entered, Fast, Pass, Progress, fate_of, seen}
+use Rattle.replay_state.specs.Step.{applies, came_in, disturbs, finished, idled, let_go, may_go, step, tick, waits}
 use Rattle.replay_course.specs.declared.course.Course.{Course}
 use Rattle.replay_course.specs.Shown.{IsShown, called, taken}
 use Rattle.replay_course.proofs.Versions.{versions_by}

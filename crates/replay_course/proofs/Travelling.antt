@@ -19,7 +19,8 @@ use Rattle.replay_state.specs.Answers.{Answers, Setup}
 use Rattle.replay_state.specs.Journal.{Call, CalledDown, CalledUp, Released, SentUp, UpAnswer, down_answer, down_frame, frame_in, journal, only_for, or_else, over_in, told, up_answer, verdict_in}
 use Rattle.replay_state.specs.Places.{HavePlaces, IsHeld}
 use Rattle.replay_state.specs.Program.{SplitProgram}
-use Rattle.replay_state.specs.State.{State, Batch, Entered, Held, Progress, Slow, Up, commands_in, fate_of, seen}
+use Rattle.output_commit.specs.Batches.{Batch, commands_in}
+use Rattle.replay_state.specs.State.{State, Entered, Held, Progress, Slow, Up, fate_of, seen}
 use Rattle.replay_state.specs.Step.{applies, came_down, came_in, came_out, decided, idled, ran, released, served, step, tick, went_up, with_changes}
 use Rattle.replay_course.specs.Fates as fates_of
 use Rattle.replay_course.specs.declared.course.Course.{Course}

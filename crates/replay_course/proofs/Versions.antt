@@ -8,7 +8,7 @@ use Rattle.writeback_table.specs.declared.command.Update.{Update}
 use Rattle.writeback_table.specs.Commands.{clear_of, commands_of, counts_on, ons, versions}
 use Rattle.output_commit.specs.Commit.{batch_of}
 use Rattle.server_runtime.specs.Serving.{version_after}
-use Rattle.replay_state.specs.State.{Batch, commands_in, versions_at, visible}
+use Rattle.output_commit.specs.Batches.{Batch, commands_in, versions_at, visible}
 use Rattle.replay_course.proofs.Lists.{length_join, length_map}
 
 abbrev pub AreSingle : List Batch → Type 0

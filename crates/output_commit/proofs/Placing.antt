@@ -1,0 +1,46 @@
+-- How a place goes on by a command.
+use Rattle.std.proofs.Common.{◌≡◌, ℕ, ◌+◌, ◌-◌, ◌*◌, ◌<◌, ◌≤◌, Bool, true, false, cond, ltb, List, [], ◌∷◌, ◌++◌, Option, Some, None, inl, inr, refl, sym, subst, ◌∙◌, ap, arith, zero, suc, length, take, drop, get_or}
+use Rattle.std.proofs.lemmas.Bool.{cases_Bool, ltb-true, ltb-false, lt-ltb}
+use Rattle.output_commit.specs.declared.span.Span.{Span}
+use Rattle.output_commit.specs.declared.place.Place.{Place}
+use Rattle.output_commit.specs.Spans.{IsIn, passed, span_len, stands, total}
+
+pub total_first : (spans : List Span) (i : ℕ) → total (take i spans) ≤ total spans
+total_first spans zero = omega arith
+total_first [] (suc i) = omega arith
+total_first (x ∷ xs) (suc i) = let r = total_first xs i in omega arith
+
+-- there is a batch at the place
+pub there : (spans : List Span) (i s : ℕ) → i ≤ length spans → s ≤ total (take 1 (drop i spans)) → total (take i spans) + s < total spans → i < length spans
+there [] i s within step less = absurd (omega arith)
+there (x ∷ xs) zero s within step less = omega arith
+there (x ∷ xs) (suc i) s within step less = let r = there xs i s (omega arith) step (omega arith) in omega arith
+
+pub one_len : (spans : List Span) (i : ℕ) (d : Span) → i < length spans → total (take 1 (drop i spans)) ≡ span_len (get_or spans i d)
+one_len [] i d h = absurd (omega arith)
+one_len (x ∷ xs) zero d h = omega arith
+one_len (x ∷ xs) (suc i) d h = one_len xs i d (omega arith)
+
+pub total_next : (spans : List Span) (i : ℕ) (d : Span) → i < length spans → total (take (suc i) spans) ≡ total (take i spans) + span_len (get_or spans i d)
+total_next [] i d h = absurd (omega arith)
+total_next (x ∷ xs) zero d h = omega arith
+total_next (x ∷ xs) (suc i) d h = let r = total_next xs i d (omega arith) in omega arith
+
+-- within its batch
+pub stands_here : (spans : List Span) (i s : ℕ) (d : Span) → i < length spans → s < span_len (get_or spans i d) → stands spans (total (take i spans) + s) ≡ Some (get_or spans i d, s)
+stands_here [] i s d h less = absurd (omega arith)
+stands_here (x ∷ xs) zero s d h less = let t = lt-ltb (0 + s) (span_len x) (omega arith) in let e : 0 + s ≡ s = omega arith in rw t (ap (λ k. Some (x, k)) e)
+stands_here (x ∷ xs) (suc i) s d h less =
+    let n = span_len x + total (take i xs) + s in
+    let f : ltb n (span_len x) ≡ false = not_ltb n (span_len x) (omega arith) in
+    let e : n - span_len x ≡ total (take i xs) + s = omega arith in
+    rw (f, e) (stands_here xs i s d (omega arith) less)
+  where
+    not_ltb : (a b : ℕ) → b ≤ a → ltb a b ≡ false
+    not_ltb a b h = elim (cases_Bool (ltb a b)) [ inl t ↦ let le = ltb-true a b t in absurd (omega arith) | inr f ↦ f ]
+
+-- behind its last command the next batch begins
+pub next_there : (spans : List Span) (i s : ℕ) (d : Span) → i < length spans → s ≡ span_len (get_or spans i d) → total (take i spans) + s < total spans → suc i < length spans
+next_there spans i s d h is less =
+    let n = total_next spans i d h in
+    there spans (suc i) 0 (omega arith) (omega arith) (omega arith)
