@@ -6,7 +6,6 @@ use Rattle.output_commit.specs.declared.batches.Batches.{Batches}
 use Rattle.output_commit.specs.declared.place.Place.{Place}
 use Rattle.output_commit.specs.declared.span.Span.{Span}
 use Rattle.output_commit.specs.Batches.{Batch, fits, merged, visible}
-use Rattle.output_commit.specs.Commit.{AreHeld}
 use Rattle.output_commit.specs.Spans.{AreJoined, AreTallied, IsIn, batch_in, first_of, passed, total}
 
 -- the spans of which a command was sent, and all that count
@@ -35,7 +34,6 @@ pub record Takes (writeback : ℕ) (updates : List Update) (spans : List Span) (
   pub merged : merged (fits writeback) 0 (map (batch_in updates) spans)
       ≡ map (batch_in updates) (span ∷ drop count spans)
   pub joined : AreJoined (first_of spans) (span ∷ drop count spans) (length updates)
-  pub held : AreHeld writeback (map (batch_in updates) (span ∷ drop count spans))
   pub fewer : total (span ∷ drop count spans) + 2 * (count - 1) ≡ total spans
 
 -- these batches go behind all others
@@ -49,7 +47,6 @@ pub record IsPushed (old new : Batches) (more : List Batch) : Type 0 where
 pub record IsBegun (writeback : ℕ) (old new : Batches) (span : Span) : Type 0 where
   pub kept : AreKept new
   pub batches : batches_in new ≡ merged (fits writeback) (total (begun_in old)) (batches_in old)
-  pub held : AreHeld writeback (batches_in new)
   pub begun : new.begun ≡ old.begun + 1
   pub front : (k : ℕ) → k ≤ old.begun → take k new.spans.items ≡ take k old.spans.items
   pub last : begun_in new ≡ begun_in old ++ span ∷ []
@@ -59,10 +56,9 @@ pub record IsBefore (b : Batches) (n : ℕ) (place : Place) : Type 0 where
   pub within : IsIn (begun_in b) place
   pub passed : passed (begun_in b) place ≡ n
 
-pub record IsCounted (b : Batches) (writeback sent done acked left : ℕ) (applied known : Place)
+pub record IsCounted (b : Batches) (sent done acked left : ℕ) (applied known : Place)
     (visible_now acknowledged_now : ℕ) : Type 0 where
   pub kept : AreKept b
-  pub held : AreHeld writeback (batches_in b)
   -- sent commands are those of the batches that were begun, and some are of the last of these
   pub all : sent + left ≡ total (begun_in b)
   pub last : (k : ℕ) → b.begun ≡ suc k → total (take k b.spans.items) < sent

@@ -1,8 +1,8 @@
 //! All changes in batches, of which the first ones were begun.
-ghost use Rattle.std.specs.Prelude.{◌≡◌, ◌<◌, ◌+◌, ◌^◌, [], length, map, OnOk, OnErr};
-ghost use Rattle.output_commit.specs.Commit.{AreHeld, batch_len, batch_of};
-ghost use Rattle.output_commit.specs.Kept.{AreKept, IsBegun, IsPushed, Takes, batches_in, begun_in, spans_in};
-ghost use Rattle.output_commit.specs.Spans.{AreJoined, AreTallied, batch_in, first_of, total};
+ghost use Rattle.std.specs.Prelude.{◌≡◌, ◌<◌, ◌+◌, ◌^◌, [], length, OnOk, OnErr};
+ghost use Rattle.output_commit.specs.Commit.{batch_len, batch_of};
+ghost use Rattle.output_commit.specs.Kept.{AreKept, IsBegun, IsPushed, Takes, begun_in, spans_in};
+ghost use Rattle.output_commit.specs.Spans.{AreJoined, AreTallied, first_of, total};
 
 use crate::span::Span;
 use crate::tally::Tally;
@@ -34,14 +34,15 @@ fn take_up(spans: &[Span], updates: &[Update], tally: &mut Tally, most: u32) -> 
     requires some { 0 < length spans.now }
     requires few { total spans.now < 2 ^ 32 }
     requires joined { AreJoined (first_of spans.now) spans.now (length updates.now) }
-    requires held { AreHeld most (map (batch_in updates.now) spans.now) }
     requires tallied { AreTallied tally.old updates.now }
     ensures takes { Takes most updates.now spans.now result.span result.count }
     ensures tallied { AreTallied tally.new updates.now }
 {
     let mut span = spans[0];
     tally.clear();
-    tally.count(span.of(updates), most);
+    if !tally.count(span.of(updates), most) {
+        return Taken { span, count: 1 };
+    }
     for count in 1..spans.len() {
         let behind = spans[count];
         if !tally.count(behind.of(updates), most) {
@@ -107,7 +108,6 @@ impl Batches {
     /// The first batch that waits takes up those behind it, and is begun. The answer is its span.
     pub fn begin(&mut self, most: u32) -> Span
         requires kept { AreKept self.old }
-        requires held { AreHeld most (batches_in self.old) }
         requires waits { self.old.next < length self.old.spans.items }
         ensures { IsBegun most self.old self.new result }
     {

@@ -1,7 +1,7 @@
 //! Held outputs, and the batches of changes with their commands.
-ghost use Rattle.std.specs.Prelude.{◌≡◌, ◌<◌, ◌+◌, ◌-◌, ◌^◌, ◌∷◌, [], length, min, nat_lt, slice_get, true};
+ghost use Rattle.std.specs.Prelude.{◌≡◌, ◌<◌, ◌+◌, ◌-◌, ◌^◌, ◌∷◌, [], length, min, nat_lt, slice_get};
 ghost use Rattle.std.specs.Prelude.{OnOk, OnErr};
-ghost use Rattle.output_commit.specs.Batches.{commands_in, fits};
+ghost use Rattle.output_commit.specs.Batches.{commands_in};
 ghost use Rattle.output_commit.specs.Commit as spec;
 ghost use Rattle.output_commit.specs.Spans as spans;
 
@@ -49,8 +49,7 @@ impl Model for Commit {
       held = c.held.items;
     } };
 
-    ghost invariant = { λ c. IsCounted c.batches c.writeback c.sent c.done c.acked c.left c.applied c.known c.visible
-        c.acknowledged };
+    ghost invariant = { λ c. IsCounted c.batches c.sent c.done c.acked c.left c.applied c.known c.visible c.acknowledged };
 }
 
 // How many versions the command at a place of a batch makes visible.
@@ -114,7 +113,6 @@ impl Commit {
         updates: &Updates,
     ) -> Result<(), NoMemory>
         requires few { length (spec.commands self.old) + length (commands_in (spec.batch_of updates.now)) < 2 ^ 32 }
-        requires fits { fits self.old.writeback updates.now ≡ true }
         ensures ok { OnOk result (self.new
             ≡ spec.with_output self.old (record { number = number; need = need; frame = frame }) updates.now) }
         ensures err { OnErr result (self.new ≡ self.old) }
