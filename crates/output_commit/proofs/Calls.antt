@@ -15,13 +15,13 @@ use Rattle.output_commit.proofs.Seeing.{visible_front, visible_merged, visible_m
 use Rattle.std.proofs.lemmas.List.{length-append}
 
 -- the counts stay in order, what is seen only rises, what was sent stays, and these changes come in
-record GoesOn (c c' : Commit) (added : List Update) (versions : ℕ) : Type 0 where
+record GoesOn (c c' : Commit) (added : List Update) (outputs : ℕ) : Type 0 where
   in_order : IsInOrder c'
   rises : visible c ≤ visible c'
   sent : c.sent ≤ c'.sent
   stays : (m : ℕ) → m ≤ c.sent → take m (commands c') ≡ take m (commands c)
   changes : changes_in c'.batches ≡ changes_in c.batches ++ added
-  versions : versions_in c'.batches ≡ versions_in c.batches + versions
+  versions : versions_in c'.batches ≡ versions_in c.batches + outputs
 
 stays_so : (c : Commit) → IsInOrder c → GoesOn c c [] 0
 stays_so c i = record {
@@ -110,9 +110,6 @@ released_on c j (Some output) i = waits_or_goes (nat_lt (acknowledged c) output.
       versions = omega arith;
     }
 
--- the changes that a call brings in
-abbrev added_by : Call → List Update
-added_by call = changes_of (call ∷ [])
 
 one_call : (c : Commit) (call : Call) → IsInOrder c → GoesOn c (after_call c call) (changes_of (call ∷ [])) (versions_of (call ∷ []))
 one_call c (hold output us) i = let h = held_on c output us i in record {

@@ -29,12 +29,14 @@ impl Place {
         ensures passed { passed spans.now self.new ≡ passed spans.now self.old + 1 }
         ensures stands { stands spans.now (passed spans.now self.old) ≡ Some result }
     {
-        if self.step == spans[self.batch].commands() {
-            self.batch += 1;
-            self.step = 0;
+        let span = spans[self.batch];
+        if self.step < span.commands() {
+            let step = self.step;
+            self.step += 1;
+            return (span, step);
         }
-        let step = self.step;
-        self.step += 1;
-        (spans[self.batch], step)
+        self.batch += 1;
+        self.step = 1;
+        (spans[self.batch], 0)
     }
 }
