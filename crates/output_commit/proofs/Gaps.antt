@@ -1,5 +1,5 @@
 -- Spans of which the first were begun and the last wait, with a gap between.
-use Rattle.std.proofs.Common.{◌≡◌, ℕ, ◌+◌, ◌-◌, ◌<◌, ◌≤◌, List, [], ◌∷◌, ◌++◌, refl, sym, ◌∙◌, ap, arith, zero, suc, map, length, take, drop}
+use Rattle.std.proofs.Common.{◌≡◌, ℕ, ◌+◌, ◌-◌, ◌<◌, ◌≤◌, List, [], ◌∷◌, ◌++◌, refl, sym, ◌∙◌, ap, arith, zero, suc, map, length, length-drop, take, drop}
 use Rattle.std.proofs.lemmas.List.{take-append-le}
 use Rattle.writeback_table.specs.declared.command.Update.{Update}
 use Rattle.output_commit.specs.declared.span.Span.{Span}
@@ -37,16 +37,15 @@ same_batches us vs from (s ∷ ss) upto le h =
     (λ i. one i ∷ same_batches us vs (from + s.changes) ss upto le h.2 i)
 
 -- two batches, one behind the other, as one
+parts_at : (us : List Update) (m n : ℕ) → m ≤ length us → take (m + n) us ≡ take m us ++ take n (drop m us)
+parts_at us zero n h = let e : 0 + n ≡ n = omega arith in ap (λ k. take k us) e
+parts_at [] (suc m) n h = absurd (omega arith)
+parts_at (u ∷ us) (suc m) n h = let e : suc m + n ≡ suc (m + n) = omega arith in ap (λ k. take k (u ∷ us)) e ∙ ap (λ l. u ∷ l) (parts_at us m n (omega arith))
+
 part_both : (us : List Update) (first m n : ℕ) → first + m ≤ length us → take (m + n) (drop first us) ≡ take m (drop first us) ++ take n (drop (first + m) us)
-part_both us zero zero n h = let e : 0 + n ≡ n = omega arith in let f : 0 + 0 ≡ 0 = omega arith in rw (e, f) refl
-part_both [] zero (suc m) n h = absurd (omega arith)
-part_both (u ∷ us) zero (suc m) n h =
-    let e : suc m + n ≡ suc (m + n) = omega arith in let f : 0 + suc m ≡ suc (0 + m) = omega arith in
-    rw (e, f) (ap (λ l. u ∷ l) (part_both us zero m n (omega arith)))
-part_both [] (suc first) m n h = absurd (omega arith)
-part_both (u ∷ us) (suc first) m n h =
-    let f : suc first + m ≡ suc (first + m) = omega arith in
-    rw f (part_both us first m n (omega arith))
+part_both us first m n h =
+    let l = length-drop first us in
+    parts_at (drop first us) m n (omega arith) ∙ ap (λ r. take m (drop first us) ++ take n r) (drop_more us first m)
 
 pub joined_updates : (us : List Update) (a b : Span) → b.first ≡ a.first + a.changes → a.first + a.changes ≤ length us
     → take (a.changes + b.changes) (drop a.first us) ≡ (batch_in us a).updates ++ (batch_in us b).updates

@@ -56,47 +56,45 @@ pub at_batch : (spans : List Span) (p : Place) → IsIn spans p → passed spans
 at_batch spans p is less = there spans p.batch p.step is.batch is.step less
 
 pub record Passes (spans : List Span) (p q : Place) (x : Span) (s : ℕ) : Type 0 where
-  pub at : IsIn spans q
-  pub passed : passed spans q ≡ passed spans p + 1
-  pub stands : stands spans (passed spans p) ≡ Some (x, s)
+  pub inside : IsIn spans q
+  pub one : passed spans q ≡ passed spans p + 1
+  pub there : stands spans (passed spans p) ≡ Some (x, s)
 
-pub pass_here : (spans : List Span) (p : Place) (x : Span) → IsIn spans p → passed spans p < total spans → x ≡ get_or spans p.batch x
-    → p.step < span_len x → Passes spans p (record { batch = p.batch; step = p.step + 1 }) x p.step
-pass_here spans p x is less at lt =
+pub pass_here : (spans : List Span) (p : Place) (d : Span) → IsIn spans p → passed spans p < total spans
+    → p.step < span_len (get_or spans p.batch d) → Passes spans p (record { batch = p.batch; step = p.step + 1 }) (get_or spans p.batch d) p.step
+pass_here spans p d is less lt =
     let low = at_batch spans p is less in
-    let here : p.step < span_len (get_or spans p.batch x) = subst (λ y. p.step < span_len y) at lt in
-    let one = one_len spans p.batch x low in
+    let len = one_len spans p.batch d low in
     record {
-      at = record { batch = is.batch; step = omega arith };
-      passed = omega arith;
-      stands = stands_here spans p.batch p.step x low here ∙ ap (λ y. Some (y, p.step)) (sym at);
+      inside = record { batch = is.batch; step = omega arith };
+      one = omega arith;
+      there = stands_here spans p.batch p.step d low lt;
     }
 
-pub pass_there : (spans : List Span) (p : Place) (x : Span) → IsIn spans p → passed spans p < total spans → x ≡ get_or spans p.batch x
-    → span_len x ≤ p.step → p.batch + 1 < length spans
-pass_there spans p x is less at all =
+pub pass_there : (spans : List Span) (p : Place) (d : Span) → IsIn spans p → passed spans p < total spans
+    → span_len (get_or spans p.batch d) ≤ p.step → p.batch + 1 < length spans
+pass_there spans p d is less all =
     let low = at_batch spans p is less in
-    let here : span_len (get_or spans p.batch x) ≤ p.step = subst (λ y. span_len y ≤ p.step) at all in
-    let one = one_len spans p.batch x low in
+    let len = one_len spans p.batch d low in
     let step = is.step in
-    let next = next_there spans p.batch p.step x low (omega arith) less in
+    let next = next_there spans p.batch p.step d low (omega arith) less in
     omega arith
 
-pub pass_next : (spans : List Span) (p : Place) (x y : Span) → IsIn spans p → passed spans p < total spans → x ≡ get_or spans p.batch x
-    → span_len x ≤ p.step → y ≡ get_or spans (p.batch + 1) y → Passes spans p (record { batch = p.batch + 1; step = 1 }) y 0
-pass_next spans p x y is less at all behind =
+pub pass_next : (spans : List Span) (p : Place) (d : Span) → IsIn spans p → passed spans p < total spans
+    → span_len (get_or spans p.batch d) ≤ p.step → Passes spans p (record { batch = p.batch + 1; step = 1 }) (get_or spans (p.batch + 1) d) 0
+pass_next spans p d is less all =
     let low = at_batch spans p is less in
-    let next = pass_there spans p x is less at all in
-    let here : span_len (get_or spans p.batch x) ≤ p.step = subst (λ z. span_len z ≤ p.step) at all in
-    let one = one_len spans p.batch x low in
+    let next = pass_there spans p d is less all in
+    let len = one_len spans p.batch d low in
     let step = is.step in
-    let more = total_next spans p.batch x low in
+    let more = total_next spans p.batch d low in
     let e : suc p.batch ≡ p.batch + 1 = omega arith in
-    let after : total (take (p.batch + 1) spans) ≡ total (take p.batch spans) + span_len (get_or spans p.batch x) = subst (λ i. total (take i spans) ≡ total (take p.batch spans) + span_len (get_or spans p.batch x)) e more in
-    let first = one_len spans (p.batch + 1) y next in
+    let after : total (take (p.batch + 1) spans) ≡ total (take p.batch spans) + span_len (get_or spans p.batch d) =
+    subst (λ i. total (take i spans) ≡ total (take p.batch spans) + span_len (get_or spans p.batch d)) e more in
+    let first = one_len spans (p.batch + 1) d next in
     let n : total (take (p.batch + 1) spans) + 0 ≡ total (take p.batch spans) + p.step = omega arith in
     record {
-      at = record { batch = omega arith; step = omega arith };
-      passed = omega arith;
-      stands = ap (stands spans) (sym n) ∙ stands_here spans (p.batch + 1) 0 y next (omega arith) ∙ ap (λ z. Some (z, 0)) (sym behind);
+      inside = record { batch = omega arith; step = omega arith };
+      one = omega arith;
+      there = ap (stands spans) (sym n) ∙ stands_here spans (p.batch + 1) 0 d next (omega arith);
     }

@@ -3,10 +3,11 @@ use Rattle.std.proofs.Common.{◌≡◌, ℕ, ◌+◌, ◌-◌, ◌*◌, ◌<◌
 use Rattle.std.specs.Prelude.{slice_get}
 use Rattle.std.specs.List.{AllByRecursion as Each}
 use Rattle.std.proofs.lemmas.Bool.{cases_Bool, cases_lt, cases_eq, eqb-true, eq-eqb, leb-true, leb-false, le-leb, ltb-true, ltb-false, lt-ltb}
-use Rattle.std.proofs.lemmas.List.{length-take-le, take-append-le, drop-append-le, map-append}
+use Rattle.std.proofs.lemmas.List.{length-map, length-take-le, take-append-le, drop-append-le, map-append}
 use Rattle.std.proofs.lemmas.Option.{none-some, same_Some}
 use Rattle.writeback_table.specs.declared.command.Update.{Update}
-use Rattle.writeback_table.specs.Commands.{commands_of}
+use Rattle.writeback_table.specs.declared.command.Command.TheVariants.{Stage, On, Main, Off, Clear}
+use Rattle.writeback_table.specs.Commands.{clear_of, commands_of}
 use Rattle.output_commit.specs.declared.span.Span.{Span}
 use Rattle.output_commit.specs.Batches.{Batch, commands_in, merged}
 use Rattle.output_commit.specs.Spans.{AreJoined, batch_in, first_of, joined, passed, shown_by, span_len, stands, total}
@@ -222,3 +223,28 @@ merged_within us f (suc k) (x ∷ xs) ys n full low high =
     let b = le-leb (length (commands_of (batch_in us x).updates)) n (omega arith) in
     let e : n - length (commands_of (batch_in us x).updates) ≡ n - span_len x = omega arith in
     rw (a, b, e) (ap (λ bs. batch_in us x ∷ bs) (merged_within us f k xs ys (n - span_len x) full.1 (omega arith) (omega arith)))
+
+-- ## The last group of a batch
+
+get_map : {X Y : Type 0} (f : X → Y) (xs : List X) (n : ℕ) (x : X) → n < length xs → x ≡ get_or xs n x → slice_get (map f xs) n ≡ Some (f x)
+get_map f [] n x h at = absurd (omega arith)
+get_map f (y ∷ xs) zero x h at = ap (λ z. Some (f z)) (sym at)
+get_map f (y ∷ xs) (suc n) x h at = get_map f xs n x (omega arith) at
+
+pub clear_at : (us : List Update) (p : ℕ) (u : Update) → 2 * length us + 2 ≤ p → p < 3 * length us + 2
+    → u ≡ get_or us (p - 2 * length us - 2) u → Some (Clear u.object u.key) ≡ slice_get (commands_of us) p
+clear_at us p u low high at =
+    let stages = map (λ v. Stage v) us in
+    let mains = map (λ v. Main v) us in
+    let clears = map clear_of us in
+    let a = length-map us (λ v. Stage v) in
+    let b = length-map us (λ v. Main v) in
+    let r = p - 2 * length us - 2 in
+    let q = r + 1 + length us in
+    let e : p - length stages ≡ suc q = omega arith in
+    let f : q - length mains ≡ suc r = omega arith in
+    sym (get_behind stages (On ∷ (mains ++ (Off ∷ clears))) p (omega arith)
+    ∙ ap (slice_get (On ∷ (mains ++ (Off ∷ clears)))) e
+    ∙ get_behind mains (Off ∷ clears) q (omega arith)
+    ∙ ap (slice_get (Off ∷ clears)) f
+    ∙ get_map clear_of us r u (omega arith) at)

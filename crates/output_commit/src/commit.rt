@@ -236,7 +236,7 @@ impl Commit {
     pub fn is_quiet(&self) -> bool
         ensures { result ≡ spec.is_quiet self.now }
     {
-        self.held.is_empty() && self.acked == self.batches.commands
+        self.held.is_empty() && self.acked == self.commands()
     }
 
     /// Lets the output at place `j` go, counted from 0 in the order in which they came, where its version is
@@ -254,12 +254,12 @@ impl Commit {
                 acknowledged: self.acknowledged,
             };
         }
-        match self.held.remove(j) {
-            Some(output) => Release::Frame {
-                number: output.number,
-                frame: output.frame,
-            },
-            None => Release::NoSuch(self.held.len()),
+        let Some(output) = self.held.remove(j) else {
+            return Release::NoSuch(self.held.len());
+        };
+        Release::Frame {
+            number: output.number,
+            frame: output.frame,
         }
     }
 }
