@@ -1,6 +1,6 @@
 -- Batches that come, and one that takes up those behind it.
 use Rattle.std.proofs.Common.{◌≡◌, ◌≤◌, ◌<◌, ◌^◌, ℕ, zero, suc, ◌+◌, ◌-◌, ◌*◌, Bool, true, false, List, [], ◌∷◌, ◌++◌, refl, sym, subst, ◌∙◌, ap, arith, length, map, take, drop, get_or, set, append_assoc}
-use Rattle.std.proofs.lemmas.List.{append-nil, length-append, length-drop, take-append-le, drop-append-le, take-set-le, drop-set-lt, take_more_set, map-append}
+use Rattle.std.proofs.lemmas.List.{append-nil, length-append, length-drop, take_all, take-append-le, drop-append-le, take-set-le, drop-set-lt, take_more_set, map-append}
 use Rattle.writeback_table.specs.declared.command.Update.{Update}
 use Rattle.output_commit.specs.declared.batches.Batches.{Batches}
 use Rattle.output_commit.specs.declared.span.Span.{Span}
@@ -28,18 +28,18 @@ pub record Taking (most : ℕ) (us : List Update) (spans : List Span) (span : Sp
   pub joined : AreJoined (first_of spans) (span ∷ drop count spans) (length us)
   pub fewer : total (span ∷ drop count spans) + 2 * (count - 1) ≡ total spans
 
-pub taking_first : (most : ℕ) (us : List Update) (spans : List Span) (span : Span) → 0 < length spans → span ≡ get_or spans 0 span
+pub taking_first : (most : ℕ) (us : List Update) (spans : List Span) (span d : Span) → 0 < length spans → span ≡ get_or spans 0 d
     → AreJoined (first_of spans) spans (length us) → Taking most us spans span 1
-taking_first most us [] span some at h = absurd (omega arith)
-taking_first most us (x ∷ xs) span some at h =
+taking_first most us [] span d some at h = absurd (omega arith)
+taking_first most us (x ∷ xs) span d some at h =
     subst (λ y. Taking most us (x ∷ xs) y 1) (sym at) (record { some = omega arith; within = omega arith; merged = refl; joined = h; fewer = omega arith })
 
-pub taking_next : (most : ℕ) (us : List Update) (spans : List Span) (span behind : Span) (count : ℕ) → Taking most us spans span count
-    → count < length spans → behind ≡ get_or spans count behind
+pub taking_next : (most : ℕ) (us : List Update) (spans : List Span) (span behind d : Span) (count : ℕ) → Taking most us spans span count
+    → count < length spans → behind ≡ get_or spans count d
     → fits most ((batch_in us span).updates ++ (batch_in us behind).updates) ≡ true → Taking most us spans (joined span behind) (count + 1)
-taking_next most us spans span behind count t less at so =
+taking_next most us spans span behind d count t less at so =
     let rest = drop (count + 1) spans in
-    let e : drop count spans ≡ behind ∷ rest = drop_next spans count behind less ∙ ap (λ y. y ∷ rest) (sym at) in
+    let e : drop count spans ≡ behind ∷ rest = drop_next spans count d less ∙ ap (λ y. y ∷ rest) (sym at) in
     let j : AreJoined (first_of spans) (span ∷ (behind ∷ rest)) (length us) = subst (λ l. AreJoined (first_of spans) (span ∷ l) (length us)) e t.joined in
     let from = j.0 in
     let next = j.2.0 in
@@ -63,12 +63,12 @@ taking_next most us spans span behind count t less at so =
       fewer = omega arith;
     }
 
-pub taking_stops : (most : ℕ) (us : List Update) (spans : List Span) (span behind : Span) (count : ℕ) → Taking most us spans span count
-    → count < length spans → behind ≡ get_or spans count behind
+pub taking_stops : (most : ℕ) (us : List Update) (spans : List Span) (span behind d : Span) (count : ℕ) → Taking most us spans span count
+    → count < length spans → behind ≡ get_or spans count d
     → fits most ((batch_in us span).updates ++ (batch_in us behind).updates) ≡ false → Takes most us spans span count
-taking_stops most us spans span behind count t less at not =
+taking_stops most us spans span behind d count t less at not =
     let rest = drop (count + 1) spans in
-    let e : drop count spans ≡ behind ∷ rest = drop_next spans count behind less ∙ ap (λ y. y ∷ rest) (sym at) in
+    let e : drop count spans ≡ behind ∷ rest = drop_next spans count d less ∙ ap (λ y. y ∷ rest) (sym at) in
     let up : take_up (fits most) (batch_in us span) (map (batch_in us) (behind ∷ rest)) ≡ map (batch_in us) (span ∷ (behind ∷ rest)) = rw not refl in
     record {
       some = t.some;
@@ -77,6 +77,49 @@ taking_stops most us spans span behind count t less at not =
       joined = t.joined;
       fewer = t.fewer;
     }
+
+-- what stands behind the first is within all changes, and both as one are not too many
+pub record Behind (us : List Update) (spans : List Span) (span behind : Span) : Type 0 where
+  pub first_in : span.first + span.changes ≤ length us
+  pub second_in : behind.first + behind.changes ≤ length us
+  pub few : span.changes + behind.changes ≤ total spans
+  pub versions : span.versions + behind.versions ≤ total spans
+
+pub taking_behind : (most : ℕ) (us : List Update) (spans : List Span) (span behind d : Span) (count : ℕ) → Taking most us spans span count
+    → count < length spans → behind ≡ get_or spans count d → Behind us spans span behind
+taking_behind most us spans span behind d count t less at =
+    let rest = drop (count + 1) spans in
+    let e : drop count spans ≡ behind ∷ rest = drop_next spans count d less ∙ ap (λ y. y ∷ rest) (sym at) in
+    let j : AreJoined (first_of spans) (span ∷ (behind ∷ rest)) (length us) = subst (λ l. AreJoined (first_of spans) (span ∷ l) (length us)) e t.joined in
+    let from = j.0 in
+    let next = j.2.0 in
+    let one = j.1 in
+    let two = j.2.1 in
+    let upto = joined_upto _ rest (length us) j.2.2 in
+    let count_is = t.fewer in
+    let all = ap (λ l. total (span ∷ l)) e in
+    record { first_in = omega arith; second_in = omega arith; few = omega arith; versions = omega arith }
+
+pub first_in : (us : List Update) (spans : List Span) (span d : Span) → 0 < length spans → span ≡ get_or spans 0 d
+    → AreJoined (first_of spans) spans (length us) → span.first + span.changes ≤ length us
+first_in us [] span d some at h = absurd (omega arith)
+first_in us (x ∷ xs) span d some at h =
+    let upto = joined_upto _ xs (length us) h.2 in
+    subst (λ y. y.first + y.changes ≤ length us) (sym at) (omega arith)
+
+-- counts for all changes are counts for some of them
+take_tallied : (t : Tally) (us : List Update) (n : ℕ) → AreTallied t us → AreTallied t (take n us)
+take_tallied t us zero h = tt
+take_tallied t [] (suc n) h = tt
+take_tallied t (u ∷ us) (suc n) h = (h.0, take_tallied t us n h.1)
+
+drop_tallied : (t : Tally) (us : List Update) (n : ℕ) → AreTallied t us → AreTallied t (drop n us)
+drop_tallied t us zero h = h
+drop_tallied t [] (suc n) h = tt
+drop_tallied t (u ∷ us) (suc n) h = drop_tallied t us n h.1
+
+pub part_tallied : (t : Tally) (us : List Update) (span : Span) → AreTallied t us → AreTallied t (batch_in us span).updates
+part_tallied t us span h = take_tallied t (drop span.first us) span.changes (drop_tallied t us span.first h)
 
 past : {X : Type 0} (xs : List X) → drop (length xs) xs ≡ []
 past [] = refl
@@ -237,3 +280,19 @@ pushes_none b b' kept updates spans begun next commands tallied =
       begun = begun;
       front = λ k low. ap (take k) spans;
     }
+
+-- the changes of two as one
+pub taking_updates : (most : ℕ) (us : List Update) (spans : List Span) (span behind d : Span) (count : ℕ) → Taking most us spans span count
+    → count < length spans → behind ≡ get_or spans count d
+    → (batch_in us (joined span behind)).updates ≡ (batch_in us span).updates ++ (batch_in us behind).updates
+taking_updates most us spans span behind d count t less at =
+    let rest = drop (count + 1) spans in
+    let e : drop count spans ≡ behind ∷ rest = drop_next spans count d less ∙ ap (λ y. y ∷ rest) (sym at) in
+    let j : AreJoined (first_of spans) (span ∷ (behind ∷ rest)) (length us) = subst (λ l. AreJoined (first_of spans) (span ∷ l) (length us)) e t.joined in
+    let from = j.0 in
+    let next = j.2.0 in
+    let upto = joined_upto _ rest (length us) j.2.2 in
+    joined_updates us span behind (omega arith) (omega arith)
+
+pub rest_is : {X : Type 0} (xs : List X) (k : ℕ) → take (length xs - k) (drop k xs) ≡ drop k xs
+rest_is xs k = let l = length-drop k xs in take_all (length xs - k) (drop k xs) (omega arith)

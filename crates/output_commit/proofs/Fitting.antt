@@ -45,3 +45,10 @@ not_held room us o more = elim (cases_Bool (fits room us)) [
   | inl t ↦ let h = few room us t o in absurd (omega arith)
   | inr f ↦ f
 ]
+
+-- with more changes they still aren't
+pub more_not : (room : ℕ) (us vs : List Update) → fits room us ≡ false → fits room (us ++ vs) ≡ false
+more_not room us vs h = elim (cases_Bool (fits room (us ++ vs))) [
+  | inl t ↦ let so = held_by room us (λ o. let a = count_append o us vs in let m = few room (us ++ vs) t o in omega arith) in let bad = sym h ∙ so in cc
+  | inr f ↦ f
+]

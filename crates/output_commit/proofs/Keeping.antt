@@ -1,7 +1,7 @@
 -- What a commit keeps beside what it shows stays so with each call.
 use Rattle.std.proofs.Common.{◌≡◌, ◌≤◌, ◌<◌, ◌^◌, ℕ, zero, suc, ◌+◌, ◌-◌, ◌*◌, Bool, false, ltb, List, [], ◌∷◌, ◌++◌, Option, Some, inl, inr, refl, sym, subst, ◌∙◌, ap, arith, length, map, take, drop}
 use Rattle.std.specs.Prelude.{slice_get}
-use Rattle.std.proofs.lemmas.Bool.{cases_Bool, cases_lt, ltb-true}
+use Rattle.std.proofs.lemmas.Bool.{cases_Bool, cases_lt, lt-ltb, ltb-true}
 use Rattle.std.proofs.lemmas.List.{take-append-le, drop-append-le, length-append, length-drop, length-take-le, drop_all, append-nil}
 use Rattle.writeback_table.specs.declared.command.Command.{Command}
 use Rattle.writeback_table.specs.Commands.{commands_of}
@@ -10,7 +10,7 @@ use Rattle.output_commit.specs.declared.place.Place.{Place}
 use Rattle.output_commit.specs.declared.span.Span.{Span}
 use Rattle.output_commit.specs.declared.output.Output.{Output}
 use Rattle.output_commit.specs.declared.output.Release.TheVariants.{Frame}
-use Rattle.output_commit.specs.Commit.{Commit, acknowledged, answer}
+use Rattle.output_commit.specs.Commit.{Commit, acknowledged, after_send, answer}
 use Rattle.output_commit.specs.Batches.{Batch, commands_in, fits, merged, visible}
 use Rattle.output_commit.specs.Kept.{AreKept, IsBefore, IsBegun, IsCounted, IsPushed, batches_in, begun_in, spans_in}
 use Rattle.output_commit.specs.Spans.{IsIn, batch_in, passed, shown_by, span_len, stands, total}
@@ -268,3 +268,19 @@ answer_goes c j a o is low here = let f = not_ltb (acknowledged c) o.need (omega
   where
     not_ltb : (m n : ℕ) → n ≤ m → ltb m n ≡ false
     not_ltb m n h = elim (cases_Bool (ltb m n)) [ inl t ↦ let lt = ltb-true m n t in absurd (omega arith) | inr f ↦ f ]
+
+-- ## What a call that sends leaves
+
+-- a batch that was begun has its commands among those of all begun ones
+pub begun_len : (b b' : Batches) (span : Span) (writeback : ℕ) → IsBegun writeback b b' span → span_len span < 2 ^ 32
+begun_len b b' span writeback is =
+    let t = total_append (begun_in b) (span ∷ []) in
+    let l = ap total is.last in
+    let f = begun_few b' is.kept in
+    omega arith
+
+pub after_send_is : (c : Commit) (n : ℕ) (bs : List Batch) → c.sent < n → n ≡ length (commands_in c.batches) → bs ≡ merged (fits c.writeback) c.sent c.batches
+    → record c { batches = bs; sent = c.sent + 1 } ≡ after_send c
+after_send_is c n bs less is merges =
+    let t = lt-ltb c.sent (length (commands_in c.batches)) (omega arith) in
+    ap (λ l. record c { batches = l; sent = c.sent + 1 }) merges ∙ sym (rw t refl)

@@ -90,3 +90,9 @@ next_fits before us most i u less at room so =
           let none : count_of o (before ++ take (i + 1) us) ≡ count_of o (before ++ take i us) + 0 = next ∙ (rw f refl) in
           omega arith
     ])
+
+-- what is read there doesn't hang on what is read elsewhere
+pub get_same : (xs : List ℕ) (n d e : ℕ) → n < length xs → get_or xs n d ≡ get_or xs n e
+get_same [] n d e h = absurd (omega arith)
+get_same (x ∷ xs) zero d e h = refl
+get_same (x ∷ xs) (suc n) d e h = get_same xs n d e (omega arith)

@@ -138,11 +138,12 @@ impl Commit {
         if self.sent == self.batches.commands {
             return false;
         }
-        if self.left == 0 {
-            self.left = self.batches.begin(self.writeback).commands();
-        }
-        self.left -= 1;
         self.sent += 1;
+        if self.left > 0 {
+            self.left -= 1;
+            return true;
+        }
+        self.left = self.batches.begin(self.writeback).commands() - 1;
         true
     }
 

@@ -1,4 +1,4 @@
-use Rattle.std.proofs.Common.{◌<◌, ◌^◌, arith, sym, subst}
+use Rattle.std.proofs.Common.{◌<◌, ◌+◌, ◌^◌, arith, sym, subst}
 use Rattle.output_commit.specs.Spans.{total}
 use Rattle.output_commit.proofs.Keeping.{begun_few, counted_known, less_by, visible_few}
 use Rattle.output_commit.proofs.commit.Commit.acknowledge.Goals as goal
