@@ -1,5 +1,5 @@
 -- Batches that come, and one that takes up those behind it.
-use Rattle.std.proofs.Common.{◌≡◌, ◌≤◌, ◌<◌, ◌^◌, ℕ, zero, suc, ◌+◌, ◌-◌, ◌*◌, Bool, true, false, List, [], ◌∷◌, ◌++◌, refl, sym, subst, ◌∙◌, ap, arith, length, map, take, drop, get_or, set, append_assoc}
+use Rattle.std.proofs.Common.{◌≡◌, ◌≤◌, ◌<◌, ◌^◌, ℕ, zero, suc, ◌+◌, ◌-◌, ◌*◌, Bool, true, false, eqb, List, [], ◌∷◌, ◌++◌, refl, sym, subst, ◌∙◌, ap, arith, length, map, take, drop, get_or, set, append_assoc}
 use Rattle.std.proofs.lemmas.List.{append-nil, length-append, length-drop, take_all, take-append-le, drop-append-le, take-set-le, drop-set-lt, take_more_set, map-append}
 use Rattle.writeback_table.specs.declared.command.Update.{Update}
 use Rattle.output_commit.specs.declared.batches.Batches.{Batches}
@@ -296,3 +296,31 @@ taking_updates most us spans span behind d count t less at =
 
 pub rest_is : {X : Type 0} (xs : List X) (k : ℕ) → take (length xs - k) (drop k xs) ≡ drop k xs
 rest_is xs k = let l = length-drop k xs in take_all (length xs - k) (drop k xs) (omega arith)
+
+pub waiting_few : (b : Batches) → AreKept b → total (drop b.next b.spans.items) < 2 ^ 32
+waiting_few b kept = let t = total_append (begun_in b) (drop b.next b.spans.items) in let f = kept.few in omega arith
+
+-- no more batches than half of the commands
+half : (spans : List Span) → 2 * length spans ≤ total spans
+half [] = omega arith
+half (x ∷ xs) = let r = half xs in omega arith
+
+pub few_taken : (most : ℕ) (us : List Update) (b : Batches) (span : Span) (count : ℕ) → AreKept b
+    → Takes most us (drop b.next b.spans.items) span count → 2 * (count - 1) ≤ b.commands
+few_taken most us b span count kept takes =
+    let t = total_append (begun_in b) (drop b.next b.spans.items) in
+    let c = kept.commands in
+    let f = takes.fewer in
+    omega arith
+
+-- what a call on the slices of those that wait says of them
+pub takes_here : (most : ℕ) (b : Batches) (spans : List Span) (us : List Update) (span : Span) (count : ℕ) → spans ≡ b.spans.items → us ≡ b.updates.items
+    → Takes most us (take (length spans - b.next) (drop b.next spans)) span count → Takes most b.updates.items (drop b.next b.spans.items) span count
+takes_here most b spans us span count same all takes =
+    let rest = ap (λ l. take (length l - b.next) (drop b.next l)) same ∙ rest_is b.spans.items b.next in
+    subst (λ l. Takes most b.updates.items l span count) rest
+    (subst (λ v. Takes most v (take (length spans - b.next) (drop b.next spans)) span count) all takes)
+
+pub nonempty : (us : List Update) → false ≡ eqb (length us) 0 → 0 < length us
+nonempty [] e = cc
+nonempty (u ∷ us) e = omega arith

@@ -284,3 +284,18 @@ pub after_send_is : (c : Commit) (n : ℕ) (bs : List Batch) → c.sent < n → 
 after_send_is c n bs less is merges =
     let t = lt-ltb c.sent (length (commands_in c.batches)) (omega arith) in
     ap (λ l. record c { batches = l; sent = c.sent + 1 }) merges ∙ sym (rw t refl)
+
+-- where all commands are sent, nothing happens
+pub none_sent : (c : Commit) → length (commands_in c.batches) ≡ c.sent → (false ≡ ltb c.sent (length (commands_in c.batches))) × (c ≡ after_send c)
+none_sent c same = let f = not_ltb c.sent (length (commands_in c.batches)) (omega arith) in (sym f, sym (rw f refl))
+  where
+    not_ltb : (m n : ℕ) → n ≤ m → ltb m n ≡ false
+    not_ltb m n h = elim (cases_Bool (ltb m n)) [ inl t ↦ let lt = ltb-true m n t in absurd (omega arith) | inr f ↦ f ]
+
+-- where some aren't, one is
+pub some_unsent : (b : Batches) (sent done acked left : ℕ) (applied known : Place) (v a : ℕ)
+    → IsCounted b sent done acked left applied known v a → (sent ≡ b.commands → ⊥) → sent < b.commands
+some_unsent b sent done acked left applied known v a c not =
+    let w = sent_few b sent left c.kept c.all in
+    let t = commands_total b c.kept in
+    less_by (omega arith) not

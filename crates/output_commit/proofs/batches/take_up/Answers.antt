@@ -1,4 +1,4 @@
-use Rattle.std.proofs.Common.{◌≡◌, ◌++◌, ◌∙◌, [], true, refl, sym, subst, ap}
+use Rattle.std.proofs.Common.{◌≡◌, ◌+◌, ◌++◌, ◌∙◌, [], true, refl, sym, subst, ap}
 use Rattle.output_commit.specs.declared.span.Span.{Span}
 use Rattle.output_commit.specs.Batches.{fits}
 use Rattle.output_commit.specs.Spans.{IsTallied, batch_in}
@@ -42,7 +42,7 @@ loop-count-preserved c =
     (c.if-not-count-2.ensures.tallied (batch_in us c.loop-count.span).updates inv.counted refl) in
     let is = c.joined-span.ensures in
     record {
-      taking = subst (λ s. Taking c.args.most us c.args.spans.now s _) (sym is)
+      taking = subst (λ s. Taking c.args.most us c.args.spans.now s (c.loop-count.count + 1)) (sym is)
           (taking_next c.args.most us c.args.spans.now c.loop-count.span _ none c.loop-count.count inv.taking c.loop-count-test.true refl so);
       counted = subst (λ s. IsTallied c.count-in-loop-count.new.self (batch_in us s).updates) (sym is) (subst (IsTallied c.count-in-loop-count.new.self) (sym both) counted);
       held = subst (λ s. fits c.args.most (batch_in us s).updates ≡ true) (sym is) (ap (fits c.args.most) both ∙ so);
