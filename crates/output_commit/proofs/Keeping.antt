@@ -1,8 +1,8 @@
 -- What a commit keeps beside what it shows stays so with each call.
-use Rattle.std.proofs.Common.{◌≡◌, ◌≤◌, ◌<◌, ◌^◌, ℕ, zero, suc, ◌+◌, ◌-◌, ◌*◌, Bool, false, ltb, List, [], ◌∷◌, ◌++◌, Option, Some, inl, inr, refl, sym, subst, ◌∙◌, ap, arith, length, map, take, drop}
-use Rattle.std.specs.Prelude.{slice_get}
+use Rattle.std.proofs.Common.{◌≡◌, ◌≤◌, ◌<◌, ◌^◌, ℕ, zero, suc, ◌+◌, ◌-◌, ◌*◌, Bool, true, false, ltb, List, [], ◌∷◌, ◌++◌, Option, Some, inl, inr, refl, sym, subst, ◌∙◌, ap, arith, length, map, take, drop}
+use Rattle.std.specs.Prelude.{slice_get, Result, Ok, Err, OnOk, OnErr, is_err}
 use Rattle.std.proofs.lemmas.Bool.{cases_Bool, cases_lt, lt-ltb, ltb-true}
-use Rattle.std.proofs.lemmas.List.{take-append-le, drop-append-le, length-append, length-drop, length-take-le, drop_all, append-nil}
+use Rattle.std.proofs.lemmas.List.{take-append-le, drop-append-le, length-append, length-drop, length-take-le, drop_all, take_all, append-nil}
 use Rattle.writeback_table.specs.declared.command.Command.{Command}
 use Rattle.writeback_table.specs.Commands.{commands_of}
 use Rattle.output_commit.specs.declared.batches.Batches.{Batches}
@@ -299,3 +299,21 @@ some_unsent b sent done acked left applied known v a c not =
     let w = sent_few b sent left c.kept c.all in
     let t = commands_total b c.kept in
     less_by (omega arith) not
+
+-- ## Want of memory
+
+pub on_ok : {A E : Type 0} (r : Result A E) (P : Type 0) → false ≡ is_err r → OnOk r P → P
+on_ok (Ok x) P e h = h
+on_ok (Err x) P e h = cc
+
+pub on_err : {A E : Type 0} (r : Result A E) (P : Type 0) → true ≡ is_err r → OnErr r P → P
+on_err (Ok x) P e h = cc
+on_err (Err x) P e h = h
+
+-- what was put last and taken away again leaves what was there
+pub pop_same : {X : Type 0} (xs ys zs : List X) (x : X) (n : ℕ) → ys ≡ xs ++ x ∷ [] → zs ≡ take n ys → n + 1 ≡ length ys → zs ≡ xs
+pop_same xs ys zs x n more popped count =
+    let l = length-append xs (x ∷ []) in
+    let e = ap length more in
+    let k : n ≡ length xs = omega arith in
+    popped ∙ ap (take n) more ∙ take-append-le n xs (x ∷ []) (omega arith) ∙ ap (λ m. take m xs) k ∙ take_all (length xs) xs (omega arith)

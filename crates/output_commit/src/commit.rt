@@ -246,21 +246,22 @@ impl Commit {
         ensures answer { result ≡ spec.answer self.old (slice_get self.old.held j) }
         ensures after { self.new ≡ spec.after_release self.old j (slice_get self.old.held j) }
     {
+        let acknowledged = self.acknowledged();
         let Some(output) = self.held.get(j) else {
             return Release::NoSuch(self.held.len());
         };
-        if self.acknowledged < output.need {
+        if acknowledged < output.need {
             return Release::NotYet {
                 need: output.need,
-                acknowledged: self.acknowledged,
+                acknowledged,
             };
         }
-        let Some(output) = self.held.remove(j) else {
-            return Release::NoSuch(self.held.len());
-        };
-        Release::Frame {
-            number: output.number,
-            frame: output.frame,
+        match self.held.remove(j) {
+            Some(output) => Release::Frame {
+                number: output.number,
+                frame: output.frame,
+            },
+            None => Release::NoSuch(self.held.len()),
         }
     }
 }
