@@ -1,6 +1,6 @@
 -- What a commit keeps beside what it shows stays so with each call.
 use Rattle.std.proofs.Common.{◌≡◌, ◌≤◌, ◌<◌, ◌^◌, ℕ, zero, suc, ◌+◌, ◌-◌, ◌*◌, Bool, true, false, ltb, List, [], ◌∷◌, ◌++◌, Option, Some, inl, inr, refl, sym, subst, ◌∙◌, ap, arith, length, map, take, drop}
-use Rattle.std.specs.Prelude.{slice_get, Result, Ok, Err, OnOk, OnErr, is_err}
+use Rattle.std.specs.Prelude.{slice_get, remove, Result, Ok, Err, OnOk, OnErr, is_err}
 use Rattle.std.proofs.lemmas.Bool.{cases_Bool, cases_lt, lt-ltb, ltb-true}
 use Rattle.std.proofs.lemmas.List.{take-append-le, drop-append-le, length-append, length-drop, length-take-le, drop_all, take_all, append-nil}
 use Rattle.writeback_table.specs.declared.command.Command.{Command}
@@ -10,7 +10,7 @@ use Rattle.output_commit.specs.declared.place.Place.{Place}
 use Rattle.output_commit.specs.declared.span.Span.{Span}
 use Rattle.output_commit.specs.declared.output.Output.{Output}
 use Rattle.output_commit.specs.declared.output.Release.TheVariants.{Frame}
-use Rattle.output_commit.specs.Commit.{Commit, acknowledged, after_send, answer}
+use Rattle.output_commit.specs.Commit.{Commit, acknowledged, after_release, after_send, answer}
 use Rattle.output_commit.specs.Batches.{Batch, commands_in, fits, merged, visible}
 use Rattle.output_commit.specs.Kept.{AreKept, IsBefore, IsBegun, IsCounted, IsPushed, batches_in, begun_in, spans_in}
 use Rattle.output_commit.specs.Spans.{IsIn, batch_in, passed, shown_by, span_len, stands, total}
@@ -262,12 +262,16 @@ length_in b s h = let l = length-drop s.first b.updates.items in length-take-le 
 
 -- ## Outputs that go
 
-pub answer_goes : (c : Commit) (j a : ℕ) (o : Output) → a ≡ acknowledged c → o.need ≤ a → slice_get c.held j ≡ Some o
-    → Frame o.number o.frame ≡ answer c (slice_get c.held j)
-answer_goes c j a o is low here = let f = not_ltb (acknowledged c) o.need (omega arith) in sym (ap (answer c) here ∙ (rw f refl))
-  where
-    not_ltb : (m n : ℕ) → n ≤ m → ltb m n ≡ false
-    not_ltb m n h = elim (cases_Bool (ltb m n)) [ inl t ↦ let lt = ltb-true m n t in absurd (omega arith) | inr f ↦ f ]
+not_ltb : (m n : ℕ) → n ≤ m → ltb m n ≡ false
+not_ltb m n h = elim (cases_Bool (ltb m n)) [ inl t ↦ let lt = ltb-true m n t in absurd (omega arith) | inr f ↦ f ]
+
+pub answer_goes : (c : Commit) (j : ℕ) (o : Output) → slice_get c.held j ≡ Some o → o.need ≤ acknowledged c
+    → answer c (slice_get c.held j) ≡ Frame o.number o.frame
+answer_goes c j o here low = let f = not_ltb (acknowledged c) o.need low in ap (answer c) here ∙ (rw f refl)
+
+pub after_goes : (c : Commit) (j : ℕ) (o : Output) → slice_get c.held j ≡ Some o → o.need ≤ acknowledged c
+    → after_release c j (slice_get c.held j) ≡ record c { held = remove c.held j }
+after_goes c j o here low = let f = not_ltb (acknowledged c) o.need low in ap (after_release c j) here ∙ (rw f refl)
 
 -- ## What a call that sends leaves
 
