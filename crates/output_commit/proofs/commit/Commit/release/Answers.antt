@@ -2,7 +2,7 @@ use Rattle.std.proofs.Common.{◌≡◌, ◌<◌, ◌≤◌, ◌∙◌, Some, re
 use Rattle.std.specs.Prelude.{slice_get, remove}
 use Rattle.output_commit.specs.Kept.{batches_in}
 use Rattle.std.proofs.lemmas.Option.{slice_get-get_or, same_Some}
-use Rattle.output_commit.specs.Commit.{after_release, answer}
+use Rattle.output_commit.specs.Commit.{Commit}
 use Rattle.output_commit.proofs.Keeping.{after_goes, answer_goes}
 use Rattle.output_commit.proofs.commit.Commit.release.Goals.{in-Some-remove, in-None}
 use Rattle.output_commit.proofs.commit.Commit.release.Goals as goal
@@ -38,7 +38,7 @@ returns-clause-after c = elim c.match-remove.branch [
       let low = subst (λ x. x.need ≤ c.acknowledged-acknowledged.result) same c.if-acknowledged-output.false in
       let left : c.remove.new.self.items ≡ remove held.items c.args.j = w.in-Some-remove.ensures.items in
       (λ k. record { writeback = i.writeback; batches = batches_in i.batches; sent = i.sent; done = i.done; acked = i.acked; held = left k })
-      ∙ ap (λ v. record v { held = remove v.held c.args.j }) c.self.view_is
+      ∙ ap (λ (v : Commit). record v { held = remove v.held c.args.j }) c.self.view_is
       ∙ sym (after_goes c.args.self.now c.args.j o (ap (λ k. slice_get k.held c.args.j) (sym c.self.view_is) ∙ here) (omega (arith, low, c.acknowledged-acknowledged.ensures)))
   | in-None w ↦ grind arith
 ]
