@@ -52,7 +52,7 @@ taking_next most us spans span behind d count t less at so =
     let updates = joined_updates us span behind (omega arith) (omega arith) in
     let sum : first_of spans + span.changes + behind.changes ≡ first_of spans + (span.changes + behind.changes) = omega arith in
     let up : take_up (fits most) (batch_in us span) (map (batch_in us) (behind ∷ rest))
-        ≡ take_up (fits most) (record { updates = (batch_in us span).updates ++ (batch_in us behind).updates; versions = span.versions + behind.versions }) (map (batch_in us) rest) =
+    ≡ take_up (fits most) (record { updates = (batch_in us span).updates ++ (batch_in us behind).updates; versions = span.versions + behind.versions }) (map (batch_in us) rest) =
     rw so refl in
     record {
       some = omega arith;

@@ -110,7 +110,6 @@ released_on c j (Some output) i = waits_or_goes (nat_lt (acknowledged c) output.
       versions = omega arith;
     }
 
-
 one_call : (c : Commit) (call : Call) → IsInOrder c → GoesOn c (after_call c call) (changes_of (call ∷ [])) (versions_of (call ∷ []))
 one_call c (hold output us) i = let h = held_on c output us i in record {
   in_order = h.in_order;

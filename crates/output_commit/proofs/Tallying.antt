@@ -23,9 +23,6 @@ pub more_tallied : (t t' : Tally) → length t.counts.items ≤ length t'.counts
 more_tallied t t' more [] h = tt
 more_tallied t t' more (u ∷ us) h = (let l = h.0 in omega arith, more_tallied t t' more us h.1)
 
-
-
-
 -- one change more of one object
 pub count_next : (before us : List Update) (i : ℕ) (u : Update) (o : ℕ) → i < length us → u ≡ get_or us i u
     → count_of o (before ++ take (i + 1) us) ≡ count_of o (before ++ take i us) + (cond (eqb u.object o) 1 0)

@@ -12,6 +12,7 @@ mod tally;
 
 pub use commit::Commit;
 pub use laws::{
-    a_batch_takes_up_others, a_held_output_waits, counts_stay_in_order, each_batch_is_held, sent_commands_stay,
+    a_batch_takes_up_others, a_held_output_waits, counts_stay_in_order, each_batch_is_held,
+    sent_commands_stay,
 };
 pub use output::{Output, Release};
