@@ -1,5 +1,5 @@
 -- Commands of batches name what the changes of these name.
-use Rattle.std.proofs.Common.{◌≡◌, ℕ, Bool, true, false, List, [], ◌∷◌, ◌++◌, map}
+use Rattle.std.proofs.Common.{◌≡◌, ℕ, Bool, true, false, List, [], ◌∷◌, ◌++◌, map, refl}
 use Rattle.std.specs.Prelude.{IsTrue, ◌&&◌}
 use Rattle.std.specs.List.{AllByRecursion as Each}
 use Rattle.state_store.specs.Kept.{have_widths}
@@ -14,10 +14,7 @@ use Rattle.output_commit.specs.Laws.{changes_in}
 use Rattle.replay_course.proofs.Lists.{each_join}
 
 both : (a b : Bool) → IsTrue (a && b) → IsTrue a
-both true b h = h_is h
-  where
-    h_is : IsTrue b → IsTrue true
-    h_is k = tt
+both true b h = refl
 both false b h = h
 
 each_stage : (code : Code) (us : List Update) → Each (IsUpdateOf code) us → Each (IsCommandOf code) (map (λ u. Stage u) us)

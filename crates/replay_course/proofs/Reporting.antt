@@ -61,9 +61,9 @@ module _ (x : Given) (calls : List Call) (st : State) (c : Course) (h : IsShown 
         switch = parts;
       }
 
-pub reported : (x : Given) (calls : List Call) (st : State) (c : Course) (old new : PortState) (parts : List Part) (run : Run) (commands : ℕ) → IsShown (whole x) calls st c
-    → ShowsParts x old new parts → run ≡ told_run x c parts → commands ≡ length (commands c.commit) → Reports x st old new run commands
-reported x calls st c old new parts run commands h shows is count =
+pub reported : (x : Given) (calls : List Call) (st : State) (c : Course) (old new : PortState) (parts : List Part) (run : Run) (number : ℕ) → IsShown (whole x) calls st c
+    → ShowsParts x old new parts → run ≡ told_run x c parts → number ≡ length (commands c.commit) → Reports x st old new run number
+reported x calls st c old new parts run number h shows is count =
     let same : run.switch ≡ parts = ap (λ (r : Run). r.switch) is in
     record {
       is = is ∙ tells_run x calls st c h parts ∙ ap (λ (l : List Part). with_parts l) (sym same);
