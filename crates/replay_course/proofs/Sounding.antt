@@ -233,7 +233,7 @@ finish_sound x c after fate h less up server commit down fates idle =
       held = subst (λ (k : Commit). Each (FramedHeld x) k.held) (sym commit) h.held;
       down = subst (Each (FramedDown x)) (sym down) h.down;
       updates = subst (λ (k : Commit). Each (IsUpdateOf (code_for x)) (changes_in k.batches)) (sym commit) h.updates;
-  writeback = ap (λ (k : Commit). k.writeback) commit ∙ h.writeback;
+      writeback = ap (λ (k : Commit). k.writeback) commit ∙ h.writeback;
       order = subst IsInOrder (sym commit) h.order;
       version = ap (λ s. s.version) server ∙ h.version ∙ ap (λ (k : Commit). versions_in k.batches) (sym commit);
       needs = subst (λ (k : Commit). Each (Needs after.server.version) k.held) (sym commit)
@@ -254,7 +254,7 @@ send_up_sound x c after number frame fate h less framed up server commit down fa
       held = subst (λ (k : Commit). Each (FramedHeld x) k.held) (sym commit) h.held;
       down = subst (Each (FramedDown x)) (sym down) h.down;
       updates = subst (λ (k : Commit). Each (IsUpdateOf (code_for x)) (changes_in k.batches)) (sym commit) h.updates;
-  writeback = ap (λ (k : Commit). k.writeback) commit ∙ h.writeback;
+      writeback = ap (λ (k : Commit). k.writeback) commit ∙ h.writeback;
       order = subst IsInOrder (sym commit) h.order;
       version = ap (λ s. s.version) server ∙ h.version ∙ ap (λ (k : Commit). versions_in k.batches) (sym commit);
       needs = subst (λ (k : Commit). Each (Needs after.server.version) k.held) (sym commit)
