@@ -1,5 +1,5 @@
 -- Which line a shut gate leads to.
-use Rattle.std.proofs.Common.{◌≡◌, ◌<◌, ◌⊎◌, ℕ, List, [], ◌∷◌, length, Option, Some, None, IfSome, IsSomeAnd, sym}
+use Rattle.std.proofs.Common.{◌≡◌, ◌<◌, ◌⊎◌, ℕ, List, length, Option, Some, None, IfSome, IsSomeAnd, sym}
 use Rattle.std.proofs.Common.{refl, ap, subst, ◌∙◌, inl, inr, arith}
 use Rattle.std.specs.Io.KnownBytes.{append_known}
 use Rattle.gal_io.specs.Files.{FilesState}
@@ -7,23 +7,29 @@ use Rattle.gal_io.specs.Sink.{SinkState}
 use Rattle.gal_io.specs.declared.sink.SinkEnd.TheVariants as ends
 use Rattle.element_text.specs.declared.error.TextError.{TextError}
 use Rattle.pcap_trace.specs.declared.refusal.PcapError.{PcapError}
+use Rattle.resource_limits.specs.declared.limits.Limits.{Limits as Allowed}
 use Rattle.resource_limits.specs.declared.limits.LimitsError.{LimitsError}
+use Rattle.flat_ir.specs.Program.{Program}
+use Rattle.flatten.specs.Flatten.{flat_of}
 use Rattle.run_text.specs.declared.refusal.LinesError.{LinesError}
 use Rattle.gallium_cli.specs.declared.status.Status.{Status}
 use Rattle.gallium_cli.specs.declared.refusal.Refusal.{Refusal}
-use Rattle.gallium_cli.specs.declared.refusal.Refusal.TheVariants.{Source, LongProgram, Limits, Trace, Schedule}
+use Rattle.gallium_cli.specs.declared.refusal.Refusal.TheVariants.{Source, LongProgram, Limits, Exceeded, Split, Trace, Schedule}
 use Rattle.gallium_cli.specs.declared.refusal.Refusal.TheVariants.{TooLong, ReadFault, NoMemory, Pcap}
 use Rattle.gallium_cli.specs.Call.{Call}
 use Rattle.gallium_cli.specs.Lines.{status_of, line_of}
 use Rattle.gallium_cli.specs.Words.{Request}
-use Rattle.gallium_cli.specs.Roles.{Role, source, program, limits, trace, schedule, capture, size_of, IsBad}
-use Rattle.gallium_cli.specs.Roles.{Gate, File, Choice, gates_of}
+use Rattle.gallium_cli.specs.Roles.{Role, source, program, limits, legal_split, trace, schedule, capture, size_of, IsBad}
+use Rattle.gallium_cli.specs.Roles.{Gate, File, Choice, SplitFile, gates_of}
+use Rattle.gallium_cli.specs.Splits.{IsBadSplit}
 use Rattle.gallium_cli.specs.Loads.{IsBadSource, IsLongProgram, AreBadLimits, IsBadTrace, IsBadSchedule, IsFileRefused}
 use Rattle.gallium_cli.specs.Loads.{IsBadCapture}
-use Rattle.gallium_cli.specs.Causes.{IsRefusedAt, IsFirstRefused, IsTold, EndsFor}
-use Rattle.gallium_cli.specs.Promises.{IsFault, refused_status, IsRefusedAs, IsShut, IsCause, IsShutFor, IsFirstShut}
+use Rattle.gallium_cli.specs.Causes.{IsPassed, IsRefusedAt, IsFirstRefused, IsTold, EndsFor}
+use Rattle.gallium_cli.specs.Promises.{IsFault, IsStatusOf, IsRefusedAs, IsOpen, IsShut, IsCause, IsShutFor, IsFirstShut}
 use Rattle.gallium_cli.specs.Promises.{IsFirstCause, IsCauseTold}
-use Rattle.gallium_cli.proofs.Choices.{IsGreatestOne, IsKeptUnexceeded, same_excess}
+use Rattle.gallium_cli.proofs.Choices.{same_role, same_excess}
+use Rattle.gallium_cli.proofs.Unkept.{Laws, bad_split, cause_split, one_cause}
+use Rattle.gallium_cli.proofs.Walks.{walks, at_gates}
 use Rattle.gallium_cli.proofs.Exact.{no_limits, no_trace, no_schedule, open_refused, shut_unpassed, passed_unshut}
 use Rattle.gallium_cli.proofs.Exact.{answer_passed, unwritten_fault, switch_is_fault}
 
@@ -49,20 +55,22 @@ line_of_cause refusal cause result e e' same (ends.NoMemory, is, written) = inr 
 -- ## One file
 
 -- a content that has a cause is bad
-cause_is_bad : (cause : Refusal) (role : Role) (text : List ℕ) → IsCause cause role text → IsBad role text
-cause_is_bad (Source fault) source text why = why.1
-cause_is_bad (Source fault) program text why = (why.1.0, λ spelled. why.1.1 (spelled.0, spelled.1))
-cause_is_bad LongProgram program text why = (why.0.0, why.1)
-cause_is_bad (Limits fault) limits text why = no_limits fault text why
-cause_is_bad (Trace fault) trace text why = no_trace fault text why
-cause_is_bad (Schedule fault) schedule text why = no_schedule fault text why
-cause_is_bad (Pcap fault) capture text why = why.1
-cause_is_bad _ role text why = absurd why
+cause_is_bad : Laws → (cause : Refusal) (role : Role) (text : List ℕ) → IsCause cause role text → IsBad role text
+cause_is_bad laws (Source fault) source text why = why.1
+cause_is_bad laws (Source fault) program text why = (why.1.0, λ spelled. why.1.1 (spelled.0, spelled.1))
+cause_is_bad laws LongProgram program text why = (why.0.0, why.1)
+cause_is_bad laws (Limits fault) limits text why = no_limits fault text why
+cause_is_bad laws (Split fault) (legal_split f allowed) text why = bad_split laws (Split fault) f allowed text why
+cause_is_bad laws (Exceeded excess) (legal_split f allowed) text why = bad_split laws (Exceeded excess) f allowed text why
+cause_is_bad laws (Trace fault) trace text why = no_trace fault text why
+cause_is_bad laws (Schedule fault) schedule text why = no_schedule fault text why
+cause_is_bad laws (Pcap fault) capture text why = why.1
+cause_is_bad laws _ role text why = absurd why
 
-not_long : (cause : Refusal) (role : Role) (told : Option (List ℕ)) → IsSomeAnd told (IsCause cause role)
+not_long : Laws → (cause : Refusal) (role : Role) (told : Option (List ℕ)) → IsSomeAnd told (IsCause cause role)
     → IfSome told (λ text. size_of role < length text) → ⊥
-not_long cause role None why long = why
-not_long cause role (Some text) why long = let short = (cause_is_bad cause role text why).0 in omega arith
+not_long laws cause role None why long = why
+not_long laws cause role (Some text) why long = let short = (cause_is_bad laws cause role text why).0 in omega arith
 
 -- the one cause of a told content
 same_in_source : (cause : Refusal) (found : TextError) (text : List ℕ) → IsCause cause source text
@@ -86,6 +94,14 @@ same_in_limits : (cause : Refusal) (found : LimitsError) (text : List ℕ) → I
 same_in_limits (Limits fault) found text why bad =
     let one = why.1 in let other = bad.1 in let same : fault ≡ found = cc in ap Limits same
 same_in_limits _ found text why bad = absurd why
+
+same_in_split : Laws → (cause found : Refusal) (f : Program) (allowed : Allowed) (text : List ℕ)
+    → IsCause cause (legal_split f allowed) text → IsBadSplit found f allowed text → cause ≡ found
+same_in_split laws (Split fault) found f allowed text why bad =
+    one_cause laws (Split fault) found f allowed text why.few why.cause bad.cause
+same_in_split laws (Exceeded excess) found f allowed text why bad =
+    one_cause laws (Exceeded excess) found f allowed text why.few why.cause bad.cause
+same_in_split laws _ found f allowed text why bad = absurd why
 
 same_in_trace : (cause : Refusal) (found : LinesError) (text : List ℕ) → IsCause cause trace text
     → IsBadTrace found text → cause ≡ Trace found
@@ -112,70 +128,91 @@ same_told P cause found role same (Some text) why refused = same text why refuse
 
 -- a file with this cause is refused for it, or there is a fault
 cause_file : (refusal : Refusal) (role : Role) (name : List ℕ) (cause : Refusal) (result : Status) (f f' : FilesState)
-    (e e' : SinkState) → IsSomeAnd (f.told name) (IsCause cause role) → IsFileRefused refusal role name f f'
+    (e e' : SinkState) → Laws → IsSomeAnd (f.told name) (IsCause cause role) → IsFileRefused refusal role name f f'
     → IsTold refusal result e e' → IsLine cause result e e'
-cause_file (Source found) source name cause result f f' e e' why refused told =
+cause_file (Source found) source name cause result f f' e e' laws why refused told =
     let same = same_told (IsBadSource found) cause (Source found) source (same_in_source cause found) (f.told name) why refused.1 in
     line_of_cause (Source found) cause result e e' same told
-cause_file (Source found) program name cause result f f' e e' why refused told =
+cause_file (Source found) program name cause result f f' e e' laws why refused told =
     let same = same_told (IsBadSource found) cause (Source found) program (same_in_program cause found) (f.told name) why refused.1 in
     line_of_cause (Source found) cause result e e' same told
-cause_file LongProgram program name cause result f f' e e' why refused told =
+cause_file LongProgram program name cause result f f' e e' laws why refused told =
     let same = same_told IsLongProgram cause LongProgram program (same_long cause) (f.told name) why refused in
     line_of_cause LongProgram cause result e e' same told
-cause_file (Limits found) limits name cause result f f' e e' why refused told =
+cause_file (Limits found) limits name cause result f f' e e' laws why refused told =
     let same = same_told (AreBadLimits found) cause (Limits found) limits (same_in_limits cause found) (f.told name) why refused.1 in
     line_of_cause (Limits found) cause result e e' same told
-cause_file (Trace found) trace name cause result f f' e e' why refused told =
+cause_file (Split found) (legal_split g allowed) name cause result f f' e e' laws why refused told =
+    let role = legal_split g allowed in
+    let same =
+    same_told (IsBadSplit (Split found) g allowed) cause (Split found) role
+    (same_in_split laws cause (Split found) g allowed) (f.told name) why refused in
+    line_of_cause (Split found) cause result e e' same told
+cause_file (Exceeded found) (legal_split g allowed) name cause result f f' e e' laws why refused told =
+    let role = legal_split g allowed in
+    let same =
+    same_told (IsBadSplit (Exceeded found) g allowed) cause (Exceeded found) role
+    (same_in_split laws cause (Exceeded found) g allowed) (f.told name) why refused in
+    line_of_cause (Exceeded found) cause result e e' same told
+cause_file (Trace found) trace name cause result f f' e e' laws why refused told =
     let same = same_told (IsBadTrace found) cause (Trace found) trace (same_in_trace cause found) (f.told name) why refused.1 in
     line_of_cause (Trace found) cause result e e' same told
-cause_file (Schedule found) schedule name cause result f f' e e' why refused told =
+cause_file (Schedule found) schedule name cause result f f' e e' laws why refused told =
     let same = same_told (IsBadSchedule found) cause (Schedule found) schedule (same_in_schedule cause found) (f.told name) why refused.1 in
     line_of_cause (Schedule found) cause result e e' same told
-cause_file (Pcap found) capture name cause result f f' e e' why refused told =
+cause_file (Pcap found) capture name cause result f f' e e' laws why refused told =
     let same = same_told (IsBadCapture found) cause (Pcap found) capture (same_in_capture cause found) (f.told name) why refused.1 in
     line_of_cause (Pcap found) cause result e e' same told
-cause_file (TooLong blamed) role name cause result f f' e e' why refused told =
-    absurd (not_long cause role (f.told name) why refused.1)
-cause_file (ReadFault blamed) role name cause result f f' e e' why refused told =
+cause_file (TooLong blamed) role name cause result f f' e e' laws why refused told =
+    absurd (not_long laws cause role (f.told name) why refused.1)
+cause_file (ReadFault blamed) role name cause result f f' e e' laws why refused told =
     line_of_fault (ReadFault blamed) cause result e e' told tt
-cause_file NoMemory role name cause result f f' e e' why refused told = line_of_fault NoMemory cause result e e' told tt
-cause_file _ role name cause result f f' e e' why refused told = absurd refused
+cause_file NoMemory role name cause result f f' e e' laws why refused told = line_of_fault NoMemory cause result e e' told tt
+cause_file _ role name cause result f f' e e' laws why refused told = absurd refused
 
 -- the status of a content that has a cause
-cause_status : (cause : Refusal) (role : Role) (text : List ℕ) → IsCause cause role text
-    → status_of cause ≡ refused_status role
-cause_status (Source fault) source text why = refl
-cause_status (Source fault) program text why = refl
-cause_status LongProgram program text why = refl
-cause_status (Limits fault) limits text why = refl
-cause_status (Trace fault) trace text why = refl
-cause_status (Schedule fault) schedule text why = refl
-cause_status (Pcap fault) capture text why = refl
-cause_status _ role text why = absurd why
+cause_status : Laws → (cause : Refusal) (role : Role) (text : List ℕ) → IsCause cause role text
+    → IsStatusOf (status_of cause) role text
+cause_status laws (Source fault) source text why = refl
+cause_status laws (Source fault) program text why = refl
+cause_status laws LongProgram program text why = refl
+cause_status laws (Limits fault) limits text why = refl
+cause_status laws (Split fault) (legal_split f allowed) text why = cause_split laws (Split fault) f allowed text why
+cause_status laws (Exceeded excess) (legal_split f allowed) text why = cause_split laws (Exceeded excess) f allowed text why
+cause_status laws (Trace fault) trace text why = refl
+cause_status laws (Schedule fault) schedule text why = refl
+cause_status laws (Pcap fault) capture text why = refl
+cause_status laws _ role text why = absurd why
 
-refused_as : (cause : Refusal) (role : Role) (told : Option (List ℕ)) → IsSomeAnd told (IsCause cause role)
+refused_as : Laws → (cause : Refusal) (role : Role) (told : Option (List ℕ)) → IsSomeAnd told (IsCause cause role)
     → IsSomeAnd told (IsRefusedAs role (status_of cause))
-refused_as cause role None why = why
-refused_as cause role (Some text) why = inr (cause_status cause role text why, cause_is_bad cause role text why)
+refused_as laws cause role None why = why
+refused_as laws cause role (Some text) why =
+    inr (cause_status laws cause role text why, cause_is_bad laws cause role text why)
 
 -- ## One gate
 
 -- a gate that is shut for a cause is shut with its status
-shut_with : (told : List ℕ → Option (List ℕ)) (gate : Gate) (cause : Refusal) → IsShutFor told gate cause
+shut_with : Laws → (told : List ℕ → Option (List ℕ)) (gate : Gate) (cause : Refusal) → IsShutFor told gate cause
     → IsShut told gate (status_of cause)
-shut_with told (File name role) cause why = refused_as cause role (told name) why
-shut_with told (Choice s l shrink) cause (m, allowed, over, asked, refused, is) =
+shut_with laws told (File name role) cause why = refused_as laws cause role (told name) why
+shut_with laws told (Choice s l shrink) cause (m, allowed, over, asked, refused, is) =
     (ap status_of is, (m, allowed, over, asked, refused))
+shut_with laws told (SplitFile s l p) cause (m, allowed, asked, why) =
+    (m, allowed, asked, refused_as laws cause (legal_split (flat_of m) allowed) (told p) why)
 
 -- what is refused at such a gate is refused for this cause, or there is a fault
 shut_line : (refusal : Refusal) (gate : Gate) (cause : Refusal) (result : Status) (f f' : FilesState) (e e' : SinkState)
-    → IsGreatestOne → IsShutFor f.told gate cause → IsRefusedAt refusal gate f f' → IsTold refusal result e e'
+    → Laws → IsShutFor f.told gate cause → IsRefusedAt refusal gate f f' → IsTold refusal result e e'
     → IsLine cause result e e'
-shut_line refusal (File name role) cause result f f' e e' one why refused told =
-    cause_file refusal role name cause result f f' e e' why refused told
-shut_line refusal (Choice s l shrink) cause result f f' e e' one (m, allowed, over, asked, exceeded, is) refused told =
-    elim (same_excess refusal f.told s l shrink m allowed over one asked exceeded refused) [
+shut_line refusal (File name role) cause result f f' e e' laws why refused told =
+    cause_file refusal role name cause result f f' e e' laws why refused told
+shut_line refusal (SplitFile s l p) cause result f f' e e' laws (m, allowed, asked, why) (m', allowed', found, refused) told =
+    let same = same_role f.told s l m m' allowed allowed' asked found in
+    cause_file refusal (legal_split (flat_of m') allowed') p cause result f f' e e' laws
+    (subst (λ (role : Role). IsSomeAnd (f.told p) (IsCause cause role)) same why) refused told
+shut_line refusal (Choice s l shrink) cause result f f' e e' laws (m, allowed, over, asked, exceeded, is) refused told =
+    elim (same_excess refusal f.told s l shrink m allowed over laws.greatest asked exceeded refused) [
       | inl same ↦ line_of_cause refusal cause result e e' (is ∙ same) told
       | inr fault ↦ line_of_fault refusal cause result e e' told fault
     ]
@@ -183,37 +220,36 @@ shut_line refusal (Choice s l shrink) cause result f f' e e' one (m, allowed, ov
 -- ## All gates
 
 cause_gates : (refusal : Refusal) (gates : List Gate) (cause : Refusal) (result : Status) (f f' : FilesState)
-    (e e' : SinkState) → IsGreatestOne → IsKeptUnexceeded → IsFirstCause f.told gates cause
+    (e e' : SinkState) → Laws → IsFirstCause f.told gates cause
     → IsFirstRefused refusal gates f f' → IsTold refusal result e e' → IsLine cause result e e'
-cause_gates refusal [] cause result f f' e e' one kept why refused told = absurd why
-cause_gates refusal (gate ∷ gates) cause result f f' e e' one kept (inl here) (inl refused) told =
-    shut_line refusal gate cause result f f' e e' one here refused told
-cause_gates refusal (gate ∷ gates) cause result f f' e e' one kept (inl here) (inr later) told =
-    absurd (shut_unpassed gate (status_of cause) f one kept (shut_with f.told gate cause here) later.0)
-cause_gates refusal (gate ∷ gates) cause result f f' e e' one kept (inr why) (inl refused) told =
-    line_of_fault refusal cause result e e' told (open_refused refusal gate f f' one kept why.0 refused)
-cause_gates refusal (gate ∷ gates) cause result f f' e e' one kept (inr why) (inr later) told =
-    cause_gates refusal gates cause result f f' e e' one kept why.1 later.1 told
+cause_gates refusal gates cause result f f' e e' laws why refused told =
+    walks (IsOpen f.told) (λ gate. IsShutFor f.told gate cause) (λ gate. IsPassed gate f)
+    (λ gate. IsRefusedAt refusal gate f f') (IsLine cause result e e')
+    (λ gate here there. shut_line refusal gate cause result f f' e e' laws here there told)
+    (λ gate here passed.
+    absurd (shut_unpassed gate (status_of cause) f laws (shut_with laws f.told gate cause here) passed))
+    (λ gate free there. line_of_fault refusal cause result e e' told (open_refused refusal gate f f' laws free there))
+    gates why refused
 
-first_shut : (told : List ℕ → Option (List ℕ)) (gates : List Gate) (cause : Refusal)
+first_shut : Laws → (told : List ℕ → Option (List ℕ)) (gates : List Gate) (cause : Refusal)
     → IsFirstCause told gates cause → IsFirstShut told gates (status_of cause)
-first_shut told [] cause why = why
-first_shut told (gate ∷ gates) cause (inl here) = inl (shut_with told gate cause here)
-first_shut told (gate ∷ gates) cause (inr why) = inr (why.0, first_shut told gates cause why.1)
+first_shut laws told gates cause why =
+    at_gates (IsOpen told) (λ gate. IsShutFor told gate cause) (λ gate. IsShut told gate (status_of cause))
+    (λ gate here. shut_with laws told gate cause here) gates why
 
-pub cause_told : (request : Option Request) (result : Status) (call : Call) → IsGreatestOne → IsKeptUnexceeded
+pub cause_told : (request : Option Request) (result : Status) (call : Call) → Laws
     → EndsFor request result call → IsCauseTold request result call
-cause_told None result call one kept end = tt
-cause_told (Some request) result call one kept (inl (is, (text, answer, taken, read, aside), counts, silent)) = λ cause why.
+cause_told None result call laws end = tt
+cause_told (Some request) result call laws (inl (is, (text, answer, taken, read, aside), counts, silent)) = λ cause why.
     let work = call.work in
-    let shut = first_shut work.files.told (gates_of request) cause why in
+    let shut = first_shut laws work.files.told (gates_of request) cause why in
     let passed = answer_passed text request work.files work.port work.port_after answer in
-    absurd (passed_unshut (gates_of request) (status_of cause) work.files one kept passed shut)
-cause_told (Some request) result call one kept (inr (refusal, (inl first, few, aside), counts, told)) = λ cause why.
+    absurd (passed_unshut (gates_of request) (status_of cause) work.files laws passed shut)
+cause_told (Some request) result call laws (inr (refusal, (inl first, few, aside), counts, told)) = λ cause why.
     cause_gates refusal (gates_of request) cause result call.work.files call.work.files_after call.err call.err_after
-    one kept why first.0 told
-cause_told (Some request) result call one kept (inr (refusal, (inr (inl faulty), few, aside), counts, told)) = λ cause why.
+    laws why first.0 told
+cause_told (Some request) result call laws (inr (refusal, (inr (inl faulty), few, aside), counts, told)) = λ cause why.
     line_of_fault refusal cause result call.err call.err_after told
     (switch_is_fault refusal request call.work.port call.work.port_after faulty.0)
-cause_told (Some request) result call one kept (inr (refusal, (inr (inr unput), few, aside), counts, told)) = λ cause why.
+cause_told (Some request) result call laws (inr (refusal, (inr (inr unput), few, aside), counts, told)) = λ cause why.
     line_of_fault refusal cause result call.err call.err_after told (unwritten_fault refusal request call.work unput)

@@ -20,9 +20,10 @@ use Rattle.gallium_cli.specs.declared.status.Status.TheVariants as statuses
 use Rattle.gallium_cli.specs.declared.refusal.Refusal.{Refusal}
 use Rattle.gallium_cli.specs.declared.refusal.Refusal.TheVariants.{Exceeded, NoMemory}
 use Rattle.gallium_cli.specs.Lines.{status_of}
-use Rattle.gallium_cli.specs.Roles.{program, limits, size_of, AreLimits}
+use Rattle.gallium_cli.specs.Roles.{program, limits, legal_split, size_of, AreLimits}
 use Rattle.gallium_cli.specs.Answers.{IsOnlySource, IsPlan}
-use Rattle.gallium_cli.specs.Causes.{IsOverLimit, excess_of}
+use Rattle.gallium_cli.specs.Splits.{excess_of}
+use Rattle.gallium_cli.specs.Causes.{IsOverLimit}
 use Rattle.gallium_cli.specs.Promises.{IsToldPlan, IsFault, IsUnlessFault}
 
 -- ## One split and one refusal
@@ -127,6 +128,15 @@ refused_there : (m m' : Tree) (allowed allowed' : Allowed) (shrink : Bool) (over
 refused_there m m' allowed allowed' shrink over same refused =
     subst (λ (n : Tree). IsRefused (flat_of n) allowed' shrink over) same.middlebox
     (subst (λ (a : Allowed). IsRefused (flat_of m) a shrink over) same.limits refused)
+
+-- so what a split text is to spell is one thing
+pub same_role : (told : List ℕ → Option (List ℕ)) (s l : List ℕ) (m m' : Tree) (allowed allowed' : Allowed)
+    → IsToldPlan told s l m allowed → IsPlan told s l m' allowed'
+    → legal_split (flat_of m) allowed ≡ legal_split (flat_of m') allowed'
+same_role told s l m m' allowed allowed' asked found =
+    let same = same_plan told s l m m' allowed allowed' asked found in
+    ap (λ (n : Tree). legal_split (flat_of n) allowed) same.middlebox
+    ∙ ap (λ (a : Allowed). legal_split (flat_of m') a) same.limits
 
 -- ## Choosing and refusing exclude each other
 

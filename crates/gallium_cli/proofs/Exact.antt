@@ -10,26 +10,32 @@ use Rattle.run_text.specs.declared.plan.Plan.{Plan}
 use Rattle.run_text.specs.declared.refusal.LinesError.{LinesError}
 use Rattle.element_text.specs.declared.error.TextError.{TextError}
 use Rattle.pcap_trace.specs.declared.refusal.PcapError.{PcapError}
+use Rattle.resource_limits.specs.declared.limits.Limits.{Limits as Allowed}
 use Rattle.resource_limits.specs.declared.limits.LimitsError.{LimitsError}
+use Rattle.flat_ir.specs.Program.{Program}
+use Rattle.flatten.specs.Flatten.{flat_of}
 use Rattle.switch_ir.specs.Port.{PortState}
 use Rattle.gallium_cli.specs.declared.status.Status.{Status}
 use Rattle.gallium_cli.specs.declared.status.Status.TheVariants as statuses
 use Rattle.gallium_cli.specs.declared.refusal.Refusal.{Refusal}
-use Rattle.gallium_cli.specs.declared.refusal.Refusal.TheVariants.{Source, LongProgram, Limits, Trace, Schedule}
+use Rattle.gallium_cli.specs.declared.refusal.Refusal.TheVariants.{Source, LongProgram, Limits, Exceeded, Split, Trace, Schedule}
 use Rattle.gallium_cli.specs.declared.refusal.Refusal.TheVariants.{TooLong, ReadFault, WriteFault, SwitchFault, NoMemory, Pcap}
 use Rattle.gallium_cli.specs.Call.{Call, Work}
 use Rattle.gallium_cli.specs.Lines.{status_of}
-use Rattle.gallium_cli.specs.Words.{Request, Run, Compile, Replay, PcapIn, PcapOut, Within}
-use Rattle.gallium_cli.specs.Roles.{Role, source, program, limits, trace, schedule, capture, size_of, IsGood, IsBad}
-use Rattle.gallium_cli.specs.Roles.{Gate, File, Choice, gates_of, split_gates, event_gates}
+use Rattle.gallium_cli.specs.Words.{Request, Run, Compile, Replay, Check, PcapIn, PcapOut, Within, Spelled}
+use Rattle.gallium_cli.specs.Roles.{Role, source, program, limits, legal_split, trace, schedule, capture, size_of, IsGood}
+use Rattle.gallium_cli.specs.Roles.{IsBad, Gate, File, Choice, SplitFile, gates_of, split_gates, event_gates}
+use Rattle.gallium_cli.specs.Splits.{IsBadSplit}
 use Rattle.gallium_cli.specs.Answers.{IsTraffic, IsAnswer}
 use Rattle.gallium_cli.specs.Loads.{IsFileRefused, IsBadSource, IsLongProgram, AreBadLimits, IsBadTrace, IsBadSchedule}
 use Rattle.gallium_cli.specs.Loads.{IsBadCapture}
 use Rattle.gallium_cli.specs.Causes.{IsRefusedAt, IsPassed, IsFirstRefused, IsSwitchFaulty, IsNotWritten, after_line}
 use Rattle.gallium_cli.specs.Causes.{IsTold, EndsFor}
-use Rattle.gallium_cli.specs.Promises.{IsWriteFault, IsFault, IsUnlessFault, refused_status, IsRefusedAs, IsOpen, AllOpen}
+use Rattle.gallium_cli.specs.Promises.{IsWriteFault, IsFault, IsUnlessFault, IsStatusOf, IsRefusedAs, IsOpen, AllOpen}
 use Rattle.gallium_cli.specs.Promises.{IsShut, IsFirstShut, IsExact, IsComplete}
-use Rattle.gallium_cli.proofs.Choices.{IsGreatestOne, IsKeptUnexceeded, refused_unchosen, open_over, over_status}
+use Rattle.gallium_cli.proofs.Choices.{same_role, refused_unchosen, open_over, over_status}
+use Rattle.gallium_cli.proofs.Unkept.{Laws, bad_split, exact_split}
+use Rattle.gallium_cli.proofs.Walks.{walks}
 use Rattle.gallium_cli.proofs.Files.{AllPassed, passed_source, passed_trace, passed_schedule, passed_capture, split_passed}
 use Rattle.gallium_cli.proofs.Files.{passed_both}
 
@@ -95,27 +101,37 @@ bad_capture : (fault : PcapError) (told : Option (List ℕ)) → IfSome told (Is
     → IfSome told (IsBad capture)
 bad_capture fault told = if_told (IsBadCapture fault) (IsBad capture) (λ bytes bad. bad.0) told
 
+bad_splits : Laws → (refusal : Refusal) (g : Program) (allowed : Allowed) (told : Option (List ℕ))
+    → IfSome told (IsBadSplit refusal g allowed) → IfSome told (IsBad (legal_split g allowed))
+bad_splits laws refusal g allowed told =
+    if_told (IsBadSplit refusal g allowed) (IsBad (legal_split g allowed)) (bad_split laws refusal g allowed) told
+
 -- what is refused of a good file is a fault
 good_refused : (refusal : Refusal) (role : Role) (name : List ℕ) (f f' : FilesState)
-    → IsSomeAnd (f.told name) (IsGood role) → IsFileRefused refusal role name f f' → IsFault (status_of refusal)
-good_refused (Source fault) source name f f' good refused =
+    → Laws → IsSomeAnd (f.told name) (IsGood role) → IsFileRefused refusal role name f f' → IsFault (status_of refusal)
+good_refused (Source fault) source name f f' laws good refused =
     good_not_bad source (f.told name) good (bad_source fault (f.told name) refused.1)
-good_refused (Source fault) program name f f' good refused =
+good_refused (Source fault) program name f f' laws good refused =
     good_not_bad program (f.told name) good (bad_program fault (f.told name) refused.1)
-good_refused LongProgram program name f f' good refused =
+good_refused LongProgram program name f f' laws good refused =
     good_not_bad program (f.told name) good (long_program (f.told name) refused)
-good_refused (Limits fault) limits name f f' good refused =
+good_refused (Limits fault) limits name f f' laws good refused =
     good_not_bad limits (f.told name) good (bad_limits fault (f.told name) refused.1)
-good_refused (Trace fault) trace name f f' good refused =
+good_refused (Split fault) (legal_split g allowed) name f f' laws good refused =
+    good_not_bad (legal_split g allowed) (f.told name) good (bad_splits laws (Split fault) g allowed (f.told name) refused)
+good_refused (Exceeded excess) (legal_split g allowed) name f f' laws good refused =
+    good_not_bad (legal_split g allowed) (f.told name) good
+    (bad_splits laws (Exceeded excess) g allowed (f.told name) refused)
+good_refused (Trace fault) trace name f f' laws good refused =
     good_not_bad trace (f.told name) good (bad_trace fault (f.told name) refused.1)
-good_refused (Schedule fault) schedule name f f' good refused =
+good_refused (Schedule fault) schedule name f f' laws good refused =
     good_not_bad schedule (f.told name) good (bad_schedule fault (f.told name) refused.1)
-good_refused (Pcap fault) capture name f f' good refused =
+good_refused (Pcap fault) capture name f f' laws good refused =
     good_not_bad capture (f.told name) good (bad_capture fault (f.told name) refused.1)
-good_refused (TooLong blamed) role name f f' good refused = good_not_long role (f.told name) good refused.1
-good_refused (ReadFault blamed) role name f f' good refused = tt
-good_refused NoMemory role name f f' good refused = tt
-good_refused _ role name f f' good refused = absurd refused
+good_refused (TooLong blamed) role name f f' laws good refused = good_not_long role (f.told name) good refused.1
+good_refused (ReadFault blamed) role name f f' laws good refused = tt
+good_refused NoMemory role name f f' laws good refused = tt
+good_refused _ role name f f' laws good refused = absurd refused
 
 -- a text that is refused for its size isn't refused for what it spells, and the other way round
 long_only : (role : Role) (status : Status) (told : Option (List ℕ)) → IsSomeAnd told (IsRefusedAs role status)
@@ -125,89 +141,103 @@ long_only role status (Some text) (inl here) long = here.0
 long_only role status (Some text) (inr bad) long = let short = bad.1.0 in absurd (omega arith)
 
 bad_only : (role : Role) (status : Status) (told : Option (List ℕ)) → IsSomeAnd told (IsRefusedAs role status)
-    → IfSome told (IsBad role) → status ≡ refused_status role
+    → IfSome told (IsBad role) → (text : List ℕ) × IsStatusOf status role text
 bad_only role status None refused bad = absurd refused
 bad_only role status (Some text) (inl long) bad = let short = bad.0 in let above = long.1 in absurd (omega arith)
-bad_only role status (Some text) (inr here) bad = here.0
+bad_only role status (Some text) (inr here) bad = (text, here.0)
 
 -- the status of a refused file is the one that its told text has, or a fault
 exact_file : (refusal : Refusal) (role : Role) (name : List ℕ) (status : Status) (f f' : FilesState)
-    → IsSomeAnd (f.told name) (IsRefusedAs role status) → IsFileRefused refusal role name f f'
+    → Laws → IsSomeAnd (f.told name) (IsRefusedAs role status) → IsFileRefused refusal role name f f'
     → IsUnlessFault status (status_of refusal)
-exact_file (Source fault) source name status f f' bad refused =
-    inl (sym (bad_only source status (f.told name) bad (bad_source fault (f.told name) refused.1)))
-exact_file (Source fault) program name status f f' bad refused =
-    inl (sym (bad_only program status (f.told name) bad (bad_program fault (f.told name) refused.1)))
-exact_file LongProgram program name status f f' bad refused =
-    inl (sym (bad_only program status (f.told name) bad (long_program (f.told name) refused)))
-exact_file (Limits fault) limits name status f f' bad refused =
-    inl (sym (bad_only limits status (f.told name) bad (bad_limits fault (f.told name) refused.1)))
-exact_file (Trace fault) trace name status f f' bad refused =
-    inl (sym (bad_only trace status (f.told name) bad (bad_trace fault (f.told name) refused.1)))
-exact_file (Schedule fault) schedule name status f f' bad refused =
-    inl (sym (bad_only schedule status (f.told name) bad (bad_schedule fault (f.told name) refused.1)))
-exact_file (Pcap fault) capture name status f f' bad refused =
-    inl (sym (bad_only capture status (f.told name) bad (bad_capture fault (f.told name) refused.1)))
-exact_file (TooLong blamed) role name status f f' bad refused =
+exact_file (Source fault) source name status f f' laws bad refused =
+    inl (sym (bad_only source status (f.told name) bad (bad_source fault (f.told name) refused.1)).1)
+exact_file (Source fault) program name status f f' laws bad refused =
+    inl (sym (bad_only program status (f.told name) bad (bad_program fault (f.told name) refused.1)).1)
+exact_file LongProgram program name status f f' laws bad refused =
+    inl (sym (bad_only program status (f.told name) bad (long_program (f.told name) refused)).1)
+exact_file (Limits fault) limits name status f f' laws bad refused =
+    inl (sym (bad_only limits status (f.told name) bad (bad_limits fault (f.told name) refused.1)).1)
+exact_file (Split fault) (legal_split g allowed) name status f f' laws bad refused =
+    inl (exact_split laws (Split fault) g allowed status (f.told name) bad refused)
+exact_file (Exceeded excess) (legal_split g allowed) name status f f' laws bad refused =
+    inl (exact_split laws (Exceeded excess) g allowed status (f.told name) bad refused)
+exact_file (Trace fault) trace name status f f' laws bad refused =
+    inl (sym (bad_only trace status (f.told name) bad (bad_trace fault (f.told name) refused.1)).1)
+exact_file (Schedule fault) schedule name status f f' laws bad refused =
+    inl (sym (bad_only schedule status (f.told name) bad (bad_schedule fault (f.told name) refused.1)).1)
+exact_file (Pcap fault) capture name status f f' laws bad refused =
+    inl (sym (bad_only capture status (f.told name) bad (bad_capture fault (f.told name) refused.1)).1)
+exact_file (TooLong blamed) role name status f f' laws bad refused =
     inl (sym (long_only role status (f.told name) bad refused.1))
-exact_file (ReadFault blamed) role name status f f' bad refused = inr tt
-exact_file NoMemory role name status f f' bad refused = inr tt
-exact_file _ role name status f f' bad refused = absurd refused
+exact_file (ReadFault blamed) role name status f f' laws bad refused = inr tt
+exact_file NoMemory role name status f f' laws bad refused = inr tt
+exact_file _ role name status f f' laws bad refused = absurd refused
 
 -- ## One gate
 
 -- what is refused at an open gate is a fault
-pub open_refused : (refusal : Refusal) (gate : Gate) (f f' : FilesState) → IsGreatestOne → IsKeptUnexceeded
+pub open_refused : (refusal : Refusal) (gate : Gate) (f f' : FilesState) → Laws
     → IsOpen f.told gate → IsRefusedAt refusal gate f f' → IsFault (status_of refusal)
-open_refused refusal (File name role) f f' one kept free refused = good_refused refusal role name f f' free refused
-open_refused refusal (Choice s l shrink) f f' one kept (m, allowed, split, asked, chosen) refused =
-    open_over refusal f.told s l shrink m allowed split one kept asked chosen refused
+open_refused refusal (File name role) f f' laws free refused = good_refused refusal role name f f' laws free refused
+open_refused refusal (Choice s l shrink) f f' laws (m, allowed, split, asked, chosen) refused =
+    open_over refusal f.told s l shrink m allowed split laws.greatest laws.kept asked chosen refused
+open_refused refusal (SplitFile s l p) f f' laws (m, allowed, asked, good) (m', allowed', found, refused) =
+    let same = same_role f.told s l m m' allowed allowed' asked found in
+    good_refused refusal (legal_split (flat_of m') allowed') p f f' laws
+    (subst (λ (role : Role). IsSomeAnd (f.told p) (IsGood role)) same good) refused
 
 -- a gate that is shut isn't passed
-pub shut_unpassed : (gate : Gate) (status : Status) (f : FilesState) → IsGreatestOne → IsKeptUnexceeded
+pub shut_unpassed : (gate : Gate) (status : Status) (f : FilesState) → Laws
     → IsShut f.told gate status → IsPassed gate f → ⊥
-shut_unpassed (File name role) status f one kept shut passed = good_not_refused role status (f.told name) passed shut
-shut_unpassed (Choice s l shrink) status f one kept (is, (m, allowed, over, asked, refused)) (m', allowed', split, found, chosen) =
-    refused_unchosen f.told s l shrink m m' allowed allowed' split over one kept asked refused found chosen
+shut_unpassed (File name role) status f laws shut passed = good_not_refused role status (f.told name) passed shut
+shut_unpassed (Choice s l shrink) status f laws (is, (m, allowed, over, asked, refused)) (m', allowed', split, found, chosen) =
+    refused_unchosen f.told s l shrink m m' allowed allowed' split over laws.greatest laws.kept asked refused found chosen
+shut_unpassed (SplitFile s l p) status f laws (m, allowed, asked, shut) (m', allowed', found, passed) =
+    let same = same_role f.told s l m m' allowed allowed' asked found in
+    good_not_refused (legal_split (flat_of m') allowed') status (f.told p) passed
+    (subst (λ (role : Role). IsSomeAnd (f.told p) (IsRefusedAs role status)) same shut)
 
 -- the status of a refusal at a shut gate is the one with which it is shut, or a fault
 shut_refused : (refusal : Refusal) (gate : Gate) (status : Status) (f f' : FilesState)
-    → IsShut f.told gate status → IsRefusedAt refusal gate f f' → IsUnlessFault status (status_of refusal)
-shut_refused refusal (File name role) status f f' shut refused = exact_file refusal role name status f f' shut refused
-shut_refused refusal (Choice s l shrink) status f f' (is, why) refused =
+    → Laws → IsShut f.told gate status → IsRefusedAt refusal gate f f' → IsUnlessFault status (status_of refusal)
+shut_refused refusal (File name role) status f f' laws shut refused =
+    exact_file refusal role name status f f' laws shut refused
+shut_refused refusal (SplitFile s l p) status f f' laws (m, allowed, asked, shut) (m', allowed', found, refused) =
+    let same = same_role f.told s l m m' allowed allowed' asked found in
+    exact_file refusal (legal_split (flat_of m') allowed') p status f f' laws
+    (subst (λ (role : Role). IsSomeAnd (f.told p) (IsRefusedAs role status)) same shut) refused
+shut_refused refusal (Choice s l shrink) status f f' laws (is, why) refused =
     let found = over_status refusal f.told s l shrink refused in
     subst (λ (wanted : Status). IsUnlessFault wanted (status_of refusal)) (sym is) found
 
 -- ## All gates
 
 exact_gates : (refusal : Refusal) (gates : List Gate) (status : Status) (f f' : FilesState)
-    → IsGreatestOne → IsKeptUnexceeded → IsFirstShut f.told gates status → IsFirstRefused refusal gates f f'
+    → Laws → IsFirstShut f.told gates status → IsFirstRefused refusal gates f f'
     → IsUnlessFault status (status_of refusal)
-exact_gates refusal [] status f f' one kept shut refused = absurd shut
-exact_gates refusal (gate ∷ gates) status f f' one kept (inl here) (inl refused) =
-    shut_refused refusal gate status f f' here refused
-exact_gates refusal (gate ∷ gates) status f f' one kept (inl here) (inr later) =
-    absurd (shut_unpassed gate status f one kept here later.0)
-exact_gates refusal (gate ∷ gates) status f f' one kept (inr shut) (inl refused) =
-    inr (open_refused refusal gate f f' one kept shut.0 refused)
-exact_gates refusal (gate ∷ gates) status f f' one kept (inr shut) (inr later) =
-    exact_gates refusal gates status f f' one kept shut.1 later.1
+exact_gates refusal gates status f f' laws shut refused =
+    walks (IsOpen f.told) (λ gate. IsShut f.told gate status) (λ gate. IsPassed gate f)
+    (λ gate. IsRefusedAt refusal gate f f') (IsUnlessFault status (status_of refusal))
+    (λ gate here there. shut_refused refusal gate status f f' laws here there)
+    (λ gate here passed. absurd (shut_unpassed gate status f laws here passed))
+    (λ gate free there. inr (open_refused refusal gate f f' laws free there)) gates shut refused
 
 -- where all gates are passed, none is shut
-pub passed_unshut : (gates : List Gate) (status : Status) (f : FilesState) → IsGreatestOne → IsKeptUnexceeded
+pub passed_unshut : (gates : List Gate) (status : Status) (f : FilesState) → Laws
     → AllPassed gates f → IsFirstShut f.told gates status → ⊥
-passed_unshut [] status f one kept passed shut = shut
-passed_unshut (gate ∷ gates) status f one kept passed (inl here) = shut_unpassed gate status f one kept here passed.0
-passed_unshut (gate ∷ gates) status f one kept passed (inr shut) = passed_unshut gates status f one kept passed.1 shut.1
+passed_unshut [] status f laws passed shut = shut
+passed_unshut (gate ∷ gates) status f laws passed (inl here) = shut_unpassed gate status f laws here passed.0
+passed_unshut (gate ∷ gates) status f laws passed (inr shut) = passed_unshut gates status f laws passed.1 shut.1
 
 -- what is refused of open gates is a fault
-open_gates : (refusal : Refusal) (gates : List Gate) (f f' : FilesState) → IsGreatestOne → IsKeptUnexceeded
+open_gates : (refusal : Refusal) (gates : List Gate) (f f' : FilesState) → Laws
     → AllOpen f.told gates → IsFirstRefused refusal gates f f' → IsFault (status_of refusal)
-open_gates refusal [] f f' one kept free refused = absurd refused
-open_gates refusal (gate ∷ gates) f f' one kept free (inl refused) =
-    open_refused refusal gate f f' one kept free.0 refused
-open_gates refusal (gate ∷ gates) f f' one kept free (inr later) =
-    open_gates refusal gates f f' one kept free.1 later.1
+open_gates refusal [] f f' laws free refused = absurd refused
+open_gates refusal (gate ∷ gates) f f' laws free (inl refused) =
+    open_refused refusal gate f f' laws free.0 refused
+open_gates refusal (gate ∷ gates) f f' laws free (inr later) =
+    open_gates refusal gates f f' laws free.1 later.1
 
 -- ## What an answer has passed
 
@@ -225,6 +255,8 @@ answer_passed text (Compile s l shrink) f p p' (m, split, writeback, found, prin
 answer_passed text (Replay s t c by) f p p' (m, split, writeback, packets, plan, replayed, found, traffic, report) =
     passed_both (split_gates s by) (event_gates t c) f (split_passed by s f m split writeback found)
     (traffic_passed f t c packets plan traffic)
+answer_passed text (Check s l split) f p p' (m, parts, writeback, found, printed) =
+    split_passed (Spelled l split) s f m parts writeback found
 answer_passed text (PcapIn c port) f p p' (found, told, printed) = (passed_capture c f found told, tt)
 answer_passed text (PcapOut t big nano) f p p' (packets, told, printed) = (passed_trace t f packets told, tt)
 
@@ -264,33 +296,33 @@ of_told status result refusal e e' told h =
     subst (IsUnlessFault status) (sym told.1) (told_status refusal told.0 status h)
 
 -- the first gate that is shut decides the status
-pub exact_ends : (request : Option Request) (result : Status) (call : Call) → IsGreatestOne → IsKeptUnexceeded
+pub exact_ends : (request : Option Request) (result : Status) (call : Call) → Laws
     → EndsFor request result call → IsExact request result call
-exact_ends None result call one kept end = tt
-exact_ends (Some request) result call one kept (inl (is, (text, answer, taken, read, aside), counts, silent)) = λ status shut.
+exact_ends None result call laws end = tt
+exact_ends (Some request) result call laws (inl (is, (text, answer, taken, read, aside), counts, silent)) = λ status shut.
     let work = call.work in
     let passed = answer_passed text request work.files work.port work.port_after answer in
-    absurd (passed_unshut (gates_of request) status work.files one kept passed shut)
-exact_ends (Some request) result call one kept (inr (refusal, (inl first, few, aside), counts, told)) = λ status shut.
+    absurd (passed_unshut (gates_of request) status work.files laws passed shut)
+exact_ends (Some request) result call laws (inr (refusal, (inl first, few, aside), counts, told)) = λ status shut.
     of_told status result refusal call.err call.err_after told
-    (exact_gates refusal (gates_of request) status call.work.files call.work.files_after one kept shut first.0)
-exact_ends (Some request) result call one kept (inr (refusal, (inr (inl faulty), few, aside), counts, told)) = λ status shut.
+    (exact_gates refusal (gates_of request) status call.work.files call.work.files_after laws shut first.0)
+exact_ends (Some request) result call laws (inr (refusal, (inr (inl faulty), few, aside), counts, told)) = λ status shut.
     of_told status result refusal call.err call.err_after told
     (inr (switch_is_fault refusal request call.work.port call.work.port_after faulty.0))
-exact_ends (Some request) result call one kept (inr (refusal, (inr (inr unput), few, aside), counts, told)) = λ status shut.
+exact_ends (Some request) result call laws (inr (refusal, (inr (inr unput), few, aside), counts, told)) = λ status shut.
     of_told status result refusal call.err call.err_after told (inr (unwritten_fault refusal request call.work unput))
 
 -- where all gates are open, a request is done unless there is a fault
-pub complete_ends : (request : Option Request) (result : Status) (call : Call) → IsGreatestOne → IsKeptUnexceeded
+pub complete_ends : (request : Option Request) (result : Status) (call : Call) → Laws
     → EndsFor request result call → IsComplete request result call
-complete_ends None result call one kept end = tt
-complete_ends (Some request) result call one kept (inl done) = λ free. inl done.0
-complete_ends (Some request) result call one kept (inr (refusal, (inl first, few, aside), counts, told)) = λ free.
+complete_ends None result call laws end = tt
+complete_ends (Some request) result call laws (inl done) = λ free. inl done.0
+complete_ends (Some request) result call laws (inr (refusal, (inl first, few, aside), counts, told)) = λ free.
     of_told statuses.Done result refusal call.err call.err_after told
-    (inr (open_gates refusal (gates_of request) call.work.files call.work.files_after one kept free first.0))
-complete_ends (Some request) result call one kept (inr (refusal, (inr (inl faulty), few, aside), counts, told)) = λ free.
+    (inr (open_gates refusal (gates_of request) call.work.files call.work.files_after laws free first.0))
+complete_ends (Some request) result call laws (inr (refusal, (inr (inl faulty), few, aside), counts, told)) = λ free.
     of_told statuses.Done result refusal call.err call.err_after told
     (inr (switch_is_fault refusal request call.work.port call.work.port_after faulty.0))
-complete_ends (Some request) result call one kept (inr (refusal, (inr (inr unput), few, aside), counts, told)) = λ free.
+complete_ends (Some request) result call laws (inr (refusal, (inr (inr unput), few, aside), counts, told)) = λ free.
     of_told statuses.Done result refusal call.err call.err_after told
     (inr (unwritten_fault refusal request call.work unput))

@@ -6,22 +6,24 @@ use Rattle.gal_io.specs.Files.{FilesState}
 use Rattle.packet_fields.specs.declared.packet.Packet.{Packet}
 use Rattle.element_lang.specs.Tree.{Tree}
 use Rattle.element_lang.specs.Accepted.{IsSource}
+use Rattle.flat_ir.specs.Program.{Program}
 use Rattle.flatten.specs.Flatten.{flat_of}
 use Rattle.split_model.specs.declared.split.Part.{Part}
 use Rattle.split_model.specs.Bounds.{IsBounded}
+use Rattle.split_validate.specs.SplitLines.{IsSplitText}
 use Rattle.resource_limits.specs.declared.limits.Limits.{Limits as Allowed}
 use Rattle.run_text.specs.declared.plan.Plan.{Plan}
 use Rattle.run_text.specs.Trace.{trace_of, schedule_of}
 use Rattle.pcap_trace.specs.declared.pcap.Pcap.{Pcap as Captured}
 use Rattle.gallium_cli.specs.declared.status.Status.TheVariants as statuses
 use Rattle.gallium_cli.specs.declared.refusal.Refusal.{Refusal}
-use Rattle.gallium_cli.specs.declared.refusal.Refusal.TheVariants.{Source, LongProgram, Limits, Trace, Schedule}
+use Rattle.gallium_cli.specs.declared.refusal.Refusal.TheVariants.{Source, LongProgram, Limits, Exceeded, Split, Trace, Schedule}
 use Rattle.gallium_cli.specs.declared.refusal.Refusal.TheVariants.{TooLong, ReadFault, NoMemory, Pcap}
-use Rattle.gallium_cli.specs.Words.{Splitting, Served, Within, Run}
-use Rattle.gallium_cli.specs.Roles.{Role, source, program, limits, trace, schedule, capture, size_of}
-use Rattle.gallium_cli.specs.Roles.{IsShort, IsGood, AreLimits, Gate, File, Choice, gates_of, plan_gates, split_gates}
-use Rattle.gallium_cli.specs.Roles.{event_gates, IsCaptured}
-use Rattle.gallium_cli.specs.Answers.{IsInput, IsOnlySource, IsProgram, IsPlan, IsSplitBy, IsTraffic}
+use Rattle.gallium_cli.specs.Words.{Splitting, Served, Within, Spelled, Run}
+use Rattle.gallium_cli.specs.Roles.{Role, source, program, limits, legal_split, trace, schedule, capture, size_of}
+use Rattle.gallium_cli.specs.Roles.{IsShort, IsGood, AreLimits, Gate, File, Choice, SplitFile, gates_of, plan_files}
+use Rattle.gallium_cli.specs.Roles.{plan_gates, given_gates, split_gates, event_gates, IsCaptured}
+use Rattle.gallium_cli.specs.Answers.{IsInput, IsOnlySource, IsProgram, IsPlan, IsGivenSplit, IsSplitBy, IsTraffic}
 use Rattle.gallium_cli.specs.Loads.{GoesOn, IsUnread, IsFileRefused, IsLoaded}
 use Rattle.gallium_cli.specs.Causes.{IsRefusedAt, IsPassed, IsFirstRefused, IsUnchosen}
 
@@ -32,6 +34,7 @@ pub small_size : (role : Role) → size_of role < 2 ^ 31
 small_size source = omega arith
 small_size program = omega arith
 small_size limits = omega arith
+small_size (legal_split f allowed) = omega arith
 small_size trace = omega arith
 small_size schedule = omega arith
 small_size capture = omega arith
@@ -53,6 +56,10 @@ unread_refused LongProgram program bytes name f f' loaded unread =
     told_text _ bytes (f.told name) loaded.1 ((loaded.0, unread.0), unread.1)
 unread_refused (Limits fault) limits bytes name f f' loaded unread =
     (unread.0, told_text _ bytes (f.told name) loaded.1 (loaded.0, unread.1))
+unread_refused (Split fault) (legal_split g allowed) bytes name f f' loaded unread =
+    told_text _ bytes (f.told name) loaded.1 (record { few = unread.0; size = loaded.0; cause = unread.1 })
+unread_refused (Exceeded excess) (legal_split g allowed) bytes name f f' loaded unread =
+    told_text _ bytes (f.told name) loaded.1 (record { few = unread.0; size = loaded.0; cause = unread.1 })
 unread_refused (Trace fault) trace bytes name f f' loaded unread =
     (unread.0, told_text _ bytes (f.told name) loaded.1 (loaded.0, unread.1))
 unread_refused (Schedule fault) schedule bytes name f f' loaded unread =
@@ -127,6 +134,8 @@ refused_later (Source fault) source name f g h goes refused = (refused.0, told_b
 refused_later (Source fault) program name f g h goes refused = (refused.0, told_before _ f g name goes refused.1)
 refused_later LongProgram program name f g h goes refused = told_before _ f g name goes refused
 refused_later (Limits fault) limits name f g h goes refused = (refused.0, told_before _ f g name goes refused.1)
+refused_later (Split fault) (legal_split k allowed) name f g h goes refused = told_before _ f g name goes refused
+refused_later (Exceeded excess) (legal_split k allowed) name f g h goes refused = told_before _ f g name goes refused
 refused_later (Trace fault) trace name f g h goes refused = (refused.0, told_before _ f g name goes refused.1)
 refused_later (Schedule fault) schedule name f g h goes refused = (refused.0, told_before _ f g name goes refused.1)
 refused_later (Pcap fault) capture name f g h goes refused = (refused.0, told_before _ f g name goes refused.1)
@@ -150,12 +159,20 @@ gate_before : (gate : Gate) (f g : FilesState) → GoesOn statuses.Done f g → 
 gate_before (File name role) f g goes passed = told_before (IsGood role) f g name goes passed
 gate_before (Choice s l shrink) f g goes (m, allowed, split, found, chosen) =
     (m, allowed, split, plan_before s l f g m allowed goes found, chosen)
+gate_before (SplitFile s l p) f g goes (m, allowed, found, good) =
+    (m, allowed, plan_before s l f g m allowed goes found, told_before _ f g p goes good)
 
 refused_before : (refusal : Refusal) (gate : Gate) (f g h : FilesState) → GoesOn statuses.Done f g → IsRefusedAt refusal gate g h
     → IsRefusedAt refusal gate f h
 refused_before refusal (File name role) f g h goes refused = refused_later refusal role name f g h goes refused
 refused_before refusal (Choice s l shrink) f g h goes (m, allowed, found, why) =
     (m, allowed, plan_before s l f g m allowed goes found, why)
+refused_before refusal (SplitFile s l p) f g h goes (m, allowed, found, refused) = (
+  m,
+  allowed,
+  plan_before s l f g m allowed goes found,
+  refused_later refusal (legal_split (flat_of m) allowed) p f g h goes refused,
+)
 
 pub first_before : (refusal : Refusal) (gates : List Gate) (f g h : FilesState) → GoesOn statuses.Done f g
     → IsFirstRefused refusal gates g h → IsFirstRefused refusal gates f h
@@ -211,6 +228,13 @@ plan_files_passed s l f m allowed found = (
   (passed_limits l f allowed found.limits, tt),
 )
 
+-- a split that is taken
+passed_split : (p : List ℕ) (f : FilesState) (g : Program) (allowed : Allowed) (split : List Part)
+    → IsGivenSplit f.told p g allowed split → IfSome (f.told p) (IsGood (legal_split g allowed))
+passed_split p f g allowed split given =
+    if_spelled (λ text. (length text ≤ size_of (legal_split g allowed)) × IsSplitText (length g.code) text split)
+    (IsGood (legal_split g allowed)) (f.told p) (λ text h. (h.0, (split, h.1, given.accepted))) given.spelled
+
 -- what a split goes through that is found
 pub split_passed : (by : Splitting) (s : List ℕ) (f : FilesState) (m : Tree) (split : List Part) (writeback : ℕ)
     → IsSplitBy by f.told s m split writeback → AllPassed (split_gates s by) f
@@ -218,6 +242,10 @@ split_passed Served s f m split writeback found = (passed_program s f m found.0.
 split_passed (Within l shrink) s f m split writeback (allowed, plan, choice, rows) = (
   passed_program s f m plan.program.source plan.program.bounded.few,
   (passed_limits l f allowed plan.limits, ((m, allowed, split, plan, choice.chosen), tt)),
+)
+split_passed (Spelled l p) s f m split writeback (allowed, plan, given, rows) = (
+  passed_program s f m plan.program.source plan.program.bounded.few,
+  (passed_limits l f allowed plan.limits, ((m, allowed, plan, passed_split p f (flat_of m) allowed split given), tt)),
 )
 
 -- gates that are passed, and then others
@@ -234,7 +262,24 @@ choice_refused refusal s l shrink f f' m allowed found why =
     refused_behind refusal (File s program ∷ (File l limits ∷ [])) (Choice s l shrink ∷ []) f f'
     (plan_files_passed s l f m allowed found) (inl (m, allowed, found, why))
 
+-- the split that a file spells isn't taken, behind the plan of two files that are passed
+pub given_refused : (refusal : Refusal) (s l p : List ℕ) (f g h : FilesState) (m : Tree) (q : Program)
+    (allowed : Allowed) → IsPlan f.told s l m allowed → q ≡ flat_of m → GoesOn statuses.Done f g
+    → IsFileRefused refusal (legal_split q allowed) p g h → IsFirstRefused refusal (given_gates s l p) f h
+given_refused refusal s l p f g h m q allowed found same goes refused =
+    let there =
+    refused_later refusal (legal_split (flat_of m) allowed) p f g h goes
+    (subst (λ (x : Program). IsFileRefused refusal (legal_split x allowed) p g h) same refused) in
+    refused_behind refusal (plan_files s l) (SplitFile s l p ∷ []) f h (plan_files_passed s l f m allowed found)
+    (inl (m, allowed, found, there))
+
 -- ## What is told after other reads
+
+-- the told split, as it was before other reads
+pub given_before : (p : List ℕ) (f g : FilesState) (q : Program) (allowed : Allowed) (split : List Part)
+    → GoesOn statuses.Done f g → IsGivenSplit g.told p q allowed split → IsGivenSplit f.told p q allowed split
+given_before p f g q allowed split goes is =
+    record { spelled = told_before _ f g p goes is.spelled; accepted = is.accepted }
 
 -- the told limits, as they were before other reads
 pub plan_told : (s l : List ℕ) (f g : FilesState) (m : Tree) (allowed : Allowed) → GoesOn statuses.Done f g

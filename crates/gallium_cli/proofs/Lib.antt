@@ -5,6 +5,8 @@ pub mod Written
 pub mod Reported
 pub mod Runnable
 pub mod Choices
+pub mod Walks
+pub mod Unkept
 pub mod Exact
 pub mod CauseTold
 pub mod Promised

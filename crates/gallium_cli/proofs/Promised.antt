@@ -1,5 +1,5 @@
 -- What follows from how a call ends.
-use Rattle.std.proofs.Common.{◌≡◌, ◌⊎◌, Bool, true, false, List, [], ◌∷◌, Option, Some, None, sym, subst, ap, ◌∙◌, inl, inr}
+use Rattle.std.proofs.Common.{◌≡◌, ◌⊎◌, ℕ, Bool, true, false, List, [], ◌∷◌, Option, Some, None, sym, subst, ap, ◌∙◌, inl, inr}
 use Rattle.std.proofs.Common.{refl}
 use Rattle.std.specs.Prelude.{is_some}
 use Rattle.gal_io.specs.Count.{Rose}
@@ -10,13 +10,16 @@ use Rattle.gal_io.specs.declared.sink.SinkEnd.TheVariants as ends
 use Rattle.switch_ir.specs.Port.{PortState}
 use Rattle.gallium_cli.specs.declared.status.Status.{Status}
 use Rattle.gallium_cli.specs.declared.status.Status.TheVariants as statuses
+use Rattle.gallium_cli.specs.declared.refusal.Excess.{Excess}
 use Rattle.gallium_cli.specs.declared.refusal.Refusal.{Refusal}
 use Rattle.gallium_cli.specs.declared.refusal.Refusal.TheVariants.{Usage, Exceeded, TooLong, ReadFault, WriteFault, SwitchFault}
 use Rattle.gallium_cli.specs.declared.refusal.Refusal.TheVariants.{NoMemory}
 use Rattle.gallium_cli.specs.Call.{Call, Work}
 use Rattle.gallium_cli.specs.Lines.{status_of}
-use Rattle.gallium_cli.specs.Words.{Request, Run, Compile, Replay, PcapIn, PcapOut, Served, Within, is_replay, request_of}
-use Rattle.gallium_cli.specs.Roles.{Gate, File, Choice, gates_of, names_in}
+use Rattle.gallium_cli.specs.Words.{Request, Run, Compile, Replay, Check, PcapIn, PcapOut, Served, Within, Spelled}
+use Rattle.gallium_cli.specs.Words.{is_replay, request_of}
+use Rattle.gallium_cli.specs.Roles.{Role, legal_split, Gate, File, Choice, SplitFile, gates_of, names_in}
+use Rattle.gallium_cli.specs.Loads.{IsFileRefused}
 use Rattle.gallium_cli.specs.Causes.{IsFirstRefused, IsSwitchKept, IsSwitchFaulty, IsNotWritten, IsIdle, IsDone, HasCause}
 use Rattle.gallium_cli.specs.Causes.{CountsFaults, after_line, EndsFor, Ends}
 use Rattle.gallium_cli.specs.Promises.{IsWriteFault, BlamesInput, IsReadOnce, IsUsage, IsOneOf, IsBlamed}
@@ -24,7 +27,7 @@ use Rattle.gallium_cli.specs.Promises.{CountsOne}
 use Rattle.gallium_cli.specs.Promises.{MayExceed, IsReplay, Promises}
 use Rattle.gallium_cli.proofs.Written.{at_most}
 use Rattle.gallium_cli.proofs.Counted.{no_switch_fault}
-use Rattle.gallium_cli.proofs.Choices.{IsGreatestOne, IsKeptUnexceeded}
+use Rattle.gallium_cli.proofs.Unkept.{Laws}
 use Rattle.gallium_cli.proofs.Exact.{exact_ends, complete_ends}
 use Rattle.gallium_cli.proofs.CauseTold.{cause_told}
 
@@ -127,6 +130,7 @@ no_usage : (refusal : Refusal) (gates : List Gate) (f f' : FilesState)
 no_usage Usage [] f f' is h = h
 no_usage Usage (File name role ∷ gates) f f' is (inl h) = h
 no_usage Usage (Choice s l shrink ∷ gates) f f' is (inl (m, allowed, found, never)) = never
+no_usage Usage (SplitFile s l p ∷ gates) f f' is (inl (m, allowed, found, never)) = never
 no_usage Usage (gate ∷ gates) f f' is (inr later) = no_usage Usage gates f f' is later.1
 no_usage _ gates f f' is h = is
 
@@ -157,6 +161,9 @@ long_rose (TooLong name) (File file role ∷ gates) f f' is (inr later) =
 long_rose (TooLong name) (Choice s l shrink ∷ gates) f f' is (inl (m, allowed, found, never)) = absurd never
 long_rose (TooLong name) (Choice s l shrink ∷ gates) f f' is (inr later) =
     long_rose (TooLong name) gates f f' is later.1
+long_rose (TooLong name) (SplitFile s l p ∷ gates) f f' is (inl (m, allowed, found, h)) = (h.3, inl h.2)
+long_rose (TooLong name) (SplitFile s l p ∷ gates) f f' is (inr later) =
+    let rest = long_rose (TooLong name) gates f f' is later.1 in (rest.0, inr rest.1)
 long_rose _ gates f f' is h = absurd is
 
 too_long_ends : (request : Option Request) (status : Status) (call : Call)
@@ -186,6 +193,9 @@ fault_rose (ReadFault name) (File file role ∷ gates) f f' is (inr later) =
 fault_rose (ReadFault name) (Choice s l shrink ∷ gates) f f' is (inl (m, allowed, found, never)) = absurd never
 fault_rose (ReadFault name) (Choice s l shrink ∷ gates) f f' is (inr later) =
     fault_rose (ReadFault name) gates f f' is later.1
+fault_rose (ReadFault name) (SplitFile s l p ∷ gates) f f' is (inl (m, allowed, found, h)) = (h.2, inl h.1)
+fault_rose (ReadFault name) (SplitFile s l p ∷ gates) f f' is (inr later) =
+    let rest = fault_rose (ReadFault name) gates f f' is later.1 in (rest.0, inr rest.1)
 fault_rose _ gates f f' is h = absurd is
 
 read_fault_ends : (request : Option Request) (status : Status) (call : Call)
@@ -207,40 +217,56 @@ IsExceededStatus _ = ⊥
 exceeded_gates : IsOfGates IsExceededStatus
 exceeded_gates = record { done = λ h. h; write = λ h. h; switch = λ h. h; memory = λ h. h }
 
--- no choice among these gates is of a split that may not shrink
+-- a file is read as no split
+abbrev IsNoSplit : Role → Type 0
+IsNoSplit (legal_split f allowed) = ⊥
+IsNoSplit _ = Unit {0}
+
+unsplit_unexceeded : (excess : Excess) (role : Role) (name : List ℕ) (f f' : FilesState) → IsNoSplit role
+    → IsFileRefused (Exceeded excess) role name f f' → ⊥
+unsplit_unexceeded excess (legal_split g allowed) name f f' none h = none
+unsplit_unexceeded excess _ name f f' none h = h
+
+-- no choice among these gates is of a split that may not shrink, and none is given
 abbrev AllMayShrink : List Gate → Type 0
 AllMayShrink [] = Unit {0}
-AllMayShrink (File name role ∷ gates) = AllMayShrink gates
+AllMayShrink (File name role ∷ gates) = IsNoSplit role × AllMayShrink gates
 AllMayShrink (Choice s l true ∷ gates) = AllMayShrink gates
 AllMayShrink (Choice s l false ∷ gates) = ⊥
+AllMayShrink (SplitFile s l p ∷ gates) = ⊥
 
 shrunk_unexceeded : (refusal : Refusal) (gates : List Gate) (f f' : FilesState) → AllMayShrink gates
     → IsExceededStatus (status_of refusal) → IsFirstRefused refusal gates f f' → ⊥
 shrunk_unexceeded (Exceeded excess) [] f f' may is h = h
-shrunk_unexceeded (Exceeded excess) (File name role ∷ gates) f f' may is (inl h) = h
+shrunk_unexceeded (Exceeded excess) (File name role ∷ gates) f f' may is (inl h) =
+    unsplit_unexceeded excess role name f f' may.0 h
 shrunk_unexceeded (Exceeded excess) (File name role ∷ gates) f f' may is (inr later) =
-    shrunk_unexceeded (Exceeded excess) gates f f' may is later.1
+    shrunk_unexceeded (Exceeded excess) gates f f' may.1 is later.1
 shrunk_unexceeded (Exceeded excess) (Choice s l true ∷ gates) f f' may is (inl (m, allowed, found, (over, never, told))) =
     never
 shrunk_unexceeded (Exceeded excess) (Choice s l true ∷ gates) f f' may is (inr later) =
     shrunk_unexceeded (Exceeded excess) gates f f' may is later.1
 shrunk_unexceeded (Exceeded excess) (Choice s l false ∷ gates) f f' may is h = may
+shrunk_unexceeded (Exceeded excess) (SplitFile s l p ∷ gates) f f' may is h = may
 shrunk_unexceeded _ gates f f' may is h = is
 
 may_exceed : (refusal : Refusal) (request : Request) (f f' : FilesState) → IsExceededStatus (status_of refusal)
     → IsFirstRefused refusal (gates_of request) f f' → MayExceed (Some request)
-may_exceed refusal (Run s t) f f' is first = shrunk_unexceeded refusal (gates_of (Run s t)) f f' tt is first
+may_exceed refusal (Run s t) f f' is first = shrunk_unexceeded refusal (gates_of (Run s t)) f f' (tt, (tt, tt)) is first
 may_exceed refusal (Compile s l false) f f' is first = tt
 may_exceed refusal (Compile s l true) f f' is first =
-    shrunk_unexceeded refusal (gates_of (Compile s l true)) f f' tt is first
+    shrunk_unexceeded refusal (gates_of (Compile s l true)) f f' (tt, (tt, tt)) is first
 may_exceed refusal (Replay s t c Served) f f' is first =
-    shrunk_unexceeded refusal (gates_of (Replay s t c Served)) f f' tt is first
+    shrunk_unexceeded refusal (gates_of (Replay s t c Served)) f f' (tt, (tt, (tt, tt))) is first
 may_exceed refusal (Replay s t c (Within l false)) f f' is first = tt
 may_exceed refusal (Replay s t c (Within l true)) f f' is first =
-    shrunk_unexceeded refusal (gates_of (Replay s t c (Within l true))) f f' tt is first
-may_exceed refusal (PcapIn c port) f f' is first = shrunk_unexceeded refusal (gates_of (PcapIn c port)) f f' tt is first
+    shrunk_unexceeded refusal (gates_of (Replay s t c (Within l true))) f f' (tt, (tt, (tt, (tt, tt)))) is first
+may_exceed refusal (Replay s t c (Spelled l p)) f f' is first = tt
+may_exceed refusal (Check s l p) f f' is first = tt
+may_exceed refusal (PcapIn c port) f f' is first =
+    shrunk_unexceeded refusal (gates_of (PcapIn c port)) f f' (tt, tt) is first
 may_exceed refusal (PcapOut t big nano) f f' is first =
-    shrunk_unexceeded refusal (gates_of (PcapOut t big nano)) f f' tt is first
+    shrunk_unexceeded refusal (gates_of (PcapOut t big nano)) f f' (tt, tt) is first
 
 exceeded_ends : (request : Option Request) (status : Status) (call : Call)
     → EndsFor request status call → IsExceededStatus status → MayExceed request
@@ -357,9 +383,9 @@ once_ends (Some request) status call (inr (refusal, (why, few, aside), counts, (
     (few, λ is. absurd (subst IsNotDone (sym told ∙ is) (told_not_done refusal end)))
 
 -- all that is promised follows from how a call ends
-pub promised : (status : Status) (call : Call) → IsGreatestOne → IsKeptUnexceeded → Ends status call
+pub promised : (status : Status) (call : Call) → Laws → Ends status call
     → Promises status call
-promised status call one kept end =
+promised status call laws end =
     let request = request_of call.words in
     record {
       ends = end;
@@ -371,9 +397,9 @@ promised status call one kept end =
       tells = tells_ends request status call end;
       once = once_ends request status call end;
       usage = usage_ends request status call end;
-      exact = exact_ends request status call one kept end;
-      cause = cause_told request status call one kept end;
-      complete = complete_ends request status call one kept end;
+      exact = exact_ends request status call laws end;
+      cause = cause_told request status call laws end;
+      complete = complete_ends request status call laws end;
       exceeded = λ is. exceeded_ends request status call end (subst IsExceededStatus (sym is) tt);
       too_long = λ is. too_long_ends request status call end (subst IsTooLong (sym is) tt);
       read_fault = λ is. read_fault_ends request status call end (subst IsReadFault (sym is) tt);

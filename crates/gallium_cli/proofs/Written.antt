@@ -1,7 +1,7 @@
 -- What a text that was written leads to, and what a call that came to none.
 use Rattle.std.proofs.Common.{◌≡◌, ◌⊎◌, ◌≤◌, ◌+◌, ◌++◌, ℕ, Bool, true, false, List, length, Option, Some, Result, Ok, Err}
 use Rattle.std.proofs.Common.{IfErr, inl, inr, refl, sym, ap, subst, ◌∙◌, append_assoc, arith}
-use Rattle.std.specs.Prelude.{OnOk}
+use Rattle.std.specs.Prelude.{OnOk, codes}
 use Rattle.gal_io.specs.Count.{Rose}
 use Rattle.gal_io.specs.Files.{FilesState}
 use Rattle.gal_io.specs.Sink.{SinkState}
@@ -27,10 +27,11 @@ use Rattle.gallium_cli.specs.declared.status.Status.TheVariants as statuses
 use Rattle.gallium_cli.specs.declared.refusal.Refusal.{Refusal}
 use Rattle.gallium_cli.specs.declared.refusal.Refusal.TheVariants.{WriteFault, SwitchFault, NoMemory}
 use Rattle.gallium_cli.specs.Call.{work_of}
-use Rattle.gallium_cli.specs.Words.{Splitting, Served, Within, Request, Replay, is_replay}
+use Rattle.gallium_cli.specs.Lines.{line_end}
+use Rattle.gallium_cli.specs.Words.{Splitting, Served, Within, Spelled, Request, Replay, is_replay}
 use Rattle.gallium_cli.specs.Roles.{gates_of, split_gates, event_gates, names_of, split_reads}
-use Rattle.gallium_cli.specs.Answers.{IsAnswer, IsProgram, IsPlan, IsTraffic, IsChoice, IsNoChoice, IsSplitBy}
-use Rattle.gallium_cli.specs.Answers.{IsReport, given, heading_text, compiled_text}
+use Rattle.gallium_cli.specs.Answers.{IsAnswer, IsProgram, IsPlan, IsTraffic, IsChoice, IsNoChoice, IsGivenSplit}
+use Rattle.gallium_cli.specs.Answers.{IsSplitBy, IsReport, given, heading_text, compiled_text, checked_text}
 use Rattle.gallium_cli.specs.Loads.{GoesOn, raised_by}
 use Rattle.gallium_cli.specs.Puts.{IsPut, IsNotPut}
 use Rattle.gallium_cli.specs.Causes.{IsFirstRefused, IsNotWritten, IsSwitchKept, IsDone, HasCause, most_reads}
@@ -122,6 +123,27 @@ chosen_split told s l shrink m allowed q split found same chosen legal keeps = (
   refl,
 )
 
+pub given_split : (told : List ℕ → Option (List ℕ)) (s l p : List ℕ) (m : Tree) (allowed : Limits) (q : Program)
+    (split : List Part) → IsPlan told s l m allowed → q ≡ flat_of m → IsGivenSplit told p q allowed split
+    → IsSplitBy (Spelled l p) told s m split allowed.writeback
+given_split told s l p m allowed q split found same given =
+    (allowed, found, subst (λ (x : Program). IsGivenSplit told p x allowed split) same given, refl)
+
+-- the line of a split of the flat program of a middlebox
+pub check_printed : (p q : Program) (split : List Part) (writeback : ℕ) (text sent : List ℕ) → p ≡ q
+    → text ≡ checked_text p split writeback → sent ≡ text → sent ≡ checked_text q split writeback
+check_printed p q split writeback text sent same printed put =
+    put ∙ printed ∙ ap (λ (x : Program). checked_text x split writeback) same
+
+-- the parts of a line, one after the other, are the line of a split
+pub told_check : (f : Program) (split : List Part) (writeback : ℕ) (counts : Counts) (words sent head some all : List ℕ)
+    → counts ≡ counts_of f split writeback → words ≡ counts_text counts → sent ≡ words → head ≡ codes "ok "
+    → some ≡ head ++ sent → all ≡ some ++ line_end → all ≡ checked_text f split writeback
+told_check f split writeback counts words sent head some all counted worded same headed one two =
+    two ∙ ap (λ x. x ++ line_end) one ∙ append_assoc head sent line_end
+    ∙ ap (λ x. x ++ (sent ++ line_end)) headed
+    ∙ ap (λ x. codes "ok " ++ (x ++ line_end)) (same ∙ worded ∙ ap counts_text counted)
+
 -- the text that tells a split of the flat program of a middlebox
 pub split_printed : (p q : Program) (split : List Part) (writeback : ℕ) (text sent : List ℕ) → p ≡ q
     → text ≡ compiled_text p split writeback → sent ≡ text → sent ≡ compiled_text q split writeback
@@ -158,6 +180,7 @@ reads_in_all a b x y z one two = omega arith
 replay_names : (s t c : List ℕ) (by : Splitting) → length (names_of (Replay s t c by)) ≡ split_reads s by + 2
 replay_names s t c Served = refl
 replay_names s t c (Within l shrink) = refl
+replay_names s t c (Spelled l p) = refl
 
 -- all reads of a replay
 pub replay_reads : (s t c : List ℕ) (by : Splitting) (f g h : FilesState) → g.reads ≡ raised_by (split_reads s by) f.reads

@@ -14,6 +14,8 @@ use Rattle.split_model.specs.Legal.{IsLegal}
 use Rattle.split_model.specs.Bounds.{IsBounded}
 use Rattle.split_validate.specs.SplitText.{split_text}
 use Rattle.split_validate.specs.CountsText.{counts_text}
+use Rattle.split_validate.specs.SplitLines.{IsSplitText}
+use Rattle.split_validate.specs.Validated.{IsAccepted}
 use Rattle.resource_limits.specs.declared.limits.Limits.{Limits}
 use Rattle.resource_limits.specs.Counts.{counts_of}
 use Rattle.resource_limits.specs.Kept.{KeepsLimits}
@@ -44,9 +46,11 @@ use Rattle.replay_contracts.specs.declared.job.Replayed.{Replayed}
 use Rattle.replay_contracts.specs.Given.{Given, setup_for, whole, whole_runs}
 use Rattle.replay_contracts.specs.Promise.{state_for}
 use Rattle.replay_contracts.specs.Replayer.{IsReported}
-use Rattle.gallium_cli.specs.Words.{Splitting, Served, Within, Request, Run, Compile, Replay, PcapIn, PcapOut}
+use Rattle.gallium_cli.specs.Words.{Splitting, Served, Within, Spelled}
+use Rattle.gallium_cli.specs.Words.{Request, Run, Compile, Replay, Check, PcapIn, PcapOut}
 use Rattle.gallium_cli.specs.Lines.{line_end}
-use Rattle.gallium_cli.specs.Roles.{source, program, limits, trace, schedule, capture, size_of, AreLimits, IsCaptured}
+use Rattle.gallium_cli.specs.Roles.{source, program, limits, legal_split, trace, schedule, capture, size_of}
+use Rattle.gallium_cli.specs.Roles.{AreLimits, IsCaptured}
 
 -- the told contents spell this middlebox and these packets, each within its size
 pub record IsInput (told : List ℕ → Option (List ℕ)) (s t : List ℕ) (m : Tree) (packets : List Packet) : Type 0 where
@@ -94,6 +98,10 @@ abbrev pub compiled_text : Program → List Part → ℕ → List ℕ
 compiled_text f split writeback =
     heading_text (length f.code) (counts_text (counts_of f split writeback)) ++ (listing f ++ split_text split)
 
+-- the line of a split that may be taken: what it takes
+abbrev pub checked_text : Program → List Part → ℕ → List ℕ
+checked_text f split writeback = codes "ok " ++ (counts_text (counts_of f split writeback) ++ line_end)
+
 -- the split is the one that is chosen for these limits; it is legal and keeps them
 pub record IsChoice (f : Program) (allowed : Limits) (shrink : Bool) (split : List Part) : Type 0 where
   pub chosen : IsChosen f allowed shrink split
@@ -105,12 +113,23 @@ pub record IsNoChoice (f : Program) (split : List Part) : Type 0 where
   pub least : IsGreatestSplit f 0 false split
   pub legal : IsLegal f split
 
+-- the told content spells this split; it is legal and keeps these limits
+pub record IsGivenSplit (told : List ℕ → Option (List ℕ)) (p : List ℕ) (f : Program) (allowed : Limits)
+    (split : List Part) : Type 0 where
+  pub spelled : IfSome (told p)
+      (λ text. (length text ≤ size_of (legal_split f allowed)) × IsSplitText (length f.code) text split)
+  pub accepted : IsAccepted f split allowed
+
 -- The told contents spell this middlebox and this split of it, with so many rows in each write-back table: everything is
--- left to the server, and there are none; or it is the one that is chosen for these limits.
+-- left to the server, and there are none; or it is the one that is chosen for these limits; or it is the one that a file
+-- spells, which keeps them.
 abbrev pub IsSplitBy : Splitting → (List ℕ → Option (List ℕ)) → List ℕ → Tree → List Part → ℕ → Type 0
 IsSplitBy Served told s m split writeback = IsProgram told s m × IsNoChoice (flat_of m) split × (writeback ≡ 0)
 IsSplitBy (Within l shrink) told s m split writeback =
     (allowed : Limits) × IsPlan told s l m allowed × IsChoice (flat_of m) allowed shrink split
+    × (writeback ≡ allowed.writeback)
+IsSplitBy (Spelled l p) told s m split writeback =
+    (allowed : Limits) × IsPlan told s l m allowed × IsGivenSplit told p (flat_of m) allowed split
     × (writeback ≡ allowed.writeback)
 
 -- ## Replays
@@ -191,8 +210,9 @@ IsToldTrace told t packets = IfSome (told t) (λ text. (length text ≤ size_of 
 -- ## Answers
 
 -- A text that answers a request: for some middlebox, packets and events that the files spell, what the source does to
--- the packets one after the other; or the split that is asked for; or the report of a replay by that split. Or the trace
--- of a capture's packets by one port, or the bytes of the capture of a trace's packets.
+-- the packets one after the other; or the split that is asked for; or the report of a replay by that split; or what a
+-- split takes that a file spells. Or the trace of a capture's packets by one port, or the bytes of the capture of a
+-- trace's packets.
 abbrev pub IsAnswer : List ℕ → Request → (List ℕ → Option (List ℕ)) → PortState → PortState → Type 0
 IsAnswer text (Run s t) told port port_after =
     (m : Tree) × (packets : List Packet) × IsInput told s t m packets × (text ≡ serial_answer m packets)
@@ -203,6 +223,9 @@ IsAnswer text (Replay s t c by) told port port_after =
     (m : Tree) × (split : List Part) × (writeback : ℕ) × (packets : List Packet) × (plan : Plan) × (replayed : Replayed)
     × IsSplitBy by told s m split writeback × IsTraffic told t c packets plan
     × IsReport text m (given m split writeback packets) plan replayed port port_after
+IsAnswer text (Check s l p) told port port_after =
+    (m : Tree) × (split : List Part) × (writeback : ℕ)
+    × IsSplitBy (Spelled l p) told s m split writeback × (text ≡ checked_text (flat_of m) split writeback)
 IsAnswer text (PcapIn c by) told port port_after =
     (p : Pcap) × IsToldCapture told c p × (text ≡ trace_text (packets_of p by))
 IsAnswer text (PcapOut t big nano) told port port_after =

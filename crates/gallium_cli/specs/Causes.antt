@@ -1,14 +1,11 @@
 -- How a call ends: why each refusal comes, and what it leaves on out and err.
-use Rattle.std.specs.Prelude.{◌≡◌, ◌≤◌, ◌⊎◌, ℕ, Bool, true, false, List, [], ◌∷◌, length, take}
+use Rattle.std.specs.Prelude.{◌≡◌, ◌≤◌, ◌⊎◌, ℕ, Bool, true, false, List, length, take}
 use Rattle.std.specs.Prelude.{Option, Some, None, IfSome, is_some}
-use Rattle.std.specs.Option.{option_map}
 use Rattle.std.specs.Io.KnownBytes.{append_known}
 use Rattle.gal_io.specs.Count.{Rose, IsCountedIf}
 use Rattle.gal_io.specs.Files.{FilesState}
 use Rattle.gal_io.specs.Sink.{SinkState, Writes}
-use Rattle.state_store.specs.declared.object.ObjectDecl.{ObjectDecl}
 use Rattle.element_lang.specs.Tree.{Tree}
-use Rattle.flat_ir.specs.Listing.{name_of}
 use Rattle.flatten.specs.Flatten.{flat_of}
 use Rattle.resource_limits.specs.declared.limits.Limits.{Limits}
 use Rattle.resource_limits.specs.declared.exceeding.Over.{Over}
@@ -20,24 +17,15 @@ use Rattle.gal_io.specs.declared.sink.SinkEnd.{SinkEnd}
 use Rattle.gal_io.specs.declared.sink.SinkEnd.TheVariants as ends
 use Rattle.gallium_cli.specs.declared.status.Status.{Status}
 use Rattle.gallium_cli.specs.declared.status.Status.TheVariants as statuses
-use Rattle.gallium_cli.specs.declared.refusal.Excess.{Excess}
 use Rattle.gallium_cli.specs.declared.refusal.Refusal.{Refusal}
 use Rattle.gallium_cli.specs.declared.refusal.Refusal.TheVariants.{Usage, Exceeded, WriteFault, SwitchFault, NoMemory}
 use Rattle.gallium_cli.specs.Call.{Call, Work}
 use Rattle.gallium_cli.specs.Words.{Request, is_replay, request_of}
 use Rattle.gallium_cli.specs.Lines.{status_of, line_of}
-use Rattle.gallium_cli.specs.Roles.{Gate, File, Choice, IsGood, gates_of, names_of}
+use Rattle.gallium_cli.specs.Roles.{legal_split, Gate, File, Choice, SplitFile, IsFirst, IsGood, gates_of, names_of}
+use Rattle.gallium_cli.specs.Splits.{excess_of}
 use Rattle.gallium_cli.specs.Answers.{IsPlan, IsAnswer}
 use Rattle.gallium_cli.specs.Loads.{IsFileRefused, GoesOn, raised_by}
-
--- what is told of a limit that is exceeded
-abbrev pub excess_of : List ObjectDecl → Over → Excess
-excess_of objects over = record {
-  limit = over.limit;
-  object = option_map (name_of objects) over.object;
-  have = over.have;
-  allowed = over.allowed;
-}
 
 -- why no split of a program is chosen: the greatest one exceeds a limit, and this one first, or no memory was found
 abbrev pub IsUnchosen : Refusal → Program → Limits → Bool → Type 0
@@ -53,23 +41,27 @@ IsOverLimit refusal s l shrink told =
 
 -- ## The first gate that isn't passed
 
--- why a request goes no further: a file is refused, or no split is chosen
+-- why a request goes no further: a file is refused, or no split is chosen, or the one that a file spells isn't taken
 abbrev pub IsRefusedAt : Refusal → Gate → FilesState → FilesState → Type 0
 IsRefusedAt refusal (File name role) f f' = IsFileRefused refusal role name f f'
 IsRefusedAt refusal (Choice s l shrink) f f' = IsOverLimit refusal s l shrink f.told
+IsRefusedAt refusal (SplitFile s l p) f f' =
+    (m : Tree) × (allowed : Limits)
+    × IsPlan f.told s l m allowed × IsFileRefused refusal (legal_split (flat_of m) allowed) p f f'
 
--- a file is good, where it is told, and a split is chosen
+-- a file is good, where it is told, and a split is chosen, or taken
 abbrev pub IsPassed : Gate → FilesState → Type 0
 IsPassed (File name role) f = IfSome (f.told name) (IsGood role)
 IsPassed (Choice s l shrink) f =
     (m : Tree) × (allowed : Limits) × (split : List Part)
     × IsPlan f.told s l m allowed × IsChosen (flat_of m) allowed shrink split
+IsPassed (SplitFile s l p) f =
+    (m : Tree) × (allowed : Limits)
+    × IsPlan f.told s l m allowed × IfSome (f.told p) (IsGood (legal_split (flat_of m) allowed))
 
 -- the gates before one are passed, and that one isn't
 abbrev pub IsFirstRefused : Refusal → List Gate → FilesState → FilesState → Type 0
-IsFirstRefused refusal [] f f' = ⊥
-IsFirstRefused refusal (gate ∷ gates) f f' =
-    IsRefusedAt refusal gate f f' ⊎ (IsPassed gate f × IsFirstRefused refusal gates f f')
+IsFirstRefused refusal gates f f' = IsFirst (λ gate. IsPassed gate f) (λ gate. IsRefusedAt refusal gate f f') gates
 
 -- ## How a request ends
 

@@ -2,6 +2,7 @@ pub mod Status
 pub mod Words
 pub mod Lines
 pub mod Roles
+pub mod Splits
 pub mod Runnable
 pub mod Answers
 pub mod Loads

@@ -17,8 +17,10 @@ use Rattle.run_text.specs.declared.refusal.LinesError.TheVariants as lines
 use Rattle.gallium_cli.specs.declared.status.Status.{Status}
 use Rattle.gallium_cli.specs.declared.status.Status.TheVariants as statuses
 use Rattle.gallium_cli.specs.declared.refusal.Excess.{Excess}
+use Rattle.gallium_cli.specs.declared.refusal.SplitFault.{SplitFault}
+use Rattle.gallium_cli.specs.declared.refusal.SplitFault.TheVariants as splits
 use Rattle.gallium_cli.specs.declared.refusal.Refusal.{Refusal}
-use Rattle.gallium_cli.specs.declared.refusal.Refusal.TheVariants.{Usage, Source, LongProgram, Limits, Exceeded}
+use Rattle.gallium_cli.specs.declared.refusal.Refusal.TheVariants.{Usage, Source, LongProgram, Limits, Exceeded, Split}
 use Rattle.gallium_cli.specs.declared.refusal.Refusal.TheVariants.{Trace, Schedule, TooLong, ReadFault, WriteFault}
 use Rattle.gallium_cli.specs.declared.refusal.Refusal.TheVariants.{SwitchFault, NoMemory, Pcap}
 
@@ -66,6 +68,13 @@ excess_line e =
     codes "limit " ++ (limit_name e.limit
     ++ (owner_text e.object ++ (codes ": have " ++ numbers_text e.have e.allowed)))
 
+-- the line of a split text that is refused: where no such text goes on, or which rule its split breaks at which
+-- instruction
+abbrev pub split_line : SplitFault → List ℕ
+split_line (splits.Line number) = codes "split: line " ++ (decimal number ++ line_end)
+split_line (splits.Rule rule instruction) =
+    codes "split: rule " ++ (decimal rule ++ (codes " at " ++ (decimal instruction ++ line_end)))
+
 -- what is wrong with a line
 abbrev pub kind_text : LineKind → List ℕ
 kind_text kinds.Form = codes "form"
@@ -97,6 +106,7 @@ status_of (Source fault) = statuses.Source
 status_of LongProgram = statuses.Source
 status_of (Limits fault) = statuses.Limits
 status_of (Exceeded excess) = statuses.Exceeded
+status_of (Split fault) = statuses.Split
 status_of (Trace fault) = statuses.Trace
 status_of (Schedule fault) = statuses.Schedule
 status_of (TooLong name) = statuses.TooLong
@@ -112,6 +122,7 @@ line_of (Source fault) = source_line fault
 line_of LongProgram = codes "source: more than 4096 instructions" ++ line_end
 line_of (Limits fault) = limits_line fault
 line_of (Exceeded excess) = excess_line excess
+line_of (Split fault) = split_line fault
 line_of (Trace fault) = lines_line (codes "trace") (codes "packets") fault
 line_of (Schedule fault) = lines_line (codes "schedule") (codes "events") fault
 line_of (TooLong name) = codes "too long: " ++ (name.now ++ line_end)

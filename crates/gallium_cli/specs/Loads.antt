@@ -19,10 +19,11 @@ use Rattle.run_text.specs.declared.refusal.LinesError.TheVariants as lines
 use Rattle.gallium_cli.specs.declared.status.Status.{Status}
 use Rattle.gallium_cli.specs.declared.status.Status.TheVariants as statuses
 use Rattle.gallium_cli.specs.declared.refusal.Refusal.{Refusal}
-use Rattle.gallium_cli.specs.declared.refusal.Refusal.TheVariants.{Source, LongProgram, Limits, Trace, Schedule}
+use Rattle.gallium_cli.specs.declared.refusal.Refusal.TheVariants.{Source, LongProgram, Limits, Exceeded, Split, Trace, Schedule}
 use Rattle.gallium_cli.specs.declared.refusal.Refusal.TheVariants.{TooLong, ReadFault, NoMemory, Pcap}
-use Rattle.gallium_cli.specs.Roles.{Role, source, program, limits, trace, schedule, capture, size_of}
+use Rattle.gallium_cli.specs.Roles.{Role, source, program, limits, legal_split, trace, schedule, capture, size_of}
 use Rattle.gallium_cli.specs.Roles.{IsSpelled, IsGood, IsBad}
+use Rattle.gallium_cli.specs.Splits.{IsUnkept, IsBadSplit}
 
 -- the text is refused for this cause, and for no other
 pub record IsOnlyCause (fault : TextError) (text : List ℕ) : Type 0 where
@@ -63,6 +64,9 @@ IsUnread (Source fault) source text = (fault ≢ errors.NoMemory) × ¬ (IsSpell
 IsUnread (Source fault) program text = (fault ≢ errors.NoMemory) × ¬ (IsSpelled source text) × IsOnlyCause fault text
 IsUnread LongProgram program text = IsSpelled source text × ¬ (IsSpelled program text)
 IsUnread (Limits fault) limits text = (fault ≢ faults.NoMemory) × (texts.refusal_of text ≡ Some fault)
+IsUnread (Split fault) (legal_split f allowed) text = (length f.code ≤ 4096) × IsUnkept (Split fault) f allowed text
+IsUnread (Exceeded excess) (legal_split f allowed) text =
+    (length f.code ≤ 4096) × IsUnkept (Exceeded excess) f allowed text
 IsUnread (Trace fault) trace text = (fault ≢ lines.NoMemory) × (trace_of text ≡ Err fault)
 IsUnread (Schedule fault) schedule text = (fault ≢ lines.NoMemory) × (schedule_of text ≡ Err fault)
 IsUnread (Pcap fault) capture text = (fault ≢ pcaps.NoMemory) × ¬ (IsSpelled capture text) × IsOnlyFault fault text
@@ -75,6 +79,9 @@ IsFileRefused (Source fault) source name f f' = (fault ≢ errors.NoMemory) × I
 IsFileRefused (Source fault) program name f f' = (fault ≢ errors.NoMemory) × IfSome (f.told name) (IsBadSource fault)
 IsFileRefused LongProgram program name f f' = IfSome (f.told name) IsLongProgram
 IsFileRefused (Limits fault) limits name f f' = (fault ≢ faults.NoMemory) × IfSome (f.told name) (AreBadLimits fault)
+IsFileRefused (Split fault) (legal_split g allowed) name f f' = IfSome (f.told name) (IsBadSplit (Split fault) g allowed)
+IsFileRefused (Exceeded excess) (legal_split g allowed) name f f' =
+    IfSome (f.told name) (IsBadSplit (Exceeded excess) g allowed)
 IsFileRefused (Trace fault) trace name f f' = (fault ≢ lines.NoMemory) × IfSome (f.told name) (IsBadTrace fault)
 IsFileRefused (Schedule fault) schedule name f f' =
     (fault ≢ lines.NoMemory) × IfSome (f.told name) (IsBadSchedule fault)

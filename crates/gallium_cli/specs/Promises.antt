@@ -15,19 +15,20 @@ use Rattle.element_text.specs.declared.error.TextError.TheVariants as errors
 use Rattle.pcap_trace.specs.Refused as pcap
 use Rattle.pcap_trace.specs.declared.refusal.PcapError.TheVariants as pcaps
 use Rattle.gallium_cli.specs.declared.status.Status.{Status}
-use Rattle.gallium_cli.specs.declared.status.Status.TheVariants.{Done, Usage, Source, Limits as BadLimits, Exceeded}
+use Rattle.gallium_cli.specs.declared.status.Status.TheVariants.{Done, Usage, Source, Limits as BadLimits, Exceeded, Split}
 use Rattle.gallium_cli.specs.declared.status.Status.TheVariants.{Trace, Schedule, TooLong, ReadFault, WriteFault}
 use Rattle.gallium_cli.specs.declared.status.Status.TheVariants.{SwitchFault, NoMemory, Pcap}
 use Rattle.gallium_cli.specs.declared.refusal.Refusal.{Refusal}
 use Rattle.gallium_cli.specs.declared.refusal.Refusal.TheVariants as refusals
 use Rattle.gallium_cli.specs.Call.{Call, Work}
-use Rattle.gallium_cli.specs.Words.{Request, Compile, Replay, Within, is_replay, request_of}
+use Rattle.gallium_cli.specs.Words.{Request, Compile, Replay, Check, Within, Spelled, is_replay, request_of}
 use Rattle.gallium_cli.specs.Lines.{status_of, line_of}
-use Rattle.gallium_cli.specs.Roles.{Role, source, program, limits, trace, schedule, capture, size_of}
-use Rattle.gallium_cli.specs.Roles.{Gate, File, Choice, gates_of, names_of}
+use Rattle.gallium_cli.specs.Roles.{Role, source, program, limits, legal_split, trace, schedule, capture, size_of}
+use Rattle.gallium_cli.specs.Roles.{Gate, File, Choice, SplitFile, IsFirst, gates_of, names_of}
 use Rattle.gallium_cli.specs.Roles.{IsGood, IsBad, IsShort, AreLimits}
 use Rattle.gallium_cli.specs.Loads.{IsLongProgram, AreBadLimits, IsBadTrace, IsBadSchedule}
-use Rattle.gallium_cli.specs.Causes.{IsDone, CountsFaults, Ends, excess_of, most_reads}
+use Rattle.gallium_cli.specs.Splits.{SpellsLegal, IsBadSplit, excess_of}
+use Rattle.gallium_cli.specs.Causes.{IsDone, CountsFaults, Ends, most_reads}
 
 -- an end that writing and memory may bring whatever the words are
 abbrev pub IsWriteFault : Status → Type 0
@@ -63,30 +64,35 @@ pub record IsToldPlan (told : List ℕ → Option (List ℕ)) (s l : List ℕ) (
   pub short : IsShort m
   pub limits : IsSomeAnd (told l) (λ text. (length text ≤ size_of limits) × AreLimits text allowed)
 
--- a content is told and good, and a split is there to choose
+-- a content is told and good, and a split is there to choose, or to take
 abbrev pub IsOpen : (List ℕ → Option (List ℕ)) → Gate → Type 0
 IsOpen told (File name role) = IsSomeAnd (told name) (IsGood role)
 IsOpen told (Choice s l shrink) =
     (m : Tree) × (allowed : Limits) × (split : List Part)
     × IsToldPlan told s l m allowed × choice.IsChosen (flat_of m) allowed shrink split
+IsOpen told (SplitFile s l p) =
+    (m : Tree) × (allowed : Limits)
+    × IsToldPlan told s l m allowed × IsSomeAnd (told p) (IsGood (legal_split (flat_of m) allowed))
 
 abbrev pub AllOpen : (List ℕ → Option (List ℕ)) → List Gate → Type 0
 AllOpen told [] = Unit {0}
 AllOpen told (gate ∷ gates) = IsOpen told gate × AllOpen told gates
 
--- the status of a file that spells nothing
-abbrev pub refused_status : Role → Status
-refused_status source = Source
-refused_status program = Source
-refused_status limits = BadLimits
-refused_status trace = Trace
-refused_status schedule = Schedule
-refused_status capture = Pcap
+-- the status of a text that doesn't spell what it is to; a legal split exceeds a limit
+abbrev pub IsStatusOf : Status → Role → List ℕ → Type 0
+IsStatusOf status source text = status ≡ Source
+IsStatusOf status program text = status ≡ Source
+IsStatusOf status limits text = status ≡ BadLimits
+IsStatusOf status (legal_split f allowed) text =
+    ((status ≡ Split) × ¬ (SpellsLegal f text)) ⊎ ((status ≡ Exceeded) × SpellsLegal f text)
+IsStatusOf status trace text = status ≡ Trace
+IsStatusOf status schedule text = status ≡ Schedule
+IsStatusOf status capture text = status ≡ Pcap
 
--- a text is above its size, or spells nothing
+-- a text is above its size, or doesn't spell what it is to
 abbrev pub IsRefusedAs : Role → Status → List ℕ → Type 0
 IsRefusedAs role status text =
-    ((status ≡ TooLong) × (size_of role < length text)) ⊎ ((status ≡ refused_status role) × IsBad role text)
+    ((status ≡ TooLong) × (size_of role < length text)) ⊎ (IsStatusOf status role text × IsBad role text)
 
 -- a content is told and refused with this status, or the greatest split exceeds a limit and may not shrink
 abbrev pub IsShut : (List ℕ → Option (List ℕ)) → Gate → Status → Type 0
@@ -95,12 +101,13 @@ IsShut told (Choice s l shrink) status =
     (status ≡ Exceeded)
     × ((m : Tree) × (allowed : Limits) × (over : Over)
     × IsToldPlan told s l m allowed × choice.IsRefused (flat_of m) allowed shrink over)
+IsShut told (SplitFile s l p) status =
+    (m : Tree) × (allowed : Limits)
+    × IsToldPlan told s l m allowed × IsSomeAnd (told p) (IsRefusedAs (legal_split (flat_of m) allowed) status)
 
 -- the gates before one are open, and that one is shut with this status
 abbrev pub IsFirstShut : (List ℕ → Option (List ℕ)) → List Gate → Status → Type 0
-IsFirstShut told [] status = ⊥
-IsFirstShut told (gate ∷ gates) status =
-    IsShut told gate status ⊎ (IsOpen told gate × IsFirstShut told gates status)
+IsFirstShut told gates status = IsFirst (IsOpen told) (λ gate. IsShut told gate status) gates
 
 -- words with no form end in this status, unless the line can't be written; those with a form never do
 abbrev pub IsUsage : Option Request → Status → Type 0
@@ -124,6 +131,8 @@ IsCause (refusals.Source fault) source text = (fault ≢ errors.NoMemory) × IsB
 IsCause (refusals.Source fault) program text = (fault ≢ errors.NoMemory) × IsBad source text × IsRefused text fault
 IsCause refusals.LongProgram program text = IsLongProgram text
 IsCause (refusals.Limits fault) limits text = AreBadLimits fault text
+IsCause (refusals.Split fault) (legal_split f allowed) text = IsBadSplit (refusals.Split fault) f allowed text
+IsCause (refusals.Exceeded excess) (legal_split f allowed) text = IsBadSplit (refusals.Exceeded excess) f allowed text
 IsCause (refusals.Trace fault) trace text = IsBadTrace fault text
 IsCause (refusals.Schedule fault) schedule text = IsBadSchedule fault text
 IsCause (refusals.Pcap fault) capture text = (fault ≢ pcaps.NoMemory) × IsBad capture text × pcap.IsRefused text fault
@@ -136,12 +145,13 @@ IsShutFor told (Choice s l shrink) cause =
     (m : Tree) × (allowed : Limits) × (over : Over)
     × IsToldPlan told s l m allowed × choice.IsRefused (flat_of m) allowed shrink over
     × (cause ≡ refusals.Exceeded (excess_of m.objects over))
+IsShutFor told (SplitFile s l p) cause =
+    (m : Tree) × (allowed : Limits)
+    × IsToldPlan told s l m allowed × IsSomeAnd (told p) (IsCause cause (legal_split (flat_of m) allowed))
 
 -- the gates before one are open, and that one is shut for this cause
 abbrev pub IsFirstCause : (List ℕ → Option (List ℕ)) → List Gate → Refusal → Type 0
-IsFirstCause told [] cause = ⊥
-IsFirstCause told (gate ∷ gates) cause =
-    IsShutFor told gate cause ⊎ (IsOpen told gate × IsFirstCause told gates cause)
+IsFirstCause told gates cause = IsFirst (IsOpen told) (λ gate. IsShutFor told gate cause) gates
 
 -- the status is that of this refusal and err received its line, unless there is a fault
 abbrev pub IsBlamedFor : Refusal → Status → Call → Type 0
@@ -154,10 +164,12 @@ IsCauseTold None result call = Unit {0}
 IsCauseTold (Some request) result call =
     (cause : Refusal) → IsFirstCause call.work.files.told (gates_of request) cause → IsBlamedFor cause result call
 
--- a limit is exceeded only where a split may not shrink
+-- a limit is exceeded only where a split is chosen that may not shrink, or given
 abbrev pub MayExceed : Option Request → Type 0
 MayExceed (Some (Compile s l false)) = Unit {0}
 MayExceed (Some (Replay s t c (Within l false))) = Unit {0}
+MayExceed (Some (Replay s t c (Spelled l p))) = Unit {0}
+MayExceed (Some (Check s l p)) = Unit {0}
 MayExceed _ = ⊥
 
 -- there is at most one read for each file of a request, and where it is done, just one; with no request there is none
@@ -191,7 +203,7 @@ IsReplay (Some request) = is_replay request ≡ true
 pub record Promises (status : Status) (call : Call) : Type 0 where
   pub ends : Ends status call
   -- the answer was written: of one run, which is a serial run of the source, whatever the schedule; or one split, which
-  -- is the chosen one, is legal and keeps the limits; or the trace of a capture, or the capture of a trace
+  -- is the chosen one, is legal and keeps the limits, or what a given one takes that is so; or the trace of a capture, or the capture of a trace
   pub done : status ≡ Done → IsDone (request_of call.words) call.work
   -- err is as it was, its count too
   pub silent : status ≡ Done → call.err_after ≡ call.err

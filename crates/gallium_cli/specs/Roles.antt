@@ -1,16 +1,21 @@
 -- What files are read as.
-use Rattle.std.specs.Prelude.{◌≡◌, ◌≤◌, ℕ, Bool, List, [], ◌∷◌, ◌++◌, length, Ok, None}
+use Rattle.std.specs.Prelude.{◌≡◌, ◌≤◌, ◌⊎◌, ℕ, Bool, List, [], ◌∷◌, ◌++◌, length, Ok, None}
 use Rattle.packet_fields.specs.declared.packet.Packet.{Packet}
 use Rattle.element_lang.specs.Tree.{Tree}
 use Rattle.element_lang.specs.Accepted.{IsSource}
+use Rattle.flat_ir.specs.Program.{Program}
 use Rattle.flatten.specs.Flatten.{flat_of}
+use Rattle.split_model.specs.declared.split.Part.{Part}
+use Rattle.split_validate.specs.SplitLines.{IsSplitText}
+use Rattle.split_validate.specs.Validated.{IsAccepted}
 use Rattle.resource_limits.specs.Limits as texts
 use Rattle.resource_limits.specs.declared.limits.Limits.{Limits}
 use Rattle.run_text.specs.declared.plan.Plan.{Plan}
 use Rattle.run_text.specs.Trace.{trace_of, schedule_of}
 use Rattle.pcap_trace.specs.declared.pcap.Pcap.{Pcap}
 use Rattle.pcap_trace.specs.Format.{IsPcap, pcap_bytes}
-use Rattle.gallium_cli.specs.Words.{Splitting, Served, Within, Request, Run, Compile, Replay, PcapIn, PcapOut}
+use Rattle.gallium_cli.specs.Words.{Splitting, Served, Within, Spelled}
+use Rattle.gallium_cli.specs.Words.{Request, Run, Compile, Replay, Check, PcapIn, PcapOut}
 
 -- what a file is read as
 pub data Role : Type 0 where
@@ -18,6 +23,8 @@ pub data Role : Type 0 where
   -- a source whose flat program has to be short enough
   program : Role
   limits : Role
+  -- a split of this program, which is legal and keeps these limits
+  legal_split : (f : Program) (allowed : Limits) → Role
   trace : Role
   schedule : Role
   capture : Role
@@ -27,6 +34,7 @@ abbrev pub size_of : Role → ℕ
 size_of source = 262144
 size_of program = 262144
 size_of limits = 67108864
+size_of (legal_split f allowed) = 67108864
 size_of trace = 67108864
 size_of schedule = 67108864
 size_of capture = 67108864
@@ -48,6 +56,8 @@ abbrev pub IsSpelled : Role → List ℕ → Type 0
 IsSpelled source text = (m : Tree) × IsSource text m
 IsSpelled program text = (m : Tree) × IsSource text m × IsShort m
 IsSpelled limits text = (allowed : Limits) × AreLimits text allowed
+IsSpelled (legal_split f allowed) text =
+    (split : List Part) × IsSplitText (length f.code) text split × IsAccepted f split allowed
 IsSpelled trace text = (packets : List Packet) × (trace_of text ≡ Ok packets)
 IsSpelled schedule text = (plan : Plan) × (schedule_of text ≡ Ok plan)
 IsSpelled capture text = (p : Pcap) × IsCaptured text p
@@ -62,18 +72,28 @@ IsBad role text = (length text ≤ size_of role) × ¬ (IsSpelled role text)
 
 -- ## What comes before an answer
 
--- a file is read, or a split is chosen for the source of one file within the limits of another
+-- a file is read, or a split is chosen for the source of one file within the limits of another, or a file is read as a
+-- split of that source within those limits
 pub data Gate : Type 0 where
   File : (name : List ℕ) (role : Role) → Gate
   Choice : (source limits : List ℕ) (shrink : Bool) → Gate
+  SplitFile : (source limits name : List ℕ) → Gate
+
+-- the source and the limits of a split
+abbrev pub plan_files : List ℕ → List ℕ → List Gate
+plan_files s l = File s program ∷ (File l limits ∷ [])
 
 abbrev pub plan_gates : List ℕ → List ℕ → Bool → List Gate
 plan_gates s l shrink = File s program ∷ (File l limits ∷ (Choice s l shrink ∷ []))
+
+abbrev pub given_gates : List ℕ → List ℕ → List ℕ → List Gate
+given_gates s l p = File s program ∷ (File l limits ∷ (SplitFile s l p ∷ []))
 
 -- what a split of a source goes through
 abbrev pub split_gates : List ℕ → Splitting → List Gate
 split_gates s Served = File s program ∷ []
 split_gates s (Within l shrink) = plan_gates s l shrink
+split_gates s (Spelled l p) = given_gates s l p
 
 abbrev pub event_gates : List ℕ → List ℕ → List Gate
 event_gates t c = File t trace ∷ (File c schedule ∷ [])
@@ -83,6 +103,7 @@ abbrev pub gates_of : Request → List Gate
 gates_of (Run s t) = File s source ∷ (File t trace ∷ [])
 gates_of (Compile s l shrink) = plan_gates s l shrink
 gates_of (Replay s t c by) = split_gates s by ++ event_gates t c
+gates_of (Check s l p) = given_gates s l p
 gates_of (PcapIn c port) = File c capture ∷ []
 gates_of (PcapOut t big nano) = File t trace ∷ []
 
@@ -91,10 +112,16 @@ abbrev pub names_in : List Gate → List (List ℕ)
 names_in [] = []
 names_in (File name role ∷ gates) = name ∷ names_in gates
 names_in (Choice s l shrink ∷ gates) = names_in gates
+names_in (SplitFile s l p ∷ gates) = p ∷ names_in gates
 
 -- the names of the files of a request, in that order
 abbrev pub names_of : Request → List (List ℕ)
 names_of request = names_in (gates_of request)
+
+-- a walk over gates: those before one have a property, and that one has another
+abbrev pub IsFirst : (Gate → Type 0) → (Gate → Type 0) → List Gate → Type 0
+IsFirst IsBefore IsAt [] = ⊥
+IsFirst IsBefore IsAt (gate ∷ gates) = IsAt gate ⊎ (IsBefore gate × IsFirst IsBefore IsAt gates)
 
 -- how many files a split of a source is read from
 abbrev pub split_reads : List ℕ → Splitting → ℕ

@@ -1,7 +1,7 @@
 -- The exit code of each status.
 use Rattle.std.specs.Prelude.{ℕ}
 use Rattle.gallium_cli.specs.declared.status.Status.{Status}
-use Rattle.gallium_cli.specs.declared.status.Status.TheVariants.{Done, Usage, Source, Limits, Exceeded, Trace, Schedule}
+use Rattle.gallium_cli.specs.declared.status.Status.TheVariants.{Done, Usage, Source, Limits, Exceeded, Split, Trace, Schedule}
 use Rattle.gallium_cli.specs.declared.status.Status.TheVariants.{TooLong, ReadFault, WriteFault, SwitchFault, NoMemory, Pcap}
 
 abbrev pub code_of : Status → ℕ
@@ -10,6 +10,7 @@ code_of Usage = 2
 code_of Source = 3
 code_of Limits = 4
 code_of Exceeded = 5
+code_of Split = 6
 code_of Trace = 7
 code_of Schedule = 8
 code_of TooLong = 9

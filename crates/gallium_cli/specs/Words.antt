@@ -13,12 +13,15 @@ pub data Splitting : Type 0 where
   Served : Splitting
   -- it is the one that is chosen within the limits of a file, which may shrink to keep them or not
   Within : (limits : List ℕ) (shrink : Bool) → Splitting
+  -- it is the one that a file spells, and has to keep the limits of another
+  Spelled : (limits split : List ℕ) → Splitting
 
 -- what a command asks for, with the names of its files
 pub data Request : Type 0 where
   Run : (source trace : List ℕ) → Request
   Compile : (source limits : List ℕ) (shrink : Bool) → Request
   Replay : (source trace schedule : List ℕ) (by : Splitting) → Request
+  Check : (source limits split : List ℕ) → Request
   -- the packets of a capture, each of which arrives by this port
   PcapIn : (capture : List ℕ) (port : ℕ) → Request
   -- a capture of the packets of a trace: its numbers have the highest byte first where `big`, and its fractions of
@@ -63,8 +66,9 @@ request_of (word ∷ source ∷ second ∷ []) =
 request_of (word ∷ source ∷ second ∷ third ∷ []) =
     if bytes_eq word (codes "pcap") then pcap_in source second third
     else (if bytes_eq word (codes "replay") then Some (Replay source second third Served)
+    else (if bytes_eq word (codes "check") then Some (Check source second third)
     else (if bytes_eq word (codes "compile") && bytes_eq third (codes "shrink") then Some (Compile source second true)
-    else None))
+    else None)))
 request_of (word ∷ source ∷ trace ∷ schedule ∷ limits ∷ []) =
     if bytes_eq word (codes "pcap") then pcap_out source trace schedule limits
     else (if bytes_eq word (codes "replay") then Some (Replay source trace schedule (Within limits false)) else None)
@@ -72,16 +76,22 @@ request_of (word ∷ source ∷ trace ∷ schedule ∷ limits ∷ last ∷ []) =
     if bytes_eq word (codes "replay") && bytes_eq last (codes "shrink")
     then Some (Replay source trace schedule (Within limits true))
     else None
+request_of (word ∷ source ∷ trace ∷ schedule ∷ limits ∷ by ∷ split ∷ []) =
+    if bytes_eq word (codes "replay") && bytes_eq by (codes "split")
+    then Some (Replay source trace schedule (Spelled limits split))
+    else None
 request_of _ = None
 
 abbrev pub split_asked : SplitForm → Splitting
 split_asked splits.Served = Served
 split_asked (splits.Within limits shrink) = Within limits.now shrink
+split_asked (splits.Spelled limits split) = Spelled limits.now split.now
 
 abbrev pub asked_by : Form → Request
 asked_by (forms.Run source trace) = Run source.now trace.now
 asked_by (forms.Compile source limits shrink) = Compile source.now limits.now shrink
 asked_by (forms.Replay source trace schedule split) = Replay source.now trace.now schedule.now (split_asked split)
+asked_by (forms.Check source limits split) = Check source.now limits.now split.now
 asked_by (forms.PcapIn capture port) = PcapIn capture.now port
 asked_by (forms.PcapOut trace big nano) = PcapOut trace.now big nano
 
@@ -90,5 +100,6 @@ abbrev pub is_replay : Request → Bool
 is_replay (Run s t) = false
 is_replay (Compile s l shrink) = false
 is_replay (Replay s t c by) = true
+is_replay (Check s l p) = false
 is_replay (PcapIn c port) = false
 is_replay (PcapOut t big nano) = false

@@ -74,7 +74,9 @@ impl Format for SourceFormat {
 
     ghost spells = { λ _ text m. IsSource text (tree m) };
 
-    ghost sound = { λ m. IsTrue (is_good (tree m)) × (length m.objects < 2 ^ 32) };
+    ghost sound = { λ _ m. IsTrue (is_good (tree m)) × (length m.objects < 2 ^ 32) };
+
+    ghost ready = { λ _. Unit {0} };
 
     fn size(&self) -> usize {
         MAX_SOURCE
@@ -127,8 +129,10 @@ impl Format for ProgramFormat {
 
     ghost spells = { λ _ text p. IsOnlySource text (tree p.middlebox) };
 
-    ghost sound = { λ p. (program_of p.flat ≡ flat_of (tree p.middlebox)) × IsBounded (flat_of (tree p.middlebox))
+    ghost sound = { λ _ p. (program_of p.flat ≡ flat_of (tree p.middlebox)) × IsBounded (flat_of (tree p.middlebox))
         × IsTrue (is_good (tree p.middlebox)) };
+
+    ghost ready = { λ _. Unit {0} };
 
     fn size(&self) -> usize {
         MAX_SOURCE
@@ -149,7 +153,9 @@ impl Format for LimitsFormat {
 
     ghost spells = { λ _ text allowed. AreLimits text allowed };
 
-    ghost sound = { λ allowed. AreInRange allowed };
+    ghost sound = { λ _ allowed. AreInRange allowed };
+
+    ghost ready = { λ _. Unit {0} };
 
     fn size(&self) -> usize {
         MAX_TEXT
@@ -171,7 +177,9 @@ impl Format for TraceFormat {
 
     ghost spells = { λ _ text packets. trace_of text ≡ Ok packets };
 
-    ghost sound = { λ packets. (length packets ≤ most_packets) × AreShort packets };
+    ghost sound = { λ _ packets. (length packets ≤ most_packets) × AreShort packets };
+
+    ghost ready = { λ _. Unit {0} };
 
     fn size(&self) -> usize {
         MAX_TEXT
@@ -193,7 +201,9 @@ impl Format for ScheduleFormat {
 
     ghost spells = { λ _ text plan. schedule_of text ≡ Ok plan };
 
-    ghost sound = { λ plan. length plan.events ≤ most_events };
+    ghost sound = { λ _ plan. length plan.events ≤ most_events };
+
+    ghost ready = { λ _. Unit {0} };
 
     fn size(&self) -> usize {
         MAX_TEXT
@@ -215,7 +225,9 @@ impl Format for CaptureFormat {
 
     ghost spells = { λ _ bytes p. IsCaptured bytes p };
 
-    ghost sound = { λ p. Unit {0} };
+    ghost sound = { λ _ p. Unit {0} };
+
+    ghost ready = { λ _. Unit {0} };
 
     fn size(&self) -> usize {
         MAX_TEXT

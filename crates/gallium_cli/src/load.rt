@@ -21,7 +21,10 @@ pub trait Format {
     ghost spells: { Self → List ℕ → Self.Value → Type 0 };
 
     // What holds of every value that is read, whether or not the file tells its content.
-    ghost sound: { Self.Value → Type 0 };
+    ghost sound: { Self → Self.Value → Type 0 };
+
+    // What holds of what such a text is read for.
+    ghost ready: { Self → Type 0 };
 
     /// The most bytes of such a file.
     fn size(&self) -> usize
@@ -29,8 +32,9 @@ pub trait Format {
 
     /// What a text spells, or why it spells nothing.
     fn read(&self, alloc: Global, text: &[u8]) -> Result<Self::Value, Refusal<'static>>
+        requires ready { ready self.now }
         ensures ok { IfOk result (λ value. spells self.now text.now value) }
-        ensures sound { IfOk result (λ value. sound value) }
+        ensures sound { IfOk result (λ value. sound self.now value) }
         ensures err { IfErr result (λ refusal. IsUnread refusal (role self.now) text.now) };
 }
 
@@ -41,9 +45,10 @@ pub fn load<'a, T: Format, F: Files>(
     format: &T,
     name: &'a str,
 ) -> Result<T::Value, Refusal<'a>>
+    requires ready { T.ready format.now }
     ensures ok { IfOk result (λ value. IfSome ((F.seen files.old).told name.now)
         (λ text. (length text ≤ size_of (T.role format.now)) × T.spells format.now text value)) }
-    ensures sound { IfOk result (λ value. T.sound value) }
+    ensures sound { IfOk result (λ value. T.sound format.now value) }
     ensures err { IfErr result (λ refusal. IsFileRefused refusal (T.role format.now) name.now
         (F.seen files.old) (F.seen files.new)) }
     ensures stays { OnOk result (GoesOn Status.Done (F.seen files.old) (F.seen files.new)) }

@@ -1,6 +1,6 @@
 //! The program: reads a middlebox and a trace, and writes what a run of it, or a replay by a schedule, comes to; or
-//! reads a middlebox and limits, and writes how it is split between a switch and a server; or makes a trace of a
-//! capture, or a capture of a trace.
+//! reads a middlebox and limits, and writes how it is split between a switch and a server, or whether a split written by
+//! hand may be taken; or makes a trace of a capture, or a capture of a trace.
 #![tactic(auto)]
 
 ghost use Rattle.std.specs.Prelude.{◌≡◌};
@@ -9,8 +9,11 @@ ghost use Rattle.gallium_cli.specs.Status.{code_of};
 
 mod arrivals;
 mod captures;
+mod check;
 mod compile;
+mod exceeding;
 mod formats;
+mod given;
 mod load;
 mod output;
 mod refusal;

@@ -3,7 +3,8 @@ ghost use Rattle.std.specs.Prelude.{◌≡◌, ◌++◌, IfOk, string_bytes};
 ghost use Rattle.gallium_cli.specs.declared.refusal.Refusal.{Refusal};
 ghost use Rattle.gallium_cli.specs.declared.refusal.Excess.{Excess};
 ghost use Rattle.gallium_cli.specs.Lines.{status_of, line_of, line_end, what_text, kind_text};
-ghost use Rattle.gallium_cli.specs.Lines.{source_line, limits_line, excess_line, lines_line, owner_text, pcap_line};
+ghost use Rattle.gallium_cli.specs.Lines.{source_line, limits_line, excess_line, split_line, lines_line, owner_text};
+ghost use Rattle.gallium_cli.specs.Lines.{pcap_line};
 ghost use Rattle.gallium_cli.specs.Causes.{IsTold};
 
 use crate::status::Status;
@@ -25,6 +26,16 @@ pub struct Excess {
     pub allowed: u64,
 }
 
+/// Why the text of a split isn't taken.
+#[derive(Clone, Copy, Debug, PartialEq, Eq)]
+pub enum SplitFault {
+    /// The first line with which no split text of the program goes on, counted from 1, or the number of lines and one
+    /// more.
+    Line(usize),
+    /// The lowest of the nine rules that the split breaks, from 1, and the first instruction that breaks it, from 0.
+    Rule { rule: u8, instruction: u32 },
+}
+
 /// Why nothing is answered. A name is that of the file that is to blame.
 #[derive(Debug, Drop)]
 pub enum Refusal<'a> {
@@ -38,6 +49,8 @@ pub enum Refusal<'a> {
     Limits(LimitsError),
     /// The split exceeds a limit.
     Exceeded(Excess),
+    /// The text of a split is refused, or its split isn't legal.
+    Split(SplitFault),
     /// The trace is refused, for this cause, which isn't want of memory.
     Trace(LinesError),
     /// The schedule is refused, for this cause, which isn't want of memory.
@@ -76,6 +89,7 @@ fn status(refusal: &Refusal<'_>) -> Status
         Refusal::Source(_) | Refusal::LongProgram => Status::Source,
         Refusal::Limits(_) => Status::Limits,
         Refusal::Exceeded(_) => Status::Exceeded,
+        Refusal::Split(_) => Status::Split,
         Refusal::Trace(_) => Status::Trace,
         Refusal::Schedule(_) => Status::Schedule,
         Refusal::TooLong(_) => Status::TooLong,
@@ -185,6 +199,21 @@ fn excess_line(alloc: Global, excess: &Excess) -> Result<Text, NoMemory>
     Ok(text)
 }
 
+// The line of a split text that is refused.
+fn split_line(alloc: Global, fault: SplitFault) -> Result<Text, NoMemory>
+    ensures { IfOk result (λ text. text ≡ split_line fault) }
+{
+    match fault {
+        SplitFault::Line(number) => told(alloc, format!(in alloc; "split: line {number}\n")?),
+        SplitFault::Rule { rule, instruction } => {
+            told(
+                alloc,
+                format!(in alloc; "split: rule {rule} at {instruction}\n")?,
+            )
+        }
+    }
+}
+
 // What is wrong with a line, in a word.
 fn kind_name(kind: LineKind) -> &'static str
     ensures { result.now ≡ kind_text kind }
@@ -245,6 +274,7 @@ fn line(alloc: Global, refusal: &Refusal<'_>) -> Result<Text, NoMemory>
         Refusal::LongProgram => Text::from_slice(alloc, b"source: more than 4096 instructions\n"),
         Refusal::Limits(fault) => limits_line(alloc, *fault),
         Refusal::Exceeded(excess) => excess_line(alloc, excess),
+        Refusal::Split(fault) => split_line(alloc, *fault),
         Refusal::Trace(fault) => lines_line(alloc, "trace", "packets", *fault),
         Refusal::Schedule(fault) => lines_line(alloc, "schedule", "events", *fault),
         Refusal::TooLong(name) => naming(alloc, b"too long: ", name),

@@ -1,37 +1,35 @@
 //! The split of a middlebox, as it is asked for.
-ghost use Rattle.std.specs.Prelude.{◌≡◌, ◌≤◌, ◌∷◌, [], IfOk, IfErr, IsTrue, OnOk};
-ghost use Rattle.std.specs.Option.{option_map};
+ghost use Rattle.std.specs.Prelude.{◌≡◌, ◌≤◌, IfOk, IfErr, IsTrue, OnOk};
 ghost use Rattle.element_lang.specs.View.{tree};
 ghost use Rattle.element_lang.specs.Rules.{is_good};
 ghost use Rattle.flat_ir.specs.Program.{program_of};
-ghost use Rattle.flat_ir.specs.Listing.{name_of};
 ghost use Rattle.flatten.specs.Flatten.{flat_of};
 ghost use Rattle.resource_limits.specs.Limits.{AreInRange};
 ghost use Rattle.resource_limits.specs.Kept.{KeepsLimits};
 ghost use Rattle.partition.specs.Choice.{IsChosen};
 ghost use Rattle.split_model.specs.Bounds.{HasFewStages, IsBounded};
 ghost use Rattle.split_model.specs.Legal.{IsLegal};
-ghost use Rattle.gallium_cli.specs.Words.{Served, Within, split_asked};
+ghost use Rattle.gallium_cli.specs.Words.{Served, Within, Spelled, split_asked};
 ghost use Rattle.gallium_cli.specs.Lines.{status_of};
-ghost use Rattle.gallium_cli.specs.Roles.{program as program_role, limits as limits_role, File, plan_gates};
-ghost use Rattle.gallium_cli.specs.Roles.{split_gates, split_reads};
+ghost use Rattle.gallium_cli.specs.Roles.{plan_files, plan_gates, given_gates, split_gates, split_reads};
 ghost use Rattle.gallium_cli.specs.Answers.{IsPlan, IsSplitBy};
 ghost use Rattle.gallium_cli.specs.Loads.{GoesOn, raised_by};
 ghost use Rattle.gallium_cli.specs.Runnable.{IsRunnable};
-ghost use Rattle.gallium_cli.specs.Causes.{IsFirstRefused, IsUnchosen, excess_of};
+ghost use Rattle.gallium_cli.specs.Causes.{IsFirstRefused, IsUnchosen};
 
+use crate::exceeding::excess;
 use crate::formats::{Flattened, LimitsFormat, ProgramFormat};
+use crate::given::load_parts;
 use crate::load::load;
-use crate::refusal::{Excess, Refusal};
+use crate::refusal::Refusal;
 use crate::status::Status;
 use crate::words::SplitForm;
 use element_interp::stores_are_kept;
 use flat_ir::Flat;
-use gal_io::{Files, NoMemory, Text};
+use gal_io::Files;
 use partition::{PartError, all_on_server, partition};
-use resource_limits::{Limits, Over};
+use resource_limits::Limits;
 use split_model::Split;
-use state_store::ObjectDecl;
 use std::alloc::Global;
 
 /// A middlebox with its flat program, its split, and how many rows each write-back table has.
@@ -54,7 +52,7 @@ fn load_plan<'a, F: Files>(
     ensures good { IfOk result (λ x. IsTrue (is_good (tree x.0.middlebox))) }
     ensures in_range { IfOk result (λ x. AreInRange x.1) }
     ensures err { IfErr result (λ refusal. IsFirstRefused refusal
-        (File source.now program_role ∷ (File limits.now limits_role ∷ [])) (F.seen files.old) (F.seen files.new)) }
+        (plan_files source.now limits.now) (F.seen files.old) (F.seen files.new)) }
     ensures stays { OnOk result (GoesOn Status.Done (F.seen files.old) (F.seen files.new)) }
     ensures fault { IfErr result (λ refusal.
         GoesOn (status_of refusal) (F.seen files.old) (F.seen files.new)) }
@@ -66,39 +64,6 @@ fn load_plan<'a, F: Files>(
         Ok(allowed) => Ok((program, allowed)),
         Err(refusal) => Err(refusal),
     }
-}
-
-// The name of an object, if one is meant.
-fn owner(
-    alloc: Global,
-    objects: &[ObjectDecl],
-    object: Option<u32>,
-) -> Result<Option<Text>, NoMemory>
-    ensures { IfOk result (λ name. name ≡ option_map (name_of objects.now) object) }
-{
-    match object {
-        None => Ok(None),
-        Some(number) => {
-            let name = match objects.get(number as usize) {
-                Some(declared) => Text::from_slice(alloc, declared.name.as_slice())?,
-                None => Text::new(alloc),
-            };
-            Ok(Some(name))
-        }
-    }
-}
-
-// What is told of a limit that is exceeded.
-fn excess(alloc: Global, objects: &[ObjectDecl], over: Over) -> Result<Excess, NoMemory>
-    ensures { IfOk result (λ told. told ≡ excess_of objects.now over) }
-{
-    let object = owner(alloc, objects, over.object)?;
-    Ok(Excess {
-        limit: over.limit,
-        object,
-        have: over.have,
-        allowed: over.allowed,
-    })
 }
 
 // The split that these limits allow.
@@ -152,6 +117,36 @@ pub fn load_within<'a, F: Files>(
     Ok(SplitMiddlebox {
         program,
         split,
+        writeback: allowed.writeback,
+    })
+}
+
+/// The split of what one file spells that another spells, which keeps the limits that a third tells.
+pub fn load_given<'a, F: Files>(
+    alloc: Global,
+    source: &'a str,
+    limits: &'a str,
+    split: &'a str,
+    files: &mut F,
+) -> Result<SplitMiddlebox, Refusal<'a>>
+    ensures ok { IfOk result (λ x. IsSplitBy (Spelled limits.now split.now) (F.seen files.old).told source.now
+        (tree x.program.middlebox) x.split x.writeback) }
+    ensures runnable { IfOk result (λ x.
+        IsRunnable (tree x.program.middlebox) (program_of x.program.flat) x.split x.writeback) }
+    ensures err { IfErr result (λ refusal. IsFirstRefused refusal (given_gates source.now limits.now split.now)
+        (F.seen files.old) (F.seen files.new)) }
+    ensures stays { OnOk result (GoesOn Status.Done (F.seen files.old) (F.seen files.new)) }
+    ensures fault { IfErr result (λ refusal.
+        GoesOn (status_of refusal) (F.seen files.old) (F.seen files.new)) }
+    ensures read { OnOk result ((F.seen files.new).reads ≡ raised_by 3 (F.seen files.old).reads) }
+    ensures few_reads { (F.seen files.new).reads ≤ raised_by 3 (F.seen files.old).reads }
+{
+    stores_are_kept();
+    let (flattened, allowed) = load_plan(alloc, source, limits, files)?;
+    let parts = load_parts(alloc, &flattened.flat, &allowed, split, files)?;
+    Ok(SplitMiddlebox {
+        program: flattened,
+        split: parts,
         writeback: allowed.writeback,
     })
 }
@@ -210,5 +205,6 @@ pub fn load_split<'a, F: Files>(
     match split {
         SplitForm::Served => load_served(alloc, source, files),
         SplitForm::Within { limits, shrink } => load_within(alloc, source, limits, shrink, files),
+        SplitForm::Spelled { limits, split } => load_given(alloc, source, limits, split, files),
     }
 }

@@ -13,6 +13,8 @@ pub enum Status {
     Limits,
     /// The split exceeds a limit.
     Exceeded,
+    /// The text of a split is refused, or its split isn't legal.
+    Split,
     /// The trace is refused.
     Trace,
     /// The schedule is refused.
@@ -45,6 +47,7 @@ impl Status {
             Status::Source => 3,
             Status::Limits => 4,
             Status::Exceeded => 5,
+            Status::Split => 6,
             Status::Trace => 7,
             Status::Schedule => 8,
             Status::TooLong => 9,

@@ -16,6 +16,7 @@ ghost use Rattle.gallium_cli.specs.Call.{Call, work_of};
 ghost use Rattle.gallium_cli.specs.Promises.{Promises};
 
 use crate::captures::{perform_pcap_in, perform_pcap_out};
+use crate::check::perform_check;
 use crate::compile::perform_compile;
 use crate::formats::{SourceFormat, TraceFormat};
 use crate::load::load;
@@ -32,6 +33,7 @@ use partition::greatest_split_is_one;
 use resource_limits::kept_limits_are_not_exceeded;
 use run_model::Parts;
 use run_text::print_answer;
+use split_validate::{a_text_is_of_one_split, one_line_is_first_wrong};
 use std::alloc::Global;
 use switch_ir::SwitchPort;
 
@@ -136,6 +138,13 @@ fn perform<'a, F: Files, S: SwitchPort, O: Sink>(
                 split,
             },
         ) => perform_replay(alloc, source, trace, schedule, split, files, port, out),
+        Some(
+            Form::Check {
+                source,
+                limits,
+                split,
+            },
+        ) => perform_check(alloc, source, limits, split, files, out),
         Some(Form::PcapIn { capture, port: by }) => perform_pcap_in(alloc, capture, by, files, out),
         Some(Form::PcapOut { trace, big, nano }) => {
             perform_pcap_out(alloc, trace, big, nano, files, out)
@@ -165,6 +174,8 @@ pub fn gallium<F: Files, S: SwitchPort, O: Sink, E: Sink>(
 {
     greatest_split_is_one();
     kept_limits_are_not_exceeded();
+    one_line_is_first_wrong();
+    a_text_is_of_one_split();
     match perform(alloc, words, files, port, out) {
         Ok(()) => Status::Done,
         Err(refusal) => tell(alloc, refusal, err),

@@ -12,6 +12,8 @@ pub enum SplitForm<'a> {
     Served,
     /// The split that `Compile` would print.
     Within { limits: &'a str, shrink: bool },
+    /// The split that a file spells, which has to keep these limits.
+    Spelled { limits: &'a str, split: &'a str },
 }
 
 /// What a command asks for. Each text is the name of a file.
@@ -35,6 +37,12 @@ pub enum Form<'a> {
         trace: &'a str,
         schedule: &'a str,
         split: SplitForm<'a>,
+    },
+    /// Prints what the split takes that a file spells, where it is legal and keeps these limits.
+    Check {
+        source: &'a str,
+        limits: &'a str,
+        split: &'a str,
     },
     /// Prints the packets of a capture as a trace. Each arrives by this port.
     PcapIn {
@@ -144,6 +152,13 @@ pub fn form_of<'a>(words: &'a [String]) -> Option<Form<'a>>
                     split: SplitForm::Served,
                 });
             }
+            if word.as_str() == "check" {
+                return Some(Form::Check {
+                    source: source.as_str(),
+                    limits: second.as_str(),
+                    split: third.as_str(),
+                });
+            }
             if word.as_str() == "compile" {
                 if third.as_str() == "shrink" {
                     return Some(Form::Compile {
@@ -187,6 +202,22 @@ pub fn form_of<'a>(words: &'a [String]) -> Option<Form<'a>>
                         split: SplitForm::Within {
                             limits: limits.as_str(),
                             shrink: true,
+                        },
+                    });
+                }
+            }
+            None
+        }
+        [word, source, trace, schedule, limits, by, split] => {
+            if word.as_str() == "replay" {
+                if by.as_str() == "split" {
+                    return Some(Form::Replay {
+                        source: source.as_str(),
+                        trace: trace.as_str(),
+                        schedule: schedule.as_str(),
+                        split: SplitForm::Spelled {
+                            limits: limits.as_str(),
+                            split: split.as_str(),
                         },
                     });
                 }

@@ -132,6 +132,13 @@ read_only count text parts other small f t h =
     one_split 0 other parts (last ∷ []) (last ∷ []) (omega (arith, there, small)) (low_of other h.stages) f.low (there ∙ sym full)
     (tail_is (title (length other)) (title count) (parts_told 0 other ++ last ∷ []) (parts_told 0 parts ++ last ∷ []) same)
 
+-- a text is one of at most one split
+pub one_text : (count : ℕ) (text : List ℕ) (split other : List Part) → count < 2 ^ 64 → IsSplitText count text split → IsSplitText count text other → other ≡ split
+one_text count text split other small one two =
+    let told : told_of (lines text) ≡ so_far count All split =
+    split_lines count (lines text) split small one ∙ ap (λ n. title n ∷ (parts_told 0 split ++ last ∷ [])) one.parts in
+    read_only count text split other small (record { count_is = one.parts; low = low_of split one.stages }) told two
+
 can_begin : (count : ℕ) (ls : List (List ℕ)) (progress : Progress) (parts : List Part) → count < 2 ^ 64 → Fits count progress parts → told_of ls ≡ so_far count progress parts → Begins count ls
 can_begin count ls progress parts small f t =
     let go = can_go count progress parts f in

@@ -12,7 +12,7 @@ mod split_text;
 mod validating;
 
 pub use counts_text::print_counts;
-pub use laws::one_line_is_first_wrong;
+pub use laws::{a_text_is_of_one_split, one_line_is_first_wrong};
 pub use reading::{SplitTextError, read_split};
 pub use split_text::print_split;
 pub use validating::{Illegal, validate};

@@ -1,5 +1,5 @@
 use Rattle.std.proofs.Common.{ap}
-use Rattle.gallium_cli.specs.Words.{Run, Compile, Replay, PcapIn, PcapOut, asked_by, split_asked}
+use Rattle.gallium_cli.specs.Words.{Run, Compile, Replay, Check, PcapIn, PcapOut, asked_by, split_asked}
 use Rattle.gallium_cli.proofs.Written.{asked_ok, asked_err}
 use Rattle.gallium_cli.proofs.top.perform.Goals as goal
 
@@ -30,6 +30,15 @@ returns-in-Some-Replay-clause-ok g c =
     (g.S.SwitchPort.seen c.args.port.now) (g.S.SwitchPort.seen c.perform_replay.new.port)
     (g.O.Sink.seen c.args.out.now) (g.O.Sink.seen c.perform_replay.new.out)
     arm.ensures (ap asked_by arm.field-0-is) c.perform_replay.ensures.ok
+
+pub returns-in-Some-Check-clause-err : goal.returns-in-Some-Check-clause-err
+returns-in-Some-Check-clause-err g c =
+    let arm = c.in-Some-Check in
+    asked_err c.perform_check.result _ (asked_by arm.field-0) (Check arm.source.now arm.limits.now arm.split.now)
+    (g.F.Files.seen c.args.files.now) (g.F.Files.seen c.perform_check.new.files)
+    (g.S.SwitchPort.seen c.args.port.now) (g.S.SwitchPort.seen c.args.port.now)
+    (g.O.Sink.seen c.args.out.now) (g.O.Sink.seen c.perform_check.new.out)
+    arm.ensures (ap asked_by arm.field-0-is) (c.perform_check.ensures.err (g.S.SwitchPort.seen c.args.port.now))
 
 pub returns-in-Some-PcapIn-clause-err : goal.returns-in-Some-PcapIn-clause-err
 returns-in-Some-PcapIn-clause-err g c =
