@@ -1,30 +1,13 @@
-//! The program: reads a middlebox and a trace, and writes what a run of it, or a replay by a schedule, comes to; or
-//! reads a middlebox and limits, and writes how it is split between a switch and a server, or whether a split written by
-//! hand may be taken; or makes a trace of a capture, or a capture of a trace.
+//! The program: the whole call over the files and streams of the system and a modelled switch, with its status as the
+//! exit code.
 #![tactic(auto)]
 
 ghost use Rattle.std.specs.Prelude.{◌≡◌};
 ghost use Rattle.std.specs.Process.{exit_status};
 ghost use Rattle.gallium_cli.specs.Status.{code_of};
 
-mod arrivals;
-mod captures;
-mod check;
-mod compile;
-mod exceeding;
-mod formats;
-mod given;
-mod load;
-mod output;
-mod refusal;
-mod replay;
-mod splitting;
-mod status;
-mod top;
-mod words;
-
-use crate::status::Status;
 use gal_io::{HostFiles, HostSink};
+use gallium_cli::Status;
 use std::process::ExitCode;
 use std::{env, io};
 use switch_machine::ModelSwitch;
@@ -58,5 +41,5 @@ fn main(rt: HostRuntime) -> ExitCode {
     let mut port = ModelSwitch::new(alloc);
     let mut out = HostSink::new(rt.stdout());
     let mut err = HostSink::new(rt.stderr());
-    ending(top::gallium(alloc, &words, &mut files, &mut port, &mut out, &mut err))
+    ending(gallium_cli::gallium(alloc, &words, &mut files, &mut port, &mut out, &mut err))
 }
