@@ -22,6 +22,8 @@ pub data Request : Type 0 where
   Compile : (source limits : List ℕ) (shrink : Bool) → Request
   Replay : (source trace schedule : List ℕ) (by : Splitting) → Request
   Check : (source limits split : List ℕ) → Request
+  -- whether a report of packets that came to a middlebox is true
+  Audit : (source trace report : List ℕ) → Request
   -- the packets of a capture, each of which arrives by this port
   PcapIn : (capture : List ℕ) (port : ℕ) → Request
   -- a capture of the packets of a trace: its numbers have the highest byte first where `big`, and its fractions of
@@ -67,8 +69,9 @@ request_of (word ∷ source ∷ second ∷ third ∷ []) =
     if bytes_eq word (codes "pcap") then pcap_in source second third
     else (if bytes_eq word (codes "replay") then Some (Replay source second third Served)
     else (if bytes_eq word (codes "check") then Some (Check source second third)
+    else (if bytes_eq word (codes "audit") then Some (Audit source second third)
     else (if bytes_eq word (codes "compile") && bytes_eq third (codes "shrink") then Some (Compile source second true)
-    else None)))
+    else None))))
 request_of (word ∷ source ∷ trace ∷ schedule ∷ limits ∷ []) =
     if bytes_eq word (codes "pcap") then pcap_out source trace schedule limits
     else (if bytes_eq word (codes "replay") then Some (Replay source trace schedule (Within limits false)) else None)
@@ -92,6 +95,7 @@ asked_by (forms.Run source trace) = Run source.now trace.now
 asked_by (forms.Compile source limits shrink) = Compile source.now limits.now shrink
 asked_by (forms.Replay source trace schedule split) = Replay source.now trace.now schedule.now (split_asked split)
 asked_by (forms.Check source limits split) = Check source.now limits.now split.now
+asked_by (forms.Audit source trace report) = Audit source.now trace.now report.now
 asked_by (forms.PcapIn capture port) = PcapIn capture.now port
 asked_by (forms.PcapOut trace big nano) = PcapOut trace.now big nano
 
@@ -101,5 +105,6 @@ is_replay (Run s t) = false
 is_replay (Compile s l shrink) = false
 is_replay (Replay s t c by) = true
 is_replay (Check s l p) = false
+is_replay (Audit s t r) = false
 is_replay (PcapIn c port) = false
 is_replay (PcapOut t big nano) = false
