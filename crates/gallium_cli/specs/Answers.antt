@@ -47,10 +47,12 @@ use Rattle.replay_contracts.specs.Given.{Given, setup_for, whole, whole_runs}
 use Rattle.replay_contracts.specs.Promise.{state_for}
 use Rattle.replay_contracts.specs.Replayer.{IsReported}
 use Rattle.gallium_cli.specs.Words.{Splitting, Served, Within, Spelled}
-use Rattle.gallium_cli.specs.Words.{Request, Run, Compile, Replay, Check, PcapIn, PcapOut}
+use Rattle.gallium_cli.specs.Words.{Request, Run, Compile, Replay, Check, Audit, PcapIn, PcapOut}
 use Rattle.gallium_cli.specs.Lines.{line_end}
 use Rattle.gallium_cli.specs.Roles.{source, program, limits, legal_split, trace, schedule, capture, size_of}
-use Rattle.gallium_cli.specs.Roles.{AreLimits, IsCaptured}
+use Rattle.gallium_cli.specs.Roles.{true_report, AreLimits, IsCaptured}
+use Rattle.report_text.specs.Lines as reports
+use Rattle.run_audit.specs.Told.{IsTrueReport}
 
 -- the told contents spell this middlebox and these packets, each within its size
 pub record IsInput (told : List ℕ → Option (List ℕ)) (s t : List ℕ) (m : Tree) (packets : List Packet) : Type 0 where
@@ -197,6 +199,20 @@ IsReport text m x plan replayed port port_after =
     (text ≡ report_of m.objects replayed.run) × IsReported x plan.events plan.drain replayed port_after
     × (IsSome port.told → IsSerialRun m x plan replayed.run port_after)
 
+-- ## Audits
+
+-- the told content is a report of this run, which is a serial one of the middlebox over these packets
+pub record IsTrueFile (told : List ℕ → Option (List ℕ)) (r : List ℕ) (m : Tree) (packets : List Packet) (run : RunTold)
+    : Type 0 where
+  pub report : IfSome (told r)
+      (λ text. (length text ≤ size_of (true_report m packets)) × reports.IsReport m.objects text run)
+  pub serial : IsTrueReport m packets run
+
+-- the line of a report that is true: how many packets were decided, and how many released
+abbrev pub audited_text : RunTold → List ℕ
+audited_text run =
+    codes "ok decided " ++ (decimal run.decided ++ (codes " released " ++ (decimal run.released ++ line_end)))
+
 -- ## Captures
 
 -- the told content is this capture
@@ -226,6 +242,9 @@ IsAnswer text (Replay s t c by) told port port_after =
 IsAnswer text (Check s l p) told port port_after =
     (m : Tree) × (split : List Part) × (writeback : ℕ)
     × IsSplitBy (Spelled l p) told s m split writeback × (text ≡ checked_text (flat_of m) split writeback)
+IsAnswer text (Audit s t r) told port port_after =
+    (m : Tree) × (packets : List Packet) × (run : RunTold)
+    × IsInput told s t m packets × IsTrueFile told r m packets run × (text ≡ audited_text run)
 IsAnswer text (PcapIn c by) told port port_after =
     (p : Pcap) × IsToldCapture told c p × (text ≡ trace_text (packets_of p by))
 IsAnswer text (PcapOut t big nano) told port port_after =

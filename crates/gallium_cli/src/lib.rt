@@ -4,12 +4,14 @@
 #![tactic(auto)]
 
 mod arrivals;
+mod audit;
 mod captures;
 mod check;
 mod compile;
 mod exceeding;
 mod formats;
 mod given;
+mod input;
 mod load;
 mod output;
 mod refusal;
