@@ -113,6 +113,26 @@ fn letter(entry: &Entry) -> u8 {
             ..
         } => b'D',
         Entry::Down { .. } => b'd',
+        Entry::BeginUp {
+            answer: UpEnd::Failed,
+            ..
+        } => b'B',
+        Entry::BeginUp { .. } => b'b',
+        Entry::StageUp {
+            answer: UpEnd::Failed,
+            ..
+        } => b'S',
+        Entry::StageUp { .. } => b's',
+        Entry::BeginDown {
+            answer: DownEnd::Failed,
+            ..
+        } => b'G',
+        Entry::BeginDown { .. } => b'g',
+        Entry::StageDown {
+            answer: DownEnd::Failed,
+            ..
+        } => b'T',
+        Entry::StageDown { .. } => b't',
         Entry::Command(_, CommandEnd::Failed) => b'C',
         Entry::Command(_, CommandEnd::Done) => b'c',
         Entry::Visible(_) => b'v',
@@ -243,7 +263,7 @@ fn goes_down(alloc: Global, code: &SwitchCode, port: &mut ModelSwitch) -> bool
 }
 
 // Whether the bit is set.
-#[tactic(auto, using(crate::proofs::Loaded::loaded_by))]
+#[tactic(auto, using(crate::proofs::Loaded::loaded_by, crate::proofs::Loaded::on_waits))]
 fn is_set(code: &SwitchCode, port: &mut ModelSwitch) -> bool
     requires code { (seen_of (machine_of port.old)).code ≡ Some (code_of code.now) }
     requires spare { 8 ≤ (seen_of (machine_of port.old)).spare }
