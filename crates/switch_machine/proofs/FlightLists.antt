@@ -12,7 +12,7 @@ use Rattle.switch_machine.specs.Flights.{flight_at, passes_in, shown}
 use Rattle.switch_machine.specs.Staging.{with_pass, IsPlaceOf}
 use Rattle.switch_machine.proofs.KeptRows.{the_some, none_some}
 
-abbrev is_of : ℕ → Flight → Bool
+abbrev pub is_of : ℕ → Flight → Bool
 is_of n f = f.number == n
 
 -- ## The place of a pass
@@ -30,13 +30,21 @@ place_parts fs n i e =
     let c = place_by (nat_lt (position_or_len (is_of n) fs) (length fs)) (position_or_len (is_of n) fs) i e in
     (subst (λ (k : ℕ). k < length fs) c.is (ltb-true (position_or_len (is_of n) fs) (length fs) c.made), c.is)
 
+here_at : (f : Flight) (fs : List Flight) (n : ℕ) → (f.number == n) ≡ true → position_or_len (is_of n) (f ∷ fs) ≡ 0
+here_at f fs n here = cond-false (not (f.number == n)) (1 + position_or_len (is_of n) fs) 0 (ap not here)
+
+past_at : (f : Flight) (fs : List Flight) (n : ℕ) → (f.number == n) ≡ false → position_or_len (is_of n) (f ∷ fs) ≡ suc (position_or_len (is_of n) fs)
+past_at f fs n other =
+    let more : 1 + position_or_len (is_of n) fs ≡ suc (position_or_len (is_of n) fs) = omega arith in
+    cond-true (not (f.number == n)) (1 + position_or_len (is_of n) fs) 0 (ap not other) ∙ more
+
 found_at : (fs : List Flight) (n : ℕ) (d : Flight) → position_or_len (is_of n) fs < length fs → flight_at fs n ≡ Some (get_or fs (position_or_len (is_of n) fs) d)
 found_at [] n d lt = absurd (omega (arith, lt))
 found_at (f ∷ fs) n d lt = elim (cases_Bool (f.number == n)) [
   | inl here ↦ cond-true (f.number == n) (Some f) (flight_at fs n) here
-      ∙ sym (ap (λ k. Some (get_or (f ∷ fs) k d)) (cond-true (f.number == n) 0 (suc (position_or_len (is_of n) fs)) here))
+      ∙ sym (ap (λ k. Some (get_or (f ∷ fs) k d)) (here_at f fs n here))
   | inr other ↦ (
-      let past = cond-false (f.number == n) 0 (suc (position_or_len (is_of n) fs)) other in
+      let past = past_at f fs n other in
       cond-false (f.number == n) (Some f) (flight_at fs n) other
       ∙ found_at fs n d (omega (arith, lt, past))
       ∙ sym (ap (λ k. Some (get_or (f ∷ fs) k d)) past)
@@ -52,9 +60,9 @@ at_place_is fs n i d e =
 number_at : (fs : List Flight) (n : ℕ) (d : Flight) → position_or_len (is_of n) fs < length fs → (get_or fs (position_or_len (is_of n) fs) d).number ≡ n
 number_at [] n d lt = absurd (omega (arith, lt))
 number_at (f ∷ fs) n d lt = elim (cases_Bool (f.number == n)) [
-  | inl here ↦ ap (λ k. (get_or (f ∷ fs) k d).number) (cond-true (f.number == n) 0 (suc (position_or_len (is_of n) fs)) here) ∙ eqb-true f.number n here
+  | inl here ↦ ap (λ k. (get_or (f ∷ fs) k d).number) (here_at f fs n here) ∙ eqb-true f.number n here
   | inr other ↦ (
-      let past = cond-false (f.number == n) 0 (suc (position_or_len (is_of n) fs)) other in
+      let past = past_at f fs n other in
       ap (λ k. (get_or (f ∷ fs) k d).number) past ∙ number_at fs n d (omega (arith, lt, past))
       )
 ]
@@ -79,13 +87,13 @@ set_at [] n g m same lt = absurd (omega (arith, lt))
 set_at (f ∷ fs) n g m same lt = elim (cases_Bool (f.number == n)) [
   | inl here ↦ (
       let at = eqb-true f.number n here in
-      ap (λ k. flight_at (slice_set (f ∷ fs) k g) m) (cond-true (f.number == n) 0 (suc (position_or_len (is_of n) fs)) here)
+      ap (λ k. flight_at (slice_set (f ∷ fs) k g) m) (here_at f fs n here)
       ∙ ap (λ k. cond (k == m) (Some g) (flight_at fs m)) same
       ∙ twice (n == m) (Some g) (Some f) (flight_at fs m)
       ∙ sym (ap (λ k. cond (n == m) (Some g) (cond (k == m) (Some f) (flight_at fs m))) at)
       )
   | inr other ↦ (
-      let past = cond-false (f.number == n) 0 (suc (position_or_len (is_of n) fs)) other in
+      let past = past_at f fs n other in
       ap (λ k. flight_at (slice_set (f ∷ fs) k g) m) past
       ∙ ap (λ o. cond (f.number == m) (Some f) o) (set_at fs n g m same (omega (arith, lt, past)))
       ∙ sym (swap_tests (n == m) (f.number == m) (Some g) (Some f) (flight_at fs m) (other_test n m f.number other))
@@ -114,7 +122,7 @@ push_is (f ∷ fs) g n m same none =
     ap (λ o. cond (f.number == m) (Some f) o) (push_is fs g n m same h.1)
     ∙ sym (swap_tests (n == m) (f.number == m) (Some g) (Some f) (flight_at fs m) (other_test n m f.number h.0))
 
-abbrev is_other : ℕ → Flight → Bool
+abbrev pub is_other : ℕ → Flight → Bool
 is_other n f = not (f.number == n)
 
 pub removed_is : (fs : List Flight) (n m : ℕ) → flight_at (filter (is_other n) fs) m ≡ cond (n == m) None (flight_at fs m)

@@ -25,6 +25,7 @@ mod SettingUp
 mod StageByStage
 mod StageLists
 mod StagedCalls
+mod StagedMachine
 mod StageRegisters
 mod Stepping
 mod TableRows

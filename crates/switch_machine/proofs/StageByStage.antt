@@ -274,6 +274,7 @@ module _ (tables : List Table) (handed up : List Crossing) (pass : PassCode)
 
     done : IsDoneAlike steps spans registers (content_of registers) (suc t)
     done = one_step steps spans registers (content_of registers) (suc t) (λ step a b same value. refl) of_spans ready
+
     apart_all : AreNumberedApart ranges
     apart_all = apart tables handed up pass order small stages others ranges are
 

@@ -238,6 +238,8 @@ pub(crate) fn go_on_down(loaded: &mut Loaded, tables: &SwitchTables, flight: &mu
     postprocessing_goes_by_stages();
     a_pass_by_place();
     are_few(&flight.registers);
+    let highest = loaded.code.post.highest;
+    prove!(flight.stage < highest);
     take_stage(&loaded.post, &mut loaded.down, tables, flight);
     std::mem::swap(&mut loaded.down.registers, &mut flight.registers);
     flight.stage += 1;

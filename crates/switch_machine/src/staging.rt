@@ -1,5 +1,5 @@
 //! The calls of a switch in memory by which passes go on stage by stage.
-ghost use Rattle.std.specs.Prelude.{◌≡◌, ◌≤◌, ◌<◌, ◌∷◌, [], ℕ, suc, false, true, nat_lt, vec_len, vec_capacity, None, Some};
+ghost use Rattle.std.specs.Prelude.{◌≡◌, ◌≤◌, ◌<◌, ◌∷◌, [], ℕ, suc, false, true, vec_len, vec_capacity, None, Some};
 ghost use Rattle.std.specs.Prelude.{length, OnOk, OnErr, IfOk, IsSome};
 ghost use Rattle.gal_io.specs.Count.{IsCountedIf};
 ghost use Rattle.packet_fields.specs.Sizes.{largest_packet};
@@ -25,26 +25,26 @@ use switch_ir::{DownEnd, Entry, UpEnd};
 impl ModelSwitch {
     ghost use Rattle.switch_machine.specs.Views.{machine_of};
 
-    // Whether preprocessing has a stage above this one.
-    fn has_more_up(&self, stage: u32) -> bool
+    // The highest stage of preprocessing.
+    fn highest_up(&self) -> u32
         requires { IsSome (machine_of self.now).code }
-        ensures { (code : Code) → (machine_of self.now).code ≡ Some code → result ≡ nat_lt stage code.pre.highest }
+        ensures { (code : Code) → (machine_of self.now).code ≡ Some code → result ≡ code.pre.highest }
     {
         let Some(loaded) = &self.loaded else {
             unreachable!()
         };
-        stage < loaded.code.pre.highest
+        loaded.code.pre.highest
     }
 
-    // Whether postprocessing has one.
-    fn has_more_down(&self, stage: u32) -> bool
+    // The highest stage of postprocessing.
+    fn highest_down(&self) -> u32
         requires { IsSome (machine_of self.now).code }
-        ensures { (code : Code) → (machine_of self.now).code ≡ Some code → result ≡ nat_lt stage code.post.highest }
+        ensures { (code : Code) → (machine_of self.now).code ≡ Some code → result ≡ code.post.highest }
     {
         let Some(loaded) = &self.loaded else {
             unreachable!()
         };
-        stage < loaded.code.post.highest
+        loaded.code.post.highest
     }
 
     // The pass over a packet that arrives, where it fails or ends at once.
@@ -148,7 +148,7 @@ impl ModelSwitch {
         ensures stays { IfOk result (λ end. IsLeft (machine_of self.old) (machine_of self.new)) }
         ensures err { OnErr result (machine_of self.new ≡ machine_of self.old) }
     {
-        if fails || !self.has_more_up(0) {
+        if fails || self.highest_up() == 0 {
             self.begin_whole_up(alloc, number, port, packet, fails)
         } else {
             self.enter_arriving(alloc, number, port, packet)?;
@@ -239,9 +239,8 @@ impl ModelSwitch {
             return Ok(UpEnd::Failed);
         }
         let place = self.arriving_at(number);
-        let stage = self.arriving[place].stage;
-        prove!(stage < u32::MAX);
-        if self.has_more_up(stage + 1) {
+        let done = self.arriving[place].stage;
+        if self.highest_up().saturating_sub(done) > 1 {
             self.go_on_arriving(place, number)?;
             Ok(UpEnd::Going)
         } else {
@@ -325,7 +324,7 @@ impl ModelSwitch {
         ensures stays { IfOk result (λ end. IsLeft (machine_of self.old) (machine_of self.new)) }
         ensures err { OnErr result (machine_of self.new ≡ machine_of self.old) }
     {
-        if fails || !self.has_more_down(0) {
+        if fails || self.highest_down() == 0 {
             self.begin_whole_down(alloc, frame, fails)
         } else {
             self.enter_leaving(alloc, frame)?;
@@ -407,9 +406,8 @@ impl ModelSwitch {
             return Ok(DownEnd::Failed);
         }
         let place = self.leaving_at(number);
-        let stage = self.leaving[place].stage;
-        prove!(stage < u32::MAX);
-        if self.has_more_down(stage + 1) {
+        let done = self.leaving[place].stage;
+        if self.highest_down().saturating_sub(done) > 1 {
             self.go_on_leaving(place, number)?;
             Ok(DownEnd::Going)
         } else {

@@ -180,6 +180,8 @@ pub(crate) fn go_on_up(loaded: &mut Loaded, tables: &SwitchTables, flight: &mut 
     preprocessing_goes_by_stages();
     a_pass_by_place();
     are_few(&flight.registers);
+    let highest = loaded.code.pre.highest;
+    prove!(flight.stage < highest);
     take_stage(&loaded.pre, &mut loaded.up, tables, flight);
     std::mem::swap(&mut loaded.up.registers, &mut flight.registers);
     flight.stage += 1;
