@@ -11,9 +11,10 @@ use Rattle.switch_ir.specs.declared.port.UpEnd.{UpEnd}
 use Rattle.switch_ir.specs.declared.port.UpEnd.TheVariants as up
 use Rattle.switch_ir.specs.declared.port.DownEnd.{DownEnd}
 use Rattle.switch_ir.specs.declared.port.DownEnd.TheVariants as down
-use Rattle.switch_ir.specs.Port.{noted_up, noted_down, up_failed, down_failed, BeginsDown, BeginsUp, EndsDown, EndsUp, HasNoDownPassOf, IsUpFrame, KeepsTables, OfItsParts, StagesDown, StagesUp}
+use Rattle.switch_ir.specs.Port.{noted_up, noted_down, up_failed, down_failed, BeginsDown, BeginsUp, EndsDown, EndsUp, HasNoDownPassOf, IsHandedDown, IsNothing, IsUpFrame, KeepsTables, OfItsParts, StagesDown, StagesUp}
+use Rattle.switch_ir.specs.Staged.{post_staging, pre_staging}
 use Rattle.switch_ir.specs.Tables.{Told}
-use Rattle.switch_ir.specs.UnderWay.{BegunDown, BegunUp, GoesDown, GoesUp, LeavesDown, LeavesUp, PassState, UnderWay}
+use Rattle.switch_ir.specs.UnderWay.{BegunDown, BegunUp, GoesDown, GoesUp, HasEntered, HasGoneOn, LeavesDown, LeavesUp, PassState, UnderWay}
 use Rattle.switch_machine.specs.declared.calls.CallKind.{CallKind}
 use Rattle.switch_machine.specs.Calls.{ended, IsCountedAs}
 use Rattle.switch_machine.specs.Counts.{counted, CallCounts}
@@ -156,7 +157,7 @@ stages_last_up number old new end e last =
       post = ap (λ (m : MachineState). m.passes.post) e.is;
       others = λ n other. ap (λ (m : MachineState). m.passes.pre n) e.is ∙ at_other number n None old.passes.pre other;
       goes = λ code pass is there. goes_last_up end e.passes (nat_lt (suc pass.stage) code.pre.highest) (no_more (suc pass.stage) code.pre.highest (sym (last code pass is there)));
-      pass = λ code pass is there. leaves_last_up _ end pass (new.passes.pre number) e.passes
+      pass = λ code pass is there. leaves_last_up (HasGoneOn (pre_staging code) (Some old.tables) pass) end pass (new.passes.pre number) e.passes
           (ap (λ (m : MachineState). m.passes.pre number) e.is ∙ at_number number None old.passes.pre);
       frame = e.frame;
       told = e.told;
@@ -227,7 +228,7 @@ begins_whole_up fails number port packet old new end passes is none low frame to
   post = ap (λ (m : MachineState). m.passes.post) is;
   others = λ n other. ap (λ (m : MachineState). m.passes.pre n) is;
   goes = λ code loaded. goes_whole_up fails (nat_lt 0 code.pre.highest) end passes (λ e. no_more 0 code.pre.highest (low e code loaded));
-  pass = λ code loaded. begun_whole_up _ fails end (new.passes.pre number) passes (ap (λ (m : MachineState). m.passes.pre number) is ∙ none);
+  pass = λ code loaded. begun_whole_up (HasEntered (pre_staging code) IsNothing (record { port = port; bytes = packet }) (Some old.tables)) fails end (new.passes.pre number) passes (ap (λ (m : MachineState). m.passes.pre number) is ∙ none);
   frame = frame;
   told = λ code tables loaded are.
       subst (λ (t : Told). EndsUp code t number (record { port = port; bytes = packet }) end) (the_some old.tables tables are) (told code loaded);
@@ -333,7 +334,7 @@ stages_last_down number old new end e last =
       pre = ap (λ (m : MachineState). m.passes.pre) e.is;
       others = λ n other. ap (λ (m : MachineState). m.passes.post n) e.is ∙ at_other number n None old.passes.post other;
       goes = λ code pass is there. goes_last_down end e.passes (nat_lt (suc pass.stage) code.post.highest) (no_more (suc pass.stage) code.post.highest (sym (last code pass is there)));
-      pass = λ code pass is there. leaves_last_down _ end pass (new.passes.post number) e.passes
+      pass = λ code pass is there. leaves_last_down (HasGoneOn (post_staging code) (Some old.tables) pass) end pass (new.passes.post number) e.passes
           (ap (λ (m : MachineState). m.passes.post number) e.is ∙ at_number number None old.passes.post);
       told = e.told;
     }
@@ -408,7 +409,7 @@ begins_whole_down fails frame old new end passes is none low told = record {
   others = λ code loaded number port values packet framed n other. ap (λ (m : MachineState). m.passes.post n) is;
   goes = λ code loaded. goes_whole_down fails (nat_lt 0 code.post.highest) end passes (λ e. no_more 0 code.post.highest (low e code loaded));
   pass = λ code loaded number port values packet framed.
-      begun_whole_down _ fails end (new.passes.post number) passes
+      begun_whole_down (HasEntered (post_staging code) (IsHandedDown code values (record { port = port; bytes = packet })) (record { port = port; bytes = packet }) (Some old.tables)) fails end (new.passes.post number) passes
       (ap (λ (m : MachineState). m.passes.post number) is ∙ at_code old.code code none loaded number port values packet framed);
   told = λ code tables loaded are.
       subst (λ (t : Told). EndsDown code t frame end) (the_some old.tables tables are) (told code loaded);
