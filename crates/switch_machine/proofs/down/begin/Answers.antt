@@ -1,4 +1,4 @@
-use Rattle.std.proofs.Common.{◌≡◌, ◌∙◌, ap, arith, refl, List, map}
+use Rattle.std.proofs.Common.{◌≡◌, ◌∙◌, ap, subst, arith, Bool, IfOk, refl, List, map}
 use Rattle.flat_ir.specs.Registers.{packet_of}
 use Rattle.switch_ir.specs.Code.{code_of}
 use Rattle.switch_ir.specs.Staged.{post_staging}
@@ -44,4 +44,4 @@ returns-clause-begun c given begins =
     (λ f b. has_begun l.code.post (post_staging code) l.post_numbering given c.args.number packet told after done f b same
     (c.run_stage.ensures.plan ∙ l.post_plan) (c.run_stage.ensures.count ∙ l.down_count) c.requires.size c.requires.left
     (c.postprocessing_goes_by_stages.ensures.entry code l.post_numbering start told packet given (ready_down l start refl) c.requires.safe c.requires.placed begins))
-    c.keep.ensures
+    (subst (λ (bit : Bool). IfOk c.keep.result (IsBegun c.args.number packet bit after)) c.bit.ensures c.keep.ensures)

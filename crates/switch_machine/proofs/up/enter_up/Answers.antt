@@ -1,4 +1,4 @@
-use Rattle.std.proofs.Common.{◌≡◌, ◌∙◌, ap, arith, List, map}
+use Rattle.std.proofs.Common.{◌≡◌, ◌∙◌, ap, subst, arith, Bool, IfOk, List, map}
 use Rattle.packet_fields.specs.declared.packet.Packet.{Packet}
 use Rattle.flat_ir.specs.Blocks.{nothing}
 use Rattle.switch_ir.specs.Code.{code_of}
@@ -46,4 +46,4 @@ returns-clause-begun c =
     (c.run_stage.ensures.plan ∙ c.clear.ensures.plan ∙ l.pre_plan) (c.run_stage.ensures.count ∙ c.clear.ensures.count ∙ l.up_count) c.requires.size c.requires.left
     (c.preprocessing_goes_by_stages.ensures.entry code l.pre_numbering cleared told packet (ready_up l cleared c.clear.ensures.plan) c.requires.safe
     c.clear.ensures.contents c.clear.ensures.placed))
-    c.keep.ensures
+    (subst (λ (bit : Bool). IfOk c.keep.result (IsBegun c.args.number packet bit after)) c.bit.ensures c.keep.ensures)
