@@ -1,5 +1,5 @@
 //! Passes that are under way, stage by stage.
-ghost use Rattle.std.specs.Prelude.{◌≡◌, ℕ, ◌≤◌, ◌<◌, ◌==◌, suc, position, length, slice_index_or, IfOk, OnErr, OnOk};
+ghost use Rattle.std.specs.Prelude.{◌≡◌, ℕ, ◌≤◌, ◌<◌, ◌==◌, suc, filter, not, position, length, IfOk};
 ghost use Rattle.packet_fields.specs.Shape.{shape_of};
 ghost use Rattle.packet_fields.specs.Sizes.{largest_packet};
 ghost use Rattle.flat_ir.specs.Registers.{packet_of};
@@ -58,6 +58,13 @@ pub(crate) fn place_of(flights: &[Flight], number: u32) -> Option<usize>
     ensures { result ≡ position (λ (f : PassFlight). f.number == number) flights.now }
 {
     flights.iter().position(|flight| flight.number == number)
+}
+
+/// Takes the passes over the packet of this number out of a list. This takes no memory.
+pub(crate) fn take_out(flights: &mut Vec<Flight>, number: u32)
+    ensures { flights.new.items ≡ filter (λ (f : PassFlight). not (f.number == number)) flights.old.items }
+{
+    flights.retain(|flight| flight.number != number);
 }
 
 // Gives registers the numbers of others that go by the same plan.

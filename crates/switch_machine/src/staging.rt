@@ -15,7 +15,7 @@ ghost use Rattle.switch_machine.specs.Machine.{seen_of};
 ghost use Rattle.switch_machine.specs.Staging.{went, EntersUp, EntersByFrame, DownIsPlanned, GoesOnUp, GoesOnDown, IsLastUp, IsLastDown, IsLeft, IsPlaceOf, UpIsPlanned};
 
 use crate::down::{enter_down, finish_down, go_on_down};
-use crate::flight::place_of;
+use crate::flight::{place_of, take_out};
 use crate::machine::ModelSwitch;
 use crate::up::{enter_up, finish_up, go_on_up};
 use gal_io::{Bytes, NoMemory};
@@ -191,7 +191,7 @@ impl ModelSwitch {
         let end = finish_up(alloc, loaded, &self.tables, &self.arriving[place])?;
         let answer = end.copy(alloc)?;
         self.note(Entry::StageUp { number, answer })?;
-        self.arriving.retain(|flight| flight.number != number);
+        take_out(&mut self.arriving, number);
         Ok(end)
     }
 
@@ -368,7 +368,7 @@ impl ModelSwitch {
         let end = DownEnd::Verdict(verdict);
         let answer = end.copy(alloc)?;
         self.note(Entry::StageDown { number, answer })?;
-        self.leaving.retain(|flight| flight.number != number);
+        take_out(&mut self.leaving, number);
         Ok(end)
     }
 
