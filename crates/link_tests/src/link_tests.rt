@@ -58,7 +58,7 @@ fn delivers(alloc: Global) -> Result<bool, NoMemory> {
     receiver.take(b"\0\0\0\x07item")?;
     receiver.take(b"\0\0\0\x07other")?;
     Ok(match receiver.as_slice() {
-        [pair] => pair.number == 7 && pair.item.as_slice() == b"item",
+        [pair] => pair.number == 7 && pair.item.as_slice() == b"item".as_slice(),
         _ => false,
     })
 }

@@ -78,6 +78,12 @@ rising_remove a b [] i up inside = absurd (omega arith)
 rising_remove a b (x ∷ xs) zero up inside = rising_lower (suc x) a b xs (omega (arith, up.0)) up.2
 rising_remove a b (x ∷ xs) (suc i) up inside = (up.0, up.1, rising_remove (suc x) b xs i up.2 (omega arith))
 
+-- there are no more than between the bounds
+pub rising_short : (a b : ℕ) (xs : List ℕ) → AreRising a b xs → a ≤ b → a + length xs ≤ b
+rising_short a b [] up le = omega arith
+rising_short a b (x ∷ xs) up le =
+    omega (arith, up.0, rising_short (suc x) b xs up.2 (omega (arith, up.1)))
+
 -- what is below the numbers isn't among them
 rising_apart : (a b : ℕ) (xs : List ℕ) (n : ℕ) → AreRising a b xs → n < a → is_among xs n ≡ false
 rising_apart a b xs n up below =
