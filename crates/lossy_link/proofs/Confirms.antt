@@ -62,6 +62,11 @@ pub record Learns (s : Sender) (number : ℕ) (answer : Confirm) (after : Sender
 abbrev sender_of_parts : List (List ℕ) → set.FinSet nat_cmp → Sender
 sender_of_parts items known = record { items = items; known = known }
 
+-- the number of an item is below the count of the items
+pub of_an_item : (items : List (List ℕ)) (xs : List ℕ) (s : Sender) (n : ℕ) → sender_with items xs ≡ s → n < length s.items
+    → n < length items
+of_an_item items xs s n is below = omega (arith, below, ap (λ (t : Sender). length t.items) is)
+
 -- a search by halves finds the number
 pub found_at : (items : List (List ℕ)) (xs : List ℕ) (n place : ℕ) → AreRising 0 (length items) xs → n < length items
     → IsBinarySearchResult (λ y. nat_cmp y n) xs (Ok place)

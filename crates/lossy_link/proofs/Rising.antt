@@ -85,7 +85,7 @@ rising_short a b (x ∷ xs) up le =
     omega (arith, up.0, rising_short (suc x) b xs up.2 (omega (arith, up.1)))
 
 -- what is below the numbers isn't among them
-rising_apart : (a b : ℕ) (xs : List ℕ) (n : ℕ) → AreRising a b xs → n < a → is_among xs n ≡ false
+pub rising_apart : (a b : ℕ) (xs : List ℕ) (n : ℕ) → AreRising a b xs → n < a → is_among xs n ≡ false
 rising_apart a b xs n up below =
     not_among xs n (λ k inside same. absurd (omega (arith, same, below, rising_from a b xs up k inside)))
 

@@ -69,7 +69,7 @@ impl LinkSender {
     }
 
     /// How many items are known to be delivered.
-    #[tactic(auto, using(crate::proofs::Counted::known_count))]
+    #[tactic(auto, using(crate::proofs::Counted::known_count, crate::proofs::Rising::rising_short))]
     pub fn known(&self) -> usize
         ensures { result ≡ set.len self.now.known }
     {
