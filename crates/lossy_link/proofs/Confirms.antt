@@ -1,6 +1,9 @@
 -- What a sender keeps, call by call.
-use Rattle.std.proofs.Common.{◌≡◌, ◌≢◌, ◌<◌, ◌≤◌, ◌+◌, ◌-◌, ◌^◌, ℕ, zero, suc, Bool, true, false, ◌&&◌, cond, List, [], ◌∷◌, ◌++◌, length, get_or, take, refl, sym, ap, ◌∙◌, subst, inl, inr, Some, None, arith}
-use Rattle.std.specs.Prelude.{Ok, Err}
+use Rattle.std.proofs.Common.{◌≡◌, ◌≢◌, ◌<◌, ◌≤◌, ◌+◌, ◌-◌, ◌^◌, ℕ, zero, suc, Bool, true, false, ◌&&◌, cond, List, [], ◌∷◌, ◌++◌, length, get_or, take, refl, sym, ap, ◌∙◌, subst, inl, inr, Some, None, Bor, arith}
+use Rattle.std.specs.Prelude.{Ok, Err, Option, slice_get}
+use Rattle.std.specs.Option.{option_copied}
+use Rattle.std.specs.Slice.{IsItemAt}
+use Rattle.std.proofs.lemmas.Option.{slice_get_past, slice_get_read}
 use Rattle.std.specs.FinSet as set
 use Rattle.std.specs.List.{remove}
 use Rattle.std.specs.List.Sorted.{IsBinarySearchResult}
@@ -51,6 +54,11 @@ taken_back xs ys zs n ys_is zs_is =
 pub unknown_kept : (items : List (List ℕ)) (xs : List ℕ) → AreRising 0 (length items) xs
     → unknown (sender_with items xs).items (sender_with items xs).known ≡ xs
 unknown_kept items xs up = unknown_are items xs up
+
+-- what is lent at a place, copied
+pub copied_at : (xs : List ℕ) (j : ℕ) (r : Option (Bor ℕ)) → IsItemAt xs j r → option_copied r ≡ slice_get xs j
+copied_at xs j None at = sym (slice_get_past xs j at.3)
+copied_at xs j (Some x) at = sym (slice_get_read xs (length xs) j x.now refl at.3.0 at.1)
 
 -- ---- confirmations
 

@@ -1,5 +1,5 @@
 -- Commands and their bytes.
-use Rattle.std.proofs.Common.{◌≡◌, ◌≢◌, ◌<◌, ◌≤◌, ◌+◌, ◌*◌, ◌/◌, ◌^◌, ℕ, zero, suc, Bool, true, false, ◌&&◌, List, [], ◌∷◌, ◌++◌, length, get_or, take, drop, refl, sym, ap, ◌∙◌, subst, Some, None, arith, append-nil, add-zero, lit<, pow_mono, true≢false}
+use Rattle.std.proofs.Common.{◌≡◌, ◌≢◌, ◌<◌, ◌≤◌, ◌+◌, ◌-◌, ◌*◌, ◌/◌, ◌^◌, ℕ, zero, suc, Bool, true, false, ◌&&◌, List, [], ◌∷◌, ◌++◌, length, get_or, take, drop, refl, sym, ap, ◌∙◌, subst, Some, None, arith, append-nil, add-zero, lit<, pow_mono, true≢false}
 use Rattle.std.specs.Prelude.{IsTrue, nat_eq, nat_lt, slice_get}
 use Rattle.std.specs.Int.{w64, to_be_bytes, from_be_bytes}
 use Rattle.std.specs.List.{All, flat_map}
@@ -222,6 +222,16 @@ read_misfit widths ns bytes i n inside small spelled misfit s =
     (spelled ∙ (ap (λ (b : List ℕ). take 8 (drop (8 * i) b)) s.spelled ∙ word_at ns i there)) in
     true≢false (sym (width_at widths ns i s.fit inside) ∙ (ap (λ (k : ℕ). nat_lt k (2 ^ get_or widths i 0)) (sym same) ∙ misfit))
 
+-- ---- the first byte and the others
+
+pub first_and_rest : (bytes : List ℕ) → 1 ≤ length bytes → bytes ≡ get_or bytes 0 0 ∷ take (length bytes - 1) (drop 1 bytes)
+first_and_rest [] long = absurd (omega arith)
+first_and_rest (b ∷ rest) long = ap (λ (xs : List ℕ). b ∷ xs) (sym (take_all (length (b ∷ rest) - 1) rest (omega arith)))
+
+rest_is : (bytes rest : List ℕ) (b : ℕ) → bytes ≡ b ∷ rest → take (length bytes - 1) (drop 1 bytes) ≡ rest
+rest_is bytes rest b is =
+    ap (λ (xs : List ℕ). take (length xs - 1) (drop 1 xs)) is ∙ take_all (length (b ∷ rest) - 1) rest (omega arith)
+
 -- ---- what a key has
 
 pub to_gone : (d : ObjectDecl) (to : To) → SpellTo d to (0 ∷ []) → Some Gone ≡ Some to
@@ -250,6 +260,15 @@ value_once d values rest Gone v s = absurd (omega (arith, ap (λ (b : List ℕ).
 value_once d values rest (Value more) v s =
     ap (λ (xs : List ℕ). Some (Value xs)) (words_same values more v.small s.small (sym v.spelled ∙ ap (λ (b : List ℕ). drop 1 b) s.spelled))
 
+pub value_back : (d : ObjectDecl) (values bytes : List ℕ) (to : To) → get_or bytes 0 0 ≡ 1
+    → SpellWords d.values values (take (length bytes - 1) (drop 1 bytes)) → SpellTo d to bytes → Some (Value values) ≡ Some to
+value_back d values [] to one v s = absurd (omega (arith, one))
+value_back d values (b ∷ more) to one v s =
+    let bytes : List ℕ = b ∷ more in
+    let rest = take (length bytes - 1) (drop 1 bytes) in
+    let is : bytes ≡ 1 ∷ rest = first_and_rest bytes (omega arith) ∙ ap (λ (k : ℕ). k ∷ rest) one in
+    value_once d values rest to v (subst (λ (bs : List ℕ). SpellTo d to bs) is s)
+
 -- no other bytes say what a key has
 pub to_starts : (d : ObjectDecl) (to : To) (b : ℕ) (rest : List ℕ) → SpellTo d to (b ∷ rest) → b ≢ 1 → (b ≡ 0 → rest ≢ []) → ⊥
 to_starts d Gone b rest s not_value not_gone =
@@ -269,6 +288,10 @@ first_all xs ys all =
 second_all : (xs ys : List ℕ) → AreWords (xs ++ ys) → AreWords ys
 second_all xs ys all =
     All-same (λ n. n < 2 ^ 64) ys (drop (length xs) (xs ++ ys)) (sym (drop_at xs ys (length xs) refl)) (All-drop (λ n. n < 2 ^ 64) (length xs) (xs ++ ys) all)
+
+-- the numbers of a key and of what it has
+pub both_words : (key : List ℕ) (to : To) → AreWords key → AreWords (numbers_to to) → AreWords (key ++ numbers_to to)
+both_words key to first second = All-append (λ n. n < 2 ^ 64) key (numbers_to to) first second
 
 -- the parts of a change, where its object is this one
 pub record HasParts (d : ObjectDecl) (u : Update) (o : ℕ) (rest : List ℕ) : Type 0 where
@@ -325,3 +348,32 @@ update_once objects o d key to u rest parts keys tos =
     let same_to : to ≡ u.to = cc in
     let same_object : o ≡ u.object = sym parts.object in
     λ i. Some (record { object = same_object i; key = same_key i; to = same_to i })
+
+-- ---- commands
+
+-- a command that changes what a key has is told by the change
+pub stage_back : (objects : List ObjectDecl) (bytes : List ℕ) (u : Update) (command : Command) → get_or bytes 0 0 ≡ 1
+    → ((v : Update) → SpellUpdate objects v (take (length bytes - 1) (drop 1 bytes)) → Some u ≡ Some v)
+    → AreBytesOf objects command bytes → Some (Stage u) ≡ Some command
+stage_back objects bytes u (Stage v) one back s =
+    let both : Some u ≡ Some v =
+    back v (record { declared = s.declared; small = s.small; spelled = rest_is bytes (update_bytes v) 1 s.spelled }) in
+    let same : u ≡ v = cc in
+    ap (λ (w : Update). Some (Stage w)) same
+stage_back objects bytes u On one back s = absurd (omega (arith, one, ap (λ (b : List ℕ). get_or b 0 0) s.spelled))
+stage_back objects bytes u (Main v) one back s = absurd (omega (arith, one, ap (λ (b : List ℕ). get_or b 0 0) s.spelled))
+stage_back objects bytes u Off one back s = absurd (omega (arith, one, ap (λ (b : List ℕ). get_or b 0 0) s.spelled))
+stage_back objects bytes u (Clear object key) one back s = absurd (omega (arith, one, ap (λ (b : List ℕ). get_or b 0 0) s.spelled))
+
+pub main_back : (objects : List ObjectDecl) (bytes : List ℕ) (u : Update) (command : Command) → get_or bytes 0 0 ≡ 3
+    → ((v : Update) → SpellUpdate objects v (take (length bytes - 1) (drop 1 bytes)) → Some u ≡ Some v)
+    → AreBytesOf objects command bytes → Some (Main u) ≡ Some command
+main_back objects bytes u (Stage v) three back s = absurd (omega (arith, three, ap (λ (b : List ℕ). get_or b 0 0) s.spelled))
+main_back objects bytes u On three back s = absurd (omega (arith, three, ap (λ (b : List ℕ). get_or b 0 0) s.spelled))
+main_back objects bytes u (Main v) three back s =
+    let both : Some u ≡ Some v =
+    back v (record { declared = s.declared; small = s.small; spelled = rest_is bytes (update_bytes v) 3 s.spelled }) in
+    let same : u ≡ v = cc in
+    ap (λ (w : Update). Some (Main w)) same
+main_back objects bytes u Off three back s = absurd (omega (arith, three, ap (λ (b : List ℕ). get_or b 0 0) s.spelled))
+main_back objects bytes u (Clear object key) three back s = absurd (omega (arith, three, ap (λ (b : List ℕ). get_or b 0 0) s.spelled))

@@ -67,12 +67,42 @@ fn put_update(bytes: &mut Bytes, update: &Update) -> Result<(), NoMemory>
     }
 }
 
+// Numbers of 64 bits are below 2^64.
+fn are_words(numbers: &Values)
+    ensures { AreWords numbers.now }
+{
+    let _ = numbers.as_slice();
+}
+
+// So are those of a change.
+#[tactic(auto, using(crate::proofs::Spelled::both_words))]
+fn have_words(update: &Update)
+    ensures { AreWords (update.now.key ++ numbers_to update.now.to) }
+{
+    are_words(&update.key);
+    if let To::Value(values) = &update.to {
+        are_words(values);
+    }
+}
+
+// So are those of a command.
+fn has_words(command: &Command)
+    ensures { AreWords (numbers_of command.now) }
+{
+    match command {
+        Command::Stage(update) | Command::Main(update) => have_words(update),
+        Command::Clear(_, key) => are_words(key),
+        Command::On | Command::Off => {}
+    }
+}
+
 /// The bytes of a command. An object that it names must have a number below 64.
 pub fn write_command(alloc: Global, command: &Command) -> Result<Bytes, NoMemory>
     requires { NamesBelow 64 command.now }
     ensures bytes { IfOk result (λ bytes. bytes ≡ bytes_of command.now) }
     ensures words { AreWords (numbers_of command.now) }
 {
+    has_words(command);
     let mut bytes = Bytes::new(alloc);
     match command {
         Command::Stage(update) => {

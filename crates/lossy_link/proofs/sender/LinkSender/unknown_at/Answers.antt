@@ -1,7 +1,7 @@
-use Rattle.std.proofs.Common.{rules, ◌≡◌, ℕ, List, length, sym, ap, subst, ◌∙◌}
+use Rattle.std.proofs.Common.{◌≡◌, ℕ, List, length, sym, ap, subst, ◌∙◌}
 use Rattle.std.specs.Prelude.{slice_get}
 use Rattle.lossy_link.specs.Sender.{unknown}
-use Rattle.lossy_link.proofs.Confirms.{unknown_kept}
+use Rattle.lossy_link.proofs.Confirms.{copied_at, unknown_kept}
 use Rattle.lossy_link.proofs.sender.LinkSender.unknown_at.Goals as goal
 
 pub returns : goal.returns
@@ -10,4 +10,5 @@ returns c =
     let xs = c.self.inside.unknown.items in
     let kept : xs ≡ unknown c.args.self.now.items c.args.self.now.known =
     sym (unknown_kept items xs c.self.invariant) ∙ ap (λ s. unknown s.items s.known) c.self.view_is in
-    subst (λ (ys : List ℕ). c.copied.result ≡ slice_get ys c.args.j) kept (search rules)
+    c.copied.ensures ∙ (copied_at c.as_slice.result.now c.args.j c.get.result c.get.ensures.lookup
+    ∙ ap (λ (ys : List ℕ). slice_get ys c.args.j) (c.as_slice.ensures.value ∙ kept))
