@@ -1,14 +1,13 @@
 -- What a sender keeps, call by call.
 use Rattle.std.proofs.Common.{◌≡◌, ◌≢◌, ◌<◌, ◌≤◌, ◌+◌, ◌-◌, ◌^◌, ℕ, zero, suc, Bool, true, false, ◌&&◌, cond, List, [], ◌∷◌, ◌++◌, length, get_or, take, refl, sym, ap, ◌∙◌, subst, inl, inr, Some, None, Bor, arith}
-use Rattle.std.specs.Prelude.{Ok, Err, Option, slice_get}
-use Rattle.std.specs.Option.{option_copied}
-use Rattle.std.specs.Slice.{IsItemAt}
+use Rattle.std.specs.Prelude.{Ok, Err, Option, IfSome, nat_lt, slice_get}
+use Rattle.std.specs.Option.{is_some, option_copied}
 use Rattle.std.proofs.lemmas.Option.{slice_get_past, slice_get_read}
 use Rattle.std.specs.FinSet as set
 use Rattle.std.specs.List.{remove}
 use Rattle.std.specs.List.Sorted.{IsBinarySearchResult}
 use Rattle.std.specs.Ordering.{nat_cmp}
-use Rattle.std.proofs.lemmas.Bool.{cases_lt}
+use Rattle.std.proofs.lemmas.Bool.{cases_lt, ltb-false, ltb-true}
 use Rattle.std.proofs.lemmas.List.{length_push, take_at}
 use Rattle.std.proofs.lemmas.List.Sorted.{searched}
 use Rattle.lossy_link.specs.declared.answers.Confirm.{Confirm}
@@ -56,9 +55,10 @@ pub unknown_kept : (items : List (List ℕ)) (xs : List ℕ) → AreRising 0 (le
 unknown_kept items xs up = unknown_are items xs up
 
 -- what is lent at a place, copied
-pub copied_at : (xs : List ℕ) (j : ℕ) (r : Option (Bor ℕ)) → IsItemAt xs j r → option_copied r ≡ slice_get xs j
-copied_at xs j None at = sym (slice_get_past xs j at.3)
-copied_at xs j (Some x) at = sym (slice_get_read xs (length xs) j x.now refl at.3.0 at.1)
+pub copied_at : (xs : List ℕ) (j : ℕ) (r : Option (Bor ℕ)) → is_some r ≡ nat_lt j (length xs)
+    → IfSome r (λ x. x.now ≡ get_or xs j x.now) → option_copied r ≡ slice_get xs j
+copied_at xs j None there at = sym (slice_get_past xs j (ltb-false j (length xs) (sym there)))
+copied_at xs j (Some x) there at = sym (slice_get_read xs (length xs) j x.now refl (ltb-true j (length xs) (sym there)) at)
 
 -- ---- confirmations
 

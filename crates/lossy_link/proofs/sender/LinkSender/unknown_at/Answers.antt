@@ -10,5 +10,5 @@ returns c =
     let xs = c.self.inside.unknown.items in
     let kept : xs ≡ unknown c.args.self.now.items c.args.self.now.known =
     sym (unknown_kept items xs c.self.invariant) ∙ ap (λ s. unknown s.items s.known) c.self.view_is in
-    c.copied.ensures ∙ (copied_at c.as_slice.result.now c.args.j c.get.result c.get.ensures.lookup
+    c.copied.ensures ∙ (copied_at c.as_slice.result.now c.args.j c.get.result c.get.ensures.lookup.0 c.get.ensures.lookup.1
     ∙ ap (λ (ys : List ℕ). slice_get ys c.args.j) (c.as_slice.ensures.value ∙ kept))
