@@ -1,146 +1,244 @@
 -- Every list of calls keeps the counts in order, and what is seen only rises.
-use Rattle.std.proofs.Common.{◌≡◌, ◌≤◌, ℕ, zero, suc, ◌+◌, Bool, true, false, cond, nat_lt, List, [], ◌∷◌, ◌++◌, length, take, Option, Some, None, refl, sym, ap, ◌∙◌, arith, append-nil, append_assoc}
+use Rattle.std.proofs.Common.{◌≡◌, ◌≤◌, ◌<◌, ℕ, zero, suc, ◌+◌, Bool, true, false, cond, nat_lt, List, [], ◌∷◌, ◌++◌, length, take, Option, Some, None, refl, sym, subst, ap, ◌∙◌, arith, append-nil, append_assoc}
 use Rattle.std.specs.Prelude.{slice_get, remove}
-use Rattle.std.proofs.lemmas.Bool.Decides.{nat_tests}
+use Rattle.std.proofs.lemmas.Bool.{ltb-true, ltb-false}
 use Rattle.writeback_table.specs.declared.command.Update.{Update}
 use Rattle.writeback_table.specs.declared.command.Command.{Command}
-use Rattle.writeback_table.specs.Commands.{ons}
-use Rattle.writeback_table.specs.Batches.{all_commands}
 use Rattle.output_commit.specs.declared.output.Output.{Output}
 use Rattle.output_commit.specs.declared.output.Release.TheVariants.{Frame, NotYet}
-use Rattle.output_commit.specs.Commit.{Commit, IsInOrder, first, batch_of, visible, acknowledged, with_output, after_release}
-use Rattle.output_commit.specs.Laws.{Call, after_call, after_calls, with_batch, batches_of, IsKeptInOrder, IsSeenFromThenOn}
+use Rattle.output_commit.specs.Batches.{Batch, commands_in, fits, merged}
+use Rattle.output_commit.specs.Commit.{AreHeld, Commit, IsInOrder, first, batch_of, commands, visible, acknowledged, with_output, after_release}
+use Rattle.output_commit.specs.Laws.{Call, HoldsFitting, after_call, after_calls, changes_in, changes_of, one_if_any, versions_in, versions_of, IsKeptInOrder, IsSeenFromThenOn, StaysSent}
 use Rattle.output_commit.specs.Laws.Call.{hold, send, apply, acknowledge, release}
+use Rattle.output_commit.proofs.Merging.{merged_changes, merged_goes_on, merged_held, merged_take, merged_versions, push_changes, push_commands, push_held, push_take, push_versions}
+use Rattle.output_commit.proofs.Seeing.{visible_front, visible_merged, visible_more}
+use Rattle.std.proofs.lemmas.List.{length-append}
 
--- more commands set the bit at least as often
-ons_rise : (cs : List Command) (m n : ℕ) → m ≤ n → ons (take m cs) ≤ ons (take n cs)
-ons_rise cs zero n h = omega arith
-ons_rise [] (suc m) zero h = omega arith
-ons_rise [] (suc m) (suc n) h = omega arith
-ons_rise (c ∷ cs) (suc m) zero h = absurd (omega (arith, h))
-ons_rise (c ∷ cs) (suc m) (suc n) h = let r = ons_rise cs m n (omega (arith, h)) in omega arith
-
--- commands behind all others change no count of those before
-take_front : (cs ds : List Command) (n : ℕ) → n ≤ length cs → take n (cs ++ ds) ≡ take n cs
-take_front cs ds zero h = refl
-take_front [] ds (suc n) h = absurd (omega (arith, h))
-take_front (c ∷ cs) ds (suc n) h = ap (λ l. c ∷ l) (take_front cs ds n (omega (arith, h)))
-
-longer : (cs ds : List Command) → length cs ≤ length (cs ++ ds)
-longer [] ds = omega arith
-longer (c ∷ cs) ds = let r = longer cs ds in omega arith
-
--- the counts stay in order, what is seen only rises, and these commands come in
-record GoesOn (c c' : Commit) (added : List Command) : Type 0 where
+-- the counts stay in order, what is seen only rises, what was sent stays, and these changes come in
+record GoesOn (c c' : Commit) (added : List Update) (outputs : ℕ) : Type 0 where
   in_order : IsInOrder c'
   rises : visible c ≤ visible c'
-  commands : c'.commands ≡ c.commands ++ added
+  sent : c.sent ≤ c'.sent
+  stays : (m : ℕ) → m ≤ c.sent → take m (commands c') ≡ take m (commands c)
+  changes : changes_in c'.batches ≡ changes_in c.batches ++ added
+  versions : versions_in c'.batches ≡ versions_in c.batches + outputs
 
-stays : (c : Commit) → IsInOrder c → GoesOn c c []
-stays c i = record { in_order = i; rises = omega arith; commands = sym (append-nil c.commands) }
+stays_so : (c : Commit) → IsInOrder c → GoesOn c c [] 0
+stays_so c i = record {
+  in_order = i;
+  rises = omega arith;
+  sent = omega arith;
+  stays = λ m h. refl;
+  changes = sym (append-nil (changes_in c.batches));
+  versions = omega arith;
+}
 
-held_on : (c : Commit) (output : Output) (us : List Update) → IsInOrder c → GoesOn c (with_output c output us) (batch_of us)
+changes_one : (us : List Update) → changes_in (batch_of us) ≡ us
+changes_one [] = refl
+changes_one (u ∷ us) = append-nil (u ∷ us)
+
+versions_one : (us : List Update) → versions_in (batch_of us) ≡ one_if_any us
+versions_one [] = refl
+versions_one (u ∷ us) = omega arith
+
+held_on : (c : Commit) (output : Output) (us : List Update) → IsInOrder c → GoesOn c (with_output c output us) us (one_if_any us)
 held_on c output us i =
-    let more = longer c.commands (batch_of us) in
-    let same = ap ons (take_front c.commands (batch_of us) c.done (omega (arith, i.done_within, i.sent_within))) in
+    let within = i.sent_within in let less = i.done_within in
+    let longer = ap length (push_commands c.batches (batch_of us)) in
+    let more = length-append (commands_in c.batches) (commands_in (batch_of us)) in
+    let same = visible_front c.batches (batch_of us) c.done (omega arith) in
     record {
-      in_order = record { acked_within = i.acked_within; done_within = i.done_within; sent_within = omega (arith, i.sent_within, more) };
-      rises = omega (arith, same);
-      commands = refl;
+      in_order = record { acked_within = i.acked_within; done_within = i.done_within; sent_within = omega arith };
+      rises = omega arith;
+      sent = omega arith;
+      stays = λ m h. push_take c.batches (batch_of us) m (omega arith);
+      changes = push_changes c.batches (batch_of us) ∙ ap (λ l. changes_in c.batches ++ l) (changes_one us);
+      versions = push_versions c.batches (batch_of us) ∙ ap (λ n. versions_in c.batches + n) (versions_one us);
     }
 
-sent_on : (c : Commit) (b : Bool) → nat_lt c.sent (length c.commands) ≡ b → IsInOrder c → GoesOn c (cond b (record c { sent = c.sent + 1 }) c) []
-sent_on c true e i = record {
-  in_order = record { acked_within = i.acked_within; done_within = omega (arith, i.done_within); sent_within = grind (arith, nat_tests) };
+sent_on : (c : Commit) (b : Bool) → nat_lt c.sent (length (commands c)) ≡ b → IsInOrder c
+    → GoesOn c (cond b (record c { batches = merged (fits c.writeback) c.sent c.batches; sent = c.sent + 1 }) c) [] 0
+sent_on c true e i =
+    let there = ltb-true c.sent (length (commands c)) e in
+    let goes = merged_goes_on (fits c.writeback) c.sent c.batches there in
+    let less = i.done_within in
+    let same = visible_merged (fits c.writeback) c.sent c.done c.batches less in
+    record {
+      in_order = record { acked_within = i.acked_within; done_within = omega arith; sent_within = omega arith };
+      rises = omega arith;
+      sent = omega arith;
+      stays = λ m h. merged_take (fits c.writeback) c.sent m c.batches h;
+      changes = merged_changes (fits c.writeback) c.sent c.batches ∙ sym (append-nil (changes_in c.batches));
+      versions = let v = merged_versions (fits c.writeback) c.sent c.batches in omega arith;
+    }
+sent_on c false e i = stays_so c i
+
+applied_on : (c : Commit) (b : Bool) → nat_lt c.done c.sent ≡ b → IsInOrder c → GoesOn c (cond b (record c { done = c.done + 1 }) c) [] 0
+applied_on c true e i = let there = ltb-true c.done c.sent e in let less = i.acked_within in record {
+  in_order = record { acked_within = omega arith; done_within = omega arith; sent_within = i.sent_within };
+  rises = visible_more c.batches c.done (c.done + 1) (omega arith);
+  sent = omega arith;
+  stays = λ m h. refl;
+  changes = sym (append-nil (changes_in c.batches));
+  versions = omega arith;
+}
+applied_on c false e i = stays_so c i
+
+acknowledged_on : (c : Commit) (b : Bool) → nat_lt c.acked c.done ≡ b → IsInOrder c → GoesOn c (cond b (record c { acked = c.acked + 1 }) c) [] 0
+acknowledged_on c true e i = let there = ltb-true c.acked c.done e in record {
+  in_order = record { acked_within = omega arith; done_within = i.done_within; sent_within = i.sent_within };
   rises = omega arith;
-  commands = sym (append-nil c.commands);
+  sent = omega arith;
+  stays = λ m h. refl;
+  changes = sym (append-nil (changes_in c.batches));
+  versions = omega arith;
 }
-sent_on c false e i = stays c i
+acknowledged_on c false e i = stays_so c i
 
-applied_on : (c : Commit) (b : Bool) → nat_lt c.done c.sent ≡ b → IsInOrder c → GoesOn c (cond b (record c { done = c.done + 1 }) c) []
-applied_on c true e i = record {
-  in_order = record { acked_within = omega (arith, i.acked_within); done_within = grind (arith, nat_tests); sent_within = i.sent_within };
-  rises = ons_rise c.commands c.done (c.done + 1) (omega arith);
-  commands = sym (append-nil c.commands);
-}
-applied_on c false e i = stays c i
-
-acknowledged_on : (c : Commit) (b : Bool) → nat_lt c.acked c.done ≡ b → IsInOrder c → GoesOn c (cond b (record c { acked = c.acked + 1 }) c) []
-acknowledged_on c true e i = record {
-  in_order = record { acked_within = grind (arith, nat_tests); done_within = i.done_within; sent_within = i.sent_within };
-  rises = omega arith;
-  commands = sym (append-nil c.commands);
-}
-acknowledged_on c false e i = stays c i
-
-released_on : (c : Commit) (j : ℕ) (output : Option Output) → IsInOrder c → GoesOn c (after_release c j output) []
-released_on c j None i = stays c i
+released_on : (c : Commit) (j : ℕ) (output : Option Output) → IsInOrder c → GoesOn c (after_release c j output) [] 0
+released_on c j None i = stays_so c i
 released_on c j (Some output) i = waits_or_goes (nat_lt (acknowledged c) output.need)
   where
-    waits_or_goes : (b : Bool) → GoesOn c (cond b c (record c { held = remove c.held j })) []
-    waits_or_goes true = stays c i
+    waits_or_goes : (b : Bool) → GoesOn c (cond b c (record c { held = remove c.held j })) [] 0
+    waits_or_goes true = stays_so c i
     waits_or_goes false = record {
       in_order = record { acked_within = i.acked_within; done_within = i.done_within; sent_within = i.sent_within };
       rises = omega arith;
-      commands = sym (append-nil c.commands);
+      sent = omega arith;
+      stays = λ m h. refl;
+      changes = sym (append-nil (changes_in c.batches));
+      versions = omega arith;
     }
 
--- the commands that a call brings in
-abbrev added_by : Call → List Command
-added_by (hold output us) = batch_of us
-added_by send = []
-added_by apply = []
-added_by acknowledge = []
-added_by (release j) = []
-
-one_call : (c : Commit) (call : Call) → IsInOrder c → GoesOn c (after_call c call) (added_by call)
-one_call c (hold output us) i = held_on c output us i
+one_call : (c : Commit) (call : Call) → IsInOrder c → GoesOn c (after_call c call) (changes_of (call ∷ [])) (versions_of (call ∷ []))
+one_call c (hold output us) i = let h = held_on c output us i in record {
+  in_order = h.in_order;
+  rises = h.rises;
+  sent = h.sent;
+  stays = h.stays;
+  changes = h.changes ∙ ap (λ l. changes_in c.batches ++ l) (sym (append-nil us));
+  versions = let v = h.versions in omega arith;
+}
 one_call c send i = sent_on c _ refl i
 one_call c apply i = applied_on c _ refl i
 one_call c acknowledge i = acknowledged_on c _ refl i
 one_call c (release j) i = released_on c j (slice_get c.held j) i
 
-first_batch : (us : List Update) (batches : List (List Update)) → all_commands (with_batch us batches) ≡ batch_of us ++ all_commands batches
-first_batch [] batches = refl
-first_batch (u ∷ us) batches = refl
+changes_by : (call : Call) (calls : List Call) → changes_of (call ∷ calls) ≡ changes_of (call ∷ []) ++ changes_of calls
+changes_by (hold output us) calls = ap (λ l. l ++ changes_of calls) (sym (append-nil us))
+changes_by send calls = refl
+changes_by apply calls = refl
+changes_by acknowledge calls = refl
+changes_by (release j) calls = refl
 
-batch_by : (call : Call) (calls : List Call) → all_commands (batches_of (call ∷ calls)) ≡ added_by call ++ all_commands (batches_of calls)
-batch_by (hold output us) calls = first_batch us (batches_of calls)
-batch_by send calls = refl
-batch_by apply calls = refl
-batch_by acknowledge calls = refl
-batch_by (release j) calls = refl
+versions_by : (call : Call) (calls : List Call) → versions_of (call ∷ calls) ≡ versions_of (call ∷ []) + versions_of calls
+versions_by (hold output us) calls = omega arith
+versions_by send calls = omega arith
+versions_by apply calls = omega arith
+versions_by acknowledge calls = omega arith
+versions_by (release j) calls = omega arith
 
-all_calls : (c : Commit) (calls : List Call) → IsInOrder c → GoesOn c (after_calls c calls) (all_commands (batches_of calls))
-all_calls c [] i = stays c i
+all_calls : (c : Commit) (calls : List Call) → IsInOrder c → GoesOn c (after_calls c calls) (changes_of calls) (versions_of calls)
+all_calls c [] i = stays_so c i
 all_calls c (call ∷ calls) i =
     let one = one_call c call i in
     let rest = all_calls (after_call c call) calls one.in_order in
+    let first_sent = one.sent in let then_sent = rest.sent in
+    let first_rises = one.rises in let then_rises = rest.rises in
     record {
       in_order = rest.in_order;
-      rises = omega (arith, one.rises, rest.rises);
-      commands = rest.commands ∙ ap (λ cs. cs ++ all_commands (batches_of calls)) one.commands
-          ∙ append_assoc c.commands (added_by call) (all_commands (batches_of calls)) ∙ ap (λ cs. c.commands ++ cs) (sym (batch_by call calls));
+      rises = omega arith;
+      sent = omega arith;
+      stays = λ m h. rest.stays m (omega arith) ∙ one.stays m h;
+      changes = rest.changes ∙ ap (λ l. l ++ changes_of calls) one.changes
+          ∙ append_assoc (changes_in c.batches) (changes_of (call ∷ [])) (changes_of calls)
+          ∙ ap (λ l. changes_in c.batches ++ l) (sym (changes_by call calls));
+      versions = let a = one.versions in let b = rest.versions in let v = versions_by call calls in omega arith;
     }
 
-none_yet : IsInOrder first
-none_yet = record { acked_within = omega arith; done_within = omega arith; sent_within = omega arith }
+none_yet : (writeback : ℕ) → IsInOrder (first writeback)
+none_yet writeback = record { acked_within = omega arith; done_within = omega arith; sent_within = omega arith }
 
-pub kept_in_order : (calls : List Call) → IsKeptInOrder calls
-kept_in_order calls =
-    let c = after_calls first calls in
-    let on = all_calls first calls none_yet in
-    record { in_order = on.in_order; known = ons_rise c.commands c.acked c.done on.in_order.acked_within; commands = on.commands }
+pub kept_in_order : (writeback : ℕ) (calls : List Call) → IsKeptInOrder writeback calls
+kept_in_order writeback calls =
+    let c = after_calls (first writeback) calls in
+    let on = all_calls (first writeback) calls (none_yet writeback) in
+    record {
+      in_order = on.in_order;
+      known = visible_more c.batches c.acked c.done on.in_order.acked_within;
+      changes = on.changes;
+      versions = let v = on.versions in omega arith;
+    }
+
+pub stays_sent : (writeback : ℕ) (calls more : List Call) → StaysSent (after_calls (first writeback) calls) more
+stays_sent writeback calls more =
+    let c = after_calls (first writeback) calls in
+    let on = all_calls c more (kept_in_order writeback calls).in_order in
+    record { sent = on.sent; commands = on.stays c.sent (omega arith) }
 
 -- an output that goes needs no more than what is known to be seen
 goes : (b : Bool) (need known number : ℕ) (frame : List ℕ) → nat_lt known need ≡ b → cond b (NotYet need known) (Frame number frame) ≡ Frame number frame → need ≤ known
 goes true need known number frame e h = cc
-goes false need known number frame e h = grind (arith, nat_tests)
+goes false need known number frame e h = ltb-false known need e
 
-pub seen_from_then_on : (calls more : List Call) (j : ℕ) (output : Output) → IsSeenFromThenOn calls more j output
-seen_from_then_on calls more j output there answered =
-    let c = after_calls first calls in
-    let kept = kept_in_order calls in
+pub seen_from_then_on : (writeback : ℕ) (calls more : List Call) (j : ℕ) (output : Output) → IsSeenFromThenOn writeback calls more j output
+seen_from_then_on writeback calls more j output there answered =
+    let c = after_calls (first writeback) calls in
+    let kept = kept_in_order writeback calls in
     let on = all_calls c more kept.in_order in
     let low = goes _ output.need (acknowledged c) output.number output.frame refl answered in
-    omega (arith, low, kept.known, on.rises)
+    let known = kept.known in
+    let rises = on.rises in
+    omega arith
+
+-- ## What the write-back tables hold
+
+batch_held : (room : ℕ) (us : List Update) → fits room us ≡ true → AreHeld room (batch_of us)
+batch_held room [] h = tt
+batch_held room (u ∷ us) h = (h, tt)
+
+sent_held : (c : Commit) (b : Bool) → AreHeld c.writeback c.batches
+    → AreHeld c.writeback (cond b (record c { batches = merged (fits c.writeback) c.sent c.batches; sent = c.sent + 1 }) c).batches
+sent_held c true h = merged_held c.writeback c.sent c.batches h
+sent_held c false h = h
+
+-- the same limit, and batches that are held
+record Holds (room : ℕ) (c : Commit) : Type 0 where
+  limit : c.writeback ≡ room
+  held : AreHeld room c.batches
+
+sent_holds : (room : ℕ) (c : Commit) (b : Bool) → Holds room c
+    → Holds room (cond b (record c { batches = merged (fits c.writeback) c.sent c.batches; sent = c.sent + 1 }) c)
+sent_holds room c true h = record {
+  limit = h.limit;
+  held = subst (λ r. AreHeld room (merged (fits r) c.sent c.batches)) (sym h.limit) (merged_held room c.sent c.batches h.held);
+}
+sent_holds room c false h = h
+
+done_holds : (room : ℕ) (c : Commit) (b : Bool) → Holds room c → Holds room (cond b (record c { done = c.done + 1 }) c)
+done_holds room c true h = record { limit = h.limit; held = h.held }
+done_holds room c false h = h
+
+acked_holds : (room : ℕ) (c : Commit) (b : Bool) → Holds room c → Holds room (cond b (record c { acked = c.acked + 1 }) c)
+acked_holds room c true h = record { limit = h.limit; held = h.held }
+acked_holds room c false h = h
+
+gone_holds : (room : ℕ) (c : Commit) (j : ℕ) (output : Option Output) → Holds room c → Holds room (after_release c j output)
+gone_holds room c j None h = h
+gone_holds room c j (Some output) h = waits_or_goes (nat_lt (acknowledged c) output.need)
+  where
+    waits_or_goes : (b : Bool) → Holds room (cond b c (record c { held = remove c.held j }))
+    waits_or_goes true = h
+    waits_or_goes false = record { limit = h.limit; held = h.held }
+
+all_hold : (room : ℕ) (c : Commit) (calls : List Call) → Holds room c → HoldsFitting room calls → Holds room (after_calls c calls)
+all_hold room c [] h fit = h
+all_hold room c (hold output us ∷ calls) h fit = all_hold room (with_output c output us) calls
+    (record { limit = h.limit; held = push_held room c.batches (batch_of us) h.held (batch_held room us fit.0) }) fit.1
+all_hold room c (send ∷ calls) h fit = all_hold room _ calls (sent_holds room c _ h) fit
+all_hold room c (apply ∷ calls) h fit = all_hold room _ calls (done_holds room c _ h) fit
+all_hold room c (acknowledge ∷ calls) h fit = all_hold room _ calls (acked_holds room c _ h) fit
+all_hold room c (release j ∷ calls) h fit = all_hold room _ calls (gone_holds room c j (slice_get c.held j) h) fit
+
+pub each_held : (writeback : ℕ) (calls : List Call) → HoldsFitting writeback calls → AreHeld writeback (after_calls (first writeback) calls).batches
+each_held writeback calls fit = (all_hold writeback (first writeback) calls (record { limit = refl; held = tt }) fit).held

@@ -1,52 +1,62 @@
--- Held outputs, all commands, and how far these have come.
-use Rattle.std.specs.Prelude.{◌≡◌, ◌≤◌, ◌<◌, ◌^◌, ℕ, zero, suc, ◌+◌, ◌*◌, ◌==◌, Bool, ◌&&◌, List, [], ◌∷◌, ◌++◌, Option}
-use Rattle.std.specs.Prelude.{Some, None, nat_lt, length, take, slice_get, remove, if◌then◌else◌}
+-- Held outputs, all batches of changes, and how far their commands have come.
+use Rattle.std.specs.Prelude.{◌≡◌, ◌≤◌, ◌<◌, ◌^◌, ℕ, zero, suc, ◌+◌, ◌*◌, ◌==◌, Bool, true, ◌&&◌, List, [], ◌∷◌, ◌++◌}
+use Rattle.std.specs.Prelude.{Option, Some, None, nat_lt, length, slice_get, remove, if◌then◌else◌}
+use Rattle.std.specs.List.{AllByRecursion as Each}
 use Rattle.writeback_table.specs.declared.command.Update.{Update}
 use Rattle.writeback_table.specs.declared.command.Command.{Command}
-use Rattle.writeback_table.specs.Commands.{commands_of, ons}
+use Rattle.output_commit.specs.Batches.{Batch, commands_in, fits, merged}
+use Rattle.output_commit.specs.Batches as batches
 use Rattle.output_commit.specs.declared.output.Output.{Output}
 use Rattle.output_commit.specs.declared.output.Release.{Release}
 use Rattle.output_commit.specs.declared.output.Release.TheVariants.{Frame, NotYet, NoSuch}
 
 pub record Commit : Type 0 where
-  -- all commands so far, and how many of them were sent, applied and acknowledged
-  pub commands : List Command
+  -- how many changes of one object a batch may have
+  pub writeback : ℕ
+  -- all batches so far, and how many of their commands were sent, applied and acknowledged
+  pub batches : List Batch
   pub sent : ℕ
   pub done : ℕ
   pub acked : ℕ
   -- the outputs that wait, in the order in which they came
   pub held : List Output
 
-abbrev pub first : Commit
-first = record { commands = []; sent = 0; done = 0; acked = 0; held = [] }
+abbrev pub first : ℕ → Commit
+first writeback = record { writeback = writeback; batches = []; sent = 0; done = 0; acked = 0; held = [] }
 
--- the commands for so many changes: none at all where nothing changed
-abbrev pub batch_of : List Update → List Command
+abbrev pub commands : Commit → List Command
+commands c = commands_in c.batches
+
+-- the batch of one output: none at all where nothing changed
+abbrev pub batch_of : List Update → List Batch
 batch_of [] = []
-batch_of (update ∷ updates) = commands_of (update ∷ updates)
+batch_of (update ∷ updates) = (record { updates = update ∷ updates; versions = 1 }) ∷ []
 
--- how many commands there are for so many changes
+-- how many commands there are for so many changes of one output
 abbrev pub batch_len : ℕ → ℕ
 batch_len zero = 0
 batch_len (suc n) = 3 * suc n + 2
 
 -- the version that lookups on the switch see, and the one that they are known to see
 abbrev pub visible : Commit → ℕ
-visible c = ons (take c.done c.commands)
+visible c = batches.visible c.batches c.done
 
 abbrev pub acknowledged : Commit → ℕ
-acknowledged c = ons (take c.acked c.commands)
+acknowledged c = batches.visible c.batches c.acked
 
--- one more output waits, and the commands for its changes go behind all others
+-- one more output waits, and the batch of its changes goes behind all others
 abbrev pub with_output : Commit → Output → List Update → Commit
-with_output c output updates = record c { commands = c.commands ++ batch_of updates; held = c.held ++ output ∷ [] }
+with_output c output updates = record c { batches = c.batches ++ batch_of updates; held = c.held ++ output ∷ [] }
 
+-- one more command is sent, where one is left; a batch of which none was sent first takes up those behind it
 abbrev pub after_send : Commit → Commit
-after_send c = if nat_lt c.sent (length c.commands) then record c { sent = c.sent + 1 } else c
+after_send c =
+    if nat_lt c.sent (length (commands c))
+    then record c { batches = merged (fits c.writeback) c.sent c.batches; sent = c.sent + 1 } else c
 
 -- the first command that was sent and isn't applied
 abbrev pub next : Commit → Option Command
-next c = if nat_lt c.done c.sent then slice_get c.commands c.done else None
+next c = if nat_lt c.done c.sent then slice_get (commands c) c.done else None
 
 abbrev pub after_next : Commit → Commit
 after_next c = if nat_lt c.done c.sent then record c { done = c.done + 1 } else c
@@ -68,17 +78,14 @@ after_release c j (Some output) = if nat_lt (acknowledged c) output.need then c 
 
 -- nothing waits, and all commands are acknowledged
 abbrev pub is_quiet : Commit → Bool
-is_quiet c = (length c.held == 0) && (c.acked == length c.commands)
+is_quiet c = (length c.held == 0) && (c.acked == length (commands c))
 
 -- only sent commands are applied, and only applied ones are acknowledged
 pub record IsInOrder (c : Commit) : Type 0 where
   pub acked_within : c.acked ≤ c.done
   pub done_within : c.done ≤ c.sent
-  pub sent_within : c.sent ≤ length c.commands
+  pub sent_within : c.sent ≤ length (commands c)
 
--- two counters keep the versions
-pub record IsCounted (c : Commit) (visible_now acknowledged_now : ℕ) : Type 0 where
-  pub in_order : IsInOrder c
-  pub seen : visible_now ≡ visible c
-  pub known : acknowledged_now ≡ acknowledged c
-  pub few : length c.commands < 2 ^ 32
+-- the write-back tables hold each batch
+abbrev pub AreHeld : ℕ → List Batch → Type 0
+AreHeld writeback all = Each (λ (b : Batch). fits writeback b.updates ≡ true) all

@@ -1,3 +1,5 @@
-pub mod Batch
+pub mod Batches
 pub mod Commit
+pub mod Kept
 pub mod Laws
+pub mod Spans

@@ -1,26 +1,34 @@
-//! Held outputs, and the list of commands.
-ghost use Rattle.std.specs.Prelude.{◌≡◌, ◌≤◌, ◌<◌, ◌+◌, ◌-◌, ◌^◌, ◌++◌, ◌∷◌, [], length, min, take, nat_lt, slice_get};
-ghost use Rattle.std.specs.Prelude.{OnOk, OnErr, IfNone, if◌then◌else◌};
-ghost use Rattle.writeback_table.specs.Commands as commands;
+//! Held outputs, and the batches of changes with their commands.
+ghost use Rattle.std.specs.Prelude.{◌≡◌, ◌<◌, ◌+◌, ◌-◌, ◌^◌, ◌∷◌, [], length, min, nat_lt, slice_get};
+ghost use Rattle.std.specs.Prelude.{OnOk, OnErr};
+ghost use Rattle.output_commit.specs.Batches.{commands_in};
 ghost use Rattle.output_commit.specs.Commit as spec;
+ghost use Rattle.output_commit.specs.Spans as spans;
 
-use crate::batch::batch_of;
+use crate::batches::Batches;
 use crate::output::{Output, Release};
+use crate::place::Place;
+use crate::span::{Span, command_at};
 use gal_io::{Bytes, NoMemory};
 use std::alloc::Global;
 use std::collections::VecDeque;
 use std::marker::Model;
 use writeback_table::{Command, Updates};
 
-/// The outputs that wait, and all commands with the counts of those that were sent, applied and acknowledged. Each
-/// batch of commands makes one version, which lookups on the switch see once its command that sets the bit is applied.
+/// The outputs that wait, and all batches of changes, with how many of their commands were sent, applied and
+/// acknowledged. Lookups on the switch see the changes of a batch, which may be several versions, once its command that
+/// sets the bit is applied. A command is found by its place in its batch: none is stored.
 #[derive(Debug, Drop)]
 pub struct Commit {
-    alloc: Global,
-    commands: Vec<Command>,
+    writeback: u32,
+    batches: Batches,
     sent: u32,
     done: u32,
     acked: u32,
+    // how many commands of the batches that were begun aren't sent
+    left: u32,
+    applied: Place,
+    known: Place,
     visible: u32,
     acknowledged: u32,
     held: VecDeque<Output>,
@@ -28,33 +36,30 @@ pub struct Commit {
 
 impl Model for Commit {
     ghost use Rattle.output_commit.specs.Commit as spec;
-    ghost use Rattle.output_commit.specs.Commit.{IsCounted};
+    ghost use Rattle.output_commit.specs.Kept.{IsCounted, batches_in};
 
     ghost Value = { spec.Commit };
 
     ghost view = { λ c. record {
-      commands = c.commands.items;
+      writeback = c.writeback;
+      batches = batches_in c.batches;
       sent = c.sent;
       done = c.done;
       acked = c.acked;
       held = c.held.items;
     } };
 
-    ghost invariant = { λ c. IsCounted (record {
-      commands = c.commands.items;
-      sent = c.sent;
-      done = c.done;
-      acked = c.acked;
-      held = c.held.items;
-    }) c.visible c.acknowledged };
+    ghost invariant = { λ c. IsCounted c.batches c.sent c.done c.acked c.left c.applied c.known c.visible c.acknowledged };
 }
 
-fn counts_on(command: &Command) -> u32
-    ensures { result ≡ commands.counts_on command.now }
+// How many versions the command at a place of a batch makes visible.
+fn shown_by(span: &Span, step: u32) -> u32
+    ensures { result ≡ spans.shown_by span.now step }
 {
-    match command {
-        Command::On => 1,
-        _ => 0,
+    if step == span.changes {
+        span.versions
+    } else {
+        0
     }
 }
 
@@ -70,16 +75,20 @@ fn batch_len(changes: usize) -> usize
 }
 
 impl Commit {
-    /// No outputs and no commands. This takes no memory; `hold` takes it from `alloc`.
-    pub fn new(alloc: Global) -> Commit
-        ensures { result ≡ spec.first }
+    /// No outputs and no batches. A batch may take up others while it has at most `writeback` changes of each object.
+    /// This takes no memory; `hold` takes it from `alloc`.
+    pub fn new(alloc: Global, writeback: u32) -> Commit
+        ensures { result ≡ spec.first writeback }
     {
         Commit {
-            alloc,
-            commands: Vec::new(alloc),
+            writeback,
+            batches: Batches::new(alloc),
             sent: 0,
             done: 0,
             acked: 0,
+            left: 0,
+            applied: Place::start(),
+            known: Place::start(),
             visible: 0,
             acknowledged: 0,
             held: VecDeque::new(alloc),
@@ -87,16 +96,15 @@ impl Commit {
     }
 
     /// Whether the number of commands, with those for these changes, stays below 2^32.
-    #[tactic(auto, using(crate::proofs::Versions::batch_length))]
     pub fn has_room_for(&self, updates: &Updates) -> bool
-        ensures { result ≡ nat_lt (length self.now.commands + length (spec.batch_of updates.now)) (2 ^ 32) }
+        ensures { result ≡ nat_lt (length (spec.commands self.now) + length (commands_in (spec.batch_of updates.now))) (2 ^ 32) }
     {
         let batch = batch_len(updates.len());
-        self.commands.len().saturating_add(batch) < 1 << 32
+        (self.batches.commands as usize).saturating_add(batch) < 1 << 32
     }
 
     /// Lets an output wait behind the others until the version `need` is acknowledged. Its changes, if there are any,
-    /// become one batch of commands behind all others. After want of memory all is as before.
+    /// become one batch behind all others, which makes one version. After want of memory all is as before.
     pub fn hold(
         &mut self,
         number: u32,
@@ -104,35 +112,39 @@ impl Commit {
         frame: Bytes,
         updates: &Updates,
     ) -> Result<(), NoMemory>
-        requires few { length self.old.commands + length (spec.batch_of updates.now) < 2 ^ 32 }
+        requires few { length (spec.commands self.old) + length (commands_in (spec.batch_of updates.now)) < 2 ^ 32 }
         ensures ok { OnOk result (self.new
             ≡ spec.with_output self.old (record { number = number; need = need; frame = frame }) updates.now) }
         ensures err { OnErr result (self.new ≡ self.old) }
     {
-        let batch = batch_of(self.alloc, updates.as_slice())?;
         self.held.push_back(Output {
             number,
             need,
             frame,
         })?;
-        if self.commands.extend_from_slice(&batch).is_err() {
+        if self.batches.push(updates.as_slice()).is_err() {
             let _ = self.held.pop_back();
             return Err(NoMemory);
         }
         Ok(())
     }
 
-    /// Sends one more command. It is false exactly where all commands are sent.
+    /// Sends one more command. It is false exactly where all commands are sent. A batch of which none was sent first
+    /// takes up those behind it, one after the other, while no object has more changes than may be staged.
     pub fn send_command(&mut self) -> bool
-        ensures did { result ≡ nat_lt self.old.sent (length self.old.commands) }
+        ensures did { result ≡ nat_lt self.old.sent (length (spec.commands self.old)) }
         ensures after { self.new ≡ spec.after_send self.old }
     {
-        if (self.sent as usize) < self.commands.len() {
-            self.sent += 1;
-            true
-        } else {
-            false
+        if self.sent == self.batches.commands {
+            return false;
         }
+        self.sent += 1;
+        if self.left > 0 {
+            self.left -= 1;
+            return true;
+        }
+        self.left = self.batches.begin(self.writeback).commands() - 1;
+        true
     }
 
     /// The next command that the switch is to apply, which counts as applied from then on. It is `None` exactly where
@@ -141,14 +153,13 @@ impl Commit {
         ensures did { result ≡ spec.next self.old }
         ensures after { self.new ≡ spec.after_next self.old }
     {
-        if self.done < self.sent {
-            let command = self.commands[self.done as usize];
-            self.visible += counts_on(&command);
-            self.done += 1;
-            Some(command)
-        } else {
-            None
+        if self.done == self.sent {
+            return None;
         }
+        let (span, step) = self.applied.pass(self.batches.begun());
+        self.visible += shown_by(&span, step);
+        self.done += 1;
+        Some(command_at(span.of(self.batches.updates.as_slice()), step as usize))
     }
 
     /// One more applied command is acknowledged. It is false exactly where all applied ones are.
@@ -156,34 +167,35 @@ impl Commit {
         ensures did { result ≡ nat_lt self.old.acked self.old.done }
         ensures after { self.new ≡ spec.after_acknowledge self.old }
     {
-        if self.acked < self.done {
-            self.acknowledged += counts_on(&self.commands[self.acked as usize]);
-            self.acked += 1;
-            true
-        } else {
-            false
+        if self.acked == self.done {
+            return false;
         }
+        let (span, step) = self.known.pass(self.batches.begun());
+        self.acknowledged += shown_by(&span, step);
+        self.acked += 1;
+        true
     }
 
-    /// The version that lookups on the switch see.
+    /// The version that lookups on the switch see: the versions of all batches whose command that sets the bit is
+    /// applied.
     pub fn visible(&self) -> u32
         ensures { result ≡ spec.visible self.now }
     {
         self.visible
     }
 
-    /// The version that lookups on the switch are known to see.
+    /// The version that lookups on the switch are known to see: the same of acknowledged commands.
     pub fn acknowledged(&self) -> u32
         ensures { result ≡ spec.acknowledged self.now }
     {
         self.acknowledged
     }
 
-    /// How many commands there are in all, sent or not.
+    /// How many commands there are in all, sent or not. It falls by 2 for each batch that another takes up.
     pub fn commands(&self) -> u32
-        ensures { result ≡ length self.now.commands }
+        ensures { result ≡ length (spec.commands self.now) }
     {
-        self.commands.len() as u32
+        self.batches.commands
     }
 
     /// How many of them were sent.
@@ -216,7 +228,7 @@ impl Commit {
 
     /// How many commands aren't applied, sent or not.
     pub fn unapplied(&self) -> u32
-        ensures { result ≡ length self.now.commands - self.now.done }
+        ensures { result ≡ length (spec.commands self.now) - self.now.done }
     {
         self.commands() - self.done
     }
@@ -225,22 +237,24 @@ impl Commit {
     pub fn is_quiet(&self) -> bool
         ensures { result ≡ spec.is_quiet self.now }
     {
-        self.held.is_empty() && self.acked as usize == self.commands.len()
+        self.held.is_empty() && self.acked == self.commands()
     }
 
     /// Lets the output at place `j` go, counted from 0 in the order in which they came, where its version is
     /// acknowledged. Those behind it close up.
+    #[tactic(auto, using(crate::proofs::Keeping::answer_goes, crate::proofs::Keeping::after_goes))]
     pub fn release(&mut self, j: usize) -> Release
         ensures answer { result ≡ spec.answer self.old (slice_get self.old.held j) }
         ensures after { self.new ≡ spec.after_release self.old j (slice_get self.old.held j) }
     {
+        let acknowledged = self.acknowledged();
         let Some(output) = self.held.get(j) else {
             return Release::NoSuch(self.held.len());
         };
-        if self.acknowledged < output.need {
+        if acknowledged < output.need {
             return Release::NotYet {
                 need: output.need,
-                acknowledged: self.acknowledged,
+                acknowledged,
             };
         }
         match self.held.remove(j) {

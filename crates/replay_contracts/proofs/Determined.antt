@@ -15,7 +15,8 @@ use Rattle.switch_ir.specs.declared.port.UpEnd.{UpEnd}
 use Rattle.switch_ir.specs.declared.port.UpEnd.TheVariants as up
 use Rattle.switch_ir.specs.declared.port.DownEnd.TheVariants as down
 use Rattle.replay_state.specs.Answers.{Answers, Setup}
-use Rattle.replay_state.specs.State.{State, Pass, commands_in, first_state}
+use Rattle.output_commit.specs.Batches.{commands_in}
+use Rattle.replay_state.specs.State.{State, Pass, first_state}
 use Rattle.replay_state.specs.Step.{applies, state_of, step, steps}
 use Rattle.replay_state.specs.Program.{SplitProgram}
 use Rattle.replay_state.specs.Journal.{Call, CalledUp, CalledStageUp, CalledCommand, CalledDown, CalledStageDown, Finished, SentUp, GoingUp, Released, GoingDown}

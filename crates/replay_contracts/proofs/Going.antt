@@ -19,7 +19,8 @@ use Rattle.replay_state.specs.Commands.{applied_by, commands_at, one_or_none}
 use Rattle.replay_state.specs.Journal.{Call, CalledUp, CalledStageUp, CalledCommand, CalledDown, CalledStageDown}
 use Rattle.replay_state.specs.Journal.{Question, AsksUp, AsksStageUp, AsksCommand, AsksDown, AsksStageDown, asks, asked, asks_stage, asks_command, asks_down, question_of}
 use Rattle.replay_state.specs.Program.{SplitProgram}
-use Rattle.replay_state.specs.State.{State, Pass, applied_commands, commands_in}
+use Rattle.output_commit.specs.Batches.{commands_in}
+use Rattle.replay_state.specs.State.{State, Pass, applied_commands}
 use Rattle.replay_state.specs.Step.{applies, step}
 use Rattle.replay_state.specs.Told.{IsTied}
 use Rattle.split_answers.specs.Over.{AreAnswersOver}

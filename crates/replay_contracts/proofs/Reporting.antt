@@ -20,7 +20,8 @@ use Rattle.switch_ir.specs.Tables.{Told, pair_at}
 use Rattle.replay_state.specs.Drain.{is_quiet}
 use Rattle.replay_state.specs.Program.{packet_at}
 use Rattle.replay_state.specs.Run.{job_run, run_of, seen_parts, seen_store}
-use Rattle.replay_state.specs.State.{State, applied_commands, commands_in}
+use Rattle.output_commit.specs.Batches.{commands_in}
+use Rattle.replay_state.specs.State.{State, applied_commands}
 use Rattle.replay_state.specs.Step.{applies}
 use Rattle.replay_state.specs.Tables.{Shows}
 use Rattle.split_answers.specs.Through.{first_pair}

@@ -13,7 +13,8 @@ use Rattle.switch_ir.specs.Tables.{Told, pair_at}
 use Rattle.replay_state.specs.Drain.{is_quiet}
 use Rattle.replay_state.specs.Program.{packet_at}
 use Rattle.replay_state.specs.Run.{job_run, run_of, seen_store}
-use Rattle.replay_state.specs.State.{State, commands_in}
+use Rattle.output_commit.specs.Batches.{commands_in}
+use Rattle.replay_state.specs.State.{State}
 use Rattle.replay_state.specs.Step.{applies, state_of}
 use Rattle.replay_contracts.specs.Called.{KeepsCalls}
 use Rattle.replay_contracts.specs.Given.{Given, whole, setup_for, whole_runs, meaning_for}

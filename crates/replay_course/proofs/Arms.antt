@@ -30,10 +30,12 @@ use Rattle.replay_course.specs.Fates as fates_of
 use Rattle.replay_course.specs.declared.course.Course.{Course}
 use Rattle.replay_course.specs.Going.{HasTurned, IsGoing, IsSound, unapplied}
 use Rattle.replay_course.specs.Shown.{IsShown, taken}
+use Rattle.replay_course.proofs.Costs.{enough}
+use Rattle.output_commit.specs.Batches.{fits}
 use Rattle.replay_course.proofs.Calling.{came_down, finished, keeps_all, went_up}
 use Rattle.replay_course.proofs.Lists.{each_at, length_map}
 use Rattle.replay_course.proofs.Sounding.{FramedDown}
-use Rattle.replay_course.proofs.Turning.{FreshDownLaw, FreshUpLaw, OnceLaw, PlaceLaw, StepLaw, admit_turned, down_turned, fates_count, idle_turned, no_merging, quiet_turned}
+use Rattle.replay_course.proofs.Turning.{FreshDownLaw, FreshUpLaw, OnceLaw, PlaceLaw, StepLaw, admit_turned, down_turned, fates_count, idle_turned, fits_same, quiet_turned}
 
 -- ## Events that can't apply
 
@@ -118,13 +120,13 @@ held_turned x stepped c after port j going so shows sound same counted =
     (λ calls st h may. refl) (λ events calls st replay h. (so (whole x) (setup_for x) calls st h, shows (whole x) (setup_for x) (answered x calls) calls st h))
 
 pub sent_turned : (x : Given) (stepped : Stepped) (c after : Course) (port : PortState) → IsGoing x c port → StepsSo c event.Send stepped
-    → ((s : SplitProgram) (setup : Setup) (a : Answers) (calls : List Call) (st : State) → ((updates : List Update) → setup.fits updates ≡ false)
+    → ((s : SplitProgram) (setup : Setup) (a : Answers) (calls : List Call) (st : State) → setup.fits ≡ fits c.commit.writeback
     → IsShown s calls st c → IsShown s calls (step setup a st event.Send) after)
-    → ((y : Given) → IsSound y c → IsSound y after) → unapplied after ≡ unapplied c → after.events ≡ c.events + 1 → HasTurned x event.Send stepped c port after port
-sent_turned x stepped c after port going so shows sound same counted =
-    quiet_turned x event.Send stepped c after port port going (keeps_all port) (sound x going.sound) (subst (λ n. n ≤ port.spare) (sym same) going.spare) counted
+    → ((y : Given) → IsSound y c → IsSound y after) → unapplied after ≤ unapplied c → after.events ≡ c.events + 1 → HasTurned x event.Send stepped c port after port
+sent_turned x stepped c after port going so shows sound fewer counted =
+    quiet_turned x event.Send stepped c after port port going (keeps_all port) (sound x going.sound) (enough _ _ _ fewer going.spare) counted
     (λ calls st h may. refl)
-    (λ events calls st replay h. (so (whole x) (setup_for x) calls st h, shows (whole x) (setup_for x) (answered x calls) calls st (no_merging x going.plain) h))
+    (λ events calls st replay h. (so (whole x) (setup_for x) calls st h, shows (whole x) (setup_for x) (answered x calls) calls st (fits_same x c going.plain going.sound) h))
 
 -- ## A packet that arrives
 

@@ -44,3 +44,10 @@ spare_served n n' b done spare more within room = omega arith
 
 pub first_within : (n k : ℕ) → 0 + (0 + (n - 0)) * k ≤ n * k
 first_within n k = let e : 0 + (n - 0) ≡ n = omega arith in let f : 0 + (0 + (n - 0)) * k ≡ n * k = rw e (omega arith) in omega arith
+
+-- where there are no more of them
+pub commands_fall : (n n' m total : ℕ) → n' ≤ n → n + m ≤ total → n' + m ≤ total
+commands_fall n n' m total less h = omega arith
+
+pub spare_falls : (n n' done spare : ℕ) → n' ≤ n → n - done ≤ spare → n' - done ≤ spare
+spare_falls n n' done spare less h = omega arith

@@ -5,7 +5,6 @@ use Rattle.std.proofs.lemmas.Bool.{cases_Bool, le-leb, lt-ltb, ltb-false}
 use Rattle.std.proofs.lemmas.List.{append-nil, append_assoc}
 use Rattle.std.proofs.lemmas.Option.{none-some, same_Some}
 use Rattle.packet_fields.specs.declared.packet.Packet.{Packet}
-use Rattle.writeback_table.specs.Commands.{ons}
 use Rattle.output_commit.specs.declared.output.Output.{Output}
 use Rattle.run_model.specs.declared.event.Event.{Event}
 use Rattle.run_model.specs.declared.event.Event.TheVariants.{Admit, Stage, Serve, Send, Apply, Ack, Hold, Down}
@@ -15,7 +14,9 @@ use Rattle.replay_state.specs.Drain.{drain_order, events_left, first_of, next_ev
 use Rattle.replay_state.specs.Journal.{Call, IsAnswered, asked, journal, question_of}
 use Rattle.replay_state.specs.Program.{IsSplitProgram, Manner, SplitProgram, setup_of}
 use Rattle.replay_state.specs.Sound.{AreFew}
-use Rattle.replay_state.specs.State.{State, Pass, fate_of, visible}
+use Rattle.output_commit.specs.Batches.{commands_in, visible}
+use Rattle.output_commit.specs.Commit.{commands}
+use Rattle.replay_state.specs.State.{State, Pass, fate_of}
 use Rattle.replay_state.specs.Step.{applies, may_go, state_of, step}
 use Rattle.replay_contracts.specs.Called.{WasCalled}
 use Rattle.replay_contracts.specs.Given.{Given, IsReady, code_for, setup_for, whole}
@@ -30,7 +31,7 @@ use Rattle.replay_course.proofs.Lists.{each_at, length_map, length_push, take_pa
 use Rattle.replay_course.proofs.Room.{FindsRoom, SplitLaws, is_split_program}
 use Rattle.replay_course.proofs.Showing.{none_waits}
 use Rattle.replay_course.proofs.Sounding.{Needs}
-use Rattle.replay_course.proofs.Versions.{versions_by}
+use Rattle.replay_course.proofs.Versions.{visible_past}
 
 -- ## What drain picks
 
@@ -51,14 +52,13 @@ map_length f xs ys e = sym (length_map f xs) ∙ ap length e
 
 module _ (x : Given) (calls : List Call) (st : State) (c : Course) (plain : IsPlain x) (sound : IsSound x c) (h : IsShown (whole x) calls st c) where
   -- the first held output may go, where every command is acknowledged
-  known_is : nat_lt c.commit.acked c.commit.done ≡ false → nat_lt c.commit.done c.commit.sent ≡ false → nat_lt c.commit.sent (length c.commit.commands) ≡ false
+  known_is : nat_lt c.commit.acked c.commit.done ≡ false → nat_lt c.commit.done c.commit.sent ≡ false → nat_lt c.commit.sent (length (commands c.commit)) ≡ false
       → c.server.version ≡ visible st.batches st.acked
   known_is a b d =
       let acked = ltb-false _ _ a in
       let done = ltb-false _ _ b in
       let sent = ltb-false _ _ d in
-      sound.version ∙ ap ons (sym (take_past c.commit.commands c.commit.acked (omega arith)))
-      ∙ (λ i. ons (take (h.acked i) (h.commands i))) ∙ sym (versions_by st.batches h.versions st.acked)
+      sound.version ∙ sym (visible_past c.commit.batches c.commit.acked (omega arith)) ∙ (λ i. visible (h.batches i) (h.acked i))
 
   front_goes : (l : List Output) → c.commit.held ≡ l → c.server.version ≡ visible st.batches st.acked
       → nat_lt 0 (length l) ≡ may_go (visible st.batches st.acked) (slice_get (map (λ (o : Output). (o.number, o.need)) l) 0)
@@ -74,7 +74,7 @@ module _ (x : Given) (calls : List Call) (st : State) (c : Course) (plain : IsPl
       same_if false (nat_lt 0 (length st.passes)) (Some (Stage 0)) _ _ (sym staged) (λ z.
       same_if _ _ (Some Ack) _ _ (λ i. nat_lt (h.acked i) (h.done i)) (λ a.
       same_if _ _ (Some Apply) _ _ ((λ i. nat_lt (h.done i) (h.sent i)) ∙ sym (and_true _ _ (ap not waits))) (λ b.
-      same_if _ _ (Some Send) _ _ (λ i. nat_lt (h.sent i) (length (h.commands i))) (λ d.
+      same_if _ _ (Some Send) _ _ (λ i. nat_lt (h.sent i) (length (commands_in (h.batches i)))) (λ d.
       same_if _ _ (Some (Down 0)) _ _ (ap (nat_lt 0) (map_length _ c.down.items st.down h.down)) (λ z.
       same_if _ _ (Some (Hold 0)) _ _ (front_goes c.commit.held refl (known_is a b d) ∙ ap (λ l. may_go (visible st.batches st.acked) (slice_get l 0)) h.held) (λ z.
       same_if _ _ (Some (Serve 0)) _ _ (ap (nat_lt 0) (map_length _ c.up.items st.up h.up)) (λ z.
@@ -96,7 +96,7 @@ left_is x calls st c h =
     let first : (length x.packets - length c.fates.items) * packet_events setup ≡ (setup.total - length st.progress) * packet_events setup + weight (pass_events setup) st.passes =
     (λ i. (length x.packets - fates i) * packet_events setup) ∙ sym (plus_none _ _ none) in
     λ i. first i + up i * up_events setup + held i * (2 + setup.post_stages) + down i * (1 + setup.post_stages)
-    + 3 * (length (h.commands i) - h.sent i) + 2 * (h.sent i - h.done i) + (h.done i - h.acked i)
+    + 3 * (length (commands_in (h.batches i)) - h.sent i) + 2 * (h.sent i - h.done i) + (h.done i - h.acked i)
 
 -- ## One event more
 

@@ -1,5 +1,5 @@
 -- The start of a replay, and the events of a schedule one after the other.
-use Rattle.std.proofs.Common.{◌≡◌, ◌<◌, ◌≤◌, ◌+◌, ◌*◌, ◌^◌, ◌-◌, ℕ, zero, suc, List, [], ◌∷◌, ◌++◌, Option, Some, None, sym, ap, subst, ◌∙◌, arith, length, take}
+use Rattle.std.proofs.Common.{◌≡◌, ◌<◌, ◌≤◌, ◌+◌, ◌*◌, ◌^◌, ◌-◌, ℕ, zero, suc, List, [], ◌∷◌, ◌++◌, Option, Some, None, refl, sym, ap, subst, ◌∙◌, arith, length, take}
 use Rattle.std.specs.Prelude.{is_some}
 use Rattle.std.specs.List.{AllByRecursion as Each}
 use Rattle.std.proofs.Math.Nat.{mul-le-mul}
@@ -96,7 +96,7 @@ starts_with code (Some before) new told starts is = subst (IsStart code) (same_S
 pub started : BeginLaw → (x : Given) (c : Course) (server : Server) (old new : PortState) → IsPlain x → Loads port.Done (code_for x) old new
     → server ≡ record { program = x.program; split = x.split; store = start_store x.program.objects; version = 0; evaluated = 0 }
     → ((s : SplitProgram) (calls : List Call) → IsShown s calls (first_state server.store) c)
-    → ((y : Given) → server.program ≡ y.program → server.split ≡ y.split → IsSound y c) → unapplied c ≡ 0 → HasGone x [] c old new
+    → ((y : Given) → server.program ≡ y.program → server.split ≡ y.split → x.writeback ≡ y.writeback → IsSound y c) → unapplied c ≡ 0 → HasGone x [] c old new
 started begins x c server old new plain loads is shown sound none = record {
   under_way = record {
     calls = [];
@@ -108,7 +108,7 @@ started begins x c server old new plain loads is shown sound none = record {
     shown = subst (λ (z : Server). IsShown (whole x) [] (first_state z.store) c) is (shown (whole x) []);
     going = record {
       plain = plain;
-      sound = sound x (ap (λ z. z.program) is) (ap (λ z. z.split) is);
+      sound = sound x (ap (λ z. z.program) is) (ap (λ z. z.split) is) refl;
       loaded = loads.state.code;
       spare = subst (λ n. n ≤ new.spare) (sym none) (omega arith);
     };

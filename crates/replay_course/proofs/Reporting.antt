@@ -2,14 +2,14 @@
 use Rattle.std.proofs.Common.{◌≡◌, ◌<◌, ◌≤◌, ◌*◌, ◌^◌, ℕ, Bool, true, false, List, refl, sym, ap, ◌∙◌, arith, length, map, take, eqb}
 use Rattle.std.proofs.Math.Nat.{mul-le-mul}
 use Rattle.std.specs.Prelude.{◌&&◌, count_by}
-use Rattle.writeback_table.specs.Commands.{ons}
 use Rattle.run_model.specs.Fate.{is_decided, is_released}
 use Rattle.run_model.specs.Order.{order_of}
 use Rattle.run_model.specs.Parts.{parts_of}
 use Rattle.run_model.specs.declared.run.Part.{Part}
 use Rattle.run_model.specs.declared.run.Run.{Run}
 use Rattle.switch_ir.specs.Port.{PortState}
-use Rattle.output_commit.specs.Commit.{visible as seen_by}
+use Rattle.output_commit.specs.Batches.{commands_in, visible}
+use Rattle.output_commit.specs.Commit.{commands, visible as seen_by}
 use Rattle.replay_state.specs.Drain.{is_drained}
 use Rattle.replay_state.specs.Journal.{Call}
 use Rattle.replay_state.specs.Run.{run_of}
@@ -21,7 +21,6 @@ use Rattle.replay_course.specs.Shown.{IsShown}
 use Rattle.replay_course.specs.Going.{IsPlain, IsSound}
 use Rattle.replay_course.specs.Telling.{ShowsParts, is_done, told_run}
 use Rattle.replay_course.proofs.Lists.{length_map}
-use Rattle.replay_course.proofs.Versions.{versions_by}
 
 map_length : {X Y : Type 0} (f : X → Y) (xs : List X) (ys : List Y) → map f xs ≡ ys → length xs ≡ length ys
 map_length f xs ys e = sym (length_map f xs) ∙ ap length e
@@ -33,7 +32,7 @@ module _ (x : Given) (calls : List Call) (st : State) (c : Course) (h : IsShown 
       let held = map_length _ c.commit.held st.held h.held in
       let down = map_length _ c.down.items st.down h.down in
       let fates : length c.fates.items ≡ length st.progress = ap length h.fates ∙ length_map fate_of st.progress in
-      (λ i. eqb (fates i) (length x.packets) && (eqb (up i) 0 && (eqb (held i) 0 && (eqb (down i) 0 && eqb (h.acked i) (length (h.commands i))))))
+      (λ i. eqb (fates i) (length x.packets) && (eqb (up i) 0 && (eqb (held i) 0 && (eqb (down i) 0 && eqb (h.acked i) (length (commands_in (h.batches i)))))))
       ∙ grouped (eqb (length st.progress) (length x.packets)) (eqb (length st.passes) 0) (eqb (length st.up) 0) (eqb (length st.held) 0) (eqb (length st.down) 0) _
       (ap (λ (l : List Pass). eqb (length l) 0) h.passes)
     where
@@ -46,7 +45,7 @@ module _ (x : Given) (calls : List Call) (st : State) (c : Course) (h : IsShown 
 
   pub tells_run : (parts : List Part) → told_run x c parts ≡ record (run_of (setup_for x) st) { switch = parts }
   tells_run parts =
-      let vis : seen_by c.commit ≡ seen st = (λ i. ons (take (h.done i) (h.commands i))) ∙ sym (versions_by st.batches h.versions st.done) in
+      let vis : seen_by c.commit ≡ seen st = λ i. visible (h.batches i) (h.done i) in
       λ i. record {
         total = length x.packets;
         decided = count_by is_decided (h.fates i);
@@ -62,13 +61,13 @@ module _ (x : Given) (calls : List Call) (st : State) (c : Course) (h : IsShown 
         switch = parts;
       }
 
-pub reported : (x : Given) (calls : List Call) (st : State) (c : Course) (old new : PortState) (parts : List Part) (run : Run) (commands : ℕ) → IsShown (whole x) calls st c
-    → ShowsParts x old new parts → run ≡ told_run x c parts → commands ≡ length c.commit.commands → Reports x st old new run commands
-reported x calls st c old new parts run commands h shows is count =
+pub reported : (x : Given) (calls : List Call) (st : State) (c : Course) (old new : PortState) (parts : List Part) (run : Run) (number : ℕ) → IsShown (whole x) calls st c
+    → ShowsParts x old new parts → run ≡ told_run x c parts → number ≡ length (commands c.commit) → Reports x st old new run number
+reported x calls st c old new parts run number h shows is count =
     let same : run.switch ≡ parts = ap (λ (r : Run). r.switch) is in
     record {
       is = is ∙ tells_run x calls st c h parts ∙ ap (λ (l : List Part). with_parts l) (sym same);
-      count = count ∙ ap length h.commands;
+      count = count ∙ ap (λ bs. length (commands_in bs)) h.batches;
       kept = shows.kept;
       rows = λ told told_is. same ∙ shows.rows told told_is;
     }

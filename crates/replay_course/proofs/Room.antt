@@ -17,7 +17,8 @@ use Rattle.replay_state.specs.Answers.{Answers, Setup}
 use Rattle.replay_state.specs.Journal.{Call}
 use Rattle.replay_state.specs.Program.{IsSplitProgram, Manner, SplitProgram, plain, setup_of}
 use Rattle.replay_state.specs.Sound.{AreSound}
-use Rattle.replay_state.specs.State.{State, applied_commands, commands_in}
+use Rattle.output_commit.specs.Batches.{commands_in}
+use Rattle.replay_state.specs.State.{State, applied_commands}
 use Rattle.replay_state.specs.Step.{state_of}
 use Rattle.replay_state.specs.Tables.{IsSeen}
 use Rattle.split_answers.specs.Through.{IsThrough, first_pair}
@@ -60,7 +61,7 @@ finds_room split sound seen room x events calls st c port replay shown going com
     by_told None is = tt
     by_told (Some told) is =
         let now = replay.told told is in
-        let at : slice_get (commands_in st.batches) st.done ≡ Some command = (λ i. slice_get (sym shown.commands i) (sym shown.done i)) ∙ next_at c.commit command (sym here) in
+        let at : slice_get (commands_in st.batches) st.done ≡ Some command = (λ i. slice_get (commands_in (sym shown.batches i)) (sym shown.done i)) ∙ next_at c.commit command (sym here) in
         let runs = sound (whole x) x.packets x.manner (is_split_program split x c port going) in
         let sees = subst (IsSeen (setup_for x)) (sym now.tied.same) (seen (setup_for x) (whole_runs x) events runs) in
         room x.program x.split x.writeback (applied_commands st) command told going.plain.ready.split now.through

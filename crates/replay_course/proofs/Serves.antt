@@ -4,16 +4,14 @@ use Rattle.std.specs.Prelude.{slice_get, slice_set, remove, IsTrue, ◌&&◌, if
 use Rattle.std.specs.List.{AllByRecursion as Each}
 use Rattle.std.proofs.lemmas.Option.{slice_get_within}
 use Rattle.std.proofs.Math.Nat.{mul-le-mul}
-use Rattle.state_store.specs.Kept.{have_widths}
 use Rattle.flat_ir.specs.Program.{step_at}
 use Rattle.split_model.specs.Counts.{count_below}
 use Rattle.split_model.specs.Layouts.{down_layout, up_layout}
 use Rattle.transfer_header.specs.Frames.{IsFrame}
-use Rattle.writeback_table.specs.declared.command.Command.TheVariants.{Stage, Main}
 use Rattle.writeback_table.specs.declared.command.Update.{Update}
-use Rattle.writeback_table.specs.Commands.{clear_of, ons}
-use Rattle.writeback_table.specs.Widths.{has_value_widths}
-use Rattle.output_commit.specs.Commit.{Commit, IsInOrder, batch_of, with_output}
+use Rattle.output_commit.specs.Batches.{commands_in}
+use Rattle.output_commit.specs.Commit.{Commit, IsInOrder, batch_of, commands, with_output}
+use Rattle.output_commit.specs.Laws.{changes_in, versions_in}
 use Rattle.output_commit.specs.declared.output.Output.{Output}
 use Rattle.run_model.specs.declared.event.Event.TheVariants as event
 use Rattle.run_model.specs.declared.fate.Fate.{Fate}
@@ -21,7 +19,7 @@ use Rattle.server_runtime.specs.declared.served.Served.{Served}
 use Rattle.server_runtime.specs.declared.server.Server.{Server as Runtime}
 use Rattle.server_runtime.specs.Serving.{Server, IsServed, IsUpdateIn, evaluated_steps, followed_writes, is_followed, served_frame, served_store, served_updates, version_after}
 use Rattle.server_runtime.specs.Views.{server_of}
-use Rattle.switch_ir.specs.Port.{PortState, IsCommandOf, IsUpdateOf}
+use Rattle.switch_ir.specs.Port.{PortState, IsUpdateOf}
 use Rattle.split_answers.specs.Whole.{IsSplit}
 use Rattle.replay_contracts.specs.Given.{Given, code_for, setup_for, whole}
 use Rattle.replay_contracts.specs.Replayer.{stepped_by}
@@ -34,7 +32,7 @@ use Rattle.replay_course.proofs.Costs.{commands_served, enough, one_more_times, 
 use Rattle.replay_course.proofs.Sounding.{FramedDown, FramedHeld, FramedUp, Needs}
 use Rattle.replay_course.proofs.Travelling.{serve_shown}
 use Rattle.replay_course.proofs.Turning.{PlaceLaw, have_places, quiet_turned}
-use Rattle.replay_course.proofs.Versions.{batch_count, before_next, version_next, version_ons}
+use Rattle.replay_course.proofs.Versions.{batch_count, before_next, changes_more, length_more, version_more, version_next}
 
 -- what is told of the objects of a split program is told of its code
 abbrev pub ToldOf : Given → Type 0
@@ -42,36 +40,9 @@ ToldOf x = (update : Update) → IsUpdateIn x.program x.split update → IsUpdat
 
 -- ## A batch
 
-both : (a b : Bool) → IsTrue (a && b) → IsTrue a
-both true b h = refl
-both false b h = h
-
-each_stage : (x : Given) → ToldOf x → (updates : List Update) → Each (IsUpdateIn x.program x.split) updates
-    → Each (IsCommandOf (code_for x)) (map (λ u. Stage u) updates)
-each_stage x told [] fit = tt
-each_stage x told (u ∷ us) fit = (told u fit.0, each_stage x told us fit.1)
-
-each_main : (x : Given) → ToldOf x → (updates : List Update) → Each (IsUpdateIn x.program x.split) updates
-    → Each (IsCommandOf (code_for x)) (map (λ u. Main u) updates)
-each_main x told [] fit = tt
-each_main x told (u ∷ us) fit = (told u fit.0, each_main x told us fit.1)
-
-each_clear : (x : Given) → ToldOf x → (updates : List Update) → Each (IsUpdateIn x.program x.split) updates
-    → Each (IsCommandOf (code_for x)) (map clear_of updates)
-each_clear x told [] fit = tt
-each_clear x told (u ∷ us) fit =
-    let one = told u fit.0 in
-    ((one.0, one.1, both (have_widths one.0.keys u.key) (has_value_widths one.0 u.to) one.2), each_clear x told us fit.1)
-
-pub each_command : (x : Given) → ToldOf x → (updates : List Update) → Each (IsUpdateIn x.program x.split) updates
-    → Each (IsCommandOf (code_for x)) (batch_of updates)
-each_command x told [] fit = tt
-each_command x told (u ∷ us) fit =
-    each_join (IsCommandOf (code_for x)) (map (λ u. Stage u) (u ∷ us)) _ (each_stage x told (u ∷ us) fit) (
-      tt,
-      each_join (IsCommandOf (code_for x)) (map (λ u. Main u) (u ∷ us)) _ (each_main x told (u ∷ us) fit)
-          (tt, each_clear x told (u ∷ us) fit),
-    )
+each_told : (x : Given) → ToldOf x → (updates : List Update) → Each (IsUpdateIn x.program x.split) updates → Each (IsUpdateOf (code_for x)) updates
+each_told x told [] fit = tt
+each_told x told (u ∷ us) fit = (told u fit.0, each_told x told us fit.1)
 
 -- ## What is served
 
@@ -107,9 +78,9 @@ serve_sound x c after j n frame s server fate told h here is up server_is commit
     let done = served_by x c server frame s h is in
     let output : Output = record { number = n; need = s.version; frame = s.down } in
     let version : after.server.version ≡ version_after c.server.version s.updates = ap (λ z. z.version) server_is ∙ done.version in
-    let commands : after.commit.commands ≡ c.commit.commands ++ batch_of s.updates = ap (λ (k : Commit). k.commands) commit in
+    let batches : after.commit.batches ≡ c.commit.batches ++ batch_of s.updates = ap (λ (k : Commit). k.batches) commit in
     let held : after.commit.held ≡ c.commit.held ++ output ∷ [] = ap (λ (k : Commit). k.held) commit in
-    let more = length_join c.commit.commands (batch_of s.updates) in
+    let more = length_more c.commit.batches (batch_of s.updates) in
     let less : length after.up.items + 1 ≡ length c.up.items = ap (λ l. length l + 1) up ∙ length_remove c.up.items j (n, frame) here in
     let as_many : length after.fates.items ≡ length c.fates.items = ap length fates ∙ length_set c.fates.items n fate in
     record {
@@ -118,14 +89,15 @@ serve_sound x c after j n frame s server fate told h here is up server_is commit
       up = subst (Each (FramedUp x)) (sym up) (each_remove (FramedUp x) c.up.items j h.up);
       held = subst (Each (FramedHeld x)) (sym held) (each_push (FramedHeld x) c.commit.held output h.held done.is_frame);
       down = subst (Each (FramedDown x)) (sym down) h.down;
-      commands = subst (Each (IsCommandOf (code_for x))) (sym commands)
-          (each_join (IsCommandOf (code_for x)) c.commit.commands (batch_of s.updates) h.commands (each_command x told s.updates done.fit));
+      updates = subst (Each (IsUpdateOf (code_for x))) (sym (ap changes_in batches ∙ changes_more c.commit.batches s.updates))
+          (each_join (IsUpdateOf (code_for x)) (changes_in c.commit.batches) s.updates h.updates (each_told x told s.updates done.fit));
+      writeback = ap (λ (k : Commit). k.writeback) commit ∙ h.writeback;
       order = subst IsInOrder (sym commit) (record {
         acked_within = h.order.acked_within;
         done_within = h.order.done_within;
         sent_within = still_within _ _ _ _ more h.order.sent_within;
       });
-      version = version ∙ version_ons c.server.version c.commit.commands s.updates h.version ∙ ap ons (sym commands);
+      version = version ∙ version_more c.server.version c.commit.batches s.updates h.version ∙ ap versions_in (sym batches);
       needs = subst (Each (Needs after.server.version)) (sym held) (each_push (Needs after.server.version) c.commit.held output
           (each_more (Needs c.server.version) (Needs after.server.version) c.commit.held
           (λ o k. subst (λ v. o.need ≤ v) (sym version) (before_next c.server.version s.updates o.need k)) h.needs)
@@ -134,14 +106,14 @@ serve_sound x c after j n frame s server fate told h here is up server_is commit
         idle = idle;
         admitted = subst (λ k. k ≤ length x.packets) (sym as_many) h.within.admitted;
         versions = undecided_served _ _ _ _ _ _ _ less as_many (let next = version_next c.server.version s.updates in omega (arith, version)) h.within.versions;
-        commands = commands_served _ _ _ _ _ _ _ _ _ (ap length commands ∙ more) less (ap (λ k. length x.packets - k) as_many)
+        commands = commands_served _ _ _ _ _ _ _ _ _ (ap (λ bs. length (commands_in bs)) batches ∙ more) less (ap (λ k. length x.packets - k) as_many)
             (batch_count s.updates (whole x).writes done.few) h.within.commands;
       };
     }
 
 pub serve_turned : PlaceLaw → (x : Given) (c after : Course) (old new : PortState) (j n : ℕ) (frame : List ℕ) (s : Served) (server : Runtime) → ToldOf x → IsGoing x c old
     → slice_get c.up.items j ≡ Some (n, frame) → IsServed (server_of c.server) frame s (server_of server)
-    → MadeRoom (unapplied c + length (batch_of s.updates)) old new
+    → MadeRoom (unapplied c + length (commands_in (batch_of s.updates))) old new
     → after.up.items ≡ remove c.up.items j → after.server ≡ server
     → after.commit ≡ with_output c.commit (record { number = n; need = s.version; frame = s.down }) s.updates
     → after.down.items ≡ c.down.items
@@ -152,8 +124,8 @@ serve_turned places x c after old new j n frame s server told going here is made
     let done = served_by x c server frame s h is in
     let sound = serve_sound x c after j n frame s server _ told h here is up server_is commit down fates (let i = h.within.idle in omega (arith, events, idle)) in
     let need : s.version ≡ after.server.version = done.told ∙ sym (ap (λ z. z.version) server_is) in
-    let spare : unapplied after ≤ new.spare = subst (λ (k : Commit). length k.commands - k.done ≤ new.spare) (sym commit)
-    (spare_served _ _ _ _ _ (length_join c.commit.commands (batch_of s.updates)) (enough _ _ _ h.order.done_within h.order.sent_within) made.spare) in
+    let spare : unapplied after ≤ new.spare = subst (λ (k : Commit). length (commands k) - k.done ≤ new.spare) (sym commit)
+    (spare_served _ _ _ _ _ (length_more c.commit.batches (batch_of s.updates)) (enough _ _ _ h.order.done_within h.order.sent_within) made.spare) in
     quiet_turned x (event.Serve j) Did c after old new going made.kept sound spare events (λ calls st shown may. refl) (λ events_so calls st replay shown.
     let was = serve_shown (whole x) (setup_for x) calls st c after j n frame s.updates shown
     (have_places places (setup_for x) (whole x) x.packets events_so calls st replay.answered) here up
@@ -208,7 +180,7 @@ few_commands n b up rest k total h some few all =
 -- and room for the commands of a batch
 pub commands_left : (x : Given) (c : Course) (port : PortState) (j n : ℕ) (frame : List ℕ) (s : Served) (server : Runtime) → IsGoing x c port
     → slice_get c.up.items j ≡ Some (n, frame) → IsServed (server_of c.server) frame s (server_of server)
-    → length c.commit.commands + length (batch_of s.updates) < 2 ^ 32
+    → length (commands c.commit) + length (commands_in (batch_of s.updates)) < 2 ^ 32
 commands_left x c port j n frame s server going here is =
     let less = slice_get_within c.up.items j (n, frame) here in
     few_commands _ _ (length c.up.items) _ (most_commands x) _ going.sound.within.commands

@@ -8,9 +8,9 @@ use Rattle.std.proofs.lemmas.Bool.{cases_Bool, eq-eqb, le-leb, lt-leb, ltb-true,
 use Rattle.std.proofs.lemmas.Option.{none-some, slice_get-map}
 use Rattle.writeback_table.specs.declared.command.Update.{Update}
 use Rattle.writeback_table.specs.declared.command.Command.{Command}
-use Rattle.writeback_table.specs.Commands.{commands_of, ons}
-use Rattle.output_commit.specs.Commit.{Commit, acknowledged, after_next, after_release, after_send, answer, next}
+use Rattle.output_commit.specs.Commit.{Commit, commands, acknowledged, after_next, after_release, after_send, answer, next}
 use Rattle.output_commit.specs.Commit.{visible as seen_by}
+use Rattle.output_commit.specs.Laws.{IsMerged}
 use Rattle.output_commit.specs.declared.output.Output.{Output}
 use Rattle.output_commit.specs.declared.output.Release.TheVariants as release
 use Rattle.run_model.specs.declared.event.Event.TheVariants as event
@@ -20,50 +20,40 @@ use Rattle.packet_fields.specs.declared.verdict.Verdict.{Verdict}
 use Rattle.replay_state.specs.Answers.{Answers, Setup}
 use Rattle.replay_state.specs.Journal.{Call, CalledUp, Finished, SentUp, UpAnswer, down_frame, ends_up, frame_in, journal, only_for, or_else, over_in, up_answer, verdict_in}
 use Rattle.replay_state.specs.Program.{SplitProgram}
-use Rattle.replay_state.specs.State.{State, Batch, Entered, Fast, Pass, Progress, commands_in, fate_of, seen, visible}
-use Rattle.replay_state.specs.Step.{applies, came_in, disturbs, finished, idled, let_go, may_go, merged, step, take_up, tick, waits}
+use Rattle.output_commit.specs.Batches.{Batch, commands_in, fits, merged, visible}
+use Rattle.replay_state.specs.State.{State, Entered, Fast, Pass, Progress, fate_of, seen}
+use Rattle.replay_state.specs.Step.{applies, came_in, disturbs, finished, idled, let_go, may_go, step, tick, waits}
 use Rattle.replay_course.specs.declared.course.Course.{Course}
 use Rattle.replay_course.specs.Shown.{IsShown, called, taken}
-use Rattle.replay_course.proofs.Versions.{versions_by}
 use Rattle.replay_course.proofs.Lists.{get_last, get_pushed, get_removed, get_there, map_push, map_remove, set_last}
 
 -- ---- a command is sent
 
-merged_none : (fits : List Update → Bool) → ((us : List Update) → fits us ≡ false) → (n : ℕ) (bs : List Batch) → merged fits n bs ≡ bs
-merged_none fits never n [] = refl
-merged_none fits never n (b ∷ bs) = elim (cases_Bool (eqb n 0)) [
-  | inl t ↦ rw t (alone bs)
-  | inr f ↦ elim (cases_Bool (leb (length (commands_of b.updates)) n)) [
-    | inl t ↦ let rest = merged_none fits never (n - length (commands_of b.updates)) bs in rw (f, t) (ap (λ l. b ∷ l) rest)
-    | inr t ↦ rw (f, t) refl
-  ]
-]
-  where
-    alone : (cs : List Batch) → take_up fits b cs ≡ b ∷ cs
-    alone [] = refl
-    alone (c ∷ cs) = rw (never (b.updates ++ c.updates)) refl
+abbrev pub MergeLaw : Type 0
+MergeLaw = (f : List Update → Bool) (n : ℕ) (bs : List Batch) → IsMerged n bs (merged f n bs)
 
 abbrev pub with_commit : Course → Commit → Course
 with_commit c commit = record { up = c.up; server = c.server; commit = commit; down = c.down; fates = c.fates; events = c.events + 1; idle = c.idle }
 
-pub sent_shown : (s : SplitProgram) (setup : Setup) (a : Answers) (calls : List Call) (st : State) (c : Course) (commit : Commit) → ((us : List Update) → setup.fits us ≡ false)
-    → commit ≡ after_send c.commit → ltb c.commit.sent (length c.commit.commands) ≡ true → IsShown s calls st c → IsShown s calls (step setup a st event.Send) (with_commit c commit)
-sent_shown s setup a calls st c commit never is test h =
-    let now : commit ≡ record c.commit { sent = c.commit.sent + 1 } = is ∙ (rw test refl) in
-    let applies_now : ltb st.sent (length (commands_in st.batches)) ≡ true = subst (λ l. ltb st.sent (length l) ≡ true) h.commands (subst (λ n. ltb n (length c.commit.commands) ≡ true) h.sent test) in
-    let same = merged_none setup.fits never st.sent st.batches in
+pub sent_shown : (s : SplitProgram) (setup : Setup) (a : Answers) (calls : List Call) (st : State) (c : Course) (commit : Commit) → setup.fits ≡ fits c.commit.writeback
+    → MergeLaw → commit ≡ after_send c.commit → ltb c.commit.sent (length (commands c.commit)) ≡ true → IsShown s calls st c → IsShown s calls (step setup a st event.Send) (with_commit c commit)
+sent_shown s setup a calls st c commit same law is test h =
+    let now : commit ≡ record c.commit { batches = merged (fits c.commit.writeback) c.commit.sent c.commit.batches; sent = c.commit.sent + 1 } = is ∙ (rw test refl) in
+    let applies_now : ltb st.sent (length (commands_in st.batches)) ≡ true = (λ i. ltb (sym h.sent i) (length (commands_in (sym h.batches i)))) ∙ test in
     rw applies_now (record {
       passes = h.passes;
       up = h.up;
       up_frames = h.up_frames;
       store = h.store;
       version = h.version;
-      commands = ap (λ k. k.commands) now ∙ h.commands ∙ sym (ap commands_in same);
-      versions = subst (Each (λ (b : Batch). b.versions ≡ 1)) (sym same) h.versions;
+      batches = ap (λ k. k.batches) now ∙ (λ i. merged (sym same i) (h.sent i) (h.batches i));
       sent = ap (λ k. k.sent) now ∙ ap (λ n. n + 1) h.sent;
       done = ap (λ k. k.done) now ∙ h.done;
       acked = ap (λ k. k.acked) now ∙ h.acked;
-      sent_within = let l = ltb-true c.commit.sent (length c.commit.commands) test in subst (λ (k : Commit). k.sent ≤ length k.commands) (sym now) (omega arith);
+      sent_within =
+          let l = ltb-true c.commit.sent (length (commands c.commit)) test in
+          let more = (law (fits c.commit.writeback) c.commit.sent c.commit.batches).goes_on l in
+          subst (λ (k : Commit). k.sent ≤ length (commands k)) (sym now) (omega arith);
       held = ap (λ (k : Commit). map (λ (o : Output). (o.number, o.need)) k.held) now ∙ h.held;
       held_frames = λ j o g. h.held_frames j o (sym (ap (λ (k : Commit). slice_get k.held j) now) ∙ g);
       down = h.down;
@@ -76,7 +66,7 @@ sent_shown s setup a calls st c commit never is test h =
 -- ---- an output goes, or waits
 
 known_is : (s : SplitProgram) (calls : List Call) (st : State) (c : Course) → IsShown s calls st c → visible st.batches st.acked ≡ acknowledged c.commit
-known_is s calls st c h = versions_by st.batches h.versions st.acked ∙ (λ i. ons (take (sym h.acked i) (sym h.commands i)))
+known_is s calls st c h = λ i. visible (sym h.batches i) (sym h.acked i)
 
 held_at : (s : SplitProgram) (calls : List Call) (st : State) (c : Course) (j : ℕ) (o : Option Output) → IsShown s calls st c → slice_get c.commit.held j ≡ o → slice_get st.held j ≡ option_map (λ (p : Output). (p.number, p.need)) o
 held_at s calls st c j o h g = sym (ap (λ l. slice_get l j) h.held) ∙ slice_get-map (λ (p : Output). (p.number, p.need)) c.commit.held j ∙ ap (option_map (λ (p : Output). (p.number, p.need))) g
@@ -116,12 +106,11 @@ hold_goes s setup a calls st c after j n f up server commit ans down fates event
         up_frames = λ k item e. h.up_frames k item (sym (ap (λ q. slice_get q.items k) up) ∙ e);
         store = ap (λ z. z.store) server ∙ h.store;
         version = ap (λ z. z.version) server ∙ h.version;
-        commands = ap (λ k. k.commands) now ∙ h.commands;
-        versions = h.versions;
+        batches = ap (λ k. k.batches) now ∙ h.batches;
         sent = ap (λ k. k.sent) now ∙ h.sent;
         done = ap (λ k. k.done) now ∙ h.done;
         acked = ap (λ k. k.acked) now ∙ h.acked;
-        sent_within = subst (λ (k : Commit). k.sent ≤ length k.commands) (sym now) h.sent_within;
+        sent_within = subst (λ (k : Commit). k.sent ≤ length (commands k)) (sym now) h.sent_within;
         held = ap (λ (k : Commit). map (λ (o : Output). (o.number, o.need)) k.held) now ∙ map_remove (λ (o : Output). (o.number, o.need)) c.commit.held j ∙ ap (λ l. remove l j) h.held;
         held_frames = λ k o e. let r = get_removed c.commit.held j k o (sym (ap (λ (z : Commit). slice_get z.held k) now) ∙ e) in h.held_frames r.0 o r.1;
         down = ap (map (λ (item : ℕ × List ℕ). item.0)) down ∙ map_push (λ (item : ℕ × List ℕ). item.0) c.down.items (n, f) ∙ (λ i. h.down i ++ sym g.3 i ∷ []);
@@ -162,12 +151,11 @@ hold_stays s setup a calls st c after j up server commit never down fates events
         up_frames = λ k item e. h.up_frames k item (sym (ap (λ q. slice_get q.items k) up) ∙ e);
         store = ap (λ z. z.store) server ∙ h.store;
         version = ap (λ z. z.version) server ∙ h.version;
-        commands = ap (λ k. k.commands) now ∙ h.commands;
-        versions = h.versions;
+        batches = ap (λ k. k.batches) now ∙ h.batches;
         sent = ap (λ k. k.sent) now ∙ h.sent;
         done = ap (λ k. k.done) now ∙ h.done;
         acked = ap (λ k. k.acked) now ∙ h.acked;
-        sent_within = subst (λ (k : Commit). k.sent ≤ length k.commands) (sym now) h.sent_within;
+        sent_within = subst (λ (k : Commit). k.sent ≤ length (commands k)) (sym now) h.sent_within;
         held = ap (λ (k : Commit). map (λ (o : Output). (o.number, o.need)) k.held) now ∙ h.held;
         held_frames = λ k o e. h.held_frames k o (sym (ap (λ (z : Commit). slice_get z.held k) now) ∙ e);
         down = ap (λ q. map (λ (item : ℕ × List ℕ). item.0) q.items) down ∙ h.down;
@@ -180,17 +168,17 @@ hold_stays s setup a calls st c after j up server commit never down fates events
 
 -- ---- a command goes to the switch
 
-pub next_none : (c : Commit) → c.sent ≤ length c.commands → None ≡ next c → (ltb c.done c.sent ≡ false) × (after_next c ≡ c)
+pub next_none : (c : Commit) → c.sent ≤ length (commands c) → None ≡ next c → (ltb c.done c.sent ≡ false) × (after_next c ≡ c)
 next_none c within e = elim (cases_Bool (ltb c.done c.sent)) [
   | inl t ↦
       let l = ltb-true c.done c.sent t in
-      let none : None ≡ slice_get c.commands c.done = e ∙ (rw t refl) in
-      let there = get_there c.commands c.done (omega arith) in
+      let none : None ≡ slice_get (commands c) c.done = e ∙ (rw t refl) in
+      let there = get_there (commands c) c.done (omega arith) in
       absurd (none-some _ (none ∙ there.1))
   | inr f ↦ (f, rw f refl)
 ]
 
-pub next_some : (c : Commit) (command : Command) → Some command ≡ next c → (ltb c.done c.sent ≡ true) × (Some command ≡ slice_get c.commands c.done) × (after_next c ≡ record c { done = c.done + 1 })
+pub next_some : (c : Commit) (command : Command) → Some command ≡ next c → (ltb c.done c.sent ≡ true) × (Some command ≡ slice_get (commands c) c.done) × (after_next c ≡ record c { done = c.done + 1 })
 next_some c command e = elim (cases_Bool (ltb c.done c.sent)) [
   | inl t ↦ (t, e ∙ (rw t refl), rw t refl)
   | inr f ↦ let none : next c ≡ None = (rw f refl) in absurd (none-some _ (sym none ∙ sym e))
@@ -222,19 +210,18 @@ command_goes s setup a calls st c after command up server is commit down fates e
     let may : applies setup st event.Apply ≡ true = rw (test, still) refl in
     let next : step setup a st event.Apply ≡ record (tick st) { done = st.done + 1 } = rw may refl in (
       may,
-      g.1 ∙ (λ i. slice_get (h.commands i) (h.done i)),
+      g.1 ∙ (λ i. slice_get (commands_in (h.batches i)) (h.done i)),
       subst (λ w. IsShown s (calls ++ called (Some command)) w after) (sym next) (record {
         passes = h.passes;
         up = ap (λ q. map (λ (item : ℕ × List ℕ). item.0) q.items) up ∙ h.up;
         up_frames = λ k item e. up_behind calls (Some command) item.0 ∙ h.up_frames k item (sym (ap (λ q. slice_get q.items k) up) ∙ e);
         store = ap (λ z. z.store) server ∙ h.store;
         version = ap (λ z. z.version) server ∙ h.version;
-        commands = ap (λ k. k.commands) now ∙ h.commands;
-        versions = h.versions;
+        batches = ap (λ k. k.batches) now ∙ h.batches;
         sent = ap (λ k. k.sent) now ∙ h.sent;
         done = ap (λ k. k.done) now ∙ ap (λ n. n + 1) h.done;
         acked = ap (λ k. k.acked) now ∙ h.acked;
-        sent_within = subst (λ (k : Commit). k.sent ≤ length k.commands) (sym now) h.sent_within;
+        sent_within = subst (λ (k : Commit). k.sent ≤ length (commands k)) (sym now) h.sent_within;
         held = ap (λ (k : Commit). map (λ (o : Output). (o.number, o.need)) k.held) now ∙ h.held;
         held_frames = λ k o e. h.held_frames k o (sym (ap (λ (z : Commit). slice_get z.held k) now) ∙ e) ∙ sym (frame_behind s calls (Some command) st o.number);
         down = ap (λ q. map (λ (item : ℕ × List ℕ). item.0) q.items) down ∙ h.down;
@@ -262,12 +249,11 @@ no_command s setup a calls st c after up server is commit down fates events idle
         up_frames = λ k item e. up_behind calls None item.0 ∙ h.up_frames k item (sym (ap (λ q. slice_get q.items k) up) ∙ e);
         store = ap (λ z. z.store) server ∙ h.store;
         version = ap (λ z. z.version) server ∙ h.version;
-        commands = ap (λ k. k.commands) now ∙ h.commands;
-        versions = h.versions;
+        batches = ap (λ k. k.batches) now ∙ h.batches;
         sent = ap (λ k. k.sent) now ∙ h.sent;
         done = ap (λ k. k.done) now ∙ h.done;
         acked = ap (λ k. k.acked) now ∙ h.acked;
-        sent_within = subst (λ (k : Commit). k.sent ≤ length k.commands) (sym now) h.sent_within;
+        sent_within = subst (λ (k : Commit). k.sent ≤ length (commands k)) (sym now) h.sent_within;
         held = ap (λ (k : Commit). map (λ (o : Output). (o.number, o.need)) k.held) now ∙ h.held;
         held_frames = λ k o e. h.held_frames k o (sym (ap (λ (z : Commit). slice_get z.held k) now) ∙ e) ∙ sym (frame_behind s calls None st o.number);
         down = ap (λ q. map (λ (item : ℕ × List ℕ). item.0) q.items) down ∙ h.down;
@@ -324,7 +310,7 @@ finish_shown s setup calls packet verdict st c after up server commit down fates
     ap (λ (l : List Progress). record (tick st) { progress = l })
     (ap (λ p. slice_set entry.progress n (finished ev verdict p)) (get_last st.progress (Entered ev (seen st))) ∙ set_last st.progress (Entered ev (seen st)) (Fast ev ev (seen st) verdict)) in
     let next = first ∙ then ∙ last in
-    let vis : seen_by c.commit ≡ seen st = (λ i. ons (take (h.done i) (h.commands i))) ∙ sym (versions_by st.batches h.versions st.done) in
+    let vis : seen_by c.commit ≡ seen st = λ i. visible (h.batches i) (h.done i) in
     let frames : (m : ℕ) → down_frame s calls st m ≡ down_frame s all (record (tick st) { progress = st.progress ++ Fast ev ev (seen st) verdict ∷ [] }) m =
     λ m i. s.serve_down (sym (over_taken st.progress (Fast ev ev (seen st) verdict) m refl) i) (sym (frame_taken calls st packet verdict m) i) in
     subst (λ w. IsShown s all w after) (sym next) (record {
@@ -333,12 +319,11 @@ finish_shown s setup calls packet verdict st c after up server commit down fates
       up_frames = λ k item e. still_up calls (CalledUp false n packet (Finished verdict) ∷ []) item.0 (SentUp item.1) (h.up_frames k item (sym (ap (λ q. slice_get q.items k) up) ∙ e));
       store = ap (λ z. z.store) server ∙ h.store;
       version = ap (λ z. z.version) server ∙ h.version;
-      commands = ap (λ k. k.commands) commit ∙ h.commands;
-      versions = h.versions;
+      batches = ap (λ k. k.batches) commit ∙ h.batches;
       sent = ap (λ k. k.sent) commit ∙ h.sent;
       done = ap (λ k. k.done) commit ∙ h.done;
       acked = ap (λ k. k.acked) commit ∙ h.acked;
-      sent_within = subst (λ (k : Commit). k.sent ≤ length k.commands) (sym commit) h.sent_within;
+      sent_within = subst (λ (k : Commit). k.sent ≤ length (commands k)) (sym commit) h.sent_within;
       held = ap (λ (k : Commit). map (λ (o : Output). (o.number, o.need)) k.held) commit ∙ h.held;
       held_frames = λ k o e. h.held_frames k o (sym (ap (λ (z : Commit). slice_get z.held k) commit) ∙ e) ∙ frames o.number;
       down = ap (λ q. map (λ (item : ℕ × List ℕ). item.0) q.items) down ∙ h.down;

@@ -9,7 +9,7 @@ use Rattle.packet_fields.specs.declared.packet.Packet.{Packet}
 use Rattle.packet_fields.specs.declared.verdict.Verdict.{Verdict}
 use Rattle.state_store.specs.Store.{Store}
 use Rattle.writeback_table.specs.declared.command.Update.{Update}
-use Rattle.output_commit.specs.Commit.{Commit, batch_of, with_output}
+use Rattle.output_commit.specs.Commit.{Commit, batch_of, commands, with_output}
 use Rattle.output_commit.specs.declared.output.Output.{Output}
 use Rattle.run_model.specs.declared.event.Event.{Event}
 use Rattle.run_model.specs.declared.event.Event.TheVariants as event
@@ -19,14 +19,15 @@ use Rattle.replay_state.specs.Answers.{Answers, Setup}
 use Rattle.replay_state.specs.Journal.{Call, CalledDown, CalledUp, Released, SentUp, UpAnswer, down_answer, down_frame, frame_in, journal, only_for, or_else, over_in, told, up_answer, verdict_in}
 use Rattle.replay_state.specs.Places.{HavePlaces, IsHeld}
 use Rattle.replay_state.specs.Program.{SplitProgram}
-use Rattle.replay_state.specs.State.{State, Batch, Entered, Held, Progress, Slow, Up, commands_in, fate_of, seen}
+use Rattle.output_commit.specs.Batches.{Batch, commands_in}
+use Rattle.replay_state.specs.State.{State, Entered, Held, Progress, Slow, Up, fate_of, seen}
 use Rattle.replay_state.specs.Step.{applies, came_down, came_in, came_out, decided, idled, ran, released, served, step, tick, went_up, with_changes}
 use Rattle.replay_course.specs.Fates as fates_of
 use Rattle.replay_course.specs.declared.course.Course.{Course}
 use Rattle.replay_course.specs.Shown.{IsShown, taken}
-use Rattle.replay_course.proofs.Lists.{each_push, get_last, get_pushed, get_removed, get_set_other, get_set_same, length_map, map_push, map_remove, map_set, none_at_end, set_last}
+use Rattle.replay_course.proofs.Lists.{get_last, get_pushed, get_removed, get_set_other, get_set_same, length_map, map_push, map_remove, map_set, none_at_end, set_last}
 use Rattle.replay_course.proofs.Showing.{over_taken, still_up, up_append}
-use Rattle.replay_course.proofs.Versions.{AreSingle, commands_push}
+use Rattle.replay_course.proofs.Versions.{length_more}
 
 -- ---- an event that can't apply
 
@@ -41,12 +42,11 @@ idle_shown s setup a calls st ev c after may up server commit down fates events 
       up_frames = λ k item e. h.up_frames k item (sym (ap (λ l. slice_get l k) up) ∙ e);
       store = ap (λ z. z.store) server ∙ h.store;
       version = ap (λ z. z.version) server ∙ h.version;
-      commands = ap (λ k. k.commands) commit ∙ h.commands;
-      versions = h.versions;
+      batches = ap (λ k. k.batches) commit ∙ h.batches;
       sent = ap (λ k. k.sent) commit ∙ h.sent;
       done = ap (λ k. k.done) commit ∙ h.done;
       acked = ap (λ k. k.acked) commit ∙ h.acked;
-      sent_within = subst (λ (k : Commit). k.sent ≤ length k.commands) (sym commit) h.sent_within;
+      sent_within = subst (λ (k : Commit). k.sent ≤ length (commands k)) (sym commit) h.sent_within;
       held = ap (λ (k : Commit). map (λ (o : Output). (o.number, o.need)) k.held) commit ∙ h.held;
       held_frames = λ k o e. h.held_frames k o (sym (ap (λ (z : Commit). slice_get z.held k) commit) ∙ e);
       down = ap (map (λ (item : ℕ × List ℕ). item.0)) down ∙ h.down;
@@ -125,9 +125,9 @@ module _ (s : SplitProgram) (calls : List Call) (st : State) (c after : Course) 
   abbrev changed : ℕ → List Store → List Batch → State
   changed v ss bs = record (tick st) { version = v; stores = ss; batches = bs }
 
-  ran_shown : (ss : List Store) (bs : List Batch) → commands_in bs ≡ commands_in st.batches ++ batch_of updates → AreSingle bs
+  ran_shown : (ss : List Store) (bs : List Batch) → bs ≡ st.batches ++ batch_of updates
       → IsShown s calls (ran serves (tick st) (changed after.server.version ss bs) j n) after
-  ran_shown ss bs commands_are single =
+  ran_shown ss bs batches_are =
       let next : ran serves (tick st) (changed after.server.version ss bs) j n ≡ record (changed after.server.version ss bs) {
         up = remove st.up j;
         store = s.serve_after st.store (frame_in (up_answer calls n));
@@ -146,12 +146,11 @@ module _ (s : SplitProgram) (calls : List Call) (st : State) (c after : Course) 
         up_frames = λ k item e. let r = get_removed c.up.items j k item (sym (ap (λ l. slice_get l k) up) ∙ e) in h.up_frames r.0 item r.1;
         store = store ∙ (λ i. s.serve_after (h.store i) (sym (ap frame_in went) i));
         version = refl;
-        commands = ap (λ (k : Commit). k.commands) commit ∙ ap (λ l. l ++ batch_of updates) h.commands ∙ sym commands_are;
-        versions = single;
+        batches = ap (λ (k : Commit). k.batches) commit ∙ ap (λ l. l ++ batch_of updates) h.batches ∙ sym batches_are;
         sent = ap (λ (k : Commit). k.sent) commit ∙ h.sent;
         done = ap (λ (k : Commit). k.done) commit ∙ h.done;
         acked = ap (λ (k : Commit). k.acked) commit ∙ h.acked;
-        sent_within = subst (λ (k : Commit). k.sent ≤ length k.commands) (sym commit) (more_commands c.commit.commands (batch_of updates) c.commit.sent h.sent_within);
+        sent_within = subst (λ (k : Commit). k.sent ≤ length (commands k)) (sym commit) (more_commands c.commit.batches (batch_of updates) c.commit.sent h.sent_within);
         held = ap (λ (k : Commit). map waiting k.held) commit ∙ map_push waiting c.commit.held output ∙ ap (λ l. l ++ (n, after.server.version) ∷ []) h.held;
         held_frames = λ k o e. elim (get_pushed c.commit.held output k o (sym (ap (λ (z : Commit). slice_get z.held k) commit) ∙ e)) [
           | inl p ↦ subst (λ (z : Output). z.frame ≡ s.serve_down (over_in (slice_get served_progress z.number)) (frame_in (up_answer calls z.number))) p own_frame
@@ -166,10 +165,8 @@ module _ (s : SplitProgram) (calls : List Call) (st : State) (c after : Course) 
         idle = idle ∙ h.idle;
       })
     where
-      more_commands : {X : Type 0} (xs ys : List X) (k : ℕ) → k ≤ length xs → k ≤ length (xs ++ ys)
-      more_commands [] ys k less = let none : k ≡ 0 = omega arith in rw none (omega arith)
-      more_commands (x ∷ xs) ys zero less = omega arith
-      more_commands (x ∷ xs) ys (suc k) less = let rest = more_commands xs ys k (omega arith) in omega arith
+      more_commands : (xs ys : List Batch) (k : ℕ) → k ≤ length (commands_in xs) → k ≤ length (commands_in (xs ++ ys))
+      more_commands xs ys k less = let more = length_more xs ys in omega arith
 
 -- a batch for the changes, if there are any
 changes_shown : (s : SplitProgram) (calls : List Call) (st : State) (c after : Course) (j n : ℕ) (frame : List ℕ) (updates : List Update)
@@ -181,12 +178,11 @@ changes_shown : (s : SplitProgram) (calls : List Call) (st : State) (c after : C
     → after.events ≡ c.events + 1 → after.idle ≡ c.idle → (left : Store)
     → IsShown s calls (ran (journal s calls) (tick st) (with_changes left updates (tick st)) j n) after
 changes_shown s calls st c after j n frame [] h places here up store version commit down fates events idle left =
-    let base = ran_shown s calls st c after j n frame [] h places here up store commit down fates events idle st.stores st.batches (sym (append-nil (commands_in st.batches))) h.versions in
+    let base = ran_shown s calls st c after j n frame [] h places here up store commit down fates events idle st.stores st.batches (sym (append-nil st.batches)) in
     subst (λ v. IsShown s calls (ran (journal s calls) (tick st) (record (tick st) { version = v }) j n) after) (version ∙ h.version) base
 changes_shown s calls st c after j n frame (u ∷ us) h places here up store version commit down fates events idle left =
     let batch : Batch = record { updates = u ∷ us; versions = 1 } in
-    let base = ran_shown s calls st c after j n frame (u ∷ us) h places here up store commit down fates events idle (st.stores ++ left ∷ []) (st.batches ++ batch ∷ [])
-    (commands_push st.batches batch) (each_push (λ (b : Batch). b.versions ≡ 1) st.batches batch h.versions refl) in
+    let base = ran_shown s calls st c after j n frame (u ∷ us) h places here up store commit down fates events idle (st.stores ++ left ∷ []) (st.batches ++ batch ∷ []) refl in
     subst (λ v. IsShown s calls (ran (journal s calls) (tick st) (record (tick st) { version = v; stores = st.stores ++ left ∷ []; batches = st.batches ++ batch ∷ [] }) j n) after)
     (version ∙ ap (λ v. v + 1) h.version) base
 
@@ -263,12 +259,11 @@ down_shown s setup calls st c after j n frame y h places after_places stages ans
       up_frames = λ k item e. up_beside calls n frame y item.0 ∙ h.up_frames k item (sym (ap (λ l. slice_get l k) up) ∙ e);
       store = ap (λ z. z.store) server ∙ h.store;
       version = ap (λ z. z.version) server ∙ h.version;
-      commands = ap (λ k. k.commands) commit ∙ h.commands;
-      versions = h.versions;
+      batches = ap (λ k. k.batches) commit ∙ h.batches;
       sent = ap (λ k. k.sent) commit ∙ h.sent;
       done = ap (λ k. k.done) commit ∙ h.done;
       acked = ap (λ k. k.acked) commit ∙ h.acked;
-      sent_within = subst (λ (k : Commit). k.sent ≤ length k.commands) (sym commit) h.sent_within;
+      sent_within = subst (λ (k : Commit). k.sent ≤ length (commands k)) (sym commit) h.sent_within;
       held = ap (λ (k : Commit). map waiting k.held) commit ∙ h.held;
       held_frames = λ k o e.
           let then = sym (ap (λ (z : Commit). slice_get z.held k) commit) ∙ e in
@@ -329,12 +324,11 @@ send_up_shown s setup calls packet frame st c after up server commit down fates 
       ];
       store = ap (λ z. z.store) server ∙ h.store;
       version = ap (λ z. z.version) server ∙ h.version;
-      commands = ap (λ k. k.commands) commit ∙ h.commands;
-      versions = h.versions;
+      batches = ap (λ k. k.batches) commit ∙ h.batches;
       sent = ap (λ k. k.sent) commit ∙ h.sent;
       done = ap (λ k. k.done) commit ∙ h.done;
       acked = ap (λ k. k.acked) commit ∙ h.acked;
-      sent_within = subst (λ (k : Commit). k.sent ≤ length k.commands) (sym commit) h.sent_within;
+      sent_within = subst (λ (k : Commit). k.sent ≤ length (commands k)) (sym commit) h.sent_within;
       held = ap (λ (k : Commit). map waiting k.held) commit ∙ h.held;
       held_frames = λ k o e.
           let was = sym (ap (λ (z : Commit). slice_get z.held k) commit) ∙ e in

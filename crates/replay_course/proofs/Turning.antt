@@ -11,7 +11,8 @@ use Rattle.writeback_table.specs.declared.command.Update.{Update}
 use Rattle.run_model.specs.declared.event.Event.{Event}
 use Rattle.run_model.specs.declared.event.Event.TheVariants as event
 use Rattle.switch_ir.specs.Port.{PortState, IsCommandOf}
-use Rattle.output_commit.specs.Commit.{Commit, next}
+use Rattle.output_commit.specs.Batches.{fits}
+use Rattle.output_commit.specs.Commit.{Commit, commands, next}
 use Rattle.replay_state.specs.Answers.{Answers, Setup}
 use Rattle.replay_state.specs.Journal.{AsksDown, AsksUp, Call, CalledCommand, CalledDown, CalledUp, EndOnce, IsAnswered, Released, UpAnswer, asked, asks, asks_command, asks_down, down_answer, down_ends, down_frame, frame_in, has_come_down, has_passed, is_up_end, journal, one_if, over_in, question_of, up_answer, up_ends}
 use Rattle.replay_state.specs.Places.{HavePlaces}
@@ -30,6 +31,7 @@ use Rattle.replay_course.specs.Going.{HasTurned, IsGoing, IsPlain, IsSound, unap
 use Rattle.replay_course.specs.Shown.{IsShown, taken}
 use Rattle.replay_course.proofs.Calling.{called_stays, keeps_all, kept_calls, kept_stays}
 use Rattle.replay_course.proofs.Lists.{each_at, length_map, none_at_end}
+use Rattle.replay_course.proofs.Named.{commands_named}
 use Rattle.replay_course.proofs.Sounding.{down_sound}
 use Rattle.replay_course.proofs.Travelling.{brought_down, down_at, down_shown, up_beside}
 
@@ -60,11 +62,12 @@ have_places law setup s packets events calls st h = subst HavePlaces (sym h.run)
 
 -- ## Plain runs
 
-pub plain_setup : {X : Type 0} (x : Given) (f : Setup → X) → IsPlain x → f (setup_for x) ≡ f (setup_of (whole x) x.packets (record { fine = false; merges = false }))
+pub plain_setup : {X : Type 0} (x : Given) (f : Setup → X) → IsPlain x → f (setup_for x) ≡ f (setup_of (whole x) x.packets (record { fine = false; merges = true }))
 plain_setup x f plain = ap (λ m. f (setup_of (whole x) x.packets m)) plain.manner
 
-pub no_merging : (x : Given) → IsPlain x → (updates : List Update) → (setup_for x).fits updates ≡ false
-no_merging x plain updates = plain_setup x (λ setup. setup.fits updates) plain
+-- what fits is what the commit holds to
+pub fits_same : (x : Given) (c : Course) → IsPlain x → IsSound x c → (setup_for x).fits ≡ fits c.commit.writeback
+fits_same x c plain sound = plain_setup x (λ setup. setup.fits) plain ∙ ap fits (sym sound.writeback)
 
 -- ## Events that call for no packet and no command
 
@@ -170,7 +173,7 @@ down_turned places once step_law fresh x c after old new j n frame y going here 
     plain = going.plain;
     sound = down_sound x c after j n _ going.sound up server commit down fates (let i = going.sound.within.idle in omega (arith, events, idle));
     loaded = called.loaded ∙ going.loaded;
-    spare = let before = going.spare in subst (λ (k : Commit). length k.commands - k.done ≤ new.spare) (sym commit) (omega arith);
+    spare = let before = going.spare in subst (λ (k : Commit). length (commands k) - k.done ≤ new.spare) (sym commit) (omega arith);
   };
   turns = λ events_so calls st replay h.
       let s = whole x in
@@ -232,14 +235,15 @@ apply_turned x c after old new command going called spare sound one_less counted
 }
 
 -- the next command is one of the code, behind those that were applied
-pub next_at : (k : Commit) (command : Command) → Some command ≡ next k → slice_get k.commands k.done ≡ Some command
+pub next_at : (k : Commit) (command : Command) → Some command ≡ next k → slice_get (commands k) k.done ≡ Some command
 next_at k command e = elim (cases_Bool (ltb k.done k.sent)) [
-  | inl t ↦ let here : Some command ≡ slice_get k.commands k.done = e ∙ (rw t refl) in sym here
+  | inl t ↦ let here : Some command ≡ slice_get (commands k) k.done = e ∙ (rw t refl) in sym here
   | inr f ↦ let none : next k ≡ None = (rw f refl) in absurd (none-some _ (sym none ∙ sym e))
 ]
 
 pub next_named : (x : Given) (c : Course) (command : Command) → IsSound x c → Some command ≡ next c.commit → IsCommandOf (code_for x) command
-next_named x c command sound here = each_at (IsCommandOf (code_for x)) c.commit.commands c.commit.done command sound.commands (next_at c.commit command here)
+next_named x c command sound here =
+    each_at (IsCommandOf (code_for x)) (commands c.commit) c.commit.done command (commands_named (code_for x) c.commit.batches sound.updates) (next_at c.commit command here)
 
 -- the same of an event by its name
 pub at_event : (x : Given) (named ev : Event) (stepped : Stepped) (c after : Course) (old new : PortState) → named ≡ ev

@@ -3,24 +3,29 @@ use Rattle.std.proofs.Common.{◌≡◌, ◌<◌, ◌≤◌, ◌+◌, ◌-◌, �
 use Rattle.std.specs.Prelude.{slice_get, remove}
 use Rattle.std.proofs.lemmas.Bool.{cases_Bool, ltb-true}
 use Rattle.writeback_table.specs.declared.command.Command.{Command}
-use Rattle.output_commit.specs.Commit.{Commit, IsInOrder, acknowledged, after_acknowledge, after_next, after_release, after_send, answer, next}
+use Rattle.output_commit.specs.Commit.{Commit, IsInOrder, acknowledged, commands, after_acknowledge, after_next, after_release, after_send, answer, next}
+use Rattle.output_commit.specs.Batches.{fits}
 use Rattle.output_commit.specs.declared.output.Output.{Output}
 use Rattle.output_commit.specs.declared.output.Release.TheVariants as release
 use Rattle.replay_contracts.specs.Given.{Given}
 use Rattle.replay_course.specs.declared.course.Course.{Course}
 use Rattle.replay_course.specs.Going.{IsSound}
-use Rattle.replay_course.proofs.Showing.{goes, next_none, next_some, stays}
+use Rattle.replay_course.proofs.Showing.{MergeLaw, goes, next_none, next_some, stays}
 use Rattle.replay_course.proofs.Sounding.{hold_sound, idle_sound}
 
 abbrev pub left_of : Commit → ℕ
-left_of k = length k.commands - k.done
+left_of k = length (commands k) - k.done
 
 pub release_same : (k : Commit) (j : ℕ) (o : Option Output) → left_of (after_release k j o) ≡ left_of k
 release_same k j None = refl
 release_same k j (Some out) = elim (cases_Bool (ltb (acknowledged k) out.need)) [ inl t ↦ rw t refl | inr f ↦ rw f refl ]
 
-pub send_same : (k : Commit) → left_of (after_send k) ≡ left_of k
-send_same k = elim (cases_Bool (ltb k.sent (length k.commands))) [ inl t ↦ rw t refl | inr f ↦ rw f refl ]
+-- where a batch takes up others there are fewer
+pub send_less : MergeLaw → (k : Commit) → left_of (after_send k) ≤ left_of k
+send_less law k = elim (cases_Bool (ltb k.sent (length (commands k)))) [
+  | inl t ↦ let fewer = (law (fits k.writeback) k.sent k.batches).fewer in rw t (omega arith)
+  | inr f ↦ rw f (omega arith)
+]
 
 pub acknowledge_same : (k : Commit) → left_of (after_acknowledge k) ≡ left_of k
 acknowledge_same k = elim (cases_Bool (ltb k.acked k.done)) [ inl t ↦ rw t refl | inr f ↦ rw f refl ]
@@ -31,7 +36,7 @@ one_less total sent done a b = omega arith
 pub next_left : (k : Commit) (command : Command) → IsInOrder k → Some command ≡ next k → left_of k ≡ 1 + left_of (after_next k)
 next_left k command h e =
     let g = next_some k command e in
-    one_less (length k.commands) k.sent k.done (ltb-true k.done k.sent g.0) h.sent_within ∙ ap (λ z. 1 + left_of z) (sym g.2)
+    one_less (length (commands k)) k.sent k.done (ltb-true k.done k.sent g.0) h.sent_within ∙ ap (λ z. 1 + left_of z) (sym g.2)
 
 pub none_left : (k : Commit) → IsInOrder k → None ≡ next k → left_of k ≡ 0 + left_of (after_next k)
 none_left k h e = let same = ap left_of (next_none k h.sent_within e).1 in omega arith

@@ -3,12 +3,12 @@ use Rattle.std.specs.Prelude.{◌≡◌, ◌≤◌, ◌<◌, ◌+◌, ◌-◌, �
 use Rattle.std.specs.List.{AllByRecursion as Each}
 use Rattle.split_model.specs.Layouts.{down_layout, up_layout}
 use Rattle.transfer_header.specs.Frames.{IsFrame}
-use Rattle.writeback_table.specs.Commands.{ons}
-use Rattle.output_commit.specs.Commit.{IsInOrder, next as next_command}
+use Rattle.output_commit.specs.Commit.{IsInOrder, commands, next as next_command}
+use Rattle.output_commit.specs.Laws.{changes_in, versions_in}
 use Rattle.output_commit.specs.declared.output.Output.{Output}
 use Rattle.run_model.specs.declared.event.Event.{Event}
 use Rattle.server_runtime.specs.Views.{server_of}
-use Rattle.switch_ir.specs.Port.{PortState, HasRoomFor, IsCommandOf}
+use Rattle.switch_ir.specs.Port.{PortState, HasRoomFor, IsUpdateOf}
 use Rattle.writeback_table.specs.declared.command.Command.{Command}
 use Rattle.replay_state.specs.Journal.{Call, asked, question_of}
 use Rattle.replay_state.specs.Program.{plain_manner}
@@ -34,18 +34,18 @@ undecided x c = length c.up.items + (length x.packets - length c.fates.items)
 
 -- the commands that aren't applied
 abbrev pub unapplied : Course → ℕ
-unapplied c = length c.commit.commands - c.commit.done
+unapplied c = length (commands c.commit) - c.commit.done
 
--- each packet makes one version and one batch of commands at most
+-- each packet makes one version and one batch of commands at most, and batches that take up others have fewer
 pub record IsWithin (x : Given) (c : Course) : Type 0 where
   pub idle : c.idle ≤ c.events
   pub admitted : length c.fates.items ≤ length x.packets
   pub versions : c.server.version + undecided x c ≤ length x.packets
-  pub commands : length c.commit.commands + undecided x c * most_commands x ≤ length x.packets * most_commands x
+  pub commands : length (commands c.commit) + undecided x c * most_commands x ≤ length x.packets * most_commands x
 
 -- ## What stands
 
--- each pass takes one event and each batch goes by itself, and all commands of all packets can be counted
+-- each pass takes one event and each batch takes up those behind it that fit, and all commands of all packets can be counted
 pub record IsPlain (x : Given) : Type 0 where
   pub ready : IsReady x
   pub manner : x.manner ≡ plain_manner
@@ -59,11 +59,12 @@ pub record IsSound (x : Given) (c : Course) : Type 0 where
   pub up : Each (λ item. IsFrame 1 (up_layout x.program x.split) item.1) c.up.items
   pub held : Each (λ (o : Output). IsFrame 2 (down_layout x.program x.split) o.frame) c.commit.held
   pub down : Each (λ item. IsFrame 2 (down_layout x.program x.split) item.1) c.down.items
-  -- commands are those of the switch's code
-  pub commands : Each (IsCommandOf (code_for x)) c.commit.commands
+  -- changes are those of the switch's code, and a batch has no more of them than may be staged
+  pub updates : Each (IsUpdateOf (code_for x)) (changes_in c.commit.batches)
+  pub writeback : c.commit.writeback ≡ x.writeback
   pub order : IsInOrder c.commit
-  -- each batch makes a version, and no output needs a later one
-  pub version : c.server.version ≡ ons c.commit.commands
+  -- the batches make all versions, and no output needs a later one
+  pub version : c.server.version ≡ versions_in c.commit.batches
   pub needs : Each (λ (o : Output). o.need ≤ c.server.version) c.commit.held
   pub within : IsWithin x c
 

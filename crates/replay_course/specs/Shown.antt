@@ -1,13 +1,13 @@
 -- What a course shows of a state, by calls of the switch and where each pass takes one event. The stores of versions,
 -- and those over which packets were run, stand in no code.
 use Rattle.std.specs.Prelude.{◌≡◌, ◌≤◌, ℕ, List, [], ◌∷◌, ◌++◌, false, map, length, Option, Some, None, slice_get}
-use Rattle.std.specs.List.{AllByRecursion as Each}
 use Rattle.packet_fields.specs.declared.packet.Packet.{Packet}
 use Rattle.writeback_table.specs.declared.command.Command.{Command}
+use Rattle.output_commit.specs.Commit.{commands}
 use Rattle.output_commit.specs.declared.output.Output.{Output}
 use Rattle.replay_state.specs.Journal.{Call, CalledCommand, CalledUp, SentUp, UpAnswer, down_frame, up_answer}
 use Rattle.replay_state.specs.Program.{SplitProgram}
-use Rattle.replay_state.specs.State.{State, Batch, commands_in, fate_of}
+use Rattle.replay_state.specs.State.{State, fate_of}
 use Rattle.replay_course.specs.declared.course.Course.{Course}
 
 pub record IsShown (s : SplitProgram) (calls : List Call) (st : State) (c : Course) : Type 0 where
@@ -18,13 +18,12 @@ pub record IsShown (s : SplitProgram) (calls : List Call) (st : State) (c : Cour
       → up_answer calls item.0 ≡ Some (SentUp item.1)
   pub store : c.server.store ≡ st.store
   pub version : c.server.version ≡ st.version
-  -- the commands, and how far they have come; each batch makes one version
-  pub commands : c.commit.commands ≡ commands_in st.batches
-  pub versions : Each (λ (b : Batch). b.versions ≡ 1) st.batches
+  -- the batches, and how far their commands have come
+  pub batches : c.commit.batches ≡ st.batches
   pub sent : c.commit.sent ≡ st.sent
   pub done : c.commit.done ≡ st.done
   pub acked : c.commit.acked ≡ st.acked
-  pub sent_within : c.commit.sent ≤ length c.commit.commands
+  pub sent_within : c.commit.sent ≤ length (commands c.commit)
   -- the outputs that wait, and those on their way down, each in the frame that goes down for its packet
   pub held : map (λ o. (o.number, o.need)) c.commit.held ≡ st.held
   pub held_frames : (j : ℕ) (o : Output) → slice_get c.commit.held j ≡ Some o

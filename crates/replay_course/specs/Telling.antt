@@ -5,7 +5,7 @@ use Rattle.run_model.specs.Order.{order_of}
 use Rattle.run_model.specs.Parts.{parts_of}
 use Rattle.run_model.specs.declared.run.Part.{Part}
 use Rattle.run_model.specs.declared.run.Run.{Run}
-use Rattle.output_commit.specs.Commit.{visible}
+use Rattle.output_commit.specs.Commit.{commands, visible}
 use Rattle.switch_ir.specs.Port.{PortState}
 use Rattle.switch_ir.specs.Tables.{Told}
 use Rattle.split_model.specs.Shown.{is_replicated}
@@ -24,7 +24,7 @@ pub record ShowsParts (x : Given) (old new : PortState) (parts : List Part) : Ty
 abbrev pub is_done : ℕ → Course → Bool
 is_done packets c =
     length c.fates.items == packets && (length c.up.items == 0 && (length c.commit.held == 0 && (length c.down.items == 0
-    && c.commit.acked == length c.commit.commands)))
+    && c.commit.acked == length (commands c.commit))))
 
 -- the run so far, with these rows of the switch
 abbrev pub told_run : Given → Course → List Part → Run

@@ -2,6 +2,7 @@
 use Rattle.std.specs.Prelude.{◌≡◌, ℕ, ◌+◌, ◌-◌, ◌*◌, List, ◌++◌, length, Option, Some, None, nat_lt, if◌then◌else◌}
 use Rattle.run_model.specs.declared.event.Event.{Event}
 use Rattle.run_model.specs.declared.event.Event.TheVariants.{Admit, Serve, Send, Apply, Ack, Hold, Down}
+use Rattle.output_commit.specs.Commit.{commands}
 use Rattle.switch_ir.specs.Port.{PortState}
 use Rattle.replay_state.specs.Drain.{packet_events, up_events}
 use Rattle.replay_state.specs.Journal.{Call}
@@ -41,7 +42,7 @@ abbrev pub course_left : Given → Course → ℕ
 course_left x c =
     (length x.packets - length c.fates.items) * packet_events (setup_for x) + length c.up.items * up_events (setup_for x)
     + length c.commit.held * (2 + (setup_for x).post_stages) + length c.down.items * (1 + (setup_for x).post_stages)
-    + 3 * (length c.commit.commands - c.commit.sent) + 2 * (c.commit.sent - c.commit.done)
+    + 3 * (length (commands c.commit) - c.commit.sent) + 2 * (c.commit.sent - c.commit.done)
     + (c.commit.done - c.commit.acked)
 
 -- the event that comes next, of a trace with so many packets
@@ -49,7 +50,7 @@ abbrev pub picked_by : ℕ → Course → Option Event
 picked_by packets c =
     if nat_lt c.commit.acked c.commit.done then Some Ack
     else (if nat_lt c.commit.done c.commit.sent then Some Apply
-    else (if nat_lt c.commit.sent (length c.commit.commands) then Some Send
+    else (if nat_lt c.commit.sent (length (commands c.commit)) then Some Send
     else (if nat_lt 0 (length c.down.items) then Some (Down 0)
     else (if nat_lt 0 (length c.commit.held) then Some (Hold 0)
     else (if nat_lt 0 (length c.up.items) then Some (Serve 0)

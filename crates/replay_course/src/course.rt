@@ -2,7 +2,6 @@
 ghost use Rattle.std.specs.Prelude.{◌≡◌, ◌<◌, ◌≤◌, ◌-◌, ◌^◌, ◌++◌, List, true, false, length, None, is_some};
 ghost use Rattle.std.specs.Prelude.{IfOk, OnOk, ◌+◌, if◌then◌else◌};
 ghost use Rattle.packet_fields.specs.declared.packet.Packet.{Packet};
-ghost use Rattle.writeback_table.specs.declared.command.Update.{Update};
 ghost use Rattle.run_model.specs.declared.event.Event.{Event};
 ghost use Rattle.run_model.specs.declared.event.Event.TheVariants as event;
 ghost use Rattle.replay_state.specs.Answers.{Answers, Setup};
@@ -13,6 +12,7 @@ ghost use Rattle.replay_state.specs.State.{State, first_state};
 ghost use Rattle.replay_state.specs.Step.{applies, step};
 ghost use Rattle.replay_contracts.specs.Given.{Given};
 ghost use Rattle.replay_contracts.specs.Replayer.{stepped_by};
+ghost use Rattle.output_commit.specs.Batches.{fits};
 ghost use Rattle.output_commit.specs.Commit.{next as next_command};
 ghost use Rattle.server_runtime.specs.Views.{server_of};
 ghost use Rattle.split_model.specs.Layouts.{up_layout};
@@ -21,7 +21,7 @@ ghost use Rattle.replay_course.specs.Going.{IsSound, unapplied};
 ghost use Rattle.replay_course.specs.Shown.{IsShown, called, taken};
 
 use gal_io::{Bytes, NoMemory};
-use output_commit::{Commit, Release};
+use output_commit::{Commit, Release, a_batch_takes_up_others};
 use packet_fields::Verdict;
 use replay_contracts::Stepped;
 use run_model::Fate;
@@ -47,19 +47,19 @@ pub struct Course {
 
 impl Course {
     /// Before any event.
-    pub fn new(alloc: Global, server: Server) -> Course
+    pub fn new(alloc: Global, server: Server, writeback: u32) -> Course
         requires { server.version ≡ 0 }
         ensures shown { (s : SplitProgram) (calls : List Call)
             → IsShown s calls (first_state server.store) result }
         ensures server { result.server ≡ server }
         ensures sound { (x : Given) → (server_of server).program ≡ x.program → (server_of server).split ≡ x.split
-            → IsSound x result }
+            → writeback ≡ x.writeback → IsSound x result }
         ensures unapplied { unapplied result ≡ 0 }
     {
         Course {
             up: VecDeque::new(alloc),
             server,
-            commit: Commit::new(alloc),
+            commit: Commit::new(alloc, writeback),
             down: VecDeque::new(alloc),
             fates: Vec::new(alloc),
             events: 0,
@@ -155,19 +155,20 @@ impl Course {
         }
     }
 
-    /// One more command is sent, where batches go by themselves.
+    /// One more command is sent. A batch of which none was sent first takes up those behind it that fit.
     pub fn send(&mut self) -> Stepped
         requires events { self.old.events < 2 ^ 32 - 1 }
         requires idle { self.old.idle ≤ self.old.events }
         ensures stepped { (s : SplitProgram) (setup : Setup) (calls : List Call) (st : State)
             → IsShown s calls st self.old → result ≡ stepped_by (applies setup st event.Send) }
         ensures shown { (s : SplitProgram) (setup : Setup) (a : Answers) (calls : List Call) (st : State)
-            → ((updates : List Update) → setup.fits updates ≡ false)
+            → setup.fits ≡ fits self.old.commit.writeback
             → IsShown s calls st self.old → IsShown s calls (step setup a st event.Send) self.new }
         ensures sound { (x : Given) → IsSound x self.old → IsSound x self.new }
-        ensures unapplied { unapplied self.new ≡ unapplied self.old }
+        ensures unapplied { unapplied self.new ≤ unapplied self.old }
         ensures counted { self.new.events ≡ self.old.events + 1 }
     {
+        a_batch_takes_up_others();
         self.events += 1;
         if self.commit.send_command() {
             Stepped::Did

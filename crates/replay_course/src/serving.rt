@@ -3,7 +3,8 @@ ghost use Rattle.std.specs.Prelude.{◌≡◌, ◌<◌, ◌≤◌, ◌+◌, ◌-
 ghost use Rattle.run_model.specs.declared.event.Event.TheVariants as event;
 ghost use Rattle.split_model.specs.Layouts.{up_layout};
 ghost use Rattle.transfer_header.specs.Frames.{IsFrame};
-ghost use Rattle.output_commit.specs.Commit.{batch_of};
+ghost use Rattle.output_commit.specs.Batches.{commands_in};
+ghost use Rattle.output_commit.specs.Commit.{batch_of, commands};
 ghost use Rattle.server_runtime.specs.Serving.{IsServed};
 ghost use Rattle.server_runtime.specs.Views.{server_of};
 ghost use Rattle.switch_ir.specs.Port.{IsLoaded};
@@ -44,8 +45,8 @@ fn reserve<S: SwitchPort>(
 ) -> Result<(), ReplayError>
     requires loaded { IsLoaded (S.seen port.old) }
     requires few { length updates.now ≤ 4096 }
-    requires spare { length commit.now.commands - commit.now.done ≤ (S.seen port.old).spare }
-    ensures room { OnOk result (MadeRoom (length commit.now.commands - commit.now.done + length (batch_of updates.now))
+    requires spare { length (commands commit.now) - commit.now.done ≤ (S.seen port.old).spare }
+    ensures room { OnOk result (MadeRoom (length (commands commit.now) - commit.now.done + length (commands_in (batch_of updates.now)))
         (S.seen port.old) (S.seen port.new)) }
     ensures fails { IfErr result (λ e. Fails e (S.seen port.old) (S.seen port.new)) }
 {

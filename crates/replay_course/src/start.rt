@@ -72,6 +72,6 @@ impl Course {
         load(alloc, port, &code)?;
         let store = Store::new(alloc, &job.flat.objects)?;
         let server = Server::new(alloc, &job.flat, &job.split, store)?;
-        Ok(Course::new(alloc, server))
+        Ok(Course::new(alloc, server, job.writeback))
     }
 }

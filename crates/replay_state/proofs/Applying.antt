@@ -9,7 +9,8 @@ use Rattle.writeback_table.specs.declared.command.Update.{Update}
 use Rattle.run_model.specs.declared.event.Event.{Event}
 use Rattle.run_model.specs.declared.event.Event.TheVariants.{Admit, Stage, Serve, Send, Apply, Ack, Hold, Down}
 use Rattle.replay_state.specs.Answers.{Answers, Setup}
-use Rattle.replay_state.specs.State.{State, Pass, Entered, applied_commands, commands_in, store_at, seen, first_state}
+use Rattle.output_commit.specs.Batches.{commands_in}
+use Rattle.replay_state.specs.State.{State, Pass, Entered, applied_commands, store_at, seen, first_state}
 use Rattle.replay_state.specs.Step.{applies, happens, step, tick, waits, state_of}
 use Rattle.replay_state.specs.Step.{came_in, ended, pass_of, entered, staged, with_changes, ran, served, let_go, came_down}
 use Rattle.replay_state.specs.Commands.{applied_by, commands_at, one_or_none}

@@ -6,7 +6,8 @@ use Rattle.writeback_table.specs.declared.command.Update.{Update}
 use Rattle.writeback_table.specs.declared.command.Command.{Command}
 use Rattle.writeback_table.specs.declared.command.Command.TheVariants.{Stage, On, Main, Off, Clear}
 use Rattle.writeback_table.specs.Commands.{clear_of, commands_of, ons, bit_through}
-use Rattle.replay_state.specs.State.{Batch, bit_behind, commands_in}
+use Rattle.output_commit.specs.Batches.{Batch, commands_in}
+use Rattle.replay_state.specs.State.{bit_behind}
 use Rattle.replay_state.specs.Commands.{offs}
 
 -- ---- the bit

@@ -6,8 +6,8 @@ use Rattle.writeback_table.specs.declared.command.Update.{Update}
 use Rattle.writeback_table.specs.declared.command.Command.{Command}
 use Rattle.writeback_table.specs.declared.command.Command.TheVariants.{Stage, On, Main, Off, Clear}
 use Rattle.writeback_table.specs.Commands.{clear_of, commands_of}
-use Rattle.replay_state.specs.State.{State, Batch, commands_in}
-use Rattle.replay_state.specs.Step.{take_up, merged}
+use Rattle.output_commit.specs.Batches.{Batch, commands_in, merged, take_up}
+use Rattle.replay_state.specs.State.{State}
 
 -- how many versions a command of a batch with so many makes visible, and each of all commands
 abbrev pub shows : ℕ → Command → ℕ

@@ -6,7 +6,8 @@ use Rattle.std.proofs.lemmas.Option.{same_Some, none-some}
 use Rattle.state_store.specs.Store.{Store}
 use Rattle.writeback_table.specs.declared.command.Command.{Command}
 use Rattle.replay_state.specs.Answers.{Answers, Setup}
-use Rattle.replay_state.specs.State.{State, Held, visible, commands_in, first_state}
+use Rattle.output_commit.specs.Batches.{commands_in, visible}
+use Rattle.replay_state.specs.State.{State, Held, first_state}
 use Rattle.run_model.specs.declared.event.Event.{Event}
 use Rattle.replay_state.specs.Step.{applies, waits, may_go, step, steps}
 use Rattle.replay_state.specs.Drain.{is_quiet, is_drained, first_of, drain_order, next_event, with_picked, picked_events, drain_bound, drain_events, IsFirstOf, IsNoneOf, Drains, Picks, events_left}

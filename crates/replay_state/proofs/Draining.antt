@@ -9,11 +9,12 @@ use Rattle.packet_fields.specs.declared.verdict.Verdict.{Verdict}
 use Rattle.state_store.specs.Store.{Store}
 use Rattle.writeback_table.specs.declared.command.Update.{Update}
 use Rattle.replay_state.specs.Answers.{Answers, Setup}
-use Rattle.replay_state.specs.State.{State, Progress, Entered, Pass, Batch, visible, commands_in, store_at, seen}
+use Rattle.output_commit.specs.Batches.{Batch, commands_in, merged, visible}
+use Rattle.replay_state.specs.State.{State, Progress, Entered, Pass, store_at, seen}
 use Rattle.run_model.specs.declared.event.Event.{Event}
 use Rattle.run_model.specs.declared.event.Event.TheVariants.{Admit, Stage, Serve, Send, Apply, Ack, Hold, Down}
 use Rattle.replay_state.specs.Step.{applies, waits, may_go, happens, step, steps, tick}
-use Rattle.replay_state.specs.Step.{finished, went_up, released, decided, came_in, ended, pass_of, entered, staged, with_changes, ran, served, let_go, came_down, admitted, merged}
+use Rattle.replay_state.specs.Step.{finished, went_up, released, decided, came_in, ended, pass_of, entered, staged, with_changes, ran, served, let_go, came_down, admitted}
 use Rattle.replay_state.specs.Drain.{events_left, packet_events, pass_events, up_events}
 use Rattle.replay_state.specs.Sound.{AreFew}
 use Rattle.replay_state.proofs.Lists.{get_within, weight, weight_push, weight_remove}

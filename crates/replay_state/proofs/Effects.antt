@@ -6,7 +6,8 @@ use Rattle.packet_fields.specs.declared.verdict.Verdict.{Verdict}
 use Rattle.state_store.specs.Store.{Store}
 use Rattle.writeback_table.specs.declared.command.Update.{Update}
 use Rattle.replay_state.specs.Answers.{Answers}
-use Rattle.replay_state.specs.State.{State, Progress, Entered, Up, Held, Slow, Fast, Pass, Batch, visible, commands_in}
+use Rattle.output_commit.specs.Batches.{Batch, commands_in, visible}
+use Rattle.replay_state.specs.State.{State, Progress, Entered, Up, Held, Slow, Fast, Pass}
 use Rattle.replay_state.specs.Step.{tick, idled, pass_of, finished, went_up, released, decided}
 use Rattle.replay_state.proofs.Words.{Member}
 use Rattle.replay_state.proofs.Lists.{get_past, set_cases, push_cases, get_member, member_remove, member_push, member_set, weight, weight_push, weight_remove, weight_set, is, mark_set, mark_push}

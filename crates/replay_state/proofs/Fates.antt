@@ -4,7 +4,8 @@ use Rattle.std.specs.Prelude.{slice_get}
 use Rattle.std.proofs.lemmas.Bool.{eq-eqb}
 use Rattle.std.proofs.lemmas.Option.{same_Some, none-some}
 use Rattle.state_store.specs.Store.{Store}
-use Rattle.replay_state.specs.State.{State, Progress, Entered, Up, Held, Slow, Fast, Pass, visible}
+use Rattle.output_commit.specs.Batches.{visible}
+use Rattle.replay_state.specs.State.{State, Progress, Entered, Up, Held, Slow, Fast, Pass}
 use Rattle.replay_state.proofs.Words.{admitted_at, released_at}
 use Rattle.replay_state.proofs.Words.{Member, version_at}
 use Rattle.replay_state.proofs.Lists.{set_cases, push_cases, weight, weight_remove, is}

@@ -8,8 +8,8 @@ use Rattle.writeback_table.specs.declared.command.Command.{Command}
 use Rattle.writeback_table.specs.declared.command.Command.TheVariants.{Stage, On, Main, Off, Clear}
 use Rattle.writeback_table.specs.Commands.{clear_of, commands_of, counts_on, ons}
 use Rattle.writeback_table.specs.Batches.{all_commands, changed_at, changed_by, object_after, TakesAll, AreTaken, count_of}
-use Rattle.replay_state.specs.State.{Batch, commands_in, store_at}
-use Rattle.replay_state.specs.Step.{take_up, merged}
+use Rattle.output_commit.specs.Batches.{Batch, commands_in, merged, take_up}
+use Rattle.replay_state.specs.State.{store_at}
 use Rattle.replay_state.proofs.Counts.{shows, versions_of, versions_in, sum_of, sums, sum_append, sum_batch, first_sum, first_split, joined}
 
 -- ---- changes one behind the other

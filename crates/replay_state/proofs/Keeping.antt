@@ -9,7 +9,8 @@ use Rattle.state_store.specs.Kept.{IsKept}
 use Rattle.state_store.specs.Store.{Store}
 use Rattle.writeback_table.specs.declared.command.Update.{Update}
 use Rattle.replay_state.specs.Answers.{Answers, Setup}
-use Rattle.replay_state.specs.State.{State, Progress, Entered, Up, Held, Slow, Pass, Batch, visible, commands_in, store_at, seen, first_state}
+use Rattle.output_commit.specs.Batches.{Batch, commands_in, visible}
+use Rattle.replay_state.specs.State.{State, Progress, Entered, Up, Held, Slow, Pass, store_at, seen, first_state}
 use Rattle.run_model.specs.declared.event.Event.{Event}
 use Rattle.run_model.specs.declared.event.Event.TheVariants.{Admit, Stage, Serve, Send, Apply, Ack, Hold, Down}
 use Rattle.replay_state.specs.Step.{applies, waits, may_go, happens, step, steps, tick, idled}

@@ -10,7 +10,8 @@ use Rattle.writeback_table.specs.declared.command.Command.{Command}
 use Rattle.run_model.specs.declared.event.Event.{Event}
 use Rattle.run_model.specs.declared.event.Event.TheVariants.{Admit, Stage, Serve, Send, Apply, Ack, Hold, Down}
 use Rattle.replay_state.specs.Answers.{Answers, Setup}
-use Rattle.replay_state.specs.State.{State, Progress, Entered, Up, Held, Slow, Fast, Pass, commands_in, seen, store_at, first_state}
+use Rattle.output_commit.specs.Batches.{commands_in}
+use Rattle.replay_state.specs.State.{State, Progress, Entered, Up, Held, Slow, Fast, Pass, seen, store_at, first_state}
 use Rattle.replay_state.specs.Step.{applies, happens, step, steps, tick}
 use Rattle.replay_state.specs.Step.{finished, went_up, decided, released, came_in, ended, entered, staged, pass_of, with_changes, ran, served, let_go, came_down}
 use Rattle.replay_state.specs.Program.{SplitProgram}

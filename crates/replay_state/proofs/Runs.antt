@@ -10,7 +10,8 @@ use Rattle.state_store.specs.Kept.{IsKept}
 use Rattle.state_store.specs.Store.{Store, object_at}
 use Rattle.writeback_table.specs.Batches.{changed_by}
 use Rattle.replay_state.specs.Answers.{Answers, Setup}
-use Rattle.replay_state.specs.State.{State, Progress, Entered, Up, Held, Slow, Fast, Pass, Batch, visible, store_at}
+use Rattle.output_commit.specs.Batches.{Batch, visible}
+use Rattle.replay_state.specs.State.{State, Progress, Entered, Up, Held, Slow, Fast, Pass, store_at}
 use Rattle.replay_state.specs.Step.{finished, decided}
 use Rattle.replay_state.specs.Sound.{IsAlike, IsSoundAt, AreSound}
 use Rattle.run_model.specs.declared.serial.Decided.{Decided}

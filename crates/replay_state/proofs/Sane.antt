@@ -6,7 +6,8 @@ use Rattle.std.proofs.lemmas.List.{length_push, length-set}
 use Rattle.state_store.specs.Store.{Store}
 use Rattle.run_model.specs.declared.event.Event.{Event}
 use Rattle.replay_state.specs.Answers.{Answers, Setup}
-use Rattle.replay_state.specs.State.{State, Progress, Entered, Batch, seen, first_state}
+use Rattle.output_commit.specs.Batches.{Batch}
+use Rattle.replay_state.specs.State.{State, Progress, Entered, seen, first_state}
 use Rattle.replay_state.specs.Step.{idled, step, steps, tick}
 use Rattle.replay_state.specs.Step.{finished, went_up, released, decided}
 use Rattle.replay_state.proofs.Counts.{counts_same}

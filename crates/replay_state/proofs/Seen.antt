@@ -11,7 +11,8 @@ use Rattle.writeback_table.specs.Pair.{Pair}
 use Rattle.writeback_table.specs.Commands.{ons, bit_through, pair_through, room_for}
 use Rattle.writeback_table.specs.Batches.{seen_after, object_after, changed_by, count_of, TakesAll, IsReady, IsSeenInOrder}
 use Rattle.replay_state.specs.Answers.{Answers, Setup}
-use Rattle.replay_state.specs.State.{State, Progress, Entered, Up, Held, Slow, Fast, Batch, commands_in, visible, seen, store_at, first_state}
+use Rattle.output_commit.specs.Batches.{Batch, commands_in, visible}
+use Rattle.replay_state.specs.State.{State, Progress, Entered, Up, Held, Slow, Fast, seen, store_at, first_state}
 use Rattle.run_model.specs.declared.event.Event.{Event}
 use Rattle.replay_state.specs.Step.{step, steps, tick, idled, finished, went_up, decided, released}
 use Rattle.replay_state.specs.Drain.{is_quiet}

@@ -17,7 +17,8 @@ use Rattle.run_model.specs.Parts.{parts_of}
 use Rattle.run_model.specs.Serialises as run
 use Rattle.run_model.specs.Serialises.{Serialises, AllReleased, IsDrained, IsEarlier, times, run_verdicts}
 use Rattle.replay_state.specs.Answers.{Answers, Setup, meaning_of}
-use Rattle.replay_state.specs.State.{State, Progress, Entered, Up, Held, Slow, Fast, fate_of, commands_in, visible, seen}
+use Rattle.output_commit.specs.Batches.{commands_in, visible}
+use Rattle.replay_state.specs.State.{State, Progress, Entered, Up, Held, Slow, Fast, fate_of, seen}
 use Rattle.replay_state.specs.Step.{state_of}
 use Rattle.replay_state.specs.Drain.{is_quiet}
 use Rattle.replay_state.specs.Run.{run_of, job_run}

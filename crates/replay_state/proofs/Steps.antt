@@ -7,8 +7,9 @@ use Rattle.state_store.specs.Store.{Store}
 use Rattle.writeback_table.specs.declared.command.Update.{Update}
 use Rattle.run_model.specs.declared.event.Event.{Event}
 use Rattle.replay_state.specs.Answers.{Answers, Setup}
-use Rattle.replay_state.specs.State.{State, Pass, Batch, Entered, commands_in, seen}
-use Rattle.replay_state.specs.Step.{step, steps, pass_of, finished, went_up, released, decided, merged}
+use Rattle.output_commit.specs.Batches.{Batch, commands_in, merged}
+use Rattle.replay_state.specs.State.{State, Pass, Entered, seen}
+use Rattle.replay_state.specs.Step.{step, steps, pass_of, finished, went_up, released, decided}
 use Rattle.replay_state.proofs.Counts.{AreCounted, merged_is, long, length_more, sum_push}
 
 -- the pass before the server enters, and the one behind it

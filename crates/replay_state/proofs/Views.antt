@@ -10,9 +10,10 @@ use Rattle.writeback_table.specs.declared.command.Command.{Command}
 use Rattle.writeback_table.specs.Pair.{visible}
 use Rattle.writeback_table.specs.Commands.{commands_of, pair_through}
 use Rattle.replay_state.specs.Answers.{Answers, Setup}
-use Rattle.replay_state.specs.State.{State, Pass, Batch, commands_in, store_at, first_state}
+use Rattle.output_commit.specs.Batches.{Batch, commands_in, merged}
+use Rattle.replay_state.specs.State.{State, Pass, store_at, first_state}
 use Rattle.run_model.specs.declared.event.Event.{Event}
-use Rattle.replay_state.specs.Step.{step, steps, disturbs, waits, merged}
+use Rattle.replay_state.specs.Step.{step, steps, disturbs, waits}
 use Rattle.replay_state.specs.Step.{pass_of}
 use Rattle.replay_state.specs.Sound.{AreSound}
 use Rattle.replay_state.specs.Tables.{first_pair, pair_now}

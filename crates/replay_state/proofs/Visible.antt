@@ -3,8 +3,7 @@ use Rattle.std.proofs.Common.{◌≡◌, ℕ, ◌+◌, ◌≤◌, List, [], ◌�
 use Rattle.writeback_table.specs.declared.command.Update.{Update}
 use Rattle.writeback_table.specs.Commands.{ons, versions}
 use Rattle.std.specs.Prelude.{Bool}
-use Rattle.replay_state.specs.State.{Batch, commands_in, versions_at, visible}
-use Rattle.replay_state.specs.Step.{merged}
+use Rattle.output_commit.specs.Batches.{Batch, commands_in, merged, versions_at, visible}
 use Rattle.replay_state.proofs.Counts.{merged_is, sum_of, sums, sums_all, sums_more, sums_push, sums_total, versions_in}
 use Rattle.replay_state.proofs.History.{sums_counts, versions_first}
 

@@ -7,7 +7,8 @@ use Rattle.writeback_table.specs.declared.command.Update.{Update}
 use Rattle.run_model.specs.declared.event.Event.{Event}
 use Rattle.run_model.specs.declared.event.Event.TheVariants.{Admit, Stage, Serve, Send, Apply, Ack, Hold, Down}
 use Rattle.replay_state.specs.Answers.{Answers, Setup}
-use Rattle.replay_state.specs.State.{State, Entered, Pass, visible, commands_in, store_at, seen}
+use Rattle.output_commit.specs.Batches.{commands_in, visible}
+use Rattle.replay_state.specs.State.{State, Entered, Pass, store_at, seen}
 use Rattle.replay_state.specs.Step.{applies, waits, may_go, happens, step, tick, idled}
 use Rattle.replay_state.specs.Step.{came_in, ended, pass_of, entered, staged, with_changes, ran, served, let_go, came_down}
 use Rattle.replay_state.proofs.Lists.{get_push_same, remove_push}

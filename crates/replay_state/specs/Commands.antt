@@ -5,7 +5,8 @@ use Rattle.writeback_table.specs.declared.command.Command.TheVariants.{Stage, On
 use Rattle.run_model.specs.declared.event.Event.{Event}
 use Rattle.run_model.specs.declared.event.Event.TheVariants as event
 use Rattle.replay_state.specs.Answers.{Setup}
-use Rattle.replay_state.specs.State.{State, commands_in}
+use Rattle.output_commit.specs.Batches.{commands_in}
+use Rattle.replay_state.specs.State.{State}
 use Rattle.replay_state.specs.Step.{applies}
 
 abbrev pub counts_off : Command → ℕ

@@ -1,6 +1,6 @@
 -- A split program: what it does to whole packets, and what its parts on the switch and on the server do.
-use Rattle.std.specs.Prelude.{◌≡◌, ◌≤◌, ◌<◌, ℕ, zero, suc, Bool, true}
-use Rattle.std.specs.Prelude.{false, ◌&&◌, nat_le, if◌then◌else◌, List, [], length, Some, None}
+use Rattle.std.specs.Prelude.{◌≡◌, ◌≤◌, ◌<◌, ℕ, Bool, true}
+use Rattle.std.specs.Prelude.{false, ◌&&◌, if◌then◌else◌, List, [], length, Some, None}
 use Rattle.std.specs.Prelude.{slice_get, get_or}
 use Rattle.packet_fields.specs.declared.packet.Packet.{Packet}
 use Rattle.packet_fields.specs.declared.verdict.Verdict.{Verdict}
@@ -9,6 +9,7 @@ use Rattle.state_store.specs.Store.{Store, object_at, start_store}
 use Rattle.state_store.specs.Kept.{IsKept}
 use Rattle.writeback_table.specs.declared.command.Update.{Update}
 use Rattle.writeback_table.specs.Batches.{changed_by, count_of, TakesAll}
+use Rattle.output_commit.specs.Batches.{fits}
 use Rattle.replay_state.specs.Answers.{Answers, Setup}
 use Rattle.replay_state.specs.Sound.{IsAlike}
 
@@ -85,21 +86,15 @@ plain s packets = record {
   post = λ store n. s.verdict store (packet_at packets n);
 }
 
--- changes of each replicated object, of the first so many, find room to be staged
-abbrev pub fits_below : SplitProgram → ℕ → List Update → Bool
-fits_below s zero updates = true
-fits_below s (suc o) updates =
-    (if s.replicated o then nat_le (count_of o updates) s.writeback else true) && fits_below s o updates
-
 -- How a run goes: whether each pass takes an event for each of its stages, and whether batches take up those behind
 -- them.
 pub record Manner : Type 0 where
   pub fine : Bool
   pub merges : Bool
 
--- each pass takes one event, and each batch goes by itself
+-- each pass takes one event, and each batch takes up those behind it that fit
 abbrev pub plain_manner : Manner
-plain_manner = record { fine = false; merges = false }
+plain_manner = record { fine = false; merges = true }
 
 abbrev pub setup_of : SplitProgram → List Packet → Manner → Setup
 setup_of s packets manner = record {
@@ -111,11 +106,11 @@ setup_of s packets manner = record {
   pre_stages = if manner.fine then s.pre_stages else 0;
   post_stages = if manner.fine then s.post_stages else 0;
   writes = s.writes;
-  fits = λ updates. manner.merges && fits_below s (length s.objects) updates;
+  fits = λ updates. manner.merges && fits s.writeback updates;
 }
 
--- what fits into one batch: changes of a run whose batches take up others, and of each replicated object no more than
--- may be staged
+-- what fits into one batch: changes of a run whose batches take up others, and of each object no more than may be
+-- staged; changes are of objects that the switch keeps
 pub record Fits (s : SplitProgram) (manner : Manner) (updates : List Update) : Type 0 where
   pub merges : manner.merges ≡ true
-  pub room : (o : ℕ) → o < length s.objects → s.replicated o ≡ true → count_of o updates ≤ s.writeback
+  pub room : (o : ℕ) → count_of o updates ≤ s.writeback

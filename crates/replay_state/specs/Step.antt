@@ -7,12 +7,12 @@ use Rattle.state_store.specs.Store.{Store, start_store}
 use Rattle.writeback_table.specs.declared.command.Update.{Update}
 use Rattle.writeback_table.specs.declared.command.Command.{Command}
 use Rattle.writeback_table.specs.declared.command.Command.TheVariants as command
-use Rattle.writeback_table.specs.Commands.{commands_of}
 use Rattle.run_model.specs.declared.event.Event.{Event}
 use Rattle.run_model.specs.declared.event.Event.TheVariants.{Admit, Stage, Serve, Send, Apply, Ack, Hold, Down}
 use Rattle.replay_state.specs.Answers.{Answers, Setup}
-use Rattle.replay_state.specs.State.{State, Pass, Batch, Progress, Entered, Up, Held, Slow, Fast, first_state}
-use Rattle.replay_state.specs.State.{commands_in, visible, bit_behind, store_at, seen}
+use Rattle.output_commit.specs.Batches.{Batch, commands_in, merged, visible}
+use Rattle.replay_state.specs.State.{State, Pass, Progress, Entered, Up, Held, Slow, Fast, first_state}
+use Rattle.replay_state.specs.State.{bit_behind, store_at, seen}
 
 -- ## Where an event applies
 
@@ -125,22 +125,6 @@ ran a before st j n =
 abbrev pub served : Answers → State → ℕ → Option ℕ → State
 served a st j None = st
 served a st j (Some n) = ran a st (with_changes (a.after st.store n) (a.changes st.store n) st) j n
-
--- a batch takes up those behind it, as far as they fit
-abbrev pub take_up : (List Update → Bool) → Batch → List Batch → List Batch
-take_up fits b [] = b ∷ []
-take_up fits b (c ∷ bs) =
-    if fits (b.updates ++ c.updates)
-    then take_up fits (record { updates = b.updates ++ c.updates; versions = b.versions + c.versions }) bs
-    else b ∷ (c ∷ bs)
-
--- the same for the batch that begins behind n commands, if one does
-abbrev pub merged : (List Update → Bool) → ℕ → List Batch → List Batch
-merged fits n [] = []
-merged fits n (b ∷ bs) =
-    if n == 0 then take_up fits b bs
-    else (if nat_le (length (commands_of b.updates)) n then b ∷ merged fits (n - length (commands_of b.updates)) bs
-    else b ∷ bs)
 
 abbrev pub let_go : State → ℕ → Option (ℕ × ℕ) → State
 let_go st j None = st

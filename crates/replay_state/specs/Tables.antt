@@ -7,7 +7,8 @@ use Rattle.writeback_table.specs.Pair.{Pair}
 use Rattle.writeback_table.specs.Commands.{pair_through, room_for}
 use Rattle.writeback_table.specs.Batches.{seen_after}
 use Rattle.replay_state.specs.Answers.{Setup}
-use Rattle.replay_state.specs.State.{State, applied_commands, commands_in, store_at, seen, bit_behind}
+use Rattle.output_commit.specs.Batches.{commands_in}
+use Rattle.replay_state.specs.State.{State, applied_commands, store_at, seen, bit_behind}
 
 -- the tables of object o before any command: the main table is the object of the start store, and nothing is staged
 abbrev pub first_pair : Setup → ℕ → Pair

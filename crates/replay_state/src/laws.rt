@@ -21,8 +21,9 @@ ghost use Rattle.replay_state.specs.Examples.{half_sent, main_waits, some_update
 ghost use Rattle.replay_state.specs.Places.{HavePlaces};
 ghost use Rattle.replay_state.specs.Run.{job_run, seen_store};
 ghost use Rattle.replay_state.specs.Sound.{AreFew, AreSound};
-ghost use Rattle.replay_state.specs.State.{Batch, Fast, Held, Slow, State, Up};
-ghost use Rattle.replay_state.specs.State.{applied_commands, bit_behind, commands_in, fate_of, seen, store_at};
+ghost use Rattle.output_commit.specs.Batches.{Batch, commands_in};
+ghost use Rattle.replay_state.specs.State.{Fast, Held, Slow, State, Up};
+ghost use Rattle.replay_state.specs.State.{applied_commands, bit_behind, fate_of, seen, store_at};
 ghost use Rattle.replay_state.specs.Step.{applies, idled, state_of, step, steps, tick};
 ghost use Rattle.replay_state.specs.Tables.{HasNewestTables, IsSeen};
 ghost use Rattle.replay_state.specs.Views.{KeepViews};

@@ -4,7 +4,8 @@ use Rattle.state_store.specs.Kept.{IsKept}
 use Rattle.replay_state.specs.Journal.{journal}
 use Rattle.replay_state.specs.Places.{HavePlaces}
 use Rattle.replay_state.specs.Program.{plain, setup_of}
-use Rattle.replay_state.specs.State.{State, commands_in, seen, store_at}
+use Rattle.output_commit.specs.Batches.{commands_in}
+use Rattle.replay_state.specs.State.{State, seen, store_at}
 use Rattle.replay_state.specs.Tables.{Shows}
 use Rattle.split_answers.specs.Whole.{whole_of}
 use Rattle.split_answers.proofs.Tells.{tells, asked_where}

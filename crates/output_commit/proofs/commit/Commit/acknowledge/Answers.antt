@@ -1,13 +1,20 @@
-use Rattle.std.proofs.Common.{◌≤◌, ◌+◌, arith, length}
-use Rattle.output_commit.proofs.Versions.{one_acknowledged, version_fits}
+use Rattle.std.proofs.Common.{◌<◌, ◌+◌, ◌^◌, arith, sym, subst}
+use Rattle.output_commit.specs.Spans.{total}
+use Rattle.output_commit.proofs.Keeping.{begun_few, counted_known, less_by, visible_few}
 use Rattle.output_commit.proofs.commit.Commit.acknowledge.Goals as goal
+
+pub pass-step-requires-clause-few : goal.pass-step-requires-clause-few
+pass-step-requires-clause-few c = subst (λ l. total l < 2 ^ 32) (sym c.begun.ensures) (begun_few c.self.inside.batches c.self.invariant.kept)
 
 pub overflow_add-self : goal.overflow_add-self
 overflow_add-self c =
-    let i = c.self.invariant in
-    let more = one_acknowledged _ _ _ c.index.result.now c.counts_on.result i c.if-self.true c.index.ensures c.counts_on.ensures in
-    let within : c.self.inside.acked + 1 ≤ length c.self.inside.commands.items = omega (arith, i.in_order.sent_within, i.in_order.done_within, c.if-self.true) in
-    let fits = version_fits c.self.inside.commands.items (c.self.inside.acked + 1) _ more.known within i.few in omega (arith, fits)
+    let more = counted_known _ _ _ _ _ _ _ _ _ _ _ _ c.pass-step.result c.self.invariant (less_by c.self.invariant.acked_within c.if-self.false) c.begun.ensures
+    c.pass-step.ensures.at c.pass-step.ensures.passed c.pass-step.ensures.stands c.shown_by.ensures in
+    let seen = more.known_seen in
+    let few = visible_few c.self.inside.batches (c.self.inside.acked + 1) c.self.invariant.kept in
+    omega arith
 
 pub invariant_of-self : goal.invariant_of-self
-invariant_of-self c = one_acknowledged _ _ _ c.index.result.now c.counts_on.result c.self.invariant c.if-self.true c.index.ensures c.counts_on.ensures
+invariant_of-self c =
+    counted_known _ _ _ _ _ _ _ _ _ _ _ _ c.pass-step.result c.self.invariant (less_by c.self.invariant.acked_within c.if-self.false) c.begun.ensures
+    c.pass-step.ensures.at c.pass-step.ensures.passed c.pass-step.ensures.stands c.shown_by.ensures

@@ -1,24 +1,52 @@
-use Rattle.std.proofs.Common.{◌≤◌, ◌+◌, sym, ap, ◌∙◌, arith, cond, Some, None, length}
+use Rattle.std.proofs.Common.{◌<◌, ◌+◌, ◌^◌, ◌∙◌, arith, ap, cond, sym, subst, length, None}
 use Rattle.std.specs.Prelude.{slice_get}
 use Rattle.std.proofs.lemmas.Bool.{lt-ltb}
+use Rattle.writeback_table.specs.Commands.{commands_of}
+use Rattle.output_commit.specs.Batches.{commands_in}
 use Rattle.output_commit.specs.Commit.{next}
-use Rattle.output_commit.proofs.Versions.{one_applied, version_fits, there}
+use Rattle.output_commit.specs.Kept.{batches_in}
+use Rattle.output_commit.specs.Spans.{batch_in, total}
+use Rattle.output_commit.proofs.Keeping.{begun_few, command_is, counted_applied, length_in, less_by, next_stands, span_within, visible_few}
 use Rattle.output_commit.proofs.commit.Commit.next_command.Goals as goal
+
+pub pass-step-requires-clause-few : goal.pass-step-requires-clause-few
+pass-step-requires-clause-few c = subst (λ l. total l < 2 ^ 32) (sym c.begun.ensures) (begun_few c.self.inside.batches c.self.invariant.kept)
 
 pub overflow_add-self : goal.overflow_add-self
 overflow_add-self c =
-    let i = c.self.invariant in
-    let more = one_applied _ _ _ c.index.result.now c.counts_on.result i c.if-self.true c.index.ensures c.counts_on.ensures in
-    let within : c.self.inside.done + 1 ≤ length c.self.inside.commands.items = omega (arith, i.in_order.sent_within, c.if-self.true) in
-    let fits = version_fits c.self.inside.commands.items (c.self.inside.done + 1) _ more.seen within i.few in omega (arith, fits)
+    let more = counted_applied _ _ _ _ _ _ _ _ _ _ _ _ c.pass-step.result c.self.invariant (less_by c.self.invariant.done_within c.if-self.false) c.begun.ensures
+    c.pass-step.ensures.at c.pass-step.ensures.passed c.pass-step.ensures.stands c.shown_by.ensures in
+    let seen = more.seen in
+    let few = visible_few c.self.inside.batches (c.self.inside.done + 1) c.self.invariant.kept in
+    omega arith
+
+pub of-requires : goal.of-requires
+of-requires c =
+    let here = next_stands _ _ _ _ _ _ _ _ _ _ c.pass-step.result c.self.invariant (less_by c.self.invariant.done_within c.if-self.false) c.begun.ensures c.pass-step.ensures.stands in
+    let within = (span_within c.self.inside.batches c.self.inside.done c.pass-step.result.0 c.pass-step.result.1 c.self.invariant.kept here).within in
+    let same = ap length c.as_slice.ensures.value in
+    omega arith
+
+pub command_at-requires-clause-within : goal.command_at-requires-clause-within
+command_at-requires-clause-within c =
+    let here = next_stands _ _ _ _ _ _ _ _ _ _ c.pass-step.result c.self.invariant (less_by c.self.invariant.done_within c.if-self.false) c.begun.ensures c.pass-step.ensures.stands in
+    let is = span_within c.self.inside.batches c.self.inside.done c.pass-step.result.0 c.pass-step.result.1 c.self.invariant.kept here in
+    let step = is.step in
+    let full = length_in c.self.inside.batches c.pass-step.result.0 is.within in
+    let same = ap length (c.of.ensures ∙ ap (λ us. (batch_in us c.pass-step.result.0).updates) c.as_slice.ensures.value) in
+    omega arith
 
 pub invariant_of-self : goal.invariant_of-self
-invariant_of-self c = one_applied _ _ _ c.index.result.now c.counts_on.result c.self.invariant c.if-self.true c.index.ensures c.counts_on.ensures
+invariant_of-self c =
+    counted_applied _ _ _ _ _ _ _ _ _ _ _ _ c.pass-step.result c.self.invariant (less_by c.self.invariant.done_within c.if-self.false) c.begun.ensures
+    c.pass-step.ensures.at c.pass-step.ensures.passed c.pass-step.ensures.stands c.shown_by.ensures
 
-pub returns-then-self-clause-did : goal.returns-then-self-clause-did
-returns-then-self-clause-did c =
-    let i = c.self.invariant in
-    ap Some c.index.ensures
-    ∙ sym (there c.self.inside.commands.items c.self.inside.done c.index.result.now (omega (arith, i.in_order.sent_within, c.if-self.true)))
-    ∙ sym (ap (λ b. cond b (slice_get c.self.inside.commands.items c.self.inside.done) None) (lt-ltb _ _ c.if-self.true))
+pub returns-clause-did : goal.returns-clause-did
+returns-clause-did c =
+    let less = less_by c.self.invariant.done_within c.if-self.false in
+    let here = next_stands _ _ _ _ _ _ _ _ _ _ c.pass-step.result c.self.invariant less c.begun.ensures c.pass-step.ensures.stands in
+    let is = command_is c.self.inside.batches c.self.inside.done c.pass-step.result.0 c.pass-step.result.1 c.self.invariant.kept here in
+    let changes = c.of.ensures ∙ ap (λ us. (batch_in us c.pass-step.result.0).updates) c.as_slice.ensures.value in
+    c.command_at.ensures ∙ ap (λ us. slice_get (commands_of us) c.pass-step.result.1) changes ∙ sym is
+    ∙ sym (ap (λ b. cond b (slice_get (commands_in (batches_in c.self.inside.batches)) c.self.inside.done) None) (lt-ltb _ _ less))
     ∙ ap next c.self.view_is

@@ -1,7 +1,8 @@
-use Rattle.std.proofs.Common.{refl}
+use Rattle.std.proofs.Common.{refl, ap, ◌∙◌}
+use Rattle.output_commit.specs.Commit.{first}
 use Rattle.replay_course.proofs.Sounding.{first_sound}
 use Rattle.replay_course.proofs.course.Course.new.Goals as goal
 
 pub returns-clause-sound : goal.returns-clause-sound
-returns-clause-sound c = λ x program split.
-    first_sound x _ program split c.new.ensures.items c.requires c.new-2.ensures c.new-3.ensures.items c.new-4.ensures.items refl refl
+returns-clause-sound c = λ x program split writeback.
+    first_sound x _ program split c.new.ensures.items c.requires (c.new-2.ensures ∙ ap first writeback) c.new-3.ensures.items c.new-4.ensures.items refl refl
