@@ -1,8 +1,9 @@
 "use strict";
 
-// What a report makes certain of a run when its schedule stands beside it. The one thing that neither tells is how many
-// changes the batch of each version has. So every number that is possible is tried; of the runs of the schedule that
-// come of it, those are kept that do just what the report tells. What is the same in all of them is certain.
+// What a report makes certain of a run when its schedule stands beside it. What neither tells is how many changes each
+// version has, and how many of those that wait find room in a batch that begins to be sent. So every number that is
+// possible is tried; of the runs of the schedule that come of it, those are kept that do just what the report tells.
+// What is the same in all of them is certain.
 
 // How many runs are followed at once, and how many steps are taken in all; where there are several runs, each step
 // costs more. Of more runs than a few, those that differ only in how many events were idle are taken together, so that
@@ -42,11 +43,32 @@ function mostChangesOf(answer, report) {
   return most[0] > 0 || report.version === 0 ? most[0] : null;
 }
 
+// The greatest number of changes that one run of a packet can make to one object that the switch keeps, to how many
+// objects it can make changes at all, and how many rows can be staged for each; or null where no limits tell that.
+function roomOf(answer, limits) {
+  const staged = limits ? limits.limits.get("writeback") : null;
+  if (typeof staged !== "number") {
+    return null;
+  }
+  const written = tablesOf(answer).filter(({ looks, writes }) =>
+    writes.length > 0 && looks.some(({ before }) => before !== null));
+  return { staged, objects: written.length, ofObject: Math.max(0, ...written.map(({ writes }) => writes.length)) };
+}
+
+// How many commands there are for so many changes, and how many of them make lookups see the changes.
+const lengthOf = (changes) => 3 * changes + 2;
+const onOf = (changes) => changes + 1;
+
+// The number of commands before those of a batch.
+const startOf = ({ end, changes }) => end - lengthOf(changes);
+
 class Derivation {
-  // `most` is the greatest number of changes that a run can make, or null where no split tells it.
-  constructor(report, schedule, most) {
+  // `most` is the greatest number of changes that a run can make, or null where no split tells it; `room` is what
+  // roomOf tells of batches.
+  constructor(report, schedule, most, room) {
     this.report = report;
     this.schedule = schedule;
+    this.room = room;
     this.told = toldEvents(report);
     this.ranges = { changes: new Map(), shown: new Map(), known: new Map(), letGo: new Map() };
     // Why nothing could be derived: a text, or null.
@@ -79,10 +101,11 @@ class Derivation {
     return (event) => counts[Math.min(event, events.length)] + Math.ceil(Math.max(0, event - events.length) / share);
   }
 
-  // For each version, how many changes its batch can have at most. Where the switch showed the version, all commands up
-  // to that one were applied before. Where not all commands are sent in the end, more changes than commands that were
-  // sent behind the version can't be told from just as many: such versions stand in `orMore`. What drain makes is
-  // acknowledged before the report tells of another event.
+  // For each version, how many changes it can have at most. Where the switch showed the version, a command for each of
+  // its changes, one at least for each earlier version, and the one that shows them were applied before. Where not all
+  // commands are sent in the end, more changes than commands that were sent behind the version can't be told from just
+  // as many: such versions stand in `orMore`. What drain makes is acknowledged before the report tells of another event,
+  // so it goes in a batch of its own.
   boundsOf(most) {
     const { report, schedule } = this;
     const { made, shown } = versionsOf(report);
@@ -95,8 +118,8 @@ class Derivation {
       const isDrain = event > schedule.events.length;
       const behind = isDrain ? Math.floor((following.get(event) - 1 - event) / 3)
         : sent(report.events) - sent(event || 0);
-      const all = isSent ? Math.floor((behind - 2) / 3) : behind;
-      const seen = shown[version] === null ? Infinity : applied(shown[version]) - 5 * (version - 1) - 1;
+      const all = isSent ? Math.floor((isDrain ? behind - 2 : behind) / 3) : behind;
+      const seen = shown[version] === null ? Infinity : applied(shown[version]) - version;
       const told = Math.min(seen, most === null ? Infinity : most);
       if (!isSent && all < told) {
         this.orMore.add(version);
@@ -116,7 +139,7 @@ class Derivation {
       for (const run of this.runs) {
         const given = schedule.events[event - 1] || this.turnOf(run);
         if (given && this.perform(run, given, event, told, isOne)) {
-          next.push(...this.branchesOf(run, told));
+          next.push(...(given.letter === "c" ? this.takingsOf(run) : this.branchesOf(run, told)));
         }
       }
       this.takeTold(told);
@@ -225,10 +248,12 @@ class Derivation {
       return false;
     }
     run[name] += 1;
-    const batch = run.pending[run[version] + 1 - run.pending[0].version];
+    const batch = run.pending.find(({ on }) => on >= run[name]);
     if (batch && run[name] === batch.on) {
-      run[version] += 1;
-      this.note(run, isOne, fact, run[version], event);
+      while (run[version] < batch.version) {
+        run[version] += 1;
+        this.note(run, isOne, fact, run[version], event);
+      }
     }
     if (letter === "k" && run.acknowledged === run.pending[0].end) {
       run.pending.shift();
@@ -248,7 +273,9 @@ class Derivation {
     }
     const runs = [];
     for (let changes = 1; changes <= this.most[version]; changes += 1) {
-      const batch = { version, on: run.total + changes + 1, end: run.total + 3 * changes + 2 };
+      const batch = {
+        version, versions: 1, changes, on: run.total + onOf(changes), end: run.total + lengthOf(changes),
+      };
       const branch = {
         ...run, held: [...run.held], down: [...run.down], pending: [...run.pending, batch], total: batch.end,
       };
@@ -256,6 +283,46 @@ class Derivation {
       runs.push(branch);
     }
     return runs;
+  }
+
+  // Whether so many changes of so many versions find room in one batch: true, false, or null where that isn't certain.
+  findRoom(changes, versions) {
+    if (this.room === null) {
+      return null;
+    }
+    const { staged, objects, ofObject } = this.room;
+    return versions * ofObject <= staged ? true : changes > objects * staged ? false : null;
+  }
+
+  // Where the command that was sent is the first of its batch, a run for each number of batches that this one can have
+  // taken up before. It takes up those behind it, one after the other, until one doesn't find room.
+  takingsOf(run) {
+    const place = run.pending.findIndex((batch) => startOf(batch) === run.sent - 1);
+    const runs = [];
+    if (place < 0) {
+      return [run];
+    }
+    const before = run.pending.slice(0, place);
+    let [batch, ...behind] = run.pending.slice(place);
+    let total = run.total;
+    for (;;) {
+      const [next] = behind;
+      const finds = next && this.findRoom(batch.changes + next.changes, batch.versions + next.versions);
+      if (!next || finds !== true) {
+        runs.push({ ...run, held: [...run.held], down: [...run.down], pending: [...before, batch, ...behind], total });
+      }
+      if (!next || finds === false) {
+        return runs;
+      }
+      const changes = batch.changes + next.changes;
+      const start = startOf(batch);
+      batch = {
+        version: next.version, versions: batch.versions + next.versions, changes, on: start + onOf(changes),
+        end: start + lengthOf(changes),
+      };
+      behind = behind.slice(1).map((other) => ({ ...other, on: other.on - 2, end: other.end - 2 }));
+      total -= 2;
+    }
   }
 
   // What the report tells is the same in all runs.
@@ -279,7 +346,7 @@ class Derivation {
       const key = [
         run.sent - from, run.applied - from, run.total - from, run.visible, run.known,
         ...(isIdleTold ? [run.leastIdle, run.mostIdle] : []),
-        ...run.pending.map(({ on, end }) => `${on - from} ${end - from}`), "down",
+        ...run.pending.map(({ versions, on, end }) => `${versions} ${on - from} ${end - from}`), "down",
         ...run.down.map(({ number }) => number),
       ].join(",");
       const other = kept.get(key);

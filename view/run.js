@@ -12,14 +12,14 @@ function rangeOf({ least, most }, word) {
 
 class RunDrawing {
   // Beside the report stand the texts that are there: schedule, trace and answer, and what numbers mean.
-  constructor(report, { schedule, trace, answer, meanings }) {
+  constructor(report, { schedule, trace, answer, limits, meanings }) {
     this.report = report;
     this.trace = trace;
     this.meanings = meanings;
     // What speaks against the texts belonging together, as strangersOf tells it.
     this.strangers = [];
     this.told = toldEvents(report);
-    this.derive(schedule, answer);
+    this.derive(schedule, answer, limits);
     this.versions = versionsOf(report);
     if (this.derived) {
       this.takeDerived();
@@ -33,17 +33,18 @@ class RunDrawing {
   }
 
   // Goes through the schedule, where there is one, as far as it is that of the report.
-  derive(schedule, answer) {
+  derive(schedule, answer, limits) {
     const { report } = this;
     this.schedule = schedule;
     this.most = schedule && answer ? mostChangesOf(answer, report) : null;
+    const room = this.most === null ? null : roomOf(answer, limits);
     this.derived = null;
     this.failure = schedule && isFine(report) ? "each stage of a pass was an event of its own, and the page doesn't "
       + "follow such runs" : null;
     if (!schedule || this.failure) {
       return;
     }
-    const derivation = new Derivation(report, schedule, this.most);
+    const derivation = new Derivation(report, schedule, this.most, room);
     if (derivation.isOther) {
       this.tellOther(schedule, derivation);
     } else if (derivation.failure) {
@@ -55,7 +56,7 @@ class RunDrawing {
 
   // No run does what the report tells. Where without the split one does, it is another split; else another schedule.
   tellOther(schedule, derivation) {
-    const isSplit = this.most !== null && !new Derivation(this.report, schedule, null).isOther;
+    const isSplit = this.most !== null && !new Derivation(this.report, schedule, null, null).isOther;
     this.strangers.push(isSplit
       ? { kinds: ["answer", "report"], why: `with the changes that this split can make, ${derivation.failure}` }
       : { kinds: ["schedule", "report"], why: derivation.failure });
