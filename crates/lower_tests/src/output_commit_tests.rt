@@ -165,7 +165,17 @@ fn a_batch_takes_up_two(rt: HostRuntime) -> Result<(), Fail> {
     let mut commit = holding(alloc, 1, changed.as_slice())?;
     assert_eq!(rt; commit.commands(), 15);
     let wanted = [
-        ('S', 1), ('S', 2), ('S', 3), ('O', 0), ('M', 1), ('M', 2), ('M', 3), ('F', 0), ('C', 1), ('C', 2), ('C', 3),
+        ('S', 1),
+        ('S', 2),
+        ('S', 3),
+        ('O', 0),
+        ('M', 1),
+        ('M', 2),
+        ('M', 3),
+        ('F', 0),
+        ('C', 1),
+        ('C', 2),
+        ('C', 3),
     ];
     for kind in wanted {
         assert_eq!(rt; next_kind(&mut commit), kind);
