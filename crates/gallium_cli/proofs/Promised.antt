@@ -20,9 +20,9 @@ use Rattle.gallium_cli.specs.Words.{Request, Run, Compile, Replay, Check, Gen, P
 use Rattle.gallium_cli.specs.Words.{is_replay, request_of}
 use Rattle.gallium_cli.specs.Roles.{Role, legal_split, Gate, File, Choice, SplitFile, gates_of, names_in}
 use Rattle.gallium_cli.specs.Loads.{IsFileRefused}
-use Rattle.gallium_cli.specs.Causes.{IsFirstRefused, IsSwitchKept, IsFailedReplay, IsSwitchFaulty, IsNotWritten, IsIdle, IsDone, HasCause}
+use Rattle.gallium_cli.specs.Causes.{IsFirstRefused, IsSwitchKept, IsSwitchFaulty, IsNotWritten, IsIdle, IsDone, HasCause}
 use Rattle.gallium_cli.specs.Causes.{CountsFaults, after_line, EndsFor, Ends}
-use Rattle.gallium_cli.specs.Promises.{IsWriteFault, BlamesInput, IsReadOnce, IsUsage, IsOneOf, IsBlamed}
+use Rattle.gallium_cli.specs.Promises.{IsWriteFault, BlamesInput, IsReadOnce, IsUsage, IsOneOf, IsBlamed, IsFailedOnSwitch}
 use Rattle.gallium_cli.specs.Promises.{CountsOne}
 use Rattle.gallium_cli.specs.Promises.{MayExceed, IsReplay, Promises}
 use Rattle.gallium_cli.proofs.Written.{at_most}
