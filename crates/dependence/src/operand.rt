@@ -1,4 +1,4 @@
-//! What a scan asks of one instruction.
+//! What a scan, and a check of the rules, ask of one instruction.
 ghost use Rattle.std.specs.Prelude.{◌≡◌};
 ghost use Rattle.flat_ir.specs.Program.{program_of, work_of, step_of, operands};
 ghost use Rattle.flat_ir.specs.Kinds.{needed, fits_switch, can_switch, is_mutable_look, is_field};
@@ -41,15 +41,15 @@ fn can_switch(kind: &InstrKind) -> bool
     }
 }
 
-/// Whether the switch can compute it.
-pub(crate) fn fits_switch(one: &Instr) -> bool
+/// Whether the switch can compute an instruction: one of these kinds that stands in no repeat.
+pub fn fits_switch(one: &Instr) -> bool
     ensures { result ≡ fits_switch (step_of one.now) }
 {
     !one.looped && can_switch(&one.kind)
 }
 
-/// Whether it looks up rows that can change.
-pub(crate) fn is_mutable_look(f: &Flat, kind: &InstrKind) -> bool
+/// Whether an instruction of this kind looks up rows that can change.
+pub fn is_mutable_look(f: &Flat, kind: &InstrKind) -> bool
     ensures { result ≡ is_mutable_look (program_of f.now) (work_of kind.now) }
 {
     match kind {
@@ -58,8 +58,8 @@ pub(crate) fn is_mutable_look(f: &Flat, kind: &InstrKind) -> bool
     }
 }
 
-/// Whether it reads a field of the packet.
-pub(crate) fn is_field(kind: &InstrKind) -> bool
+/// Whether an instruction of this kind reads a field of the packet.
+pub fn is_field(kind: &InstrKind) -> bool
     ensures { result ≡ is_field (work_of kind.now) }
 {
     match kind {

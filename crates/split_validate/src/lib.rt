@@ -2,7 +2,6 @@
 #![tactic(auto)]
 
 mod counts_text;
-mod kinds;
 mod laws;
 mod operand;
 mod part_line;

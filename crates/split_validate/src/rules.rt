@@ -9,8 +9,8 @@ ghost use Rattle.split_model.specs.Legal.{breaks, is_misplaced, is_post_conditio
 ghost use Rattle.split_model.specs.Legal.{rule_5, rule_6, rule_7, rule_8, rule_9};
 ghost use Rattle.split_validate.specs.Flaws.{ArePostGuarded, stage_in};
 
-use crate::kinds::{fits_switch, is_field, is_mutable_look};
 use crate::operand::{Flaw, Pass};
+use dependence::{fits_switch, is_field, is_mutable_look};
 use flat_ir::{Flat, Instr, InstrKind, lines_of_blocks};
 use gal_io::NoMemory;
 use split_model::Split;
