@@ -5,4 +5,3 @@ pub mod WholePasses
 pub mod Numbers
 pub mod PrintedLines
 pub mod PrintedBack
-pub mod ItemLines

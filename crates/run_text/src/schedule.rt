@@ -1,14 +1,14 @@
 //! The text of a schedule.
-ghost use Rattle.std.specs.Prelude.{◌≡◌, ◌≤◌, ◌⊎◌, ◌++◌, ◌∷◌, [], length, decimal, map, All, OnOk, IfOk, IfErr};
+ghost use Rattle.std.specs.Prelude.{◌≡◌, ◌≤◌, ◌⊎◌, ◌++◌, ◌∷◌, length, decimal, map, All, OnOk, IfOk, IfErr};
 ghost use Rattle.std.specs.Prelude.{MatchResult, Some, None, Ok, Err, false};
 ghost use Rattle.gal_io.specs.Number.{number_up_to};
 ghost use Rattle.run_model.specs.Sizes.{most_events};
 ghost use Rattle.run_model.specs.Stages.{NoStages, is_stage};
 ghost use Rattle.run_text.specs.Printed.{IsLineOf, event_text, lined, schedule_text};
 ghost use Rattle.run_text.specs.Report.{line_end};
-ghost use Rattle.run_text.specs.Trace.{event_line, is_drain, largest, schedule_of};
+ghost use Rattle.run_text.specs.Trace.{event_line, is_drain, largest, schedule_of, word_event};
 
-use crate::line_value::{LineValue, read_values};
+use crate::line_value::{LineValue, read_values, split_at_space};
 use crate::plan::Plan;
 use crate::refusal::{LineKind, LinesError, MAX_EVENTS};
 use gal_io::{NoMemory, Text, number_up_to};
@@ -25,38 +25,32 @@ fn read_item(item: &[u8]) -> Result<u32, LineKind>
     }
 }
 
-// The event that a line of one byte names.
-fn read_word(letter: u8) -> Result<Event, LineKind>
-    ensures { result ≡ event_line (letter ∷ []) }
+// The event that a line without an item names.
+fn read_word(line: &[u8]) -> Option<Event>
+    ensures { result ≡ word_event line.now }
 {
-    match letter {
-        b'a' => Ok(Event::Admit),
-        b'c' => Ok(Event::Send),
-        b'w' => Ok(Event::Apply),
-        b'k' => Ok(Event::Ack),
-        _ => Err(LineKind::Form),
-    }
-}
-
-// The event that a letter names, a space and the number of an item.
-#[tactic(auto, using(crate::proofs::ItemLines::served, crate::proofs::ItemLines::held, crate::proofs::ItemLines::down))]
-fn read_with_item(letter: u8, item: &[u8]) -> Result<Event, LineKind>
-    ensures { result ≡ event_line (letter ∷ 32 ∷ item.now) }
-{
-    match letter {
-        b'u' => Ok(Event::Serve(read_item(item)?)),
-        b'h' => Ok(Event::Hold(read_item(item)?)),
-        b'd' => Ok(Event::Down(read_item(item)?)),
-        _ => Err(LineKind::Form),
+    match line {
+        [b'a'] => Some(Event::Admit),
+        [b'c'] => Some(Event::Send),
+        [b'w'] => Some(Event::Apply),
+        [b'k'] => Some(Event::Ack),
+        _ => None,
     }
 }
 
 fn read_event(line: &[u8]) -> Result<Event, LineKind>
     ensures { result ≡ event_line line.now }
 {
-    match line {
-        [letter] => read_word(*letter),
-        [letter, b' ', item @ ..] => read_with_item(*letter, item),
+    if let Some(event) = read_word(line) {
+        return Ok(event);
+    }
+    let Some((letter, item)) = split_at_space(line) else {
+        return Err(LineKind::Form);
+    };
+    match letter {
+        [b'u'] => Ok(Event::Serve(read_item(item)?)),
+        [b'h'] => Ok(Event::Hold(read_item(item)?)),
+        [b'd'] => Ok(Event::Down(read_item(item)?)),
         _ => Err(LineKind::Form),
     }
 }
