@@ -38,9 +38,9 @@ fn hold(
 // A commit that holds an output for each of these lists of objects, with the versions 1, 2 and so on.
 fn holding(alloc: Global, writeback: u32, changed: &[&[u32]]) -> Result<Commit, NoMemory> {
     let mut commit = Commit::new(alloc, writeback);
-    let mut number = 0;
+    let mut number: u32 = 0;
     for objects in changed {
-        number += 1;
+        number = number.saturating_add(1);
         hold(alloc, &mut commit, number, number, objects)?;
     }
     Ok(commit)
