@@ -51,10 +51,12 @@ use Rattle.traffic_generator.specs.Schedule.{events_of as made_events}
 use Rattle.traffic_generator.specs.Summary.{summary_of}
 use Rattle.traffic_generator.specs.Translator.{translator_limits, translator_text}
 use Rattle.gallium_cli.specs.Words.{Splitting, Served, Within, Spelled}
-use Rattle.gallium_cli.specs.Words.{Request, Run, Compile, Replay, Check, Gen, PcapIn, PcapOut}
+use Rattle.gallium_cli.specs.Words.{Request, Run, Compile, Replay, Check, Audit, Gen, PcapIn, PcapOut}
 use Rattle.gallium_cli.specs.Lines.{line_end}
 use Rattle.gallium_cli.specs.Roles.{source, program, limits, legal_split, trace, schedule, capture, size_of}
-use Rattle.gallium_cli.specs.Roles.{AreLimits, IsCaptured}
+use Rattle.gallium_cli.specs.Roles.{true_report, AreLimits, IsCaptured}
+use Rattle.report_text.specs.Lines as reports
+use Rattle.run_audit.specs.Told.{IsTrueReport}
 
 -- the told contents spell this middlebox and these packets, each within its size
 pub record IsInput (told : List ℕ → Option (List ℕ)) (s t : List ℕ) (m : Tree) (packets : List Packet) : Type 0 where
@@ -230,6 +232,20 @@ pub record IsSummary (text : List ℕ) (seed count : ℕ) (port port_after : Por
   pub told : text ≡ summary_of seed count replayed.run replayed.commands
   pub replay : IsReplayed m (given m split writeback (made_packets seed count)) (made_plan count) replayed port port_after
 
+-- ## Audits
+
+-- the told content is a report of this run, which is a serial one of the middlebox over these packets
+pub record IsTrueFile (told : List ℕ → Option (List ℕ)) (r : List ℕ) (m : Tree) (packets : List Packet) (run : RunTold)
+    : Type 0 where
+  pub report : IfSome (told r)
+      (λ text. (length text ≤ size_of (true_report m packets)) × reports.IsReport m.objects text run)
+  pub serial : IsTrueReport m packets run
+
+-- the line of a report that is true: how many packets were decided, and how many released
+abbrev pub audited_text : RunTold → List ℕ
+audited_text run =
+    codes "ok decided " ++ (decimal run.decided ++ (codes " released " ++ (decimal run.released ++ line_end)))
+
 -- ## Captures
 
 -- the told content is this capture
@@ -259,6 +275,9 @@ IsAnswer text (Replay s t c by) told port port_after =
 IsAnswer text (Check s l p) told port port_after =
     (m : Tree) × (split : List Part) × (writeback : ℕ)
     × IsSplitBy (Spelled l p) told s m split writeback × (text ≡ checked_text (flat_of m) split writeback)
+IsAnswer text (Audit s t r) told port port_after =
+    (m : Tree) × (packets : List Packet) × (run : RunTold)
+    × IsInput told s t m packets × IsTrueFile told r m packets run × (text ≡ audited_text run)
 IsAnswer text (Gen seed count) told port port_after = IsSummary text seed count port port_after
 IsAnswer text (PcapIn c by) told port port_after =
     (p : Pcap) × IsToldCapture told c p × (text ≡ trace_text (packets_of p by))

@@ -5,6 +5,7 @@
 #![tactic(auto)]
 
 mod arrivals;
+mod audit;
 mod captures;
 mod check;
 mod compile;
@@ -12,6 +13,7 @@ mod exceeding;
 mod formats;
 mod generated;
 mod given;
+mod input;
 mod load;
 mod output;
 mod refusal;
