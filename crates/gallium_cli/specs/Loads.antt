@@ -1,6 +1,6 @@
 -- How one file is loaded.
 use Rattle.std.specs.Prelude.{◌≡◌, ◌≤◌, ◌<◌, ◌≢◌, ◌+◌, ◌-◌, ◌^◌, ℕ, min, Bool, true, false, List, length, Some, Err}
-use Rattle.std.specs.Prelude.{IfSome, IsTrue}
+use Rattle.std.specs.Prelude.{IfSome}
 use Rattle.std.specs.Bool.{OnFalse}
 use Rattle.gal_io.specs.Count.{Rose, IsCountedIf}
 use Rattle.gal_io.specs.Files.{FilesState}
@@ -25,8 +25,7 @@ use Rattle.gallium_cli.specs.Roles.{Role, source, program, limits, legal_split, 
 use Rattle.gallium_cli.specs.Roles.{capture, size_of}
 use Rattle.gallium_cli.specs.Roles.{IsSpelled, IsGood, IsBad}
 use Rattle.gallium_cli.specs.Splits.{IsUnkept, IsBadSplit}
-use Rattle.gallium_cli.specs.Reports.{IsUntrue, IsBadReport}
-use Rattle.report_text.specs.Form.{are_declared}
+use Rattle.gallium_cli.specs.Reports.{IsOnlyUntrue, IsBadReport}
 
 -- the text is refused for this cause, and for no other
 pub record IsOnlyCause (fault : TextError) (text : List ℕ) : Type 0 where
@@ -74,9 +73,9 @@ IsUnread (Trace fault) trace text = (fault ≢ lines.NoMemory) × (trace_of text
 IsUnread (Schedule fault) schedule text = (fault ≢ lines.NoMemory) × (schedule_of text ≡ Err fault)
 IsUnread (Pcap fault) capture text = (fault ≢ pcaps.NoMemory) × ¬ (IsSpelled capture text) × IsOnlyFault fault text
 IsUnread (Report number) (true_report m packets) text =
-    IsTrue (are_declared m.objects) × IsUntrue (Report number) m packets text
+    ¬ (IsSpelled (true_report m packets) text) × IsOnlyUntrue (Report number) m packets text
 IsUnread (Audit untruth) (true_report m packets) text =
-    IsTrue (are_declared m.objects) × IsUntrue (Audit untruth) m packets text
+    ¬ (IsSpelled (true_report m packets) text) × IsOnlyUntrue (Audit untruth) m packets text
 IsUnread NoMemory role text = Unit {0}
 IsUnread _ role text = ⊥
 

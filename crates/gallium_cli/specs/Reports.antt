@@ -1,12 +1,11 @@
 -- Why the report that a file holds isn't taken.
-use Rattle.std.specs.Prelude.{◌≡◌, ◌≢◌, ◌≤◌, ℕ, List, length, Option, Some, None, IsTrue}
+use Rattle.std.specs.Prelude.{◌≡◌, ◌≢◌, ℕ, List, Option, Some, None}
 use Rattle.std.specs.Option.{option_map}
 use Rattle.packet_fields.specs.declared.packet.Packet.{Packet}
 use Rattle.state_store.specs.declared.object.ObjectDecl.{ObjectDecl}
 use Rattle.element_lang.specs.Tree.{Tree}
 use Rattle.flat_ir.specs.Listing.{name_of}
 use Rattle.run_model.specs.declared.run.Run.{Run as RunTold}
-use Rattle.report_text.specs.Form.{are_declared}
 use Rattle.report_text.specs.Lines as reports
 use Rattle.report_text.specs.declared.error.RunTextError.TheVariants as lines
 use Rattle.run_audit.specs.Refused as audit
@@ -15,7 +14,7 @@ use Rattle.run_audit.specs.declared.error.AuditError.TheVariants as audits
 use Rattle.gallium_cli.specs.declared.refusal.Untruth.{Untruth}
 use Rattle.gallium_cli.specs.declared.refusal.Refusal.{Refusal}
 use Rattle.gallium_cli.specs.declared.refusal.Refusal.TheVariants.{Report, Audit}
-use Rattle.gallium_cli.specs.Roles.{size_of, true_report}
+use Rattle.gallium_cli.specs.Roles.{true_report, IsBad}
 
 -- the object that is to blame, by its number
 abbrev pub blamed_object : AuditError → Option ℕ
@@ -30,8 +29,8 @@ untruth_of objects error = record { error = error; object = option_map (name_of 
 abbrev pub TellsRun : Tree → List ℕ → Type 0
 TellsRun m text = (run : RunTold) × reports.IsReport m.objects text run
 
--- The text is no report of a serial run of the middlebox over these packets: at this line it is no report, or its run
--- is refused for this.
+-- The text is no report of a serial run of the middlebox over these packets: at this line it is no report, or the run
+-- that it tells is refused for this.
 abbrev pub IsUntrue : Refusal → Tree → List Packet → List ℕ → Type 0
 IsUntrue (Report number) m packets text = reports.IsRefused m.objects text (lines.Line number)
 IsUntrue (Audit untruth) m packets text =
@@ -39,8 +38,12 @@ IsUntrue (Audit untruth) m packets text =
     × audit.IsRefused m packets run error × (untruth ≡ untruth_of m.objects error)
 IsUntrue _ m packets text = ⊥
 
--- so it is for this cause, of a middlebox whose objects a report can tell; and it is within its size
-pub record IsBadReport (refusal : Refusal) (m : Tree) (packets : List Packet) (text : List ℕ) : Type 0 where
-  pub declared : IsTrue (are_declared m.objects)
-  pub size : length text ≤ size_of (true_report m packets)
+-- so it is for this cause, and for no other
+pub record IsOnlyUntrue (refusal : Refusal) (m : Tree) (packets : List Packet) (text : List ℕ) : Type 0 where
   pub cause : IsUntrue refusal m packets text
+  pub only : (other : Refusal) → IsUntrue other m packets text → other ≡ refusal
+
+-- it is a bad report, for this cause
+abbrev pub IsBadReport : Refusal → Tree → List Packet → List ℕ → Type 0
+IsBadReport refusal m packets text =
+    IsBad (true_report m packets) text × IsOnlyUntrue refusal m packets text

@@ -31,6 +31,7 @@ pub fn load_input<'a, F: Files>(
     ensures ok { IfOk result (λ x. IsInput (F.seen files.old).told source.now trace.now (tree x.0) x.1) }
     ensures good { IfOk result (λ x. IsTrue (is_good (tree x.0))) }
     ensures few_objects { IfOk result (λ x. length x.0.objects < 2 ^ 32) }
+    ensures declared { IfOk result (λ x. IsTrue (are_declared (tree x.0).objects)) }
     ensures few_packets { IfOk result (λ x. length x.1 ≤ most_packets) }
     ensures short_packets { IfOk result (λ x. AreShort x.1) }
     ensures err { IfErr result (λ refusal. IsFirstRefused refusal (gates_of (Run source.now trace.now))

@@ -15,4 +15,3 @@ pub mod Steps
 pub mod Complete
 pub mod Live
 pub mod Reports
-pub mod OneReport

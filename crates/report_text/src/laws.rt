@@ -17,9 +17,3 @@ pub fn one_line_is_first_wrong()
     ensures { (declared : List ObjectDecl) → (ls : List (List ℕ)) → (j k : ℕ)
         → IsFirstWrong declared ls j → IsFirstWrong declared ls k → j ≡ k }
 {}
-
-/// No text is a report of two runs.
-pub fn a_text_is_of_one_report()
-    ensures { (declared : List ObjectDecl) → (text : List ℕ) → (run other : Run) → IsTrue (are_declared declared)
-        → IsReport declared text run → IsReport declared text other → other ≡ run }
-{}

@@ -13,5 +13,5 @@ mod row;
 mod stage;
 
 pub use error::RunTextError;
-pub use laws::{a_text_is_of_one_report, one_line_is_first_wrong, printed_runs_are_read};
+pub use laws::{one_line_is_first_wrong, printed_runs_are_read};
 pub use report::read_run;
