@@ -15,12 +15,13 @@ ghost use Rattle.gallium_cli.specs.Causes.{CountsFaults, HasCause, IsDone, IsFir
 ghost use Rattle.gallium_cli.specs.Call.{Call, work_of};
 ghost use Rattle.gallium_cli.specs.Promises.{Promises};
 
+use crate::audit::perform_audit;
 use crate::captures::{perform_pcap_in, perform_pcap_out};
 use crate::check::perform_check;
 use crate::compile::perform_compile;
 use crate::generated::perform_gen;
-use crate::audit::perform_audit;
 use crate::input::load_input;
+use crate::laws::reports_of_replays_are_true;
 use crate::output::put;
 use crate::refusal::{Refusal, tell};
 use crate::replay::perform_replay;
@@ -158,6 +159,7 @@ pub fn gallium<F: Files, S: SwitchPort, O: Sink, E: Sink>(
     kept_limits_are_not_exceeded();
     one_line_is_first_wrong();
     a_text_is_of_one_split();
+    reports_of_replays_are_true();
     match perform(alloc, words, files, port, out) {
         Ok(()) => Status::Done,
         Err(refusal) => tell(alloc, refusal, err),
