@@ -171,7 +171,7 @@ fn load_report<'a, F: Files>(
 
 // A middlebox, packets, and a serial run of it over them.
 #[derive(Drop)]
-struct Audited {
+struct TrueRun {
     middlebox: Middlebox,
     packets: Packets,
     run: Run,
@@ -184,7 +184,7 @@ fn load_audited<'a, F: Files>(
     trace: &'a str,
     report: &'a str,
     files: &mut F,
-) -> Result<Audited, Refusal<'a>>
+) -> Result<TrueRun, Refusal<'a>>
     ensures input { IfOk result (λ x.
         IsAuditInput (F.seen files.old).told source.now trace.now (tree x.middlebox) x.packets) }
     ensures told { IfOk result (λ x.
@@ -200,7 +200,7 @@ fn load_audited<'a, F: Files>(
     let (middlebox, packets) = load_input(alloc, source, trace, files)?;
     all_arrive(packets.as_slice());
     let run = load_report(alloc, &middlebox, &packets, report, files)?;
-    Ok(Audited {
+    Ok(TrueRun {
         middlebox,
         packets,
         run,
