@@ -28,33 +28,33 @@ use Rattle.gallium_cli.specs.Reports.{IsBadReport}
 use Rattle.gallium_cli.specs.Loads.{IsBadSource, IsLongProgram, AreBadLimits, IsBadTrace, IsBadSchedule, IsFileRefused}
 use Rattle.gallium_cli.specs.Loads.{IsBadCapture}
 use Rattle.gallium_cli.specs.Causes.{IsPassed, IsRefusedAt, IsFirstRefused, IsTold, EndsFor}
-use Rattle.gallium_cli.specs.Promises.{IsFault, IsStatusOf, IsRefusedAs, IsOpen, IsShut, IsCause, IsShutFor, IsFirstShut}
+use Rattle.gallium_cli.specs.Promises.{IsEarlyFault, IsStatusOf, IsRefusedAs, IsOpen, IsShut, IsCause, IsShutFor, IsFirstShut}
 use Rattle.gallium_cli.specs.Promises.{IsFirstCause, IsCauseTold}
 use Rattle.gallium_cli.proofs.Choices.{same_role, same_excess}
 use Rattle.gallium_cli.proofs.Unkept.{Laws, bad_split, cause_split, one_cause}
 use Rattle.gallium_cli.proofs.Untrue.{cause_report, same_report}
 use Rattle.gallium_cli.proofs.Walks.{walks, at_gates}
 use Rattle.gallium_cli.proofs.Exact.{no_limits, no_trace, no_schedule, open_refused, shut_unpassed, passed_unshut}
-use Rattle.gallium_cli.proofs.Exact.{answer_passed, unwritten_fault, switch_is_fault}
+use Rattle.gallium_cli.proofs.Exact.{answer_passed, failed_passed, unwritten_fault}
 
 -- a status and what err received, for this cause
 abbrev IsLine : Refusal → Status → SinkState → SinkState → Type 0
 IsLine cause result e e' =
-    ((result ≡ status_of cause) × (e'.taken ≡ append_known e.taken (line_of cause))) ⊎ IsFault result
+    ((result ≡ status_of cause) × (e'.taken ≡ append_known e.taken (line_of cause))) ⊎ IsEarlyFault result
 
 -- the line of a refusal that is a fault, and of one that is this cause
 line_of_fault : (refusal cause : Refusal) (result : Status) (e e' : SinkState) → IsTold refusal result e e'
-    → IsFault (status_of refusal) → IsLine cause result e e'
-line_of_fault refusal cause result e e' (ends.Done, is, written) h = inr (subst IsFault (sym is) h)
-line_of_fault refusal cause result e e' (ends.Failed, is, written) h = inr (subst IsFault (sym is) tt)
-line_of_fault refusal cause result e e' (ends.NoMemory, is, written) h = inr (subst IsFault (sym is) tt)
+    → IsEarlyFault (status_of refusal) → IsLine cause result e e'
+line_of_fault refusal cause result e e' (ends.Done, is, written) h = inr (subst IsEarlyFault (sym is) h)
+line_of_fault refusal cause result e e' (ends.Failed, is, written) h = inr (subst IsEarlyFault (sym is) tt)
+line_of_fault refusal cause result e e' (ends.NoMemory, is, written) h = inr (subst IsEarlyFault (sym is) tt)
 
 line_of_cause : (refusal cause : Refusal) (result : Status) (e e' : SinkState) → cause ≡ refusal
     → IsTold refusal result e e' → IsLine cause result e e'
 line_of_cause refusal cause result e e' same (ends.Done, is, written) =
     inl (is ∙ ap status_of (sym same), written.taken ∙ ap (λ x. append_known e.taken (line_of x)) (sym same))
-line_of_cause refusal cause result e e' same (ends.Failed, is, written) = inr (subst IsFault (sym is) tt)
-line_of_cause refusal cause result e e' same (ends.NoMemory, is, written) = inr (subst IsFault (sym is) tt)
+line_of_cause refusal cause result e e' same (ends.Failed, is, written) = inr (subst IsEarlyFault (sym is) tt)
+line_of_cause refusal cause result e e' same (ends.NoMemory, is, written) = inr (subst IsEarlyFault (sym is) tt)
 
 -- ## One file
 
@@ -281,7 +281,8 @@ cause_told (Some request) result call laws (inr (refusal, (inl first, few, aside
     cause_gates refusal (gates_of request) cause result call.work.files call.work.files_after call.err call.err_after
     laws why first.0 told
 cause_told (Some request) result call laws (inr (refusal, (inr (inl faulty), few, aside), counts, told)) = λ cause why.
-    line_of_fault refusal cause result call.err call.err_after told
-    (switch_is_fault refusal request call.work.port call.work.port_after faulty.0)
+    let shut = first_shut laws call.work.files.told (gates_of request) cause why in
+    let passed = failed_passed refusal request call.work faulty.0 in
+    absurd (passed_unshut (gates_of request) (status_of cause) call.work.files laws passed shut)
 cause_told (Some request) result call laws (inr (refusal, (inr (inr unput), few, aside), counts, told)) = λ cause why.
     line_of_fault refusal cause result call.err call.err_after told (unwritten_fault refusal request call.work unput)

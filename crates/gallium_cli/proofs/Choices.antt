@@ -24,7 +24,7 @@ use Rattle.gallium_cli.specs.Roles.{program, limits, legal_split, size_of, AreLi
 use Rattle.gallium_cli.specs.Answers.{IsOnlySource, IsPlan}
 use Rattle.gallium_cli.specs.Splits.{excess_of}
 use Rattle.gallium_cli.specs.Causes.{IsOverLimit}
-use Rattle.gallium_cli.specs.Promises.{IsToldPlan, IsFault, IsUnlessFault}
+use Rattle.gallium_cli.specs.Promises.{IsToldPlan, IsEarlyFault, IsUnlessEarlyFault}
 
 -- ## One split and one refusal
 
@@ -163,7 +163,7 @@ refused_unchosen told s l shrink m m' allowed allowed' split over one kept asked
 -- a choice that is open is refused for want of memory alone
 pub open_over : (refusal : Refusal) (told : List ℕ → Option (List ℕ)) (s l : List ℕ) (shrink : Bool) (m : Tree)
     (allowed : Allowed) (split : List Part) → IsGreatestOne → IsKeptUnexceeded → IsToldPlan told s l m allowed
-    → IsChosen (flat_of m) allowed shrink split → IsOverLimit refusal s l shrink told → IsFault (status_of refusal)
+    → IsChosen (flat_of m) allowed shrink split → IsOverLimit refusal s l shrink told → IsEarlyFault (status_of refusal)
 open_over (Exceeded excess) told s l shrink m allowed split one kept asked chosen (m', allowed', found, (over, refused, is)) =
     chosen_unrefused told s l shrink m m' allowed allowed' split over one kept asked chosen found refused
 open_over NoMemory told s l shrink m allowed split one kept asked chosen over = tt
@@ -171,7 +171,7 @@ open_over _ told s l shrink m allowed split one kept asked chosen (m', allowed',
 
 -- a choice is refused with one status, or for want of memory
 pub over_status : (refusal : Refusal) (told : List ℕ → Option (List ℕ)) (s l : List ℕ) (shrink : Bool)
-    → IsOverLimit refusal s l shrink told → IsUnlessFault statuses.Exceeded (status_of refusal)
+    → IsOverLimit refusal s l shrink told → IsUnlessEarlyFault statuses.Exceeded (status_of refusal)
 over_status (Exceeded excess) told s l shrink over = inl refl
 over_status NoMemory told s l shrink over = inr tt
 over_status _ told s l shrink (m', allowed', found, never) = absurd never
@@ -180,7 +180,7 @@ over_status _ told s l shrink (m', allowed', found, never) = absurd never
 pub same_excess : (refusal : Refusal) (told : List ℕ → Option (List ℕ)) (s l : List ℕ) (shrink : Bool) (m : Tree)
     (allowed : Allowed) (over : Over) → IsGreatestOne → IsToldPlan told s l m allowed
     → IsRefused (flat_of m) allowed shrink over → IsOverLimit refusal s l shrink told
-    → (Exceeded (excess_of m.objects over) ≡ refusal) ⊎ IsFault (status_of refusal)
+    → (Exceeded (excess_of m.objects over) ≡ refusal) ⊎ IsEarlyFault (status_of refusal)
 same_excess (Exceeded excess) told s l shrink m allowed over one asked refused (m', allowed', found, (other, also, is)) =
     let same = same_plan told s l m m' allowed allowed' asked found in
     let first = one_over (flat_of m') allowed' shrink over other one found.program.bounded.formed

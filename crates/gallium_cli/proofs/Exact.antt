@@ -34,15 +34,15 @@ use Rattle.gallium_cli.specs.Reports.{IsBadReport}
 use Rattle.gallium_cli.specs.Answers.{IsTraffic, IsAnswer}
 use Rattle.gallium_cli.specs.Loads.{IsFileRefused, IsBadSource, IsLongProgram, AreBadLimits, IsBadTrace, IsBadSchedule}
 use Rattle.gallium_cli.specs.Loads.{IsBadCapture}
-use Rattle.gallium_cli.specs.Causes.{IsRefusedAt, IsPassed, IsFirstRefused, IsSwitchFaulty, IsNotWritten, after_line}
+use Rattle.gallium_cli.specs.Causes.{IsRefusedAt, IsPassed, AllPassed, IsFirstRefused, IsSwitchFaulty, IsNotWritten, after_line}
 use Rattle.gallium_cli.specs.Causes.{IsTold, EndsFor}
-use Rattle.gallium_cli.specs.Promises.{IsWriteFault, IsFault, IsUnlessFault, IsStatusOf, IsRefusedAs, IsOpen, AllOpen}
-use Rattle.gallium_cli.specs.Promises.{IsShut, IsFirstShut, IsExact, IsComplete}
+use Rattle.gallium_cli.specs.Promises.{IsWriteFault, IsEarlyFault, IsFault, IsUnlessEarlyFault, IsUnlessFault, IsStatusOf}
+use Rattle.gallium_cli.specs.Promises.{IsRefusedAs, IsOpen, AllOpen, IsShut, IsFirstShut, IsExact, IsComplete}
 use Rattle.gallium_cli.proofs.Choices.{same_role, refused_unchosen, open_over, over_status}
 use Rattle.gallium_cli.proofs.Unkept.{Laws, bad_split, exact_split}
 use Rattle.gallium_cli.proofs.Untrue.{exact_report, same_report}
 use Rattle.gallium_cli.proofs.Walks.{walks}
-use Rattle.gallium_cli.proofs.Files.{AllPassed, passed_source, passed_trace, passed_schedule, passed_capture, split_passed}
+use Rattle.gallium_cli.proofs.Files.{passed_source, passed_trace, passed_capture, split_passed, traffic_passed}
 use Rattle.gallium_cli.proofs.Files.{passed_both, audit_passed}
 
 -- ## One file
@@ -119,7 +119,7 @@ bad_splits laws refusal g allowed told =
 
 -- what is refused of a good file is a fault
 good_refused : (refusal : Refusal) (role : Role) (name : List ℕ) (f f' : FilesState)
-    → Laws → IsSomeAnd (f.told name) (IsGood role) → IsFileRefused refusal role name f f' → IsFault (status_of refusal)
+    → Laws → IsSomeAnd (f.told name) (IsGood role) → IsFileRefused refusal role name f f' → IsEarlyFault (status_of refusal)
 good_refused (Source fault) source name f f' laws good refused =
     good_not_bad source (f.told name) good (bad_source fault (f.told name) refused.1)
 good_refused (Source fault) program name f f' laws good refused =
@@ -164,7 +164,7 @@ bad_only role status (Some text) (inr here) bad = (text, here.0)
 -- the status of a refused file is the one that its told text has, or a fault
 exact_file : (refusal : Refusal) (role : Role) (name : List ℕ) (status : Status) (f f' : FilesState)
     → Laws → IsSomeAnd (f.told name) (IsRefusedAs role status) → IsFileRefused refusal role name f f'
-    → IsUnlessFault status (status_of refusal)
+    → IsUnlessEarlyFault status (status_of refusal)
 exact_file (Source fault) source name status f f' laws bad refused =
     inl (sym (bad_only source status (f.told name) bad (bad_source fault (f.told name) refused.1)).1)
 exact_file (Source fault) program name status f f' laws bad refused =
@@ -197,7 +197,7 @@ exact_file _ role name status f f' laws bad refused = absurd refused
 
 -- what is refused at an open gate is a fault
 pub open_refused : (refusal : Refusal) (gate : Gate) (f f' : FilesState) → Laws
-    → IsOpen f.told gate → IsRefusedAt refusal gate f f' → IsFault (status_of refusal)
+    → IsOpen f.told gate → IsRefusedAt refusal gate f f' → IsEarlyFault (status_of refusal)
 open_refused refusal (File name role) f f' laws free refused = good_refused refusal role name f f' laws free refused
 open_refused refusal (Choice s l shrink) f f' laws (m, allowed, split, asked, chosen) refused =
     open_over refusal f.told s l shrink m allowed split laws.greatest laws.kept asked chosen refused
@@ -227,7 +227,7 @@ shut_unpassed (ReportFile s t r) status f laws (m, packets, asked, shut) (m', pa
 
 -- the status of a refusal at a shut gate is the one with which it is shut, or a fault
 shut_refused : (refusal : Refusal) (gate : Gate) (status : Status) (f f' : FilesState)
-    → Laws → IsShut f.told gate status → IsRefusedAt refusal gate f f' → IsUnlessFault status (status_of refusal)
+    → Laws → IsShut f.told gate status → IsRefusedAt refusal gate f f' → IsUnlessEarlyFault status (status_of refusal)
 shut_refused refusal (File name role) status f f' laws shut refused =
     exact_file refusal role name status f f' laws shut refused
 shut_refused refusal (SplitFile s l p) status f f' laws (m, allowed, asked, shut) (m', allowed', found, refused) =
@@ -240,16 +240,16 @@ shut_refused refusal (ReportFile s t r) status f f' laws (m, packets, asked, shu
     (subst (λ (role : Role). IsSomeAnd (f.told r) (IsRefusedAs role status)) same shut) refused
 shut_refused refusal (Choice s l shrink) status f f' laws (is, why) refused =
     let found = over_status refusal f.told s l shrink refused in
-    subst (λ (wanted : Status). IsUnlessFault wanted (status_of refusal)) (sym is) found
+    subst (λ (wanted : Status). IsUnlessEarlyFault wanted (status_of refusal)) (sym is) found
 
 -- ## All gates
 
 exact_gates : (refusal : Refusal) (gates : List Gate) (status : Status) (f f' : FilesState)
     → Laws → IsFirstShut f.told gates status → IsFirstRefused refusal gates f f'
-    → IsUnlessFault status (status_of refusal)
+    → IsUnlessEarlyFault status (status_of refusal)
 exact_gates refusal gates status f f' laws shut refused =
     walks (IsOpen f.told) (λ gate. IsShut f.told gate status) (λ gate. IsPassed gate f)
-    (λ gate. IsRefusedAt refusal gate f f') (IsUnlessFault status (status_of refusal))
+    (λ gate. IsRefusedAt refusal gate f f') (IsUnlessEarlyFault status (status_of refusal))
     (λ gate here there. shut_refused refusal gate status f f' laws here there)
     (λ gate here passed. absurd (shut_unpassed gate status f laws here passed))
     (λ gate free there. inr (open_refused refusal gate f f' laws free there)) gates shut refused
@@ -263,7 +263,7 @@ passed_unshut (gate ∷ gates) status f laws passed (inr shut) = passed_unshut g
 
 -- what is refused of open gates is a fault
 open_gates : (refusal : Refusal) (gates : List Gate) (f f' : FilesState) → Laws
-    → AllOpen f.told gates → IsFirstRefused refusal gates f f' → IsFault (status_of refusal)
+    → AllOpen f.told gates → IsFirstRefused refusal gates f f' → IsEarlyFault (status_of refusal)
 open_gates refusal [] f f' laws free refused = absurd refused
 open_gates refusal (gate ∷ gates) f f' laws free (inl refused) =
     open_refused refusal gate f f' laws free.0 refused
@@ -271,11 +271,6 @@ open_gates refusal (gate ∷ gates) f f' laws free (inr later) =
     open_gates refusal gates f f' laws free.1 later.1
 
 -- ## What an answer has passed
-
-traffic_passed : (f : FilesState) (t c : List ℕ) (packets : List Packet) (plan : Plan)
-    → IsTraffic f.told t c packets plan → AllPassed (event_gates t c) f
-traffic_passed f t c packets plan traffic =
-    (passed_trace t f packets traffic.trace, (passed_schedule c f plan traffic.schedule, tt))
 
 pub answer_passed : (text : List ℕ) (request : Request) (f : FilesState) (p p' : PortState)
     → IsAnswer text request f.told p p' → AllPassed (gates_of request) f
@@ -303,21 +298,44 @@ unwritten WriteFault request work h = tt
 unwritten NoMemory request work h = tt
 unwritten _ request work h = absurd h
 
-pub write_is_fault : (status : Status) → IsWriteFault status → IsFault status
-write_is_fault statuses.WriteFault h = tt
-write_is_fault statuses.NoMemory h = tt
-write_is_fault _ h = absurd h
+write_is_early : (status : Status) → IsWriteFault status → IsEarlyFault status
+write_is_early statuses.WriteFault h = tt
+write_is_early statuses.NoMemory h = tt
+write_is_early _ h = absurd h
+
+early_is_fault : (status : Status) → IsEarlyFault status → IsFault status
+early_is_fault statuses.ReadFault h = tt
+early_is_fault statuses.WriteFault h = tt
+early_is_fault statuses.NoMemory h = tt
+early_is_fault _ h = absurd h
 
 pub unwritten_fault : (refusal : Refusal) (request : Request) (work : Work)
-    → IsNotWritten refusal request work → IsFault (status_of refusal)
-unwritten_fault refusal request work h = write_is_fault (status_of refusal) (unwritten refusal request work h)
+    → IsNotWritten refusal request work → IsEarlyFault (status_of refusal)
+unwritten_fault refusal request work h = write_is_early (status_of refusal) (unwritten refusal request work h)
 
-pub switch_is_fault : (refusal : Refusal) (request : Request) (p p' : PortState)
-    → IsSwitchFaulty refusal request p p' → IsFault (status_of refusal)
-switch_is_fault SwitchFault request p p' h = tt
-switch_is_fault _ request p p' h = absurd h
+switch_is_fault : (refusal : Refusal) (request : Request) (work : Work)
+    → IsSwitchFaulty refusal request work → IsFault (status_of refusal)
+switch_is_fault SwitchFault request work h = tt
+switch_is_fault _ request work h = absurd h
+
+-- a switch fails only behind all gates
+pub failed_passed : (refusal : Refusal) (request : Request) (work : Work) → IsSwitchFaulty refusal request work
+    → AllPassed (gates_of request) work.files
+failed_passed SwitchFault request work h = h.2.passed
+failed_passed _ request work h = absurd h
 
 -- the line of a refusal brings nothing but faults
+told_early : (refusal : Refusal) (end : SinkEnd) (status : Status) → IsUnlessEarlyFault status (status_of refusal)
+    → IsUnlessEarlyFault status (after_line refusal end)
+told_early refusal ends.Done status h = h
+told_early refusal ends.Failed status h = inr tt
+told_early refusal ends.NoMemory status h = inr tt
+
+of_early : (status result : Status) (refusal : Refusal) (e e' : SinkState) → IsTold refusal result e e'
+    → IsUnlessEarlyFault status (status_of refusal) → IsUnlessEarlyFault status result
+of_early status result refusal e e' told h =
+    subst (IsUnlessEarlyFault status) (sym told.1) (told_early refusal told.0 status h)
+
 told_status : (refusal : Refusal) (end : SinkEnd) (status : Status) → IsUnlessFault status (status_of refusal)
     → IsUnlessFault status (after_line refusal end)
 told_status refusal ends.Done status h = h
@@ -338,13 +356,13 @@ exact_ends (Some request) result call laws (inl (is, (text, answer, taken, read,
     let passed = answer_passed text request work.files work.port work.port_after answer in
     absurd (passed_unshut (gates_of request) status work.files laws passed shut)
 exact_ends (Some request) result call laws (inr (refusal, (inl first, few, aside), counts, told)) = λ status shut.
-    of_told status result refusal call.err call.err_after told
+    of_early status result refusal call.err call.err_after told
     (exact_gates refusal (gates_of request) status call.work.files call.work.files_after laws shut first.0)
 exact_ends (Some request) result call laws (inr (refusal, (inr (inl faulty), few, aside), counts, told)) = λ status shut.
-    of_told status result refusal call.err call.err_after told
-    (inr (switch_is_fault refusal request call.work.port call.work.port_after faulty.0))
+    let passed = failed_passed refusal request call.work faulty.0 in
+    absurd (passed_unshut (gates_of request) status call.work.files laws passed shut)
 exact_ends (Some request) result call laws (inr (refusal, (inr (inr unput), few, aside), counts, told)) = λ status shut.
-    of_told status result refusal call.err call.err_after told (inr (unwritten_fault refusal request call.work unput))
+    of_early status result refusal call.err call.err_after told (inr (unwritten_fault refusal request call.work unput))
 
 -- where all gates are open, a request is done unless there is a fault
 pub complete_ends : (request : Option Request) (result : Status) (call : Call) → Laws
@@ -353,10 +371,11 @@ complete_ends None result call laws end = tt
 complete_ends (Some request) result call laws (inl done) = λ free. inl done.0
 complete_ends (Some request) result call laws (inr (refusal, (inl first, few, aside), counts, told)) = λ free.
     of_told statuses.Done result refusal call.err call.err_after told
-    (inr (open_gates refusal (gates_of request) call.work.files call.work.files_after laws free first.0))
+    (inr (early_is_fault (status_of refusal)
+    (open_gates refusal (gates_of request) call.work.files call.work.files_after laws free first.0)))
 complete_ends (Some request) result call laws (inr (refusal, (inr (inl faulty), few, aside), counts, told)) = λ free.
     of_told statuses.Done result refusal call.err call.err_after told
-    (inr (switch_is_fault refusal request call.work.port call.work.port_after faulty.0))
+    (inr (switch_is_fault refusal request call.work faulty.0))
 complete_ends (Some request) result call laws (inr (refusal, (inr (inr unput), few, aside), counts, told)) = λ free.
     of_told statuses.Done result refusal call.err call.err_after told
-    (inr (unwritten_fault refusal request call.work unput))
+    (inr (early_is_fault (status_of refusal) (unwritten_fault refusal request call.work unput)))

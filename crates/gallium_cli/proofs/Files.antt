@@ -27,7 +27,7 @@ use Rattle.gallium_cli.specs.Roles.{plan_files, plan_gates, given_gates, split_g
 use Rattle.gallium_cli.specs.Answers.{IsInput, IsOnlySource, IsProgram, IsPlan, IsGivenSplit, IsSplitBy, IsTraffic}
 use Rattle.gallium_cli.specs.Answers.{IsAuditInput, IsTrueFile}
 use Rattle.gallium_cli.specs.Loads.{GoesOn, IsUnread, IsFileRefused, IsLoaded}
-use Rattle.gallium_cli.specs.Causes.{IsRefusedAt, IsPassed, IsFirstRefused, IsUnchosen}
+use Rattle.gallium_cli.specs.Causes.{IsRefusedAt, IsPassed, AllPassed, IsFirstRefused, IsUnchosen}
 
 -- ## One file
 
@@ -77,11 +77,6 @@ unread_refused NoMemory role bytes name f f' loaded unread = tt
 unread_refused _ role bytes name f f' loaded unread = absurd unread
 
 -- ## What is passed
-
--- each of these gates is passed
-abbrev pub AllPassed : List Gate → FilesState → Type 0
-AllPassed [] f = Unit {0}
-AllPassed (gate ∷ gates) f = IsPassed gate f × AllPassed gates f
 
 if_spelled : (P Q : List ℕ → Type 0) (told : Option (List ℕ)) → ((text : List ℕ) → P text → Q text)
     → IfSome told P → IfSome told Q
@@ -377,3 +372,9 @@ pub traffic_before : (t c : List ℕ) (f g : FilesState) (packets : List Packet)
     → IsTraffic g.told t c packets plan → IsTraffic f.told t c packets plan
 traffic_before t c f g packets plan goes two =
     record { trace = told_before _ f g t goes two.trace; schedule = told_before _ f g c goes two.schedule }
+
+-- a trace and a schedule that are read
+pub traffic_passed : (f : FilesState) (t c : List ℕ) (packets : List Packet) (plan : Plan)
+    → IsTraffic f.told t c packets plan → AllPassed (event_gates t c) f
+traffic_passed f t c packets plan traffic =
+    (passed_trace t f packets traffic.trace, (passed_schedule c f plan traffic.schedule, tt))

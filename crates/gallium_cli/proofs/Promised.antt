@@ -24,7 +24,7 @@ use Rattle.gallium_cli.specs.Roles.{Role, source, trace, legal_split, true_repor
 use Rattle.gallium_cli.specs.Roles.{IsSpelled, gates_of, names_in}
 use Rattle.gallium_cli.specs.Loads.{IsFileRefused}
 use Rattle.gallium_cli.specs.Reports.{IsBadReport}
-use Rattle.gallium_cli.specs.Causes.{IsFirstRefused, IsSwitchKept, IsSwitchFaulty, IsNotWritten, IsIdle, IsDone, HasCause}
+use Rattle.gallium_cli.specs.Causes.{IsFirstRefused, IsSwitchKept, IsFailedReplay, IsSwitchFaulty, IsNotWritten, IsIdle, IsDone, HasCause}
 use Rattle.gallium_cli.specs.Causes.{CountsFaults, after_line, EndsFor, Ends}
 use Rattle.gallium_cli.specs.Promises.{IsWriteFault, BlamesInput, IsReadOnce, IsUsage, IsOneOf, IsBlamed}
 use Rattle.gallium_cli.specs.Promises.{CountsOne}
@@ -80,10 +80,10 @@ unwritten_not_so P WriteFault request work of unput h = of.write h
 unwritten_not_so P NoMemory request work of unput h = of.memory h
 unwritten_not_so P _ request work of unput h = absurd unput
 
-switch_not_so : (P : Status → Type 0) (refusal : Refusal) (request : Request) (p p' : PortState) → IsOfGates P
-    → IsSwitchFaulty refusal request p p' → P (status_of refusal) → ⊥
-switch_not_so P SwitchFault request p p' of faulty h = of.switch h
-switch_not_so P _ request p p' of faulty h = absurd faulty
+switch_not_so : (P : Status → Type 0) (refusal : Refusal) (request : Request) (work : Work) → IsOfGates P
+    → IsSwitchFaulty refusal request work → P (status_of refusal) → ⊥
+switch_not_so P SwitchFault request work of faulty h = of.switch h
+switch_not_so P _ request work of faulty h = absurd faulty
 
 -- a request that ends so wasn't let through a gate, and left the rest as it was
 record IsShutOut (P : Status → Type 0) (request : Request) (work : Work) : Type 0 where
@@ -99,7 +99,7 @@ shut_out P request status call of (inr (refusal, (inl first, few, aside), counts
     record { refusal = refusal; first = first.0; idle = first.1; is = told_of P refusal end status of is h }
 shut_out P request status call of (inr (refusal, (inr (inl faulty), few, aside), counts, (end, is, written))) h =
     absurd (
-    switch_not_so P refusal request call.work.port call.work.port_after of faulty.0
+    switch_not_so P refusal request call.work of faulty.0
     (told_of P refusal end status of is h)
     )
 shut_out P request status call of (inr (refusal, (inr (inr unput), few, aside), counts, (end, is, written))) h =
@@ -345,8 +345,7 @@ IsSwitchStatus statuses.SwitchFault = Unit {0}
 IsSwitchStatus _ = ⊥
 
 switch_rose : (refusal : Refusal) (request : Option Request) (work : Work)
-    → IsSwitchStatus (status_of refusal) → HasCause refusal request work
-    → IsReplay request × Rose work.port.faults work.port_after.faults
+    → IsSwitchStatus (status_of refusal) → HasCause refusal request work → IsFailedOnSwitch request work
 switch_rose SwitchFault None work is cause = let usage : SwitchFault ≡ Usage = cause.0 in cc
 switch_rose SwitchFault (Some request) work is (inl first, few, aside) =
     absurd (no_switch_fault (gates_of request) work.files work.files_after first.0)
@@ -355,8 +354,7 @@ switch_rose SwitchFault (Some request) work is (inr (inr unput), few, aside) = a
 switch_rose _ request work is cause = absurd is
 
 switch_fault_ends : (request : Option Request) (status : Status) (call : Call)
-    → EndsFor request status call → IsSwitchStatus status
-    → IsReplay request × Rose call.work.port.faults call.work.port_after.faults
+    → EndsFor request status call → IsSwitchStatus status → IsFailedOnSwitch request call.work
 switch_fault_ends request status call (inl done) fault = absurd (subst IsSwitchStatus done.0 fault)
 switch_fault_ends request status call (inr (refusal, cause, counts, (ends.Done, is, written))) fault =
     switch_rose refusal request call.work (subst IsSwitchStatus is fault) cause
@@ -392,6 +390,11 @@ tells_ends (Some request) status call (inl (is, (text, answer, taken, read, kept
     kept_tells (is_replay request) call.work.port call.work.port_after kept
 tells_ends (Some request) status call (inr (refusal, (why, few, kept), counts, told)) =
     kept_tells (is_replay request) call.work.port call.work.port_after kept
+
+same_files_ends : (request : Option Request) (status : Status) (call : Call) → EndsFor request status call
+    → (name : List ℕ) → call.work.files_after.told name ≡ call.work.files.told name
+same_files_ends request status call (inl (is, done, counts, silent)) = counts.files.told
+same_files_ends request status call (inr (refusal, cause, counts, told)) = counts.files.told
 
 once_ends : (request : Option Request) (status : Status) (call : Call)
     → EndsFor request status call → IsReadOnce request status call
@@ -469,6 +472,7 @@ promised status call laws reports end =
       uncalled = λ input. (idle_ends request status call end input).port;
       aside = aside_ends request status call end;
       tells = tells_ends request status call end;
+      same_files = same_files_ends request status call end;
       once = once_ends request status call end;
       usage = usage_ends request status call end;
       exact = exact_ends request status call laws end;

@@ -40,8 +40,10 @@ use Rattle.gallium_cli.specs.Answers.{IsSplitBy, IsReport, IsReplayed, given, he
 use Rattle.gallium_cli.specs.Answers.{IsOnlySource, IsMadeSplit, IsSummary, made_plan}
 use Rattle.gallium_cli.specs.Loads.{GoesOn, raised_by}
 use Rattle.gallium_cli.specs.Puts.{IsPut, IsNotPut}
-use Rattle.gallium_cli.specs.Causes.{IsFirstRefused, IsNotWritten, IsSwitchKept, IsDone, HasCause, most_reads, reads_after}
-use Rattle.gallium_cli.proofs.Files.{first_before, refused_behind, refused_of_more, split_passed, traffic_before}
+use Rattle.gallium_cli.specs.Causes.{IsFirstRefused, IsAllRead, IsNotWritten, IsSwitchKept, IsDone, HasCause, most_reads}
+use Rattle.gallium_cli.specs.Causes.{reads_after}
+use Rattle.gallium_cli.proofs.Files.{first_before, passed_both, refused_behind, refused_of_more, split_passed, traffic_before}
+use Rattle.gallium_cli.proofs.Files.{traffic_passed}
 
 pub at_most : (n m : ℕ) → n ≡ m → n ≤ m
 at_most n m same = omega arith
@@ -69,29 +71,31 @@ memory_cause _ request f f' p p' o is few kept = cc
 
 -- a switch that failed
 pub switch_cause : (refusal : Refusal) (request : Request) (f f' : FilesState) (p p' : PortState) (o : SinkState)
-    → refusal ≡ SwitchFault → is_replay request ≡ true → Rose p.faults p'.faults → f'.reads ≤ most_reads request f
-    → IsSwitchKept (is_replay request) p p' → HasCause refusal (Some request) (work_of f f' p p' o o)
-switch_cause SwitchFault request f f' p p' o is replays rose few kept = (inr (inl ((replays, rose), refl)), few, kept)
-switch_cause _ request f f' p p' o is replays rose few kept = cc
+    → refusal ≡ SwitchFault → is_replay request ≡ true → Rose p.faults p'.faults
+    → IsAllRead request (work_of f f' p p' o o) → IsSwitchKept (is_replay request) p p'
+    → HasCause refusal (Some request) (work_of f f' p p' o o)
+switch_cause SwitchFault request f f' p p' o is replays rose all kept =
+    (inr (inl ((replays, rose, all), refl)), at_most _ _ all.reads, kept)
+switch_cause _ request f f' p p' o is replays rose all kept = cc
 
 -- a replay that came to no report
 pub replay_cause : (refusal : Refusal) (request : Request) (f f' : FilesState) (p p' : PortState) (o : SinkState)
     → ((refusal ≡ NoMemory) × (p'.faults ≡ p.faults)) ⊎ ((refusal ≡ SwitchFault) × Rose p.faults p'.faults)
-    → is_replay request ≡ true → f'.reads ≤ most_reads request f → IsSwitchKept (is_replay request) p p'
+    → is_replay request ≡ true → IsAllRead request (work_of f f' p p' o o) → IsSwitchKept (is_replay request) p p'
     → HasCause refusal (Some request) (work_of f f' p p' o o)
-replay_cause refusal request f f' p p' o (inl memory) replays few kept =
-    memory_cause refusal request f f' p p' o memory.0 few kept
-replay_cause refusal request f f' p p' o (inr switch) replays few kept =
-    switch_cause refusal request f f' p p' o switch.0 replays switch.1 few kept
+replay_cause refusal request f f' p p' o (inl memory) replays all kept =
+    memory_cause refusal request f f' p p' o memory.0 (at_most _ _ all.reads) kept
+replay_cause refusal request f f' p p' o (inr switch) replays all kept =
+    switch_cause refusal request f f' p p' o switch.0 replays switch.1 all kept
 
 -- ## Answers
 
 not_written : (refusal : Refusal) (request : Request) (text : List ℕ) (f f' : FilesState) (p p' : PortState)
-    (o o' : SinkState) → IsAnswer text request f.told p p' → IsNotPut refusal text o o'
-    → IsNotWritten refusal request (work_of f f' p p' o o')
-not_written WriteFault request text f f' p p' o o' answer put = (put.0, text, answer, put.1, put.2)
-not_written NoMemory request text f f' p p' o o' answer put = put
-not_written _ request text f f' p p' o o' answer put = absurd put
+    (o o' : SinkState) → IsAnswer text request f.told p p' → f'.reads ≡ most_reads request f
+    → IsNotPut refusal text o o' → IsNotWritten refusal request (work_of f f' p p' o o')
+not_written WriteFault request text f f' p p' o o' answer read put = (put.0, read, text, answer, put.1, put.2)
+not_written NoMemory request text f f' p p' o o' answer read put = put
+not_written _ request text f f' p p' o o' answer read put = absurd put
 
 -- an answer that was put on out is done
 pub put_answer : {A : Type 0} {E : Type 0} (result : Result A E) (request : Request) (text : List ℕ) (f f' : FilesState)
@@ -108,7 +112,7 @@ pub unput_answer : {A : Type 0} (result : Result A Refusal) (request : Request) 
     → IfErr result (λ refusal. HasCause refusal (Some request) (work_of f f' p p' o o'))
 unput_answer (Ok x) request text f f' p p' o o' answer read kept put = tt
 unput_answer (Err refusal) request text f f' p p' o o' answer read kept put =
-    (inr (inr (not_written refusal request text f f' p p' o o' answer put)), at_most _ _ read, kept)
+    (inr (inr (not_written refusal request text f f' p p' o o' answer read put)), at_most _ _ read, kept)
 
 -- ## Splits
 
@@ -195,6 +199,17 @@ pub replay_reads : (s t c : List ℕ) (by : Splitting) (f g h : FilesState) → 
 replay_reads s t c by f g h one two =
     subst (λ n. h.reads ≡ n) (sym (replay_names s t c by f.reads))
     (reads_in_all (split_reads s by) 2 f.reads g.reads h.reads one two)
+
+-- a replay whose split, packets and plan are there has passed all gates
+pub replay_read : (s t c : List ℕ) (by : Splitting) (m : Tree) (split : List Part) (writeback : ℕ) (packets : List Packet)
+    (plan : Plan) (f g h : FilesState) (p p' : PortState) (o : SinkState) → IsSplitBy by f.told s m split writeback
+    → GoesOn statuses.Done f g → IsTraffic g.told t c packets plan → g.reads ≡ raised_by (split_reads s by) f.reads
+    → h.reads ≡ raised_by 2 g.reads → IsAllRead (Replay s t c by) (work_of f h p p' o o)
+replay_read s t c by m split writeback packets plan f g h p p' o found goes traffic one two = record {
+  passed = passed_both (split_gates s by) (event_gates t c) f (split_passed by s f m split writeback found)
+      (traffic_passed f t c packets plan (traffic_before t c f g packets plan goes traffic));
+  reads = replay_reads s t c by f g h one two;
+}
 
 -- what a refusal at the split comes to
 pub split_refused : (refusal : Refusal) (s t c : List ℕ) (by : Splitting) (f g : FilesState) (p : PortState) (o : SinkState)

@@ -68,6 +68,11 @@ IsPassed (ReportFile s t r) f =
     (m : Tree) × (packets : List Packet)
     × IsAuditInput f.told s t m packets × IfSome (f.told r) (IsGood (true_report m packets))
 
+-- each of these gates is passed
+abbrev pub AllPassed : List Gate → FilesState → Type 0
+AllPassed [] f = Unit {0}
+AllPassed (gate ∷ gates) f = IsPassed gate f × AllPassed gates f
+
 -- the gates before one are passed, and that one isn't
 abbrev pub IsFirstRefused : Refusal → List Gate → FilesState → FilesState → Type 0
 IsFirstRefused refusal gates f f' = IsFirst (λ gate. IsPassed gate f) (λ gate. IsRefusedAt refusal gate f f') gates
@@ -88,6 +93,11 @@ abbrev pub IsSwitchKept : Bool → PortState → PortState → Type 0
 IsSwitchKept true port port_after = is_some port_after.told ≡ is_some port.told
 IsSwitchKept false port port_after = port_after ≡ port
 
+-- every gate of a request is passed, and there was one read for each of its files
+pub record IsAllRead (request : Request) (work : Work) : Type 0 where
+  pub passed : AllPassed (gates_of request) work.files
+  pub reads : work.files_after.reads ≡ most_reads request work.files
+
 -- the answer to a request was taken whole by out, and there was one read for each of its files
 abbrev pub IsDone : Option Request → Work → Type 0
 IsDone None work = ⊥
@@ -97,17 +107,21 @@ IsDone (Some request) work =
     × (work.files_after.reads ≡ most_reads request work.files)
     × IsSwitchKept (is_replay request) work.port work.port_after
 
--- the switch failed in a replay, and its count of faults rose
-abbrev pub IsSwitchFaulty : Refusal → Request → PortState → PortState → Type 0
-IsSwitchFaulty SwitchFault request port port_after =
-    (is_replay request ≡ true) × Rose port.faults port_after.faults
-IsSwitchFaulty _ request port port_after = ⊥
+-- all that a replay asks for is read and accepted, and then the switch failed, so that its count of faults rose
+abbrev pub IsFailedReplay : Request → Work → Type 0
+IsFailedReplay request work =
+    (is_replay request ≡ true) × Rose work.port.faults work.port_after.faults × IsAllRead request work
 
--- Why an answer wasn't written: only some first bytes were taken, and the count of faults of out rose, or no memory was
--- found, and out is as it was.
+abbrev pub IsSwitchFaulty : Refusal → Request → Work → Type 0
+IsSwitchFaulty SwitchFault request work = IsFailedReplay request work
+IsSwitchFaulty _ request work = ⊥
+
+-- Why an answer wasn't written: each file was read, only some first bytes were taken, and the count of faults of out
+-- rose, or no memory was found, and out is as it was.
 abbrev pub IsNotWritten : Refusal → Request → Work → Type 0
 IsNotWritten WriteFault request work =
     Rose work.out.faults work.out_after.faults
+    × (work.files_after.reads ≡ most_reads request work.files)
     × (text : List ℕ) × IsAnswer text request work.files.told work.port work.port_after
     × (n : ℕ) × (work.out_after.taken ≡ append_known work.out.taken (take n text))
 IsNotWritten NoMemory request work = work.out_after ≡ work.out
@@ -118,14 +132,14 @@ pub record IsIdle (work : Work) : Type 0 where
   pub out : work.out_after ≡ work.out
   pub port : work.port_after ≡ work.port
 
--- Why a request is refused: by its words, and then no file was read; by a file or a limit; since the switch failed; or
--- since its answer wasn't written. Where words, a file or a limit are to blame, out and the switch are as they were.
+-- Why a request is refused: by its words, and then no file was read; by a file or a limit; since the switch failed, behind
+-- all of these; or since its answer wasn't written. Where words, a file or a limit are to blame, out and the switch are as they were.
 -- There was at most one read for each file.
 abbrev pub HasCause : Refusal → Option Request → Work → Type 0
 HasCause refusal None work = (refusal ≡ Usage) × (work.files_after ≡ work.files) × IsIdle work
 HasCause refusal (Some request) work =
     ((IsFirstRefused refusal (gates_of request) work.files work.files_after × IsIdle work)
-    ⊎ (IsSwitchFaulty refusal request work.port work.port_after × (work.out_after ≡ work.out))
+    ⊎ (IsSwitchFaulty refusal request work × (work.out_after ≡ work.out))
     ⊎ IsNotWritten refusal request work)
     × (work.files_after.reads ≤ most_reads request work.files)
     × IsSwitchKept (is_replay request) work.port work.port_after

@@ -31,14 +31,21 @@ use Rattle.gallium_cli.specs.Loads.{IsLongProgram, AreBadLimits, IsBadTrace, IsB
 use Rattle.gallium_cli.specs.Splits.{SpellsLegal, IsBadSplit, excess_of}
 use Rattle.gallium_cli.specs.Reports.{TellsRun, IsUntrue}
 use Rattle.gallium_cli.specs.Answers.{IsReplayOf}
-use Rattle.gallium_cli.specs.Causes.{IsDone, CountsFaults, Ends, most_reads}
 use Rattle.run_text.specs.Trace.{trace_of}
+use Rattle.gallium_cli.specs.Causes.{IsDone, IsFailedReplay, CountsFaults, Ends, most_reads}
 
 -- an end that writing and memory may bring whatever the words are
 abbrev pub IsWriteFault : Status → Type 0
 IsWriteFault WriteFault = Unit {0}
 IsWriteFault NoMemory = Unit {0}
 IsWriteFault _ = ⊥
+
+-- an end that files, sinks and memory may bring before the switch is called, whatever the texts are
+abbrev pub IsEarlyFault : Status → Type 0
+IsEarlyFault ReadFault = Unit {0}
+IsEarlyFault WriteFault = Unit {0}
+IsEarlyFault NoMemory = Unit {0}
+IsEarlyFault _ = ⊥
 
 -- an end that files, sinks, the switch and memory may bring whatever the texts are
 abbrev pub IsFault : Status → Type 0
@@ -51,6 +58,9 @@ IsFault _ = ⊥
 -- that status, or such a fault
 abbrev pub IsUnlessFault : Status → Status → Type 0
 IsUnlessFault status result = (result ≡ status) ⊎ IsFault result
+
+abbrev pub IsUnlessEarlyFault : Status → Status → Type 0
+IsUnlessEarlyFault status result = (result ≡ status) ⊎ IsEarlyFault result
 
 -- an end for which the words, a file or a limit are to blame
 abbrev pub BlamesInput : Status → Type 0
@@ -144,11 +154,12 @@ abbrev pub IsComplete : Option Request → Status → Call → Type 0
 IsComplete None result call = Unit {0}
 IsComplete (Some request) result call = AllOpen call.work.files.told (gates_of request) → IsUnlessFault Done result
 
--- where the first gate that isn't open is shut with a status, that is answered unless there is a fault
+-- where the first gate that isn't open is shut with a status, that is answered unless there is a fault before the switch
+-- is called
 abbrev pub IsExact : Option Request → Status → Call → Type 0
 IsExact None result call = Unit {0}
 IsExact (Some request) result call =
-    (status : Status) → IsFirstShut call.work.files.told (gates_of request) status → IsUnlessFault status result
+    (status : Status) → IsFirstShut call.work.files.told (gates_of request) status → IsUnlessEarlyFault status result
 
 -- why a text of this role is refused for what it holds
 abbrev pub IsCause : Refusal → Role → List ℕ → Type 0
@@ -185,12 +196,12 @@ IsShutFor told (ReportFile s t r) cause =
 abbrev pub IsFirstCause : (List ℕ → Option (List ℕ)) → List Gate → Refusal → Type 0
 IsFirstCause told gates cause = IsFirst (IsOpen told) (λ gate. IsShutFor told gate cause) gates
 
--- the status is that of this refusal and err received its line, unless there is a fault
+-- the status is that of this refusal and err received its line, unless there is a fault before the switch is called
 abbrev pub IsBlamedFor : Refusal → Status → Call → Type 0
 IsBlamedFor cause result call =
-    ((result ≡ status_of cause) × (call.err_after.taken ≡ append_known call.err.taken (line_of cause))) ⊎ IsFault result
+    ((result ≡ status_of cause) × (call.err_after.taken ≡ append_known call.err.taken (line_of cause))) ⊎ IsEarlyFault result
 
--- where the first gate that isn't open is shut for a cause, err receives its line, unless there is a fault
+-- where the first gate that isn't open is shut for a cause, err receives its line, unless there is such a fault
 abbrev pub IsCauseTold : Option Request → Status → Call → Type 0
 IsCauseTold None result call = Unit {0}
 IsCauseTold (Some request) result call =
@@ -230,6 +241,11 @@ abbrev pub IsReplay : Option Request → Type 0
 IsReplay None = ⊥
 IsReplay (Some request) = is_replay request ≡ true
 
+-- the request is a replay that failed on the switch, when all that it asks for was read and accepted
+abbrev pub IsFailedOnSwitch : Option Request → Work → Type 0
+IsFailedOnSwitch None work = ⊥
+IsFailedOnSwitch (Some request) work = IsFailedReplay request work
+
 -- What is promised of a call that ends in this status. The first part says the whole of it: why it ended so, and what
 -- it left on both sinks. The others are read off it.
 pub record Promises (status : Status) (call : Call) : Type 0 where
@@ -245,8 +261,9 @@ pub record Promises (status : Status) (call : Call) : Type 0 where
   pub uncalled : BlamesInput status → call.work.port_after ≡ call.work.port
   -- what is no replay leaves the switch as it was
   pub aside : ¬ (IsReplay (request_of call.words)) → call.work.port_after ≡ call.work.port
-  -- however it ends, the switch tells its tables just where it told them before
+  -- however it ends, the switch tells its tables just where it told them before, and the files tell what they told
   pub tells : is_some call.work.port_after.told ≡ is_some call.work.port.told
+  pub same_files : (name : List ℕ) → call.work.files_after.told name ≡ call.work.files.told name
   -- each file is read once
   pub once : IsReadOnce (request_of call.words) status call
   -- which status comes, by the words and the told texts
@@ -272,5 +289,4 @@ pub record Promises (status : Status) (call : Call) : Type 0 where
   pub write_fault : status ≡ WriteFault
       → (CountsFaults WriteFault call.work × (call.err_after.faults ≡ call.err.faults))
       ⊎ (CountsOne call.work × Rose call.err.faults call.err_after.faults)
-  pub switch_fault : status ≡ SwitchFault
-      → IsReplay (request_of call.words) × Rose call.work.port.faults call.work.port_after.faults
+  pub switch_fault : status ≡ SwitchFault → IsFailedOnSwitch (request_of call.words) call.work

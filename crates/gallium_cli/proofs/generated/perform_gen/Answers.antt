@@ -2,7 +2,7 @@ use Rattle.std.proofs.Common.{◌≤◌, refl, arith}
 use Rattle.std.proofs.lemmas.Result.{err_from_is_err_and}
 use Rattle.gallium_cli.specs.Words.{Gen}
 use Rattle.gallium_cli.proofs.Counted.{unread, put_counts, replay_counts, unput_counts}
-use Rattle.gallium_cli.proofs.Written.{at_most, replay_cause, put_answer, summary_put, unput_answer}
+use Rattle.gallium_cli.proofs.Written.{replay_cause, put_answer, summary_put, unput_answer}
 use Rattle.gallium_cli.proofs.generated.perform_gen.Goals as goal
 
 pub returns-in_err-text-clause-err : goal.returns-in_err-text-clause-err
@@ -12,7 +12,7 @@ returns-in_err-text-clause-err g c = λ files.
     rw (p.1, p.2)
     (replay_cause _ (Gen c.args.seed c.args.count.packets) files files
     (g.S.SwitchPort.seen c.args.port.now) (g.S.SwitchPort.seen c.summary.new.port) (g.O.Sink.seen c.args.out.now)
-    found.err refl (at_most _ _ refl) found.stays)
+    found.err refl (record { passed = tt; reads = refl }) found.stays)
 
 pub returns-in_err-text-clause-fault : goal.returns-in_err-text-clause-fault
 returns-in_err-text-clause-fault g c = λ files.

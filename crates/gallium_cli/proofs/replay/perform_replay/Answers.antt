@@ -1,8 +1,10 @@
+use Rattle.std.proofs.Common.{refl}
 use Rattle.std.proofs.lemmas.Result.{err_from_is_err_and}
 use Rattle.gallium_cli.specs.Roles.{event_gates}
 use Rattle.gallium_cli.specs.Words.{Replay, split_asked}
 use Rattle.gallium_cli.proofs.Counted.{gate_counts, goes_further, put_counts, replay_counts, unput_counts}
-use Rattle.gallium_cli.proofs.Written.{split_refused, traffic_refused, replay_answer, replay_reads, put_answer, unput_answer}
+use Rattle.gallium_cli.proofs.Written.{split_refused, traffic_refused, replay_answer, replay_cause, replay_read, replay_reads}
+use Rattle.gallium_cli.proofs.Written.{put_answer, unput_answer}
 use Rattle.gallium_cli.proofs.replay.perform_replay.Goals as goal
 
 pub returns-in_err-middlebox-clause-err : goal.returns-in_err-middlebox-clause-err
@@ -18,6 +20,19 @@ returns-in_err-packets-clause-err g c =
     rw (p.1, p.2)
     (traffic_refused _ _ _ _ _ _ _ _ _ _ _ _ _ found.ok found.stays found.read c.in_err-packets.ensures.err
     c.in_err-packets.ensures.few_reads)
+
+pub returns-in_err-text-clause-err : goal.returns-in_err-text-clause-err
+returns-in_err-text-clause-err g c =
+    let p = err_from_is_err_and c.from_residual-in_err-text.result c.from_residual-in_err-text.ensures.1 in
+    let found = c.in_ok-middlebox.ensures in
+    let came = c.in_ok-packets.ensures in
+    rw (p.1, p.2)
+    (replay_cause _ (Replay c.args.source.now c.args.trace.now c.args.schedule.now (split_asked c.args.split))
+    (g.F.Files.seen c.args.files.now) (g.F.Files.seen c.load_traffic.new.files)
+    (g.S.SwitchPort.seen c.args.port.now) (g.S.SwitchPort.seen c.report.new.port) (g.O.Sink.seen c.args.out.now)
+    c.in_err-text.ensures.err refl
+    (replay_read _ _ _ _ _ _ _ _ _ _ _ _ _ _ _ found.ok found.stays came.ok found.read came.read)
+    c.in_err-text.ensures.stays)
 
 pub returns-clause-ok : goal.returns-clause-ok
 returns-clause-ok g c =

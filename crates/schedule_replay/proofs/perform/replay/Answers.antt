@@ -61,3 +61,8 @@ returns-in_err-conclude-clause-fault g c =
     let p = err_from_is_err_and c.from_residual-in_err-conclude.result c.from_residual-in_err-conclude.ensures.1 in
     rw (p.1, p.2) (counts_behind _ _ _ _ c.in_ok-course.ensures.started.stays.faults
     (counts_behind _ _ _ _ c.in_ok-perform.ensures.gone.stays.faults c.in_err-conclude.ensures.fails.fault))
+
+pub returns-in_err-perform-clause-fault : goal.returns-in_err-perform-clause-fault
+returns-in_err-perform-clause-fault g c =
+    let p = err_from_is_err_and c.from_residual-in_err-perform.result c.from_residual-in_err-perform.ensures.1 in
+    rw (p.1, p.2) (counts_behind _ _ _ _ c.in_ok-course.ensures.started.stays.faults c.in_err-perform.ensures.fails.fault)
