@@ -1,8 +1,10 @@
 -- What the reading of one file shows, and what is passed and refused one after the other.
 use Rattle.std.proofs.Common.{◌≡◌, ◌≤◌, ◌<◌, ◌^◌, ℕ, Bool, List, [], ◌∷◌, ◌++◌, length, Option, Some, None, IfSome}
-use Rattle.std.proofs.Common.{subst, ap, ◌∙◌, inl, inr, arith, Ok}
+use Rattle.std.proofs.Common.{subst, ap, sym, ◌∙◌, inl, inr, arith, Ok, Result, IfErr}
+use Rattle.std.proofs.lemmas.Result.{IfErr-weaker}
 use Rattle.gal_io.specs.Count.{one_more}
-use Rattle.gal_io.specs.Files.{FilesState}
+use Rattle.gal_io.specs.Files.{FilesState, Gives}
+use Rattle.gal_io.specs.declared.files.ReadEnd.TheVariants as ends
 use Rattle.packet_fields.specs.declared.packet.Packet.{Packet}
 use Rattle.element_lang.specs.Tree.{Tree}
 use Rattle.flat_ir.specs.Program.{Program}
@@ -75,6 +77,17 @@ unread_refused (Audit untruth) (true_report m packets) bytes name f f' loaded un
     told_text _ bytes (f.told name) loaded.1 ((loaded.0, unread.0), unread.1)
 unread_refused NoMemory role bytes name f f' loaded unread = tt
 unread_refused _ role bytes name f f' loaded unread = absurd unread
+
+-- so is one of which a reader refuses the bytes that were read
+pub read_refused : {A : Type 0} (result : Result A Refusal) (role : Role) (bytes into name : List ℕ) (max : ℕ)
+    (f f' : FilesState) → bytes ≡ into → max ≡ size_of role → Gives ends.Done (f.told name) max into
+    → IfErr result (λ refusal. IsUnread refusal role bytes)
+    → IfErr result (λ refusal. IsFileRefused refusal role name f f')
+read_refused result role bytes into name max f f' same size gives unread =
+    let loaded : IsLoaded bytes name (size_of role) f =
+    subst (λ (n : ℕ). IsLoaded bytes name n f) size (subst (λ (b : List ℕ). IsLoaded b name max f) (sym same) gives) in
+    IfErr-weaker result (λ refusal. IsUnread refusal role bytes) (λ refusal. IsFileRefused refusal role name f f')
+    (λ refusal here. unread_refused refusal role bytes name f f' loaded here) unread
 
 -- ## What is passed
 

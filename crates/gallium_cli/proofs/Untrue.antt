@@ -9,6 +9,7 @@ use Rattle.element_lang.specs.Accepted.{IsSource}
 use Rattle.run_model.specs.declared.run.Run.{Run as RunTold}
 use Rattle.report_text.specs.Lines.{IsFirstWrong, IsReport}
 use Rattle.report_text.specs.Lines as reports
+use Rattle.report_text.specs.declared.error.RunTextError.{RunTextError}
 use Rattle.report_text.specs.declared.error.RunTextError.TheVariants as lines
 use Rattle.run_audit.specs.Refused.{IsRefused}
 use Rattle.run_audit.specs.Told.{IsTrueReport}
@@ -73,6 +74,13 @@ line_unread one m packets text number refused = (
   λ spelled. line_untold m text number spelled.0 refused spelled.1,
   record { cause = refused; only = only_line one m packets text number refused },
 )
+
+pub line_answered : IsFirstWrongOne → (m : Tree) (packets : List Packet) (text : List ℕ) (number : ℕ) (e : RunTextError)
+    → (e ≡ lines.NoMemory) ⊎ reports.IsRefused m.objects text e → e ≡ lines.Line number
+    → IsUnread (Report number) (true_report m packets) text
+line_answered one m packets text number e (inl none) is = cc
+line_answered one m packets text number e (inr refused) is =
+    line_unread one m packets text number (subst (reports.IsRefused m.objects text) is refused)
 
 only_untruth : IsRefusedForOne → (m : Tree) (packets : List Packet) (text : List ℕ) (run : RunTold) (error : AuditError)
     (untruth : Untruth) → ((other : RunTold) → IsReport m.objects text other → other ≡ run) → IsReport m.objects text run
