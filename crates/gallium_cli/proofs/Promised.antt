@@ -24,9 +24,9 @@ use Rattle.gallium_cli.specs.Roles.{Role, source, trace, legal_split, true_repor
 use Rattle.gallium_cli.specs.Roles.{IsSpelled, gates_of, names_in}
 use Rattle.gallium_cli.specs.Loads.{IsFileRefused}
 use Rattle.gallium_cli.specs.Reports.{IsBadReport}
-use Rattle.gallium_cli.specs.Causes.{IsFirstRefused, IsSwitchKept, IsFailedReplay, IsSwitchFaulty, IsNotWritten, IsIdle, IsDone, HasCause}
+use Rattle.gallium_cli.specs.Causes.{IsFirstRefused, IsSwitchKept, IsSwitchFaulty, IsNotWritten, IsIdle, IsDone, HasCause}
 use Rattle.gallium_cli.specs.Causes.{CountsFaults, after_line, EndsFor, Ends}
-use Rattle.gallium_cli.specs.Promises.{IsWriteFault, BlamesInput, IsReadOnce, IsUsage, IsOneOf, IsBlamed}
+use Rattle.gallium_cli.specs.Promises.{IsWriteFault, BlamesInput, IsReadOnce, IsUsage, IsOneOf, IsBlamed, IsFailedOnSwitch}
 use Rattle.gallium_cli.specs.Promises.{CountsOne}
 use Rattle.gallium_cli.specs.Promises.{MayExceed, IsReplay, IsReplayReport, Promises}
 use Rattle.gallium_cli.proofs.Written.{at_most}
@@ -447,7 +447,7 @@ replay_unrefused : AreTrueReports → (refusal : Refusal) (s t r : List ℕ) (f 
 replay_unrefused law refusal s t r f f' is replay (inl refused) = unblamed_source refusal s f f' is refused
 replay_unrefused law refusal s t r f f' is replay (inr (passed, inl refused)) = unblamed_trace refusal t f f' is refused
 replay_unrefused law refusal s t r f f' is replay (inr (passed, inr (also, inl (m, packets, found, refused)))) =
-    let same = same_input f.told s t replay.m m replay.packets packets replay.input found.input in
+    let same = same_input f.told s t replay.m m replay.packets packets replay.source replay.trace found.input in
     told_unrefused refusal m packets r f f' is (replay_told law f.told s t r m packets found replay same) refused
 replay_unrefused law refusal s t r f f' is replay (inr (passed, inr (also, inr (last, never)))) = never
 

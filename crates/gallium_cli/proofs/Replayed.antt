@@ -1,5 +1,5 @@
 -- The report of a replay is a report, and it is true.
-use Rattle.std.proofs.Common.{◌≡◌, ◌≤◌, ◌<◌, ◌^◌, ◌+◌, ℕ, zero, suc, Bool, true, false, ◌&&◌, ◌||◌, List, [], ◌∷◌, ◌++◌, length, map, Option, Some, None}
+use Rattle.std.proofs.Common.{◌≡◌, ◌≤◌, ◌<◌, ◌^◌, ◌+◌, ◌*◌, ℕ, zero, suc, Bool, true, false, ◌&&◌, ◌||◌, List, [], ◌∷◌, ◌++◌, length, map, Option, Some, None}
 use Rattle.std.proofs.Common.{IfSome, IsSomeAnd, refl, sym, ap, subst, ◌∙◌, inl, inr, ◌⊎◌, arith}
 use Rattle.std.specs.Prelude.{IsTrue, is_some, slice_index_or}
 use Rattle.std.specs.List.{AllByRecursion as Each}
@@ -46,7 +46,7 @@ use Rattle.run_audit.specs.Source.{source_of}
 use Rattle.run_audit.specs.Told.{IsTrueReport}
 use Rattle.gallium_cli.specs.Answers.{IsAuditInput, IsReplayOf, MayReplay, events_of, given}
 use Rattle.gallium_cli.specs.Promises.{IsReplayReport}
-use Rattle.gallium_cli.specs.Roles.{IsSpelled, size_of, source, true_report}
+use Rattle.gallium_cli.specs.Roles.{IsSpelled, true_report}
 use Rattle.gallium_cli.proofs.Bounds.{bounded_program}
 use Rattle.gallium_cli.proofs.Reported.{CarriesOver, KeepsStores, MeansTheSame, split_is_source}
 use Rattle.gallium_cli.proofs.Runnable.{few_writes, no_writes}
@@ -196,17 +196,17 @@ some_follows : (told : Option (List ℕ)) (P Q : List ℕ → Type 0) → ((text
 some_follows None P Q follows h = h
 some_follows (Some text) P Q follows h = follows text h
 
-some_source : (told : Option (List ℕ)) (m : Tree)
-    → IsSomeAnd told (λ text. (length text ≤ size_of source) × IsSource text m) → (text : List ℕ) × IsSource text m
+some_source : (told : Option (List ℕ)) (m : Tree) → IsSomeAnd told (λ text. IsSource text m)
+    → (text : List ℕ) × IsSource text m
 some_source None m h = absurd h
-some_source (Some text) m h = (text, h.1)
+some_source (Some text) m h = (text, h)
 
 -- the report of a replay, of the middlebox and the packets that a call found
 pub replay_told : AreTrueReports → (told : List ℕ → Option (List ℕ)) (s t r : List ℕ) (m : Tree) (packets : List Packet)
     → IsAuditInput told s t m packets → (replay : IsReplayReport told s t r)
     → IsSameInput replay.m m replay.packets packets → IsSomeAnd (told r) (IsSpelled (true_report m packets))
 replay_told law told s t r m packets found replay same =
-    let of = some_source (told s) replay.m replay.input.source in
+    let of = some_source (told s) replay.m replay.source in
     let is = subst (λ (n : Tree). IsSource of.0 n) same.middlebox of.1 in
     some_follows (told r) (IsReplayOf replay.m replay.packets) (IsSpelled (true_report m packets))
     (λ report told_so. law of.0 m packets report is found.declared found.arrivals found.few

@@ -116,7 +116,7 @@ untrue_unread none one m packets text run error untruth told only real refused i
 pub cause_report : (cause : Refusal) (m : Tree) (packets : List Packet) (text : List ℕ) → IsUntrue cause m packets text
     → IsStatusOf (status_of cause) (true_report m packets) text
 cause_report (Report number) m packets text why = inl (refl, λ tells. line_untold m text number tells.0 why tells.1)
-cause_report (Audit untruth) m packets text (run, error, told, more) = inr (refl, (run, told))
+cause_report (Audit untruth) m packets text (run, error, told, real, refused, is) = inr (refl, (run, told))
 cause_report _ m packets text why = absurd why
 
 -- it has no other
@@ -138,27 +138,31 @@ exact_report cause m packets status (Some text) (inr here) why =
 
 -- ## One middlebox and one list of packets
 
-one_source : (told : Option (List ℕ)) (m other : Tree)
-    → IsSomeAnd told (λ text. (length text ≤ size_of source) × IsSource text m)
+one_source : (told : Option (List ℕ)) (m other : Tree) → IsSomeAnd told (λ text. IsSource text m)
     → IfSome told (λ text. (length text ≤ size_of source) × IsOnlySource text other) → m ≡ other
 one_source None m other one two = absurd one
-one_source (Some text) m other one two = two.1.only m one.1
+one_source (Some text) m other one two = two.1.only m one
 
-one_trace : (told : Option (List ℕ)) (packets others : List Packet)
-    → IsSomeAnd told (λ text. (length text ≤ size_of trace) × (trace_of text ≡ Ok packets))
+one_trace : (told : Option (List ℕ)) (packets others : List Packet) → IsSomeAnd told (λ text. trace_of text ≡ Ok packets)
     → IfSome told (λ text. (length text ≤ size_of trace) × (trace_of text ≡ Ok others)) → packets ≡ others
 one_trace None packets others one two = absurd one
-one_trace (Some text) packets others one two = let first = one.1 in let second = two.1 in cc
+one_trace (Some text) packets others one two = let second = two.1 in cc
+
+whatever_size : (told : Option (List ℕ)) (size : ℕ) (P : List ℕ → Type 0)
+    → IsSomeAnd told (λ text. (length text ≤ size) × P text) → IsSomeAnd told P
+whatever_size None size P h = h
+whatever_size (Some text) size P h = h.1
 
 pub record IsSameInput (m m' : Tree) (packets packets' : List Packet) : Type 0 where
   pub middlebox : m ≡ m'
   pub arrived : packets ≡ packets'
 
 pub same_input : (told : List ℕ → Option (List ℕ)) (s t : List ℕ) (m m' : Tree) (packets packets' : List Packet)
-    → IsToldInput told s t m packets → IsInput told s t m' packets' → IsSameInput m m' packets packets'
-same_input told s t m m' packets packets' asked found = record {
-  middlebox = one_source (told s) m m' asked.source found.source;
-  arrived = one_trace (told t) packets packets' asked.trace found.trace;
+    → IsSomeAnd (told s) (λ text. IsSource text m) → IsSomeAnd (told t) (λ text. trace_of text ≡ Ok packets)
+    → IsInput told s t m' packets' → IsSameInput m m' packets packets'
+same_input told s t m m' packets packets' one two found = record {
+  middlebox = one_source (told s) m m' one found.source;
+  arrived = one_trace (told t) packets packets' two found.trace;
 }
 
 -- so what a report is to tell is one thing
@@ -166,6 +170,9 @@ pub same_report : (told : List ℕ → Option (List ℕ)) (s t : List ℕ) (m m'
     → IsToldInput told s t m packets → IsAuditInput told s t m' packets'
     → true_report m packets ≡ true_report m' packets'
 same_report told s t m m' packets packets' asked found =
-    let same = same_input told s t m m' packets packets' asked found.input in
+    let same =
+    same_input told s t m m' packets packets'
+    (whatever_size (told s) (size_of source) (λ text. IsSource text m) asked.source)
+    (whatever_size (told t) (size_of trace) (λ text. trace_of text ≡ Ok packets) asked.trace) found.input in
     ap (λ (n : Tree). true_report n packets) same.middlebox
     ∙ ap (λ (ps : List Packet). true_report m' ps) same.arrived

@@ -83,11 +83,12 @@ pub record IsToldInput (told : List ℕ → Option (List ℕ)) (s t : List ℕ) 
   pub source : IsSomeAnd (told s) (λ text. (length text ≤ size_of source) × IsSource text m)
   pub trace : IsSomeAnd (told t) (λ text. (length text ≤ size_of trace) × (trace_of text ≡ Ok packets))
 
--- they are told, and the third is the report of a replay of that middlebox over those packets
+-- they are told, and the third is the report of a replay of the middlebox of the first over the packets of the second
 pub record IsReplayReport (told : List ℕ → Option (List ℕ)) (s t r : List ℕ) : Type 0 where
   pub m : Tree
   pub packets : List Packet
-  pub input : IsToldInput told s t m packets
+  pub source : IsSomeAnd (told s) (λ text. IsSource text m)
+  pub trace : IsSomeAnd (told t) (λ text. trace_of text ≡ Ok packets)
   pub replay : IsSomeAnd (told r) (IsReplayOf m packets)
 
 -- a content is told and good, and a split is there to choose, or to take, or a report is there
