@@ -7,7 +7,6 @@ use Rattle.gal_io.specs.declared.sink.SinkEnd.{SinkEnd}
 use Rattle.gal_io.specs.declared.sink.SinkEnd.TheVariants as ends
 use Rattle.packet_fields.specs.declared.packet.Packet.{Packet}
 use Rattle.element_lang.specs.Tree.{Tree}
-use Rattle.run_text.specs.declared.plan.Plan.{Plan}
 use Rattle.run_text.specs.declared.refusal.LinesError.{LinesError}
 use Rattle.element_text.specs.declared.error.TextError.{TextError}
 use Rattle.pcap_trace.specs.declared.refusal.PcapError.{PcapError}
@@ -31,7 +30,7 @@ use Rattle.gallium_cli.specs.Roles.{size_of, IsGood, IsBad, Gate, File, Choice, 
 use Rattle.gallium_cli.specs.Roles.{split_gates, event_gates}
 use Rattle.gallium_cli.specs.Splits.{IsBadSplit}
 use Rattle.gallium_cli.specs.Reports.{IsBadReport}
-use Rattle.gallium_cli.specs.Answers.{IsTraffic, IsAnswer}
+use Rattle.gallium_cli.specs.Answers.{IsAnswer}
 use Rattle.gallium_cli.specs.Loads.{IsFileRefused, IsBadSource, IsLongProgram, AreBadLimits, IsBadTrace, IsBadSchedule}
 use Rattle.gallium_cli.specs.Loads.{IsBadCapture}
 use Rattle.gallium_cli.specs.Causes.{IsRefusedAt, IsPassed, AllPassed, IsFirstRefused, IsSwitchFaulty, IsNotWritten, after_line}

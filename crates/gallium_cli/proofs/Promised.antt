@@ -1,7 +1,7 @@
 -- What follows from how a call ends.
 use Rattle.std.proofs.Common.{◌≡◌, ◌⊎◌, ℕ, Bool, true, false, List, [], ◌∷◌, Option, Some, None, sym, subst, ap, ◌∙◌, inl, inr}
 use Rattle.std.proofs.Common.{refl}
-use Rattle.std.specs.Prelude.{is_some, IfSome, IsSomeAnd}
+use Rattle.std.specs.Prelude.{is_some, IsSomeAnd}
 use Rattle.gal_io.specs.Count.{Rose}
 use Rattle.gal_io.specs.Files.{FilesState}
 use Rattle.gal_io.specs.Sink.{SinkState}
@@ -479,11 +479,10 @@ promised status call laws reports end =
       cause = cause_told request status call laws end;
       complete = complete_ends request status call laws end;
       exceeded = λ is. exceeded_ends request status call end (subst IsExceededStatus (sym is) tt);
-      replayed = λ s t r asked replay.
-          (
-            λ is. replayed_ends reports request status call end s t r asked replay (subst BlamesReport (sym is) tt),
-            λ is. replayed_ends reports request status call end s t r asked replay (subst BlamesReport (sym is) tt),
-          );
+      replayed = λ s t r asked replay. (
+        λ is. replayed_ends reports request status call end s t r asked replay (subst BlamesReport (sym is) tt),
+        λ is. replayed_ends reports request status call end s t r asked replay (subst BlamesReport (sym is) tt),
+      );
       too_long = λ is. too_long_ends request status call end (subst IsTooLong (sym is) tt);
       read_fault = λ is. read_fault_ends request status call end (subst IsReadFault (sym is) tt);
       counted = counted_ends request status call end;

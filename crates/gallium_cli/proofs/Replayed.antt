@@ -1,7 +1,7 @@
 -- The report of a replay is a report, and it is true.
-use Rattle.std.proofs.Common.{◌≡◌, ◌≤◌, ◌<◌, ◌^◌, ◌+◌, ◌*◌, ℕ, zero, suc, Bool, true, false, ◌&&◌, ◌||◌, List, [], ◌∷◌, ◌++◌, length, map, Option, Some, None}
-use Rattle.std.proofs.Common.{IfSome, IsSomeAnd, refl, sym, ap, subst, ◌∙◌, inl, inr, ◌⊎◌, arith}
-use Rattle.std.specs.Prelude.{IsTrue, is_some, slice_index_or}
+use Rattle.std.proofs.Common.{◌≡◌, ◌≤◌, ◌<◌, ◌^◌, ◌+◌, ◌*◌, ℕ, zero, suc, Bool, true, false, ◌&&◌, ◌||◌, List, [], ◌∷◌, length, Option, Some, None}
+use Rattle.std.proofs.Common.{IfSome, IsSomeAnd, refl, sym, ap, subst, ◌∙◌, inl, inr, arith}
+use Rattle.std.specs.Prelude.{IsTrue, slice_index_or}
 use Rattle.std.specs.List.{AllByRecursion as Each}
 use Rattle.std.proofs.lemmas.Bool.{cases_Bool, true≢false}
 use Rattle.std.proofs.lemmas.List.{length-append}
@@ -21,13 +21,11 @@ use Rattle.split_model.specs.Bounds.{IsBounded}
 use Rattle.split_model.specs.Counts.{writes}
 use Rattle.split_model.specs.Greatest.{IsGreatestSplit, pre_marks}
 use Rattle.split_model.specs.Shown.{is_shown, looks_at}
-use Rattle.split_model.specs.Split.{any_below, is_pre, part_at}
+use Rattle.split_model.specs.Split.{any_below, is_pre}
 use Rattle.run_model.specs.declared.event.Event.{Event}
 use Rattle.run_model.specs.declared.run.Run.{Run}
-use Rattle.run_model.specs.Meaning.{Meaning}
 use Rattle.run_model.specs.Serialises.{Serialises}
 use Rattle.run_model.specs.Sizes.{most_events, most_packets}
-use Rattle.run_text.specs.declared.plan.Plan.{Plan}
 use Rattle.run_text.specs.Report.{report_of}
 use Rattle.replay_state.specs.Answers.{Answers, Setup}
 use Rattle.replay_state.specs.Drain.{drain_bound, drain_events, plan_events}
@@ -170,8 +168,7 @@ replay_is_true laws text m packets report is declared arrivals few replay =
     let counts : CountsAgree packets run =
     record { total = refl; admitted = serial.admitted; decided = refl; released = refl } in
     let form : InForm m.objects run =
-    laws.in_form f split writeback packets plain_manner events one arrivals (low_count (length packets) few) count in
-    (
+    laws.in_form f split writeback packets plain_manner events one arrivals (low_count (length packets) few) count in (
       run,
       subst (λ (t : List ℕ). IsReport m.objects t run) (sym replay.report) (laws.read m.objects run declared form),
       laws.true_report m packets run counts serial,

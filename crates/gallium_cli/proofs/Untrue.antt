@@ -1,7 +1,7 @@
 -- Why the report that a file holds isn't taken: for one cause, and not where it is.
-use Rattle.std.proofs.Common.{◌≡◌, ◌≢◌, ◌<◌, ◌≤◌, ◌⊎◌, ℕ, suc, List, length, Option, Some, None, IfSome, IsSomeAnd}
+use Rattle.std.proofs.Common.{◌≡◌, ◌≢◌, ◌≤◌, ◌⊎◌, ℕ, suc, List, length, Option, Some, None, IfSome, IsSomeAnd}
 use Rattle.std.proofs.Common.{refl, sym, ap, subst, ◌∙◌, inl, inr, arith}
-use Rattle.std.specs.Prelude.{Ok, IsTrue}
+use Rattle.std.specs.Prelude.{Ok}
 use Rattle.packet_fields.specs.declared.packet.Packet.{Packet}
 use Rattle.state_store.specs.declared.object.ObjectDecl.{ObjectDecl}
 use Rattle.element_lang.specs.Tree.{Tree}
@@ -21,10 +21,10 @@ use Rattle.gallium_cli.specs.declared.refusal.Refusal.{Refusal}
 use Rattle.gallium_cli.specs.declared.refusal.Refusal.TheVariants.{Report, Audit}
 use Rattle.gallium_cli.specs.declared.refusal.Untruth.{Untruth}
 use Rattle.gallium_cli.specs.Lines.{status_of}
-use Rattle.gallium_cli.specs.Roles.{Role, source, trace, true_report, size_of, IsBad, IsSpelled}
+use Rattle.gallium_cli.specs.Roles.{source, trace, true_report, size_of}
 use Rattle.gallium_cli.specs.Answers.{IsOnlySource, IsInput, IsAuditInput}
 use Rattle.gallium_cli.specs.Loads.{IsUnread}
-use Rattle.gallium_cli.specs.Reports.{IsBadReport, IsOnlyUntrue, IsUntrue, TellsRun, untruth_of}
+use Rattle.gallium_cli.specs.Reports.{IsBadReport, IsUntrue, untruth_of}
 use Rattle.gallium_cli.specs.Promises.{IsStatusOf, IsRefusedAs, IsToldInput}
 
 -- ## What a reader answers

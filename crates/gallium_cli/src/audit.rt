@@ -61,11 +61,7 @@ fn read(alloc: Global, m: &Middlebox, text: &[u8]) -> Result<Run, Refusal<'stati
 }
 
 // What is told of a report that isn't true.
-fn untruth(
-    alloc: Global,
-    objects: &[ObjectDecl],
-    error: AuditError,
-) -> Result<Untruth, NoMemory>
+fn untruth(alloc: Global, objects: &[ObjectDecl], error: AuditError) -> Result<Untruth, NoMemory>
     ensures { IfOk result (λ told. told ≡ untruth_of objects.now error) }
 {
     let blamed = match error {

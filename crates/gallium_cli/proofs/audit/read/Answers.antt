@@ -1,4 +1,3 @@
-use Rattle.std.proofs.Common.{◌⊎◌, inl, inr}
 use Rattle.element_lang.specs.View.{tree}
 use Rattle.gallium_cli.proofs.Untrue.{line_answered}
 use Rattle.gallium_cli.proofs.audit.read.Goals as goal
