@@ -9,19 +9,22 @@ use Rattle.element_text.specs.declared.error.TextError.{TextError}
 use Rattle.pcap_trace.specs.declared.refusal.PcapError.{PcapError}
 use Rattle.resource_limits.specs.declared.limits.Limits.{Limits as Allowed}
 use Rattle.resource_limits.specs.declared.limits.LimitsError.{LimitsError}
+use Rattle.packet_fields.specs.declared.packet.Packet.{Packet}
+use Rattle.element_lang.specs.Tree.{Tree}
 use Rattle.flat_ir.specs.Program.{Program}
 use Rattle.flatten.specs.Flatten.{flat_of}
 use Rattle.run_text.specs.declared.refusal.LinesError.{LinesError}
 use Rattle.gallium_cli.specs.declared.status.Status.{Status}
 use Rattle.gallium_cli.specs.declared.refusal.Refusal.{Refusal}
 use Rattle.gallium_cli.specs.declared.refusal.Refusal.TheVariants.{Source, LongProgram, Limits, Exceeded, Split, Trace, Schedule}
-use Rattle.gallium_cli.specs.declared.refusal.Refusal.TheVariants.{TooLong, ReadFault, NoMemory, Pcap}
+use Rattle.gallium_cli.specs.declared.refusal.Refusal.TheVariants.{TooLong, ReadFault, NoMemory, Pcap, Report, Audit}
 use Rattle.gallium_cli.specs.Call.{Call}
 use Rattle.gallium_cli.specs.Lines.{status_of, line_of}
 use Rattle.gallium_cli.specs.Words.{Request}
-use Rattle.gallium_cli.specs.Roles.{Role, source, program, limits, legal_split, trace, schedule, capture, size_of, IsBad}
-use Rattle.gallium_cli.specs.Roles.{Gate, File, Choice, SplitFile, gates_of}
+use Rattle.gallium_cli.specs.Roles.{Role, source, program, limits, legal_split, true_report, trace, schedule, capture}
+use Rattle.gallium_cli.specs.Roles.{size_of, IsBad, Gate, File, Choice, SplitFile, ReportFile, gates_of}
 use Rattle.gallium_cli.specs.Splits.{IsBadSplit}
+use Rattle.gallium_cli.specs.Reports.{IsBadReport}
 use Rattle.gallium_cli.specs.Loads.{IsBadSource, IsLongProgram, AreBadLimits, IsBadTrace, IsBadSchedule, IsFileRefused}
 use Rattle.gallium_cli.specs.Loads.{IsBadCapture}
 use Rattle.gallium_cli.specs.Causes.{IsPassed, IsRefusedAt, IsFirstRefused, IsTold, EndsFor}
@@ -29,6 +32,7 @@ use Rattle.gallium_cli.specs.Promises.{IsEarlyFault, IsStatusOf, IsRefusedAs, Is
 use Rattle.gallium_cli.specs.Promises.{IsFirstCause, IsCauseTold}
 use Rattle.gallium_cli.proofs.Choices.{same_role, same_excess}
 use Rattle.gallium_cli.proofs.Unkept.{Laws, bad_split, cause_split, one_cause}
+use Rattle.gallium_cli.proofs.Untrue.{cause_report, same_report}
 use Rattle.gallium_cli.proofs.Walks.{walks, at_gates}
 use Rattle.gallium_cli.proofs.Exact.{no_limits, no_trace, no_schedule, open_refused, shut_unpassed, passed_unshut}
 use Rattle.gallium_cli.proofs.Exact.{answer_passed, failed_passed, unwritten_fault}
@@ -65,6 +69,8 @@ cause_is_bad laws (Exceeded excess) (legal_split f allowed) text why = bad_split
 cause_is_bad laws (Trace fault) trace text why = no_trace fault text why
 cause_is_bad laws (Schedule fault) schedule text why = no_schedule fault text why
 cause_is_bad laws (Pcap fault) capture text why = why.1
+cause_is_bad laws (Report number) (true_report m packets) text why = why.0
+cause_is_bad laws (Audit untruth) (true_report m packets) text why = why.0
 cause_is_bad laws _ role text why = absurd why
 
 not_long : Laws → (cause : Refusal) (role : Role) (told : Option (List ℕ)) → IsSomeAnd told (IsCause cause role)
@@ -120,6 +126,12 @@ same_in_capture : (cause : Refusal) (found : PcapError) (text : List ℕ) → Is
 same_in_capture (Pcap fault) found text why bad = ap Pcap (bad.1.only fault why.0 why.2)
 same_in_capture _ found text why bad = absurd why
 
+same_in_report : (cause found : Refusal) (m : Tree) (packets : List Packet) (text : List ℕ)
+    → IsCause cause (true_report m packets) text → IsBadReport found m packets text → cause ≡ found
+same_in_report (Report number) found m packets text why bad = bad.1.only (Report number) why.1
+same_in_report (Audit untruth) found m packets text why bad = bad.1.only (Audit untruth) why.1
+same_in_report _ found m packets text why bad = absurd why
+
 same_told : (P : List ℕ → Type 0) (cause found : Refusal) (role : Role)
     → ((text : List ℕ) → IsCause cause role text → P text → cause ≡ found) → (told : Option (List ℕ))
     → IsSomeAnd told (IsCause cause role) → IfSome told P → cause ≡ found
@@ -163,6 +175,18 @@ cause_file (Schedule found) schedule name cause result f f' e e' laws why refuse
 cause_file (Pcap found) capture name cause result f f' e e' laws why refused told =
     let same = same_told (IsBadCapture found) cause (Pcap found) capture (same_in_capture cause found) (f.told name) why refused.1 in
     line_of_cause (Pcap found) cause result e e' same told
+cause_file (Report found) (true_report m packets) name cause result f f' e e' laws why refused told =
+    let role = true_report m packets in
+    let same =
+    same_told (IsBadReport (Report found) m packets) cause (Report found) role
+    (same_in_report cause (Report found) m packets) (f.told name) why refused in
+    line_of_cause (Report found) cause result e e' same told
+cause_file (Audit found) (true_report m packets) name cause result f f' e e' laws why refused told =
+    let role = true_report m packets in
+    let same =
+    same_told (IsBadReport (Audit found) m packets) cause (Audit found) role
+    (same_in_report cause (Audit found) m packets) (f.told name) why refused in
+    line_of_cause (Audit found) cause result e e' same told
 cause_file (TooLong blamed) role name cause result f f' e e' laws why refused told =
     absurd (not_long laws cause role (f.told name) why refused.1)
 cause_file (ReadFault blamed) role name cause result f f' e e' laws why refused told =
@@ -182,6 +206,8 @@ cause_status laws (Exceeded excess) (legal_split f allowed) text why = cause_spl
 cause_status laws (Trace fault) trace text why = refl
 cause_status laws (Schedule fault) schedule text why = refl
 cause_status laws (Pcap fault) capture text why = refl
+cause_status laws (Report number) (true_report m packets) text why = cause_report (Report number) m packets text why.1
+cause_status laws (Audit untruth) (true_report m packets) text why = cause_report (Audit untruth) m packets text why.1
 cause_status laws _ role text why = absurd why
 
 refused_as : Laws → (cause : Refusal) (role : Role) (told : Option (List ℕ)) → IsSomeAnd told (IsCause cause role)
@@ -200,6 +226,8 @@ shut_with laws told (Choice s l shrink) cause (m, allowed, over, asked, refused,
     (ap status_of is, (m, allowed, over, asked, refused))
 shut_with laws told (SplitFile s l p) cause (m, allowed, asked, why) =
     (m, allowed, asked, refused_as laws cause (legal_split (flat_of m) allowed) (told p) why)
+shut_with laws told (ReportFile s t r) cause (m, packets, asked, why) =
+    (m, packets, asked, refused_as laws cause (true_report m packets) (told r) why)
 
 -- what is refused at such a gate is refused for this cause, or there is a fault
 shut_line : (refusal : Refusal) (gate : Gate) (cause : Refusal) (result : Status) (f f' : FilesState) (e e' : SinkState)
@@ -211,6 +239,10 @@ shut_line refusal (SplitFile s l p) cause result f f' e e' laws (m, allowed, ask
     let same = same_role f.told s l m m' allowed allowed' asked found in
     cause_file refusal (legal_split (flat_of m') allowed') p cause result f f' e e' laws
     (subst (λ (role : Role). IsSomeAnd (f.told p) (IsCause cause role)) same why) refused told
+shut_line refusal (ReportFile s t r) cause result f f' e e' laws (m, packets, asked, why) (m', packets', found, refused) told =
+    let same = same_report f.told s t m m' packets packets' asked found in
+    cause_file refusal (true_report m' packets') r cause result f f' e e' laws
+    (subst (λ (role : Role). IsSomeAnd (f.told r) (IsCause cause role)) same why) refused told
 shut_line refusal (Choice s l shrink) cause result f f' e e' laws (m, allowed, over, asked, exceeded, is) refused told =
     elim (same_excess refusal f.told s l shrink m allowed over laws.greatest asked exceeded refused) [
       | inl same ↦ line_of_cause refusal cause result e e' (is ∙ same) told

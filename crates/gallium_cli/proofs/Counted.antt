@@ -16,7 +16,7 @@ use Rattle.gallium_cli.specs.declared.refusal.Refusal.{Refusal}
 use Rattle.gallium_cli.specs.declared.refusal.Refusal.TheVariants.{Usage, TooLong, ReadFault, WriteFault, SwitchFault, NoMemory}
 use Rattle.gallium_cli.specs.Call.{work_of}
 use Rattle.gallium_cli.specs.Lines.{status_of}
-use Rattle.gallium_cli.specs.Roles.{Role, Gate, File, Choice, SplitFile}
+use Rattle.gallium_cli.specs.Roles.{Role, Gate, File, Choice, SplitFile, ReportFile}
 use Rattle.gallium_cli.specs.Loads.{GoesOn, IsUnread, is_read_fault, is_too_long}
 use Rattle.gallium_cli.specs.Puts.{IsPut, IsNotPut}
 use Rattle.gallium_cli.specs.Causes.{IsFirstRefused, IsUnchosen, CountsFaults, is_write_fault, is_switch_fault}
@@ -129,6 +129,7 @@ no_write_fault [] f f' h = h
 no_write_fault (File name role ∷ gates) f f' (inl h) = h
 no_write_fault (Choice s l shrink ∷ gates) f f' (inl (m, allowed, found, never)) = never
 no_write_fault (SplitFile s l p ∷ gates) f f' (inl (m, allowed, found, never)) = never
+no_write_fault (ReportFile s t r ∷ gates) f f' (inl (m, packets, found, never)) = never
 no_write_fault (gate ∷ gates) f f' (inr later) = no_write_fault gates f f' later.1
 
 pub no_switch_fault : (gates : List Gate) (f f' : FilesState) → IsFirstRefused SwitchFault gates f f' → ⊥
@@ -136,6 +137,7 @@ no_switch_fault [] f f' h = h
 no_switch_fault (File name role ∷ gates) f f' (inl h) = h
 no_switch_fault (Choice s l shrink ∷ gates) f f' (inl (m, allowed, found, never)) = never
 no_switch_fault (SplitFile s l p ∷ gates) f f' (inl (m, allowed, found, never)) = never
+no_switch_fault (ReportFile s t r ∷ gates) f f' (inl (m, packets, found, never)) = never
 no_switch_fault (gate ∷ gates) f f' (inr later) = no_switch_fault gates f f' later.1
 
 gates_no_write : (refusal : Refusal) (gates : List Gate) (f f' : FilesState) → IsFirstRefused refusal gates f f'

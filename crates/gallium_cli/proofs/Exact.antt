@@ -6,7 +6,7 @@ use Rattle.gal_io.specs.Sink.{SinkState}
 use Rattle.gal_io.specs.declared.sink.SinkEnd.{SinkEnd}
 use Rattle.gal_io.specs.declared.sink.SinkEnd.TheVariants as ends
 use Rattle.packet_fields.specs.declared.packet.Packet.{Packet}
-use Rattle.run_text.specs.declared.plan.Plan.{Plan}
+use Rattle.element_lang.specs.Tree.{Tree}
 use Rattle.run_text.specs.declared.refusal.LinesError.{LinesError}
 use Rattle.element_text.specs.declared.error.TextError.{TextError}
 use Rattle.pcap_trace.specs.declared.refusal.PcapError.{PcapError}
@@ -20,13 +20,17 @@ use Rattle.gallium_cli.specs.declared.status.Status.TheVariants as statuses
 use Rattle.gallium_cli.specs.declared.refusal.Refusal.{Refusal}
 use Rattle.gallium_cli.specs.declared.refusal.Refusal.TheVariants.{Source, LongProgram, Limits, Exceeded, Split, Trace, Schedule}
 use Rattle.gallium_cli.specs.declared.refusal.Refusal.TheVariants.{TooLong, ReadFault, WriteFault, SwitchFault, NoMemory, Pcap}
+use Rattle.gallium_cli.specs.declared.refusal.Refusal.TheVariants.{Report, Audit}
 use Rattle.gallium_cli.specs.Call.{Call, Work}
 use Rattle.gallium_cli.specs.Lines.{status_of}
-use Rattle.gallium_cli.specs.Words.{Request, Run, Compile, Replay, Check, Gen, PcapIn, PcapOut, Within, Spelled}
-use Rattle.gallium_cli.specs.Roles.{Role, source, program, limits, legal_split, trace, schedule, capture, size_of, IsGood}
-use Rattle.gallium_cli.specs.Roles.{IsBad, Gate, File, Choice, SplitFile, gates_of, split_gates, event_gates}
+use Rattle.gallium_cli.specs.Words.{Request, Run, Compile, Replay, Check, Audit as Audited, Gen, PcapIn, PcapOut}
+use Rattle.gallium_cli.specs.Words.{Within, Spelled}
+use Rattle.gallium_cli.specs.Roles.{Role, source, program, limits, legal_split, true_report, trace, schedule, capture}
+use Rattle.gallium_cli.specs.Roles.{size_of, IsGood, IsBad, Gate, File, Choice, SplitFile, ReportFile, gates_of}
+use Rattle.gallium_cli.specs.Roles.{split_gates, event_gates}
 use Rattle.gallium_cli.specs.Splits.{IsBadSplit}
-use Rattle.gallium_cli.specs.Answers.{IsTraffic, IsAnswer}
+use Rattle.gallium_cli.specs.Reports.{IsBadReport}
+use Rattle.gallium_cli.specs.Answers.{IsAnswer}
 use Rattle.gallium_cli.specs.Loads.{IsFileRefused, IsBadSource, IsLongProgram, AreBadLimits, IsBadTrace, IsBadSchedule}
 use Rattle.gallium_cli.specs.Loads.{IsBadCapture}
 use Rattle.gallium_cli.specs.Causes.{IsRefusedAt, IsPassed, AllPassed, IsFirstRefused, IsSwitchFaulty, IsNotWritten, after_line}
@@ -35,9 +39,10 @@ use Rattle.gallium_cli.specs.Promises.{IsWriteFault, IsEarlyFault, IsFault, IsUn
 use Rattle.gallium_cli.specs.Promises.{IsRefusedAs, IsOpen, AllOpen, IsShut, IsFirstShut, IsExact, IsComplete}
 use Rattle.gallium_cli.proofs.Choices.{same_role, refused_unchosen, open_over, over_status}
 use Rattle.gallium_cli.proofs.Unkept.{Laws, bad_split, exact_split}
+use Rattle.gallium_cli.proofs.Untrue.{exact_report, same_report}
 use Rattle.gallium_cli.proofs.Walks.{walks}
 use Rattle.gallium_cli.proofs.Files.{passed_source, passed_trace, passed_capture, split_passed, traffic_passed}
-use Rattle.gallium_cli.proofs.Files.{passed_both}
+use Rattle.gallium_cli.proofs.Files.{passed_both, audit_passed}
 
 -- ## One file
 
@@ -101,6 +106,11 @@ bad_capture : (fault : PcapError) (told : Option (List ℕ)) → IfSome told (Is
     → IfSome told (IsBad capture)
 bad_capture fault told = if_told (IsBadCapture fault) (IsBad capture) (λ bytes bad. bad.0) told
 
+bad_reports : (refusal : Refusal) (m : Tree) (packets : List Packet) (told : Option (List ℕ))
+    → IfSome told (IsBadReport refusal m packets) → IfSome told (IsBad (true_report m packets))
+bad_reports refusal m packets told =
+    if_told (IsBadReport refusal m packets) (IsBad (true_report m packets)) (λ text bad. bad.0) told
+
 bad_splits : Laws → (refusal : Refusal) (g : Program) (allowed : Allowed) (told : Option (List ℕ))
     → IfSome told (IsBadSplit refusal g allowed) → IfSome told (IsBad (legal_split g allowed))
 bad_splits laws refusal g allowed told =
@@ -128,6 +138,10 @@ good_refused (Schedule fault) schedule name f f' laws good refused =
     good_not_bad schedule (f.told name) good (bad_schedule fault (f.told name) refused.1)
 good_refused (Pcap fault) capture name f f' laws good refused =
     good_not_bad capture (f.told name) good (bad_capture fault (f.told name) refused.1)
+good_refused (Report number) (true_report m packets) name f f' laws good refused =
+    good_not_bad (true_report m packets) (f.told name) good (bad_reports (Report number) m packets (f.told name) refused)
+good_refused (Audit untruth) (true_report m packets) name f f' laws good refused =
+    good_not_bad (true_report m packets) (f.told name) good (bad_reports (Audit untruth) m packets (f.told name) refused)
 good_refused (TooLong blamed) role name f f' laws good refused = good_not_long role (f.told name) good refused.1
 good_refused (ReadFault blamed) role name f f' laws good refused = tt
 good_refused NoMemory role name f f' laws good refused = tt
@@ -168,6 +182,10 @@ exact_file (Schedule fault) schedule name status f f' laws bad refused =
     inl (sym (bad_only schedule status (f.told name) bad (bad_schedule fault (f.told name) refused.1)).1)
 exact_file (Pcap fault) capture name status f f' laws bad refused =
     inl (sym (bad_only capture status (f.told name) bad (bad_capture fault (f.told name) refused.1)).1)
+exact_file (Report number) (true_report m packets) name status f f' laws bad refused =
+    inl (exact_report (Report number) m packets status (f.told name) bad refused)
+exact_file (Audit untruth) (true_report m packets) name status f f' laws bad refused =
+    inl (exact_report (Audit untruth) m packets status (f.told name) bad refused)
 exact_file (TooLong blamed) role name status f f' laws bad refused =
     inl (sym (long_only role status (f.told name) bad refused.1))
 exact_file (ReadFault blamed) role name status f f' laws bad refused = inr tt
@@ -186,6 +204,10 @@ open_refused refusal (SplitFile s l p) f f' laws (m, allowed, asked, good) (m', 
     let same = same_role f.told s l m m' allowed allowed' asked found in
     good_refused refusal (legal_split (flat_of m') allowed') p f f' laws
     (subst (λ (role : Role). IsSomeAnd (f.told p) (IsGood role)) same good) refused
+open_refused refusal (ReportFile s t r) f f' laws (m, packets, asked, good) (m', packets', found, refused) =
+    let same = same_report f.told s t m m' packets packets' asked found in
+    good_refused refusal (true_report m' packets') r f f' laws
+    (subst (λ (role : Role). IsSomeAnd (f.told r) (IsGood role)) same good) refused
 
 -- a gate that is shut isn't passed
 pub shut_unpassed : (gate : Gate) (status : Status) (f : FilesState) → Laws
@@ -197,6 +219,10 @@ shut_unpassed (SplitFile s l p) status f laws (m, allowed, asked, shut) (m', all
     let same = same_role f.told s l m m' allowed allowed' asked found in
     good_not_refused (legal_split (flat_of m') allowed') status (f.told p) passed
     (subst (λ (role : Role). IsSomeAnd (f.told p) (IsRefusedAs role status)) same shut)
+shut_unpassed (ReportFile s t r) status f laws (m, packets, asked, shut) (m', packets', found, passed) =
+    let same = same_report f.told s t m m' packets packets' asked found in
+    good_not_refused (true_report m' packets') status (f.told r) passed
+    (subst (λ (role : Role). IsSomeAnd (f.told r) (IsRefusedAs role status)) same shut)
 
 -- the status of a refusal at a shut gate is the one with which it is shut, or a fault
 shut_refused : (refusal : Refusal) (gate : Gate) (status : Status) (f f' : FilesState)
@@ -207,6 +233,10 @@ shut_refused refusal (SplitFile s l p) status f f' laws (m, allowed, asked, shut
     let same = same_role f.told s l m m' allowed allowed' asked found in
     exact_file refusal (legal_split (flat_of m') allowed') p status f f' laws
     (subst (λ (role : Role). IsSomeAnd (f.told p) (IsRefusedAs role status)) same shut) refused
+shut_refused refusal (ReportFile s t r) status f f' laws (m, packets, asked, shut) (m', packets', found, refused) =
+    let same = same_report f.told s t m m' packets packets' asked found in
+    exact_file refusal (true_report m' packets') r status f f' laws
+    (subst (λ (role : Role). IsSomeAnd (f.told r) (IsRefusedAs role status)) same shut) refused
 shut_refused refusal (Choice s l shrink) status f f' laws (is, why) refused =
     let found = over_status refusal f.told s l shrink refused in
     subst (λ (wanted : Status). IsUnlessEarlyFault wanted (status_of refusal)) (sym is) found
@@ -252,6 +282,8 @@ answer_passed text (Replay s t c by) f p p' (m, split, writeback, packets, plan,
     (traffic_passed f t c packets plan traffic)
 answer_passed text (Check s l split) f p p' (m, parts, writeback, found, printed) =
     split_passed (Spelled l split) s f m parts writeback found
+answer_passed text (Audited s t r) f p p' (m, packets, run, found, told, printed) =
+    audit_passed s t r f m packets run found told
 answer_passed text (Gen seed count) f p p' answer = tt
 answer_passed text (PcapIn c port) f p p' (found, told, printed) = (passed_capture c f found told, tt)
 answer_passed text (PcapOut t big nano) f p p' (packets, told, printed) = (passed_trace t f packets told, tt)

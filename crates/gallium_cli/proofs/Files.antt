@@ -1,29 +1,33 @@
 -- What the reading of one file shows, and what is passed and refused one after the other.
 use Rattle.std.proofs.Common.{◌≡◌, ◌≤◌, ◌<◌, ◌^◌, ℕ, Bool, List, [], ◌∷◌, ◌++◌, length, Option, Some, None, IfSome}
-use Rattle.std.proofs.Common.{subst, ap, ◌∙◌, inl, inr, arith, Ok}
+use Rattle.std.proofs.Common.{subst, ap, sym, ◌∙◌, inl, inr, arith, Ok, Result, IfErr}
+use Rattle.std.proofs.lemmas.Result.{IfErr-weaker}
 use Rattle.gal_io.specs.Count.{one_more}
-use Rattle.gal_io.specs.Files.{FilesState}
+use Rattle.gal_io.specs.Files.{FilesState, Gives}
+use Rattle.gal_io.specs.declared.files.ReadEnd.TheVariants as ends
 use Rattle.packet_fields.specs.declared.packet.Packet.{Packet}
 use Rattle.element_lang.specs.Tree.{Tree}
-use Rattle.element_lang.specs.Accepted.{IsSource}
 use Rattle.flat_ir.specs.Program.{Program}
 use Rattle.flatten.specs.Flatten.{flat_of}
 use Rattle.split_model.specs.declared.split.Part.{Part}
 use Rattle.split_model.specs.Bounds.{IsBounded}
 use Rattle.split_validate.specs.SplitLines.{IsSplitText}
 use Rattle.resource_limits.specs.declared.limits.Limits.{Limits as Allowed}
+use Rattle.run_model.specs.declared.run.Run.{Run as RunTold}
+use Rattle.report_text.specs.Lines.{IsReport}
 use Rattle.run_text.specs.declared.plan.Plan.{Plan}
 use Rattle.run_text.specs.Trace.{trace_of, schedule_of}
 use Rattle.pcap_trace.specs.declared.pcap.Pcap.{Pcap as Captured}
 use Rattle.gallium_cli.specs.declared.status.Status.TheVariants as statuses
 use Rattle.gallium_cli.specs.declared.refusal.Refusal.{Refusal}
 use Rattle.gallium_cli.specs.declared.refusal.Refusal.TheVariants.{Source, LongProgram, Limits, Exceeded, Split, Trace, Schedule}
-use Rattle.gallium_cli.specs.declared.refusal.Refusal.TheVariants.{TooLong, ReadFault, NoMemory, Pcap}
-use Rattle.gallium_cli.specs.Words.{Splitting, Served, Within, Spelled, Run}
-use Rattle.gallium_cli.specs.Roles.{Role, source, program, limits, legal_split, trace, schedule, capture, size_of}
-use Rattle.gallium_cli.specs.Roles.{IsShort, IsGood, AreLimits, Gate, File, Choice, SplitFile, gates_of, plan_files}
-use Rattle.gallium_cli.specs.Roles.{plan_gates, given_gates, split_gates, event_gates, IsCaptured}
+use Rattle.gallium_cli.specs.declared.refusal.Refusal.TheVariants.{TooLong, ReadFault, NoMemory, Pcap, Report, Audit}
+use Rattle.gallium_cli.specs.Words.{Splitting, Served, Within, Spelled, Run, Audit as Audited}
+use Rattle.gallium_cli.specs.Roles.{Role, source, program, limits, legal_split, true_report, trace, schedule, capture}
+use Rattle.gallium_cli.specs.Roles.{IsShort, IsGood, AreLimits, Gate, File, Choice, SplitFile, ReportFile, gates_of}
+use Rattle.gallium_cli.specs.Roles.{plan_files, plan_gates, given_gates, split_gates, event_gates, size_of, IsCaptured}
 use Rattle.gallium_cli.specs.Answers.{IsInput, IsOnlySource, IsProgram, IsPlan, IsGivenSplit, IsSplitBy, IsTraffic}
+use Rattle.gallium_cli.specs.Answers.{IsAuditInput, IsTrueFile}
 use Rattle.gallium_cli.specs.Loads.{GoesOn, IsUnread, IsFileRefused, IsLoaded}
 use Rattle.gallium_cli.specs.Causes.{IsRefusedAt, IsPassed, AllPassed, IsFirstRefused, IsUnchosen}
 
@@ -35,6 +39,7 @@ small_size source = omega arith
 small_size program = omega arith
 small_size limits = omega arith
 small_size (legal_split f allowed) = omega arith
+small_size (true_report m packets) = omega arith
 small_size trace = omega arith
 small_size schedule = omega arith
 small_size capture = omega arith
@@ -66,8 +71,23 @@ unread_refused (Schedule fault) schedule bytes name f f' loaded unread =
     (unread.0, told_text _ bytes (f.told name) loaded.1 (loaded.0, unread.1))
 unread_refused (Pcap fault) capture bytes name f f' loaded unread =
     (unread.0, told_text _ bytes (f.told name) loaded.1 ((loaded.0, unread.1), unread.2))
+unread_refused (Report number) (true_report m packets) bytes name f f' loaded unread =
+    told_text _ bytes (f.told name) loaded.1 ((loaded.0, unread.0), unread.1)
+unread_refused (Audit untruth) (true_report m packets) bytes name f f' loaded unread =
+    told_text _ bytes (f.told name) loaded.1 ((loaded.0, unread.0), unread.1)
 unread_refused NoMemory role bytes name f f' loaded unread = tt
 unread_refused _ role bytes name f f' loaded unread = absurd unread
+
+-- so is one of which a reader refuses the bytes that were read
+pub read_refused : {A : Type 0} (result : Result A Refusal) (role : Role) (bytes into name : List ℕ) (max : ℕ)
+    (f f' : FilesState) → bytes ≡ into → max ≡ size_of role → Gives ends.Done (f.told name) max into
+    → IfErr result (λ refusal. IsUnread refusal role bytes)
+    → IfErr result (λ refusal. IsFileRefused refusal role name f f')
+read_refused result role bytes into name max f f' same size gives unread =
+    let loaded : IsLoaded bytes name (size_of role) f =
+    subst (λ (n : ℕ). IsLoaded bytes name n f) size (subst (λ (b : List ℕ). IsLoaded b name max f) (sym same) gives) in
+    IfErr-weaker result (λ refusal. IsUnread refusal role bytes) (λ refusal. IsFileRefused refusal role name f f')
+    (λ refusal here. unread_refused refusal role bytes name f f' loaded here) unread
 
 -- ## What is passed
 
@@ -77,10 +97,10 @@ if_spelled P Q None follows h = tt
 if_spelled P Q (Some text) follows h = follows text h
 
 pub passed_source : (s : List ℕ) (f : FilesState) (m : Tree)
-    → IfSome (f.told s) (λ text. (length text ≤ size_of source) × IsSource text m) → IsPassed (File s source) f
+    → IfSome (f.told s) (λ text. (length text ≤ size_of source) × IsOnlySource text m) → IsPassed (File s source) f
 passed_source s f m spelled =
-    if_spelled (λ text. (length text ≤ size_of source) × IsSource text m) (IsGood source) (f.told s)
-    (λ text h. (h.0, (m, h.1))) spelled
+    if_spelled (λ text. (length text ≤ size_of source) × IsOnlySource text m) (IsGood source) (f.told s)
+    (λ text h. (h.0, (m, h.1.source))) spelled
 
 pub passed_program : (s : List ℕ) (f : FilesState) (m : Tree)
     → IfSome (f.told s) (λ text. (length text ≤ size_of program) × IsOnlySource text m) → IsShort m
@@ -134,6 +154,8 @@ refused_later (Exceeded excess) (legal_split k allowed) name f g h goes refused 
 refused_later (Trace fault) trace name f g h goes refused = (refused.0, told_before _ f g name goes refused.1)
 refused_later (Schedule fault) schedule name f g h goes refused = (refused.0, told_before _ f g name goes refused.1)
 refused_later (Pcap fault) capture name f g h goes refused = (refused.0, told_before _ f g name goes refused.1)
+refused_later (Report number) (true_report m packets) name f g h goes refused = told_before _ f g name goes refused
+refused_later (Audit untruth) (true_report m packets) name f g h goes refused = told_before _ f g name goes refused
 refused_later (TooLong blamed) role name f g h goes refused =
     (refused.0, told_before _ f g name goes refused.1, refused.2, refused.3 ∙ ap one_more goes.overlong)
 refused_later (ReadFault blamed) role name f g h goes refused =
@@ -149,6 +171,20 @@ plan_before : (s l : List ℕ) (f g : FilesState) (m : Tree) (allowed : Allowed)
 plan_before s l f g m allowed goes is =
     record { program = program_before s f g m goes is.program; limits = told_before _ f g l goes is.limits }
 
+input_before : (s t : List ℕ) (f g : FilesState) (m : Tree) (packets : List Packet) → GoesOn statuses.Done f g
+    → IsInput g.told s t m packets → IsInput f.told s t m packets
+input_before s t f g m packets goes is =
+    record { source = told_before _ f g s goes is.source; trace = told_before _ f g t goes is.trace }
+
+audit_before : (s t : List ℕ) (f g : FilesState) (m : Tree) (packets : List Packet) → GoesOn statuses.Done f g
+    → IsAuditInput g.told s t m packets → IsAuditInput f.told s t m packets
+audit_before s t f g m packets goes is = record {
+  input = input_before s t f g m packets goes is.input;
+  declared = is.declared;
+  arrivals = is.arrivals;
+  few = is.few;
+}
+
 -- so is a gate that is passed, or that isn't
 gate_before : (gate : Gate) (f g : FilesState) → GoesOn statuses.Done f g → IsPassed gate g → IsPassed gate f
 gate_before (File name role) f g goes passed = told_before (IsGood role) f g name goes passed
@@ -156,6 +192,8 @@ gate_before (Choice s l shrink) f g goes (m, allowed, split, found, chosen) =
     (m, allowed, split, plan_before s l f g m allowed goes found, chosen)
 gate_before (SplitFile s l p) f g goes (m, allowed, found, good) =
     (m, allowed, plan_before s l f g m allowed goes found, told_before _ f g p goes good)
+gate_before (ReportFile s t r) f g goes (m, packets, found, good) =
+    (m, packets, audit_before s t f g m packets goes found, told_before _ f g r goes good)
 
 refused_before : (refusal : Refusal) (gate : Gate) (f g h : FilesState) → GoesOn statuses.Done f g → IsRefusedAt refusal gate g h
     → IsRefusedAt refusal gate f h
@@ -167,6 +205,12 @@ refused_before refusal (SplitFile s l p) f g h goes (m, allowed, found, refused)
   allowed,
   plan_before s l f g m allowed goes found,
   refused_later refusal (legal_split (flat_of m) allowed) p f g h goes refused,
+)
+refused_before refusal (ReportFile s t r) f g h goes (m, packets, found, refused) = (
+  m,
+  packets,
+  audit_before s t f g m packets goes found,
+  refused_later refusal (true_report m packets) r f g h goes refused,
 )
 
 pub first_before : (refusal : Refusal) (gates : List Gate) (f g h : FilesState) → GoesOn statuses.Done f g
@@ -195,7 +239,7 @@ refused_behind refusal (gate ∷ gates) more f f' passed refused =
 
 -- a trace is refused behind a good source
 pub second_refused : (refusal : Refusal) (s t : List ℕ) (f g h : FilesState) (m : Tree)
-    → IfSome (f.told s) (λ text. (length text ≤ size_of source) × IsSource text m) → GoesOn statuses.Done f g
+    → IfSome (f.told s) (λ text. (length text ≤ size_of source) × IsOnlySource text m) → GoesOn statuses.Done f g
     → IsFileRefused refusal trace t g h → IsFirstRefused refusal (gates_of (Run s t)) f h
 second_refused refusal s t f g h m one goes refused =
     inr (passed_source s f m one, inl (refused_later refusal trace t f g h goes refused))
@@ -268,6 +312,44 @@ given_refused refusal s l p f g h m q allowed found same goes refused =
     refused_behind refusal (plan_files s l) (SplitFile s l p ∷ []) f h (plan_files_passed s l f m allowed found)
     (inl (m, allowed, found, there))
 
+-- ## Reports
+
+-- a report that is taken
+passed_report : (r : List ℕ) (f : FilesState) (m : Tree) (packets : List Packet) (run : RunTold)
+    → IsTrueFile f.told r m packets run → IfSome (f.told r) (IsGood (true_report m packets))
+passed_report r f m packets run told =
+    if_spelled (λ text. (length text ≤ size_of (true_report m packets)) × IsReport m.objects text run)
+    (IsGood (true_report m packets)) (f.told r) (λ text h. (h.0, (run, h.1, told.serial))) told.report
+
+-- what an audit goes through
+pub audit_passed : (s t r : List ℕ) (f : FilesState) (m : Tree) (packets : List Packet) (run : RunTold)
+    → IsAuditInput f.told s t m packets → IsTrueFile f.told r m packets run
+    → AllPassed (gates_of (Audited s t r)) f
+audit_passed s t r f m packets run found told = (
+  passed_source s f m found.input.source,
+  (
+    passed_trace t f packets found.input.trace,
+    ((m, packets, found, passed_report r f m packets run told), tt),
+  ),
+)
+
+-- the report that a file holds isn't taken, behind the source and the trace of two files that are passed
+pub report_refused : (refusal : Refusal) (s t r : List ℕ) (f g h : FilesState) (m : Tree) (packets : List Packet)
+    → IsAuditInput f.told s t m packets → GoesOn statuses.Done f g
+    → IsFileRefused refusal (true_report m packets) r g h → IsFirstRefused refusal (gates_of (Audited s t r)) f h
+report_refused refusal s t r f g h m packets found goes refused =
+    let there = refused_later refusal (true_report m packets) r f g h goes refused in
+    inr (
+      passed_source s f m found.input.source,
+      inr (passed_trace t f packets found.input.trace, inl (m, packets, found, there)),
+    )
+
+-- the told report, as it was before other reads
+pub report_before : (r : List ℕ) (f g : FilesState) (m : Tree) (packets : List Packet) (run : RunTold)
+    → GoesOn statuses.Done f g → IsTrueFile g.told r m packets run → IsTrueFile f.told r m packets run
+report_before r f g m packets run goes is =
+    record { report = told_before _ f g r goes is.report; serial = is.serial }
+
 -- ## What is told after other reads
 
 -- the told split, as it was before other reads
@@ -288,7 +370,7 @@ plan_told s l f g m allowed goes one bounded two = record {
 
 -- the told trace, and the told schedule
 pub input_told : (s t : List ℕ) (f g : FilesState) (m : Tree) (packets : List Packet) → GoesOn statuses.Done f g
-    → IfSome (f.told s) (λ text. (length text ≤ size_of source) × IsSource text m)
+    → IfSome (f.told s) (λ text. (length text ≤ size_of source) × IsOnlySource text m)
     → IfSome (g.told t) (λ text. (length text ≤ size_of trace) × (trace_of text ≡ Ok packets))
     → IsInput f.told s t m packets
 input_told s t f g m packets goes one two = record { source = one; trace = told_before _ f g t goes two }

@@ -1,4 +1,5 @@
 pub mod Bounds
+pub mod Declared
 pub mod Files
 pub mod Counted
 pub mod Written
@@ -7,6 +8,8 @@ pub mod Runnable
 pub mod Choices
 pub mod Walks
 pub mod Unkept
+pub mod Untrue
+pub mod Replayed
 pub mod Exact
 pub mod CauseTold
 pub mod Promised

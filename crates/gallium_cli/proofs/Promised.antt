@@ -1,33 +1,39 @@
 -- What follows from how a call ends.
 use Rattle.std.proofs.Common.{◌≡◌, ◌⊎◌, ℕ, Bool, true, false, List, [], ◌∷◌, Option, Some, None, sym, subst, ap, ◌∙◌, inl, inr}
 use Rattle.std.proofs.Common.{refl}
-use Rattle.std.specs.Prelude.{is_some}
+use Rattle.std.specs.Prelude.{is_some, IsSomeAnd}
 use Rattle.gal_io.specs.Count.{Rose}
 use Rattle.gal_io.specs.Files.{FilesState}
 use Rattle.gal_io.specs.Sink.{SinkState}
 use Rattle.gal_io.specs.declared.sink.SinkEnd.{SinkEnd}
 use Rattle.gal_io.specs.declared.sink.SinkEnd.TheVariants as ends
+use Rattle.packet_fields.specs.declared.packet.Packet.{Packet}
+use Rattle.element_lang.specs.Tree.{Tree}
 use Rattle.switch_ir.specs.Port.{PortState}
 use Rattle.gallium_cli.specs.declared.status.Status.{Status}
 use Rattle.gallium_cli.specs.declared.status.Status.TheVariants as statuses
 use Rattle.gallium_cli.specs.declared.refusal.Excess.{Excess}
 use Rattle.gallium_cli.specs.declared.refusal.Refusal.{Refusal}
 use Rattle.gallium_cli.specs.declared.refusal.Refusal.TheVariants.{Usage, Exceeded, TooLong, ReadFault, WriteFault, SwitchFault}
-use Rattle.gallium_cli.specs.declared.refusal.Refusal.TheVariants.{NoMemory}
+use Rattle.gallium_cli.specs.declared.refusal.Refusal.TheVariants.{NoMemory, Report, Audit}
 use Rattle.gallium_cli.specs.Call.{Call, Work}
 use Rattle.gallium_cli.specs.Lines.{status_of}
-use Rattle.gallium_cli.specs.Words.{Request, Run, Compile, Replay, Check, Gen, PcapIn, PcapOut, Served, Within, Spelled}
-use Rattle.gallium_cli.specs.Words.{is_replay, request_of}
-use Rattle.gallium_cli.specs.Roles.{Role, legal_split, Gate, File, Choice, SplitFile, gates_of, names_in}
+use Rattle.gallium_cli.specs.Words.{Request, Run, Compile, Replay, Check, Audit as Audited, Gen, PcapIn, PcapOut}
+use Rattle.gallium_cli.specs.Words.{Served, Within, Spelled, is_replay, request_of}
+use Rattle.gallium_cli.specs.Roles.{Role, source, trace, legal_split, true_report, Gate, File, Choice, SplitFile, ReportFile}
+use Rattle.gallium_cli.specs.Roles.{IsSpelled, gates_of, names_in}
 use Rattle.gallium_cli.specs.Loads.{IsFileRefused}
+use Rattle.gallium_cli.specs.Reports.{IsBadReport}
 use Rattle.gallium_cli.specs.Causes.{IsFirstRefused, IsSwitchKept, IsSwitchFaulty, IsNotWritten, IsIdle, IsDone, HasCause}
 use Rattle.gallium_cli.specs.Causes.{CountsFaults, after_line, EndsFor, Ends}
 use Rattle.gallium_cli.specs.Promises.{IsWriteFault, BlamesInput, IsReadOnce, IsUsage, IsOneOf, IsBlamed, IsFailedOnSwitch}
 use Rattle.gallium_cli.specs.Promises.{CountsOne}
-use Rattle.gallium_cli.specs.Promises.{MayExceed, IsReplay, Promises}
+use Rattle.gallium_cli.specs.Promises.{MayExceed, IsReplay, IsReplayReport, Promises}
 use Rattle.gallium_cli.proofs.Written.{at_most}
 use Rattle.gallium_cli.proofs.Counted.{no_switch_fault}
 use Rattle.gallium_cli.proofs.Unkept.{Laws}
+use Rattle.gallium_cli.proofs.Untrue.{same_input}
+use Rattle.gallium_cli.proofs.Replayed.{AreTrueReports, not_both, replay_told}
 use Rattle.gallium_cli.proofs.Exact.{exact_ends, complete_ends}
 use Rattle.gallium_cli.proofs.CauseTold.{cause_told}
 
@@ -131,6 +137,7 @@ no_usage Usage [] f f' is h = h
 no_usage Usage (File name role ∷ gates) f f' is (inl h) = h
 no_usage Usage (Choice s l shrink ∷ gates) f f' is (inl (m, allowed, found, never)) = never
 no_usage Usage (SplitFile s l p ∷ gates) f f' is (inl (m, allowed, found, never)) = never
+no_usage Usage (ReportFile s t r ∷ gates) f f' is (inl (m, packets, found, never)) = never
 no_usage Usage (gate ∷ gates) f f' is (inr later) = no_usage Usage gates f f' is later.1
 no_usage _ gates f f' is h = is
 
@@ -164,6 +171,9 @@ long_rose (TooLong name) (Choice s l shrink ∷ gates) f f' is (inr later) =
 long_rose (TooLong name) (SplitFile s l p ∷ gates) f f' is (inl (m, allowed, found, h)) = (h.3, inl h.2)
 long_rose (TooLong name) (SplitFile s l p ∷ gates) f f' is (inr later) =
     let rest = long_rose (TooLong name) gates f f' is later.1 in (rest.0, inr rest.1)
+long_rose (TooLong name) (ReportFile s t r ∷ gates) f f' is (inl (m, packets, found, h)) = (h.3, inl h.2)
+long_rose (TooLong name) (ReportFile s t r ∷ gates) f f' is (inr later) =
+    let rest = long_rose (TooLong name) gates f f' is later.1 in (rest.0, inr rest.1)
 long_rose _ gates f f' is h = absurd is
 
 too_long_ends : (request : Option Request) (status : Status) (call : Call)
@@ -195,6 +205,9 @@ fault_rose (ReadFault name) (Choice s l shrink ∷ gates) f f' is (inr later) =
     fault_rose (ReadFault name) gates f f' is later.1
 fault_rose (ReadFault name) (SplitFile s l p ∷ gates) f f' is (inl (m, allowed, found, h)) = (h.2, inl h.1)
 fault_rose (ReadFault name) (SplitFile s l p ∷ gates) f f' is (inr later) =
+    let rest = fault_rose (ReadFault name) gates f f' is later.1 in (rest.0, inr rest.1)
+fault_rose (ReadFault name) (ReportFile s t r ∷ gates) f f' is (inl (m, packets, found, h)) = (h.2, inl h.1)
+fault_rose (ReadFault name) (ReportFile s t r ∷ gates) f f' is (inr later) =
     let rest = fault_rose (ReadFault name) gates f f' is later.1 in (rest.0, inr rest.1)
 fault_rose _ gates f f' is h = absurd is
 
@@ -234,6 +247,7 @@ AllMayShrink (File name role ∷ gates) = IsNoSplit role × AllMayShrink gates
 AllMayShrink (Choice s l true ∷ gates) = AllMayShrink gates
 AllMayShrink (Choice s l false ∷ gates) = ⊥
 AllMayShrink (SplitFile s l p ∷ gates) = ⊥
+AllMayShrink (ReportFile s t r ∷ gates) = AllMayShrink gates
 
 shrunk_unexceeded : (refusal : Refusal) (gates : List Gate) (f f' : FilesState) → AllMayShrink gates
     → IsExceededStatus (status_of refusal) → IsFirstRefused refusal gates f f' → ⊥
@@ -248,6 +262,9 @@ shrunk_unexceeded (Exceeded excess) (Choice s l true ∷ gates) f f' may is (inr
     shrunk_unexceeded (Exceeded excess) gates f f' may is later.1
 shrunk_unexceeded (Exceeded excess) (Choice s l false ∷ gates) f f' may is h = may
 shrunk_unexceeded (Exceeded excess) (SplitFile s l p ∷ gates) f f' may is h = may
+shrunk_unexceeded (Exceeded excess) (ReportFile s t r ∷ gates) f f' may is (inl (m, packets, found, never)) = never
+shrunk_unexceeded (Exceeded excess) (ReportFile s t r ∷ gates) f f' may is (inr later) =
+    shrunk_unexceeded (Exceeded excess) gates f f' may is later.1
 shrunk_unexceeded _ gates f f' may is h = is
 
 may_exceed : (refusal : Refusal) (request : Request) (f f' : FilesState) → IsExceededStatus (status_of refusal)
@@ -263,6 +280,8 @@ may_exceed refusal (Replay s t c (Within l true)) f f' is first =
     shrunk_unexceeded refusal (gates_of (Replay s t c (Within l true))) f f' (tt, (tt, (tt, (tt, tt)))) is first
 may_exceed refusal (Replay s t c (Spelled l p)) f f' is first = tt
 may_exceed refusal (Check s l p) f f' is first = tt
+may_exceed refusal (Audited s t r) f f' is first =
+    shrunk_unexceeded refusal (gates_of (Audited s t r)) f f' (tt, (tt, tt)) is first
 may_exceed refusal (Gen seed count) f f' is first = absurd first
 may_exceed refusal (PcapIn c port) f f' is first =
     shrunk_unexceeded refusal (gates_of (PcapIn c port)) f f' (tt, tt) is first
@@ -386,10 +405,64 @@ once_ends (Some request) status call (inl (is, (text, answer, taken, read, aside
 once_ends (Some request) status call (inr (refusal, (why, few, aside), counts, (end, told, written))) =
     (few, λ is. absurd (subst IsNotDone (sym told ∙ is) (told_not_done refusal end)))
 
+-- ## The report of a replay
+
+-- the statuses of a report that isn't taken
+abbrev BlamesReport : Status → Type 0
+BlamesReport statuses.Report = Unit {0}
+BlamesReport statuses.Audit = Unit {0}
+BlamesReport _ = ⊥
+
+report_gates : IsOfGates BlamesReport
+report_gates = record { done = λ h. h; write = λ h. h; switch = λ h. h; memory = λ h. h }
+
+-- a report that is told and tells a serial run isn't refused for what it holds
+told_unrefused : (refusal : Refusal) (m : Tree) (packets : List Packet) (r : List ℕ) (f f' : FilesState)
+    → BlamesReport (status_of refusal) → IsSomeAnd (f.told r) (IsSpelled (true_report m packets))
+    → IsFileRefused refusal (true_report m packets) r f f' → ⊥
+told_unrefused (Report number) m packets r f f' is spelled refused =
+    not_both (f.told r) (IsSpelled (true_report m packets)) (IsBadReport (Report number) m packets)
+    (λ text good bad. bad.0.1 good) spelled refused
+told_unrefused (Audit untruth) m packets r f f' is spelled refused =
+    not_both (f.told r) (IsSpelled (true_report m packets)) (IsBadReport (Audit untruth) m packets)
+    (λ text good bad. bad.0.1 good) spelled refused
+told_unrefused _ m packets r f f' is spelled refused = is
+
+-- no other file of an audit is refused so
+unblamed_source : (refusal : Refusal) (name : List ℕ) (f f' : FilesState) → BlamesReport (status_of refusal)
+    → IsFileRefused refusal source name f f' → ⊥
+unblamed_source (Report number) name f f' is refused = refused
+unblamed_source (Audit untruth) name f f' is refused = refused
+unblamed_source _ name f f' is refused = is
+
+unblamed_trace : (refusal : Refusal) (name : List ℕ) (f f' : FilesState) → BlamesReport (status_of refusal)
+    → IsFileRefused refusal trace name f f' → ⊥
+unblamed_trace (Report number) name f f' is refused = refused
+unblamed_trace (Audit untruth) name f f' is refused = refused
+unblamed_trace _ name f f' is refused = is
+
+replay_unrefused : AreTrueReports → (refusal : Refusal) (s t r : List ℕ) (f f' : FilesState)
+    → BlamesReport (status_of refusal) → IsReplayReport f.told s t r
+    → IsFirstRefused refusal (gates_of (Audited s t r)) f f' → ⊥
+replay_unrefused law refusal s t r f f' is replay (inl refused) = unblamed_source refusal s f f' is refused
+replay_unrefused law refusal s t r f f' is replay (inr (passed, inl refused)) = unblamed_trace refusal t f f' is refused
+replay_unrefused law refusal s t r f f' is replay (inr (passed, inr (also, inl (m, packets, found, refused)))) =
+    let same = same_input f.told s t replay.m m replay.packets packets replay.source replay.trace found.input in
+    told_unrefused refusal m packets r f f' is (replay_told law f.told s t r m packets found replay same) refused
+replay_unrefused law refusal s t r f f' is replay (inr (passed, inr (also, inr (last, never)))) = never
+
+replayed_ends : AreTrueReports → (request : Option Request) (status : Status) (call : Call) → EndsFor request status call
+    → (s t r : List ℕ) → request ≡ Some (Audited s t r) → IsReplayReport call.work.files.told s t r
+    → BlamesReport status → ⊥
+replayed_ends law request status call end s t r is replay blamed =
+    let out = shut_out BlamesReport (Audited s t r) status call report_gates
+    (subst (λ (asked : Option Request). EndsFor asked status call) is end) blamed in
+    replay_unrefused law out.refusal s t r call.work.files call.work.files_after out.is replay out.first
+
 -- all that is promised follows from how a call ends
-pub promised : (status : Status) (call : Call) → Laws → Ends status call
+pub promised : (status : Status) (call : Call) → Laws → AreTrueReports → Ends status call
     → Promises status call
-promised status call laws end =
+promised status call laws reports end =
     let request = request_of call.words in
     record {
       ends = end;
@@ -406,6 +479,10 @@ promised status call laws end =
       cause = cause_told request status call laws end;
       complete = complete_ends request status call laws end;
       exceeded = λ is. exceeded_ends request status call end (subst IsExceededStatus (sym is) tt);
+      replayed = λ s t r asked replay. (
+        λ is. replayed_ends reports request status call end s t r asked replay (subst BlamesReport (sym is) tt),
+        λ is. replayed_ends reports request status call end s t r asked replay (subst BlamesReport (sym is) tt),
+      );
       too_long = λ is. too_long_ends request status call end (subst IsTooLong (sym is) tt);
       read_fault = λ is. read_fault_ends request status call end (subst IsReadFault (sym is) tt);
       counted = counted_ends request status call end;

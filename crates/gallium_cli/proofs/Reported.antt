@@ -31,7 +31,8 @@ use Rattle.replay_contracts.specs.declared.job.Replayed.{Replayed}
 use Rattle.replay_contracts.specs.Given.{Given, meaning_for, setup_for, whole_runs}
 use Rattle.replay_contracts.specs.Promise.{Promises, state_for}
 use Rattle.replay_contracts.specs.Replayer.{IsReported, IsRunOf}
-use Rattle.gallium_cli.specs.Answers.{source_of, given, events_of, IsFastAsSeen, IsSerialRun, IsReplayed}
+use Rattle.run_audit.specs.Source.{source_of}
+use Rattle.gallium_cli.specs.Answers.{given, events_of, IsFastAsSeen, IsSerialRun, IsReplayed}
 
 -- ## The laws of sources and of flat programs
 
@@ -81,7 +82,7 @@ arrives_there packet h = record { port = h.port; bytes = h.bytes; size = h.size 
 -- ## Reports
 
 -- the split program means what the source means
-split_is_source : (m : Tree) (split : List Part) (writeback total : ℕ) (packets : List Packet) → KeepsStores
+pub split_is_source : (m : Tree) (split : List Part) (writeback total : ℕ) (packets : List Packet) → KeepsStores
     → MeansTheSame → IsTrue (is_good m) → Each IsArrival packets
     → AreAlike (meaning_for (given m split writeback packets)) (source_of m packets) total
 split_is_source m split writeback total packets keeps same good all = record {

@@ -105,7 +105,7 @@ at_most_if : (b : Bool) (n limit : ℕ) → n ≡ 0 → (if b then n else 0) ≤
 at_most_if true n limit none = omega arith
 at_most_if false n limit none = omega arith
 
-few_writes : (f : Program) (split : List Part) (limits : Limits) → IsWellFormed f → KeepsLimits f split limits
+pub few_writes : (f : Program) (split : List Part) (limits : Limits) → IsWellFormed f → KeepsLimits f split limits
     → (o : ℕ) → writes f split o ≤ limits.writeback
 few_writes f split limits formed keeps o = elim (cases_lt o (length f.objects)) [
   | inl low ↦ each_number (λ n. n ≤ limits.writeback) (writes f split) (length f.objects) o keeps.writeback low
@@ -122,7 +122,7 @@ unseen_unchanged true false n none = omega arith
 unseen_unchanged false true n none = cc
 unseen_unchanged false false n none = omega arith
 
-no_writes : (f : Program) (split : List Part) → ((o : ℕ) → is_shown f split o ≡ false) → (o : ℕ) → writes f split o ≤ 0
+pub no_writes : (f : Program) (split : List Part) → ((o : ℕ) → is_shown f split o ≡ false) → (o : ℕ) → writes f split o ≤ 0
 no_writes f split unseen o =
     unseen_unchanged (is_constant f.objects o) (is_shown f split o) (count_steps f (λ i. writes_to o (step_at f i).work))
     (unseen o)

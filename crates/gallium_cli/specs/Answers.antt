@@ -1,11 +1,13 @@
 -- What a text on out says.
-use Rattle.std.specs.Prelude.{◌≡◌, ◌≤◌, ℕ, List, ◌∷◌, ◌++◌, length, slice_get, Option, IfSome, IsSome, IsSomeAnd, Ok}
-use Rattle.std.specs.Prelude.{Bool, true, false, IsTrue, codes, decimal}
+use Rattle.std.specs.Prelude.{◌≡◌, ◌≤◌, ◌⊎◌, ℕ, List, ◌∷◌, ◌++◌, length, slice_get, Option, IfSome, IsSome, IsSomeAnd}
+use Rattle.std.specs.Prelude.{Ok, Bool, true, false, IsTrue, codes, decimal}
+use Rattle.std.specs.List.{AllByRecursion as Each}
 use Rattle.packet_fields.specs.declared.packet.Packet.{Packet}
 use Rattle.state_store.specs.Store.{start_store}
 use Rattle.element_lang.specs.Tree.{Tree}
 use Rattle.element_lang.specs.Accepted.{IsSource}
-use Rattle.element_lang.specs.Meaning.{serial_store, serial_verdicts, source_store, source_verdict}
+use Rattle.element_lang.specs.Meaning.{serial_store, serial_verdicts}
+use Rattle.flat_ir.specs.Arrivals.{IsArrival}
 use Rattle.flat_ir.specs.Program.{Program}
 use Rattle.flat_ir.specs.Listing.{listing}
 use Rattle.flatten.specs.Flatten.{flat_of}
@@ -32,8 +34,8 @@ use Rattle.split_model.specs.Greatest.{IsGreatestSplit}
 use Rattle.run_model.specs.declared.event.Event.{Event}
 use Rattle.run_model.specs.declared.event.Event.TheVariants.{Admit}
 use Rattle.run_model.specs.declared.run.Run.{Run as RunTold}
-use Rattle.run_model.specs.Meaning.{Meaning}
 use Rattle.run_model.specs.Parts.{parts_of}
+use Rattle.run_model.specs.Sizes.{most_events, most_packets}
 use Rattle.run_model.specs.Serialises.{Serialises, AllReleased, IsDrained, is_fast}
 use Rattle.switch_ir.specs.Port.{PortState}
 use Rattle.replay_state.specs.Drain.{is_quiet, plan_events}
@@ -51,20 +53,24 @@ use Rattle.traffic_generator.specs.Schedule.{events_of as made_events}
 use Rattle.traffic_generator.specs.Summary.{summary_of}
 use Rattle.traffic_generator.specs.Translator.{translator_limits, translator_text}
 use Rattle.gallium_cli.specs.Words.{Splitting, Served, Within, Spelled}
-use Rattle.gallium_cli.specs.Words.{Request, Run, Compile, Replay, Check, Gen, PcapIn, PcapOut}
+use Rattle.gallium_cli.specs.Words.{Request, Run, Compile, Replay, Check, Audit, Gen, PcapIn, PcapOut}
 use Rattle.gallium_cli.specs.Lines.{line_end}
 use Rattle.gallium_cli.specs.Roles.{source, program, limits, legal_split, trace, schedule, capture, size_of}
-use Rattle.gallium_cli.specs.Roles.{AreLimits, IsCaptured}
-
--- the told contents spell this middlebox and these packets, each within its size
-pub record IsInput (told : List ℕ → Option (List ℕ)) (s t : List ℕ) (m : Tree) (packets : List Packet) : Type 0 where
-  pub source : IfSome (told s) (λ text. (length text ≤ size_of source) × IsSource text m)
-  pub trace : IfSome (told t) (λ text. (length text ≤ size_of trace) × (trace_of text ≡ Ok packets))
+use Rattle.gallium_cli.specs.Roles.{true_report, AreLimits, IsCaptured, IsShort}
+use Rattle.report_text.specs.Form.{are_declared}
+use Rattle.report_text.specs.Lines as reports
+use Rattle.run_audit.specs.Source.{source_of}
+use Rattle.run_audit.specs.Told.{IsTrueReport}
 
 -- the text is a source of this middlebox, and of no other
 pub record IsOnlySource (text : List ℕ) (m : Tree) : Type 0 where
   pub source : IsSource text m
   pub only : (other : Tree) → IsSource text other → other ≡ m
+
+-- the told contents spell this middlebox and these packets, each within its size
+pub record IsInput (told : List ℕ → Option (List ℕ)) (s t : List ℕ) (m : Tree) (packets : List Packet) : Type 0 where
+  pub source : IfSome (told s) (λ text. (length text ≤ size_of source) × IsOnlySource text m)
+  pub trace : IfSome (told t) (λ text. (length text ≤ size_of trace) × (trace_of text ≡ Ok packets))
 
 -- the told content spells this middlebox, whose flat program is within bounds
 pub record IsProgram (told : List ℕ → Option (List ℕ)) (s : List ℕ) (m : Tree) : Type 0 where
@@ -138,14 +144,6 @@ IsSplitBy (Spelled l p) told s m split writeback =
 
 -- ## Replays
 
--- what the source does to the packets of a trace, which go by their numbers
-abbrev pub source_of : Tree → List Packet → Meaning
-source_of m packets = record {
-  objects = m.objects;
-  after = λ store n. source_store m store (packet_at packets n);
-  verdict = λ store n. source_verdict m store (packet_at packets n);
-}
-
 -- a split middlebox and the packets of a trace, as a replay takes them: each pass is one event, and each batch goes by
 -- itself
 abbrev pub given : Tree → List Part → ℕ → List Packet → Given
@@ -206,6 +204,27 @@ abbrev pub IsReport : List ℕ → Tree → Given → Plan → Replayed → Port
 IsReport text m x plan replayed port port_after =
     (text ≡ report_of m.objects replayed.run) × IsReplayed m x plan replayed port port_after
 
+-- ## Reports of replays
+
+-- a replay may go by this split, with so many rows in each write-back table: it is legal and keeps some limits, which
+-- tell the rows; or it leaves everything to the server, and there are none
+abbrev pub MayReplay : Program → List Part → ℕ → Type 0
+MayReplay f split writeback =
+    ((allowed : Limits) × IsAccepted f split allowed × (writeback ≡ allowed.writeback))
+    ⊎ (IsNoChoice f split × (writeback ≡ 0))
+
+-- the text is the report of a replay of this middlebox over these packets: by a split that it may go by, and the events
+-- of a schedule, with those of drain behind them or without
+pub record IsReplayOf (m : Tree) (packets : List Packet) (text : List ℕ) : Type 0 where
+  pub split : List Part
+  pub writeback : ℕ
+  pub plan : Plan
+  pub short : IsShort m
+  pub by : MayReplay (flat_of m) split writeback
+  pub few : length plan.events ≤ most_events
+  pub report : (let x = given m split writeback packets in
+      text ≡ report_of m.objects (job_run (setup_for x) (whole_runs x) (events_of x plan)))
+
 -- ## Made work
 
 -- the middlebox that packets are made for, which is the one that its source spells, and the split of it that is chosen
@@ -229,6 +248,27 @@ pub record IsSummary (text : List ℕ) (seed count : ℕ) (port port_after : Por
   pub made : IsMadeSplit m split writeback
   pub told : text ≡ summary_of seed count replayed.run replayed.commands
   pub replay : IsReplayed m (given m split writeback (made_packets seed count)) (made_plan count) replayed port port_after
+
+-- ## Audits
+
+-- the told contents spell this middlebox, whose objects a report can tell, and these packets, which can arrive
+pub record IsAuditInput (told : List ℕ → Option (List ℕ)) (s t : List ℕ) (m : Tree) (packets : List Packet) : Type 0 where
+  pub input : IsInput told s t m packets
+  pub declared : IsTrue (are_declared m.objects)
+  pub arrivals : Each IsArrival packets
+  pub few : length packets ≤ most_packets
+
+-- the told content is a report of this run, which is a serial one of the middlebox over these packets
+pub record IsTrueFile (told : List ℕ → Option (List ℕ)) (r : List ℕ) (m : Tree) (packets : List Packet) (run : RunTold)
+    : Type 0 where
+  pub report : IfSome (told r)
+      (λ text. (length text ≤ size_of (true_report m packets)) × reports.IsReport m.objects text run)
+  pub serial : IsTrueReport m packets run
+
+-- the line of a report that is true: how many packets were decided, and how many released
+abbrev pub audited_text : RunTold → List ℕ
+audited_text run =
+    codes "ok decided " ++ (decimal run.decided ++ (codes " released " ++ (decimal run.released ++ line_end)))
 
 -- ## Captures
 
@@ -259,6 +299,9 @@ IsAnswer text (Replay s t c by) told port port_after =
 IsAnswer text (Check s l p) told port port_after =
     (m : Tree) × (split : List Part) × (writeback : ℕ)
     × IsSplitBy (Spelled l p) told s m split writeback × (text ≡ checked_text (flat_of m) split writeback)
+IsAnswer text (Audit s t r) told port port_after =
+    (m : Tree) × (packets : List Packet) × (run : RunTold)
+    × IsAuditInput told s t m packets × IsTrueFile told r m packets run × (text ≡ audited_text run)
 IsAnswer text (Gen seed count) told port port_after = IsSummary text seed count port port_after
 IsAnswer text (PcapIn c by) told port port_after =
     (p : Pcap) × IsToldCapture told c p × (text ≡ trace_text (packets_of p by))

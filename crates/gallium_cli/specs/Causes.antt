@@ -5,6 +5,7 @@ use Rattle.std.specs.Io.KnownBytes.{append_known}
 use Rattle.gal_io.specs.Count.{Rose, IsCountedIf}
 use Rattle.gal_io.specs.Files.{FilesState}
 use Rattle.gal_io.specs.Sink.{SinkState, Writes}
+use Rattle.packet_fields.specs.declared.packet.Packet.{Packet}
 use Rattle.element_lang.specs.Tree.{Tree}
 use Rattle.flatten.specs.Flatten.{flat_of}
 use Rattle.resource_limits.specs.declared.limits.Limits.{Limits}
@@ -22,9 +23,10 @@ use Rattle.gallium_cli.specs.declared.refusal.Refusal.TheVariants.{Usage, Exceed
 use Rattle.gallium_cli.specs.Call.{Call, Work}
 use Rattle.gallium_cli.specs.Words.{Request, is_replay, request_of}
 use Rattle.gallium_cli.specs.Lines.{status_of, line_of}
-use Rattle.gallium_cli.specs.Roles.{legal_split, Gate, File, Choice, SplitFile, IsFirst, IsGood, gates_of, names_of}
+use Rattle.gallium_cli.specs.Roles.{legal_split, true_report, Gate, File, Choice, SplitFile, ReportFile, IsFirst, IsGood}
+use Rattle.gallium_cli.specs.Roles.{gates_of, names_of}
 use Rattle.gallium_cli.specs.Splits.{excess_of}
-use Rattle.gallium_cli.specs.Answers.{IsPlan, IsAnswer}
+use Rattle.gallium_cli.specs.Answers.{IsPlan, IsAuditInput, IsAnswer}
 use Rattle.gallium_cli.specs.Loads.{IsFileRefused, GoesOn, raised_by}
 
 -- why no split of a program is chosen: the greatest one exceeds a limit, and this one first, or no memory was found
@@ -41,15 +43,19 @@ IsOverLimit refusal s l shrink told =
 
 -- ## The first gate that isn't passed
 
--- why a request goes no further: a file is refused, or no split is chosen, or the one that a file spells isn't taken
+-- why a request goes no further: a file is refused, or no split is chosen, or the one that a file spells isn't taken, or
+-- the report of a file
 abbrev pub IsRefusedAt : Refusal → Gate → FilesState → FilesState → Type 0
 IsRefusedAt refusal (File name role) f f' = IsFileRefused refusal role name f f'
 IsRefusedAt refusal (Choice s l shrink) f f' = IsOverLimit refusal s l shrink f.told
 IsRefusedAt refusal (SplitFile s l p) f f' =
     (m : Tree) × (allowed : Limits)
     × IsPlan f.told s l m allowed × IsFileRefused refusal (legal_split (flat_of m) allowed) p f f'
+IsRefusedAt refusal (ReportFile s t r) f f' =
+    (m : Tree) × (packets : List Packet)
+    × IsAuditInput f.told s t m packets × IsFileRefused refusal (true_report m packets) r f f'
 
--- a file is good, where it is told, and a split is chosen, or taken
+-- a file is good, where it is told, and a split is chosen, or taken, or a report is
 abbrev pub IsPassed : Gate → FilesState → Type 0
 IsPassed (File name role) f = IfSome (f.told name) (IsGood role)
 IsPassed (Choice s l shrink) f =
@@ -58,6 +64,9 @@ IsPassed (Choice s l shrink) f =
 IsPassed (SplitFile s l p) f =
     (m : Tree) × (allowed : Limits)
     × IsPlan f.told s l m allowed × IfSome (f.told p) (IsGood (legal_split (flat_of m) allowed))
+IsPassed (ReportFile s t r) f =
+    (m : Tree) × (packets : List Packet)
+    × IsAuditInput f.told s t m packets × IfSome (f.told r) (IsGood (true_report m packets))
 
 -- each of these gates is passed
 abbrev pub AllPassed : List Gate → FilesState → Type 0

@@ -3,6 +3,7 @@ pub mod Words
 pub mod Lines
 pub mod Roles
 pub mod Splits
+pub mod Reports
 pub mod Runnable
 pub mod Answers
 pub mod Loads

@@ -10,6 +10,8 @@ use Rattle.resource_limits.specs.declared.limits.LimitsError.{LimitsError}
 use Rattle.resource_limits.specs.declared.limits.LimitsError.TheVariants as faults
 use Rattle.pcap_trace.specs.declared.refusal.PcapError.{PcapError}
 use Rattle.pcap_trace.specs.declared.refusal.PcapError.TheVariants as pcaps
+use Rattle.run_audit.specs.declared.error.AuditError.{AuditError}
+use Rattle.run_audit.specs.declared.error.AuditError.TheVariants as audits
 use Rattle.run_text.specs.declared.refusal.LineKind.{LineKind}
 use Rattle.run_text.specs.declared.refusal.LineKind.TheVariants as kinds
 use Rattle.run_text.specs.declared.refusal.LinesError.{LinesError}
@@ -17,12 +19,13 @@ use Rattle.run_text.specs.declared.refusal.LinesError.TheVariants as lines
 use Rattle.gallium_cli.specs.declared.status.Status.{Status}
 use Rattle.gallium_cli.specs.declared.status.Status.TheVariants as statuses
 use Rattle.gallium_cli.specs.declared.refusal.Excess.{Excess}
+use Rattle.gallium_cli.specs.declared.refusal.Untruth.{Untruth}
 use Rattle.gallium_cli.specs.declared.refusal.SplitFault.{SplitFault}
 use Rattle.gallium_cli.specs.declared.refusal.SplitFault.TheVariants as splits
 use Rattle.gallium_cli.specs.declared.refusal.Refusal.{Refusal}
 use Rattle.gallium_cli.specs.declared.refusal.Refusal.TheVariants.{Usage, Source, LongProgram, Limits, Exceeded, Split}
 use Rattle.gallium_cli.specs.declared.refusal.Refusal.TheVariants.{Trace, Schedule, TooLong, ReadFault, WriteFault}
-use Rattle.gallium_cli.specs.declared.refusal.Refusal.TheVariants.{SwitchFault, NoMemory, Pcap}
+use Rattle.gallium_cli.specs.declared.refusal.Refusal.TheVariants.{SwitchFault, NoMemory, Pcap, Report, Audit}
 
 abbrev pub line_end : List ℕ
 line_end = 10 ∷ []
@@ -100,6 +103,22 @@ pcap_line (pcaps.Record at) = codes "pcap: record at " ++ (decimal at ++ line_en
 pcap_line (pcaps.TooMany have) = codes "pcap: packets have " ++ (decimal have ++ (codes ", allowed 16384" ++ line_end))
 pcap_line pcaps.NoMemory = codes "no memory" ++ line_end
 
+-- the line of a report that isn't true: packets go by their numbers, and an object by its name
+abbrev pub audit_text : AuditError → Option (List ℕ) → List ℕ
+audit_text audits.Counts object = codes "audit: counts" ++ line_end
+audit_text (audits.Order number) object = codes "audit: order " ++ (decimal number ++ line_end)
+audit_text (audits.Time number) object = codes "audit: time " ++ (decimal number ++ line_end)
+audit_text (audits.Verdict number) object = codes "audit: verdict " ++ (decimal number ++ line_end)
+audit_text (audits.Object number) object = codes "audit: object" ++ (owner_text object ++ line_end)
+audit_text audits.NoMemory object = codes "no memory" ++ line_end
+
+abbrev pub audit_line : Untruth → List ℕ
+audit_line u = audit_text u.error u.object
+
+-- the line of a text that is no report
+abbrev pub report_line : ℕ → List ℕ
+report_line number = codes "report: line " ++ (decimal number ++ line_end)
+
 abbrev pub status_of : Refusal → Status
 status_of Usage = statuses.Usage
 status_of (Source fault) = statuses.Source
@@ -115,6 +134,8 @@ status_of WriteFault = statuses.WriteFault
 status_of SwitchFault = statuses.SwitchFault
 status_of NoMemory = statuses.NoMemory
 status_of (Pcap fault) = statuses.Pcap
+status_of (Report number) = statuses.Report
+status_of (Audit untruth) = statuses.Audit
 
 abbrev pub line_of : Refusal → List ℕ
 line_of Usage = codes "usage: gallium run, compile, check, replay or gen" ++ line_end
@@ -131,3 +152,5 @@ line_of WriteFault = codes "write fault" ++ line_end
 line_of SwitchFault = codes "switch fault" ++ line_end
 line_of NoMemory = codes "no memory" ++ line_end
 line_of (Pcap fault) = pcap_line fault
+line_of (Report number) = report_line number
+line_of (Audit untruth) = audit_line untruth

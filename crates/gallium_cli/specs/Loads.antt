@@ -20,10 +20,12 @@ use Rattle.gallium_cli.specs.declared.status.Status.{Status}
 use Rattle.gallium_cli.specs.declared.status.Status.TheVariants as statuses
 use Rattle.gallium_cli.specs.declared.refusal.Refusal.{Refusal}
 use Rattle.gallium_cli.specs.declared.refusal.Refusal.TheVariants.{Source, LongProgram, Limits, Exceeded, Split, Trace, Schedule}
-use Rattle.gallium_cli.specs.declared.refusal.Refusal.TheVariants.{TooLong, ReadFault, NoMemory, Pcap}
-use Rattle.gallium_cli.specs.Roles.{Role, source, program, limits, legal_split, trace, schedule, capture, size_of}
+use Rattle.gallium_cli.specs.declared.refusal.Refusal.TheVariants.{TooLong, ReadFault, NoMemory, Pcap, Report, Audit}
+use Rattle.gallium_cli.specs.Roles.{Role, source, program, limits, legal_split, true_report, trace, schedule}
+use Rattle.gallium_cli.specs.Roles.{capture, size_of}
 use Rattle.gallium_cli.specs.Roles.{IsSpelled, IsGood, IsBad}
 use Rattle.gallium_cli.specs.Splits.{IsUnkept, IsBadSplit}
+use Rattle.gallium_cli.specs.Reports.{IsOnlyUntrue, IsBadReport}
 
 -- the text is refused for this cause, and for no other
 pub record IsOnlyCause (fault : TextError) (text : List ℕ) : Type 0 where
@@ -70,6 +72,10 @@ IsUnread (Exceeded excess) (legal_split f allowed) text =
 IsUnread (Trace fault) trace text = (fault ≢ lines.NoMemory) × (trace_of text ≡ Err fault)
 IsUnread (Schedule fault) schedule text = (fault ≢ lines.NoMemory) × (schedule_of text ≡ Err fault)
 IsUnread (Pcap fault) capture text = (fault ≢ pcaps.NoMemory) × ¬ (IsSpelled capture text) × IsOnlyFault fault text
+IsUnread (Report number) (true_report m packets) text =
+    ¬ (IsSpelled (true_report m packets) text) × IsOnlyUntrue (Report number) m packets text
+IsUnread (Audit untruth) (true_report m packets) text =
+    ¬ (IsSpelled (true_report m packets) text) × IsOnlyUntrue (Audit untruth) m packets text
 IsUnread NoMemory role text = Unit {0}
 IsUnread _ role text = ⊥
 
@@ -86,6 +92,10 @@ IsFileRefused (Trace fault) trace name f f' = (fault ≢ lines.NoMemory) × IfSo
 IsFileRefused (Schedule fault) schedule name f f' =
     (fault ≢ lines.NoMemory) × IfSome (f.told name) (IsBadSchedule fault)
 IsFileRefused (Pcap fault) capture name f f' = (fault ≢ pcaps.NoMemory) × IfSome (f.told name) (IsBadCapture fault)
+IsFileRefused (Report number) (true_report m packets) name f f' =
+    IfSome (f.told name) (IsBadReport (Report number) m packets)
+IsFileRefused (Audit untruth) (true_report m packets) name f f' =
+    IfSome (f.told name) (IsBadReport (Audit untruth) m packets)
 IsFileRefused (TooLong blamed) role name f f' =
     (blamed.now ≡ name) × IfSome (f.told name) (λ text. size_of role < length text)
     × (f'.overlong_name ≡ Some name) × Rose f.overlong f'.overlong

@@ -1,8 +1,9 @@
 -- What the program promises of a whole call.
-use Rattle.std.specs.Prelude.{◌≡◌, ◌<◌, ◌≤◌, ◌⊎◌, ◌≢◌, ℕ, true, false, List, [], ◌∷◌, length, Option, Some, None}
+use Rattle.std.specs.Prelude.{◌≡◌, ◌<◌, ◌≤◌, ◌⊎◌, ◌≢◌, ℕ, true, false, List, [], ◌∷◌, length, Option, Some, None, Ok}
 use Rattle.std.specs.Prelude.{IsSomeAnd, is_some}
 use Rattle.std.specs.Io.KnownBytes.{append_known}
 use Rattle.gal_io.specs.Count.{Rose}
+use Rattle.packet_fields.specs.declared.packet.Packet.{Packet}
 use Rattle.element_lang.specs.Tree.{Tree}
 use Rattle.element_lang.specs.Accepted.{IsSource}
 use Rattle.flatten.specs.Flatten.{flat_of}
@@ -17,17 +18,20 @@ use Rattle.pcap_trace.specs.declared.refusal.PcapError.TheVariants as pcaps
 use Rattle.gallium_cli.specs.declared.status.Status.{Status}
 use Rattle.gallium_cli.specs.declared.status.Status.TheVariants.{Done, Usage, Source, Limits as BadLimits, Exceeded, Split}
 use Rattle.gallium_cli.specs.declared.status.Status.TheVariants.{Trace, Schedule, TooLong, ReadFault, WriteFault}
-use Rattle.gallium_cli.specs.declared.status.Status.TheVariants.{SwitchFault, NoMemory, Pcap}
+use Rattle.gallium_cli.specs.declared.status.Status.TheVariants.{SwitchFault, NoMemory, Pcap, Report, Audit as Untrue}
 use Rattle.gallium_cli.specs.declared.refusal.Refusal.{Refusal}
 use Rattle.gallium_cli.specs.declared.refusal.Refusal.TheVariants as refusals
 use Rattle.gallium_cli.specs.Call.{Call, Work}
-use Rattle.gallium_cli.specs.Words.{Request, Compile, Replay, Check, Within, Spelled, is_replay, request_of}
+use Rattle.gallium_cli.specs.Words.{Request, Compile, Replay, Check, Audit, Within, Spelled, is_replay, request_of}
 use Rattle.gallium_cli.specs.Lines.{status_of, line_of}
-use Rattle.gallium_cli.specs.Roles.{Role, source, program, limits, legal_split, trace, schedule, capture, size_of}
-use Rattle.gallium_cli.specs.Roles.{Gate, File, Choice, SplitFile, IsFirst, gates_of, names_of}
+use Rattle.gallium_cli.specs.Roles.{Role, source, program, limits, legal_split, true_report, trace, schedule, capture}
+use Rattle.gallium_cli.specs.Roles.{Gate, File, Choice, SplitFile, ReportFile, IsFirst, gates_of, names_of, size_of}
 use Rattle.gallium_cli.specs.Roles.{IsGood, IsBad, IsShort, AreLimits}
 use Rattle.gallium_cli.specs.Loads.{IsLongProgram, AreBadLimits, IsBadTrace, IsBadSchedule}
 use Rattle.gallium_cli.specs.Splits.{SpellsLegal, IsBadSplit, excess_of}
+use Rattle.gallium_cli.specs.Reports.{TellsRun, IsUntrue}
+use Rattle.gallium_cli.specs.Answers.{IsReplayOf}
+use Rattle.run_text.specs.Trace.{trace_of}
 use Rattle.gallium_cli.specs.Causes.{IsDone, IsFailedReplay, CountsFaults, Ends, most_reads}
 
 -- an end that writing and memory may bring whatever the words are
@@ -74,7 +78,20 @@ pub record IsToldPlan (told : List ℕ → Option (List ℕ)) (s l : List ℕ) (
   pub short : IsShort m
   pub limits : IsSomeAnd (told l) (λ text. (length text ≤ size_of limits) × AreLimits text allowed)
 
--- a content is told and good, and a split is there to choose, or to take
+-- they are told, and spell this middlebox, and these packets
+pub record IsToldInput (told : List ℕ → Option (List ℕ)) (s t : List ℕ) (m : Tree) (packets : List Packet) : Type 0 where
+  pub source : IsSomeAnd (told s) (λ text. (length text ≤ size_of source) × IsSource text m)
+  pub trace : IsSomeAnd (told t) (λ text. (length text ≤ size_of trace) × (trace_of text ≡ Ok packets))
+
+-- they are told, and the third is the report of a replay of the middlebox of the first over the packets of the second
+pub record IsReplayReport (told : List ℕ → Option (List ℕ)) (s t r : List ℕ) : Type 0 where
+  pub m : Tree
+  pub packets : List Packet
+  pub source : IsSomeAnd (told s) (λ text. IsSource text m)
+  pub trace : IsSomeAnd (told t) (λ text. trace_of text ≡ Ok packets)
+  pub replay : IsSomeAnd (told r) (IsReplayOf m packets)
+
+-- a content is told and good, and a split is there to choose, or to take, or a report is there
 abbrev pub IsOpen : (List ℕ → Option (List ℕ)) → Gate → Type 0
 IsOpen told (File name role) = IsSomeAnd (told name) (IsGood role)
 IsOpen told (Choice s l shrink) =
@@ -83,18 +100,24 @@ IsOpen told (Choice s l shrink) =
 IsOpen told (SplitFile s l p) =
     (m : Tree) × (allowed : Limits)
     × IsToldPlan told s l m allowed × IsSomeAnd (told p) (IsGood (legal_split (flat_of m) allowed))
+IsOpen told (ReportFile s t r) =
+    (m : Tree) × (packets : List Packet)
+    × IsToldInput told s t m packets × IsSomeAnd (told r) (IsGood (true_report m packets))
 
 abbrev pub AllOpen : (List ℕ → Option (List ℕ)) → List Gate → Type 0
 AllOpen told [] = Unit {0}
 AllOpen told (gate ∷ gates) = IsOpen told gate × AllOpen told gates
 
--- the status of a text that doesn't spell what it is to; a legal split exceeds a limit
+-- the status of a text that doesn't spell what it is to; a legal split exceeds a limit, and a report that tells a run
+-- isn't true
 abbrev pub IsStatusOf : Status → Role → List ℕ → Type 0
 IsStatusOf status source text = status ≡ Source
 IsStatusOf status program text = status ≡ Source
 IsStatusOf status limits text = status ≡ BadLimits
 IsStatusOf status (legal_split f allowed) text =
     ((status ≡ Split) × ¬ (SpellsLegal f text)) ⊎ ((status ≡ Exceeded) × SpellsLegal f text)
+IsStatusOf status (true_report m packets) text =
+    ((status ≡ Report) × ¬ (TellsRun m text)) ⊎ ((status ≡ Untrue) × TellsRun m text)
 IsStatusOf status trace text = status ≡ Trace
 IsStatusOf status schedule text = status ≡ Schedule
 IsStatusOf status capture text = status ≡ Pcap
@@ -114,6 +137,9 @@ IsShut told (Choice s l shrink) status =
 IsShut told (SplitFile s l p) status =
     (m : Tree) × (allowed : Limits)
     × IsToldPlan told s l m allowed × IsSomeAnd (told p) (IsRefusedAs (legal_split (flat_of m) allowed) status)
+IsShut told (ReportFile s t r) status =
+    (m : Tree) × (packets : List Packet)
+    × IsToldInput told s t m packets × IsSomeAnd (told r) (IsRefusedAs (true_report m packets) status)
 
 -- the gates before one are open, and that one is shut with this status
 abbrev pub IsFirstShut : (List ℕ → Option (List ℕ)) → List Gate → Status → Type 0
@@ -147,6 +173,10 @@ IsCause (refusals.Exceeded excess) (legal_split f allowed) text = IsBadSplit (re
 IsCause (refusals.Trace fault) trace text = IsBadTrace fault text
 IsCause (refusals.Schedule fault) schedule text = IsBadSchedule fault text
 IsCause (refusals.Pcap fault) capture text = (fault ≢ pcaps.NoMemory) × IsBad capture text × pcap.IsRefused text fault
+IsCause (refusals.Report number) (true_report m packets) text =
+    IsBad (true_report m packets) text × IsUntrue (refusals.Report number) m packets text
+IsCause (refusals.Audit untruth) (true_report m packets) text =
+    IsBad (true_report m packets) text × IsUntrue (refusals.Audit untruth) m packets text
 IsCause _ role text = ⊥
 
 -- a content is told and refused for this cause, or the greatest split exceeds this limit first and may not shrink
@@ -159,6 +189,9 @@ IsShutFor told (Choice s l shrink) cause =
 IsShutFor told (SplitFile s l p) cause =
     (m : Tree) × (allowed : Limits)
     × IsToldPlan told s l m allowed × IsSomeAnd (told p) (IsCause cause (legal_split (flat_of m) allowed))
+IsShutFor told (ReportFile s t r) cause =
+    (m : Tree) × (packets : List Packet)
+    × IsToldInput told s t m packets × IsSomeAnd (told r) (IsCause cause (true_report m packets))
 
 -- the gates before one are open, and that one is shut for this cause
 abbrev pub IsFirstCause : (List ℕ → Option (List ℕ)) → List Gate → Refusal → Type 0
@@ -220,7 +253,7 @@ pub record Promises (status : Status) (call : Call) : Type 0 where
   pub ends : Ends status call
   -- the answer was written: of one run, which is a serial run of the source, whatever the schedule; or one split, which
   -- is the chosen one, is legal and keeps the limits, or what a given one takes that is so; or the summary of such a run;
-  -- or the trace of a capture, or the capture of a trace
+  -- or the trace of a capture, or the capture of a trace; or how many packets a report tells that is true
   pub done : status ≡ Done → IsDone (request_of call.words) call.work
   -- err is as it was, its count too
   pub silent : status ≡ Done → call.err_after ≡ call.err
@@ -240,6 +273,9 @@ pub record Promises (status : Status) (call : Call) : Type 0 where
   pub cause : IsCauseTold (request_of call.words) status call
   pub complete : IsComplete (request_of call.words) status call
   pub exceeded : status ≡ Exceeded → MayExceed (request_of call.words)
+  -- the report of a replay of this source over this trace is never refused: each is one in form, and is true
+  pub replayed : (s t r : List ℕ) → request_of call.words ≡ Some (Audit s t r)
+      → IsReplayReport call.work.files.told s t r → (status ≢ Report) × (status ≢ Untrue)
   -- which faults were counted: just the one that the status names, unless the line couldn't be written
   pub counted : ¬ (IsWriteFault status)
       → CountsFaults status call.work × (call.err_after.faults ≡ call.err.faults)

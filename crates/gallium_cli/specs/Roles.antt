@@ -8,6 +8,9 @@ use Rattle.flatten.specs.Flatten.{flat_of}
 use Rattle.split_model.specs.declared.split.Part.{Part}
 use Rattle.split_validate.specs.SplitLines.{IsSplitText}
 use Rattle.split_validate.specs.Validated.{IsAccepted}
+use Rattle.run_model.specs.declared.run.Run.{Run as RunTold}
+use Rattle.report_text.specs.Lines.{IsReport}
+use Rattle.run_audit.specs.Told.{IsTrueReport}
 use Rattle.resource_limits.specs.Limits as texts
 use Rattle.resource_limits.specs.declared.limits.Limits.{Limits}
 use Rattle.run_text.specs.declared.plan.Plan.{Plan}
@@ -15,7 +18,7 @@ use Rattle.run_text.specs.Trace.{trace_of, schedule_of}
 use Rattle.pcap_trace.specs.declared.pcap.Pcap.{Pcap}
 use Rattle.pcap_trace.specs.Format.{IsPcap, pcap_bytes}
 use Rattle.gallium_cli.specs.Words.{Splitting, Served, Within, Spelled}
-use Rattle.gallium_cli.specs.Words.{Request, Run, Compile, Replay, Check, Gen, PcapIn, PcapOut}
+use Rattle.gallium_cli.specs.Words.{Request, Run, Compile, Replay, Check, Audit, Gen, PcapIn, PcapOut}
 
 -- what a file is read as
 pub data Role : Type 0 where
@@ -25,6 +28,8 @@ pub data Role : Type 0 where
   limits : Role
   -- a split of this program, which is legal and keeps these limits
   legal_split : (f : Program) (allowed : Limits) → Role
+  -- a report of a serial run of this middlebox over these packets
+  true_report : (m : Tree) (packets : List Packet) → Role
   trace : Role
   schedule : Role
   capture : Role
@@ -35,6 +40,7 @@ size_of source = 262144
 size_of program = 262144
 size_of limits = 67108864
 size_of (legal_split f allowed) = 67108864
+size_of (true_report m packets) = 67108864
 size_of trace = 67108864
 size_of schedule = 67108864
 size_of capture = 67108864
@@ -58,6 +64,8 @@ IsSpelled program text = (m : Tree) × IsSource text m × IsShort m
 IsSpelled limits text = (allowed : Limits) × AreLimits text allowed
 IsSpelled (legal_split f allowed) text =
     (split : List Part) × IsSplitText (length f.code) text split × IsAccepted f split allowed
+IsSpelled (true_report m packets) text =
+    (run : RunTold) × IsReport m.objects text run × IsTrueReport m packets run
 IsSpelled trace text = (packets : List Packet) × (trace_of text ≡ Ok packets)
 IsSpelled schedule text = (plan : Plan) × (schedule_of text ≡ Ok plan)
 IsSpelled capture text = (p : Pcap) × IsCaptured text p
@@ -73,11 +81,12 @@ IsBad role text = (length text ≤ size_of role) × ¬ (IsSpelled role text)
 -- ## What comes before an answer
 
 -- a file is read, or a split is chosen for the source of one file within the limits of another, or a file is read as a
--- split of that source within those limits
+-- split of that source within those limits, or as a report of that source over the packets of another
 pub data Gate : Type 0 where
   File : (name : List ℕ) (role : Role) → Gate
   Choice : (source limits : List ℕ) (shrink : Bool) → Gate
   SplitFile : (source limits name : List ℕ) → Gate
+  ReportFile : (source trace name : List ℕ) → Gate
 
 -- the source and the limits of a split
 abbrev pub plan_files : List ℕ → List ℕ → List Gate
@@ -104,6 +113,7 @@ gates_of (Run s t) = File s source ∷ (File t trace ∷ [])
 gates_of (Compile s l shrink) = plan_gates s l shrink
 gates_of (Replay s t c by) = split_gates s by ++ event_gates t c
 gates_of (Check s l p) = given_gates s l p
+gates_of (Audit s t r) = File s source ∷ (File t trace ∷ (ReportFile s t r ∷ []))
 gates_of (Gen seed count) = []
 gates_of (PcapIn c port) = File c capture ∷ []
 gates_of (PcapOut t big nano) = File t trace ∷ []
@@ -114,6 +124,7 @@ names_in [] = []
 names_in (File name role ∷ gates) = name ∷ names_in gates
 names_in (Choice s l shrink ∷ gates) = names_in gates
 names_in (SplitFile s l p ∷ gates) = p ∷ names_in gates
+names_in (ReportFile s t r ∷ gates) = r ∷ names_in gates
 
 -- the names of the files of a request, in that order
 abbrev pub names_of : Request → List (List ℕ)

@@ -23,6 +23,8 @@ pub data Request : Type 0 where
   Compile : (source limits : List ℕ) (shrink : Bool) → Request
   Replay : (source trace schedule : List ℕ) (by : Splitting) → Request
   Check : (source limits split : List ℕ) → Request
+  -- whether a report of packets that came to a middlebox is true
+  Audit : (source trace report : List ℕ) → Request
   -- a replay of so many packets that are made from a number
   Gen : (seed count : ℕ) → Request
   -- the packets of a capture, each of which arrives by this port
@@ -83,8 +85,9 @@ request_of (word ∷ source ∷ second ∷ third ∷ []) =
     if bytes_eq word (codes "pcap") then pcap_in source second third
     else (if bytes_eq word (codes "replay") then Some (Replay source second third Served)
     else (if bytes_eq word (codes "check") then Some (Check source second third)
+    else (if bytes_eq word (codes "audit") then Some (Audit source second third)
     else (if bytes_eq word (codes "compile") && bytes_eq third (codes "shrink") then Some (Compile source second true)
-    else None)))
+    else None))))
 request_of (word ∷ source ∷ trace ∷ schedule ∷ limits ∷ []) =
     if bytes_eq word (codes "pcap") then pcap_out source trace schedule limits
     else (if bytes_eq word (codes "replay") then Some (Replay source trace schedule (Within limits false)) else None)
@@ -108,6 +111,7 @@ asked_by (forms.Run source trace) = Run source.now trace.now
 asked_by (forms.Compile source limits shrink) = Compile source.now limits.now shrink
 asked_by (forms.Replay source trace schedule split) = Replay source.now trace.now schedule.now (split_asked split)
 asked_by (forms.Check source limits split) = Check source.now limits.now split.now
+asked_by (forms.Audit source trace report) = Audit source.now trace.now report.now
 asked_by (forms.Gen seed count) = Gen seed count.packets
 asked_by (forms.PcapIn capture port) = PcapIn capture.now port
 asked_by (forms.PcapOut trace big nano) = PcapOut trace.now big nano
@@ -118,6 +122,7 @@ is_replay (Run s t) = false
 is_replay (Compile s l shrink) = false
 is_replay (Replay s t c by) = true
 is_replay (Check s l p) = false
+is_replay (Audit s t r) = false
 is_replay (Gen seed count) = true
 is_replay (PcapIn c port) = false
 is_replay (PcapOut t big nano) = false

@@ -10,8 +10,8 @@ use resource_limits::Over;
 use state_store::ObjectDecl;
 use std::alloc::Global;
 
-// The name of an object, if one is meant.
-fn owner(
+/// The name of an object, if one is meant.
+pub fn owner(
     alloc: Global,
     objects: &[ObjectDecl],
     object: Option<u32>,

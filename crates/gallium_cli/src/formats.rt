@@ -3,12 +3,12 @@ ghost use Rattle.std.specs.Prelude.{◌≡◌, ◌≤◌, ◌<◌, ◌^◌, IsTr
 ghost use Rattle.packet_fields.specs.Sizes.{AreShort};
 ghost use Rattle.element_lang.specs.View.{tree};
 ghost use Rattle.element_lang.specs.Rules.{is_good};
-ghost use Rattle.element_lang.specs.Accepted.{IsSource};
 ghost use Rattle.flat_ir.specs.Program.{program_of};
 ghost use Rattle.flatten.specs.Flatten.{flat_of};
 ghost use Rattle.resource_limits.specs.Limits.{AreInRange};
 ghost use Rattle.split_model.specs.Bounds.{IsBounded};
 ghost use Rattle.run_model.specs.Sizes.{most_events, most_packets};
+ghost use Rattle.report_text.specs.Form.{are_declared};
 ghost use Rattle.run_text.specs.Trace.{trace_of, schedule_of};
 ghost use Rattle.gallium_cli.specs.Roles.{source, program, limits, trace, schedule, capture, AreLimits, IsCaptured};
 ghost use Rattle.gallium_cli.specs.Answers.{IsOnlySource};
@@ -72,9 +72,10 @@ impl Format for SourceFormat {
 
     ghost role = { λ _. source };
 
-    ghost spells = { λ _ text m. IsSource text (tree m) };
+    ghost spells = { λ _ text m. IsOnlySource text (tree m) };
 
-    ghost sound = { λ _ m. IsTrue (is_good (tree m)) × (length m.objects < 2 ^ 32) };
+    ghost sound = { λ _ m. IsTrue (is_good (tree m)) × (length m.objects < 2 ^ 32)
+        × IsTrue (are_declared (tree m).objects) };
 
     ghost ready = { λ _. Unit {0} };
 

@@ -4,7 +4,7 @@ ghost use Rattle.gallium_cli.specs.declared.refusal.Refusal.{Refusal};
 ghost use Rattle.gallium_cli.specs.declared.refusal.Excess.{Excess};
 ghost use Rattle.gallium_cli.specs.Lines.{status_of, line_of, line_end, what_text, kind_text};
 ghost use Rattle.gallium_cli.specs.Lines.{source_line, limits_line, excess_line, split_line, lines_line, owner_text};
-ghost use Rattle.gallium_cli.specs.Lines.{pcap_line};
+ghost use Rattle.gallium_cli.specs.Lines.{pcap_line, audit_line, report_line};
 ghost use Rattle.gallium_cli.specs.Causes.{IsTold};
 
 use crate::status::Status;
@@ -13,6 +13,7 @@ use element_text::TextError;
 use gal_io::{NoMemory, Sink, SinkEnd, Text};
 use pcap_trace::PcapError;
 use resource_limits::{LimitName, LimitsError};
+use run_audit::AuditError;
 use run_text::{LineKind, LinesError};
 use std::alloc::Global;
 
@@ -34,6 +35,15 @@ pub enum SplitFault {
     Line(usize),
     /// The lowest of the nine rules that the split breaks, from 1, and the first instruction that breaks it, from 0.
     Rule { rule: u8, instruction: u32 },
+}
+
+/// Why a report isn't true.
+#[derive(Debug, Drop)]
+pub struct Untruth {
+    /// The cause, which isn't want of memory.
+    pub error: AuditError,
+    /// The name of the object, where the cause is one.
+    pub object: Option<Text>,
 }
 
 /// Why nothing is answered. A name is that of the file that is to blame.
@@ -67,6 +77,11 @@ pub enum Refusal<'a> {
     NoMemory,
     /// The capture is refused, for this cause, which isn't want of memory.
     Pcap(PcapError),
+    /// The report is refused for its form: the first line with which no report goes on, counted from 1, or the number of
+    /// lines and one more.
+    Report(usize),
+    /// The report isn't true.
+    Audit(Untruth),
 }
 
 impl From<NoMemory> for Refusal<'_> {
@@ -98,6 +113,8 @@ fn status(refusal: &Refusal<'_>) -> Status
         Refusal::SwitchFault => Status::SwitchFault,
         Refusal::NoMemory => Status::NoMemory,
         Refusal::Pcap(_) => Status::Pcap,
+        Refusal::Report(_) => Status::Report,
+        Refusal::Audit(_) => Status::Audit,
     }
 }
 
@@ -261,6 +278,34 @@ fn pcap_line(alloc: Global, fault: PcapError) -> Result<Text, NoMemory>
     }
 }
 
+// The line of a text that is no report.
+fn report_line(alloc: Global, number: usize) -> Result<Text, NoMemory>
+    ensures { IfOk result (λ text. text ≡ report_line number) }
+{
+    told(alloc, format!(in alloc; "report: line {number}\n")?)
+}
+
+// The line of a report that isn't true.
+fn audit_line(alloc: Global, untruth: &Untruth) -> Result<Text, NoMemory>
+    ensures { IfOk result (λ text. text ≡ audit_line untruth.now) }
+{
+    match untruth.error {
+        AuditError::Counts => Text::from_slice(alloc, b"audit: counts\n"),
+        AuditError::Order(number) => told(alloc, format!(in alloc; "audit: order {number}\n")?),
+        AuditError::Time(number) => told(alloc, format!(in alloc; "audit: time {number}\n")?),
+        AuditError::Verdict(number) => {
+            told(alloc, format!(in alloc; "audit: verdict {number}\n")?)
+        }
+        AuditError::Object(_) => {
+            let mut text = Text::from_slice(alloc, b"audit: object")?;
+            text.extend(owner_text(alloc, &untruth.object)?.as_slice())?;
+            text.extend(b"\n")?;
+            Ok(text)
+        }
+        AuditError::NoMemory => Text::from_slice(alloc, b"no memory\n"),
+    }
+}
+
 // The line of a refusal.
 fn line(alloc: Global, refusal: &Refusal<'_>) -> Result<Text, NoMemory>
     ensures { IfOk result (λ text. text ≡ line_of refusal.now) }
@@ -283,6 +328,8 @@ fn line(alloc: Global, refusal: &Refusal<'_>) -> Result<Text, NoMemory>
         Refusal::SwitchFault => Text::from_slice(alloc, b"switch fault\n"),
         Refusal::NoMemory => Text::from_slice(alloc, b"no memory\n"),
         Refusal::Pcap(fault) => pcap_line(alloc, *fault),
+        Refusal::Report(number) => report_line(alloc, *number),
+        Refusal::Audit(untruth) => audit_line(alloc, untruth),
     }
 }
 

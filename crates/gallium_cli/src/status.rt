@@ -31,6 +31,10 @@ pub enum Status {
     NoMemory,
     /// The capture is refused.
     Pcap,
+    /// The report is refused for its form.
+    Report,
+    /// The report isn't true.
+    Audit,
 }
 
 impl Status {
@@ -56,6 +60,8 @@ impl Status {
             Status::SwitchFault => 12,
             Status::NoMemory => 13,
             Status::Pcap => 15,
+            Status::Report => 16,
+            Status::Audit => 17,
         }
     }
 }

@@ -15,12 +15,13 @@ ghost use Rattle.gallium_cli.specs.Causes.{CountsFaults, HasCause, IsDone, IsFir
 ghost use Rattle.gallium_cli.specs.Call.{Call, work_of};
 ghost use Rattle.gallium_cli.specs.Promises.{Promises};
 
+use crate::audit::perform_audit;
 use crate::captures::{perform_pcap_in, perform_pcap_out};
 use crate::check::perform_check;
 use crate::compile::perform_compile;
-use crate::formats::{SourceFormat, TraceFormat};
 use crate::generated::perform_gen;
-use crate::load::load;
+use crate::input::load_input;
+use crate::laws::reports_of_replays_are_true;
 use crate::output::put;
 use crate::refusal::{Refusal, tell};
 use crate::replay::perform_replay;
@@ -29,7 +30,7 @@ use crate::words::{Form, form_of};
 use element_interp::run_all;
 use element_lang::Middlebox;
 use gal_io::{Files, NoMemory, Sink, Text};
-use packet_fields::{Packet, Packets};
+use packet_fields::Packet;
 use partition::greatest_split_is_one;
 use resource_limits::kept_limits_are_not_exceeded;
 use run_model::Parts;
@@ -37,33 +38,6 @@ use run_text::print_answer;
 use split_validate::{a_text_is_of_one_split, one_line_is_first_wrong};
 use std::alloc::Global;
 use switch_ir::SwitchPort;
-
-// The middlebox and the packets that two files spell.
-fn load_input<'a, F: Files>(
-    alloc: Global,
-    source: &'a str,
-    trace: &'a str,
-    files: &mut F,
-) -> Result<(Middlebox, Packets), Refusal<'a>>
-    ensures ok { IfOk result (λ x. IsInput (F.seen files.old).told source.now trace.now (tree x.0) x.1) }
-    ensures good { IfOk result (λ x. IsTrue (is_good (tree x.0))) }
-    ensures few_objects { IfOk result (λ x. length x.0.objects < 2 ^ 32) }
-    ensures few_packets { IfOk result (λ x. length x.1 ≤ most_packets) }
-    ensures short_packets { IfOk result (λ x. AreShort x.1) }
-    ensures err { IfErr result (λ refusal. IsFirstRefused refusal (gates_of (Run source.now trace.now))
-        (F.seen files.old) (F.seen files.new)) }
-    ensures stays { OnOk result (GoesOn Status.Done (F.seen files.old) (F.seen files.new)) }
-    ensures fault { IfErr result (λ refusal.
-        GoesOn (status_of refusal) (F.seen files.old) (F.seen files.new)) }
-    ensures read { OnOk result ((F.seen files.new).reads ≡ raised_by 2 (F.seen files.old).reads) }
-    ensures few_reads { (F.seen files.new).reads ≤ raised_by 2 (F.seen files.old).reads }
-{
-    let middlebox = load(alloc, files, &SourceFormat, source)?;
-    match load(alloc, files, &TraceFormat, trace) {
-        Ok(packets) => Ok((middlebox, packets)),
-        Err(refusal) => Err(refusal),
-    }
-}
 
 // What a middlebox does to packets that come one after the other.
 fn answer(alloc: Global, m: &Middlebox, packets: &[Packet]) -> Result<Text, NoMemory>
@@ -146,6 +120,13 @@ fn perform<'a, F: Files, S: SwitchPort, O: Sink>(
                 split,
             },
         ) => perform_check(alloc, source, limits, split, files, out),
+        Some(
+            Form::Audit {
+                source,
+                trace,
+                report,
+            },
+        ) => perform_audit(alloc, source, trace, report, files, out),
         Some(Form::Gen { seed, count }) => perform_gen(alloc, seed, count, port, out),
         Some(Form::PcapIn { capture, port: by }) => perform_pcap_in(alloc, capture, by, files, out),
         Some(Form::PcapOut { trace, big, nano }) => {
@@ -178,6 +159,7 @@ pub fn gallium<F: Files, S: SwitchPort, O: Sink, E: Sink>(
     kept_limits_are_not_exceeded();
     one_line_is_first_wrong();
     a_text_is_of_one_split();
+    reports_of_replays_are_true();
     match perform(alloc, words, files, port, out) {
         Ok(()) => Status::Done,
         Err(refusal) => tell(alloc, refusal, err),

@@ -45,6 +45,12 @@ pub enum Form<'a> {
         limits: &'a str,
         split: &'a str,
     },
+    /// Says whether a report is true of a middlebox and the packets of a trace.
+    Audit {
+        source: &'a str,
+        trace: &'a str,
+        report: &'a str,
+    },
     /// Replays so many packets that are made from a seed, and prints a summary.
     Gen {
         seed: u64,
@@ -184,6 +190,13 @@ pub fn form_of<'a>(words: &'a [String]) -> Option<Form<'a>>
                     source: source.as_str(),
                     limits: second.as_str(),
                     split: third.as_str(),
+                });
+            }
+            if word.as_str() == "audit" {
+                return Some(Form::Audit {
+                    source: source.as_str(),
+                    trace: second.as_str(),
+                    report: third.as_str(),
                 });
             }
             if word.as_str() == "compile" {

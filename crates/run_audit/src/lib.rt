@@ -11,5 +11,5 @@ mod verdicts;
 mod whole;
 
 pub use error::AuditError;
-pub use laws::true_reports_serialise;
+pub use laws::{reports_are_refused_for_one_cause, true_reports_serialise};
 pub use whole::audit;

@@ -1,7 +1,5 @@
-use Rattle.std.proofs.Common.{refl, arith}
+use Rattle.std.proofs.Common.{refl}
 use Rattle.element_lang.specs.View.{tree}
-use Rattle.resource_limits.specs.Limits.{AreInRange}
-use Rattle.traffic_generator.specs.Translator.{translator_limits}
 use Rattle.gallium_cli.proofs.Runnable.{chosen_runs}
 use Rattle.gallium_cli.proofs.Written.{made_split, limits_in_range}
 use Rattle.gallium_cli.proofs.generated.made_split.Goals as goal

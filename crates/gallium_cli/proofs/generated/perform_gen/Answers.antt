@@ -1,4 +1,4 @@
-use Rattle.std.proofs.Common.{◌≤◌, refl, arith}
+use Rattle.std.proofs.Common.{refl}
 use Rattle.std.proofs.lemmas.Result.{err_from_is_err_and}
 use Rattle.gallium_cli.specs.Words.{Gen}
 use Rattle.gallium_cli.proofs.Counted.{unread, put_counts, replay_counts, unput_counts}

@@ -11,7 +11,7 @@ returns-in-Ok g c =
       line = c.one_line_is_first_wrong.ensures;
       split = c.a_text_is_of_one_split.ensures;
     } in
-    promised _ _ laws
+    promised _ _ laws c.reports_of_replays_are_true.ensures
     (inl (refl, c.in-Ok.ensures.ok, c.in-Ok.ensures.no_fault, refl))
 
 pub returns-in-Err : goal.returns-in-Err
@@ -22,5 +22,5 @@ returns-in-Err g c =
       line = c.one_line_is_first_wrong.ensures;
       split = c.a_text_is_of_one_split.ensures;
     } in
-    promised _ _ laws
+    promised _ _ laws c.reports_of_replays_are_true.ensures
     (inr (c.in-Err.refusal, c.in-Err.ensures.err, c.in-Err.ensures.fault, c.tell.ensures))

@@ -1,5 +1,5 @@
 use Rattle.std.proofs.Common.{ap}
-use Rattle.gallium_cli.specs.Words.{Run, Compile, Replay, Check, Gen, PcapIn, PcapOut, asked_by, split_asked}
+use Rattle.gallium_cli.specs.Words.{Run, Compile, Replay, Check, Audit, Gen, PcapIn, PcapOut, asked_by, split_asked}
 use Rattle.gallium_cli.proofs.Written.{asked_ok, asked_err}
 use Rattle.gallium_cli.proofs.top.perform.Goals as goal
 
@@ -39,6 +39,15 @@ returns-in-Some-Check-clause-err g c =
     (g.S.SwitchPort.seen c.args.port.now) (g.S.SwitchPort.seen c.args.port.now)
     (g.O.Sink.seen c.args.out.now) (g.O.Sink.seen c.perform_check.new.out)
     arm.ensures (ap asked_by arm.field-0-is) (c.perform_check.ensures.err (g.S.SwitchPort.seen c.args.port.now))
+
+pub returns-in-Some-Audit-clause-err : goal.returns-in-Some-Audit-clause-err
+returns-in-Some-Audit-clause-err g c =
+    let arm = c.in-Some-Audit in
+    asked_err c.perform_audit.result _ (asked_by arm.field-0) (Audit arm.source.now arm.trace.now arm.report.now)
+    (g.F.Files.seen c.args.files.now) (g.F.Files.seen c.perform_audit.new.files)
+    (g.S.SwitchPort.seen c.args.port.now) (g.S.SwitchPort.seen c.args.port.now)
+    (g.O.Sink.seen c.args.out.now) (g.O.Sink.seen c.perform_audit.new.out)
+    arm.ensures (ap asked_by arm.field-0-is) (c.perform_audit.ensures.err (g.S.SwitchPort.seen c.args.port.now))
 
 pub returns-in-Some-Gen-clause-ok : goal.returns-in-Some-Gen-clause-ok
 returns-in-Some-Gen-clause-ok g c =

@@ -1,0 +1,212 @@
+-- The report of a replay is a report, and it is true.
+use Rattle.std.proofs.Common.{◌≡◌, ◌≤◌, ◌<◌, ◌^◌, ◌+◌, ◌*◌, ℕ, zero, suc, Bool, true, false, ◌&&◌, ◌||◌, List, [], ◌∷◌, length, Option, Some, None}
+use Rattle.std.proofs.Common.{IfSome, IsSomeAnd, refl, sym, ap, subst, ◌∙◌, inl, inr, arith}
+use Rattle.std.specs.Prelude.{IsTrue, slice_index_or}
+use Rattle.std.specs.List.{AllByRecursion as Each}
+use Rattle.std.proofs.lemmas.Bool.{cases_Bool, true≢false}
+use Rattle.std.proofs.lemmas.List.{length-append}
+use Rattle.packet_fields.specs.declared.packet.Packet.{Packet}
+use Rattle.state_store.specs.declared.object.ObjectDecl.{ObjectDecl}
+use Rattle.state_store.specs.Kept.{IsKept}
+use Rattle.state_store.specs.Store.{start_store}
+use Rattle.element_lang.specs.Accepted.{IsSource}
+use Rattle.element_lang.specs.Rules.{is_good}
+use Rattle.element_lang.specs.Tree.{Tree}
+use Rattle.flat_ir.specs.Arrivals.{IsArrival}
+use Rattle.flat_ir.specs.Program.{Program, step_at}
+use Rattle.flat_ir.specs.WellFormed.{IsWellFormed}
+use Rattle.flatten.specs.Flatten.{flat_of}
+use Rattle.split_model.specs.declared.split.Part.{Part}
+use Rattle.split_model.specs.Bounds.{IsBounded}
+use Rattle.split_model.specs.Counts.{writes}
+use Rattle.split_model.specs.Greatest.{IsGreatestSplit, pre_marks}
+use Rattle.split_model.specs.Shown.{is_shown, looks_at}
+use Rattle.split_model.specs.Split.{any_below, is_pre}
+use Rattle.run_model.specs.declared.event.Event.{Event}
+use Rattle.run_model.specs.declared.run.Run.{Run}
+use Rattle.run_model.specs.Serialises.{Serialises}
+use Rattle.run_model.specs.Sizes.{most_events, most_packets}
+use Rattle.run_text.specs.Report.{report_of}
+use Rattle.replay_state.specs.Answers.{Answers, Setup}
+use Rattle.replay_state.specs.Drain.{drain_bound, drain_events, plan_events}
+use Rattle.replay_state.specs.Program.{Manner, plain, plain_manner, setup_of}
+use Rattle.replay_state.specs.Run.{job_run}
+use Rattle.replay_state.specs.State.{State}
+use Rattle.replay_state.specs.Step.{state_of}
+use Rattle.split_answers.specs.Whole.{IsSplit, whole_of}
+use Rattle.replay_contracts.specs.Given.{Given, IsReady, setup_for, whole_runs}
+use Rattle.replay_contracts.specs.Promise.{Promises}
+use Rattle.replay_course.specs.Going.{IsPlain, most_commands}
+use Rattle.report_text.specs.Form.{InForm, are_declared}
+use Rattle.report_text.specs.Lines.{IsReport}
+use Rattle.run_audit.specs.Counts.{CountsAgree}
+use Rattle.run_audit.specs.Source.{source_of}
+use Rattle.run_audit.specs.Told.{IsTrueReport}
+use Rattle.gallium_cli.specs.Answers.{IsAuditInput, IsReplayOf, MayReplay, events_of, given}
+use Rattle.gallium_cli.specs.Promises.{IsReplayReport}
+use Rattle.gallium_cli.specs.Roles.{IsSpelled, true_report}
+use Rattle.gallium_cli.proofs.Bounds.{bounded_program}
+use Rattle.gallium_cli.proofs.Reported.{CarriesOver, KeepsStores, MeansTheSame, split_is_source}
+use Rattle.gallium_cli.proofs.Runnable.{few_writes, no_writes}
+use Rattle.gallium_cli.proofs.Untrue.{IsSameInput}
+
+-- ## Splits
+
+-- a mark of a list of parts, and what the part says
+marked : (split : List Part) (i : ℕ) → is_pre split i ≡ true → slice_index_or (pre_marks split) i false ≡ true
+marked [] i pre = absurd (true≢false (sym pre))
+marked (part ∷ split) zero pre = pre
+marked (part ∷ split) (suc i) pre = marked split i pre
+
+-- none passes a test, of which one part is never met
+none_passes : (n : ℕ) (one other : ℕ → Bool) → ((i : ℕ) → one i ≡ false) → any_below n (λ i. one i && other i) ≡ false
+none_passes zero one other none = refl
+none_passes (suc n) one other none =
+    ap (λ b. b || (one n && other n)) (none_passes n one other none) ∙ ap (λ b. b && other n) (none n)
+
+-- where preprocessing computes nothing, it looks up nothing
+unseen : (f : Program) (split : List Part) → IsGreatestSplit f 0 false split → (o : ℕ) → is_shown f split o ≡ false
+unseen f split least o =
+    none_passes (length f.code) (is_pre split) (λ i. looks_at o (step_at f i).work) (λ i. none i)
+  where
+    none : (i : ℕ) → is_pre split i ≡ false
+    none i = elim (cases_Bool (is_pre split i)) [
+      | inl pre ↦ let low = least.pre.closed.below i (marked split i pre) in absurd (omega arith)
+      | inr other ↦ other
+    ]
+
+-- a split that a replay may go by has few writes for its write-back tables
+split_is : (m : Tree) (split : List Part) (writeback : ℕ) → IsBounded (flat_of m) → IsKept m.objects (start_store m.objects)
+    → MayReplay (flat_of m) split writeback → IsSplit (flat_of m) split writeback
+split_is m split writeback bounded kept (inl (allowed, accepted, rows)) = record {
+  bounded = bounded;
+  legal = accepted.legal;
+  kept = kept;
+  few = λ o.
+      subst (λ n. writes (flat_of m) split o ≤ n) (sym rows)
+      (few_writes (flat_of m) split allowed bounded.formed accepted.keeps o);
+}
+split_is m split writeback bounded kept (inr (choice, rows)) = record {
+  bounded = bounded;
+  legal = choice.legal;
+  kept = kept;
+  few = λ o.
+      subst (λ n. writes (flat_of m) split o ≤ n) (sym rows)
+      (no_writes (flat_of m) split (unseen (flat_of m) split choice.least) o);
+}
+
+-- ## Events
+
+-- how many events a plan has, with those of drain
+all_events : (setup : Setup) (a : Answers) (events : List Event) (drain : Bool) (bound : ℕ)
+    → ((st : State) → length (drain_events setup a st) ≤ bound)
+    → length (plan_events setup a events drain) ≤ length events + bound
+all_events setup a events true bound few =
+    let st = state_of setup a events in
+    let low = few st in
+    omega (arith, length-append events (drain_events setup a st))
+all_events setup a events false bound few = omega arith
+
+-- ## The laws that this rests on
+
+pub record Laws : Type 0 where
+  pub keeps : KeepsStores
+  pub same : MeansTheSame
+  pub over : CarriesOver
+  pub formed : (m : Tree) → IsTrue (is_good m) → IsWellFormed (flat_of m)
+  pub promises : (x : Given) (events : List Event) → IsReady x
+      → Promises x events (job_run (setup_for x) (whole_runs x) events)
+  pub bound : (setup : Setup) (a : Answers) (st : State) → length (drain_events setup a st) ≤ drain_bound setup
+  pub commands : (x : Given) → IsSplit x.program x.split x.writeback → length x.packets ≤ most_packets
+      → length x.packets * most_commands x < 2 ^ 32
+  pub few : (x : Given) → IsPlain x → length x.packets ≤ most_packets → drain_bound (setup_for x) < 2 ^ 30
+  pub in_form : (f : Program) (split : List Part) (writeback : ℕ) (packets : List Packet) (manner : Manner)
+      (events : List Event)
+      → IsSplit f split writeback → Each IsArrival packets → length packets < 2 ^ 32 → length events < 2 ^ 32
+      → (let s = whole_of f split writeback in
+      InForm f.objects (job_run (setup_of s packets manner) (plain s packets) events))
+  pub read : (declared : List ObjectDecl) (run : Run) → IsTrue (are_declared declared) → InForm declared run
+      → IsReport declared (report_of declared run) run
+  pub true_report : (m : Tree) (packets : List Packet) (run : Run)
+      → CountsAgree packets run → Serialises (source_of m packets) run → IsTrueReport m packets run
+
+-- ## Reports
+
+few_in_all : (n events bound : ℕ) → n ≤ events + bound → events ≤ most_events → bound < 2 ^ 30 → n < 2 ^ 32
+few_in_all n events bound all few low = omega arith
+
+low_count : (n : ℕ) → n ≤ most_packets → n < 2 ^ 32
+low_count n few = omega arith
+
+count_within : (n : ℕ) → n ≤ most_packets → n ≤ 2 ^ 32
+count_within n few = omega arith
+
+pub replay_is_true : Laws → (text : List ℕ) (m : Tree) (packets : List Packet) (report : List ℕ) → IsSource text m
+    → IsTrue (are_declared m.objects) → Each IsArrival packets → length packets ≤ most_packets
+    → IsReplayOf m packets report → IsSpelled (true_report m packets) report
+replay_is_true laws text m packets report is declared arrivals few replay =
+    let f = flat_of m in
+    let split = replay.split in
+    let writeback = replay.writeback in
+    let plan = replay.plan in
+    let x = given m split writeback packets in
+    let events = events_of x plan in
+    let run = job_run (setup_for x) (whole_runs x) events in
+    let good = is.spelling.good in
+    let bounded = bounded_program text m f is refl (laws.formed m good) replay.short in
+    let one = split_is m split writeback bounded (laws.keeps.start m good) replay.by in
+    let ready : IsReady x = record { split = one; arrivals = arrivals; few = count_within (length packets) few } in
+    let plain_run : IsPlain x = record { ready = ready; manner = refl; few = laws.commands x one few } in
+    let count =
+    few_in_all (length events) (length plan.events) (drain_bound (setup_for x))
+    (all_events (setup_for x) (whole_runs x) plan.events plan.drain (drain_bound (setup_for x))
+    (laws.bound (setup_for x) (whole_runs x)))
+    replay.few (laws.few x plain_run few) in
+    let alike = split_is_source m split writeback (length packets) packets laws.keeps laws.same good arrivals in
+    let serial : Serialises (source_of m packets) run =
+    laws.over.serialises _ (source_of m packets) run alike (laws.promises x events ready).serialises in
+    let counts : CountsAgree packets run =
+    record { total = refl; admitted = serial.admitted; decided = refl; released = refl } in
+    let form : InForm m.objects run =
+    laws.in_form f split writeback packets plain_manner events one arrivals (low_count (length packets) few) count in (
+      run,
+      subst (λ (t : List ℕ). IsReport m.objects t run) (sym replay.report) (laws.read m.objects run declared form),
+      laws.true_report m packets run counts serial,
+    )
+
+-- ## Told contents
+
+-- what is promised of it
+abbrev pub AreTrueReports : Type 0
+AreTrueReports =
+    (text : List ℕ) (m : Tree) (packets : List Packet) (report : List ℕ) → IsSource text m
+    → IsTrue (are_declared m.objects) → Each IsArrival packets → length packets ≤ most_packets
+    → IsReplayOf m packets report → IsSpelled (true_report m packets) report
+
+pub not_both : (told : Option (List ℕ)) (P Q : List ℕ → Type 0) → ((text : List ℕ) → P text → Q text → ⊥)
+    → IsSomeAnd told P → IfSome told Q → ⊥
+not_both None P Q never one two = one
+not_both (Some text) P Q never one two = never text one two
+
+some_follows : (told : Option (List ℕ)) (P Q : List ℕ → Type 0) → ((text : List ℕ) → P text → Q text)
+    → IsSomeAnd told P → IsSomeAnd told Q
+some_follows None P Q follows h = h
+some_follows (Some text) P Q follows h = follows text h
+
+some_source : (told : Option (List ℕ)) (m : Tree) → IsSomeAnd told (λ text. IsSource text m)
+    → (text : List ℕ) × IsSource text m
+some_source None m h = absurd h
+some_source (Some text) m h = (text, h)
+
+-- the report of a replay, of the middlebox and the packets that a call found
+pub replay_told : AreTrueReports → (told : List ℕ → Option (List ℕ)) (s t r : List ℕ) (m : Tree) (packets : List Packet)
+    → IsAuditInput told s t m packets → (replay : IsReplayReport told s t r)
+    → IsSameInput replay.m m replay.packets packets → IsSomeAnd (told r) (IsSpelled (true_report m packets))
+replay_told law told s t r m packets found replay same =
+    let of = some_source (told s) replay.m replay.source in
+    let is = subst (λ (n : Tree). IsSource of.0 n) same.middlebox of.1 in
+    some_follows (told r) (IsReplayOf replay.m replay.packets) (IsSpelled (true_report m packets))
+    (λ report told_so. law of.0 m packets report is found.declared found.arrivals found.few
+    (subst (λ (n : Tree). IsReplayOf n packets report) same.middlebox
+    (subst (λ (ps : List Packet). IsReplayOf replay.m ps report) same.arrived told_so)))
+    replay.replay

@@ -1,0 +1,50 @@
+//! A middlebox and the packets of a trace.
+ghost use Rattle.std.specs.Prelude.{◌≡◌, ◌≤◌, ◌<◌, ◌^◌, IsTrue, IfOk, IfErr, OnOk, length};
+ghost use Rattle.packet_fields.specs.Sizes.{AreShort};
+ghost use Rattle.element_lang.specs.View.{tree};
+ghost use Rattle.element_lang.specs.Rules.{is_good};
+ghost use Rattle.report_text.specs.Form.{are_declared};
+ghost use Rattle.run_model.specs.Sizes.{most_packets};
+ghost use Rattle.gallium_cli.specs.Words.{Run};
+ghost use Rattle.gallium_cli.specs.Lines.{status_of};
+ghost use Rattle.gallium_cli.specs.Roles.{gates_of};
+ghost use Rattle.gallium_cli.specs.Answers.{IsInput};
+ghost use Rattle.gallium_cli.specs.Loads.{GoesOn, raised_by};
+ghost use Rattle.gallium_cli.specs.Causes.{IsFirstRefused};
+
+use crate::formats::{SourceFormat, TraceFormat};
+use crate::load::load;
+use crate::refusal::Refusal;
+use crate::status::Status;
+use element_lang::Middlebox;
+use gal_io::Files;
+use packet_fields::Packets;
+use std::alloc::Global;
+
+/// The middlebox and the packets that two files spell.
+pub fn load_input<'a, F: Files>(
+    alloc: Global,
+    source: &'a str,
+    trace: &'a str,
+    files: &mut F,
+) -> Result<(Middlebox, Packets), Refusal<'a>>
+    ensures ok { IfOk result (λ x. IsInput (F.seen files.old).told source.now trace.now (tree x.0) x.1) }
+    ensures good { IfOk result (λ x. IsTrue (is_good (tree x.0))) }
+    ensures few_objects { IfOk result (λ x. length x.0.objects < 2 ^ 32) }
+    ensures declared { IfOk result (λ x. IsTrue (are_declared (tree x.0).objects)) }
+    ensures few_packets { IfOk result (λ x. length x.1 ≤ most_packets) }
+    ensures short_packets { IfOk result (λ x. AreShort x.1) }
+    ensures err { IfErr result (λ refusal. IsFirstRefused refusal (gates_of (Run source.now trace.now))
+        (F.seen files.old) (F.seen files.new)) }
+    ensures stays { OnOk result (GoesOn Status.Done (F.seen files.old) (F.seen files.new)) }
+    ensures fault { IfErr result (λ refusal.
+        GoesOn (status_of refusal) (F.seen files.old) (F.seen files.new)) }
+    ensures read { OnOk result ((F.seen files.new).reads ≡ raised_by 2 (F.seen files.old).reads) }
+    ensures few_reads { (F.seen files.new).reads ≤ raised_by 2 (F.seen files.old).reads }
+{
+    let middlebox = load(alloc, files, &SourceFormat, source)?;
+    match load(alloc, files, &TraceFormat, trace) {
+        Ok(packets) => Ok((middlebox, packets)),
+        Err(refusal) => Err(refusal),
+    }
+}

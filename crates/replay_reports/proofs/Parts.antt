@@ -1,0 +1,124 @@
+-- The parts of a report: one for each object that is no table, and one for each that the switch keeps.
+use Rattle.std.proofs.Common.{◌≡◌, ◌≤◌, ◌+◌, ℕ, Bool, true, false, List, [], ◌∷◌, map, Some, refl, sym, ap, ◌∙◌, subst, arith, zero, suc}
+use Rattle.std.specs.Prelude.{All, if◌then◌else◌, slice_get}
+use Rattle.std.specs.List.{AllByRecursion as Each}
+use Rattle.std.proofs.lemmas.List.Elements.{All-head, All-tail}
+use Rattle.std.proofs.lemmas.Option.{same_Some, none-some}
+use Rattle.state_store.specs.declared.object.ObjectDecl.{ObjectDecl}
+use Rattle.state_store.specs.Kept.{IsKept}
+use Rattle.state_store.specs.Kinds.{is_table, is_constant}
+use Rattle.state_store.specs.Store.{Store, object_at, rows_of}
+use Rattle.run_model.specs.declared.run.Part.{Part}
+use Rattle.run_model.specs.Parts.{parts_from, parts_of, parts_where}
+use Rattle.split_model.specs.Bounds as bounds
+use Rattle.report_text.specs.Form.{IsPart, kept_from, AreInOrder}
+use Rattle.replay_reports.proofs.Rows.{kept_told}
+
+-- ## Objects
+
+small_at : (objects : List ObjectDecl) (n : ℕ) (d : ObjectDecl) → All bounds.IsSmall objects
+    → slice_get objects n ≡ Some d → d.size ≤ 1048576
+small_at [] n d all there = absurd (none-some d there)
+small_at (x ∷ objects) zero d all there =
+    subst (λ (o : ObjectDecl). o.size ≤ 1048576) (same_Some x d there) (All-head bounds.IsSmall x objects all).size
+small_at (x ∷ objects) (suc n) d all there = small_at objects n d (All-tail bounds.IsSmall x objects all) there
+
+constant_at : (objects : List ObjectDecl) (n : ℕ) (d : ObjectDecl) → slice_get objects n ≡ Some d
+    → is_constant objects n ≡ is_table d.kind
+constant_at [] n d there = absurd (none-some d there)
+constant_at (x ∷ objects) zero d there = ap (λ (o : ObjectDecl). is_table o.kind) (same_Some x d there)
+constant_at (x ∷ objects) (suc n) d there = constant_at objects n d there
+
+abbrev part_at : ℕ → Store → Part
+part_at n store = record { object = n; rows = rows_of (object_at store n) }
+
+-- ## The server's
+
+numbered : (test : Bool) (part : Part) (parts : List Part) (ns : List ℕ) (n : ℕ) → part.object ≡ n
+    → map (λ (p : Part). p.object) parts ≡ ns
+    → map (λ (p : Part). p.object) (if test then parts else part ∷ parts) ≡ (if test then ns else n ∷ ns)
+numbered true part parts ns n here rest = rest
+numbered false part parts ns n here rest = ap (λ k. k ∷ map (λ (p : Part). p.object) parts) here ∙ ap (λ l. n ∷ l) rest
+
+pub numbers_from : (n : ℕ) (objects : List ObjectDecl) (store : Store)
+    → map (λ (p : Part). p.object) (parts_from n objects store) ≡ kept_from n objects
+numbers_from n [] store = refl
+numbers_from n (object ∷ objects) store =
+    numbered (is_table object.kind) (part_at n store) (parts_from (suc n) objects store) (kept_from (suc n) objects) n refl
+    (numbers_from (suc n) objects store)
+
+all_if : (P : Part → Type 0) (test : Bool) (xs ys : List Part) → (test ≡ true → Each P xs) → (test ≡ false → Each P ys)
+    → Each P (if test then xs else ys)
+all_if P true xs ys one other = one refl
+all_if P false xs ys one other = other refl
+
+-- the objects from a number on are those that are declared
+abbrev Stands : List ObjectDecl → ℕ → List ObjectDecl → Type 0
+Stands declared n objects = (i : ℕ) → slice_get objects i ≡ slice_get declared (n + i)
+
+first_stands : (declared : List ObjectDecl) (n : ℕ) (object : ObjectDecl) (objects : List ObjectDecl)
+    → Stands declared n (object ∷ objects) → slice_get declared n ≡ Some object
+first_stands declared n object objects stands =
+    let same : n + 0 ≡ n = omega arith in sym (stands 0 ∙ ap (slice_get declared) same)
+
+others_stand : (declared : List ObjectDecl) (n : ℕ) (object : ObjectDecl) (objects : List ObjectDecl)
+    → Stands declared n (object ∷ objects) → Stands declared (suc n) objects
+others_stand declared n object objects stands i =
+    let same : n + suc i ≡ suc n + i = omega arith in stands (suc i) ∙ ap (slice_get declared) same
+
+module _ (declared : List ObjectDecl) (store : Store) (small : All bounds.IsSmall declared) (kept : IsKept declared store) where
+  told_part : (n : ℕ) (object : ObjectDecl) → slice_get declared n ≡ Some object → is_table object.kind ≡ false
+      → IsPart declared (part_at n store)
+  told_part n object there kind =
+      let told = kept_told object (object_at store n) (kept.each n object there) (small_at declared n object small there) in
+      record { object = object; is = there; kind = kind; few = told.few; rows = told.each; rising = told.rising }
+
+  server_from : (n : ℕ) (objects : List ObjectDecl) → Stands declared n objects
+      → Each (IsPart declared) (parts_from n objects store)
+  server_from n [] stands = tt
+  server_from n (object ∷ objects) stands =
+      let rest = server_from (suc n) objects (others_stand declared n object objects stands) in
+      all_if (IsPart declared) (is_table object.kind) (parts_from (suc n) objects store) _ (λ table. rest)
+      (λ kind. (told_part n object (first_stands declared n object objects stands) kind, rest))
+
+  pub server_parts : Each (IsPart declared) (parts_of declared store)
+  server_parts = server_from 0 declared (λ i. ap (slice_get declared) (whole i))
+    where
+      whole : (i : ℕ) → i ≡ 0 + i
+      whole i = omega arith
+
+  -- ## The switch's
+
+  module _ (test : ℕ → Bool) (changing : (n : ℕ) → test n ≡ true → is_constant declared n ≡ false) where
+    switch_from : (n : ℕ) (objects : List ObjectDecl) → Stands declared n objects
+        → Each (IsPart declared) (parts_where test n objects store)
+    switch_from n [] stands = tt
+    switch_from n (object ∷ objects) stands =
+        let rest = switch_from (suc n) objects (others_stand declared n object objects stands) in
+        let there = first_stands declared n object objects stands in
+        all_if (IsPart declared) (test n) (part_at n store ∷ parts_where test (suc n) objects store) _
+        (λ shown. (told_part n object there (sym (constant_at declared n object there) ∙ changing n shown), rest))
+        (λ hidden. rest)
+
+    pub switch_parts : Each (IsPart declared) (parts_where test 0 declared store)
+    switch_parts = switch_from 0 declared (λ i. ap (slice_get declared) (whole i))
+      where
+        whole : (i : ℕ) → i ≡ 0 + i
+        whole i = omega arith
+
+lower : (n k : ℕ) (parts : List Part) → n ≤ k → AreInOrder k parts → AreInOrder n parts
+lower n k [] low rising = tt
+lower n k (part ∷ parts) low rising = (omega arith, rising.1)
+
+rising_if : (test : Bool) (n : ℕ) (xs ys : List Part) → AreInOrder n xs → AreInOrder n ys
+    → AreInOrder n (if test then xs else ys)
+rising_if true n xs ys one other = one
+rising_if false n xs ys one other = other
+
+pub switch_order : (test : ℕ → Bool) (n : ℕ) (objects : List ObjectDecl) (store : Store)
+    → AreInOrder n (parts_where test n objects store)
+switch_order test n [] store = tt
+switch_order test n (object ∷ objects) store =
+    let rest = switch_order test (suc n) objects store in
+    rising_if (test n) n (part_at n store ∷ parts_where test (suc n) objects store) (parts_where test (suc n) objects store)
+    (omega arith, rest) (lower n (suc n) (parts_where test (suc n) objects store) (omega arith) rest)
