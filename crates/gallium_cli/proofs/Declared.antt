@@ -1,6 +1,8 @@
 -- The objects of a source are ones that a report can tell.
-use Rattle.std.proofs.Common.{◌≡◌, ℕ, ◌<◌, ◌^◌, ◌==◌, Bool, true, false, cond, not, ◌&&◌, ◌||◌, nat_lt, nat_le, List, [], ◌∷◌, length}
-use Rattle.std.proofs.Common.{Option, Some, None, refl, sym, ap, ◌∙◌, subst, arith, if◌then◌else◌, true≢false, ◌⊎◌, inl, inr}
+use Rattle.std.proofs.Common.{◌≡◌, ℕ, ◌<◌, ◌^◌, ◌==◌, Bool, true, false, cond, not, ◌&&◌, ◌||◌, nat_lt, nat_le, List}
+use Rattle.std.proofs.Common.{[], ◌∷◌, length}
+use Rattle.std.proofs.Common.{Option, Some, None, refl, sym, ap, ◌∙◌, subst, arith, if◌then◌else◌, true≢false, ◌⊎◌, inl}
+use Rattle.std.proofs.Common.{inr}
 use Rattle.std.specs.Prelude.{All, IsTrue, take_while, slice_index}
 use Rattle.std.specs.List.{list_all, list_any}
 use Rattle.std.specs.Str.{bytes_eq}
@@ -14,7 +16,8 @@ use Rattle.state_store.specs.declared.object.ObjectDecl.{ObjectDecl}
 use Rattle.element_lang.specs.declared.mark.Mark.{Mark}
 use Rattle.element_lang.specs.Mark.{symbol_in_front}
 use Rattle.element_lang.specs.Token.{Token, name, IsName, Lexeme, sized_lexeme, word_lexeme, word_token}
-use Rattle.element_lang.specs.Token.{number_lexeme, number_token, number_value, symbol_of, is_letter, is_digit, is_word_byte}
+use Rattle.element_lang.specs.Token.{number_lexeme, number_token, number_value, symbol_of, is_letter, is_digit}
+use Rattle.element_lang.specs.Token.{is_word_byte}
 use Rattle.element_lang.specs.Token.{is_number_byte}
 use Rattle.element_lang.specs.Accepted.{HasNames}
 use Rattle.element_lang.specs.Rules as rules

@@ -20,13 +20,16 @@ use Rattle.gallium_cli.specs.Call.{Call, Work}
 use Rattle.gallium_cli.specs.Lines.{status_of}
 use Rattle.gallium_cli.specs.Words.{Request, Run, Compile, Replay, Check, Audit as Audited, Gen, PcapIn, PcapOut}
 use Rattle.gallium_cli.specs.Words.{Served, Within, Spelled, is_replay, request_of}
-use Rattle.gallium_cli.specs.Roles.{Role, source, trace, legal_split, true_report, Gate, File, Choice, SplitFile, ReportFile}
+use Rattle.gallium_cli.specs.Roles.{Role, source, trace, legal_split, true_report, Gate, File, Choice, SplitFile}
+use Rattle.gallium_cli.specs.Roles.{ReportFile}
 use Rattle.gallium_cli.specs.Roles.{IsSpelled, gates_of, names_in}
 use Rattle.gallium_cli.specs.Loads.{IsFileRefused}
 use Rattle.gallium_cli.specs.Reports.{IsBadReport}
-use Rattle.gallium_cli.specs.Causes.{IsFirstRefused, IsSwitchKept, IsSwitchFaulty, IsNotWritten, IsIdle, IsDone, HasCause}
+use Rattle.gallium_cli.specs.Causes.{IsFirstRefused, IsSwitchKept, IsSwitchFaulty, IsNotWritten, IsIdle, IsDone}
+use Rattle.gallium_cli.specs.Causes.{HasCause}
 use Rattle.gallium_cli.specs.Causes.{CountsFaults, after_line, EndsFor, Ends}
-use Rattle.gallium_cli.specs.Promises.{IsWriteFault, BlamesInput, IsReadOnce, IsUsage, IsOneOf, IsBlamed, IsFailedOnSwitch}
+use Rattle.gallium_cli.specs.Promises.{IsWriteFault, BlamesInput, IsReadOnce, IsUsage, IsOneOf, IsBlamed}
+use Rattle.gallium_cli.specs.Promises.{IsFailedOnSwitch}
 use Rattle.gallium_cli.specs.Promises.{CountsOne}
 use Rattle.gallium_cli.specs.Promises.{MayExceed, IsReplay, IsReplayReport, Promises}
 use Rattle.gallium_cli.proofs.Written.{at_most}

@@ -252,7 +252,8 @@ pub record IsSummary (text : List ℕ) (seed count : ℕ) (port port_after : Por
 -- ## Audits
 
 -- the told contents spell this middlebox, whose objects a report can tell, and these packets, which can arrive
-pub record IsAuditInput (told : List ℕ → Option (List ℕ)) (s t : List ℕ) (m : Tree) (packets : List Packet) : Type 0 where
+pub record IsAuditInput (told : List ℕ → Option (List ℕ)) (s t : List ℕ) (m : Tree) (packets : List Packet)
+    : Type 0 where
   pub input : IsInput told s t m packets
   pub declared : IsTrue (are_declared m.objects)
   pub arrivals : Each IsArrival packets

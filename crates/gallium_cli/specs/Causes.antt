@@ -23,7 +23,8 @@ use Rattle.gallium_cli.specs.declared.refusal.Refusal.TheVariants.{Usage, Exceed
 use Rattle.gallium_cli.specs.Call.{Call, Work}
 use Rattle.gallium_cli.specs.Words.{Request, is_replay, request_of}
 use Rattle.gallium_cli.specs.Lines.{status_of, line_of}
-use Rattle.gallium_cli.specs.Roles.{legal_split, true_report, Gate, File, Choice, SplitFile, ReportFile, IsFirst, IsGood}
+use Rattle.gallium_cli.specs.Roles.{legal_split, true_report, Gate, File, Choice, SplitFile, ReportFile, IsFirst}
+use Rattle.gallium_cli.specs.Roles.{IsGood}
 use Rattle.gallium_cli.specs.Roles.{gates_of, names_of}
 use Rattle.gallium_cli.specs.Splits.{excess_of}
 use Rattle.gallium_cli.specs.Answers.{IsPlan, IsAuditInput, IsAnswer}
@@ -43,8 +44,8 @@ IsOverLimit refusal s l shrink told =
 
 -- ## The first gate that isn't passed
 
--- why a request goes no further: a file is refused, or no split is chosen, or the one that a file spells isn't taken, or
--- the report of a file
+-- why a request goes no further: a file is refused, or no split is chosen, or the split or the report of a file isn't
+-- taken
 abbrev pub IsRefusedAt : Refusal → Gate → FilesState → FilesState → Type 0
 IsRefusedAt refusal (File name role) f f' = IsFileRefused refusal role name f f'
 IsRefusedAt refusal (Choice s l shrink) f f' = IsOverLimit refusal s l shrink f.told

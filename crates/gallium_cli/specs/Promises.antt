@@ -79,7 +79,8 @@ pub record IsToldPlan (told : List ℕ → Option (List ℕ)) (s l : List ℕ) (
   pub limits : IsSomeAnd (told l) (λ text. (length text ≤ size_of limits) × AreLimits text allowed)
 
 -- they are told, and spell this middlebox, and these packets
-pub record IsToldInput (told : List ℕ → Option (List ℕ)) (s t : List ℕ) (m : Tree) (packets : List Packet) : Type 0 where
+pub record IsToldInput (told : List ℕ → Option (List ℕ)) (s t : List ℕ) (m : Tree) (packets : List Packet)
+    : Type 0 where
   pub source : IsSomeAnd (told s) (λ text. (length text ≤ size_of source) × IsSource text m)
   pub trace : IsSomeAnd (told t) (λ text. (length text ≤ size_of trace) × (trace_of text ≡ Ok packets))
 

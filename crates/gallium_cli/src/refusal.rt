@@ -77,8 +77,8 @@ pub enum Refusal<'a> {
     NoMemory,
     /// The capture is refused, for this cause, which isn't want of memory.
     Pcap(PcapError),
-    /// The report is refused for its form: the first line with which no report goes on, counted from 1, or the number of
-    /// lines and one more.
+    /// The report is refused for its form: the first line with which no report goes on, counted from 1, or the number
+    /// of lines and one more.
     Report(usize),
     /// The report isn't true.
     Audit(Untruth),

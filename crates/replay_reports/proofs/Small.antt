@@ -1,5 +1,6 @@
 -- The numbers of a run: none is above the number of its events.
-use Rattle.std.proofs.Common.{◌≡◌, ℕ, ◌+◌, ◌<◌, ◌≤◌, ◌^◌, Bool, true, false, List, [], ◌∷◌, ◌++◌, Option, Some, None, IfSome, refl, ◌∙◌, arith, zero, suc, length, map}
+use Rattle.std.proofs.Common.{◌≡◌, ℕ, ◌+◌, ◌<◌, ◌≤◌, ◌^◌, Bool, true, false, List, [], ◌∷◌, ◌++◌, Option, Some, None}
+use Rattle.std.proofs.Common.{IfSome, refl, ◌∙◌, arith, zero, suc, length, map}
 use Rattle.std.specs.Prelude.{◌==◌, nat_le, if◌then◌else◌, slice_get, slice_set, remove}
 use Rattle.std.specs.List.{AllByRecursion}
 use Rattle.packet_fields.specs.declared.verdict.Verdict.{Verdict}
@@ -8,9 +9,11 @@ use Rattle.writeback_table.specs.declared.command.Update.{Update}
 use Rattle.run_model.specs.declared.event.Event.{Event}
 use Rattle.run_model.specs.declared.event.Event.TheVariants.{Admit, Stage, Serve, Send, Apply, Ack, Hold, Down}
 use Rattle.replay_state.specs.Answers.{Answers, Setup}
-use Rattle.replay_state.specs.State.{State, Pass, Progress, Entered, Up, Held, Slow, Fast, fate_of, first_state, seen, store_at}
+use Rattle.replay_state.specs.State.{State, Pass, Progress, Entered, Up, Held, Slow, Fast, fate_of, first_state, seen}
+use Rattle.replay_state.specs.State.{store_at}
 use Rattle.replay_state.specs.Step.{applies, happens, step, steps, tick, idled, finished, went_up, decided, released}
-use Rattle.replay_state.specs.Step.{came_in, came_out, ended, entered, staged, pass_of, with_changes, ran, served, let_go, came_down, admitted}
+use Rattle.replay_state.specs.Step.{came_in, came_out, ended, entered, staged, pass_of, with_changes, ran, served}
+use Rattle.replay_state.specs.Step.{let_go, came_down, admitted}
 use Rattle.report_text.specs.Form.{IsVerdict, IsFate}
 use Rattle.replay_reports.proofs.Versions.{total, visible_low, total_more, total_merged}
 

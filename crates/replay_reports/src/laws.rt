@@ -18,9 +18,9 @@ use replay_state::{
 };
 use split_answers::split_programs_have_their_laws;
 
-/// Whatever the schedule, the run of a split program is one that a report can tell, where its packets and its events can
-/// be counted in 32 bits: each number fits, the order names each decided packet, and each object has rows of its counts
-/// and widths in rising order.
+/// Whatever the schedule, the run of a split program is one that a report can tell, where its packets and its events
+/// can be counted in 32 bits: each number fits, the order names each decided packet, and each object has rows of its
+/// counts and widths in rising order.
 pub fn replayed_runs_are_in_form()
     ensures { (f : Program) (split : List Part) (writeback : ℕ) (packets : List Packet) (manner : Manner)
         (events : List Event)
