@@ -1,5 +1,5 @@
 -- Why a chain isn't composed.
-use Rattle.std.specs.Prelude.{◌≡◌, ℕ, suc, ◌+◌, ◌-◌, ◌<◌, ◌≤◌, ◌^◌, min, true, length}
+use Rattle.std.specs.Prelude.{◌≡◌, ℕ, suc, ◌+◌, ◌-◌, ◌<◌, ◌≤◌, ◌^◌, min, true, List, length}
 use Rattle.element_lang.specs.Accepted.{deepest}
 use Rattle.element_lang.specs.Sizes.{entries, writes}
 use Rattle.element_lang.specs.Surface.{named}
@@ -34,8 +34,10 @@ abbrev mutual
   statements_in (stmt s b) = statements_of s + statements_in b
 
 -- an element behind the entry that reads bytes of the packet as it arrived
-abbrev pub ReadsBehind : Connected → ℕ → Type 0
-ReadsBehind c e = (0 < e) × (e < length c.elements) × (any_uses_bytes (element_at c.elements e).body ≡ true)
+pub record ReadsBehind (elements : List Tree) (e : ℕ) : Type 0 where
+  pub behind : 0 < e
+  pub there : e < length elements
+  pub reads : any_uses_bytes (element_at elements e).body ≡ true
 
 -- the first number of which something holds
 pub record IsFirst (P : ℕ → Type 0) (n : ℕ) : Type 0 where
@@ -77,19 +79,19 @@ most_statements = 65536
 
 -- this is the first reason in order
 abbrev pub IsRefused : Connected → ComposeError → Type 0
-IsRefused c (Byte e) = IsFirst (ReadsBehind c) e
-IsRefused c (Repeat e) = ((f : ℕ) → ReadsBehind c f → ⊥) × IsFirst (RepeatsBehind c) e
+IsRefused c (Byte e) = IsFirst (ReadsBehind c.elements) e
+IsRefused c (Repeat e) = ((f : ℕ) → ReadsBehind c.elements f → ⊥) × IsFirst (RepeatsBehind c) e
 IsRefused c Statements =
-    ((f : ℕ) → ReadsBehind c f → ⊥) × ((f : ℕ) → RepeatsBehind c f → ⊥)
+    ((f : ℕ) → ReadsBehind c.elements f → ⊥) × ((f : ℕ) → RepeatsBehind c f → ⊥)
     × (most_statements < statements_in (composed c).body)
 IsRefused c (TooLarge what have most) =
-    ((f : ℕ) → ReadsBehind c f → ⊥) × ((f : ℕ) → RepeatsBehind c f → ⊥)
+    ((f : ℕ) → ReadsBehind c.elements f → ⊥) × ((f : ℕ) → RepeatsBehind c f → ⊥)
     × (statements_in (composed c).body ≤ most_statements) × IsTooLarge (composed c) what have most
 IsRefused c NoMemory = Unit {0}
 
 -- there is no reason
 pub record IsUnrefused (c : Connected) : Type 0 where
-  pub bytes : (e : ℕ) → ReadsBehind c e → ⊥
+  pub bytes : (e : ℕ) → ReadsBehind c.elements e → ⊥
   pub repeats : (e : ℕ) → RepeatsBehind c e → ⊥
   pub few : statements_in (composed c).body ≤ most_statements
   pub sizes : (what : What) → amount what (composed c) ≤ allowed what

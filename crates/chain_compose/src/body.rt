@@ -1,95 +1,41 @@
-//! The statements of an element where it stands in the whole.
+//! The statements of elements, where they stand in the whole.
+ghost use Rattle.std.specs.Prelude.{◌≡◌, ◌<◌, ◌≤◌, length, OnOk, IfOk};
+ghost use Rattle.element_lang.specs.View.{expr_tree, stmt_tree, body_tree};
+ghost use Rattle.element_lang.specs.Tree.StmtTree.{choose, repeat};
+ghost use Rattle.element_chain.specs.Compose.{tests, body_placed, stmt_placed};
+ghost use Rattle.chain_compose.specs.Declares.{DeclaresBelow, AllDeclareBelow};
+ghost use Rattle.chain_compose.specs.Parts.{own_tree, spot_of, ends_of, sends_of, numbering, placed, written};
+ghost use Rattle.chain_compose.specs.Parts.{placed_behind, written_behind, one_placed, element_written};
 
 use crate::clearing::put_clearing;
-use crate::error::ComposeError;
-use crate::expressions::{place_expr, place_exprs};
-use crate::whole::Whole;
-use crate::wires::wire_at;
-use element_chain::{Chain, Target, Wire};
-use element_lang::{Body, Expr, Middlebox, Stmt};
+use crate::ends::ends_always;
+use crate::parts::{Parts, Place};
+use crate::plain::next_number;
+use crate::terms::test;
+use element_chain::{Target, Wire};
+use element_lang::{Body, Expr, Stmt};
 use gal_bits::{Op, Width};
-use packet_fields::Field;
-use std::alloc::Global;
-
-/// What the whole is made of: the chain, the middleboxes of its elements, and the fields that some element writes.
-#[derive(Clone, Copy)]
-pub(crate) struct Parts<'a> {
-    pub alloc: Global,
-    pub chain: &'a Chain,
-    pub classes: &'a [Middlebox],
-    pub written: &'a [Field],
-    /// The widths of 1 and of 8 bits.
-    pub bit: Width,
-    pub byte: Width,
-}
-
-/// An element where it stands in the whole.
-#[derive(Clone, Copy, Debug)]
-pub(crate) struct Spot {
-    pub element: u32,
-    /// The number of its first object in the whole.
-    pub base: u32,
-    /// Its port of arrival, where it stands behind another element.
-    pub port: Option<u8>,
-    /// How many elements may stand one behind the other from here on.
-    pub levels: u32,
-}
+use gal_io::NoMemory;
 
 impl Parts<'_> {
-    // The number in the whole of the next local of an element.
-    fn declare(
-        &self,
-        spot: &Spot,
-        local: u32,
-        names: &mut Vec<u32>,
-        whole: &mut Whole,
-    ) -> Result<u32, ComposeError> {
-        let width = match self.classes.get(spot.element as usize) {
-            Some(class) => match class.locals.as_slice().get(local as usize) {
-                Some(local) => local.width,
-                None => self.bit,
-            },
-            None => self.bit,
-        };
-        let number = whole.declare(width)?;
-        names.push(number)?;
-        Ok(number)
-    }
-
-    fn declare_all(
-        &self,
-        spot: &Spot,
-        locals: &[u32],
-        names: &mut Vec<u32>,
-        whole: &mut Whole,
-    ) -> Result<Vec<u32>, ComposeError> {
-        let mut numbers = Vec::new(self.alloc);
-        for local in locals {
-            numbers.push(self.declare(spot, *local, names, whole)?)?;
-        }
-        Ok(numbers)
-    }
-
-    fn expr(&self, spot: &Spot, names: &[u32], expr: &Expr) -> Result<Expr, ComposeError> {
-        Ok(place_expr(self.alloc, spot.port, self.byte, names, expr)?)
-    }
-
-    fn exprs(&self, spot: &Spot, names: &[u32], exprs: &[Expr]) -> Result<Vec<Expr>, ComposeError> {
-        Ok(place_exprs(self.alloc, spot.port, self.byte, names, exprs)?)
-    }
-
     /// Puts the statements of an element behind others.
     #[cycle(place)]
     pub fn put_body(
         &self,
-        spot: &Spot,
+        place: Place,
         body: &[Stmt],
         names: &mut Vec<u32>,
-        whole: &mut Whole,
+        widths: &mut Vec<Width>,
         out: &mut Body,
-    ) -> Result<(), ComposeError> {
+    ) -> Result<(), NoMemory>
+        requires there { place.element < length self.now.classes.now }
+        requires known { AllDeclareBelow (length (own_tree self.now place).locals) (body_tree body.now) }
+        ensures { OnOk result (placed names.new.items widths.new.items out.new.items
+            ≡ placed_behind out.old.items (body_placed (spot_of self.now place) (sends_of self.now place)
+            (body_tree body.now) (numbering names.old.items widths.old.items))) }
+    {
         for stmt in body {
-            self.put_stmt(spot, stmt, names, whole, out)?;
+            self.put_stmt(place, stmt, names, widths, out)?;
         }
         Ok(())
     }
@@ -97,261 +43,219 @@ impl Parts<'_> {
     #[cycle(place)]
     fn put_stmt(
         &self,
-        spot: &Spot,
+        place: Place,
         stmt: &Stmt,
         names: &mut Vec<u32>,
-        whole: &mut Whole,
+        widths: &mut Vec<Width>,
         out: &mut Body,
-    ) -> Result<(), ComposeError> {
-        let placed = match stmt {
-            Stmt::Send { port } => {
-                let port = self.expr(spot, names.as_slice(), port)?;
-                return self.put_sent(spot, port, whole, out);
-            }
-            Stmt::If { cond, yes, no } => {
-                whole.count()?;
-                let cond = self.expr(spot, names.as_slice(), cond)?;
-                let mut first = Vec::new(self.alloc);
-                self.put_body(spot, yes, names, whole, &mut first)?;
-                let mut second = Vec::new(self.alloc);
-                self.put_body(spot, no, names, whole, &mut second)?;
-                Stmt::If {
-                    cond,
-                    yes: first,
-                    no: second,
-                }
-            }
-            Stmt::Repeat { index, count, body } => {
-                whole.count()?;
-                let index = self.declare(spot, *index, names, whole)?;
-                let mut turn = Vec::new(self.alloc);
-                self.put_body(spot, body, names, whole, &mut turn)?;
-                Stmt::Repeat {
-                    index,
-                    count: *count,
-                    body: turn,
-                }
-            }
-            _ => self.plain(spot, stmt, names, whole)?,
-        };
-        out.push(placed)?;
-        Ok(())
-    }
-
-    // A statement that has none within it and isn't a `send`.
-    fn plain(
-        &self,
-        spot: &Spot,
-        stmt: &Stmt,
-        names: &mut Vec<u32>,
-        whole: &mut Whole,
-    ) -> Result<Stmt, ComposeError> {
-        whole.count()?;
+    ) -> Result<(), NoMemory>
+        requires there { place.element < length self.now.classes.now }
+        requires known { DeclaresBelow (length (own_tree self.now place).locals) (stmt_tree stmt.now) }
+        ensures { OnOk result (placed names.new.items widths.new.items out.new.items
+            ≡ placed_behind out.old.items (stmt_placed (spot_of self.now place) (sends_of self.now place)
+            (stmt_tree stmt.now) (numbering names.old.items widths.old.items))) }
+    {
         match stmt {
             Stmt::Let { local, value } => {
-                let value = self.expr(spot, names.as_slice(), value)?;
-                let local = self.declare(spot, *local, names, whole)?;
-                Ok(Stmt::Let { local, value })
+                out.push(self.let_local(place, *local, value, names, widths)?)?;
             }
-            Stmt::Assign { local, value } => Ok(Stmt::Assign {
-                local: match names.get(*local as usize) {
-                    Some(number) => *number,
-                    None => 0,
-                },
-                value: self.expr(spot, names.as_slice(), value)?,
-            }),
-            Stmt::SetField { field, value } => Ok(Stmt::SetField {
-                field: *field,
-                value: self.expr(spot, names.as_slice(), value)?,
-            }),
+            Stmt::Assign { local, value } => {
+                out.push(self.assign(place, *local, value, names.as_slice())?)?;
+            }
+            Stmt::SetField { field, value } => {
+                out.push(self.set_field(place, *field, value, names.as_slice())?)?;
+            }
             Stmt::Look {
                 found,
                 into,
                 object,
                 keys,
-            } => {
-                let keys = self.exprs(spot, names.as_slice(), keys)?;
-                let found = self.declare(spot, *found, names, whole)?;
-                let into = self.declare_all(spot, into, names, whole)?;
-                Ok(Stmt::Look {
-                    found,
-                    into,
-                    object: self.object(spot, *object),
-                    keys,
-                })
-            }
+            } => out.push(self.look(place, *found, into, *object, keys, names, widths)?)?,
             Stmt::Put {
                 ok,
                 object,
                 keys,
                 values,
-            } => {
-                let keys = self.exprs(spot, names.as_slice(), keys)?;
-                let values = self.exprs(spot, names.as_slice(), values)?;
-                let ok = self.declare(spot, *ok, names, whole)?;
-                Ok(Stmt::Put {
-                    ok,
-                    object: self.object(spot, *object),
-                    keys,
-                    values,
-                })
-            }
+            } => out.push(self.put(place, *ok, *object, keys, values, names, widths)?)?,
             Stmt::Del { was, object, keys } => {
-                let keys = self.exprs(spot, names.as_slice(), keys)?;
-                let was = self.declare(spot, *was, names, whole)?;
-                Ok(Stmt::Del {
-                    was,
-                    object: self.object(spot, *object),
-                    keys,
-                })
+                out.push(self.del(place, *was, *object, keys, names, widths)?)?;
             }
-            _ => Ok(Stmt::Drop),
-        }
-    }
-
-    fn object(&self, spot: &Spot, object: u32) -> u32 {
-        spot.base.saturating_add(object)
-    }
-
-    // What stands for a `send` by this port: where the element has a wire, a local for the port, and tests of it.
-    #[cycle(place)]
-    fn put_sent(
-        &self,
-        spot: &Spot,
-        port: Expr,
-        whole: &mut Whole,
-        out: &mut Body,
-    ) -> Result<(), ComposeError> {
-        if wire_at(self.chain.wires.as_slice(), spot.element, 0).is_some() {
-            whole.count()?;
-            let local = whole.declare(self.byte)?;
-            out.push(Stmt::Let { local, value: port })?;
-            self.put_tests(spot, local, 0, whole, out)
-        } else {
-            whole.count()?;
-            out.push(Stmt::Drop)?;
-            Ok(())
-        }
-    }
-
-    // Tests of a local for each wire of the element from an output on, each within the second block of the one before.
-    #[cycle(place)]
-    fn put_tests(
-        &self,
-        spot: &Spot,
-        local: u32,
-        output: u16,
-        whole: &mut Whole,
-        out: &mut Body,
-    ) -> Result<(), ComposeError> {
-        whole.count()?;
-        match wire_at(self.chain.wires.as_slice(), spot.element, output) {
-            Some(wire) => {
-                let cond = self.is_output(local, wire.output)?;
-                let mut yes = Vec::new(self.alloc);
-                self.put_end(spot, wire, whole, &mut yes)?;
-                let mut no = Vec::new(self.alloc);
-                self.put_tests(spot, local, u16::from(wire.output) + 1, whole, &mut no)?;
-                out.push(Stmt::If { cond, yes, no })?;
+            Stmt::If { cond, yes, no } => {
+                out.push(self.choose(place, cond, yes, no, names, widths)?)?;
             }
-            None => out.push(Stmt::Drop)?,
+            Stmt::Repeat { index, count, body } => {
+                out.push(self.repeat(place, *index, *count, body, names, widths)?)?;
+            }
+            Stmt::Send { port } => {
+                let port = self.expr(place, names.as_slice(), port)?;
+                self.put_sent(place, port, widths, out)?;
+            }
+            Stmt::Drop => out.push(Stmt::Drop)?,
         }
         Ok(())
     }
 
-    fn is_output(&self, local: u32, output: u8) -> Result<Expr, ComposeError> {
-        let mut args = Vec::new(self.alloc);
-        args.push(Expr::Local(local))?;
-        args.push(Expr::Lit(u64::from(output), self.byte))?;
-        Ok(Expr::Apply {
-            op: Op::Eq,
-            width: self.bit,
-            args,
+    #[cycle(place)]
+    fn choose(
+        &self,
+        place: Place,
+        cond: &Expr,
+        yes: &[Stmt],
+        no: &[Stmt],
+        names: &mut Vec<u32>,
+        widths: &mut Vec<Width>,
+    ) -> Result<Stmt, NoMemory>
+        requires there { place.element < length self.now.classes.now }
+        requires yes_known { AllDeclareBelow (length (own_tree self.now place).locals) (body_tree yes.now) }
+        requires no_known { AllDeclareBelow (length (own_tree self.now place).locals) (body_tree no.now) }
+        ensures { IfOk result (λ made. one_placed (stmt_tree made) names.new.items widths.new.items
+            ≡ stmt_placed (spot_of self.now place) (sends_of self.now place)
+            (choose (expr_tree cond.now) (body_tree yes.now) (body_tree no.now))
+            (numbering names.old.items widths.old.items)) }
+    {
+        let cond = self.expr(place, names.as_slice(), cond)?;
+        let mut first = Vec::new(self.alloc);
+        self.put_body(place, yes, names, widths, &mut first)?;
+        let mut second = Vec::new(self.alloc);
+        self.put_body(place, no, names, widths, &mut second)?;
+        Ok(Stmt::If {
+            cond,
+            yes: first,
+            no: second,
         })
     }
 
-    // What stands at the end of a wire.
+    #[cycle(place)]
+    fn repeat(
+        &self,
+        place: Place,
+        index: u32,
+        count: u8,
+        body: &[Stmt],
+        names: &mut Vec<u32>,
+        widths: &mut Vec<Width>,
+    ) -> Result<Stmt, NoMemory>
+        requires there { place.element < length self.now.classes.now }
+        requires index_known { index < length (own_tree self.now place).locals }
+        requires known { AllDeclareBelow (length (own_tree self.now place).locals) (body_tree body.now) }
+        ensures { IfOk result (λ made. one_placed (stmt_tree made) names.new.items widths.new.items
+            ≡ stmt_placed (spot_of self.now place) (sends_of self.now place)
+            (repeat index count (body_tree body.now)) (numbering names.old.items widths.old.items)) }
+    {
+        let index = self.declare(place, index, names, widths)?;
+        let mut turn = Vec::new(self.alloc);
+        self.put_body(place, body, names, widths, &mut turn)?;
+        Ok(Stmt::Repeat {
+            index,
+            count,
+            body: turn,
+        })
+    }
+
+    // Puts what stands for a `send` by this port: where the element has a wire, a local for the port, and tests of it.
+    #[cycle(place)]
+    fn put_sent(
+        &self,
+        place: Place,
+        port: Expr,
+        widths: &mut Vec<Width>,
+        out: &mut Body,
+    ) -> Result<(), NoMemory>
+        requires { place.element < length self.now.classes.now }
+        ensures { OnOk result (written widths.new.items out.new.items
+            ≡ written_behind out.old.items (sends_of self.now place (expr_tree port) widths.old.items)) }
+    {
+        let wires = self.routes.of(place.element);
+        if wires.is_empty() {
+            out.push(Stmt::Drop)?;
+            return Ok(());
+        }
+        let local = next_number(widths)?;
+        widths.push(self.byte)?;
+        out.push(Stmt::Let { local, value: port })?;
+        self.put_tests(place, local, wires, widths, out)
+    }
+
+    // Puts a test of a local for each wire, each within the second block of the one before.
+    #[cycle(place)]
+    fn put_tests(
+        &self,
+        place: Place,
+        local: u32,
+        wires: &[Wire],
+        widths: &mut Vec<Width>,
+        out: &mut Body,
+    ) -> Result<(), NoMemory>
+        ensures { OnOk result (written widths.new.items out.new.items
+            ≡ written_behind out.old.items (tests (ends_of self.now place) local wires.now widths.old.items)) }
+    {
+        match wires {
+            [] => out.push(Stmt::Drop)?,
+            [wire, rest @ ..] => {
+                let output = Expr::Lit(u64::from(wire.output), self.byte);
+                let cond = test(self.alloc, Op::Eq, Expr::Local(local), output)?;
+                let mut yes = Vec::new(self.alloc);
+                self.put_end(place, wire, widths, &mut yes)?;
+                let mut no = Vec::new(self.alloc);
+                self.put_tests(place, local, rest, widths, &mut no)?;
+                out.push(Stmt::If { cond, yes, no })?;
+            }
+        }
+        Ok(())
+    }
+
+    // Puts what stands at the end of a wire.
     #[cycle(place)]
     fn put_end(
         &self,
-        spot: &Spot,
-        wire: Wire,
-        whole: &mut Whole,
+        place: Place,
+        wire: &Wire,
+        widths: &mut Vec<Width>,
         out: &mut Body,
-    ) -> Result<(), ComposeError> {
+    ) -> Result<(), NoMemory>
+        ensures { OnOk result (written widths.new.items out.new.items
+            ≡ written_behind out.old.items (ends_of self.now place wire.now.to wire.now.input widths.old.items)) }
+    {
         match wire.to {
             Target::Out => {
-                whole.count()?;
                 out.push(Stmt::Send {
                     port: Expr::Lit(u64::from(wire.input), self.byte),
                 })?;
-                Ok(())
             }
-            Target::Element(element) if spot.levels > 0 => {
-                put_clearing(self.alloc, self.written, whole, out)?;
-                let behind = Spot {
+            Target::Element(element) if place.levels > 0 => {
+                put_clearing(self.alloc, self.cleared, out)?;
+                let behind = Place {
                     element,
-                    base: self.base_of(element),
                     port: Some(wire.input),
-                    levels: spot.levels - 1,
+                    levels: place.levels - 1,
                 };
-                self.put_element(&behind, whole, out)
+                self.put_element(behind, widths, out)?;
             }
-            Target::Element(_) => {
-                whole.count()?;
-                out.push(Stmt::Drop)?;
-                Ok(())
-            }
+            Target::Element(_) => out.push(Stmt::Drop)?,
         }
+        Ok(())
     }
 
-    /// Puts the body of an element that stands behind another one, and a `drop` where it may go on at its end.
+    // Puts the body of an element that stands behind another one, and a `drop` where it may go on at its end.
     #[cycle(place)]
     fn put_element(
         &self,
-        spot: &Spot,
-        whole: &mut Whole,
+        place: Place,
+        widths: &mut Vec<Width>,
         out: &mut Body,
-    ) -> Result<(), ComposeError> {
-        let Some(class) = self.classes.get(spot.element as usize) else {
-            whole.count()?;
+    ) -> Result<(), NoMemory>
+        ensures { OnOk result (written widths.new.items out.new.items
+            ≡ written_behind out.old.items (element_written self.now place widths.old.items)) }
+    {
+        let Some(class) = self.classes.get(place.element as usize) else {
             out.push(Stmt::Drop)?;
             return Ok(());
         };
         let mut names = Vec::new(self.alloc);
-        self.put_body(spot, &class.body, &mut names, whole, out)?;
+        self.put_body(place, &class.body, &mut names, widths, out)?;
         if !ends_always(&class.body) {
-            whole.count()?;
             out.push(Stmt::Drop)?;
         }
         Ok(())
-    }
-
-    // The number in the whole of the first object of an element.
-    pub fn base_of(&self, element: u32) -> u32 {
-        let mut base: u32 = 0;
-        for class in self.classes.iter().take(element as usize) {
-            base = base.saturating_add(class.objects.len() as u32);
-        }
-        base
-    }
-}
-
-// Whether a run never goes on behind a statement.
-#[cycle(ends)]
-fn always_ends(stmt: &Stmt) -> bool {
-    match stmt {
-        Stmt::Send { .. } | Stmt::Drop => true,
-        Stmt::If { yes, no, .. } => ends_always(yes) && ends_always(no),
-        _ => false,
-    }
-}
-
-/// Whether the last statement of a body always ends.
-#[cycle(ends)]
-pub(crate) fn ends_always(body: &[Stmt]) -> bool {
-    match body.last() {
-        Some(stmt) => always_ends(stmt),
-        None => false,
     }
 }

@@ -1,12 +1,15 @@
 //! What is cleared between two elements: what was written to a field whose header isn't there.
-
-ghost use Rattle.std.specs.Prelude.{◌≡◌};
+ghost use Rattle.std.specs.Prelude.{◌≡◌, OnOk, IfOk};
 ghost use Rattle.packet_fields.specs.Table.{row};
+ghost use Rattle.element_lang.specs.Tree.ExprTree.{apply};
+ghost use Rattle.element_lang.specs.View.{expr_tree, body_tree};
+ghost use Rattle.gal_bits.specs.declared.op.Op.TheVariants.{Select};
+ghost use Rattle.element_chain.specs.Compose.{followed, tag_test, short_test, kept_where, clearing, three};
 
-use crate::error::ComposeError;
-use crate::whole::Whole;
+use crate::terms::{test, three};
 use element_lang::{Body, Expr, Stmt};
 use gal_bits::{Op, Width};
+use gal_io::NoMemory;
 use packet_fields::{Field, Header, width};
 use std::alloc::Global;
 
@@ -37,83 +40,60 @@ fn header_of(field: Field) -> Header
     }
 }
 
-fn two(alloc: Global, a: Expr, b: Expr) -> Result<Vec<Expr>, ComposeError> {
-    let mut args = Vec::new(alloc);
-    args.push(a)?;
-    args.push(b)?;
-    Ok(args)
-}
-
-fn three(alloc: Global, a: Expr, b: Expr, c: Expr) -> Result<Vec<Expr>, ComposeError> {
-    let mut args = two(alloc, a, b)?;
-    args.push(c)?;
-    Ok(args)
-}
-
-fn test(alloc: Global, op: Op, a: Expr, b: Expr) -> Result<Expr, ComposeError> {
-    Ok(Expr::Apply {
-        op,
-        width: width(Field::HasIp),
-        args: two(alloc, a, b)?,
-    })
-}
-
 // Whether the packet has 18 bytes or more, and its type says that a VLAN tag (IEEE 802.1Q) is there.
-fn tag_test(alloc: Global) -> Result<Expr, ComposeError> {
+fn tag_test(alloc: Global) -> Result<Expr, NoMemory>
+    ensures { IfOk result (λ made. expr_tree made ≡ tag_test) }
+{
     let wide = width(Field::MetaLen);
-    let tagged = test(
-        alloc,
-        Op::Eq,
-        Expr::Field(Field::EthType),
-        Expr::Lit(0x8100, wide),
-    )?;
-    let long = test(
-        alloc,
-        Op::Lt,
-        Expr::Lit(17, wide),
-        Expr::Field(Field::MetaLen),
-    )?;
+    let tag = Expr::Lit(0x8100, wide);
+    let tagged = test(alloc, Op::Eq, Expr::Field(Field::EthType), tag)?;
+    let bytes = Expr::Lit(17, wide);
+    let long = test(alloc, Op::Lt, bytes, Expr::Field(Field::MetaLen))?;
     test(alloc, Op::And, tagged, long)
 }
 
-// The field's own value where its header is there, and else 0.
-fn kept_where(alloc: Global, field: Field) -> Result<Expr, ComposeError> {
-    let wide: Width = width(field);
-    let own = Expr::Field(field);
-    let zero = Expr::Lit(0, wide);
-    let args = match header_of(field) {
-        Header::Meta => return Ok(own),
-        Header::Ethernet => {
-            let wide = width(Field::MetaLen);
-            let short = test(
-                alloc,
-                Op::Lt,
-                Expr::Field(Field::MetaLen),
-                Expr::Lit(14, wide),
-            )?;
-            three(alloc, short, zero, own)?
-        }
-        Header::Vlan => three(alloc, tag_test(alloc)?, own, zero)?,
-        Header::Ip => three(alloc, Expr::Field(Field::HasIp), own, zero)?,
-        Header::Tcp => three(alloc, Expr::Field(Field::HasTcp), own, zero)?,
-        Header::Udp => three(alloc, Expr::Field(Field::HasUdp), own, zero)?,
-    };
+// Whether the packet is too short for the Ethernet header (IEEE 802.3).
+fn short_test(alloc: Global) -> Result<Expr, NoMemory>
+    ensures { IfOk result (λ made. expr_tree made ≡ short_test) }
+{
+    let bytes = Expr::Lit(14, width(Field::MetaLen));
+    test(alloc, Op::Lt, Expr::Field(Field::MetaLen), bytes)
+}
+
+// One of two expressions of this width, by a test.
+fn select(alloc: Global, wide: Width, test: Expr, yes: Expr, no: Expr) -> Result<Expr, NoMemory>
+    ensures { IfOk result (λ made.
+        expr_tree made ≡ apply Select wide (three (expr_tree test) (expr_tree yes) (expr_tree no))) }
+{
     Ok(Expr::Apply {
         op: Op::Select,
         width: wide,
-        args,
+        args: three(alloc, test, yes, no)?,
     })
 }
 
-/// Puts a statement for each field that some element writes.
-pub(crate) fn put_clearing(
-    alloc: Global,
-    written: &[Field],
-    whole: &mut Whole,
-    out: &mut Body,
-) -> Result<(), ComposeError> {
+// The field's own value where its header is there, and else 0.
+fn kept_where(alloc: Global, field: Field) -> Result<Expr, NoMemory>
+    ensures { IfOk result (λ made. expr_tree made ≡ kept_where (row field).header field (row field).width) }
+{
+    let wide = width(field);
+    let own = Expr::Field(field);
+    let zero = Expr::Lit(0, wide);
+    match header_of(field) {
+        Header::Meta => Ok(own),
+        Header::Ethernet => select(alloc, wide, short_test(alloc)?, zero, own),
+        Header::Vlan => select(alloc, wide, tag_test(alloc)?, own, zero),
+        Header::Ip => select(alloc, wide, Expr::Field(Field::HasIp), own, zero),
+        Header::Tcp => select(alloc, wide, Expr::Field(Field::HasTcp), own, zero),
+        Header::Udp => select(alloc, wide, Expr::Field(Field::HasUdp), own, zero),
+    }
+}
+
+/// Puts a statement for each of these fields.
+pub(crate) fn put_clearing(alloc: Global, written: &[Field], out: &mut Body) -> Result<(), NoMemory>
+    ensures { OnOk result (body_tree out.new.items ≡ followed (body_tree out.old.items) (clearing written.now)) }
+{
     for field in written {
-        whole.count()?;
         out.push(Stmt::SetField {
             field: *field,
             value: kept_where(alloc, *field)?,

@@ -1,81 +1,86 @@
 //! From a chain to one middlebox.
 
-use crate::body::{Parts, Spot};
 use crate::error::{ComposeError, What};
+use crate::matrix::Reach;
 use crate::names::{locals, objects};
-use crate::reach::Reach;
-use crate::uses::{any_repeats, any_sends_again, any_uses_bytes, written};
-use crate::whole::Whole;
+use crate::parts::{Parts, Place};
+use crate::refusals::{first_reader, first_repeater};
+use crate::routes::Routes;
+use crate::uses::fields_set;
 use element_chain::{Chain, Classes};
 use element_lang::{MAX_DEPTH, MAX_ENTRIES, MAX_OBJECTS, MAX_WRITES, Middlebox};
 use element_print::print;
 use element_rules::{entries, writes};
 use element_tokens::{depth, tokens};
+use gal_io::{NoMemory, Text};
 use packet_fields::{Field, width};
 use std::alloc::Global;
 
 /// The most bytes of a source.
-const MAX_BYTES: usize = 262_144;
+const MAX_BYTES: u64 = 262_144;
 
-// The first element behind the entry that reads bytes.
-fn first_reader(classes: &[Middlebox]) -> Option<u32> {
-    for (element, class) in classes.iter().enumerate().skip(1) {
-        if any_uses_bytes(&class.body) {
-            return Some(element as u32);
-        }
+/// The most statements of a composed middlebox, those within others counted.
+const MAX_STATEMENTS: u64 = 65_536;
+
+// Refuses elements that can't stand where they are.
+fn refuse_elements(
+    alloc: Global,
+    chain: &Chain,
+    classes: &[Middlebox],
+) -> Result<(), ComposeError> {
+    if let Some(element) = first_reader(classes) {
+        return Err(ComposeError::Byte(element));
     }
-    None
+    let reach = Reach::new(alloc, chain.wires.as_slice(), classes.len())?;
+    match first_repeater(classes, &reach) {
+        Some(element) => Err(ComposeError::Repeat(element)),
+        None => Ok(()),
+    }
 }
 
-// Whether wires lead to an element from one that is reached and sends within a `repeat`.
-fn stands_within(classes: &[Middlebox], reach: &Reach, element: usize) -> bool {
-    for (from, class) in classes.iter().enumerate() {
-        let is_reached = from == 0 || reach.leads(0, from);
-        if is_reached && any_sends_again(&class.body) && reach.leads(from, element) {
-            return true;
-        }
+impl Parts<'_> {
+    // The elements as one middlebox.
+    fn whole(&self) -> Result<Middlebox, NoMemory> {
+        let entry = Place {
+            element: 0,
+            port: None,
+            levels: self.classes.len() as u32,
+        };
+        let mut names = Vec::new(self.alloc);
+        let mut widths = Vec::new(self.alloc);
+        let mut body = Vec::new(self.alloc);
+        self.put_body(
+            entry,
+            &self.classes[0].body,
+            &mut names,
+            &mut widths,
+            &mut body,
+        )?;
+        Ok(Middlebox {
+            objects: objects(self.alloc, self.classes)?,
+            locals: locals(self.alloc, &widths)?,
+            body,
+        })
     }
-    false
 }
 
-// The first element with a `repeat` that stands within another one.
-fn first_repeater(classes: &[Middlebox], reach: &Reach) -> Option<u32> {
-    for (element, class) in classes.iter().enumerate() {
-        if any_repeats(&class.body) && stands_within(classes, reach, element) {
-            return Some(element as u32);
-        }
-    }
-    None
-}
-
-// The elements as one middlebox, in which so many statements are allowed.
-fn whole(alloc: Global, chain: &Chain, classes: &Classes) -> Result<Middlebox, ComposeError> {
-    let fields = written(alloc, classes)?;
+// The elements as one middlebox, where it has few enough statements. They are counted before it is made.
+fn whole(alloc: Global, chain: &Chain, classes: &[Middlebox]) -> Result<Middlebox, ComposeError> {
+    let routes = Routes::new(alloc, chain.wires.as_slice(), classes.len() as u32)?;
+    let cleared = fields_set(alloc, classes)?;
     let parts = Parts {
         alloc,
         chain,
         classes,
-        written: &fields,
+        routes: &routes,
+        cleared: &cleared,
         bit: width(Field::HasIp),
         byte: width(Field::MetaPort),
     };
-    let entry = Spot {
-        element: 0,
-        base: 0,
-        port: None,
-        levels: classes.len() as u32,
-    };
-    let mut whole = Whole::new(alloc);
-    let mut names = Vec::new(alloc);
-    let mut body = Vec::new(alloc);
-    if let Some(class) = classes.first() {
-        parts.put_body(&entry, &class.body, &mut names, &mut whole, &mut body)?;
+    if parts.size()? > MAX_STATEMENTS {
+        return Err(ComposeError::Statements);
     }
-    Ok(Middlebox {
-        objects: objects(alloc, classes)?,
-        locals: locals(alloc, &whole.widths)?,
-        body,
-    })
+    Ok(parts.whole()?)
 }
 
 fn within(what: What, have: u64, allowed: u64) -> Result<(), ComposeError> {
@@ -89,36 +94,30 @@ fn within(what: What, have: u64, allowed: u64) -> Result<(), ComposeError> {
     Ok(())
 }
 
-// Whether the middlebox and its text keep the sizes of sources.
-fn within_sizes(alloc: Global, m: &Middlebox) -> Result<(), ComposeError> {
+// How many brackets of a printed text are open at once.
+fn depth_of(alloc: Global, text: &Text) -> Result<u64, NoMemory> {
+    match tokens(alloc, text.as_slice()) {
+        Ok(found) => Ok(depth(text.as_slice(), &found) as u64),
+        Err(_) => Err(NoMemory),
+    }
+}
+
+// Refuses a middlebox that doesn't keep the sizes of sources, or whose text doesn't.
+fn refuse_sizes(alloc: Global, m: &Middlebox) -> Result<(), ComposeError> {
     within(What::Objects, m.objects.len() as u64, MAX_OBJECTS as u64)?;
     within(What::Entries, entries(m), MAX_ENTRIES)?;
     within(What::Writes, writes(m), MAX_WRITES)?;
     let text = print(alloc, m)?;
-    let found = match tokens(alloc, text.as_slice()) {
-        Ok(found) => found,
-        Err(_) => return Err(ComposeError::NoMemory),
-    };
-    within(
-        What::Depth,
-        depth(text.as_slice(), &found) as u64,
-        MAX_DEPTH as u64,
-    )?;
-    within(What::Bytes, text.len() as u64, MAX_BYTES as u64)
+    within(What::Depth, depth_of(alloc, &text)?, MAX_DEPTH as u64)?;
+    within(What::Bytes, text.len() as u64, MAX_BYTES)
 }
 
 /// One middlebox that does what the chain does: the body of the entry, in which the bodies of the elements behind it
 /// stand where it sends. Of several reasons for which there is none, the first one in the order of `ComposeError` is
 /// answered.
 pub fn compose(alloc: Global, chain: &Chain, classes: &Classes) -> Result<Middlebox, ComposeError> {
-    if let Some(element) = first_reader(classes) {
-        return Err(ComposeError::Byte(element));
-    }
-    let reach = Reach::new(alloc, chain.wires.as_slice(), classes.len())?;
-    if let Some(element) = first_repeater(classes, &reach) {
-        return Err(ComposeError::Repeat(element));
-    }
+    refuse_elements(alloc, chain, classes)?;
     let middlebox = whole(alloc, chain, classes)?;
-    within_sizes(alloc, &middlebox)?;
+    refuse_sizes(alloc, &middlebox)?;
     Ok(middlebox)
 }

@@ -4,13 +4,19 @@
 mod body;
 mod clearing;
 mod compose;
+mod count;
+mod ends;
 mod error;
 mod expressions;
+mod matrix;
 mod names;
+mod parts;
+mod plain;
 mod reach;
+mod refusals;
+mod routes;
+mod terms;
 mod uses;
-mod whole;
-mod wires;
 
 pub use compose::compose;
 pub use error::{ComposeError, What};

@@ -1,23 +1,41 @@
 //! Which elements wires lead to.
+ghost use Rattle.std.specs.Prelude.{◌≡◌, ◌<◌, ◌≤◌, suc, List, IfOk};
+ghost use Rattle.element_chain.specs.declared.chain.Wire.{Wire};
+ghost use Rattle.element_chain.specs.Wiring.{is_joined, is_to};
+ghost use Rattle.chain_compose.specs.Reach.{ShowsBy, is_shown};
 
+use crate::matrix::Reach;
 use element_chain::{Target, Wire};
 use gal_io::NoMemory;
 use std::alloc::Global;
 
-/// For each two elements, whether wires lead from the first to the second: the row of the first, then the next row.
-#[derive(Debug, Drop)]
-pub(crate) struct Reach {
-    count: usize,
-    rows: Vec<bool>,
+// Whether a wire leads from an element to another.
+fn is_joined(wires: &[Wire], from: usize, to: usize) -> bool
+    ensures { result ≡ is_joined wires.now from to }
+{
+    for wire in wires {
+        if wire.from as usize == from && leads_to(wire.to, to) {
+            return true;
+        }
+    }
+    false
 }
 
-fn is_joined(wires: &[Wire], from: usize, to: usize) -> bool {
-    wires.iter().any(|wire| wire.from as usize == from && wire.to == Target::Element(to as u32))
+fn leads_to(target: Target, to: usize) -> bool
+    ensures { result ≡ is_to to target }
+{
+    match target {
+        Target::Element(element) => element as usize == to,
+        Target::Out => false,
+    }
 }
 
 impl Reach {
     // Those that one wire leads to.
-    fn direct(alloc: Global, wires: &[Wire], count: usize) -> Result<Reach, NoMemory> {
+    fn direct(alloc: Global, wires: &[Wire], count: usize) -> Result<Reach, NoMemory>
+        requires { count ≤ 32 }
+        ensures { IfOk result (λ made. ShowsBy wires.now count 0 made) }
+    {
         let mut rows = Vec::new(alloc);
         for place in 0..count * count {
             rows.push(is_joined(wires, place / count, place % count))?;
@@ -26,7 +44,12 @@ impl Reach {
     }
 
     // Also those that are led to by way of one element more.
-    fn by_way(&self, alloc: Global, through: usize) -> Result<Reach, NoMemory> {
+    fn by_way(&self, alloc: Global, through: usize) -> Result<Reach, NoMemory>
+        requires few { self.now.count ≤ 32 }
+        requires within { through < self.now.count }
+        ensures { (wires : List Wire) → ShowsBy wires self.now.count through self.now
+            → IfOk result (λ made. ShowsBy wires self.now.count (suc through) made) }
+    {
         let mut rows = Vec::new(alloc);
         for place in 0..self.count * self.count {
             let (from, to) = (place / self.count, place % self.count);
@@ -41,7 +64,10 @@ impl Reach {
     }
 
     /// Those that any number of wires lead to.
-    pub fn new(alloc: Global, wires: &[Wire], count: usize) -> Result<Reach, NoMemory> {
+    pub fn new(alloc: Global, wires: &[Wire], count: usize) -> Result<Reach, NoMemory>
+        requires { count ≤ 32 }
+        ensures { IfOk result (λ made. ShowsBy wires.now count count made) }
+    {
         let mut reach = Reach::direct(alloc, wires, count)?;
         for through in 0..count {
             reach = reach.by_way(alloc, through)?;
@@ -49,7 +75,13 @@ impl Reach {
         Ok(reach)
     }
 
-    pub fn leads(&self, from: usize, to: usize) -> bool {
+    /// Whether wires lead from an element to another.
+    pub fn leads(&self, from: usize, to: usize) -> bool
+        requires few { self.now.count ≤ 32 }
+        requires from { from < self.now.count }
+        requires to { to < self.now.count }
+        ensures { result ≡ is_shown self.now from to }
+    {
         matches!(self.rows.get(from * self.count + to), Some(true))
     }
 }

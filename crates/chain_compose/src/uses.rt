@@ -1,14 +1,16 @@
 //! What elements do: whether they read bytes, repeat or send, and which fields they write.
-ghost use Rattle.std.specs.Prelude.{◌≡◌};
+ghost use Rattle.std.specs.Prelude.{◌≡◌, map, IfOk};
+ghost use Rattle.std.specs.List.{filter};
+ghost use Rattle.packet_fields.specs.Table.{all_fields};
 ghost use Rattle.element_lang.specs.Rules.{repeats, any_repeats};
-ghost use Rattle.element_lang.specs.View.{expr_tree, expr_trees, stmt_tree, body_tree};
-ghost use Rattle.element_chain.specs.Compose.{sets, sets_in};
+ghost use Rattle.element_lang.specs.View.{expr_tree, expr_trees, stmt_tree, body_tree, tree};
+ghost use Rattle.element_chain.specs.Compose.{sets, sets_in, is_set};
 ghost use Rattle.element_chain.specs.Laws.{reads_bytes, any_reads_bytes, uses_bytes, any_uses_bytes};
 ghost use Rattle.element_chain.specs.Laws.{sends_in, any_sends, sends_again, any_sends_again};
 
 use element_lang::{Expr, Middlebox, Stmt};
 use gal_io::NoMemory;
-use packet_fields::{Field, fields};
+use packet_fields::{Field, field_index, fields};
 use std::alloc::Global;
 
 #[cycle(reads)]
@@ -144,7 +146,7 @@ fn sets(field: Field, stmt: &Stmt) -> bool
     ensures { result ≡ sets field (stmt_tree stmt.now) }
 {
     match stmt {
-        Stmt::SetField { field: other, .. } => *other == field,
+        Stmt::SetField { field: other, .. } => field_index(field) == field_index(*other),
         Stmt::If { yes, no, .. } => sets_in(field, yes) || sets_in(field, no),
         Stmt::Repeat { body, .. } => sets_in(field, body),
         _ => false,
@@ -163,12 +165,27 @@ fn sets_in(field: Field, body: &[Stmt]) -> bool
     false
 }
 
-/// The fields that some element writes, in field order.
-pub(crate) fn written(alloc: Global, classes: &[Middlebox]) -> Result<Vec<Field>, NoMemory> {
+// Whether some element sets a field.
+fn is_set(field: Field, classes: &[Middlebox]) -> bool
+    ensures { result ≡ is_set (map tree classes.now) field }
+{
+    for class in classes {
+        if sets_in(field, &class.body) {
+            return true;
+        }
+    }
+    false
+}
+
+/// The fields that some element sets, in field order.
+pub(crate) fn fields_set(alloc: Global, classes: &[Middlebox]) -> Result<Vec<Field>, NoMemory>
+    ensures { IfOk result (λ found. found.items ≡ filter (is_set (map tree classes.now)) all_fields) }
+{
+    let all = fields();
     let mut found = Vec::new(alloc);
-    for field in fields() {
-        if classes.iter().any(|class| sets_in(field, &class.body)) {
-            found.push(field)?;
+    for field in &all {
+        if is_set(*field, classes) {
+            found.push(*field)?;
         }
     }
     Ok(found)
