@@ -14,7 +14,7 @@ is_shown reach from to = slice_index_or reach.rows.items (from * reach.count + t
 
 -- of each two elements it is told whether wires lead from one to the other by way of elements below a number
 pub record ShowsBy (wires : List Wire) (count through : ℕ) (reach : Reach) : Type 0 where
-  pub count : reach.count ≡ count
+  pub size : reach.count ≡ count
   pub each : (from to : ℕ) → from < count → to < count → is_shown reach from to ≡ leads_by wires through from to
 
 -- ## elements that are told of

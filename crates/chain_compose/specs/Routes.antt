@@ -4,6 +4,6 @@ use Rattle.element_chain.specs.declared.chain.Wire.{Wire}
 use Rattle.element_chain.specs.Compose.{wires_of}
 
 -- the wires of each of the first so many elements, in order of their outputs
-abbrev pub routes : List Wire → ℕ → List (List Wire)
-routes wires zero = []
-routes wires (suc n) = routes wires n ++ wires_of wires n ∷ []
+abbrev pub all_routes : List Wire → ℕ → List (List Wire)
+all_routes wires zero = []
+all_routes wires (suc n) = all_routes wires n ++ wires_of wires n ∷ []

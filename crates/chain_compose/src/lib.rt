@@ -3,7 +3,7 @@
 
 mod body;
 mod clearing;
-mod compose;
+mod composition;
 mod count;
 mod ends;
 mod error;
@@ -18,5 +18,5 @@ mod routes;
 mod terms;
 mod uses;
 
-pub use compose::compose;
+pub use composition::compose;
 pub use error::{ComposeError, What};

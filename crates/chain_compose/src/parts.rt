@@ -5,7 +5,7 @@ ghost use Rattle.packet_fields.specs.Table.{all_fields};
 ghost use Rattle.element_lang.specs.Rules.{is_good};
 ghost use Rattle.element_lang.specs.View.{tree};
 ghost use Rattle.element_chain.specs.Compose.{is_set};
-ghost use Rattle.chain_compose.specs.Routes.{routes};
+ghost use Rattle.chain_compose.specs.Routes.{all_routes};
 
 use crate::routes::Routes;
 use element_chain::Chain;
@@ -26,7 +26,7 @@ pub(crate) struct Parts<'a> {
     pub bit: Width,
     pub byte: Width,
     ghost good: { list_all (λ m. is_good (tree m)) classes.now ≡ true },
-    ghost routed: { routes.now ≡ routes chain.now.wires (length classes.now) },
+    ghost routed: { routes.now ≡ all_routes chain.now.wires (length classes.now) },
     ghost written: { cleared.now ≡ filter (is_set (map tree classes.now)) all_fields },
     ghost one: { bit ≡ 1 },
     ghost eight: { byte ≡ 8 },

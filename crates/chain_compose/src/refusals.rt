@@ -2,7 +2,7 @@
 ghost use Rattle.std.specs.Prelude.{◌≡◌, ◌<◌, ◌≤◌, ℕ, length, map, true, false, MatchOption};
 ghost use Rattle.element_lang.specs.View.{tree};
 ghost use Rattle.chain_compose.specs.Refusals.{ReadsBehind, IsFirst};
-ghost use Rattle.chain_compose.specs.Reach.{is_shown, stands_within, repeats_within, some_below, sends_to};
+ghost use Rattle.chain_compose.specs.Reach.{is_shown, repeats_within, some_below, sends_to};
 
 use crate::matrix::Reach;
 use crate::uses::{any_repeats, any_sends_again, any_uses_bytes};

@@ -1,8 +1,8 @@
 //! The wires of each element, in order of their outputs.
-ghost use Rattle.std.specs.Prelude.{◌≡◌, ◌<◌, IfOk, slice_index_or, []};
+ghost use Rattle.std.specs.Prelude.{◌≡◌, ◌++◌, IfOk, OnOk, option_to_list, slice_index_or, []};
 ghost use Rattle.element_chain.specs.Chain.{wire_at};
 ghost use Rattle.element_chain.specs.Compose.{wires_of};
-ghost use Rattle.chain_compose.specs.Parts.{routes};
+ghost use Rattle.chain_compose.specs.Routes.{all_routes};
 
 use element_chain::Wire;
 use gal_io::NoMemory;
@@ -24,15 +24,24 @@ fn wire_at(wires: &[Wire], element: u32, output: u16) -> Option<Wire>
     None
 }
 
+// Puts a wire last, where there is one.
+fn keep(found: &mut Vec<Wire>, wire: Option<Wire>) -> Result<(), NoMemory>
+    ensures { OnOk result (found.new.items ≡ found.old.items ++ option_to_list wire) }
+{
+    if let Some(wire) = wire {
+        found.push(wire)?;
+    }
+    Ok(())
+}
+
 // The wires of an element, in order of their outputs.
+
 fn wires_of(alloc: Global, wires: &[Wire], element: u32) -> Result<Vec<Wire>, NoMemory>
     ensures { IfOk result (λ found. found.items ≡ wires_of wires.now element) }
 {
     let mut found = Vec::new(alloc);
     for output in 0..OUTPUTS {
-        if let Some(wire) = wire_at(wires, element, output) {
-            found.push(wire)?;
-        }
+        keep(&mut found, wire_at(wires, element, output))?;
     }
     Ok(found)
 }
@@ -55,7 +64,7 @@ impl Model for Routes {
 impl Routes {
     /// The wires of so many elements.
     pub fn new(alloc: Global, wires: &[Wire], count: u32) -> Result<Routes, NoMemory>
-        ensures { IfOk result (λ made. made ≡ routes wires.now count) }
+        ensures { IfOk result (λ made. made ≡ all_routes wires.now count) }
     {
         let mut lists = Vec::new(alloc);
         for element in 0..count {

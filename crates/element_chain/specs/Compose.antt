@@ -157,7 +157,7 @@ abbrev pub wires_from : List Wire → ℕ → ℕ → ℕ → List Wire
 wires_from wires e zero output = []
 wires_from wires e (suc n) output = with_wire (wire_at wires e output) (wires_from wires e n (suc output))
 
-abbrev pub wires_of : List Wire → ℕ → List Wire
+unfoldable pub wires_of : List Wire → ℕ → List Wire
 wires_of wires e = wires_from wires e 256 0
 
 -- what stands at the end of a wire
