@@ -1,12 +1,19 @@
 -- A middlebox that keeps the rules declares only locals that are there.
-use Rattle.std.proofs.Common.{◌≡◌, ◌<◌, ◌≤◌, ℕ, zero, suc, ◌+◌, Bool, true, false, ◌&&◌, not, ◌==◌, List, [], ◌∷◌, ◌++◌, length, refl, sym, ap, ◌∙◌, arith, true≢false, subst}
-use Rattle.std.specs.List.{All}
+use Rattle.std.proofs.Common.{◌≡◌, ◌<◌, ◌≤◌, ℕ, zero, suc, ◌+◌, Bool, true, false, ◌&&◌, not, ◌==◌, List, [], ◌∷◌, ◌++◌, length, drop as drop_first, slice_index_or, refl, sym, ap, ◌∙◌, arith, true≢false, subst}
+use Rattle.std.specs.List.{All, list_all}
 use Rattle.std.proofs.lemmas.Bool.{eqb-true}
 use Rattle.std.proofs.lemmas.List.Elements.{All-nil, All-cons}
 use Rattle.element_lang.specs.Tree.{StmtTree, BodyTree, Tree}
 use Rattle.element_lang.specs.Tree.StmtTree.{let_local, assign, set_field, look, put, del, choose, repeat, send, drop}
 use Rattle.element_lang.specs.Tree.BodyTree.{done, stmt}
 use Rattle.element_lang.specs.Rules.{is_good, is_good_stmt, is_good_body, counted_from, declared_in, declared_by, binds, are_good_objects}
+use Rattle.element_lang.specs.declared.tree.Middlebox.{Middlebox}
+use Rattle.element_lang.specs.declared.tree.Stmt.{Stmt}
+use Rattle.element_lang.specs.View.{tree, stmt_tree, body_tree}
+use Rattle.chain_compose.specs.declared.parts.Parts.{Parts}
+use Rattle.chain_compose.specs.declared.parts.Place.{Place}
+use Rattle.chain_compose.specs.Parts.{own_tree}
+use Rattle.chain_compose.proofs.Trees.{body_from, tree_at}
 use Rattle.chain_compose.specs.Declares.{DeclaresBelow, AllDeclareBelow}
 
 pub left : (a b : Bool) → (a && b) ≡ true → a ≡ true
@@ -62,3 +69,23 @@ pub declares_below : (m : Tree) → is_good m ≡ true → AllDeclareBelow (leng
 declares_below m h =
     let count : declared_by m.body ≡ length m.locals = eqb-true (declared_by m.body) (length m.locals) (right _ _ (left _ _ h)) in
     low_body m (length m.locals) [] 0 m.body (right _ _ h) (omega (arith, count))
+
+-- ## in the code
+-- a statement among others
+pub known_at : (n : ℕ) (ss : List Stmt) (i : ℕ) (s : Stmt) → i < length ss → s ≡ slice_index_or ss i s → AllDeclareBelow n (body_tree (drop_first i ss))
+    → DeclaresBelow n (stmt_tree s) × AllDeclareBelow n (body_tree (drop_first (i + 1) ss))
+known_at n ss i s within is known = subst (λ (b : BodyTree). AllDeclareBelow n b) (body_from ss i s within is) known
+
+each_good : (ms : List Middlebox) (e : ℕ) (m : Middlebox) → e < length ms → m ≡ slice_index_or ms e m → list_all (λ (k : Middlebox). is_good (tree k)) ms ≡ true → is_good (tree m) ≡ true
+each_good [] e m within is h = absurd (omega (arith, within))
+each_good (k ∷ ms) zero m within is h = ap (λ (x : Middlebox). is_good (tree x)) is ∙ left (is_good (tree k)) (list_all (λ (x : Middlebox). is_good (tree x)) ms) h
+each_good (k ∷ ms) (suc e) m within is h = each_good ms e m (omega (arith, within)) is (right (is_good (tree k)) (list_all (λ (x : Middlebox). is_good (tree x)) ms) h)
+
+-- the body of an element
+pub own_known : (parts : Parts) (place : Place) (m : Middlebox) (b : List Stmt) → place.element < length parts.classes.now → m ≡ slice_index_or parts.classes.now place.element m
+    → b ≡ m.body.items → AllDeclareBelow (length (own_tree parts place).locals) (body_tree b)
+own_known parts place m b within is same =
+    let own : own_tree parts place ≡ tree m = tree_at parts.classes.now place.element m within is in
+    subst (λ (ss : List Stmt). AllDeclareBelow (length (own_tree parts place).locals) (body_tree ss)) (sym same)
+    (subst (λ (t : Tree). AllDeclareBelow (length t.locals) (body_tree m.body.items)) (sym own)
+    (declares_below (tree m) (each_good parts.classes.now place.element m within is parts.good)))

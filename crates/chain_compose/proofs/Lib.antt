@@ -6,3 +6,6 @@ pub mod Sizes
 pub mod Caps
 pub mod Steps
 pub mod Weights
+pub mod Levels
+pub mod WireEnds
+pub mod Arms

@@ -4,7 +4,8 @@ use Rattle.element_lang.specs.declared.tree.Stmt.{Stmt}
 use Rattle.element_lang.specs.Tree.{StmtTree, BodyTree}
 use Rattle.element_lang.specs.Tree.BodyTree.{done, stmt}
 use Rattle.element_lang.specs.View.{stmt_tree, body_tree}
-use Rattle.element_chain.specs.Compose.{followed, one, Numbering, Placed, Written, Spot, Sends, stmt_placed, body_placed}
+use Rattle.packet_fields.specs.declared.field.Field.{Field}
+use Rattle.element_chain.specs.Compose.{followed, one, cleared, clearing, Numbering, Placed, Written, Spot, Sends, stmt_placed, body_placed}
 use Rattle.chain_compose.specs.Parts.{numbering, placed, written, placed_behind, written_behind, one_placed}
 use Rattle.chain_compose.proofs.Trees.{followed_assoc, followed_done, body_push}
 
@@ -39,3 +40,9 @@ pushed out out' s names widths made is one_is =
     ap (placed names widths) is
     ∙ ap (λ (a : BodyTree). let p : Placed = record { body = a; numbering = numbering names widths } in p) (body_push out s)
     ∙ ap (placed_behind out) one_is
+
+-- ## clearing
+pub cleared_more : (out out' : BodyTree) (f : Field) (fs : List Field) (all : BodyTree) → out' ≡ followed out (one (cleared f))
+    → followed out (clearing (f ∷ fs)) ≡ all → followed out' (clearing fs) ≡ all
+cleared_more out out' f fs all is before =
+    ap (λ (b : BodyTree). followed b (clearing fs)) is ∙ followed_assoc out (one (cleared f)) (clearing fs) ∙ before

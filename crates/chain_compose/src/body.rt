@@ -8,7 +8,7 @@ ghost use Rattle.chain_compose.specs.Parts.{own_tree, spot_of, ends_of, sends_of
 ghost use Rattle.chain_compose.specs.Parts.{placed_behind, written_behind, one_placed, element_written};
 
 use crate::clearing::put_clearing;
-use crate::ends::ends_always;
+use crate::ends::close;
 use crate::parts::{Parts, Place};
 use crate::plain::next_number;
 use crate::terms::test;
@@ -247,15 +247,15 @@ impl Parts<'_> {
         ensures { OnOk result (written widths.new.items out.new.items
             ≡ written_behind out.old.items (element_written self.now place widths.old.items)) }
     {
-        let Some(class) = self.classes.get(place.element as usize) else {
+        let element = place.element as usize;
+        if element >= self.classes.len() {
             out.push(Stmt::Drop)?;
             return Ok(());
-        };
+        }
+        let class = &self.classes[element];
         let mut names = Vec::new(self.alloc);
         self.put_body(place, &class.body, &mut names, widths, out)?;
-        if !ends_always(&class.body) {
-            out.push(Stmt::Drop)?;
-        }
+        close(&class.body, out)?;
         Ok(())
     }
 }

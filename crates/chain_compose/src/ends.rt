@@ -1,9 +1,12 @@
 //! Whether a run goes on behind statements.
-ghost use Rattle.std.specs.Prelude.{◌≡◌};
+ghost use Rattle.std.specs.Prelude.{◌≡◌, OnOk, if◌then◌else◌};
 ghost use Rattle.element_lang.specs.Rules.{always_ends, ends_always};
+ghost use Rattle.element_lang.specs.Tree.StmtTree.{drop};
 ghost use Rattle.element_lang.specs.View.{stmt_tree, body_tree};
+ghost use Rattle.element_chain.specs.Compose.{followed, one};
 
-use element_lang::Stmt;
+use element_lang::{Body, Stmt};
+use gal_io::NoMemory;
 
 // Whether a run never goes on behind a statement.
 #[cycle(ends)]
@@ -33,4 +36,16 @@ pub(crate) fn ends_always(body: &[Stmt]) -> bool
         [stmt] => always_ends(stmt),
         [_, rest @ ..] => ends_always(rest),
     }
+}
+
+/// Puts a `drop` behind a body, where it may go on at its end.
+#[tactic(auto, using(crate::proofs::Levels::push_drop))]
+pub(crate) fn close(body: &[Stmt], out: &mut Body) -> Result<(), NoMemory>
+    ensures { OnOk result (body_tree out.new.items ≡ (if ends_always (body_tree body.now) then body_tree out.old.items
+        else followed (body_tree out.old.items) (one drop))) }
+{
+    if !ends_always(body) {
+        out.push(Stmt::Drop)?;
+    }
+    Ok(())
 }

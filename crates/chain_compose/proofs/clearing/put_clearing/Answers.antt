@@ -1,0 +1,20 @@
+use Rattle.std.proofs.Common.{◌≡◌, ◌∙◌, suc, ◌+◌, ◌∷◌, drop, sym, ap, arith, drop-cons}
+use Rattle.std.proofs.Math.ListN.{drop_of_length-le}
+use Rattle.packet_fields.specs.declared.field.Field.{Field}
+use Rattle.packet_fields.specs.declared.field.Field.TheVariants.{MetaPort}
+use Rattle.element_lang.specs.View.{body_tree}
+use Rattle.element_lang.specs.Tree.{BodyTree, ExprTree}
+use Rattle.element_lang.specs.Tree.StmtTree.{set_field}
+use Rattle.element_chain.specs.Compose.{followed, one, clearing}
+use Rattle.chain_compose.proofs.Levels.{push_set_field}
+use Rattle.chain_compose.proofs.Steps.{cleared_more}
+use Rattle.chain_compose.proofs.Trees.{followed_done}
+use Rattle.chain_compose.proofs.clearing.put_clearing.Goals as goal
+
+pub loop-field-preserved : goal.loop-field-preserved
+loop-field-preserved c = ?
+
+pub returns : goal.returns
+returns c =
+    let none : drop c.loop-field.field-index c.args.written.now ≡ _ = drop_of_length-le c.args.written.now c.loop-field-test.false in
+    sym (followed_done (body_tree c.loop-field.out.items)) ∙ sym (ap (λ fs. followed (body_tree c.loop-field.out.items) (clearing fs)) none) ∙ c.loop-field.invariant
