@@ -3,10 +3,14 @@ use Rattle.std.proofs.Common.{Vec, Global, ◌≡◌, ℕ, List, [], ◌∷◌, 
 use Rattle.packet_fields.specs.declared.field.Field.{Field}
 use Rattle.element_lang.specs.Tree.{StmtTree}
 use Rattle.element_lang.specs.Tree.StmtTree.{let_local, assign, set_field, look, put, del, choose, repeat, send, drop}
-use Rattle.element_lang.specs.View.{expr_tree, expr_trees, body_tree, stmt_step, stmt_tree}
+use Rattle.element_lang.specs.View.{expr_tree, expr_step, expr_trees, body_tree, stmt_step, stmt_tree}
 use Rattle.element_chain.specs.Compose.{followed, one}
 use Rattle.chain_compose.proofs.Trees.{body_push}
-use Rattle.element_lang.specs.declared.tree.Expr.{Expr}
+use Rattle.element_lang.specs.declared.tree.Expr.{Expr, fold-roll-Expr}
+use Rattle.element_lang.specs.declared.tree.Expr.TheVariants.{Lit, Local, rolls-Lit, rolls-Local}
+use Rattle.element_lang.specs.declared.tree.Expr.TheOpen.{Expr-F}
+use Rattle.element_lang.specs.Tree.{ExprTree}
+use Rattle.element_lang.specs.Tree.ExprTree.{lit, local, apply}
 use Rattle.element_lang.specs.declared.tree.Stmt.{Stmt, fold-roll-Stmt}
 use Rattle.element_lang.specs.declared.tree.Stmt.TheVariants.{Let, Assign, SetField, Look, Put, Del, If, Repeat, Send, Drop, rolls-Let, rolls-Assign, rolls-SetField, rolls-Look, rolls-Put, rolls-Del, rolls-If, rolls-Repeat, rolls-Send, rolls-Drop}
 use Rattle.element_lang.specs.declared.tree.Stmt.TheOpen.{Stmt-F}
@@ -46,3 +50,13 @@ push_drop ss = body_push ss Drop ∙ ap (λ (t : StmtTree). followed (body_tree 
 
 pub push_set_field : (ss : List Stmt) (f : Field) (e : Expr) → body_tree (ss ++ SetField f e ∷ []) ≡ followed (body_tree ss) (one (set_field f (expr_tree e)))
 push_set_field ss f e = body_push ss (SetField f e) ∙ ap (λ (t : StmtTree). followed (body_tree ss) (one t)) (tree_of_set_field f e)
+
+pub tree_of_lit : (value width : ℕ) → expr_tree (Lit value width) ≡ lit value width
+tree_of_lit value width = ap expr_tree (sym (rolls-Lit value width)) ∙ fold-roll-Expr ExprTree expr_step (Expr-F.Lit value width)
+
+pub tree_of_local : (x : ℕ) → expr_tree (Local x) ≡ local x
+tree_of_local x = ap expr_tree (sym (rolls-Local x)) ∙ fold-roll-Expr ExprTree expr_step (Expr-F.Local x)
+
+-- an 8-bit number, however it is told
+pub tree_of_byte : (value value' width : ℕ) → value ≡ value' → width ≡ 8 → expr_tree (Lit value width) ≡ lit value' 8
+tree_of_byte value value' width is wide = tree_of_lit value width ∙ ap (λ (v : ℕ). lit v width) is ∙ ap (lit value') wide

@@ -1,5 +1,5 @@
 -- What stands for a `send`, and at the end of a wire.
-use Rattle.std.proofs.Common.{◌≡◌, ◌<◌, ◌≤◌, ℕ, zero, suc, ◌-◌, Bool, true, false, cond, List, [], ◌∷◌, ◌++◌, length, map, slice_index_or, Option, Some, None, refl, sym, ap, ◌∙◌, subst, arith}
+use Rattle.std.proofs.Common.{◌≡◌, ◌<◌, ◌≤◌, ℕ, zero, suc, ◌-◌, Bool, true, false, cond, List, [], ◌∷◌, ◌++◌, length, map, take, drop as drop_first, slice_index_or, Option, Some, None, refl, sym, ap, ◌∙◌, subst, arith}
 use Rattle.std.specs.List.{filter}
 use Rattle.gal_bits.specs.declared.op.Op.TheVariants.{Eq}
 use Rattle.packet_fields.specs.Table.{all_fields}
@@ -146,3 +146,14 @@ pub no_test_put : (end : Ends) (v : ℕ) (all : List Wire) (widths : List ℕ) (
     → written widths out' ≡ written_behind out (tests end v all widths)
 no_test_put end v [] widths out out' s none is tree_is = pushed_one out out' s drop widths widths (both (one drop) widths) is tree_is refl refl
 no_test_put end v (w ∷ ws) widths out out' s none is tree_is = absurd (omega (arith, none))
+
+-- the first wire and those behind it
+take_all : (ws : List Wire) (n : ℕ) → n ≡ length ws → take n ws ≡ ws
+take_all [] zero is = refl
+take_all [] (suc n) is = absurd (omega (arith, is))
+take_all (w ∷ ws) zero is = absurd (omega (arith, is))
+take_all (w ∷ ws) (suc n) is = ap (λ (us : List Wire). w ∷ us) (take_all ws n (omega (arith, is)))
+
+pub first_and_rest : (ws : List Wire) (d : Wire) → 1 ≤ length ws → slice_index_or ws 0 d ∷ take (length ws - 1) (drop_first 1 ws) ≡ ws
+first_and_rest [] d some = absurd (omega (arith, some))
+first_and_rest (w ∷ ws) d some = ap (λ (us : List Wire). w ∷ us) (take_all ws (suc (length ws) - 1) (omega arith))

@@ -173,7 +173,8 @@ impl Parts<'_> {
         let local = next_number(widths)?;
         widths.push(self.byte)?;
         out.push(Stmt::Let { local, value: port })?;
-        self.put_tests(place, local, wires, widths, out)
+        self.put_tests(place, local, wires, widths, out)?;
+        Ok(())
     }
 
     // Puts a test of a local for each wire, each within the second block of the one before.
