@@ -1,5 +1,6 @@
 -- Counts that stop at the greatest that 64 bits can hold.
-use Rattle.std.proofs.Common.{◌≡◌, ◌<◌, ℕ, zero, suc, ◌+◌, ◌-◌, ◌^◌, min, Bool, true, false, cond, List, [], ◌∷◌, length, refl, sym, ap, ◌∙◌, arith, slice_index}
+use Rattle.std.proofs.Common.{◌≡◌, ◌<◌, ℕ, zero, suc, ◌+◌, ◌-◌, ◌^◌, ◌≤◌, min, Bool, true, false, cond, List, [], ◌∷◌, length, map, replicate, refl, sym, ap, subst, ◌∙◌, arith, slice_index}
+use Rattle.std.proofs.lemmas.List.{length-map}
 use Rattle.std.specs.List.{All}
 use Rattle.std.proofs.lemmas.List.Elements.{All-head, All-tail, All-weaker}
 use Rattle.element_lang.specs.Rules.{ends_always}
@@ -10,7 +11,13 @@ use Rattle.element_chain.specs.declared.chain.Wire.{Wire}
 use Rattle.element_chain.specs.declared.chain.Target.{Target}
 use Rattle.element_chain.specs.declared.chain.Target.TheVariants.{Element, Out}
 use Rattle.element_chain.specs.Chain.{Connected, element_at}
-use Rattle.element_chain.specs.Compose.{wires_of}
+use Rattle.packet_fields.specs.declared.field.Field.{Field}
+use Rattle.element_lang.specs.View.{tree}
+use Rattle.element_chain.specs.Compose.{wires_of, composed}
+use Rattle.chain_compose.specs.declared.parts.Parts.{Parts}
+use Rattle.chain_compose.specs.Parts.{chain_of}
+use Rattle.chain_compose.specs.Refusals.{statements_in}
+use Rattle.chain_compose.proofs.Sizes.{whole_size}
 use Rattle.element_chain.specs.Wiring.{IsWithin, AreWithin}
 use Rattle.chain_compose.specs.Counts.{size_of, size_in, closed_size, tests_size, sent_size, cleared_count, end_size, entry_size, capped, told_end, next_size, AreSizes}
 use Rattle.chain_compose.proofs.RoutesAt.{wires_all}
@@ -99,3 +106,48 @@ one_capped c sizes e =
     let f = sent_size (told_end sizes) (wires_of c.wires e) in
     add_capped (cleared_count c) (capped (closed_size (capped f) m.body)) (cleared_count c) (closed_size f m.body) refl
     (capped_again (closed_size (capped f) m.body) ∙ closed_capped (capped f) f m.body (capped_again f))
+
+-- ## in the code
+pub some_tests : (f : Target → ℕ) (ws : List Wire) → 1 ≤ tests_size f ws
+some_tests f [] = omega arith
+some_tests f (w ∷ ws) = omega arith
+
+pub first_sizes : (parts : Parts) (sizes : List ℕ) → sizes ≡ replicate (length parts.classes.now) 1 → AreSizes (chain_of parts) 0 sizes
+first_sizes parts sizes is = record {
+  each = λ e lt.
+      let within : e < length parts.classes.now = omega (arith, lt, length-map parts.classes.now tree) in
+      ap (λ (ss : List ℕ). slice_index ss e) is ∙ one_at (length parts.classes.now) e within;
+}
+  where
+    one_at : (n e : ℕ) → e < n → slice_index (replicate n 1) e ≡ 1
+    one_at zero e lt = absurd (omega (arith, lt))
+    one_at (suc n) zero lt = refl
+    one_at (suc n) (suc e) lt = one_at n e (omega (arith, lt))
+
+pub next_told : (parts : Parts) (sizes : List ℕ) (e : ℕ) (wires : List Wire) (sent own result : ℕ) (b : BodyTree) → wires ≡ wires_of (chain_of parts).wires e
+    → sent ≡ capped (sent_size (told_end sizes) wires) → own ≡ capped (closed_size sent b) → b ≡ (element_at (chain_of parts).elements e).body
+    → result ≡ capped (length parts.cleared.now + own) → result ≡ capped (next_size (chain_of parts) sizes e)
+next_told parts sizes e wires sent own result b wires_are sent_is own_is body_is result_is =
+    let c = chain_of parts in
+    let m = element_at c.elements e in
+    result_is
+    ∙ ap (λ (fs : List Field). capped (length fs + own)) parts.written
+    ∙ ap (λ (k : ℕ). capped (cleared_count c + k)) (own_is ∙ ap (λ (k : ℕ). capped (closed_size k b)) (sent_is ∙ ap (λ (ws : List Wire). capped (sent_size (told_end sizes) ws)) wires_are)
+    ∙ ap (λ (t : BodyTree). capped (closed_size (capped (sent_size (told_end sizes) (wires_of c.wires e))) t)) body_is)
+    ∙ one_capped c sizes e
+
+-- wires are within the elements that there are
+pub all_within : (parts : Parts) → AreWithin (length parts.classes.now) parts.chain.now.wires → AreWithin (length (chain_of parts).elements) (chain_of parts).wires
+all_within parts within = subst (λ (n : ℕ). AreWithin n parts.chain.now.wires) (sym (length-map parts.classes.now tree)) within
+
+pub whole_told : (parts : Parts) (sizes : List ℕ) (wires : List Wire) (sent result : ℕ) (b : BodyTree) → AreWithin (length parts.classes.now) parts.chain.now.wires
+    → AreSizes (chain_of parts) (length parts.classes.now) sizes → wires ≡ wires_of (chain_of parts).wires 0
+    → sent ≡ capped (sent_size (told_end sizes) wires) → result ≡ capped (size_in sent b) → b ≡ (element_at (chain_of parts).elements 0).body
+    → result ≡ capped (statements_in (composed (chain_of parts)).body)
+whole_told parts sizes wires sent result b within are wires_are sent_is result_is body_is =
+    let c = chain_of parts in
+    let told = subst (λ (n : ℕ). AreSizes c n sizes) (sym (length-map parts.classes.now tree)) are in
+    result_is ∙ ap (λ (k : ℕ). capped (size_in k b)) (sent_is ∙ ap (λ (ws : List Wire). capped (sent_size (told_end sizes) ws)) wires_are)
+    ∙ ap (λ (t : BodyTree). capped (size_in (capped (sent_size (told_end sizes) (wires_of c.wires 0))) t)) body_is
+    ∙ entry_capped c sizes (all_within parts within) told
+    ∙ ap capped (sym (whole_size c))

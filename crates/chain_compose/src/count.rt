@@ -112,8 +112,10 @@ impl Parts<'_> {
         requires there { element < length self.now.classes.now }
         ensures { result ≡ capped (next_size (chain_of self.now) sizes.now element) }
     {
-        let sent = sent_size(sizes, self.routes.of(element as u32));
-        (self.cleared.len() as u64).saturating_add(closed_size(sent, &self.classes[element].body))
+        let wires = self.routes.of(element as u32);
+        let sent = sent_size(sizes, wires);
+        let own = closed_size(sent, &self.classes[element].body);
+        (self.cleared.len() as u64).saturating_add(own)
     }
 
     // The same of each element, through one element more.
@@ -141,6 +143,9 @@ impl Parts<'_> {
         for _ in 0..self.classes.len() {
             sizes = self.more_sizes(&sizes)?;
         }
-        Ok(size_in(sent_size(&sizes, self.routes.of(0)), &self.classes[0].body))
+        let wires = self.routes.of(0);
+        let sent = sent_size(&sizes, wires);
+        let size = size_in(sent, &self.classes[0].body);
+        Ok(size)
     }
 }

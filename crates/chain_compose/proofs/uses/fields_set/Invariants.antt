@@ -6,4 +6,4 @@ use Rattle.chain_compose.proofs.uses.fields_set.Given as goal
 
 abbrev pub invariant-loop-field : goal.invariant-loop-field
 invariant-loop-field l =
-    l.found.items ++ filter (is_set (map tree l.classes)) (drop l.field-index l.all) ≡ filter (is_set (map tree l.classes)) l.all
+    l.found.items ++ filter (is_set (map tree l.classes)) (drop l.field-index l.field-items) ≡ filter (is_set (map tree l.classes)) l.field-items
