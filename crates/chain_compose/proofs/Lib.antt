@@ -9,3 +9,5 @@ pub mod Weights
 pub mod Levels
 pub mod WireEnds
 pub mod Arms
+pub mod Shown
+pub mod Firsts

@@ -12,6 +12,10 @@ use Rattle.chain_compose.specs.declared.matrix.Reach.{Reach}
 abbrev pub is_shown : Reach → ℕ → ℕ → Bool
 is_shown reach from to = slice_index_or reach.rows.items (from * reach.count + to) false
 
+-- and by way of a third
+abbrev pub is_shown_by : Reach → ℕ → ℕ → ℕ → Bool
+is_shown_by reach through from to = is_shown reach from to || (is_shown reach from through && is_shown reach through to)
+
 -- of each two elements it is told whether wires lead from one to the other by way of elements below a number
 pub record ShowsBy (wires : List Wire) (count through : ℕ) (reach : Reach) : Type 0 where
   pub size : reach.count ≡ count

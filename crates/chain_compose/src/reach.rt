@@ -2,7 +2,7 @@
 ghost use Rattle.std.specs.Prelude.{◌≡◌, ◌<◌, ◌≤◌, suc, List, IfOk};
 ghost use Rattle.element_chain.specs.declared.chain.Wire.{Wire};
 ghost use Rattle.element_chain.specs.Wiring.{is_joined, is_to};
-ghost use Rattle.chain_compose.specs.Reach.{ShowsBy, is_shown};
+ghost use Rattle.chain_compose.specs.Reach.{ShowsBy, is_shown, is_shown_by};
 
 use crate::matrix::Reach;
 use element_chain::{Target, Wire};
@@ -43,6 +43,17 @@ impl Reach {
         Ok(Reach { count, rows })
     }
 
+    // Whether wires lead from an element to another, or did so by way of a third one.
+    fn leads_by(&self, through: usize, from: usize, to: usize) -> bool
+        requires few { self.now.count ≤ 32 }
+        requires within { through < self.now.count }
+        requires from { from < self.now.count }
+        requires to { to < self.now.count }
+        ensures { result ≡ is_shown_by self.now through from to }
+    {
+        self.leads(from, to) || self.leads(from, through) && self.leads(through, to)
+    }
+
     // Also those that are led to by way of one element more.
     fn by_way(&self, alloc: Global, through: usize) -> Result<Reach, NoMemory>
         requires few { self.now.count ≤ 32 }
@@ -52,10 +63,7 @@ impl Reach {
     {
         let mut rows = Vec::new(alloc);
         for place in 0..self.count * self.count {
-            let (from, to) = (place / self.count, place % self.count);
-            rows.push(
-                self.leads(from, to) || self.leads(from, through) && self.leads(through, to),
-            )?;
+            rows.push(self.leads_by(through, place / self.count, place % self.count))?;
         }
         Ok(Reach {
             count: self.count,

@@ -50,6 +50,16 @@ fn stands_within(classes: &[Middlebox], reach: &Reach, element: usize) -> bool
     false
 }
 
+// Whether an element has a `repeat`, and stands within another one.
+fn repeats_within(classes: &[Middlebox], reach: &Reach, element: usize) -> bool
+    requires few { length classes.now ≤ 32 }
+    requires count { reach.now.count ≡ length classes.now }
+    requires there { element < length classes.now }
+    ensures { result ≡ repeats_within (map tree classes.now) (is_shown reach.now) element }
+{
+    any_repeats(&classes[element].body) && stands_within(classes, reach, element)
+}
+
 /// The first element with a `repeat` that stands within another one.
 pub(crate) fn first_repeater(classes: &[Middlebox], reach: &Reach) -> Option<u32>
     requires few { length classes.now ≤ 32 }
@@ -59,7 +69,7 @@ pub(crate) fn first_repeater(classes: &[Middlebox], reach: &Reach) -> Option<u32
         (λ e. (e < length classes.now) × (is_within e ≡ true) × ((k : ℕ) → k < e → is_within k ≡ false)) }
 {
     for element in 0..classes.len() {
-        if any_repeats(&classes[element].body) && stands_within(classes, reach, element) {
+        if repeats_within(classes, reach, element) {
             return Some(element as u32);
         }
     }
