@@ -11,3 +11,4 @@ pub mod WireEnds
 pub mod Arms
 pub mod Shown
 pub mod Firsts
+pub mod Repeats

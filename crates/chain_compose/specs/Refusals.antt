@@ -77,21 +77,50 @@ pub record IsTooLarge (m : Tree) (what : What) (have most : ℕ) : Type 0 where
 abbrev pub most_statements : ℕ
 most_statements = 65536
 
+-- no element behind the entry reads bytes of the packet as it arrived
+abbrev pub NoneReads : Connected → Type 0
+NoneReads c = (e : ℕ) → ReadsBehind c.elements e → ⊥
+
+-- nor does one with a `repeat` stand within another one
+pub record AreInPlace (c : Connected) : Type 0 where
+  pub reads : NoneReads c
+  pub repeats : (e : ℕ) → RepeatsBehind c e → ⊥
+
+-- and there are few enough statements
+pub record AreFew (c : Connected) : Type 0 where
+  pub placed : AreInPlace c
+  pub few : statements_in (composed c).body ≤ most_statements
+
 -- this is the first reason in order
 abbrev pub IsRefused : Connected → ComposeError → Type 0
 IsRefused c (Byte e) = IsFirst (ReadsBehind c.elements) e
-IsRefused c (Repeat e) = ((f : ℕ) → ReadsBehind c.elements f → ⊥) × IsFirst (RepeatsBehind c) e
-IsRefused c Statements =
-    ((f : ℕ) → ReadsBehind c.elements f → ⊥) × ((f : ℕ) → RepeatsBehind c f → ⊥)
-    × (most_statements < statements_in (composed c).body)
-IsRefused c (TooLarge what have most) =
-    ((f : ℕ) → ReadsBehind c.elements f → ⊥) × ((f : ℕ) → RepeatsBehind c f → ⊥)
-    × (statements_in (composed c).body ≤ most_statements) × IsTooLarge (composed c) what have most
+IsRefused c (Repeat e) = NoneReads c × IsFirst (RepeatsBehind c) e
+IsRefused c Statements = AreInPlace c × (most_statements < statements_in (composed c).body)
+IsRefused c (TooLarge what have most) = AreFew c × IsTooLarge (composed c) what have most
 IsRefused c NoMemory = Unit {0}
+
+-- a middlebox and its text keep the sizes
+abbrev pub KeepsSizes : Tree → Type 0
+KeepsSizes m = (what : What) → amount what m ≤ allowed what
 
 -- there is no reason
 pub record IsUnrefused (c : Connected) : Type 0 where
-  pub bytes : (e : ℕ) → ReadsBehind c.elements e → ⊥
-  pub repeats : (e : ℕ) → RepeatsBehind c e → ⊥
-  pub few : statements_in (composed c).body ≤ most_statements
-  pub sizes : (what : What) → amount what (composed c) ≤ allowed what
+  pub few : AreFew c
+  pub sizes : KeepsSizes (composed c)
+
+-- ## one reason
+-- this much is too much, and the first of which there is too much
+abbrev pub IsSizeRefusal : Tree → ComposeError → Type 0
+IsSizeRefusal m (TooLarge what have most) = IsTooLarge m what have most
+IsSizeRefusal m NoMemory = Unit {0}
+IsSizeRefusal m (Byte e) = ⊥
+IsSizeRefusal m (Repeat e) = ⊥
+IsSizeRefusal m Statements = ⊥
+
+-- there are too many statements
+abbrev pub IsCountRefusal : Connected → ComposeError → Type 0
+IsCountRefusal c Statements = most_statements < statements_in (composed c).body
+IsCountRefusal c NoMemory = Unit {0}
+IsCountRefusal c (Byte e) = ⊥
+IsCountRefusal c (Repeat e) = ⊥
+IsCountRefusal c (TooLarge what have most) = ⊥

@@ -1,4 +1,16 @@
 //! From a chain to one middlebox.
+ghost use Rattle.std.specs.Prelude.{◌≡◌, ◌<◌, ◌≤◌, ℕ, List, true, length, map, IsTrue, IfOk, IfErr};
+ghost use Rattle.std.specs.List.{All, list_all};
+ghost use Rattle.element_lang.specs.Accepted.{HasNames, deepest};
+ghost use Rattle.element_lang.specs.Rules.{is_good};
+ghost use Rattle.element_lang.specs.Token.{Token};
+ghost use Rattle.element_lang.specs.View.{tree};
+ghost use Rattle.element_print.specs.ReadsBack.{HasExactly};
+ghost use Rattle.element_chain.specs.Compose.{composed};
+ghost use Rattle.element_chain.specs.Wiring.{AreWithin, HasNoCycle};
+ghost use Rattle.chain_compose.specs.Parts.{connected, chain_of};
+ghost use Rattle.chain_compose.specs.Refusals.{AreInPlace, IsRefused, IsUnrefused, KeepsSizes, IsSizeRefusal};
+ghost use Rattle.chain_compose.specs.Refusals.{IsCountRefusal, statements_in, most_statements};
 
 use crate::error::{ComposeError, What};
 use crate::matrix::Reach;
@@ -7,7 +19,7 @@ use crate::parts::{Parts, Place};
 use crate::refusals::{first_reader, first_repeater};
 use crate::routes::Routes;
 use crate::uses::fields_set;
-use element_chain::{Chain, Classes};
+use element_chain::{Chain, Classes, wires_lead};
 use element_lang::{MAX_DEPTH, MAX_ENTRIES, MAX_OBJECTS, MAX_WRITES, Middlebox};
 use element_print::print;
 use element_rules::{entries, writes};
@@ -40,7 +52,11 @@ fn refuse_elements(
 
 impl Parts<'_> {
     // The elements as one middlebox.
-    fn whole(&self) -> Result<Middlebox, NoMemory> {
+    fn whole(&self) -> Result<Middlebox, NoMemory>
+        requires some { 0 < length self.now.classes.now }
+        requires few { length self.now.classes.now ≤ 32 }
+        ensures { IfOk result (λ m. tree m ≡ composed (chain_of self.now)) }
+    {
         let entry = Place {
             element: 0,
             port: None,
@@ -65,7 +81,16 @@ impl Parts<'_> {
 }
 
 // The elements as one middlebox, where it has few enough statements. They are counted before it is made.
-fn whole(alloc: Global, chain: &Chain, classes: &[Middlebox]) -> Result<Middlebox, ComposeError> {
+fn whole(alloc: Global, chain: &Chain, classes: &[Middlebox]) -> Result<Middlebox, ComposeError>
+    requires some { 0 < length classes.now }
+    requires few { length classes.now ≤ 32 }
+    requires within { AreWithin (length classes.now) chain.now.wires }
+    requires good { list_all (λ m. is_good (tree m)) classes.now ≡ true }
+    ensures made { IfOk result (λ m. tree m ≡ composed (connected classes.now chain.now.wires)) }
+    ensures few { let c = connected classes.now chain.now.wires in
+        IfOk result (λ _. statements_in (composed c).body ≤ most_statements) }
+    ensures err { IfErr result (IsCountRefusal (connected classes.now chain.now.wires)) }
+{
     let routes = Routes::new(alloc, chain.wires.as_slice(), classes.len() as u32)?;
     let cleared = fields_set(alloc, classes)?;
     let parts = Parts {
@@ -83,7 +108,10 @@ fn whole(alloc: Global, chain: &Chain, classes: &[Middlebox]) -> Result<Middlebo
     Ok(parts.whole()?)
 }
 
-fn within(what: What, have: u64, allowed: u64) -> Result<(), ComposeError> {
+fn within(what: What, have: u64, allowed: u64) -> Result<(), ComposeError>
+    ensures ok { IfOk result (λ _. have ≤ allowed) }
+    ensures err { IfErr result (λ e. (allowed < have) × (e ≡ ComposeError.TooLarge what have allowed)) }
+{
     if have > allowed {
         return Err(ComposeError::TooLarge {
             what,
@@ -95,7 +123,9 @@ fn within(what: What, have: u64, allowed: u64) -> Result<(), ComposeError> {
 }
 
 // How many brackets of a printed text are open at once.
-fn depth_of(alloc: Global, text: &Text) -> Result<u64, NoMemory> {
+fn depth_of(alloc: Global, text: &Text) -> Result<u64, NoMemory>
+    ensures { (ts : List Token) → HasExactly text.now ts → IfOk result (λ found. found ≡ deepest 0 ts) }
+{
     match tokens(alloc, text.as_slice()) {
         Ok(found) => Ok(depth(text.as_slice(), &found) as u64),
         Err(_) => Err(NoMemory),
@@ -103,7 +133,12 @@ fn depth_of(alloc: Global, text: &Text) -> Result<u64, NoMemory> {
 }
 
 // Refuses a middlebox that doesn't keep the sizes of sources, or whose text doesn't.
-fn refuse_sizes(alloc: Global, m: &Middlebox) -> Result<(), ComposeError> {
+fn refuse_sizes(alloc: Global, m: &Middlebox) -> Result<(), ComposeError>
+    requires good { IsTrue (is_good (tree m.now)) }
+    requires names { HasNames (tree m.now) }
+    ensures ok { IfOk result (λ _. KeepsSizes (tree m.now)) }
+    ensures err { IfErr result (IsSizeRefusal (tree m.now)) }
+{
     within(What::Objects, m.objects.len() as u64, MAX_OBJECTS as u64)?;
     within(What::Entries, entries(m), MAX_ENTRIES)?;
     within(What::Writes, writes(m), MAX_WRITES)?;
