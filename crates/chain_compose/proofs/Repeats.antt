@@ -19,13 +19,14 @@ use Rattle.chain_compose.proofs.Firsts.{some_at}
 use Rattle.chain_compose.proofs.Trees.{no_tree}
 
 -- a number of which it holds
+one_of : (n : ℕ) (holds : ℕ → Bool) (a b : Bool) → some_below n holds ≡ a → holds n ≡ b → (some_below n holds ≡ true → (i : ℕ) × (i < n) × (holds i ≡ true)) → (a || b) ≡ true
+    → (i : ℕ) × (i < suc n) × (holds i ≡ true)
+one_of n holds true b is is' found h = let one = found is in (one.0, omega (arith, one.1), one.2)
+one_of n holds false b is is' found h = (n, omega arith, is' ∙ h)
+
 pub some_found : (n : ℕ) (holds : ℕ → Bool) → some_below n holds ≡ true → (i : ℕ) × (i < n) × (holds i ≡ true)
 some_found zero holds h = absurd (true≢false (sym h))
-some_found (suc n) holds h = one_of (some_below n holds) (holds n) refl refl h
-  where
-    one_of : (a b : Bool) → some_below n holds ≡ a → holds n ≡ b → (a || b) ≡ true → (i : ℕ) × (i < suc n) × (holds i ≡ true)
-    one_of true b is is' h = let found = some_found n holds is in (found.0, (omega (arith, found.1), found.2))
-    one_of false b is is' h = (n, (omega arith, is' ∙ h))
+some_found (suc n) holds h = one_of n holds (some_below n holds) (holds n) refl refl (λ is. some_found n holds is) h
 
 either : (a b : Bool) → (a || b) ≡ true → (a ≡ true) ⊎ (b ≡ true)
 either true b h = inl refl

@@ -10,7 +10,7 @@ ghost use Rattle.element_chain.specs.Compose.{composed};
 ghost use Rattle.element_chain.specs.Wiring.{AreWithin, HasNoCycle};
 ghost use Rattle.chain_compose.specs.Parts.{connected, chain_of};
 ghost use Rattle.chain_compose.specs.Refusals.{AreInPlace, IsRefused, IsUnrefused, KeepsSizes, IsSizeRefusal};
-ghost use Rattle.chain_compose.specs.Refusals.{IsCountRefusal, statements_in, most_statements};
+ghost use Rattle.chain_compose.specs.Refusals.{IsCountRefusal, statements_in, most_statements, order, amount, allowed};
 
 use crate::error::{ComposeError, What};
 use crate::matrix::Reach;
@@ -39,7 +39,13 @@ fn refuse_elements(
     alloc: Global,
     chain: &Chain,
     classes: &[Middlebox],
-) -> Result<(), ComposeError> {
+) -> Result<(), ComposeError>
+    requires few { length classes.now ≤ 32 }
+    requires within { AreWithin (length classes.now) chain.now.wires }
+    ensures ok { IfOk result (λ _. AreInPlace (connected classes.now chain.now.wires)) }
+    ensures err { IfErr result (IsRefused (connected classes.now chain.now.wires)) }
+{
+    wires_lead();
     if let Some(element) = first_reader(classes) {
         return Err(ComposeError::Byte(element));
     }
@@ -78,9 +84,24 @@ impl Parts<'_> {
             body,
         })
     }
+
+    // The same, where it has few enough statements. They are counted before it is made.
+    fn few(&self) -> Result<Middlebox, ComposeError>
+        requires some { 0 < length self.now.classes.now }
+        requires few { length self.now.classes.now ≤ 32 }
+        requires within { AreWithin (length self.now.classes.now) self.now.chain.now.wires }
+        ensures made { IfOk result (λ m. tree m ≡ composed (chain_of self.now)) }
+        ensures few { IfOk result (λ _. statements_in (composed (chain_of self.now)).body ≤ most_statements) }
+        ensures err { IfErr result (IsCountRefusal (chain_of self.now)) }
+    {
+        if self.size()? > MAX_STATEMENTS {
+            return Err(ComposeError::Statements);
+        }
+        Ok(self.whole()?)
+    }
 }
 
-// The elements as one middlebox, where it has few enough statements. They are counted before it is made.
+// The elements as one middlebox, where it has few enough statements.
 fn whole(alloc: Global, chain: &Chain, classes: &[Middlebox]) -> Result<Middlebox, ComposeError>
     requires some { 0 < length classes.now }
     requires few { length classes.now ≤ 32 }
@@ -102,10 +123,7 @@ fn whole(alloc: Global, chain: &Chain, classes: &[Middlebox]) -> Result<Middlebo
         bit: width(Field::HasIp),
         byte: width(Field::MetaPort),
     };
-    if parts.size()? > MAX_STATEMENTS {
-        return Err(ComposeError::Statements);
-    }
-    Ok(parts.whole()?)
+    parts.few()
 }
 
 fn within(what: What, have: u64, allowed: u64) -> Result<(), ComposeError>
@@ -132,19 +150,29 @@ fn depth_of(alloc: Global, text: &Text) -> Result<u64, NoMemory>
     }
 }
 
-// Refuses a middlebox that doesn't keep the sizes of sources, or whose text doesn't.
-fn refuse_sizes(alloc: Global, m: &Middlebox) -> Result<(), ComposeError>
-    requires good { IsTrue (is_good (tree m.now)) }
-    requires names { HasNames (tree m.now) }
-    ensures ok { IfOk result (λ _. KeepsSizes (tree m.now)) }
+// Refuses a middlebox that doesn't keep the sizes of sources.
+fn refuse_middlebox(m: &Middlebox) -> Result<(), ComposeError>
+    ensures ok { IfOk result (λ _. (what : What) → order what < 3 → amount what (tree m.now) ≤ allowed what) }
     ensures err { IfErr result (IsSizeRefusal (tree m.now)) }
 {
     within(What::Objects, m.objects.len() as u64, MAX_OBJECTS as u64)?;
     within(What::Entries, entries(m), MAX_ENTRIES)?;
     within(What::Writes, writes(m), MAX_WRITES)?;
+    Ok(())
+}
+
+// Refuses a middlebox whose text doesn't keep the sizes of sources.
+fn refuse_text(alloc: Global, m: &Middlebox) -> Result<(), ComposeError>
+    requires good { IsTrue (is_good (tree m.now)) }
+    requires names { HasNames (tree m.now) }
+    requires sizes { (what : What) → order what < 3 → amount what (tree m.now) ≤ allowed what }
+    ensures ok { IfOk result (λ _. KeepsSizes (tree m.now)) }
+    ensures err { IfErr result (IsSizeRefusal (tree m.now)) }
+{
     let text = print(alloc, m)?;
     within(What::Depth, depth_of(alloc, &text)?, MAX_DEPTH as u64)?;
-    within(What::Bytes, text.len() as u64, MAX_BYTES)
+    within(What::Bytes, text.len() as u64, MAX_BYTES)?;
+    Ok(())
 }
 
 /// One middlebox that does what the chain does: the body of the entry, in which the bodies of the elements behind it
@@ -153,6 +181,7 @@ fn refuse_sizes(alloc: Global, m: &Middlebox) -> Result<(), ComposeError>
 pub fn compose(alloc: Global, chain: &Chain, classes: &Classes) -> Result<Middlebox, ComposeError> {
     refuse_elements(alloc, chain, classes)?;
     let middlebox = whole(alloc, chain, classes)?;
-    refuse_sizes(alloc, &middlebox)?;
+    refuse_middlebox(&middlebox)?;
+    refuse_text(alloc, &middlebox)?;
     Ok(middlebox)
 }
