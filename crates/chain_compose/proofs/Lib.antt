@@ -12,3 +12,4 @@ pub mod Arms
 pub mod Shown
 pub mod Firsts
 pub mod Repeats
+pub mod Depths
