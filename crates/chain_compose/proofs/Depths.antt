@@ -16,5 +16,5 @@ pub depth_is : (text first second : List ℕ) (found found' : List Placed) (d : 
 depth_is text first second found found' d ts first_is second_is same only exactly is =
     let others = only exactly.placed (subst (λ (t : List ℕ). AreTokens t exactly.placed) (sym first_is) exactly.tokens) in
     let tokens : ts ≡ tokens_of text found =
-        sym exactly.plain ∙ ap plain others ∙ ap (λ (t : List ℕ). plain (map (placed_of t) found)) first_is ∙ plain_tokens text found in
+    sym exactly.plain ∙ ap plain others ∙ ap (λ (t : List ℕ). plain (map (placed_of t) found)) first_is ∙ plain_tokens text found in
     is ∙ ap (λ (t : List ℕ). deepest 0 (tokens_of t found')) second_is ∙ ap (λ (ps : List Placed). deepest 0 (tokens_of text ps)) same ∙ ap (deepest 0) (sym tokens)

@@ -27,18 +27,20 @@ none_more P i below here e lt holds =
 pub some_at : (n : ℕ) (holds : ℕ → Bool) (i : ℕ) → i < n → holds i ≡ true → some_below n holds ≡ true
 some_at zero holds i lt h = absurd (omega (arith, lt))
 some_at (suc n) holds i lt h = elim (split i n lt) [
-    inl low ↦ either_left (some_below n holds) (holds n) (some_at n holds i low h)
-    | inr same ↦ either_right (some_below n holds) (holds n) (ap holds (sym same) ∙ h)
-  ]
+  | inl low ↦ either_left (some_below n holds) (holds n) (some_at n holds i low h)
+  | inr same ↦ either_right (some_below n holds) (holds n) (ap holds (sym same) ∙ h)
+]
   where
     split : (a b : ℕ) → a < suc b → (a < b) ⊎ (a ≡ b)
     split zero zero lt = inr refl
     split zero (suc b) lt = inl (omega arith)
     split (suc a) zero lt = absurd (omega (arith, lt))
     split (suc a) (suc b) lt = elim (split a b (omega (arith, lt))) [ inl low ↦ inl (omega (arith, low)) | inr same ↦ inr (ap suc same) ]
+
     either_left : (a b : Bool) → a ≡ true → (a || b) ≡ true
     either_left true b h = refl
     either_left false b h = absurd (true≢false (sym h))
+
     either_right : (a b : Bool) → b ≡ true → (a || b) ≡ true
     either_right true b h = refl
     either_right false b h = h

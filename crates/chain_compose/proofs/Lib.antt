@@ -13,3 +13,5 @@ pub mod Shown
 pub mod Firsts
 pub mod Repeats
 pub mod Depths
+pub mod Fits
+pub mod OneReason

@@ -45,11 +45,11 @@ right_of true b h = refl
 right_of false b h = h
 
 -- an element that does something is there
-there_is : (ms : List Middlebox) (e : ℕ) (test : BodyTree → Bool) → test BodyTree.done ≡ false → test (element_at (map tree ms) e).body ≡ true → e < length ms
+pub there_is : (ms : List Middlebox) (e : ℕ) (test : BodyTree → Bool) → test BodyTree.done ≡ false → test (element_at (map tree ms) e).body ≡ true → e < length ms
 there_is ms e test none h = elim (apart e (length ms)) [
-    inl low ↦ low
-    | inr past ↦ absurd (true≢false (sym h ∙ ap (λ (t : Tree). test t.body) (no_tree ms e past) ∙ none))
-  ]
+  | inl low ↦ low
+  | inr past ↦ absurd (true≢false (sym h ∙ ap (λ (t : Tree). test t.body) (no_tree ms e past) ∙ none))
+]
   where
     apart : (a b : ℕ) → (a < b) ⊎ (b ≤ a)
     apart zero zero = inr (omega arith)
@@ -84,11 +84,11 @@ module _ (ms : List Middlebox) (wires : List Wire) (leads : ℕ → ℕ → Bool
       let low : from < length ms = there_is ms from any_sends_again refl behind.sends in
       let some : 0 < length ms = omega (arith, low) in
       let reached : (from == 0 || leads 0 from) ≡ true = elim behind.reached [
-          inl entry ↦ left_of (from == 0) (leads 0 from) (ap (λ (k : ℕ). k == 0) entry)
-          | inr leads_there ↦ right_of (from == 0) (leads 0 from) ((told 0 from some low).1 leads_there)
-        ] in
+        | inl entry ↦ left_of (from == 0) (leads 0 from) (ap (λ (k : ℕ). k == 0) entry)
+        | inr leads_there ↦ right_of (from == 0) (leads 0 from) ((told 0 from some low).1 leads_there)
+      ] in
       let sends = both ((from == 0 || leads 0 from) && any_sends_again (element_at (map tree ms) from).body) (leads from e)
-          (both (from == 0 || leads 0 from) (any_sends_again (element_at (map tree ms) from).body) reached behind.sends) ((told from e low there).1 behind.behind) in
+      (both (from == 0 || leads 0 from) (any_sends_again (element_at (map tree ms) from).body) reached behind.sends) ((told from e low there).1 behind.behind) in
       (there, both (any_repeats (element_at (map tree ms) e).body) _ behind.repeats (some_at (length (map tree ms)) (sends_to (map tree ms) leads e) from (omega (arith, low, length-map ms tree)) sends))
 
   pub none_behind : ((e : ℕ) → e < length ms → repeats_within (map tree ms) leads e ≡ false) → (e : ℕ) → RepeatsBehind (connected ms wires) e → ⊥

@@ -11,9 +11,10 @@ returns-in-Some-first_repeater-clause-err c =
     let n = length ms in
     let reach = c.in_ok-reach.reach in
     let shows : ShowsBy wires n n reach = subst (λ (ws : List Wire). ShowsBy ws n n reach) c.as_slice.ensures c.in_ok-reach.ensures in
-    let found = c.in-Some-first_repeater.ensures in
-    (c.in_default.ensures,
-    first_behind ms wires (is_shown reach) (shown_leads wires n reach shows (λ count e f within. c.wires_lead.ensures wires count e f within) c.requires.within) c.in-Some-first_repeater.element found.0 found.1 found.2)
+    let found = c.in-Some-first_repeater.ensures in (
+      c.in_default.ensures,
+      first_behind ms wires (is_shown reach) (shown_leads wires n reach shows (λ count e f within. c.wires_lead.ensures wires count e f within) c.requires.within) c.in-Some-first_repeater.element found.0 found.1 found.2,
+    )
 
 pub returns-clause-ok : goal.returns-clause-ok
 returns-clause-ok c =

@@ -122,9 +122,10 @@ put_element-returns-then-element-self t c =
 
 pub put_element-put_body-requires : goal.put_element-put_body-requires
 put_element-put_body-requires t c =
-    let m = c.index-self-element.result in
-    (omega (arith, own_lighter c.args.self.now.classes.now c.args.place.levels c.args.place.element m c.deref.result.now c.if-element-self.false c.index-self-element.is (c.deref.ensures.value ∙ ap (λ (k : Middlebox). k.body.items) (sym c.index-self-element.is))),
-    (c.if-element-self.false, own_known c.args.self.now c.args.place m c.deref.result.now c.if-element-self.false c.index-self-element.is (c.deref.ensures.value ∙ ap (λ (k : Middlebox). k.body.items) (sym c.index-self-element.is))))
+    let m = c.index-self-element.result in (
+      omega (arith, own_lighter c.args.self.now.classes.now c.args.place.levels c.args.place.element m c.deref.result.now c.if-element-self.false c.index-self-element.is (c.deref.ensures.value ∙ ap (λ (k : Middlebox). k.body.items) (sym c.index-self-element.is))),
+      (c.if-element-self.false, own_known c.args.self.now c.args.place m c.deref.result.now c.if-element-self.false c.index-self-element.is (c.deref.ensures.value ∙ ap (λ (k : Middlebox). k.body.items) (sym c.index-self-element.is))),
+    )
 
 pub put_element-returns : goal.put_element-returns
 put_element-returns t c =
@@ -201,9 +202,9 @@ put_tests-returns-in_ok-push-in-len1-up t c =
     let w = slice_index_or c.args.wires.now 0 (record { from = 0; output = 0; input = 0; to = Element 0 }) in
     let widths = c.args.widths.now.items in
     let test : expr_tree c.in_ok-cond-in-len1-up.cond ≡ apply Eq 1 (two (local c.args.local) (lit w.output 8)) =
-        c.in_ok-cond-in-len1-up.ensures
-        ∙ ap (λ (e : ExprTree). apply Eq 1 (two e (expr_tree (Lit c.from.result c.args.self.now.byte)))) (tree_of_local c.args.local)
-        ∙ ap (λ (e : ExprTree). apply Eq 1 (two (local c.args.local) e)) (tree_of_byte _ w.output _ c.from.ensures c.args.self.now.eight) in
+    c.in_ok-cond-in-len1-up.ensures
+    ∙ ap (λ (e : ExprTree). apply Eq 1 (two e (expr_tree (Lit c.from.result c.args.self.now.byte)))) (tree_of_local c.args.local)
+    ∙ ap (λ (e : ExprTree). apply Eq 1 (two (local c.args.local) e)) (tree_of_byte _ w.output _ c.from.ensures c.args.self.now.eight) in
     test_put ends c.args.local w _ c.args.wires.now widths _ _ c.args.out.now.items _ _ _ _ (first_and_rest c.args.wires.now _ c.in-len1-up.len_at_least)
     (c.in_ok-put_end-in-len1-up.ensures ∙ ap (λ (ss : List Stmt). written_behind ss (ends w.to w.input widths)) c.new-yes.ensures.items)
     (c.in_ok-put_tests-in-len1-up.ensures ∙ ap (λ (ss : List Stmt). written_behind ss (tests ends c.args.local (take (length c.args.wires.now - 1) (drop 1 c.args.wires.now)) c.put_end.new.widths.items)) c.new-no.ensures.items)
