@@ -15,3 +15,4 @@ pub mod Repeats
 pub mod Depths
 pub mod Fits
 pub mod OneReason
+pub mod Answered

@@ -262,6 +262,5 @@ pub fn compose(alloc: Global, chain: &Chain, classes: &Classes) -> Result<Middle
         → (stores : List Store) × AreKept c.elements stores × (store ≡ joined stores)) }
 {
     composition_keeps_the_meaning();
-    let middlebox = compose_elements(alloc, chain, classes)?;
-    Ok(middlebox)
+    compose_elements(alloc, chain, classes)
 }
