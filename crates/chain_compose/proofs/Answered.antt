@@ -1,16 +1,11 @@
 -- What an answer says of a chain.
-use Rattle.std.proofs.Common.{◌≡◌, ◌≢◌, ◌<◌, ◌⊎◌, inl, inr, ◌+◌, ℕ, List, length, Result, Ok, Err, IfOk, IfErr, MatchResult, refl, sym, ap, subst, ◌∙◌}
-use Rattle.packet_fields.specs.declared.packet.Packet.{Packet}
-use Rattle.packet_fields.specs.Arrivals.{IsArrival}
-use Rattle.state_store.specs.Kept.{IsKept}
-use Rattle.state_store.specs.Store.{Store, object_at}
+use Rattle.std.proofs.Common.{◌≡◌, ◌≢◌, ◌⊎◌, Result, Ok, Err, IfOk, IfErr, MatchResult, sym, subst}
 use Rattle.element_lang.specs.declared.tree.Middlebox.{Middlebox}
-use Rattle.element_lang.specs.Meaning.{source_store, source_verdict}
 use Rattle.element_lang.specs.Tree.{Tree}
 use Rattle.element_lang.specs.View.{tree}
-use Rattle.element_chain.specs.Chain.{Connected, element_at, store_at, chain_run}
-use Rattle.element_chain.specs.Compose.{composed, joined, base_of}
-use Rattle.element_chain.specs.Laws.{IsFit, AreKept}
+use Rattle.element_chain.specs.Chain.{Connected}
+use Rattle.element_chain.specs.Compose.{composed}
+use Rattle.element_chain.specs.Laws.{IsFit}
 use Rattle.chain_compose.specs.declared.error.ComposeError.{ComposeError}
 use Rattle.chain_compose.specs.declared.error.ComposeError.TheVariants.{NoMemory}
 use Rattle.chain_compose.specs.Refusals.{IsRefused, IsUnrefused}

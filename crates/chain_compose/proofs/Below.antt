@@ -1,12 +1,12 @@
 -- A middlebox that keeps the rules declares only locals that are there.
-use Rattle.std.proofs.Common.{◌≡◌, ◌<◌, ◌≤◌, ℕ, zero, suc, ◌+◌, Bool, true, false, ◌&&◌, not, ◌==◌, List, [], ◌∷◌, ◌++◌, length, drop as drop_first, slice_index_or, refl, sym, ap, ◌∙◌, arith, true≢false, subst}
+use Rattle.std.proofs.Common.{◌≡◌, ◌<◌, ◌≤◌, ℕ, zero, suc, ◌+◌, Bool, true, false, ◌&&◌, ◌==◌, List, [], ◌∷◌, ◌++◌, length, drop as drop_first, slice_index_or, refl, sym, ap, ◌∙◌, arith, true≢false, subst}
 use Rattle.std.specs.List.{All, list_all}
 use Rattle.std.proofs.lemmas.Bool.{eqb-true}
 use Rattle.std.proofs.lemmas.List.Elements.{All-nil, All-cons}
 use Rattle.element_lang.specs.Tree.{StmtTree, BodyTree, Tree}
 use Rattle.element_lang.specs.Tree.StmtTree.{let_local, assign, set_field, look, put, del, choose, repeat, send, drop}
 use Rattle.element_lang.specs.Tree.BodyTree.{done, stmt}
-use Rattle.element_lang.specs.Rules.{is_good, is_good_stmt, is_good_body, counted_from, declared_in, declared_by, binds, are_good_objects}
+use Rattle.element_lang.specs.Rules.{is_good, is_good_stmt, is_good_body, counted_from, declared_in, declared_by, binds}
 use Rattle.element_lang.specs.declared.tree.Middlebox.{Middlebox}
 use Rattle.element_lang.specs.declared.tree.Stmt.{Stmt}
 use Rattle.element_lang.specs.View.{tree, stmt_tree, body_tree}

@@ -1,9 +1,9 @@
 -- The first element of which something holds.
-use Rattle.std.proofs.Common.{◌≡◌, ◌<◌, ◌≤◌, ◌⊎◌, inl, inr, ℕ, zero, suc, ◌+◌, ◌||◌, ◌&&◌, Bool, true, false, List, length, map, slice_index_or, refl, sym, ap, subst, ◌∙◌, arith, true≢false}
+use Rattle.std.proofs.Common.{◌≡◌, ◌<◌, ◌≤◌, ◌⊎◌, inl, inr, ℕ, zero, suc, ◌+◌, ◌||◌, Bool, true, false, List, length, map, slice_index_or, refl, sym, ap, subst, ◌∙◌, arith, true≢false}
 use Rattle.std.proofs.lemmas.List.{length-map}
 use Rattle.element_lang.specs.declared.tree.Middlebox.{Middlebox}
 use Rattle.element_lang.specs.declared.tree.Stmt.{Stmt}
-use Rattle.element_lang.specs.Tree.{BodyTree, Tree}
+use Rattle.element_lang.specs.Tree.{Tree}
 use Rattle.element_lang.specs.View.{tree, body_tree}
 use Rattle.element_chain.specs.Chain.{element_at}
 use Rattle.element_chain.specs.Laws.{any_uses_bytes}

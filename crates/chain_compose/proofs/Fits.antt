@@ -1,15 +1,14 @@
 -- Chains that can be composed.
-use Rattle.std.proofs.Common.{◌≡◌, ◌≢◌, ◌<◌, ◌≤◌, ◌^◌, ◌⊎◌, inl, inr, ℕ, zero, suc, ◌&&◌, Bool, true, false, IsTrue, List, [], ◌∷◌, length, map, refl, sym, ap, subst, ◌∙◌, arith, true≢false}
+use Rattle.std.proofs.Common.{◌≡◌, ◌<◌, ◌≤◌, ◌^◌, ℕ, zero, suc, ◌&&◌, Bool, true, false, IsTrue, List, [], ◌∷◌, length, map, refl, sym, ap, subst, arith, true≢false}
 use Rattle.std.specs.List.{All, list_all}
 use Rattle.std.proofs.lemmas.List.{length-map}
 use Rattle.std.proofs.lemmas.List.Elements.{All-head, All-tail}
 use Rattle.element_lang.specs.declared.tree.Middlebox.{Middlebox}
-use Rattle.element_lang.specs.Accepted.{HasNames}
 use Rattle.element_lang.specs.Rules.{is_good}
 use Rattle.element_lang.specs.Tree.{Tree}
 use Rattle.element_lang.specs.View.{tree}
 use Rattle.element_chain.specs.declared.chain.Wire.{Wire}
-use Rattle.element_chain.specs.Chain.{Connected, element_at}
+use Rattle.element_chain.specs.Chain.{element_at}
 use Rattle.element_chain.specs.Compose.{locals_from, composed}
 use Rattle.element_chain.specs.Laws.{IsFit, IsSmall, any_uses_bytes}
 use Rattle.element_chain.specs.Wiring.{AreWithin, HasNoCycle}

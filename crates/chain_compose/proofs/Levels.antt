@@ -1,5 +1,5 @@
 -- One level of a statement.
-use Rattle.std.proofs.Common.{Vec, Global, ◌≡◌, ℕ, List, [], ◌∷◌, ◌++◌, map, sym, ap, ◌∙◌}
+use Rattle.std.proofs.Common.{Vec, Global, ◌≡◌, ℕ, List, [], ◌∷◌, ◌++◌, sym, ap, ◌∙◌}
 use Rattle.packet_fields.specs.declared.field.Field.{Field}
 use Rattle.element_lang.specs.Tree.{StmtTree}
 use Rattle.element_lang.specs.Tree.StmtTree.{let_local, assign, set_field, look, put, del, choose, repeat, send, drop}
@@ -10,7 +10,7 @@ use Rattle.element_lang.specs.declared.tree.Expr.{Expr, fold-roll-Expr}
 use Rattle.element_lang.specs.declared.tree.Expr.TheVariants.{Lit, Local, rolls-Lit, rolls-Local}
 use Rattle.element_lang.specs.declared.tree.Expr.TheOpen.{Expr-F}
 use Rattle.element_lang.specs.Tree.{ExprTree}
-use Rattle.element_lang.specs.Tree.ExprTree.{lit, local, apply}
+use Rattle.element_lang.specs.Tree.ExprTree.{lit, local}
 use Rattle.element_lang.specs.declared.tree.Stmt.{Stmt, fold-roll-Stmt}
 use Rattle.element_lang.specs.declared.tree.Stmt.TheVariants.{Let, Assign, SetField, Look, Put, Del, If, Repeat, Send, Drop, rolls-Let, rolls-Assign, rolls-SetField, rolls-Look, rolls-Put, rolls-Del, rolls-If, rolls-Repeat, rolls-Send, rolls-Drop}
 use Rattle.element_lang.specs.declared.tree.Stmt.TheOpen.{Stmt-F}

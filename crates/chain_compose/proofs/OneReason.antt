@@ -7,7 +7,7 @@ use Rattle.chain_compose.specs.declared.error.ComposeError.{ComposeError}
 use Rattle.chain_compose.specs.declared.error.ComposeError.TheVariants.{Byte, Repeat, Statements, TooLarge, NoMemory}
 use Rattle.chain_compose.specs.declared.error.What.{What}
 use Rattle.chain_compose.specs.declared.error.What.TheVariants.{Objects, Entries, Writes, Depth, Bytes}
-use Rattle.chain_compose.specs.Refusals.{IsFirst, amount, allowed, order, IsTooLarge, IsRefused, IsUnrefused, KeepsSizes, AreInPlace, AreFew, IsCountRefusal, IsSizeRefusal, statements_in, most_statements}
+use Rattle.chain_compose.specs.Refusals.{IsFirst, amount, allowed, order, IsTooLarge, IsRefused, IsUnrefused, KeepsSizes, AreInPlace, IsCountRefusal, IsSizeRefusal, statements_in, most_statements}
 
 apart : (a b : ℕ) → (a < b) ⊎ ((a ≡ b) ⊎ (b < a))
 apart zero zero = inr (inl refl)

@@ -1,5 +1,5 @@
 -- Elements with a `repeat` within another one, as they are told from a table.
-use Rattle.std.proofs.Common.{◌≡◌, ◌<◌, ◌≤◌, ◌⊎◌, inl, inr, ◌↔◌, ℕ, zero, suc, ◌==◌, ◌||◌, ◌&&◌, Bool, true, false, List, length, map, refl, sym, ap, subst, ◌∙◌, arith, true≢false}
+use Rattle.std.proofs.Common.{◌≡◌, ◌<◌, ◌≤◌, ◌⊎◌, inl, inr, ◌↔◌, ℕ, zero, suc, ◌==◌, ◌||◌, ◌&&◌, Bool, true, false, List, length, map, refl, sym, ap, ◌∙◌, arith, true≢false}
 use Rattle.std.proofs.lemmas.Bool.{eqb-true}
 use Rattle.std.proofs.lemmas.List.{length-map}
 use Rattle.element_lang.specs.declared.tree.Middlebox.{Middlebox}
@@ -7,8 +7,8 @@ use Rattle.element_lang.specs.Tree.{BodyTree, Tree}
 use Rattle.element_lang.specs.Rules.{any_repeats}
 use Rattle.element_lang.specs.View.{tree}
 use Rattle.element_chain.specs.declared.chain.Wire.{Wire}
-use Rattle.element_chain.specs.Chain.{Connected, element_at}
-use Rattle.element_chain.specs.Laws.{any_sends_again, IsReached, RepeatsBehind}
+use Rattle.element_chain.specs.Chain.{element_at}
+use Rattle.element_chain.specs.Laws.{any_sends_again, RepeatsBehind}
 use Rattle.element_chain.specs.Wiring.{Leads, AreWithin, leads_by}
 use Rattle.chain_compose.specs.declared.matrix.Reach.{Reach}
 use Rattle.chain_compose.specs.Parts.{connected}

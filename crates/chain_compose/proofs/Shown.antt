@@ -1,8 +1,8 @@
 -- What a table tells of two elements.
-use Rattle.std.proofs.Common.{◌≡◌, ◌<◌, ℕ, suc, ◌+◌, ◌*◌, ◌/◌, ◌%◌, ◌&&◌, ◌||◌, Bool, false, List, length, slice_index_or, refl, sym, ap, ◌∙◌, arith}
+use Rattle.std.proofs.Common.{◌≡◌, ◌<◌, ℕ, suc, ◌+◌, ◌*◌, ◌/◌, ◌%◌, ◌&&◌, ◌||◌, Bool, false, List, length, slice_index_or, ap, ◌∙◌}
 use Rattle.std.proofs.lemmas.Nat.{div-mul-add, mod-mul-add, mul-add-lt}
 use Rattle.element_chain.specs.declared.chain.Wire.{Wire}
-use Rattle.element_chain.specs.Wiring.{is_joined, leads_by}
+use Rattle.element_chain.specs.Wiring.{is_joined}
 use Rattle.chain_compose.specs.declared.matrix.Reach.{Reach}
 use Rattle.chain_compose.specs.Reach.{is_shown, is_shown_by, ShowsBy}
 

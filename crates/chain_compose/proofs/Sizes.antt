@@ -1,5 +1,5 @@
 -- The whole has as many statements as are told from its elements.
-use Rattle.std.proofs.Common.{◌≡◌, ℕ, zero, suc, ◌+◌, Bool, true, false, cond, List, [], ◌∷◌, ◌++◌, length, refl, sym, ap, ◌∙◌, arith, Option, Some, None}
+use Rattle.std.proofs.Common.{◌≡◌, ℕ, zero, suc, ◌+◌, Bool, true, false, cond, List, [], ◌∷◌, ◌++◌, length, refl, ap, ◌∙◌, arith, Some, None}
 use Rattle.std.specs.List.{filter}
 use Rattle.packet_fields.specs.declared.field.Field.{Field}
 use Rattle.packet_fields.specs.Table.{all_fields}
@@ -12,9 +12,9 @@ use Rattle.element_chain.specs.declared.chain.Wire.{Wire}
 use Rattle.element_chain.specs.declared.chain.Target.{Target}
 use Rattle.element_chain.specs.declared.chain.Target.TheVariants.{Element, Out}
 use Rattle.element_chain.specs.Chain.{Connected, element_at}
-use Rattle.element_chain.specs.Compose.{followed, one, Numbering, Spot, Sends, Ends, declared, all_declared, stmt_placed, body_placed, tests, sent_by, wires_of, clearing, closed, is_set, base_of, ends_within, element_placed, composed}
-use Rattle.chain_compose.specs.Counts.{size_of, size_in, closed_size, tests_size, sent_size, cleared_count, end_size, entry_size}
-use Rattle.chain_compose.specs.Refusals.{statements_of, statements_in}
+use Rattle.element_chain.specs.Compose.{followed, one, Numbering, Spot, Sends, Ends, declared, stmt_placed, body_placed, tests, sent_by, wires_of, clearing, closed, is_set, base_of, ends_within, element_placed, composed}
+use Rattle.chain_compose.specs.Counts.{size_of, size_in, tests_size, sent_size, end_size, entry_size}
+use Rattle.chain_compose.specs.Refusals.{statements_in}
 
 followed_size : (a b : BodyTree) → statements_in (followed a b) ≡ statements_in a + statements_in b
 followed_size done b = omega arith

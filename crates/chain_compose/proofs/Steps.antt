@@ -1,12 +1,12 @@
 -- Statements that are put behind others, one after the other.
-use Rattle.std.proofs.Common.{◌≡◌, ℕ, List, [], ◌∷◌, ◌++◌, refl, sym, ap, ◌∙◌, subst}
+use Rattle.std.proofs.Common.{◌≡◌, ℕ, List, [], ◌∷◌, ◌++◌, ap, ◌∙◌}
 use Rattle.element_lang.specs.declared.tree.Stmt.{Stmt}
 use Rattle.element_lang.specs.Tree.{StmtTree, BodyTree}
 use Rattle.element_lang.specs.Tree.BodyTree.{done, stmt}
 use Rattle.element_lang.specs.View.{stmt_tree, body_tree}
 use Rattle.packet_fields.specs.declared.field.Field.{Field}
-use Rattle.element_chain.specs.Compose.{followed, one, cleared, clearing, Numbering, Placed, Written, Spot, Sends, stmt_placed, body_placed}
-use Rattle.chain_compose.specs.Parts.{numbering, placed, written, placed_behind, written_behind, one_placed}
+use Rattle.element_chain.specs.Compose.{followed, one, cleared, clearing, Placed, Spot, Sends, stmt_placed, body_placed}
+use Rattle.chain_compose.specs.Parts.{numbering, placed, placed_behind, one_placed}
 use Rattle.chain_compose.proofs.Trees.{followed_assoc, followed_done, body_push}
 
 -- the same, of trees

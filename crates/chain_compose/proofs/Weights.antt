@@ -1,12 +1,11 @@
 -- How many statements there are within others.
-use Rattle.std.proofs.Common.{◌≡◌, ◌<◌, ◌≤◌, ℕ, zero, suc, ◌+◌, ◌-◌, ◌*◌, List, [], ◌∷◌, length, drop, slice_index_or, refl, sym, ap, subst, ◌∙◌, arith}
+use Rattle.std.proofs.Common.{◌≡◌, ◌<◌, ◌≤◌, ℕ, zero, suc, ◌+◌, ◌-◌, ◌*◌, List, [], ◌∷◌, length, drop, slice_index_or, sym, ap, subst, arith}
 use Rattle.std.proofs.Math.Nat.{suc-mul}
 use Rattle.element_lang.specs.declared.tree.Stmt.{Stmt}
 use Rattle.element_lang.specs.declared.tree.Middlebox.{Middlebox}
-use Rattle.element_lang.specs.Tree.{StmtTree, BodyTree}
+use Rattle.element_lang.specs.Tree.{StmtTree}
 use Rattle.element_lang.specs.Tree.StmtTree.{let_local, assign, set_field, look, put, del, choose, repeat, send, drop as drop_packet}
-use Rattle.element_lang.specs.Tree.BodyTree.{done, stmt}
-use Rattle.element_lang.specs.View.{tree, stmt_tree, body_tree}
+use Rattle.element_lang.specs.View.{stmt_tree, body_tree}
 use Rattle.chain_compose.specs.Refusals.{statements_of, statements_in}
 
 pub some_statements : (s : StmtTree) → 1 ≤ statements_of s

@@ -1,5 +1,5 @@
 -- What stands for a `send`, and at the end of a wire.
-use Rattle.std.proofs.Common.{◌≡◌, ◌<◌, ◌≤◌, ℕ, zero, suc, ◌-◌, Bool, true, false, cond, List, [], ◌∷◌, ◌++◌, length, map, take, drop as drop_first, slice_index_or, Option, Some, None, refl, sym, ap, ◌∙◌, subst, arith}
+use Rattle.std.proofs.Common.{◌≡◌, ◌<◌, ◌≤◌, ℕ, zero, suc, ◌-◌, Bool, true, false, cond, List, [], ◌∷◌, ◌++◌, length, take, drop as drop_first, slice_index_or, Some, refl, sym, ap, ◌∙◌, arith}
 use Rattle.std.specs.List.{filter}
 use Rattle.gal_bits.specs.declared.op.Op.TheVariants.{Eq}
 use Rattle.packet_fields.specs.Table.{all_fields}
@@ -7,23 +7,20 @@ use Rattle.element_lang.specs.declared.tree.Stmt.{Stmt}
 use Rattle.element_lang.specs.declared.tree.Middlebox.{Middlebox}
 use Rattle.element_lang.specs.Tree.{ExprTree, StmtTree, BodyTree, Tree}
 use Rattle.element_lang.specs.Tree.ExprTree.{lit, local, apply}
-use Rattle.element_lang.specs.Tree.Exprs.{expr, no_expr}
 use Rattle.element_lang.specs.Tree.StmtTree.{let_local, choose, send, drop}
-use Rattle.element_lang.specs.Tree.BodyTree.{done, stmt}
+use Rattle.element_lang.specs.Tree.BodyTree.{stmt}
 use Rattle.element_lang.specs.Rules.{ends_always}
 use Rattle.element_lang.specs.View.{tree, stmt_tree, body_tree}
 use Rattle.element_lang.specs.Widths.{local_widths}
 use Rattle.element_chain.specs.declared.chain.Wire.{Wire}
-use Rattle.element_chain.specs.declared.chain.Target.{Target}
 use Rattle.element_chain.specs.declared.chain.Target.TheVariants.{Element, Out}
-use Rattle.element_chain.specs.Chain.{Connected, element_at, no_element}
-use Rattle.element_chain.specs.Compose.{followed, one, Numbering, Placed, Written, Spot, Sends, Ends, body_placed, tests, sent_by, wires_of, clearing, closed, is_set, ends_within, two}
+use Rattle.element_chain.specs.Chain.{Connected}
+use Rattle.element_chain.specs.Compose.{followed, one, Placed, Written, Spot, Ends, body_placed, tests, sent_by, wires_of, clearing, closed, is_set, ends_within, two}
 use Rattle.chain_compose.specs.declared.parts.Parts.{Parts}
 use Rattle.chain_compose.specs.declared.parts.Place.{Place}
-use Rattle.chain_compose.specs.Routes.{all_routes}
 use Rattle.chain_compose.specs.Parts.{chain_of, own_tree, spot_of, ends_of, sends_of, numbering, placed, written, placed_behind, written_behind, element_written}
 use Rattle.chain_compose.proofs.RoutesAt.{routes_at}
-use Rattle.chain_compose.proofs.Trees.{followed_assoc, body_push, tree_at, no_tree}
+use Rattle.chain_compose.proofs.Trees.{followed_assoc, body_push, no_tree}
 
 -- statements and widths
 abbrev both : BodyTree → List ℕ → Written

@@ -1,5 +1,5 @@
 -- Statements that declare only locals that are there.
-use Rattle.std.specs.Prelude.{ℕ, ◌<◌, List}
+use Rattle.std.specs.Prelude.{ℕ, ◌<◌}
 use Rattle.std.specs.List.{All}
 use Rattle.element_lang.specs.Tree.{StmtTree, BodyTree}
 use Rattle.element_lang.specs.Tree.StmtTree.{let_local, assign, set_field, look, put, del, choose, repeat, send, drop}

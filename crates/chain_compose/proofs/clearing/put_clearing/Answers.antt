@@ -3,7 +3,7 @@ use Rattle.std.proofs.Math.ListN.{drop_of_length-le}
 use Rattle.packet_fields.specs.declared.field.Field.{Field}
 use Rattle.packet_fields.specs.declared.field.Field.TheVariants.{MetaPort}
 use Rattle.element_lang.specs.View.{body_tree}
-use Rattle.element_lang.specs.Tree.{BodyTree, ExprTree}
+use Rattle.element_lang.specs.Tree.{ExprTree}
 use Rattle.element_lang.specs.Tree.StmtTree.{set_field}
 use Rattle.element_chain.specs.Compose.{followed, one, clearing}
 use Rattle.chain_compose.proofs.Levels.{push_set_field}

@@ -4,10 +4,8 @@ use Rattle.element_chain.specs.declared.chain.Wire.{Wire}
 use Rattle.element_lang.specs.Accepted.{HasNames}
 use Rattle.element_lang.specs.Rules.{is_good}
 use Rattle.element_lang.specs.Tree.{Tree}
-use Rattle.element_chain.specs.Chain.{Connected}
 use Rattle.chain_compose.specs.Parts.{connected}
 use Rattle.chain_compose.proofs.Fits.{fits, all_good, at_each, is_small}
-use Rattle.chain_compose.proofs.OneReason.{count_refused, size_refused, unrefused}
 use Rattle.chain_compose.proofs.composition.compose_elements.Goals as goal
 
 pub whole-requires-clause-good : goal.whole-requires-clause-good

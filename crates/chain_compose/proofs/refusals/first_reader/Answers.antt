@@ -1,4 +1,4 @@
-use Rattle.std.proofs.Common.{◌≡◌, ◌∙◌, ◌<◌, ◌≤◌, ℕ, length, map, sym, ap, arith}
+use Rattle.std.proofs.Common.{◌∙◌, map, sym, ap, arith}
 use Rattle.element_lang.specs.declared.tree.Middlebox.{Middlebox}
 use Rattle.element_lang.specs.View.{tree}
 use Rattle.chain_compose.specs.Refusals.{ReadsBehind}

@@ -1,4 +1,4 @@
-use Rattle.std.proofs.Common.{◌<◌, ◌≤◌, ℕ, map}
+use Rattle.std.proofs.Common.{◌<◌, ℕ, map}
 use Rattle.element_lang.specs.View.{tree}
 use Rattle.chain_compose.specs.Refusals.{ReadsBehind}
 use Rattle.chain_compose.proofs.refusals.first_reader.Given as goal

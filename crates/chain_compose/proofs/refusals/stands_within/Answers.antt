@@ -1,4 +1,4 @@
-use Rattle.std.proofs.Common.{◌≡◌, ◌∙◌, ℕ, Bool, length, map, sym, ap, arith}
+use Rattle.std.proofs.Common.{◌≡◌, ◌∙◌, ℕ, length, map, sym, ap, arith}
 use Rattle.element_lang.specs.View.{tree}
 use Rattle.chain_compose.specs.Reach.{is_shown, some_below, sends_to}
 use Rattle.chain_compose.proofs.Firsts.{some_at, none_so_far}

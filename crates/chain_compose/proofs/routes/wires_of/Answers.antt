@@ -1,5 +1,4 @@
-use Rattle.std.proofs.Common.{◌≡◌, ◌∙◌, ◌++◌, sym, ap, arith, append-nil}
-use Rattle.element_chain.specs.Compose.{wires_from}
+use Rattle.std.proofs.Common.{arith}
 use Rattle.chain_compose.proofs.RoutesAt.{first_route, next_route, no_route}
 use Rattle.chain_compose.proofs.routes.wires_of.Goals as goal
 

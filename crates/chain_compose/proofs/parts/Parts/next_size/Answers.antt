@@ -1,4 +1,4 @@
-use Rattle.std.proofs.Common.{◌≡◌, ◌∙◌, None, sym, ap}
+use Rattle.std.proofs.Common.{◌∙◌, None, sym, ap}
 use Rattle.element_lang.specs.declared.tree.Middlebox.{Middlebox}
 use Rattle.element_lang.specs.Tree.{Tree}
 use Rattle.element_lang.specs.View.{body_tree}
