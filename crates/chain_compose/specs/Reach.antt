@@ -1,5 +1,6 @@
 -- What is told about which elements wires lead to.
-use Rattle.std.specs.Prelude.{◌≡◌, ℕ, zero, suc, ◌<◌, ◌+◌, ◌*◌, ◌==◌, ◌&&◌, ◌||◌, Bool, false, List, length, slice_index_or}
+use Rattle.std.specs.Prelude.{◌≡◌, ℕ, zero, suc, ◌<◌, ◌+◌, ◌*◌, ◌==◌, ◌&&◌, ◌||◌, Bool, false, List, length}
+use Rattle.std.specs.Prelude.{slice_index_or}
 use Rattle.element_lang.specs.Rules.{any_repeats}
 use Rattle.element_lang.specs.Tree.{Tree}
 use Rattle.element_chain.specs.declared.chain.Wire.{Wire}

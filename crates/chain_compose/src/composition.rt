@@ -1,5 +1,6 @@
 //! From a chain to one middlebox.
-ghost use Rattle.std.specs.Prelude.{◌≡◌, ◌≢◌, ◌<◌, ◌≤◌, ◌+◌, ◌^◌, ◌⊎◌, ℕ, List, true, length, IsTrue, IfOk, IfErr, MatchResult};
+ghost use Rattle.std.specs.Prelude.{◌≡◌, ◌≢◌, ◌<◌, ◌≤◌, ◌+◌, ◌^◌, ◌⊎◌, ℕ, List, true, length, IsTrue};
+ghost use Rattle.std.specs.Prelude.{IfOk, IfErr, MatchResult};
 ghost use Rattle.std.specs.List.{All, list_all};
 ghost use Rattle.element_lang.specs.Accepted.{HasNames, deepest};
 ghost use Rattle.element_lang.specs.Rules.{is_good};
@@ -104,6 +105,7 @@ impl Parts<'_> {
         if self.size()? > MAX_STATEMENTS {
             return Err(ComposeError::Statements);
         }
+        self.refuse_deep()?;
         Ok(self.whole()?)
     }
 }

@@ -1,4 +1,5 @@
-//! How many statements the whole has, told from the elements alone. A count stops at the greatest that 64 bits can hold.
+//! How many statements the whole has, told from the elements alone. A count stops at the greatest that 64 bits can
+//! hold.
 ghost use Rattle.std.specs.Prelude.{◌≡◌, ◌<◌, ◌≤◌, ℕ, suc, length, IfOk};
 ghost use Rattle.element_lang.specs.View.{stmt_tree, body_tree};
 ghost use Rattle.element_chain.specs.Compose.{composed};
@@ -58,8 +59,8 @@ fn closed_size(sent: u64, body: &[Stmt]) -> u64
     }
 }
 
-// The statements at the end of a wire, where those of each element are told.
-fn end_size(sizes: &[u64], target: Target) -> u64
+/// What is told of the end of a wire, where it is told for each element; 1 for the outside.
+pub(crate) fn end_size(sizes: &[u64], target: Target) -> u64
     ensures { result ≡ told_end sizes.now target }
 {
     match target {

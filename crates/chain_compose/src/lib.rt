@@ -10,6 +10,7 @@ mod error;
 mod expressions;
 mod matrix;
 mod names;
+mod nesting;
 mod parts;
 mod plain;
 mod reach;
