@@ -1,2 +1,5 @@
 pub mod Grammar
 pub mod Reads
+pub mod Statements
+pub mod Shapes
+pub mod Refused

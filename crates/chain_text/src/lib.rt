@@ -1,12 +1,9 @@
 //! The reader of chains: tokens, then statements, then elements and wires.
 #![tactic(auto)]
 
-mod cycle;
 mod error;
 mod grammar;
-mod reader;
+mod shape;
 mod statement;
 
 pub use error::ChainTextError;
-pub use reader::read_chain;
-pub use statement::Statement;
