@@ -1,5 +1,5 @@
 //! What the tokens of each kind of statement are.
-ghost use Rattle.std.specs.Prelude.{◌≡◌, ℕ, List, length};
+ghost use Rattle.std.specs.Prelude.{◌≡◌, ◌≤◌, ℕ, List, length};
 ghost use Rattle.chain_tokens.specs.Tokens.{token_of, tokens_of};
 ghost use Rattle.chain_text.specs.Shapes.{fits, fit_of};
 
@@ -49,7 +49,8 @@ impl Kind {
 
 /// How many of the first tokens are what they have to be.
 pub(crate) fn fit(kinds: &[Kind], tokens: &[Placed]) -> usize
-    ensures { (text : List ℕ) → result ≡ fit_of kinds.now (tokens_of text tokens.now) }
+    ensures value { (text : List ℕ) → result ≡ fit_of kinds.now (tokens_of text tokens.now) }
+    ensures few { result ≤ length kinds.now }
 {
     let Some((kind, kinds)) = kinds.split_first() else {
         return 0;
