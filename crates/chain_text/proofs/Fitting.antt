@@ -1,6 +1,7 @@
 -- How many tokens fit a shape, and what those that fit all of it are.
-use Rattle.std.proofs.Common.{◌≡◌, ℕ, zero, suc, ◌<◌, ◌≤◌, Bool, true, false, cond, List, [], ◌∷◌, ◌++◌, length, take, drop, map, get_or, eqb, refl, sym, ap, subst, ◌∙◌, arith}
+use Rattle.std.proofs.Common.{◌≡◌, ℕ, zero, suc, ◌<◌, ◌≤◌, Bool, true, false, cond, List, [], ◌∷◌, ◌++◌, length, take, drop, map, get_or, eqb, refl, sym, ap, ap₂, subst, ◌∙◌, arith}
 use Rattle.std.proofs.lemmas.Bool.{false≢true, eqb-true, eq-eqb, cond_both, cond-true}
+use Rattle.std.proofs.lemmas.List.{get_or-take, take-append-drop}
 use Rattle.chain_tokens.specs.Token.{Token, name, number, fixed}
 use Rattle.chain_tokens.specs.Tokens.{span_text, token_of, tokens_of}
 use Rattle.chain_tokens.specs.declared.mark.Mark.{Mark}
@@ -210,3 +211,31 @@ pub number_at : (text : List ℕ) (ps : List Placed) (i : ℕ) → value_of (nth
 number_at text [] i = refl
 number_at text (p ∷ ps) zero = value_found text p.token
 number_at text (p ∷ ps) (suc i) = number_at text ps i
+
+-- ## the statement in front of tokens that were found
+pub declaration_found : (text : List ℕ) (ps : List Placed) → fit_of DECLARATION (tokens_of text ps) ≡ 4
+    → tokens_of text ps ≡ statement_tokens (declares (span_text text (span_at ps 0)) (span_text text (span_at ps 2))) ++ drop 4 (tokens_of text ps)
+declaration_found text ps h =
+    let ts : List Token = tokens_of text ps in
+    let word : (i : ℕ) → i < 4 → word_of (nth (take 4 ts) i) ≡ span_text text (span_at ps i) =
+    λ i lt. ap word_of (get_or-take 4 ts i (fixed Ends) lt) ∙ word_at text ps i in
+    let F : List ℕ → List ℕ → List Token = λ x y. statement_tokens (declares x y) in
+    let front : take 4 ts ≡ F (span_text text (span_at ps 0)) (span_text text (span_at ps 2)) =
+    declaration_is (take 4 ts) (whole_fits DECLARATION ts h) ∙ ap₂ F (word 0 (omega arith)) (word 2 (omega arith)) in
+    sym (take-append-drop 4 ts) ∙ ap (λ l. l ++ drop 4 ts) front
+
+pub wire_found : (text : List ℕ) (ps : List Placed) → fit_of WIRE (tokens_of text ps) ≡ 10
+    → tokens_of text ps ≡ statement_tokens (wires (span_text text (span_at ps 0)) (value_at ps 2) (value_at ps 6) (span_text text (span_at ps 8)))
+    ++ drop 10 (tokens_of text ps)
+wire_found text ps h =
+    let ts : List Token = tokens_of text ps in
+    let word : (i : ℕ) → i < 10 → word_of (nth (take 10 ts) i) ≡ span_text text (span_at ps i) =
+    λ i lt. ap word_of (get_or-take 10 ts i (fixed Ends) lt) ∙ word_at text ps i in
+    let value : (i : ℕ) → i < 10 → value_of (nth (take 10 ts) i) ≡ value_at ps i =
+    λ i lt. ap value_of (get_or-take 10 ts i (fixed Ends) lt) ∙ number_at text ps i in
+    let from : List ℕ = span_text text (span_at ps 0) in
+    let front : take 10 ts ≡ statement_tokens (wires from (value_at ps 2) (value_at ps 6) (span_text text (span_at ps 8))) =
+    wire_is (take 10 ts) (whole_fits WIRE ts h)
+    ∙ ap₂ (λ x y. statement_tokens (wires x y (value_of (nth (take 10 ts) 6)) (word_of (nth (take 10 ts) 8)))) (word 0 (omega arith)) (value 2 (omega arith))
+    ∙ ap₂ (λ x y. statement_tokens (wires from (value_at ps 2) x y)) (value 6 (omega arith)) (word 8 (omega arith)) in
+    sym (take-append-drop 10 ts) ∙ ap (λ l. l ++ drop 10 ts) front

@@ -1,5 +1,5 @@
 //! From tokens to statements.
-ghost use Rattle.std.specs.Prelude.{◌≡◌, ◌++◌, ◌<◌, ℕ, List, length, drop, slice_get, IfOk, IfErr};
+ghost use Rattle.std.specs.Prelude.{◌≡◌, ◌++◌, ◌<◌, ◌≤◌, ℕ, List, length, drop, slice_get, IfOk, IfErr};
 ghost use Rattle.chain_tokens.specs.Tokens.{tokens_of};
 ghost use Rattle.chain_text.specs.Grammar.{statement_tokens, spelled, IsFirstWrong};
 ghost use Rattle.chain_text.specs.Statements.{statement_of, statements_of, span_at, value_at};

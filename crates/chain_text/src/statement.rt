@@ -1,5 +1,5 @@
 //! Statements of a chain's text, without the text that their names lie in.
-ghost use Rattle.std.specs.Prelude.{◌≡◌, ℕ, List, length};
+ghost use Rattle.std.specs.Prelude.{◌≡◌, ◌<◌, ℕ, List, length};
 ghost use Rattle.chain_text.specs.Grammar.{statement_tokens};
 ghost use Rattle.chain_text.specs.Statements.{statement_of};
 
@@ -25,7 +25,8 @@ pub(crate) enum Statement {
 impl Statement {
     /// How many tokens it has.
     pub(crate) fn tokens(&self) -> usize
-        ensures { (text : List ℕ) → result ≡ length (statement_tokens (statement_of text self.now)) }
+        ensures count { (text : List ℕ) → result ≡ length (statement_tokens (statement_of text self.now)) }
+        ensures some { 0 < result }
     {
         match self {
             Statement::Declares { .. } => 4,
