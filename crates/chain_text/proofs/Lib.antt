@@ -1,3 +1,5 @@
 pub mod Fitting
 pub mod FirstWrong
 pub mod Parsing
+pub mod Naming
+pub mod Building

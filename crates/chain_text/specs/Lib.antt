@@ -3,3 +3,4 @@ pub mod Reads
 pub mod Statements
 pub mod Shapes
 pub mod Refused
+pub mod Built

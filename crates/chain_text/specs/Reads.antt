@@ -1,7 +1,7 @@
 -- Which texts are chains, and of which elements and wires; and why the others are none.
 use Rattle.std.specs.Prelude.{◌≡◌, ◌⊎◌, ℕ, suc, ◌-◌, ◌^◌, ◌<◌, ◌≤◌, min, Bool, true, false, not, ◌&&◌, ◌||◌, ◌==◌}
 use Rattle.std.specs.Prelude.{List, [], ◌∷◌, length, map, take, slice_get, Option, Some, None, codes, if◌then◌else◌}
-use Rattle.std.specs.List.{AllPairs, list_any, position_or_len}
+use Rattle.std.specs.List.{AllPairs, list_any}
 use Rattle.std.specs.Str.{bytes_eq}
 use Rattle.element_chain.specs.declared.chain.Chain.{Chain}
 use Rattle.element_chain.specs.declared.chain.Element.{Element}
@@ -28,7 +28,8 @@ is_named es word = list_any (λ (e : Element). bytes_eq e.name word) es
 
 -- the number of the first element of this name
 abbrev pub number_of : List Element → List ℕ → ℕ
-number_of es word = position_or_len (λ (e : Element). bytes_eq e.name word) es
+number_of [] word = 0
+number_of (e ∷ es) word = if bytes_eq e.name word then 0 else suc (number_of es word)
 
 -- the word that stands for the outside
 abbrev pub is_out : List ℕ → Bool

@@ -1,6 +1,7 @@
 //! The reader of chains: tokens, then statements, then elements and wires.
 #![tactic(auto)]
 
+mod builder;
 mod error;
 mod grammar;
 mod shape;
