@@ -3,3 +3,4 @@ pub mod FirstWrong
 pub mod Parsing
 pub mod Naming
 pub mod Building
+pub mod Outputs
