@@ -4,3 +4,6 @@ pub mod Parsing
 pub mod Naming
 pub mod Building
 pub mod Outputs
+pub mod Declared
+pub mod TakingAll
+pub mod Tables

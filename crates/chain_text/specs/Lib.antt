@@ -4,3 +4,5 @@ pub mod Statements
 pub mod Shapes
 pub mod Refused
 pub mod Built
+pub mod Taken
+pub mod Reached

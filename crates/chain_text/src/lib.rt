@@ -4,6 +4,8 @@
 mod builder;
 mod error;
 mod grammar;
+mod reach;
+mod reader;
 mod shape;
 mod statement;
 

@@ -1,0 +1,25 @@
+-- Tables of which elements wires lead to.
+use Rattle.std.proofs.Common.{◌≡◌, ℕ, suc, ◌+◌, ◌*◌, ◌/◌, ◌%◌, ◌<◌, ◌≤◌, ◌&&◌, ◌||◌, Bool, true, false, List, get_or, refl, sym, ap, ap₂, subst, ◌∙◌, arith}
+use Rattle.std.proofs.lemmas.Nat.{mul-add-lt, div-mul-add, mod-mul-add}
+use Rattle.element_chain.specs.declared.chain.Wire.{Wire}
+use Rattle.element_chain.specs.Wiring.{is_joined, leads_by}
+use Rattle.chain_text.specs.declared.reach.Reach.{Reach}
+use Rattle.chain_text.specs.Reached.{entry, LeadsBy}
+
+-- a list of rows, entry by entry
+entry_at : (rows : List Bool) (count end : ℕ) (f : ℕ → ℕ → Bool) → ((k : ℕ) → k < end → get_or rows k false ≡ f (k / count) (k % count))
+    → count * count ≤ end → (from to : ℕ) → from < count → to < count → get_or rows (from * count + to) false ≡ f from to
+entry_at rows count end f so_far all from to lt lt' =
+    let place : from * count + to < count * count = mul-add-lt from count to count lt lt' in
+    so_far (from * count + to) (omega arith) ∙ ap₂ f (div-mul-add from count to lt') (mod-mul-add from count to lt')
+
+pub direct_table : (wires : List Wire) (r : Reach) (end : ℕ)
+    → ((k : ℕ) → k < end → get_or r.rows.items k false ≡ is_joined wires (k / r.count) (k % r.count)) → r.count * r.count ≤ end
+    → LeadsBy wires r.count 0 r
+direct_table wires r end so_far all = record { size = refl; entries = entry_at r.rows.items r.count end (is_joined wires) so_far all }
+
+pub next_table : (wires : List Wire) (count way : ℕ) (old new : Reach) (end : ℕ) → LeadsBy wires count way old → way < old.count → new.count ≡ old.count
+    → ((k : ℕ) → k < end → get_or new.rows.items k false
+    ≡ (entry old (k / old.count) (k % old.count) || entry old (k / old.count) way && entry old way (k % old.count)))
+    → old.count * old.count ≤ end → LeadsBy wires count (suc way) new
+next_table wires count way old new end h lt same so_far all = ?

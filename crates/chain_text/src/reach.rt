@@ -1,0 +1,79 @@
+//! Which elements wires lead to.
+ghost use Rattle.std.specs.Prelude.{◌≡◌, ◌<◌, ◌≤◌, ◌*◌, ℕ, suc, true, List, vec_len, MatchBool, IfOk};
+ghost use Rattle.element_chain.specs.declared.chain.Wire.{Wire};
+ghost use Rattle.element_chain.specs.Wiring.{Leads, HasNoCycle, AreWithin, is_to, is_joined};
+
+use element_chain::{Target, Wire, wires_lead};
+use gal_io::NoMemory;
+use std::alloc::Global;
+
+/// For each two elements, whether wires lead from the first to the second: the row of the first, then the next row.
+#[derive(Debug, Drop)]
+pub(crate) struct Reach {
+    count: usize,
+    rows: Vec<bool>,
+    ghost some: { 0 < count },
+    ghost few: { count ≤ 32 },
+    ghost size: { vec_len rows ≡ count * count },
+}
+
+fn is_to(target: Target, element: usize) -> bool
+    ensures { result ≡ is_to element target }
+{
+    match target {
+        Target::Element(to) => to as usize == element,
+        Target::Out => false,
+    }
+}
+
+// Whether some wire leads from an element to another.
+fn is_joined(wires: &[Wire], from: usize, to: usize) -> bool
+    ensures { result ≡ is_joined wires.now from to }
+{
+    wires.iter().any(|wire| wire.from as usize == from && is_to(wire.to, to))
+}
+
+impl Reach {
+    ghost use Rattle.chain_text.specs.Reached.{LeadsBy, entry};
+
+    // Those that one wire leads to.
+    fn direct(alloc: Global, wires: &[Wire], count: usize) -> Result<Reach, NoMemory>
+        requires some { 0 < count }
+        requires few { count ≤ 32 }
+        ensures { IfOk result (λ reach. LeadsBy wires.now count 0 reach) }
+    {
+        let mut rows = Vec::new(alloc);
+        for place in 0..count * count {
+            rows.push(is_joined(wires, place / count, place % count))?;
+        }
+        Ok(Reach { count, rows })
+    }
+
+    // Whether wires lead from an element to another, as far as the table says.
+    fn leads(&self, from: usize, to: usize) -> bool
+        requires from { from < self.now.count }
+        requires to { to < self.now.count }
+        ensures { result ≡ entry self.now from to }
+    {
+        self.rows[from * self.count + to]
+    }
+
+    // Also those that are led to by way of one element more.
+    fn by_way(&self, alloc: Global, through: usize) -> Result<Reach, NoMemory>
+        requires { through < self.now.count }
+        ensures { (wires : List Wire) (count : ℕ) → LeadsBy wires count through self.now
+            → IfOk result (λ reach. LeadsBy wires count (suc through) reach) }
+    {
+        let mut rows = Vec::new(alloc);
+        for place in 0..self.count * self.count {
+            let (from, to) = (place / self.count, place % self.count);
+            rows.push(
+                self.leads(from, to) || self.leads(from, through) && self.leads(through, to),
+            )?;
+        }
+        Ok(Reach {
+            count: self.count,
+            rows,
+        })
+    }
+}

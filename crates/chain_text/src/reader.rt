@@ -1,0 +1,62 @@
+//! From a text to a chain.
+ghost use Rattle.std.specs.Prelude.{◌≡◌, ◌≢◌, ◌⊎◌, ◌≤◌, ℕ, List, length, map, IfOk, IfErr, MatchResult};
+ghost use Rattle.element_chain.specs.declared.chain.Chain.{Chain};
+ghost use Rattle.chain_tokens.specs.Token as chain;
+ghost use Rattle.chain_tokens.specs.Tokens.{placed_of};
+ghost use Rattle.chain_text.specs.declared.error.ChainTextError.{ChainTextError};
+ghost use Rattle.chain_text.specs.Reads.{elements_of, most_elements, told, offset_at, IsSpelling, IsChainText, IsRefused, IsComposable};
+ghost use Rattle.chain_text.specs.Statements.{statements_of};
+ghost use Rattle.chain_text.specs.Taken.{IsTaken, IsTakeError};
+
+use crate::builder::Builder;
+use crate::error::ChainTextError;
+use crate::grammar::{GrammarError, parse};
+use crate::statement::Statement;
+use chain_tokens::{Placed, TokenError, tokens};
+use element_chain::Chain;
+use std::alloc::Global;
+
+/// The most elements of a chain.
+const MAX_ELEMENTS: usize = 32;
+
+// The offset of the token at a place. Behind the last one it is the length of the text.
+fn offset_at(text: &[u8], found: &[Placed], place: usize) -> usize
+    ensures { result ≡ offset_at text.now (map (placed_of text.now) found.now) place }
+{
+    match found.get(place) {
+        Some(placed) => placed.offset,
+        None => text.len(),
+    }
+}
+
+// A count as it is told.
+fn told(count: usize) -> u32
+    ensures { result ≡ told count }
+{
+    u32::try_from(count).unwrap_or(u32::MAX)
+}
+
+// How many statements declare an element.
+fn declarations(statements: &[Statement]) -> usize
+    ensures { (text : List ℕ) → result ≡ length (elements_of (statements_of text statements.now)) }
+{
+    statements
+        .iter()
+        .filter(|statement| matches!(statement, Statement::Declares { .. }))
+        .count()
+}
+
+// The elements and wires of statements.
+fn take_all(alloc: Global, text: &[u8], statements: &[Statement]) -> Result<Chain, ChainTextError>
+    requires { length (elements_of (statements_of text.now statements.now)) ≤ most_elements }
+    ensures ok { IfOk result (λ chain. IsTaken (statements_of text.now statements.now) chain) }
+    ensures err { IfErr result (λ e. IsTakeError (statements_of text.now statements.now) e) }
+{
+    let mut builder = Builder::new(alloc);
+    for (place, statement) in statements.iter().enumerate() {
+        if !builder.take(alloc, text, *statement)? {
+            return Err(ChainTextError::Statement(told(place + 1)));
+        }
+    }
+    Ok(builder.finish())
+}
