@@ -22,4 +22,13 @@ pub next_table : (wires : List Wire) (count way : ℕ) (old new : Reach) (end : 
     → ((k : ℕ) → k < end → get_or new.rows.items k false
     ≡ (entry old (k / old.count) (k % old.count) || entry old (k / old.count) way && entry old way (k % old.count)))
     → old.count * old.count ≤ end → LeadsBy wires count (suc way) new
-next_table wires count way old new end h lt same so_far all = ?
+next_table wires count way old new end h lt same so_far all = record { size = same ∙ h.size; entries = one }
+  where
+    one : (from to : ℕ) → from < count → to < count → entry new from to ≡ leads_by wires (suc way) from to
+    one from to lt_from lt_to =
+        let f : ℕ → ℕ → Bool = λ a b. entry old a b || entry old a way && entry old way b in
+        let within : (n : ℕ) → n < count → n < old.count = λ n lt. omega (arith, h.size) in
+        let way_in : way < count = omega (arith, h.size) in
+        ap (λ n. get_or new.rows.items (from * n + to) false) same
+        ∙ entry_at new.rows.items old.count end f so_far all from to (within from lt_from) (within to lt_to)
+        ∙ ap₂ (λ x y. x || y) (h.entries from to lt_from lt_to) (ap₂ (λ x y. x && y) (h.entries from way lt_from way_in) (h.entries way to way_in lt_to))

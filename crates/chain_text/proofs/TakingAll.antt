@@ -5,8 +5,11 @@ use Rattle.std.proofs.lemmas.Option.{slice_get-get_or}
 use Rattle.chain_text.specs.declared.statement.Statement.{Statement as Found}
 use Rattle.chain_text.specs.declared.builder.Builder.{Builder}
 use Rattle.element_chain.specs.declared.chain.Chain.{Chain}
+use Rattle.element_chain.specs.declared.chain.Element.{Element}
+use Rattle.element_chain.specs.declared.chain.Wire.{Wire}
+use Rattle.element_chain.specs.Wiring.{AreWithin}
 use Rattle.chain_text.specs.Grammar.{Statement}
-use Rattle.chain_text.specs.Reads.{is_refused, told, IsRefusedAt, IsFirstRefused}
+use Rattle.chain_text.specs.Reads.{is_refused, told, IsRefusedAt, IsFirstRefused, AreWiredOnce}
 use Rattle.chain_text.specs.Statements.{statement_of, statements_of}
 use Rattle.chain_text.specs.Built.{IsBuilt}
 use Rattle.chain_text.specs.Taken.{IsTaken, IsFirstNumber}
@@ -58,4 +61,15 @@ refused_next text ss i d number lt none refused number_is =
 
 pub all_taken : (ss : List Statement) (i : ℕ) (b : Builder) (chain : Chain) → IsBuilt (take i ss) b → length ss ≤ i
     → chain.elements ≡ b.elements → chain.wires ≡ b.wires → IsTaken ss chain
-all_taken ss i b chain h end es_are ws_are = ?
+all_taken ss i b chain h end es_are ws_are =
+    let P : List Statement → Type 0 = λ l. IsBuilt l b in
+    let Q : List Element → List Wire → Type 0 = λ es ws. AreWithin (length es) ws in
+    let R : List Wire → Type 0 = AreWiredOnce in
+    let whole : IsBuilt ss b = subst P (take_all i ss end) h in
+    record {
+      none = whole.none;
+      elements = es_are ∙ whole.elements;
+      wires = ws_are ∙ whole.wires;
+      within = subst (λ es. Q es chain.wires) (sym es_are) (subst (λ ws. Q b.elements ws) (sym ws_are) whole.within);
+      once = subst R (sym ws_are) whole.once;
+    }

@@ -1,5 +1,5 @@
 -- The statements that the Rust values stand for.
-use Rattle.std.specs.Prelude.{ℕ, List, map, slice_get, Option, Some, None}
+use Rattle.std.specs.Prelude.{ℕ, Bool, true, false, List, map, slice_get, Option, Some, None}
 use Rattle.chain_tokens.specs.declared.token.Span.{Span}
 use Rattle.chain_tokens.specs.declared.token.Token.{Token}
 use Rattle.chain_tokens.specs.declared.token.Token.TheVariants.{Fixed, Number, Name}
@@ -15,6 +15,10 @@ statement_of text (Wires from output input to) = chain.wires (span_text text fro
 
 abbrev pub statements_of : List ℕ → List Statement → List chain.Statement
 statements_of text ss = map (statement_of text) ss
+
+abbrev pub is_declaration : Statement → Bool
+is_declaration (Declares element class) = true
+is_declaration (Wires from output input to) = false
 
 -- the span of a name
 abbrev pub name_span : Token → Span

@@ -1,5 +1,5 @@
 //! Which elements wires lead to.
-ghost use Rattle.std.specs.Prelude.{◌≡◌, ◌<◌, ◌≤◌, ◌*◌, ℕ, suc, true, List, vec_len, MatchBool, IfOk};
+ghost use Rattle.std.specs.Prelude.{◌≡◌, ◌<◌, ◌≤◌, ◌*◌, ℕ, suc, true, false, List, vec_len, MatchBool, IfOk};
 ghost use Rattle.element_chain.specs.declared.chain.Wire.{Wire};
 ghost use Rattle.element_chain.specs.Wiring.{Leads, HasNoCycle, AreWithin, is_to, is_joined};
 
@@ -76,4 +76,42 @@ impl Reach {
             rows,
         })
     }
+
+    // Those that any number of wires lead to.
+    fn new(alloc: Global, wires: &[Wire], count: usize) -> Result<Reach, NoMemory>
+        requires some { 0 < count }
+        requires few { count ≤ 32 }
+        ensures { IfOk result (λ reach. LeadsBy wires.now count count reach) }
+    {
+        let mut reach = Reach::direct(alloc, wires, count)?;
+        for way in 0..count {
+            reach = reach.by_way(alloc, way)?;
+        }
+        Ok(reach)
+    }
+
+    // Whether wires lead from an element back to it.
+    fn leads_back(&self) -> bool
+        ensures { MatchBool result ((e : ℕ) × (e < self.now.count) × (entry self.now e e ≡ true))
+            ((e : ℕ) → e < self.now.count → entry self.now e e ≡ false) }
+    {
+        for element in 0..self.count {
+            if self.leads(element, element) {
+                return true;
+            }
+        }
+        false
+    }
+}
+
+/// Whether wires lead from an element back to it.
+pub(crate) fn has_cycle(alloc: Global, wires: &[Wire], count: usize) -> Result<bool, NoMemory>
+    requires some { 0 < count }
+    requires few { count ≤ 32 }
+    requires within { AreWithin count wires.now }
+    ensures { IfOk result (λ found. MatchBool found ((e : ℕ) × Leads wires.now e e) (HasNoCycle wires.now)) }
+{
+    wires_lead();
+    let reach = Reach::new(alloc, wires, count)?;
+    Ok(reach.leads_back())
 }

@@ -1,11 +1,11 @@
 //! From a text to a chain.
-ghost use Rattle.std.specs.Prelude.{◌≡◌, ◌≢◌, ◌⊎◌, ◌≤◌, ℕ, List, length, map, IfOk, IfErr, MatchResult};
+ghost use Rattle.std.specs.Prelude.{◌≡◌, ◌≢◌, ◌⊎◌, ◌≤◌, ℕ, List, length, map, count_by, IfOk, IfErr, MatchResult};
 ghost use Rattle.element_chain.specs.declared.chain.Chain.{Chain};
 ghost use Rattle.chain_tokens.specs.Token as chain;
 ghost use Rattle.chain_tokens.specs.Tokens.{placed_of};
 ghost use Rattle.chain_text.specs.declared.error.ChainTextError.{ChainTextError};
 ghost use Rattle.chain_text.specs.Reads.{elements_of, most_elements, told, offset_at, IsSpelling, IsChainText, IsRefused, IsComposable};
-ghost use Rattle.chain_text.specs.Statements.{statements_of};
+ghost use Rattle.chain_text.specs.Statements.{statements_of, is_declaration};
 ghost use Rattle.chain_text.specs.Taken.{IsTaken, IsTakeError};
 
 use crate::builder::Builder;
@@ -38,7 +38,7 @@ fn told(count: usize) -> u32
 
 // How many statements declare an element.
 fn declarations(statements: &[Statement]) -> usize
-    ensures { (text : List ℕ) → result ≡ length (elements_of (statements_of text statements.now)) }
+    ensures { result ≡ count_by is_declaration statements.now }
 {
     statements
         .iter()

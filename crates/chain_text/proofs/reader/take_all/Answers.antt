@@ -1,6 +1,7 @@
 use Rattle.std.proofs.Common.{take, ap, length, arith}
 use Rattle.std.proofs.lemmas.Bool.{MatchBool-at_true, MatchBool-at_false}
-use Rattle.chain_text.specs.Statements.{statements_of}
+use Rattle.std.proofs.lemmas.List.{length-map}
+use Rattle.chain_text.specs.Statements.{statement_of, statements_of}
 use Rattle.chain_text.proofs.Declared.{few_before}
 use Rattle.chain_text.proofs.TakingAll.{taken_next, refused_next, all_taken}
 use Rattle.chain_text.proofs.reader.take_all.Goals as goal
@@ -22,4 +23,6 @@ returns-then-not-branch-clause-err c =
     (MatchBool-at_false _ _ c.if-not-branch.true h) c.told.ensures
 
 pub returns-clause-ok : goal.returns-clause-ok
-returns-clause-ok c = ?
+returns-clause-ok c =
+    all_taken (statements_of c.args.text.now c.args.statements.now) c.loop-place.place c.loop-place.builder c.finish.result c.loop-place.invariant
+    (omega (arith, length-map c.args.statements.now (statement_of c.args.text.now))) c.finish.ensures.elements c.finish.ensures.wires
