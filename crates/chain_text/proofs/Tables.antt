@@ -1,8 +1,10 @@
 -- Tables of which elements wires lead to.
-use Rattle.std.proofs.Common.{◌≡◌, ℕ, suc, ◌+◌, ◌*◌, ◌/◌, ◌%◌, ◌<◌, ◌≤◌, ◌&&◌, ◌||◌, Bool, true, false, List, get_or, refl, sym, ap, ap₂, subst, ◌∙◌, arith}
+use Rattle.std.proofs.Common.{◌≡◌, ℕ, suc, ◌+◌, ◌*◌, ◌/◌, ◌%◌, ◌<◌, ◌≤◌, ◌&&◌, ◌||◌, ◌↔◌, Bool, true, false, MatchBool, List, get_or, refl, sym, ap, ap₂, subst, ◌∙◌, arith}
+use Rattle.std.proofs.lemmas.Bool.{true≢false}
+use Rattle.std.proofs.lemmas.List.Elements.{All-contains}
 use Rattle.std.proofs.lemmas.Nat.{mul-add-lt, div-mul-add, mod-mul-add}
 use Rattle.element_chain.specs.declared.chain.Wire.{Wire}
-use Rattle.element_chain.specs.Wiring.{is_joined, leads_by}
+use Rattle.element_chain.specs.Wiring.{IsJoined, Leads, directly, onward, HasNoCycle, IsWithin, AreWithin, is_joined, leads_by}
 use Rattle.chain_text.specs.declared.reach.Reach.{Reach}
 use Rattle.chain_text.specs.Reached.{entry, LeadsBy}
 
@@ -32,3 +34,28 @@ next_table wires count way old new end h lt same so_far all = record { size = sa
         ap (λ n. get_or new.rows.items (from * n + to) false) same
         ∙ entry_at new.rows.items old.count end f so_far all from to (within from lt_from) (within to lt_to)
         ∙ ap₂ (λ x y. x || y) (h.entries from to lt_from lt_to) (ap₂ (λ x y. x && y) (h.entries from way lt_from way_in) (h.entries way to way_in lt_to))
+
+-- ## cycles
+joined_within : (count : ℕ) (wires : List Wire) (e f : ℕ) → AreWithin count wires → IsJoined wires e f → e < count
+joined_within count wires e f within (w, there, from, to) =
+    subst (λ k. k < count) from (All-contains (λ (w : Wire). (w.from < count) × IsWithin count w.to) wires w within there).0
+
+leads_within : (count : ℕ) (wires : List Wire) {e f : ℕ} → AreWithin count wires → Leads wires e f → e < count
+leads_within count wires within (directly {e = e} {f = f} j) = joined_within count wires e f within j
+leads_within count wires within (onward {e = e} {f = f} j rest) = joined_within count wires e f within j
+
+-- the test whether wires lead from an element to another is right
+abbrev pub IsTest : List Wire → ℕ → Type 0
+IsTest wires count = (e f : ℕ) → leads_by wires count e f ≡ true ↔ Leads wires e f
+
+pub cycle_is : (wires : List Wire) (count : ℕ) (r : Reach) (found : Bool) → AreWithin count wires → IsTest wires count → LeadsBy wires count count r
+    → MatchBool found ((e : ℕ) × (e < r.count) × (entry r e e ≡ true)) ((e : ℕ) → e < r.count → entry r e e ≡ false)
+    → MatchBool found ((e : ℕ) × Leads wires e e) (HasNoCycle wires)
+cycle_is wires count r true within test h (e, lt, is) =
+    let lt' : e < count = omega (arith, h.size) in
+    (e, (test e e).0 (sym (h.entries e e lt' lt') ∙ is))
+cycle_is wires count r false within test h none =
+    λ e cycle.
+    let lt : e < count = leads_within count wires within cycle in
+    let lt' : e < r.count = omega (arith, h.size) in
+    true≢false (sym ((test e e).1 cycle) ∙ sym (h.entries e e lt lt) ∙ none e lt')

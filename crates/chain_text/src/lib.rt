@@ -10,3 +10,4 @@ mod shape;
 mod statement;
 
 pub use error::ChainTextError;
+pub use reader::read_chain;

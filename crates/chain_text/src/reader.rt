@@ -11,6 +11,7 @@ ghost use Rattle.chain_text.specs.Taken.{IsTaken, IsTakeError};
 use crate::builder::Builder;
 use crate::error::ChainTextError;
 use crate::grammar::{GrammarError, parse};
+use crate::reach::has_cycle;
 use crate::statement::Statement;
 use chain_tokens::{Placed, TokenError, tokens};
 use element_chain::Chain;
@@ -59,4 +60,58 @@ fn take_all(alloc: Global, text: &[u8], statements: &[Statement]) -> Result<Chai
         }
     }
     Ok(builder.finish())
+}
+
+// The chain of the statements of a text.
+fn read_statements(alloc: Global, text: &[u8], statements: &[Statement]) -> Result<Chain, ChainTextError>
+    requires { IsSpelling text.now (statements_of text.now statements.now) }
+    ensures ok { IfOk result (λ chain. IsChainText text.now chain) }
+    ensures composable { IfOk result (λ chain. IsComposable chain) }
+    ensures err { IfErr result (λ e. IsRefused text.now e) }
+{
+    let count = declarations(statements);
+    if count > MAX_ELEMENTS {
+        return Err(ChainTextError::Elements(told(count)));
+    }
+    let chain = take_all(alloc, text, statements)?;
+    let elements = chain.elements.len();
+    if elements == 0 {
+        return Err(ChainTextError::Empty);
+    }
+    if has_cycle(alloc, chain.wires.as_slice(), elements)? {
+        return Err(ChainTextError::Cycle);
+    }
+    Ok(chain)
+}
+
+// The chain of the tokens of a text.
+fn read_tokens(alloc: Global, text: &[u8], found: &[Placed]) -> Result<Chain, ChainTextError>
+    requires { chain.AreTokens text.now (map (placed_of text.now) found.now) }
+    ensures ok { IfOk result (λ chain. IsChainText text.now chain) }
+    ensures composable { IfOk result (λ chain. IsComposable chain) }
+    ensures err { IfErr result (λ e. IsRefused text.now e) }
+{
+    match parse(alloc, found) {
+        Ok(statements) => read_statements(alloc, text, &statements),
+        Err(GrammarError::Wrong(place)) => Err(ChainTextError::Syntax(offset_at(text, found, place))),
+        Err(GrammarError::NoMemory) => Err(ChainTextError::NoMemory),
+    }
+}
+
+/// Reads a chain. Of several reasons to refuse a text, the first one in the order of `ChainTextError` is answered.
+pub fn read_chain(alloc: Global, text: &[u8]) -> Result<Chain, ChainTextError>
+    ensures ok { IfOk result (λ chain. IsChainText text.now chain) }
+    ensures only { IfOk result (λ chain. (other : Chain) → IsChainText text.now other → other ≡ chain) }
+    ensures composable { IfOk result (λ chain. IsComposable chain) }
+    ensures refused { IfErr result (λ e. IsRefused text.now e) }
+    ensures exact { (e : ChainTextError) → e ≢ ChainTextError.NoMemory → IsRefused text.now e
+        → MatchResult result (λ _. ⊥) (λ found. (found ≡ e) ⊎ (found ≡ ChainTextError.NoMemory)) }
+    ensures found { (chain : Chain) → IsChainText text.now chain
+        → MatchResult result (λ found. found ≡ chain) (λ e. e ≡ ChainTextError.NoMemory) }
+{
+    match tokens(alloc, text) {
+        Ok(found) => read_tokens(alloc, text, &found),
+        Err(TokenError::NoToken(offset)) => Err(ChainTextError::Syntax(offset)),
+        Err(TokenError::NoMemory) => Err(ChainTextError::NoMemory),
+    }
 }
