@@ -1,6 +1,7 @@
 -- The first wrong token of tokens that spell no statements.
 use Rattle.std.proofs.Common.{◌≡◌, ◌≢◌, ◌⊎◌, inl, inr, ⊎_elim, ℕ, zero, suc, ◌+◌, ◌<◌, ◌≤◌, max, List, [], ◌∷◌, ◌++◌, length, take, drop, refl, sym, ap, subst, ◌∙◌, arith, append_assoc, append-nil, length-append}
 use Rattle.std.proofs.lemmas.Bool.{cases_lt}
+use Rattle.std.proofs.lemmas.List.{take-append-drop, take-take}
 use Rattle.chain_tokens.specs.Token.{Token}
 use Rattle.chain_text.specs.declared.shape.TheConstants.{DECLARATION, WIRE}
 use Rattle.chain_text.specs.Grammar.{Statement, declares, wires, statement_tokens, spelled, Begins, IsFirstWrong}
@@ -125,3 +126,28 @@ first_wrong ts some d w =
       wrong = λ lt b. not_begun ts (max (fit_of DECLARATION ts) (fit_of WIRE ts)) few few' (omega arith) (omega arith) lt b.0 b.1 b.2;
       too_short = λ all ss e. not_whole ts some few few' ss e;
     }
+
+-- ## one first wrong token at most
+
+-- what begins statements still begins them when it is cut
+begins_cut : (ts : List Token) (n m : ℕ) → n ≤ m → Begins (take m ts) → Begins (take n ts)
+begins_cut ts n m le (more, ss, e) =
+    let whole : take n ts ++ drop n (take m ts) ≡ take m ts = ap (λ l. l ++ drop n (take m ts)) (sym (take-take n m ts le)) ∙ take-append-drop n (take m ts) in
+    (drop n (take m ts) ++ more, ss, sym (append_assoc (take n ts) (drop n (take m ts)) more) ∙ ap (λ l. l ++ more) whole ∙ e)
+
+not_before : (ts : List Token) (a b : ℕ) → IsFirstWrong ts a → IsFirstWrong ts b → a < b → ⊥
+not_before ts a b h k lt = h.wrong (omega (arith, k.within)) (begins_cut ts (suc a) b (omega arith) k.begins)
+
+pub one_place : (ts : List Token) (a b : ℕ) → IsFirstWrong ts a → IsFirstWrong ts b → a ≡ b
+one_place ts a b h k =
+    let low : a < b → ⊥ = not_before ts a b h k in
+    let high : b < a → ⊥ = not_before ts b a k h in
+    omega arith
+
+-- statements have none
+pub none_wrong : (ss : List Statement) (place : ℕ) → IsFirstWrong (spelled ss) place → ⊥
+none_wrong ss place h =
+    let begins : Begins (take (suc place) (spelled ss)) = (drop (suc place) (spelled ss), ss, take-append-drop (suc place) (spelled ss)) in
+    let low : place < length (spelled ss) → ⊥ = λ lt. h.wrong lt begins in
+    let within = h.within in
+    h.too_short (omega arith) ss refl

@@ -7,3 +7,5 @@ pub mod Outputs
 pub mod Declared
 pub mod TakingAll
 pub mod Tables
+pub mod OneAnswer
+pub mod Reading
