@@ -1,13 +1,13 @@
 -- One statement more, which is taken or refused.
-use Rattle.std.proofs.Common.{◌≡◌, ◌⊎◌, inl, inr, ℕ, zero, suc, ◌+◌, ◌<◌, ◌≤◌, ◌==◌, ◌&&◌, ◌||◌, not, Bool, true, false, cond, List, [], ◌∷◌, ◌++◌, length, take, get_or, slice_get, Option, Some, None, Result, Ok, Err, IfOk, MatchBool, refl, sym, ap, ap₂, subst, ◌∙◌, ⊎_elim, arith, length-append, append-nil}
+use Rattle.std.proofs.Common.{◌≡◌, ◌⊎◌, inl, inr, ℕ, zero, suc, ◌<◌, ◌≤◌, ◌==◌, ◌&&◌, ◌||◌, not, Bool, true, false, cond, List, [], ◌∷◌, ◌++◌, length, take, get_or, slice_get, Some, Result, Ok, Err, IfOk, MatchBool, refl, sym, ap, ap₂, subst, ◌∙◌, ⊎_elim, arith, length-append, append-nil}
 use Rattle.std.specs.Bool.{OnTrue}
-use Rattle.std.specs.List.{All, AllPairs, list_any, list_all}
+use Rattle.std.specs.List.{list_any, list_all}
 use Rattle.std.proofs.lemmas.Bool.{true≢false, false≢true, eq-eqb, cases_order, and_from, or_parts, or_from, or_left, or_right, not-true, not-false, not_from_true, not_from_false}
 use Rattle.std.proofs.lemmas.List.{take-append-le, take_at}
 use Rattle.std.proofs.lemmas.List.Elements.{All-push, All-weaker}
 use Rattle.std.proofs.lemmas.List.Folds.{list_any-append, list_all-append}
 use Rattle.std.proofs.lemmas.List.Quantifiers.{all_pairs_push}
-use Rattle.std.proofs.lemmas.Option.{slice_get_within, slice_get_past, same_Some}
+use Rattle.std.proofs.lemmas.Option.{slice_get_within, same_Some}
 use Rattle.gal_io.specs.declared.memory.NoMemory.{NoMemory}
 use Rattle.element_chain.specs.declared.chain.Element.{Element}
 use Rattle.element_chain.specs.declared.chain.Target.{Target}

@@ -1,5 +1,5 @@
 -- How many elements statements declare.
-use Rattle.std.proofs.Common.{◌≡◌, ℕ, suc, ◌+◌, ◌≤◌, cond, List, [], ◌∷◌, ◌++◌, length, take, drop, map, refl, sym, ap, ◌∙◌, arith, length-append}
+use Rattle.std.proofs.Common.{◌≡◌, ℕ, ◌+◌, ◌≤◌, cond, List, ◌∷◌, ◌++◌, length, take, drop, refl, sym, ap, ◌∙◌, arith, length-append}
 use Rattle.std.specs.List.{count_by}
 use Rattle.std.proofs.lemmas.List.{take-append-drop}
 use Rattle.std.proofs.lemmas.List.Recursion.{is_count_by}
@@ -7,7 +7,7 @@ use Rattle.chain_text.specs.declared.statement.Statement.{Statement as Found}
 use Rattle.chain_text.specs.declared.statement.Statement.TheVariants.{Declares, Wires}
 use Rattle.chain_text.specs.Grammar.{Statement}
 use Rattle.chain_text.specs.Reads.{elements_of}
-use Rattle.chain_text.specs.Statements.{statement_of, statements_of, is_declaration}
+use Rattle.chain_text.specs.Statements.{statements_of, is_declaration}
 use Rattle.chain_text.proofs.Naming.{elements-append}
 
 -- no more than by all stand before a place

@@ -1,5 +1,5 @@
 -- The first wrong token of tokens that spell no statements.
-use Rattle.std.proofs.Common.{◌≡◌, ◌≢◌, ◌⊎◌, inl, inr, ⊎_elim, ℕ, zero, suc, ◌+◌, ◌<◌, ◌≤◌, max, List, [], ◌∷◌, ◌++◌, length, take, drop, refl, sym, ap, subst, ◌∙◌, arith, append_assoc, append-nil, length-append}
+use Rattle.std.proofs.Common.{◌≡◌, ◌≢◌, ◌⊎◌, inl, inr, ⊎_elim, ℕ, suc, ◌+◌, ◌<◌, ◌≤◌, max, List, [], ◌∷◌, ◌++◌, length, take, drop, refl, sym, ap, subst, ◌∙◌, arith, append_assoc, append-nil, length-append}
 use Rattle.std.proofs.lemmas.Bool.{cases_lt}
 use Rattle.std.proofs.lemmas.List.{take-append-drop, take-take}
 use Rattle.chain_tokens.specs.Token.{Token}
@@ -62,9 +62,12 @@ wrong_behind ss rest n h = record {
 }
   where
     begun : Begins (take n rest) → Begins (take (length (spelled ss) + n) (spelled ss ++ rest))
-    begun (more, us, e) =
-        (more, ss ++ us, ap (λ l. l ++ more) (take_behind (spelled ss) rest n) ∙ append_assoc (spelled ss) (take n rest) more
-        ∙ ap (λ l. spelled ss ++ l) e ∙ sym (spelled-append ss us))
+    begun (more, us, e) = (
+      more,
+      ss ++ us,
+      ap (λ l. l ++ more) (take_behind (spelled ss) rest n) ∙ append_assoc (spelled ss) (take n rest) more
+          ∙ ap (λ l. spelled ss ++ l) e ∙ sym (spelled-append ss us),
+    )
 
     not_on : n < length rest → Begins (take (suc (length (spelled ss) + n)) (spelled ss ++ rest)) → ⊥
     not_on lt (more, us, e) =

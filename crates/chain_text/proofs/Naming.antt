@@ -1,9 +1,9 @@
 -- Names of elements, and what stays where more elements follow.
-use Rattle.std.proofs.Common.{◌≡◌, ◌⊎◌, ℕ, zero, suc, ◌+◌, ◌<◌, ◌≤◌, ◌==◌, ◌&&◌, ◌||◌, not, Bool, true, false, cond, List, [], ◌∷◌, ◌++◌, length, refl, sym, ap, ap₂, subst, ◌∙◌, ⊎_elim, arith}
+use Rattle.std.proofs.Common.{◌≡◌, ℕ, suc, ◌<◌, ◌==◌, ◌&&◌, ◌||◌, Bool, true, false, cond, List, [], ◌∷◌, ◌++◌, length, refl, sym, ap, ap₂, ◌∙◌, ⊎_elim, arith}
 use Rattle.std.specs.List.{list_any, list_all}
 use Rattle.std.specs.Str.{bytes_eq}
-use Rattle.std.proofs.lemmas.Bool.{true≢false, false≢true, cases_Bool, and_parts, and_from, or_cases, or_left, or_right, cond-true, cond-false}
-use Rattle.std.proofs.lemmas.List.Folds.{list_any-append, list_all-append}
+use Rattle.std.proofs.lemmas.Bool.{false≢true, and_parts, and_from, or_cases, or_left, or_right}
+use Rattle.std.proofs.lemmas.List.Folds.{list_any-append}
 use Rattle.std.proofs.lemmas.Bool.Decides.{same_from_decides, Decides-like, Decides-eqb}
 use Rattle.std.proofs.lemmas.Slice.Eq.{bytes_eq-Decides}
 use Rattle.element_chain.specs.declared.chain.Element.{Element}
@@ -17,7 +17,6 @@ use Rattle.chain_text.specs.Built.{is_wired, is_known}
 pub named_more : (es more : List Element) (word : List ℕ) → is_named es word ≡ true → is_named (es ++ more) word ≡ true
 named_more es more word h =
     list_any-append (λ (e : Element). bytes_eq e.name word) es more ∙ or_left (is_named es word) (is_named more word) h
-
 
 pub number_more : (es more : List Element) (word : List ℕ) → is_named es word ≡ true → number_of (es ++ more) word ≡ number_of es word
 number_more [] more word h = absurd (false≢true h)

@@ -1,5 +1,5 @@
 -- Statements that are taken one after the other.
-use Rattle.std.proofs.Common.{◌≡◌, ℕ, zero, suc, ◌+◌, ◌<◌, ◌≤◌, Bool, true, false, MatchBool, List, [], ◌∷◌, ◌++◌, length, take, get_or, map, slice_get, Some, refl, sym, ap, subst, ◌∙◌, arith}
+use Rattle.std.proofs.Common.{◌≡◌, ℕ, zero, suc, ◌+◌, ◌<◌, ◌≤◌, true, List, [], ◌∷◌, ◌++◌, length, take, get_or, slice_get, Some, refl, sym, ap, subst, ◌∙◌, arith}
 use Rattle.std.proofs.lemmas.List.{length-map, take_more, take_all, take-take, get_or-map}
 use Rattle.std.proofs.lemmas.Option.{slice_get-get_or}
 use Rattle.chain_text.specs.declared.statement.Statement.{Statement as Found}
@@ -9,7 +9,7 @@ use Rattle.element_chain.specs.declared.chain.Element.{Element}
 use Rattle.element_chain.specs.declared.chain.Wire.{Wire}
 use Rattle.element_chain.specs.Wiring.{AreWithin}
 use Rattle.chain_text.specs.Grammar.{Statement}
-use Rattle.chain_text.specs.Reads.{is_refused, told, IsRefusedAt, IsFirstRefused, AreWiredOnce}
+use Rattle.chain_text.specs.Reads.{is_refused, told, IsRefusedAt, AreWiredOnce}
 use Rattle.chain_text.specs.Statements.{statement_of, statements_of}
 use Rattle.chain_text.specs.Built.{IsBuilt}
 use Rattle.chain_text.specs.Taken.{IsTaken, IsFirstNumber}
@@ -51,10 +51,10 @@ refused_next text ss i d number lt none refused number_is =
           refused = refused;
         };
         none = λ k before h. none k (record {
-            statement = h.statement;
-            there = get_taken all k i before ∙ h.there;
-            refused = ap (λ l. is_refused l h.statement) (take-take k i all (omega arith)) ∙ h.refused;
-          });
+          statement = h.statement;
+          there = get_taken all k i before ∙ h.there;
+          refused = ap (λ l. is_refused l h.statement) (take-take k i all (omega arith)) ∙ h.refused;
+        });
       };
       count = number_is ∙ ap told (omega arith);
     }

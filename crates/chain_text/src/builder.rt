@@ -108,8 +108,11 @@ impl Builder {
             && not (is_output self.old.outputs (number_of self.old.elements from.now) output))) }
         ensures elements { self.new.elements ≡ self.old.elements }
         ensures wires { IfOk result (λ taken. OnTrue taken (self.new.wires ≡ self.old.wires ++ record {
-            from = number_of self.old.elements from.now; output = output; input = input;
-            to = target_of self.old.elements to.now } ∷ [])) }
+          from = number_of self.old.elements from.now;
+          output = output;
+          input = input;
+          to = target_of self.old.elements to.now;
+        } ∷ [])) }
         ensures outputs { IfOk result (λ taken. OnTrue taken ((e o : ℕ) → is_output self.new.outputs e o
             ≡ (number_of self.old.elements from.now == e && output == o || is_output self.old.outputs e o))) }
     {
@@ -132,7 +135,12 @@ impl Builder {
     }
 
     /// Takes one statement more, and answers whether it is taken.
-    pub fn take(&mut self, alloc: Global, text: &[u8], statement: Statement) -> Result<bool, NoMemory>
+    pub fn take(
+        &mut self,
+        alloc: Global,
+        text: &[u8],
+        statement: Statement,
+    ) -> Result<bool, NoMemory>
         requires { length self.old.elements ≤ most_elements }
         ensures { (before : List chain.Statement) → IsBuilt before self.old → IfOk result (λ taken. MatchBool taken
             (IsBuilt (before ++ statement_of text.now statement ∷ []) self.new)

@@ -30,7 +30,9 @@ fn is_to(target: Target, element: usize) -> bool
 fn is_joined(wires: &[Wire], from: usize, to: usize) -> bool
     ensures { result ≡ is_joined wires.now from to }
 {
-    wires.iter().any(|wire| wire.from as usize == from && is_to(wire.to, to))
+    wires
+        .iter()
+        .any(|wire| wire.from as usize == from && is_to(wire.to, to))
 }
 
 impl Reach {

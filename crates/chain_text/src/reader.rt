@@ -63,7 +63,11 @@ fn take_all(alloc: Global, text: &[u8], statements: &[Statement]) -> Result<Chai
 }
 
 // The chain of the statements of a text.
-fn read_statements(alloc: Global, text: &[u8], statements: &[Statement]) -> Result<Chain, ChainTextError>
+fn read_statements(
+    alloc: Global,
+    text: &[u8],
+    statements: &[Statement],
+) -> Result<Chain, ChainTextError>
     requires { IsSpelling text.now (statements_of text.now statements.now) }
     ensures ok { IfOk result (λ chain. IsChainText text.now chain) }
     ensures composable { IfOk result (λ chain. IsComposable chain) }
@@ -93,7 +97,9 @@ fn read_tokens(alloc: Global, text: &[u8], found: &[Placed]) -> Result<Chain, Ch
 {
     match parse(alloc, found) {
         Ok(statements) => read_statements(alloc, text, &statements),
-        Err(GrammarError::Wrong(place)) => Err(ChainTextError::Syntax(offset_at(text, found, place))),
+        Err(GrammarError::Wrong(place)) => Err(ChainTextError::Syntax(offset_at(
+            text, found, place,
+        ))),
         Err(GrammarError::NoMemory) => Err(ChainTextError::NoMemory),
     }
 }

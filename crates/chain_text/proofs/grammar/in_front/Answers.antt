@@ -1,4 +1,4 @@
-use Rattle.std.proofs.Common.{◌≡◌, ◌++◌, ◌<◌, ◌≤◌, ℕ, List, length, drop, max, sym, ap, ap₂, subst, ◌∙◌, arith, length-append}
+use Rattle.std.proofs.Common.{◌≡◌, ◌++◌, ℕ, List, drop, max, sym, ap₂, subst, ◌∙◌, arith}
 use Rattle.std.proofs.lemmas.List.{length-map}
 use Rattle.chain_tokens.specs.Token.{Token}
 use Rattle.chain_tokens.specs.Tokens.{span_text, token_of, tokens_of}
@@ -7,7 +7,7 @@ use Rattle.chain_text.specs.declared.shape.TheConstants.{DECLARATION, WIRE}
 use Rattle.chain_text.specs.Grammar.{declares, wires, statement_tokens, IsFirstWrong}
 use Rattle.chain_text.specs.Statements.{span_at, value_at}
 use Rattle.chain_text.specs.Shapes.{fit_of}
-use Rattle.chain_text.proofs.Fitting.{fit_within, declaration_found, wire_found}
+use Rattle.chain_text.proofs.Fitting.{declaration_found, wire_found}
 use Rattle.chain_text.proofs.FirstWrong.{first_wrong}
 use Rattle.chain_text.proofs.grammar.in_front.Goals as goal
 

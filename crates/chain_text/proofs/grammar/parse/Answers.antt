@@ -1,4 +1,4 @@
-use Rattle.std.proofs.Common.{◌≤◌, ◌+◌, ◌-◌, [], length, drop, arith}
+use Rattle.std.proofs.Common.{◌≤◌, ◌+◌, [], length, drop, arith}
 use Rattle.chain_tokens.specs.Tokens.{tokens_of}
 use Rattle.chain_text.specs.Grammar.{statement_tokens}
 use Rattle.chain_text.specs.Statements.{statement_of}

@@ -1,4 +1,4 @@
-use Rattle.std.proofs.Common.{◌≡◌, ◌/◌, ◌%◌, ◌<◌, ◌||◌, ◌&&◌, ℕ, Bool, false, get_or, vec_len}
+use Rattle.std.proofs.Common.{◌≡◌, ◌/◌, ◌%◌, ◌<◌, ◌||◌, ◌&&◌, ℕ, false, get_or, vec_len}
 use Rattle.chain_text.specs.Reached.{entry}
 use Rattle.chain_text.proofs.reach.Reach.by_way.Given as goal
 
