@@ -53,8 +53,8 @@ abbrev pub wires_output : List ℕ → ℕ → Statement → Bool
 wires_output word output (declares element class) = false
 wires_output word output (wires from other input to) = bytes_eq from word && other == output
 
--- A statement is refused behind others where it declares `out` or a name again, or uses a name that they don't declare, or
--- wires an output that they wire.
+-- A statement is refused behind others where it declares `out` or a name that they declare, or uses a name that they
+-- don't declare, or wires an output that they wire.
 abbrev pub is_refused : List Statement → Statement → Bool
 is_refused before (declares element class) = is_out element || is_named (elements_of before) element
 is_refused before (wires from output input to) =
@@ -92,8 +92,8 @@ pub record IsSpelling (text : List ℕ) (ss : List Statement) : Type 0 where
   pub tokens : AreTokens text placed
   pub spells : plain placed ≡ spelled ss
 
--- The text is that of this chain: its statements are taken and declare an element, no wires lead from an element back to
--- it, and these are their elements and wires.
+-- The text is that of this chain: its statements are taken and declare an element, these are their elements and wires,
+-- and no wires lead from an element back to it.
 pub record IsChainText (text : List ℕ) (chain : Chain) : Type 0 where
   pub statements : List Statement
   pub spelling : IsSpelling text statements
@@ -148,7 +148,7 @@ pub record HasNoElement (text : List ℕ) : Type 0 where
   pub taken : AreTaken statements
   pub none : elements_of statements ≡ []
 
--- they are taken and declare an element, and wires lead from one back to it, whether it is reached from the entry or not
+-- They are taken and declare an element, and wires lead from one back to it. It need not be reached from the entry.
 pub record HasCycle (text : List ℕ) : Type 0 where
   pub statements : List Statement
   pub spelling : IsSpelling text statements

@@ -2,12 +2,12 @@
 
 use std::alloc::AllocFailed;
 
-/// Why a text is no chain. Of several reasons the first one in this order is told. A count or a number that 32 bits can't
-/// hold, which only a text of more than 4 GiB has, is told as the greatest that they can.
+/// Why a text is no chain. Of several reasons the first one in this order is told. A count or a number that 32 bits
+/// can't hold, which only a text of more than 4 GiB has, is told as the greatest that they can.
 #[derive(Clone, Copy, Debug, PartialEq, Eq)]
 pub enum ChainTextError {
-    /// No token starts at this offset; or, where each does, the first wrong one stands there, or the text ends there too
-    /// early. It is counted in bytes.
+    /// No token starts at this offset, which is counted in bytes; or, where all of the text is tokens, the first wrong
+    /// one starts there; or it is the length of a text that ends too early.
     Syntax(usize),
     /// So many statements declare an element, and no more than 32 may.
     Elements(u32),

@@ -87,7 +87,8 @@ fn in_front(tokens: &[Placed]) -> Result<Statement, usize>
 
 /// The statements that tokens spell.
 pub(crate) fn parse(alloc: Global, tokens: &[Placed]) -> Result<Vec<Statement>, GrammarError>
-    ensures ok { (text : List ℕ) → IfOk result (λ ss. tokens_of text tokens.now ≡ spelled (statements_of text ss.items)) }
+    ensures ok { (text : List ℕ)
+        → IfOk result (λ ss. tokens_of text tokens.now ≡ spelled (statements_of text ss.items)) }
     ensures err { (text : List ℕ) → IfErr result (λ e. IsGrammarError (tokens_of text tokens.now) e) }
 {
     let mut found = Vec::new(alloc);

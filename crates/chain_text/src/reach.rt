@@ -2,6 +2,7 @@
 ghost use Rattle.std.specs.Prelude.{◌≡◌, ◌<◌, ◌≤◌, ◌*◌, ℕ, suc, true, false, List, vec_len, MatchBool, IfOk};
 ghost use Rattle.element_chain.specs.declared.chain.Wire.{Wire};
 ghost use Rattle.element_chain.specs.Wiring.{Leads, HasNoCycle, AreWithin, is_to, is_joined};
+ghost use Rattle.chain_text.specs.Reads.{most_elements};
 
 use element_chain::{Target, Wire, wires_lead};
 use gal_io::NoMemory;
@@ -13,7 +14,7 @@ pub(crate) struct Reach {
     count: usize,
     rows: Vec<bool>,
     ghost some: { 0 < count },
-    ghost few: { count ≤ 32 },
+    ghost few: { count ≤ most_elements },
     ghost size: { vec_len rows ≡ count * count },
 }
 
@@ -41,7 +42,7 @@ impl Reach {
     // Those that one wire leads to.
     fn direct(alloc: Global, wires: &[Wire], count: usize) -> Result<Reach, NoMemory>
         requires some { 0 < count }
-        requires few { count ≤ 32 }
+        requires few { count ≤ most_elements }
         ensures { IfOk result (λ reach. LeadsBy wires.now count 0 reach) }
     {
         let mut rows = Vec::new(alloc);
@@ -82,7 +83,7 @@ impl Reach {
     // Those that any number of wires lead to.
     fn new(alloc: Global, wires: &[Wire], count: usize) -> Result<Reach, NoMemory>
         requires some { 0 < count }
-        requires few { count ≤ 32 }
+        requires few { count ≤ most_elements }
         ensures { IfOk result (λ reach. LeadsBy wires.now count count reach) }
     {
         let mut reach = Reach::direct(alloc, wires, count)?;
@@ -109,7 +110,7 @@ impl Reach {
 /// Whether wires lead from an element back to it.
 pub(crate) fn has_cycle(alloc: Global, wires: &[Wire], count: usize) -> Result<bool, NoMemory>
     requires some { 0 < count }
-    requires few { count ≤ 32 }
+    requires few { count ≤ most_elements }
     requires within { AreWithin count wires.now }
     ensures { IfOk result (λ found. MatchBool found ((e : ℕ) × Leads wires.now e e) (HasNoCycle wires.now)) }
 {

@@ -4,7 +4,8 @@ ghost use Rattle.element_chain.specs.declared.chain.Chain.{Chain};
 ghost use Rattle.chain_tokens.specs.Token as chain;
 ghost use Rattle.chain_tokens.specs.Tokens.{placed_of};
 ghost use Rattle.chain_text.specs.declared.error.ChainTextError.{ChainTextError};
-ghost use Rattle.chain_text.specs.Reads.{elements_of, most_elements, told, offset_at, IsSpelling, IsChainText, IsRefused, IsComposable};
+ghost use Rattle.chain_text.specs.Reads.{elements_of, most_elements, told, offset_at, IsSpelling, IsChainText};
+ghost use Rattle.chain_text.specs.Reads.{IsRefused, IsComposable};
 ghost use Rattle.chain_text.specs.Statements.{statements_of, is_declaration};
 ghost use Rattle.chain_text.specs.Taken.{IsTaken, IsTakeError};
 
