@@ -172,7 +172,8 @@ IsRefused text errors.NoMemory = Unit {0}
 abbrev pub AreWiredOnce : List Wire → Type 0
 AreWiredOnce = AllPairs (λ v w. v.from ≡ w.from → v.output ≡ w.output → ⊥)
 
--- it can be composed: it has 1 to 32 elements, and its wires are between them and have no cycle
+-- It can be composed: it has 1 to 32 elements, its wires are between them, no output is wired twice, and no wires lead
+-- from an element back to it.
 pub record IsComposable (chain : Chain) : Type 0 where
   pub some : 0 < length chain.elements
   pub few : length chain.elements ≤ most_elements
