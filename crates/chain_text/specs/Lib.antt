@@ -5,4 +5,5 @@ pub mod Shapes
 pub mod Refused
 pub mod Built
 pub mod Taken
+pub mod Rows
 pub mod Reached

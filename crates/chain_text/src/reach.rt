@@ -1,7 +1,8 @@
 //! Which elements wires lead to.
 ghost use Rattle.std.specs.Prelude.{◌≡◌, ◌<◌, ◌≤◌, ◌*◌, ℕ, suc, true, false, List, vec_len, MatchBool, IfOk};
 ghost use Rattle.element_chain.specs.declared.chain.Wire.{Wire};
-ghost use Rattle.element_chain.specs.Wiring.{Leads, HasNoCycle, AreWithin, is_to, is_joined};
+ghost use Rattle.element_chain.specs.Wiring.{Leads, HasNoCycle, IsWithin, AreWithin};
+ghost use Rattle.chain_text.specs.Rows.{with_wire};
 ghost use Rattle.chain_text.specs.Reads.{most_elements};
 
 use element_chain::{Target, Wire, wires_lead};
@@ -18,22 +19,18 @@ pub(crate) struct Reach {
     ghost size: { vec_len rows ≡ count * count },
 }
 
-fn is_to(target: Target, element: usize) -> bool
-    ensures { result ≡ is_to element target }
+// Notes that a wire leads from its element to another.
+fn join(rows: &mut Vec<bool>, count: usize, wire: Wire)
+    requires few { count ≤ most_elements }
+    requires from { wire.from < count }
+    requires to { IsWithin count wire.to }
+    requires size { vec_len rows.old ≡ count * count }
+    ensures size { vec_len rows.new ≡ count * count }
+    ensures rows { rows.new.items ≡ with_wire count rows.old.items wire }
 {
-    match target {
-        Target::Element(to) => to as usize == element,
-        Target::Out => false,
+    if let Target::Element(to) = wire.to {
+        rows[wire.from as usize * count + to as usize] = true;
     }
-}
-
-// Whether some wire leads from an element to another.
-fn is_joined(wires: &[Wire], from: usize, to: usize) -> bool
-    ensures { result ≡ is_joined wires.now from to }
-{
-    wires
-        .iter()
-        .any(|wire| wire.from as usize == from && is_to(wire.to, to))
 }
 
 impl Reach {
@@ -43,11 +40,12 @@ impl Reach {
     fn direct(alloc: Global, wires: &[Wire], count: usize) -> Result<Reach, NoMemory>
         requires some { 0 < count }
         requires few { count ≤ most_elements }
+        requires within { AreWithin count wires.now }
         ensures { IfOk result (λ reach. LeadsBy wires.now count 0 reach) }
     {
-        let mut rows = Vec::new(alloc);
-        for place in 0..count * count {
-            rows.push(is_joined(wires, place / count, place % count))?;
+        let mut rows = vec![in alloc; false; count * count]?;
+        for wire in wires {
+            join(&mut rows, count, *wire);
         }
         Ok(Reach { count, rows })
     }
@@ -84,6 +82,7 @@ impl Reach {
     fn new(alloc: Global, wires: &[Wire], count: usize) -> Result<Reach, NoMemory>
         requires some { 0 < count }
         requires few { count ≤ most_elements }
+        requires within { AreWithin count wires.now }
         ensures { IfOk result (λ reach. LeadsBy wires.now count count reach) }
     {
         let mut reach = Reach::direct(alloc, wires, count)?;
