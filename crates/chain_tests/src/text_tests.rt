@@ -36,6 +36,33 @@ fn first_reasons(rt: HostRuntime) -> Result<(), Fail> {
     Ok(())
 }
 
+// A text that declares `a` so many times, and then goes on so.
+fn declared(alloc: Global, count: usize, rest: &str) -> Result<String, Fail> {
+    let mut text = String::new(alloc);
+    for _ in 0..count {
+        text.push_str("a :: P; ")?;
+    }
+    text.push_str(rest)?;
+    Ok(text)
+}
+
+// Statements that declare are counted before any is refused, and all of the grammar is tested before that.
+#[test]
+fn reasons_in_order(rt: HostRuntime) -> Result<(), Fail> {
+    let alloc = rt.alloc();
+    let most = declared(alloc, 32, "")?;
+    assert!(rt; is_refused(alloc, most.as_str(), ChainTextError::Statement(2)));
+    let more = declared(alloc, 33, "b[0] -> [0]c;")?;
+    assert!(rt; is_refused(alloc, more.as_str(), ChainTextError::Elements(33)));
+    let wrong = declared(alloc, 33, "b[0] -> c;")?;
+    assert!(rt; is_refused(alloc, wrong.as_str(), ChainTextError::Syntax(272)));
+    let none = declared(alloc, 33, "b[0] -> c; 0")?;
+    assert!(rt; is_refused(alloc, none.as_str(), ChainTextError::Syntax(272)));
+    let bare = declared(alloc, 33, "b[0] -> c; 00")?;
+    assert!(rt; is_refused(alloc, bare.as_str(), ChainTextError::Syntax(275)));
+    Ok(())
+}
+
 // A cycle counts that no wire from the entry leads to.
 #[test]
 fn cycle_apart(rt: HostRuntime) -> Result<(), Fail> {
