@@ -1,21 +1,22 @@
 -- A text has one answer.
-use Rattle.std.proofs.Common.{◌≡◌, ◌≢◌, ◌⊎◌, inl, inr, ℕ, suc, ◌<◌, ◌≤◌, List, length, Result, Ok, Err, IfOk, IfErr, refl, sym, ap, ap₂, subst, ◌∙◌, arith}
+use Rattle.std.proofs.Common.{◌≡◌, ◌≢◌, ◌⊎◌, inl, inr, ℕ, suc, ◌<◌, ◌≤◌, List, [], length, Result, Ok, Err, IfOk, IfErr, refl, sym, ap, ap₂, subst, ◌∙◌, arith}
 use Rattle.std.specs.Prelude.{MatchResult}
 use Rattle.element_chain.specs.declared.chain.Chain.{Chain}
 use Rattle.element_chain.specs.declared.chain.Element.{Element}
 use Rattle.element_chain.specs.declared.chain.Wire.{Wire}
 use Rattle.element_chain.specs.Wiring.{Leads}
-use Rattle.chain_tokens.specs.Token.{Token, Placed, AreTokens, IsNoToken, IsOnlyPlace}
+use Rattle.chain_tokens.specs.Token.{Token, Placed, AreTokens, IsNoToken}
 use Rattle.chain_text.specs.Grammar.{Statement, spelled, IsFirstWrong}
 use Rattle.chain_text.specs.declared.error.ChainTextError.{ChainTextError}
 use Rattle.chain_text.specs.declared.error.ChainTextError.TheVariants as errors
 use Rattle.chain_text.specs.Reads.{elements_of, wires_of, plain, offset_at, told, most_elements, IsRefusedAt, IsFirstRefused, AreTaken, IsSpelling, IsChainText, IsOutsideGrammar, HasManyElements, HasRefused, HasNoElement, IsRefused}
 use Rattle.chain_text.proofs.FirstWrong.{one_list, one_place, none_wrong}
 
--- the text has these tokens and no others, and no byte at which none starts
-pub record HasOnlyTokens (text : List ℕ) (placed : List Placed) : Type 0 where
-  pub only : (others : List Placed) → AreTokens text others → others ≡ placed
-  pub whole : (offset : ℕ) → IsNoToken text offset → ⊥
+-- a text has one list of tokens, or one place at which none starts
+pub record HasOneList (text : List ℕ) : Type 0 where
+  pub list : (ts us : List Placed) → AreTokens text ts → AreTokens text us → ts ≡ us
+  pub place : (m n : ℕ) → IsNoToken text m → IsNoToken text n → m ≡ n
+  pub apart : (n : ℕ) (ts : List Placed) → IsNoToken text n → AreTokens text ts → ⊥
 
 first_once : (ss : List Statement) (a b : ℕ) → IsFirstRefused ss a → IsFirstRefused ss b → a ≡ b
 first_once ss a b h k =
@@ -23,29 +24,26 @@ first_once ss a b h k =
     let high : b < a → ⊥ = λ lt. h.none b lt k.here in
     omega arith
 
-module _ (text : List ℕ) (placed : List Placed) (read : HasOnlyTokens text placed) where
-  spells_here : (ss : List Statement) → IsSpelling text ss → plain placed ≡ spelled ss
-  spells_here ss h = ap plain (sym (read.only h.placed h.tokens)) ∙ h.spells
-
+module _ (text : List ℕ) (one : HasOneList text) where
   same_statements : (ss us : List Statement) → IsSpelling text ss → IsSpelling text us → ss ≡ us
-  same_statements ss us h k = one_list ss us (sym (spells_here ss h) ∙ spells_here us k)
-
-  wrong_here : (offset : ℕ) (h : IsOutsideGrammar text offset) → IsFirstWrong (plain placed) h.place
-  wrong_here offset h = let P : List Placed → Type 0 = λ ps. IsFirstWrong (plain ps) h.place in subst P (read.only h.placed h.tokens) h.first
+  same_statements ss us h k = one_list ss us (sym h.spells ∙ ap plain (one.list h.placed k.placed h.tokens k.tokens) ∙ k.spells)
 
   -- a text that spells statements isn't outside the grammar
   no_syntax : (offset : ℕ) (ss : List Statement) → IsNoToken text offset ⊎ IsOutsideGrammar text offset → IsSpelling text ss → ⊥
-  no_syntax offset ss (inl h) k = read.whole offset h
+  no_syntax offset ss (inl h) k = one.apart offset k.placed h k.tokens
   no_syntax offset ss (inr h) k =
       let P : List Token → Type 0 = λ ts. IsFirstWrong ts h.place in
-      none_wrong ss h.place (subst P (spells_here ss k) (wrong_here offset h))
+      none_wrong ss h.place (subst P (ap plain (one.list h.placed k.placed h.tokens k.tokens) ∙ k.spells) h.first)
 
   one_syntax : (a b : ℕ) → IsNoToken text a ⊎ IsOutsideGrammar text a → IsNoToken text b ⊎ IsOutsideGrammar text b → a ≡ b
-  one_syntax a b (inl h) k = absurd (read.whole a h)
-  one_syntax a b (inr h) (inl k) = absurd (read.whole b k)
+  one_syntax a b (inl h) (inl k) = one.place a b h k
+  one_syntax a b (inl h) (inr k) = absurd (one.apart a k.placed h k.tokens)
+  one_syntax a b (inr h) (inl k) = absurd (one.apart b h.placed k h.tokens)
   one_syntax a b (inr h) (inr k) =
-      let same : h.place ≡ k.place = one_place (plain placed) h.place k.place (wrong_here a h) (wrong_here b k) in
-      h.there ∙ ap₂ (offset_at text) (read.only h.placed h.tokens ∙ sym (read.only k.placed k.tokens)) same ∙ sym k.there
+      let tokens = one.list h.placed k.placed h.tokens k.tokens in
+      let P : List Placed → Type 0 = λ ps. IsFirstWrong (plain ps) h.place in
+      let same : h.place ≡ k.place = one_place (plain k.placed) h.place k.place (subst P tokens h.first) k.first in
+      h.there ∙ ap₂ (offset_at text) tokens same ∙ sym k.there
 
   many_few : (have : ℕ) (us : List Statement) → HasManyElements text have → IsSpelling text us → length (elements_of us) ≤ most_elements → ⊥
   many_few have us h k few =
@@ -126,7 +124,7 @@ module _ (text : List ℕ) (placed : List Placed) (read : HasOnlyTokens text pla
       let F : List Element → List Wire → Chain = λ es ws. record { elements = es; wires = ws } in
       ap₂ F (h.elements ∙ ap elements_of same ∙ sym k.elements) (h.wires ∙ ap (λ l. wires_of (elements_of l) l) same ∙ sym k.wires)
 
-  -- ## what the answer says of every other
+  -- ## what an answer says of every other
   pub answer_only : (r : Result Chain ChainTextError) → IfOk r (λ chain. IsChainText text chain)
       → IfOk r (λ chain. (other : Chain) → IsChainText text other → other ≡ chain)
   answer_only (Ok chain) h = λ other k. one_chain other chain k h
@@ -157,13 +155,3 @@ module _ (text : List ℕ) (placed : List Placed) (read : HasOnlyTokens text pla
       → (chain : Chain) → IsChainText text chain → MatchResult r (λ found. found ≡ chain) (λ e. e ≡ errors.NoMemory)
   answer_found (Ok found) h k chain here = one_chain found chain h here
   answer_found (Err e) h k chain here = found_error e chain k here
-
--- ## where no token starts
-pub only_token : (text : List ℕ) (offset : ℕ) → IsOnlyPlace text offset → (e : ChainTextError) → e ≢ errors.NoMemory → IsRefused text e → errors.Syntax offset ≡ e
-only_token text offset place errors.NoMemory some h = absurd (some refl)
-only_token text offset place (errors.Syntax n) some (inl h) = ap errors.Syntax (sym (place.one n h))
-only_token text offset place (errors.Syntax n) some (inr h) = absurd (place.none h.placed h.tokens)
-only_token text offset place (errors.Elements n) some h = absurd (place.none h.spelling.placed h.spelling.tokens)
-only_token text offset place (errors.Statement n) some h = absurd (place.none h.spelling.placed h.spelling.tokens)
-only_token text offset place errors.Empty some h = absurd (place.none h.spelling.placed h.spelling.tokens)
-only_token text offset place errors.Cycle some h = absurd (place.none h.spelling.placed h.spelling.tokens)

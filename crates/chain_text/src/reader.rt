@@ -14,7 +14,7 @@ use crate::error::ChainTextError;
 use crate::grammar::{GrammarError, parse};
 use crate::reach::has_cycle;
 use crate::statement::Statement;
-use chain_tokens::{Placed, TokenError, tokens};
+use chain_tokens::{Placed, TokenError, one_list_or_one_place, tokens};
 use element_chain::Chain;
 use std::alloc::Global;
 
@@ -105,6 +105,19 @@ fn read_tokens(alloc: Global, text: &[u8], found: &[Placed]) -> Result<Chain, Ch
     }
 }
 
+// The chain of a text.
+fn read_text(alloc: Global, text: &[u8]) -> Result<Chain, ChainTextError>
+    ensures ok { IfOk result (λ chain. IsChainText text.now chain) }
+    ensures composable { IfOk result (λ chain. IsComposable chain) }
+    ensures err { IfErr result (λ e. IsRefused text.now e) }
+{
+    match tokens(alloc, text) {
+        Ok(found) => read_tokens(alloc, text, &found),
+        Err(TokenError::NoToken(offset)) => Err(ChainTextError::Syntax(offset)),
+        Err(TokenError::NoMemory) => Err(ChainTextError::NoMemory),
+    }
+}
+
 /// Reads a chain. Of several reasons to refuse a text, the first one in the order of `ChainTextError` is answered.
 pub fn read_chain(alloc: Global, text: &[u8]) -> Result<Chain, ChainTextError>
     ensures ok { IfOk result (λ chain. IsChainText text.now chain) }
@@ -116,9 +129,6 @@ pub fn read_chain(alloc: Global, text: &[u8]) -> Result<Chain, ChainTextError>
     ensures found { (chain : Chain) → IsChainText text.now chain
         → MatchResult result (λ found. found ≡ chain) (λ e. e ≡ ChainTextError.NoMemory) }
 {
-    match tokens(alloc, text) {
-        Ok(found) => read_tokens(alloc, text, &found),
-        Err(TokenError::NoToken(offset)) => Err(ChainTextError::Syntax(offset)),
-        Err(TokenError::NoMemory) => Err(ChainTextError::NoMemory),
-    }
+    one_list_or_one_place();
+    read_text(alloc, text)
 }
