@@ -1,12 +1,12 @@
 -- A text has one answer.
-use Rattle.std.proofs.Common.{◌≡◌, ◌≢◌, ◌⊎◌, inl, inr, ℕ, suc, ◌<◌, ◌≤◌, List, [], length, Result, Ok, Err, IfOk, IfErr, refl, sym, ap, ap₂, subst, ◌∙◌, arith}
+use Rattle.std.proofs.Common.{◌≡◌, ◌≢◌, ◌⊎◌, inl, inr, ℕ, suc, ◌<◌, ◌≤◌, List, length, Result, Ok, Err, IfOk, IfErr, refl, sym, ap, ap₂, subst, ◌∙◌, arith}
 use Rattle.std.specs.Prelude.{MatchResult}
 use Rattle.element_chain.specs.declared.chain.Chain.{Chain}
 use Rattle.element_chain.specs.declared.chain.Element.{Element}
 use Rattle.element_chain.specs.declared.chain.Wire.{Wire}
 use Rattle.element_chain.specs.Wiring.{Leads}
 use Rattle.chain_tokens.specs.Token.{Token, Placed, AreTokens, IsNoToken}
-use Rattle.chain_text.specs.Grammar.{Statement, spelled, IsFirstWrong}
+use Rattle.chain_text.specs.Grammar.{Statement, IsFirstWrong}
 use Rattle.chain_text.specs.declared.error.ChainTextError.{ChainTextError}
 use Rattle.chain_text.specs.declared.error.ChainTextError.TheVariants as errors
 use Rattle.chain_text.specs.Reads.{elements_of, wires_of, plain, offset_at, told, most_elements, IsRefusedAt, IsFirstRefused, AreTaken, IsSpelling, IsChainText, IsOutsideGrammar, HasManyElements, HasRefused, HasNoElement, IsRefused}

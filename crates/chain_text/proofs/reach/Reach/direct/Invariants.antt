@@ -1,4 +1,4 @@
-use Rattle.std.proofs.Common.{◌≡◌, ◌+◌, ◌*◌, ◌<◌, ℕ, Bool, false, get_or, take, vec_len}
+use Rattle.std.proofs.Common.{◌≡◌, ◌+◌, ◌*◌, ◌<◌, ℕ, false, get_or, take, vec_len}
 use Rattle.element_chain.specs.Wiring.{is_joined}
 use Rattle.chain_text.proofs.reach.Reach.direct.Given as goal
 
