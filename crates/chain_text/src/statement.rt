@@ -3,6 +3,7 @@ ghost use Rattle.std.specs.Prelude.{◌≡◌, ◌<◌, ℕ, List, length};
 ghost use Rattle.chain_text.specs.Grammar.{statement_tokens};
 ghost use Rattle.chain_text.specs.Statements.{statement_of};
 
+use crate::shape::{DECLARATION, WIRE};
 use chain_tokens::Span;
 
 /// A statement.
@@ -29,8 +30,8 @@ impl Statement {
         ensures some { 0 < result }
     {
         match self {
-            Statement::Declares { .. } => 4,
-            Statement::Wires { .. } => 10,
+            Statement::Declares { .. } => DECLARATION.len(),
+            Statement::Wires { .. } => WIRE.len(),
         }
     }
 }
