@@ -6,6 +6,6 @@ pub mod Building
 pub mod Outputs
 pub mod Declared
 pub mod TakingAll
-pub mod Tables
+pub mod Cycles
 pub mod OneAnswer
 pub mod Reading

@@ -4,12 +4,12 @@ use Rattle.std.specs.Prelude.{MatchResult}
 use Rattle.element_chain.specs.declared.chain.Chain.{Chain}
 use Rattle.element_chain.specs.declared.chain.Element.{Element}
 use Rattle.element_chain.specs.declared.chain.Wire.{Wire}
-use Rattle.element_chain.specs.Wiring.{Leads}
+use Rattle.element_chain.specs.Wiring.{most_elements, Leads}
 use Rattle.chain_tokens.specs.Token.{Token, Placed, AreTokens, IsNoToken}
 use Rattle.chain_text.specs.Grammar.{Statement, IsFirstWrong}
 use Rattle.chain_text.specs.declared.error.ChainTextError.{ChainTextError}
 use Rattle.chain_text.specs.declared.error.ChainTextError.TheVariants as errors
-use Rattle.chain_text.specs.Reads.{elements_of, wires_of, plain, offset_at, told, most_elements, IsRefusedAt, IsFirstRefused, AreTaken, IsSpelling, IsChainText, IsOutsideGrammar, HasManyElements, HasRefused, HasNoElement, IsRefused}
+use Rattle.chain_text.specs.Reads.{elements_of, wires_of, plain, offset_at, told, IsRefusedAt, IsFirstRefused, AreTaken, IsSpelling, IsChainText, IsOutsideGrammar, HasManyElements, HasRefused, HasNoElement, IsRefused}
 use Rattle.chain_text.proofs.FirstWrong.{one_list, one_place, none_wrong}
 
 -- a text has one list of tokens, or one place at which none starts

@@ -2,14 +2,14 @@
 use Rattle.std.proofs.Common.{◌≡◌, ℕ, ◌<◌, ◌≤◌, List, [], ◌∷◌, length, map, refl, sym, ap, subst, ◌∙◌, arith}
 use Rattle.element_chain.specs.declared.chain.Chain.{Chain}
 use Rattle.element_chain.specs.declared.chain.Wire.{Wire}
-use Rattle.element_chain.specs.Wiring.{Leads, HasNoCycle}
+use Rattle.element_chain.specs.Wiring.{most_elements, Leads, HasNoCycle}
 use Rattle.chain_tokens.specs.Token as lang
 use Rattle.chain_tokens.specs.declared.token.Placed.{Placed}
 use Rattle.chain_tokens.specs.Tokens.{token_of, placed_of, tokens_of}
 use Rattle.chain_text.specs.declared.error.ChainTextError.{ChainTextError}
 use Rattle.chain_text.specs.declared.error.ChainTextError.TheVariants as errors
 use Rattle.chain_text.specs.Grammar.{Statement, spelled, IsFirstWrong}
-use Rattle.chain_text.specs.Reads.{elements_of, plain, offset_at, told, most_elements, IsSpelling, IsChainText, IsComposable, IsOutsideGrammar, HasManyElements, HasCycle, IsRefused}
+use Rattle.chain_text.specs.Reads.{elements_of, plain, offset_at, told, IsSpelling, IsChainText, IsComposable, IsOutsideGrammar, HasManyElements, HasCycle, IsRefused}
 use Rattle.chain_text.specs.Taken.{IsTaken, IsTakeError}
 
 pub many_elements : {text : List ℕ} (ss : List Statement) (count have : ℕ) → IsSpelling text ss → count ≡ length (elements_of ss) → most_elements < count

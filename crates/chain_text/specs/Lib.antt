@@ -5,5 +5,3 @@ pub mod Shapes
 pub mod Refused
 pub mod Built
 pub mod Taken
-pub mod Rows
-pub mod Reached

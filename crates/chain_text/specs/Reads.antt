@@ -8,7 +8,7 @@ use Rattle.element_chain.specs.declared.chain.Element.{Element}
 use Rattle.element_chain.specs.declared.chain.Target.{Target}
 use Rattle.element_chain.specs.declared.chain.Target.TheVariants as target
 use Rattle.element_chain.specs.declared.chain.Wire.{Wire}
-use Rattle.element_chain.specs.Wiring.{AreWithin, HasNoCycle, Leads}
+use Rattle.element_chain.specs.Wiring.{most_elements, AreWithin, HasNoCycle, Leads}
 use Rattle.chain_tokens.specs.Token.{Token, Placed, AreTokens, IsNoToken}
 use Rattle.chain_text.specs.Grammar.{Statement, declares, wires, spelled, IsFirstWrong}
 use Rattle.chain_text.specs.declared.error.ChainTextError.{ChainTextError}
@@ -71,9 +71,6 @@ pub record IsRefusedAt (ss : List Statement) (place : ℕ) : Type 0 where
 pub record IsFirstRefused (ss : List Statement) (place : ℕ) : Type 0 where
   pub here : IsRefusedAt ss place
   pub none : (i : ℕ) → i < place → IsRefusedAt ss i → ⊥
-
-abbrev pub most_elements : ℕ
-most_elements = 32
 
 -- they declare few enough elements, and none of them is refused
 pub record AreTaken (ss : List Statement) : Type 0 where

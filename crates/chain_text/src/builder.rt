@@ -7,7 +7,8 @@ ghost use Rattle.chain_tokens.specs.Tokens.{span_text};
 ghost use Rattle.element_chain.specs.declared.chain.Element.{Element};
 ghost use Rattle.element_chain.specs.declared.chain.Wire.{Wire};
 ghost use Rattle.chain_text.specs.Grammar as chain;
-ghost use Rattle.chain_text.specs.Reads.{is_named, number_of, is_out, target_of, is_refused, most_elements};
+ghost use Rattle.chain_text.specs.Reads.{is_named, number_of, is_out, target_of, is_refused};
+ghost use Rattle.element_chain.specs.Wiring.{most_elements};
 ghost use Rattle.chain_text.specs.Statements.{statement_of};
 ghost use Rattle.chain_text.specs.Built.{IsBuilt, is_output};
 

@@ -2,10 +2,10 @@
 #![tactic(auto)]
 
 mod builder;
+mod cycle;
 mod error;
 mod grammar;
 mod laws;
-mod reach;
 mod reader;
 mod shape;
 mod statement;

@@ -4,15 +4,16 @@ ghost use Rattle.element_chain.specs.declared.chain.Chain.{Chain};
 ghost use Rattle.chain_tokens.specs.Token as chain;
 ghost use Rattle.chain_tokens.specs.Tokens.{placed_of};
 ghost use Rattle.chain_text.specs.declared.error.ChainTextError.{ChainTextError};
-ghost use Rattle.chain_text.specs.Reads.{elements_of, most_elements, told, offset_at, IsSpelling, IsChainText};
+ghost use Rattle.chain_text.specs.Reads.{elements_of, told, offset_at, IsSpelling, IsChainText};
+ghost use Rattle.element_chain.specs.Wiring.{most_elements};
 ghost use Rattle.chain_text.specs.Reads.{IsRefused, IsComposable};
 ghost use Rattle.chain_text.specs.Statements.{statements_of, is_declaration};
 ghost use Rattle.chain_text.specs.Taken.{IsTaken, IsTakeError};
 
 use crate::builder::Builder;
+use crate::cycle::has_cycle;
 use crate::error::ChainTextError;
 use crate::grammar::{GrammarError, parse};
-use crate::reach::has_cycle;
 use crate::statement::Statement;
 use chain_tokens::{Placed, TokenError, one_list_or_one_place, tokens};
 use element_chain::Chain;

@@ -25,3 +25,4 @@ pub mod Starts
 pub mod KeptJoins
 pub mod ReadNames
 pub mod EachObject
+pub mod Tables

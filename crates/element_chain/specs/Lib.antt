@@ -2,3 +2,5 @@ pub mod Chain
 pub mod Wiring
 pub mod Compose
 pub mod Laws
+pub mod Rows
+pub mod Reach

@@ -27,6 +27,10 @@ IsWithin count (Element e) = e < count
 abbrev pub AreWithin : ℕ → List Wire → Type 0
 AreWithin count = All (λ (w : Wire). (w.from < count) × IsWithin count w.to)
 
+-- a chain has at most so many elements
+abbrev pub most_elements : ℕ
+most_elements = 32
+
 -- ## as a test
 abbrev pub is_to : ℕ → Target → Bool
 is_to f Out = false

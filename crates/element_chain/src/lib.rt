@@ -3,8 +3,10 @@
 
 mod chain;
 mod laws;
+mod reach;
 
 pub use chain::{Chain, Classes, Element, Elements, Target, Wire, Wires};
 pub use laws::{
     chains_end, composition_keeps_the_meaning, composition_keeps_the_rules, wires_lead,
 };
+pub use reach::Reach;

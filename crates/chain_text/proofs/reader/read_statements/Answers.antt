@@ -1,8 +1,8 @@
 use Rattle.std.proofs.Common.{◌≤◌, ℕ, List, length, ap, subst, ◌∙◌, arith, rules}
 use Rattle.std.proofs.lemmas.Bool.{MatchBool-at_true, MatchBool-at_false}
 use Rattle.element_chain.specs.declared.chain.Wire.{Wire}
-use Rattle.element_chain.specs.Wiring.{Leads, HasNoCycle}
-use Rattle.chain_text.specs.Reads.{elements_of, most_elements, IsRefused}
+use Rattle.element_chain.specs.Wiring.{most_elements, Leads, HasNoCycle}
+use Rattle.chain_text.specs.Reads.{elements_of, IsRefused}
 use Rattle.chain_text.specs.Statements.{statements_of}
 use Rattle.chain_text.proofs.Declared.{declared_count}
 use Rattle.chain_text.proofs.Reading.{many_elements, take_error, has_a_cycle, chain_text, composable}

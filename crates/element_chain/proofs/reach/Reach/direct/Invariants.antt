@@ -1,6 +1,6 @@
 use Rattle.std.proofs.Common.{◌≡◌, ◌+◌, ◌*◌, ◌<◌, ℕ, false, get_or, take, vec_len}
 use Rattle.element_chain.specs.Wiring.{is_joined}
-use Rattle.chain_text.proofs.reach.Reach.direct.Given as goal
+use Rattle.element_chain.proofs.reach.Reach.direct.Given as goal
 
 -- the rows are those of the wires so far
 abbrev pub invariant-loop-wire : goal.invariant-loop-wire

@@ -1,5 +1,5 @@
-use Rattle.chain_text.proofs.Tables.{cycle_is}
-use Rattle.chain_text.proofs.reach.has_cycle.Goals as goal
+use Rattle.chain_text.proofs.Cycles.{cycle_is}
+use Rattle.chain_text.proofs.cycle.has_cycle.Goals as goal
 
 pub returns : goal.returns
 returns c =

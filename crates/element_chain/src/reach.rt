@@ -1,19 +1,18 @@
-//! Which elements wires lead to.
+//! Which elements wires lead to, as a table.
 ghost use Rattle.std.specs.Prelude.{◌≡◌, ◌<◌, ◌≤◌, ◌*◌, ℕ, suc, true, false, List, vec_len, MatchBool, IfOk};
 ghost use Rattle.element_chain.specs.declared.chain.Wire.{Wire};
-ghost use Rattle.element_chain.specs.Wiring.{Leads, HasNoCycle, IsWithin, AreWithin};
-ghost use Rattle.chain_text.specs.Rows.{with_wire};
-ghost use Rattle.chain_text.specs.Reads.{most_elements};
+ghost use Rattle.element_chain.specs.Wiring.{most_elements, IsWithin, AreWithin};
+ghost use Rattle.element_chain.specs.Rows.{with_wire};
 
-use element_chain::{Target, Wire, wires_lead};
+use crate::chain::{Target, Wire};
 use gal_io::NoMemory;
 use std::alloc::Global;
 
 /// For each two elements, whether wires lead from the first to the second: the row of the first, then the next row.
 #[derive(Debug, Drop)]
-pub(crate) struct Reach {
-    count: usize,
-    rows: Vec<bool>,
+pub struct Reach {
+    pub count: usize,
+    pub rows: Vec<bool>,
     ghost some: { 0 < count },
     ghost few: { count ≤ most_elements },
     ghost size: { vec_len rows ≡ count * count },
@@ -34,14 +33,14 @@ fn join(rows: &mut Vec<bool>, count: usize, wire: Wire)
 }
 
 impl Reach {
-    ghost use Rattle.chain_text.specs.Reached.{LeadsBy, entry};
+    ghost use Rattle.element_chain.specs.Reach.{ShowsBy, is_shown};
 
     // Those that one wire leads to.
     fn direct(alloc: Global, wires: &[Wire], count: usize) -> Result<Reach, NoMemory>
         requires some { 0 < count }
         requires few { count ≤ most_elements }
         requires within { AreWithin count wires.now }
-        ensures { IfOk result (λ reach. LeadsBy wires.now count 0 reach) }
+        ensures { IfOk result (λ reach. ShowsBy wires.now count 0 reach) }
     {
         let mut rows = vec![in alloc; false; count * count]?;
         for wire in wires {
@@ -50,11 +49,11 @@ impl Reach {
         Ok(Reach { count, rows })
     }
 
-    // Whether wires lead from an element to another, as far as the table says.
-    fn leads(&self, from: usize, to: usize) -> bool
+    /// Whether wires lead from an element to another.
+    pub fn leads(&self, from: usize, to: usize) -> bool
         requires from { from < self.now.count }
         requires to { to < self.now.count }
-        ensures { result ≡ entry self.now from to }
+        ensures { result ≡ is_shown self.now from to }
     {
         self.rows[from * self.count + to]
     }
@@ -62,8 +61,8 @@ impl Reach {
     // Also those that are led to by way of one element more.
     fn by_way(&self, alloc: Global, through: usize) -> Result<Reach, NoMemory>
         requires { through < self.now.count }
-        ensures { (wires : List Wire) (count : ℕ) → LeadsBy wires count through self.now
-            → IfOk result (λ reach. LeadsBy wires count (suc through) reach) }
+        ensures { (wires : List Wire) (count : ℕ) → ShowsBy wires count through self.now
+            → IfOk result (λ reach. ShowsBy wires count (suc through) reach) }
     {
         let mut rows = Vec::new(alloc);
         for place in 0..self.count * self.count {
@@ -78,12 +77,12 @@ impl Reach {
         })
     }
 
-    // Those that any number of wires lead to.
-    fn new(alloc: Global, wires: &[Wire], count: usize) -> Result<Reach, NoMemory>
+    /// Those that any number of wires lead to.
+    pub fn new(alloc: Global, wires: &[Wire], count: usize) -> Result<Reach, NoMemory>
         requires some { 0 < count }
         requires few { count ≤ most_elements }
         requires within { AreWithin count wires.now }
-        ensures { IfOk result (λ reach. LeadsBy wires.now count count reach) }
+        ensures { IfOk result (λ reach. ShowsBy wires.now count count reach) }
     {
         let mut reach = Reach::direct(alloc, wires, count)?;
         for way in 0..count {
@@ -92,10 +91,10 @@ impl Reach {
         Ok(reach)
     }
 
-    // Whether wires lead from an element back to it.
-    fn leads_back(&self) -> bool
-        ensures { MatchBool result ((e : ℕ) × (e < self.now.count) × (entry self.now e e ≡ true))
-            ((e : ℕ) → e < self.now.count → entry self.now e e ≡ false) }
+    /// Whether wires lead from an element back to it.
+    pub fn leads_back(&self) -> bool
+        ensures { MatchBool result ((e : ℕ) × (e < self.now.count) × (is_shown self.now e e ≡ true))
+            ((e : ℕ) → e < self.now.count → is_shown self.now e e ≡ false) }
     {
         for element in 0..self.count {
             if self.leads(element, element) {
@@ -104,16 +103,4 @@ impl Reach {
         }
         false
     }
-}
-
-/// Whether wires lead from an element back to it.
-pub(crate) fn has_cycle(alloc: Global, wires: &[Wire], count: usize) -> Result<bool, NoMemory>
-    requires some { 0 < count }
-    requires few { count ≤ most_elements }
-    requires within { AreWithin count wires.now }
-    ensures { IfOk result (λ found. MatchBool found ((e : ℕ) × Leads wires.now e e) (HasNoCycle wires.now)) }
-{
-    wires_lead();
-    let reach = Reach::new(alloc, wires, count)?;
-    Ok(reach.leads_back())
 }

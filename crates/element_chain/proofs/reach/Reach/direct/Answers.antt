@@ -1,6 +1,6 @@
 use Rattle.std.proofs.Common.{arith}
-use Rattle.chain_text.proofs.Tables.{joined_next}
-use Rattle.chain_text.proofs.reach.Reach.direct.Goals as goal
+use Rattle.element_chain.proofs.Tables.{joined_next}
+use Rattle.element_chain.proofs.reach.Reach.direct.Goals as goal
 
 pub loop-wire-preserved : goal.loop-wire-preserved
 loop-wire-preserved c = record {
