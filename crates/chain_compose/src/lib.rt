@@ -1,0 +1,23 @@
+//! One middlebox that does what a chain of elements does, and the reasons for which there is none.
+#![tactic(auto)]
+
+mod body;
+mod clearing;
+mod composition;
+mod count;
+mod ends;
+mod error;
+mod expressions;
+mod matrix;
+mod names;
+mod nesting;
+mod parts;
+mod plain;
+mod reach;
+mod refusals;
+mod routes;
+mod terms;
+mod uses;
+
+pub use composition::compose;
+pub use error::{ComposeError, What};

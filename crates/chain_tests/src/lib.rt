@@ -1,0 +1,7 @@
+//! Tests of chains of elements, on chains whose composed middlebox was worked out by hand.
+#![tactic(auto)]
+
+#[cfg(test)]
+mod compose_tests;
+#[cfg(test)]
+mod text_tests;
