@@ -17,6 +17,7 @@ ghost use Rattle.gallium_cli.specs.Promises.{Promises};
 
 use crate::audit::perform_audit;
 use crate::captures::{perform_pcap_in, perform_pcap_out};
+use crate::chain::perform_chain;
 use crate::check::perform_check;
 use crate::compile::perform_compile;
 use crate::generated::perform_gen;
@@ -127,6 +128,7 @@ fn perform<'a, F: Files, S: SwitchPort, O: Sink>(
                 report,
             },
         ) => perform_audit(alloc, source, trace, report, files, out),
+        Some(Form::Chain { wiring }) => perform_chain(alloc, wiring, files, out),
         Some(Form::Gen { seed, count }) => perform_gen(alloc, seed, count, port, out),
         Some(Form::PcapIn { capture, port: by }) => perform_pcap_in(alloc, capture, by, files, out),
         Some(Form::PcapOut { trace, big, nano }) => {
