@@ -98,8 +98,7 @@ AreAllNames told w names = (chain : Chain) × IsWired told w chain × (names ≡
 abbrev pub AreNames : (List ℕ → Option (List ℕ)) → List ℕ → List (List ℕ) → Type 0
 AreNames told w names = (names ≡ w ∷ []) ⊎ AreAllNames told w names
 
--- The files from which the middleboxes of elements were read when there was one more element: the same ones, and no file
--- was read; or one more, which was read.
+-- the files of the classes when there is one more element: the same ones, and no file was read; or one more, which was
 abbrev pub ReadsNext : List (List ℕ) → List (List ℕ) → ℕ → ℕ → Type 0
 ReadsNext before now reads reads_now =
     ((now ≡ before) × (reads_now ≡ reads))

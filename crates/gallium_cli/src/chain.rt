@@ -85,7 +85,8 @@ fn file_of(alloc: Global, class: &[u8]) -> Result<String, NoMemory>
 
 // The refusal of the file of a class, of this name.
 fn of_class(refusal: Refusal<'_>, name: Text) -> Refusal<'static>
-    ensures cause { (f f' : FilesState) → IsFileRefused refusal.entry source name f f' → IsClassRefused result name f f' }
+    ensures cause { (f f' : FilesState) → IsFileRefused refusal.entry source name f f'
+        → IsClassRefused result name f f' }
     ensures fault { (f f' : FilesState) → IsFileRefused refusal.entry source name f f'
         → GoesOn (status_of refusal.entry) f f' → GoesOn (status_of result) f f' }
 {
@@ -133,8 +134,8 @@ fn place_of(elements: &[Element], class: &[u8]) -> Option<usize>
         .position(|element| element.class.as_slice() == class)
 }
 
-// The middlebox of one more element behind those whose middleboxes are there: of an element of the same class, or of the
-// file of its class.
+// The middlebox of one more element behind those whose middleboxes are there: that of an element of the same class, or
+// that of the file of its class.
 fn next_class<F: Files>(
     alloc: Global,
     elements: &[Element],
