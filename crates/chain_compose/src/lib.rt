@@ -8,6 +8,7 @@ mod count;
 mod ends;
 mod error;
 mod expressions;
+mod laws;
 mod matrix;
 mod names;
 mod nesting;
@@ -21,3 +22,4 @@ mod uses;
 
 pub use composition::compose;
 pub use error::{ComposeError, What};
+pub use laws::one_composition_or_one_reason;

@@ -57,18 +57,13 @@ use Rattle.gallium_cli.specs.Words.{Splitting, Served, Within, Spelled}
 use Rattle.gallium_cli.specs.Words.{Request, Run, Compile, Replay, Check, Audit, Gen, PcapIn, PcapOut}
 use Rattle.gallium_cli.specs.Lines.{line_end}
 use Rattle.gallium_cli.specs.Roles.{source, program, limits, legal_split, trace, schedule, capture, size_of}
-use Rattle.gallium_cli.specs.Roles.{true_report, AreLimits, IsCaptured, IsShort}
+use Rattle.gallium_cli.specs.Roles.{true_report, AreLimits, IsCaptured, IsOnlySource, IsShort}
 use Rattle.gallium_cli.specs.Chains.{IsWired, AreClasses, IsOneSource, connected}
 use Rattle.element_chain.specs.declared.chain.Chain.{Chain as ChainTold}
 use Rattle.report_text.specs.Form.{are_declared}
 use Rattle.report_text.specs.Lines as reports
 use Rattle.run_audit.specs.Source.{source_of}
 use Rattle.run_audit.specs.Told.{IsTrueReport}
-
--- the text is a source of this middlebox, and of no other
-pub record IsOnlySource (text : List ℕ) (m : Tree) : Type 0 where
-  pub source : IsSource text m
-  pub only : (other : Tree) → IsSource text other → other ≡ m
 
 -- the told contents spell this middlebox and these packets, each within its size
 pub record IsInput (told : List ℕ → Option (List ℕ)) (s t : List ℕ) (m : Tree) (packets : List Packet) : Type 0 where

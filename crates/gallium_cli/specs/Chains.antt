@@ -27,7 +27,7 @@ use Rattle.chain_compose.specs.declared.error.ComposeError.TheVariants as errors
 use Rattle.gallium_cli.specs.declared.refusal.Uncomposed.{Uncomposed}
 use Rattle.gallium_cli.specs.declared.refusal.Refusal.{Refusal}
 use Rattle.gallium_cli.specs.declared.refusal.Refusal.TheVariants as refusals
-use Rattle.gallium_cli.specs.Roles.{source, wiring, size_of, IsFirst, IsGood}
+use Rattle.gallium_cli.specs.Roles.{source, wiring, size_of, IsFirst, IsGood, IsOnlySource}
 use Rattle.gallium_cli.specs.Loads.{IsFileRefused, IsFileTooLong, IsFileFaulty, raised_by}
 
 -- ## The files of a chain
@@ -59,7 +59,7 @@ pub record IsWired (told : List ℕ → Option (List ℕ)) (w : List ℕ) (chain
 pub record AreClasses (told : List ℕ → Option (List ℕ)) (es : List Element) (ms : List Tree) : Type 0 where
   pub count : length ms ≡ length es
   pub each : (e : ℕ) (x : Element) (m : Tree) → slice_get es e ≡ Some x → slice_get ms e ≡ Some m
-      → IfSome (told (file_of x.class)) (λ text. (length text ≤ size_of source) × IsSource text m)
+      → IfSome (told (file_of x.class)) (λ text. (length text ≤ size_of source) × IsOnlySource text m)
   pub same : (d e : ℕ) (x y : Element) → slice_get es d ≡ Some x → slice_get es e ≡ Some y
       → x.class ≡ y.class → slice_get ms d ≡ slice_get ms e
 

@@ -51,6 +51,11 @@ size_of trace = 67108864
 size_of schedule = 67108864
 size_of capture = 67108864
 
+-- the text is a source of this middlebox, and of no other
+pub record IsOnlySource (text : List ℕ) (m : Tree) : Type 0 where
+  pub source : IsSource text m
+  pub only : (other : Tree) → IsSource text other → other ≡ m
+
 -- the flat program of a middlebox has at most 4,096 instructions
 abbrev pub IsShort : Tree → Type 0
 IsShort m = length (flat_of m).code ≤ 4096

@@ -3,7 +3,7 @@ ghost use Rattle.std.specs.Prelude.{◌≡◌, ◌≤◌, ◌<◌, ◌+◌, ◌+
 ghost use Rattle.std.specs.Prelude.{IfSome, OnOk, OnErr, OnNone, length, take, map, string_bytes};
 ghost use Rattle.std.specs.List.{All};
 ghost use Rattle.gal_io.specs.Files.{FilesState};
-ghost use Rattle.element_lang.specs.Accepted.{HasNames, IsSource};
+ghost use Rattle.element_lang.specs.Accepted.{HasNames};
 ghost use Rattle.element_lang.specs.Rules.{is_good};
 ghost use Rattle.element_lang.specs.Tree.{Tree};
 ghost use Rattle.element_lang.specs.View.{tree};
@@ -14,7 +14,7 @@ ghost use Rattle.switch_ir.specs.Port.{PortState};
 ghost use Rattle.gallium_cli.specs.Words.{Chain as ChainOf};
 ghost use Rattle.gallium_cli.specs.Call.{work_of};
 ghost use Rattle.gallium_cli.specs.Lines.{status_of};
-ghost use Rattle.gallium_cli.specs.Roles.{source, wiring, size_of};
+ghost use Rattle.gallium_cli.specs.Roles.{source, wiring, size_of, IsOnlySource};
 ghost use Rattle.gallium_cli.specs.Loads.{GoesOn, IsFileRefused, IsUnread, raised_by};
 ghost use Rattle.gallium_cli.specs.Chains.{AreClasses, IsPlaceOf, ReadsNext, class_files, file_of};
 ghost use Rattle.gallium_cli.specs.Chains.{IsClassRefused, IsFirstClassRefused, IsUncomposed, IsOneSource};
@@ -105,7 +105,7 @@ fn load_class<F: Files>(
     files: &mut F,
 ) -> Result<Middlebox, Refusal<'static>>
     ensures ok { IfOk result (λ m. IfSome ((F.seen files.old).told (file_of class.now))
-        (λ text. (length text ≤ size_of source) × IsSource text (tree m))) }
+        (λ text. (length text ≤ size_of source) × IsOnlySource text (tree m))) }
     ensures good { IfOk result (λ m. IsTrue (is_good (tree m))) }
     ensures names { IfOk result (λ m. HasNames (tree m)) }
     ensures err { IfErr result (λ refusal. IsClassRefused refusal (file_of class.now)
