@@ -69,11 +69,12 @@ connected chain ms = record { elements = ms; wires = chain.wires }
 
 -- ## One source of a chain
 
--- The text is a source of the connected elements. It is what is printed of the middlebox that is composed of them, and
+-- The text is a source of the connected elements, for whose composition nothing stands in the way. It is what is printed of the middlebox that is composed of them, and
 -- is read back as that. From all stores of the elements that keep what was declared, and for every packet that may
 -- arrive, that middlebox has the verdict of the chain, and leaves the stores of the chain, object by object; and each
 -- store of it that keeps what was declared is made of such stores.
 pub record IsOneSource (c : Connected) (text : List ℕ) : Type 0 where
+  pub unrefused : composing.IsUnrefused c
   pub printed : text ≡ text_of (print_tokens (named (composed c)))
   pub source : IsSource text (composed c)
   pub rules : IsTrue (is_good (composed c))

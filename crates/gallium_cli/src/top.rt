@@ -28,6 +28,8 @@ use crate::refusal::{Refusal, tell};
 use crate::replay::perform_replay;
 use crate::status::Status;
 use crate::words::{Form, form_of};
+use chain_compose::one_composition_or_one_reason;
+use chain_text::one_chain_or_one_reason;
 use element_interp::run_all;
 use element_lang::Middlebox;
 use gal_io::{Files, NoMemory, Sink, Text};
@@ -161,6 +163,8 @@ pub fn gallium<F: Files, S: SwitchPort, O: Sink, E: Sink>(
     kept_limits_are_not_exceeded();
     one_line_is_first_wrong();
     a_text_is_of_one_split();
+    one_chain_or_one_reason();
+    one_composition_or_one_reason();
     reports_of_replays_are_true();
     match perform(alloc, words, files, port, out) {
         Ok(()) => Status::Done,
