@@ -2,6 +2,4 @@
 #![tactic(auto)]
 
 #[cfg(test)]
-mod compose_tests;
-#[cfg(test)]
 mod text_tests;

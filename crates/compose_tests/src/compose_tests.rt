@@ -1,4 +1,10 @@
 //! Chains that are composed, and chains that are refused.
+ghost use Rattle.std.specs.Prelude.{◌≡◌, ◌<◌, ◌≤◌, true, length, IsTrue, IfOk};
+ghost use Rattle.std.specs.List.{All};
+ghost use Rattle.element_lang.specs.Accepted.{HasNames};
+ghost use Rattle.element_lang.specs.Rules.{is_good};
+ghost use Rattle.element_lang.specs.View.{tree};
+ghost use Rattle.compose_tests.specs.Rising.{are_rising};
 
 use chain_compose::{ComposeError, What, compose};
 use element_chain::{Chain, Classes, Element, Elements, Target, Wire, Wires};
@@ -19,7 +25,9 @@ const MARKED: &str = "process { let v0 = 1 : 8 ; if v0 == 1 : 8 { \
     if 0 : 8 == 0 : 8 { eth.dst = 5 : 48 ; let v1 = 2 : 8 ; if v1 == 2 : 8 { send 7 : 8 ; } else { drop ; } } \
     drop ; } else { drop ; } }\n";
 
-fn wire(from: u32, output: u8, input: u8, to: Target) -> Wire {
+fn wire(from: u32, output: u8, input: u8, to: Target) -> Wire
+    ensures { result ≡ record { from = from; output = output; input = input; to = to } }
+{
     Wire {
         from,
         output,
@@ -28,7 +36,9 @@ fn wire(from: u32, output: u8, input: u8, to: Target) -> Wire {
     }
 }
 
-fn chain_of(alloc: Global, elements: usize, wires: &[Wire]) -> Result<Chain, Fail> {
+fn chain_of(alloc: Global, elements: usize, wires: &[Wire]) -> Result<Chain, Fail>
+    ensures { IfOk result (λ chain. chain.wires ≡ wires.now) }
+{
     let mut chain = Chain {
         elements: Elements::new(alloc),
         wires: Wires::new(alloc),
@@ -45,31 +55,55 @@ fn chain_of(alloc: Global, elements: usize, wires: &[Wire]) -> Result<Chain, Fai
     Ok(chain)
 }
 
-fn classes_of(alloc: Global, sources: &[&str]) -> Result<Classes, Fail> {
+fn class_of(alloc: Global, source: &str) -> Result<Middlebox, Fail>
+    ensures good { IfOk result (λ m. IsTrue (is_good (tree m))) }
+    ensures names { IfOk result (λ m. HasNames (tree m)) }
+{
+    let middlebox = read(alloc, source.as_bytes())?;
+    Ok(middlebox)
+}
+
+fn classes_of(alloc: Global, sources: &[&str]) -> Result<Classes, Fail>
+    ensures count { IfOk result (λ classes. length classes.items ≡ length sources.now) }
+    ensures good { IfOk result (λ classes. All (λ m. IsTrue (is_good (tree m))) classes.items) }
+    ensures names { IfOk result (λ classes. All (λ m. HasNames (tree m)) classes.items) }
+{
     let mut classes = Vec::new(alloc);
     for source in sources {
-        classes.push(read(alloc, source.as_bytes())?)?;
+        classes.push(class_of(alloc, source)?)?;
     }
     Ok(classes)
 }
 
 // Whether the chain's middlebox has this text.
-fn is_composed(alloc: Global, sources: &[&str], wires: &[Wire], text: &str) -> Result<bool, Fail> {
+#[tactic(auto, using(crate::proofs::NoCycles::within, crate::proofs::NoCycles::acyclic))]
+fn is_composed(alloc: Global, sources: &[&str], wires: &[Wire], text: &str) -> Result<bool, Fail>
+    requires some { 0 < length sources.now }
+    requires few { length sources.now ≤ 32 }
+    requires rising { are_rising (length sources.now) wires.now ≡ true }
+{
     let chain = chain_of(alloc, sources.len(), wires)?;
-    let made = compose(alloc, &chain, &classes_of(alloc, sources)?)?;
+    let classes = classes_of(alloc, sources)?;
+    let made = compose(alloc, &chain, &classes)?;
     let printed = print(alloc, &made)?;
     Ok(printed.as_slice() == text.as_bytes())
 }
 
 // Whether the chain is refused for this reason.
+#[tactic(auto, using(crate::proofs::NoCycles::within, crate::proofs::NoCycles::acyclic))]
 fn is_refused(
     alloc: Global,
     sources: &[&str],
     wires: &[Wire],
     error: ComposeError,
-) -> Result<bool, Fail> {
+) -> Result<bool, Fail>
+    requires some { 0 < length sources.now }
+    requires few { length sources.now ≤ 32 }
+    requires rising { are_rising (length sources.now) wires.now ≡ true }
+{
     let chain = chain_of(alloc, sources.len(), wires)?;
-    match compose(alloc, &chain, &classes_of(alloc, sources)?) {
+    let classes = classes_of(alloc, sources)?;
+    match compose(alloc, &chain, &classes) {
         Ok(_) => Ok(false),
         Err(e) => Ok(e == error),
     }
@@ -148,5 +182,27 @@ fn refusals(rt: HostRuntime) -> Result<(), Fail> {
         allowed: 1_048_576,
     };
     assert!(rt; is_refused(rt.alloc(), &[large, large], &[], entries)?);
+    Ok(())
+}
+
+// It sends at 17 places.
+const SENDS: &str = "process { \
+    if meta.port == 0:8 { send 0:8; } if meta.port == 0:8 { send 0:8; } if meta.port == 0:8 { send 0:8; } \
+    if meta.port == 0:8 { send 0:8; } if meta.port == 0:8 { send 0:8; } if meta.port == 0:8 { send 0:8; } \
+    if meta.port == 0:8 { send 0:8; } if meta.port == 0:8 { send 0:8; } if meta.port == 0:8 { send 0:8; } \
+    if meta.port == 0:8 { send 0:8; } if meta.port == 0:8 { send 0:8; } if meta.port == 0:8 { send 0:8; } \
+    if meta.port == 0:8 { send 0:8; } if meta.port == 0:8 { send 0:8; } if meta.port == 0:8 { send 0:8; } \
+    if meta.port == 0:8 { send 0:8; } send 0:8; }";
+
+// Statements are counted before the whole is made.
+#[test]
+fn many_statements(rt: HostRuntime) -> Result<(), Fail> {
+    let wires = [
+        wire(0, 0, 0, Target::Element(1)),
+        wire(1, 0, 0, Target::Element(2)),
+        wire(2, 0, 0, Target::Element(3)),
+    ];
+    let sources = [SENDS, SENDS, SENDS, SENDS];
+    assert!(rt; is_refused(rt.alloc(), &sources, &wires, ComposeError::Statements)?);
     Ok(())
 }
