@@ -1,6 +1,6 @@
 -- Which status told files and limits lead to.
 use Rattle.std.proofs.Common.{◌≡◌, ◌<◌, ℕ, List, [], ◌∷◌, length, Option, Some, None, IfSome, IsSomeAnd, subst, sym}
-use Rattle.std.proofs.Common.{inl, inr, arith, refl, ap, ◌∙◌, ◌≤◌, suc, Bool, true, false, map, slice_get}
+use Rattle.std.proofs.Common.{inl, inr, arith, refl, ap, ◌∙◌, ◌≤◌, zero, suc, Bool, true, false, map, slice_get}
 use Rattle.std.specs.Prelude.{filter, not, if◌then◌else◌}
 use Rattle.std.specs.List.{AllByRecursion as Each}
 use Rattle.std.specs.Str.{bytes_eq}
@@ -296,7 +296,7 @@ same_place : (es : List Element) (ms : List Tree) (e : ℕ) (x : Element) → le
     → slice_get es e ≡ Some x → (m : Tree) × (slice_get ms e ≡ Some m)
 same_place [] ms e x count there = cc
 same_place (y ∷ es) [] e x count there = absurd (omega arith)
-same_place (y ∷ es) (m ∷ ms) 0 x count there = (m, refl)
+same_place (y ∷ es) (m ∷ ms) zero x count there = (m, refl)
 same_place (y ∷ es) (m ∷ ms) (suc e) x count there = same_place es ms e x (omega arith) there
 
 tells_good : (told : Option (List ℕ)) (m : Tree) → Tells told m → IsSomeAnd told (IsGood source)

@@ -69,7 +69,8 @@ connected chain ms = record { elements = ms; wires = chain.wires }
 
 -- ## One source of a chain
 
--- The text is a source of the connected elements, for whose composition nothing stands in the way. It is what is printed of the middlebox that is composed of them, and
+-- The text is a source of the connected elements, for whose composition nothing stands in the way. It is what is
+-- printed of the middlebox that is composed of them, and
 -- is read back as that. From all stores of the elements that keep what was declared, and for every packet that may
 -- arrive, that middlebox has the verdict of the chain, and leaves the stores of the chain, object by object; and each
 -- store of it that keeps what was declared is made of such stores.

@@ -10,8 +10,8 @@ not_memory : (d e : ComposeError) → d ≢ NoMemory → (d ≡ e) ⊎ (d ≡ No
 not_memory d e some (inl same) = same
 not_memory d e some (inr none) = absurd (some none)
 
-pub returns : goal.returns
-returns = record {
-  reason = λ c d e first second one two. not_memory d e first (one_reason c e d second two one);
-  apart = λ c e some none refused. some (no_reason c e none refused);
-}
+pub returns-clause-reason : goal.returns-clause-reason
+returns-clause-reason x = λ c d e first second one two. not_memory d e first (one_reason c e d second two one)
+
+pub returns-clause-apart : goal.returns-clause-apart
+returns-clause-apart x = λ c e some none refused. some (no_reason c e none refused)
