@@ -18,7 +18,7 @@ use Rattle.split_answers.specs.Over.{AreAnswersOver}
 
 -- ## The journal
 
--- the entries of a call; those of passes that go on stage by stage have none until a switch has calls for them
+-- the entries of a call; those of passes that go on stage by stage have none until a replay makes such calls
 abbrev pub entries_of : Call → List Entry
 entries_of (CalledUp fine n packet (Finished verdict)) =
     entry.Up n packet.port packet.bytes (up.Finished verdict) ∷ []
@@ -40,6 +40,10 @@ is_of_replay entry.Load = true
 is_of_replay (entry.Room commands) = false
 is_of_replay (entry.Up number port packet answer) = true
 is_of_replay (entry.Down frame answer) = true
+is_of_replay (entry.BeginUp number port packet answer) = true
+is_of_replay (entry.StageUp number answer) = true
+is_of_replay (entry.BeginDown frame answer) = true
+is_of_replay (entry.StageDown number answer) = true
 is_of_replay (entry.Command c end) = true
 is_of_replay (entry.Visible object) = false
 
@@ -99,6 +103,7 @@ IsFormed code (CalledStageDown n answer) = ⊤
 pub record KeepsCalls (old new : PortState) : Type 0 where
   pub code : new.code ≡ old.code
   pub told : new.told ≡ old.told
+  pub passes : new.passes ≡ old.passes
   pub journal : calls_in new.journal ≡ calls_in old.journal
   pub spare : old.spare ≤ new.spare
   pub faults : new.faults ≡ old.faults
@@ -107,6 +112,7 @@ pub record KeepsCalls (old new : PortState) : Type 0 where
 pub record WasCalled (code : Code) (calls : List Call) (old new : PortState) : Type 0 where
   pub loaded : new.code ≡ old.code
   pub told : new.told ≡ option_map (told_through calls) old.told
+  pub passes : new.passes ≡ old.passes
   pub journal : calls_in new.journal ≡ calls_in old.journal ++ journal_of calls
   pub faults : new.faults ≡ old.faults
   pub formed : Each (IsFormed code) calls

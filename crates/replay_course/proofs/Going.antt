@@ -110,6 +110,7 @@ started begins x c server old new plain loads is shown sound none = record {
       plain = plain;
       sound = sound x (ap (λ z. z.program) is) (ap (λ z. z.split) is) refl;
       loaded = loads.state.code;
+      passes = loads.state.passes;
       spare = subst (λ n. n ≤ new.spare) (sym none) (omega arith);
     };
     counted = (shown (whole x) []).events;

@@ -80,7 +80,7 @@ pub quiet_turned : (x : Given) (ev : Event) (stepped : Stepped) (c after : Cours
 quiet_turned x ev stepped c after old new going kept sound spare counted asks_none shows = record {
   stays = kept_stays old new kept;
   counted = counted;
-  going = record { plain = going.plain; sound = sound; loaded = kept.code ∙ going.loaded; spare = spare };
+  going = record { plain = going.plain; sound = sound; loaded = kept.code ∙ going.loaded; passes = kept.passes ∙ going.passes; spare = spare };
   turns = λ events calls st replay shown.
       let was = shows events calls st replay shown in
       let same = sym (append-nil calls) in
@@ -132,6 +132,7 @@ admit_turned places once fresh x c after old new packet answer going here ends c
     plain = going.plain;
     sound = sound;
     loaded = called.loaded ∙ going.loaded;
+    passes = called.passes ∙ going.passes;
     spare = let before = going.spare in subst (λ n. n ≤ new.spare) (sym same) (omega arith);
   };
   turns = λ events calls st replay h.
@@ -173,6 +174,7 @@ down_turned places once step_law fresh x c after old new j n frame y going here 
     plain = going.plain;
     sound = down_sound x c after j n _ going.sound up server commit down fates (let i = going.sound.within.idle in omega (arith, events, idle));
     loaded = called.loaded ∙ going.loaded;
+    passes = called.passes ∙ going.passes;
     spare = let before = going.spare in subst (λ (k : Commit). length (commands k) - k.done ≤ new.spare) (sym commit) (omega arith);
   };
   turns = λ events_so calls st replay h.
@@ -223,6 +225,7 @@ apply_turned x c after old new command going called spare sound one_less counted
     plain = going.plain;
     sound = sound;
     loaded = called.loaded ∙ going.loaded;
+    passes = called.passes ∙ going.passes;
     spare = let before = going.spare in omega arith;
   };
   turns = λ events calls st replay h. record {

@@ -9,6 +9,7 @@ use Rattle.output_commit.specs.declared.output.Output.{Output}
 use Rattle.run_model.specs.declared.event.Event.{Event}
 use Rattle.server_runtime.specs.Views.{server_of}
 use Rattle.switch_ir.specs.Port.{PortState, HasRoomFor, IsUpdateOf}
+use Rattle.switch_ir.specs.UnderWay.{none_under_way}
 use Rattle.writeback_table.specs.declared.command.Command.{Command}
 use Rattle.replay_state.specs.Journal.{Call, asked, question_of}
 use Rattle.replay_state.specs.Program.{plain_manner}
@@ -73,6 +74,8 @@ pub record IsGoing (x : Given) (c : Course) (port : PortState) : Type 0 where
   pub plain : IsPlain x
   pub sound : IsSound x c
   pub loaded : port.code ≡ Some (code_for x)
+  -- each pass took one event
+  pub passes : port.passes ≡ none_under_way
   pub spare : unapplied c ≤ port.spare
 
 -- where the tables are told, the next command finds room in them

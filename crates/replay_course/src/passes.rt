@@ -28,6 +28,7 @@ fn pass_down<S: SwitchPort>(
 {
     match port.pass_down(alloc, frame.as_slice()) {
         DownEnd::Verdict(verdict) => Ok(verdict),
+        DownEnd::Going => unreachable!(),
         DownEnd::Failed => Err(ReplayError::PortFault),
         DownEnd::NoMemory => Err(ReplayError::NoMemory),
     }
@@ -56,6 +57,7 @@ impl Course {
         match port.pass_up(alloc, number as u32, packet.port, packet.bytes.as_slice()) {
             UpEnd::Finished(verdict) => self.finish(verdict)?,
             UpEnd::Up(frame) => self.send_up(frame)?,
+            UpEnd::Going => unreachable!(),
             UpEnd::Failed => return Err(ReplayError::PortFault),
             UpEnd::NoMemory => return Err(ReplayError::NoMemory),
         }

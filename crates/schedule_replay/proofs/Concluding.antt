@@ -100,7 +100,7 @@ ended_at_once x events drain c port is u =
 -- ## The report
 
 pub keeps_all : (port : PortState) → KeepsCalls port port
-keeps_all port = record { code = refl; told = refl; journal = refl; spare = omega arith; faults = refl }
+keeps_all port = record { code = refl; told = refl; passes = refl; journal = refl; spare = omega arith; faults = refl }
 
 pub kept_replay : (x : Given) (events : List Event) (calls : List Call) (st : State) (old new : PortState) → IsReplay x events calls st old
     → KeepsCalls old new → IsReplay x events calls st new

@@ -12,7 +12,7 @@ use Rattle.replay_state.specs.Journal.{Call, CalledUp, CalledStageUp, CalledComm
 use Rattle.replay_state.specs.Journal.{Released, GoingDown}
 use Rattle.split_answers.specs.Through.{IsEndOf}
 
--- The call was answered so over these tables. A switch has no calls yet that end a pass stage by stage.
+-- The call was answered so over these tables. A replay makes no calls yet that take a pass stage by stage.
 abbrev pub IsAnswerOver : Code → Told → Call → Type 0
 IsAnswerOver code told (CalledUp fine n packet answer) =
     IsArrival packet × ((end : UpEnd) × IsEndOf end answer × EndsUp code told n packet end)
