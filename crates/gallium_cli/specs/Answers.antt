@@ -218,7 +218,7 @@ pub record IsMadeSplit (m : Tree) (split : List Part) (writeback : ℕ) : Type 0
 
 -- the events that are made for so many packets, with no drain behind them
 abbrev pub made_plan : ℕ → Plan
-made_plan count = record { events = made_events count; drain = false }
+made_plan count = record { fine = false; events = made_events count; drain = false }
 
 -- a text that sums up the replay of so many packets that are made from a seed
 pub record IsSummary (text : List ℕ) (seed count : ℕ) (port port_after : PortState) : Type 0 where

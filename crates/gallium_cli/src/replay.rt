@@ -92,12 +92,17 @@ pub fn replayed<S: SwitchPort>(
         writeback,
     } = split_middlebox;
     let Flattened { middlebox, flat } = program;
-    let Plan { events, drain } = plan;
+    let Plan {
+        fine,
+        events,
+        drain,
+    } = plan;
     let job = Job {
         flat,
         split,
         writeback,
         packets,
+        fine,
         events,
         drain,
     };

@@ -204,6 +204,13 @@ impl Commit {
         self.acknowledged
     }
 
+    /// The bit of the switch: whether the commands that were applied set it, and didn't clear it since.
+    pub fn bit(&self) -> bool
+        ensures { result ≡ spec.bit self.now }
+    {
+        self.applied.bit(self.batches.begun())
+    }
+
     /// How many commands there are in all, sent or not. It falls by 2 for each batch that another takes up.
     pub fn commands(&self) -> u32
         ensures { result ≡ length (spec.commands self.now) }

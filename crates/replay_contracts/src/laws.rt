@@ -135,12 +135,11 @@ pub fn frames_have_their_forms()
     frames_are_told_by_place();
 }
 
-/// Where each pass takes one event, the journal of a port determines the calls of a replay, and so its state: the
-/// clauses of a replayer speak of one state.
+/// The journal of a port determines the calls of a replay, and so its state: the clauses of a replayer speak of one
+/// state.
 pub fn a_journal_determines_its_replay()
     ensures { (x : Given) (events : List Event) (calls others : List Call) (st other : State) (port : PortState)
-        → IsReady x → x.manner.fine ≡ false
-        → IsReplay x events calls st port → IsReplay x events others other port
+        → IsReady x → IsReplay x events calls st port → IsReplay x events others other port
         → (calls ≡ others) × (st ≡ other) }
 {
     a_run_is_answered_by_its_calls();

@@ -127,10 +127,12 @@ came_down setup a st j None = st
 came_down setup a st j (Some n) =
     entered a (record st { down = remove st.down j }) (pass_of st false n setup.post_stages)
 
+-- the next packet has come, and its pass enters
+abbrev pub came : State → State
+came st = record st { progress = st.progress ++ Entered st.events (seen st) ∷ [] }
+
 abbrev pub admitted : Setup → Answers → State → State
-admitted setup a st =
-    entered a (record st { progress = st.progress ++ Entered st.events (seen st) ∷ [] })
-    (pass_of st true (length st.progress) setup.pre_stages)
+admitted setup a st = entered a (came st) (pass_of st true (length st.progress) setup.pre_stages)
 
 abbrev pub happens : Setup → Answers → State → Event → State
 happens setup a st Admit = admitted setup a st

@@ -1,16 +1,17 @@
 -- A pass that is under way, between its stages: what it knows, and what it answers at last.
-use Rattle.std.specs.Prelude.{◌≡◌, ℕ, nat_le, nat_lt, Bool, true, false, ◌&&◌, List, []}
+use Rattle.std.specs.Prelude.{◌≡◌, ℕ, suc, nat_le, nat_lt, Bool, true, false, ◌&&◌, List, []}
 use Rattle.std.specs.Prelude.{Option, Some, None, IsSome, unwrap_or, ⊤}
 use Rattle.std.specs.List.{list_any}
 use Rattle.packet_fields.specs.declared.packet.Packet.{Packet}
-use Rattle.state_store.specs.Store.{Store}
+use Rattle.state_store.specs.Store.{Store, object_at}
 use Rattle.flat_ir.specs.declared.program.ValueId.{ValueId}
 use Rattle.flat_ir.specs.Blocks.{Reading}
 use Rattle.split_model.specs.declared.layout.Crossing.{Crossing}
 use Rattle.split_model.specs.Crossing.{is_value}
+use Rattle.split_model.specs.Shown.{looks_at}
 use Rattle.transfer_header.specs.Frames.{up_frame}
 use Rattle.switch_ir.specs.declared.code.Table.{Table}
-use Rattle.switch_ir.specs.Meaning.{is_step, after_stage, leaves, goes_up}
+use Rattle.switch_ir.specs.Meaning.{is_step, after_stage, after_stages, leaves, goes_up}
 use Rattle.switch_ir.specs.Passes.{Step, PassCode, Code}
 use Rattle.switch_ir.specs.Spans.{last_read, written_in, Written}
 use Rattle.switch_ir.specs.declared.port.UpEnd.{UpEnd}
@@ -87,6 +88,22 @@ pub record IsStaged (p : Staging) (t : ℕ) (old : Numbers) (view : Store) (pack
 -- the numbers with which a pass ends whose last stage is t: those of that stage, over what was known before it
 abbrev pub last_numbers : Staging → ℕ → Numbers → Store → Packet → Reading
 last_numbers p t old view packet = after_stage p.code.steps t (known old) view packet
+
+-- ## Over tables
+
+abbrev pub is_looked_at : List Step → ℕ → Bool
+is_looked_at steps o = list_any (λ (s : Step). looks_at o s.work) steps
+
+-- lookups of the pass find the same in both
+abbrev pub Sees : Staging → Store → Store → Type 0
+Sees p view tables = (o : ℕ) → is_looked_at p.code.steps o ≡ true → object_at view o ≡ object_at tables o
+
+-- A pass knows, once the stages up to t are done, what the whole pass over these tables computes.
+pub record IsOver (p : Staging) (given : Reading) (tables : Store) (packet : Packet) (t : ℕ) (numbers : Numbers)
+    : Type 0 where
+  pub enough : KeepsEnough p t numbers
+  pub right : (v : ValueId) (n : ℕ) → numbers v ≡ Some n
+      → n ≡ after_stages p.code.steps given tables packet (suc t) v
 
 -- ## Answers
 
