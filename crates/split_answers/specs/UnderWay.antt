@@ -1,5 +1,5 @@
 -- The passes under way on a switch, and those of the state.
-use Rattle.std.specs.Prelude.{◌≡◌, ◌<◌, ℕ, ◌+◌, Bool, true, if◌then◌else◌, List, length, Some, slice_get}
+use Rattle.std.specs.Prelude.{◌≡◌, ◌<◌, ℕ, ◌+◌, Bool, true, false, if◌then◌else◌, List, length, Some, slice_get}
 use Rattle.packet_fields.specs.declared.packet.Packet.{Packet}
 use Rattle.state_store.specs.Store.{Store, object_at}
 use Rattle.flat_ir.specs.Blocks.{Reading, nothing}
@@ -7,6 +7,8 @@ use Rattle.flat_ir.specs.Program.{Program}
 use Rattle.split_model.specs.declared.split.Part.{Part}
 use Rattle.split_model.specs.Shown.{is_replicated}
 use Rattle.writeback_table.specs.Batches.{seen_after}
+use Rattle.writeback_table.specs.Commands.{pair_through}
+use Rattle.writeback_table.specs.Pair.{visible}
 use Rattle.writeback_table.specs.declared.command.Command.{Command}
 use Rattle.switch_ir.specs.Code.{Code}
 use Rattle.switch_ir.specs.Emitted.{emitted}
@@ -46,9 +48,24 @@ pub record AreOnSwitch (setup : Setup) (st : State) (passes : UnderWay) : Type 0
 
 -- ## On one that tells its tables
 
+-- lookups after these commands see the replicated objects of a store
+abbrev pub Shows : Program → List Part → ℕ → List Command → Store → Type 0
+Shows f split writeback commands store = (o : ℕ) → is_replicated f split o ≡ true
+    → seen_after o (first_pair f writeback o) commands (length commands) ≡ (object_at store o).contents
+
+-- so do those that go by this bit
+abbrev pub Views : Program → List Part → ℕ → Bool → List Command → Store → Type 0
+Views f split writeback bit commands store = (o : ℕ) → is_replicated f split o ≡ true
+    → visible bit (pair_through o (first_pair f writeback o) commands) ≡ (object_at store o).contents
+
+-- the pass before the server, or behind it
+abbrev pub staging : Bool → Code → Staging
+staging true code = pre_staging code
+staging false code = post_staging code
+
 -- What a pass knows that entered with this bit, over a packet and with what it was given: numbers that the whole pass
 -- computes over the tables of its entry, which show the replicated objects of this store.
-pub record Knows (f : Program) (split : List Part) (writeback : ℕ) (p : Staging) (given : Reading) (packet : Packet)
+pub record Knows (f : Program) (split : List Part) (writeback : ℕ) (pre : Bool) (given : Reading) (packet : Packet)
     (bit : Bool) (store : Store) (own : PassState) : Type 0 where
   pub pass : ToldPass
   pub told : own.told ≡ Some pass
@@ -59,9 +76,8 @@ pub record Knows (f : Program) (split : List Part) (writeback : ℕ) (p : Stagin
   pub commands : List Command
   pub through : IsThrough (emitted f split writeback) commands first
   pub first_bit : first.bit ≡ bit
-  pub shows : (o : ℕ) → is_replicated f split o ≡ true
-      → seen_after o (first_pair f writeback o) commands (length commands) ≡ (object_at store o).contents
-  pub over : IsOver p given (seen_tables first) packet own.stage pass.numbers
+  pub shows : Shows f split writeback commands store
+  pub over : IsOver (staging pre (emitted f split writeback)) given (seen_tables first) packet own.stage pass.numbers
 
 -- so it is of a pass of the state: before the server it is given nothing, and behind it what its frame says
 abbrev pub KnowsItsOwn : Program → List Part → ℕ → List Packet → List Call → State → Pass → PassState → Type 0
@@ -69,10 +85,10 @@ KnowsItsOwn f split writeback packets calls st pass own =
     let code = emitted f split writeback in
     let store = store_at st.stores pass.version in
     if pass.pre
-    then Knows f split writeback (pre_staging code) nothing (packet_at packets pass.number) pass.bit store own
+    then Knows f split writeback true nothing (packet_at packets pass.number) pass.bit store own
     else OfItsParts code (down_frame (whole_of f split writeback) calls st pass.number)
     (λ number packet values.
-    Knows f split writeback (post_staging code) (down_given code values packet) packet pass.bit store own)
+    Knows f split writeback false (down_given code values packet) packet pass.bit store own)
 
 abbrev pub KnowTheirOwn : Program → List Part → ℕ → List Packet → List Call → State → UnderWay → Type 0
 KnowTheirOwn f split writeback packets calls st passes =
