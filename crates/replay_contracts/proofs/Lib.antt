@@ -3,3 +3,5 @@ mod Picking
 mod Reporting
 mod Determined
 mod Formed
+mod Calls
+mod Asked

@@ -1,6 +1,7 @@
 -- What calls of a switch leave in its journal and in the tables that it tells.
 use Rattle.std.specs.Prelude.{◌≡◌, ◌≤◌, ⊤, ℕ, Bool, true, false, List, [], ◌∷◌, ◌++◌, Some, map}
 use Rattle.std.specs.List.{filter}
+use Rattle.packet_fields.specs.declared.packet.Packet.{Packet}
 use Rattle.writeback_table.specs.declared.command.Command.{Command}
 use Rattle.switch_ir.specs.Code.{Code}
 use Rattle.switch_ir.specs.Port.{PortState, IsUpFrame, PassesUp, PassesDown, Commands}
@@ -11,6 +12,7 @@ use Rattle.switch_ir.specs.declared.journal.Entry.{Entry}
 use Rattle.switch_ir.specs.declared.journal.Entry.TheVariants as entry
 use Rattle.switch_ir.specs.declared.port.CommandEnd.TheVariants as command
 use Rattle.replay_state.specs.Journal.{Call, CalledUp, CalledStageUp, CalledCommand, CalledDown, CalledStageDown}
+use Rattle.replay_state.specs.Program.{packet_at}
 use Rattle.split_answers.specs.Over.{IsGiven}
 use Rattle.split_answers.specs.Through.{down_end_of, end_of}
 
@@ -80,13 +82,13 @@ commands_among (call ∷ calls) = command_in call ++ commands_among calls
 -- ## Frames
 
 -- a frame that went up has the code's layout, and the number, the port and the packet of its pass, whatever its values
-abbrev pub IsFormed : Code → Call → Type 0
-IsFormed code (CalledUp fine n packet answer) = IsUpFrame code n packet.port packet.bytes (end_of answer)
-IsFormed code (CalledStageUp n answer) =
-    (port : ℕ) × (packet : List ℕ) × IsUpFrame code n port packet (end_of answer)
-IsFormed code (CalledCommand c) = ⊤
-IsFormed code (CalledDown fine n frame answer) = ⊤
-IsFormed code (CalledStageDown n answer) = ⊤
+abbrev pub IsFormed : Code → List Packet → Call → Type 0
+IsFormed code packets (CalledUp fine n packet answer) = IsUpFrame code n packet.port packet.bytes (end_of answer)
+IsFormed code packets (CalledStageUp n answer) =
+    let packet = packet_at packets n in IsUpFrame code n packet.port packet.bytes (end_of answer)
+IsFormed code packets (CalledCommand c) = ⊤
+IsFormed code packets (CalledDown fine n frame answer) = ⊤
+IsFormed code packets (CalledStageDown n answer) = ⊤
 
 -- ## Calls
 

@@ -32,9 +32,9 @@ pub record IsTold (x : Given) (events : List Event) (calls : List Call) (st : St
 pub record IsReplay (x : Given) (events : List Event) (calls : List Call) (st : State) (port : PortState) : Type 0 where
   pub answered : IsAnswered (setup_for x) (whole x) x.packets events calls st
   pub called : HasCalls (code_for x) calls port
-  pub formed : Each (IsFormed (code_for x)) calls
+  pub formed : Each (IsFormed (code_for x) x.packets) calls
   -- its passes under way are those of the state
-  pub passes : AreOnSwitch (setup_for x) st port.passes
+  pub passes : AreOnSwitch (setup_for x) x.packets st port.passes
   pub told : (tables : Told) → port.told ≡ Some tables → IsTold x events calls st tables port.passes
 
 -- the port was loaded, and has made no other call

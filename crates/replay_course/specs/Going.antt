@@ -108,7 +108,7 @@ pub record MayCall (x : Given) (c : Course) (port : PortState) : Type 0 where
       → HasNoDownPassOf port item.1 × (number_in item.1 ≡ item.0)
   -- the passes of the course are under way there
   pub under_way : (j : ℕ) (pass : Pass) → slice_get c.passes.items j ≡ Some pass
-      → IsOnSwitch (setup_for x) port.passes pass
+      → IsOnSwitch (setup_for x) x.packets port.passes pass
 
 -- the port made room for so many commands, and was called for nothing else
 pub record MadeRoom (commands : ℕ) (old new : PortState) : Type 0 where

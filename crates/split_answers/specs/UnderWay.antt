@@ -33,16 +33,18 @@ passes_of pre passes = if pre then passes.pre else passes.post
 abbrev pub highest_of : Bool → Setup → ℕ
 highest_of pre setup = if pre then setup.pre_stages else setup.post_stages
 
--- a pass of the state is under way on the switch, and has so many stages left there
-pub record IsOnSwitch (setup : Setup) (passes : UnderWay) (pass : Pass) : Type 0 where
+-- a pass of the state is under way on the switch, and has so many stages left there; before the server it is over the
+-- packet of its number
+pub record IsOnSwitch (setup : Setup) (packets : List Packet) (passes : UnderWay) (pass : Pass) : Type 0 where
   pub own : PassState
   pub there : passes_of pass.pre passes pass.number ≡ Some own
+  pub packet : pass.pre ≡ true → own.packet ≡ packet_at packets pass.number
   pub left : own.stage + pass.left ≡ highest_of pass.pre setup
   pub some : 0 < pass.left
 
 -- those of the state are under way on the switch, and no others
-pub record AreOnSwitch (setup : Setup) (st : State) (passes : UnderWay) : Type 0 where
-  pub each : (j : ℕ) (pass : Pass) → slice_get st.passes j ≡ Some pass → IsOnSwitch setup passes pass
+pub record AreOnSwitch (setup : Setup) (packets : List Packet) (st : State) (passes : UnderWay) : Type 0 where
+  pub each : (j : ℕ) (pass : Pass) → slice_get st.passes j ≡ Some pass → IsOnSwitch setup packets passes pass
   pub only : (pre : Bool) (n : ℕ) (own : PassState) → passes_of pre passes n ≡ Some own
       → (j : ℕ) × (pass : Pass) × (slice_get st.passes j ≡ Some pass) × (pass.pre ≡ pre) × (pass.number ≡ n)
 
