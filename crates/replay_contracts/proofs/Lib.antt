@@ -5,3 +5,4 @@ mod Determined
 mod Formed
 mod Calls
 mod Asked
+mod OnSwitch
