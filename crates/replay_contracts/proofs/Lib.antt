@@ -6,3 +6,4 @@ mod Formed
 mod Calls
 mod Asked
 mod OnSwitch
+mod Passing
