@@ -7,3 +7,4 @@ mod Calls
 mod Asked
 mod OnSwitch
 mod Passing
+mod PassingOn
