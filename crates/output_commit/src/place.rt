@@ -23,7 +23,8 @@ impl Place {
     /// The bit here: whether the command that sets it stands before this place, and the one that clears it doesn't, in
     /// the same batch.
     pub fn bit(&self, spans: &[Span]) -> bool
-        requires { IsIn spans.now self.now }
+        requires at { IsIn spans.now self.now }
+        requires few { total spans.now < 2 ^ 32 }
         ensures { result ≡ bit_at spans.now self.now }
     {
         match spans.get(self.batch) {

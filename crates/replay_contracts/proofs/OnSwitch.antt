@@ -103,7 +103,7 @@ module _ (setup : Setup) (packets : List Packet) where
   }
 
   still_there : (u w : UnderWay) (p : Pass) → passes_of p.pre w p.number ≡ passes_of p.pre u p.number → IsOnSwitch setup packets u p → IsOnSwitch setup packets w p
-  still_there u w p same h = record { own = h.own; there = same ∙ h.there; packet = h.packet; left = h.left; some = h.some }
+  still_there u w p same h = record { own = h.own; there = same ∙ h.there; packet = h.packet; bit = h.bit; left = h.left; some = h.some }
 
   pub same_on : (xs : List Pass) (u w : UnderWay) → ((k : Bool) (m : ℕ) → passes_of k w m ≡ passes_of k u m) → OnList xs u → OnList xs w
   same_on xs u w same on = record {

@@ -10,8 +10,11 @@ use Rattle.transfer_header.specs.Told.{number_in}
 use Rattle.run_model.specs.declared.event.Event.{Event}
 use Rattle.run_model.specs.declared.event.Event.TheVariants.{Admit, Stage, Serve, Send, Apply, Ack, Hold, Down}
 use Rattle.switch_ir.specs.Code.{Code}
-use Rattle.switch_ir.specs.Port.{PortState, BeginsUp, StagesUp, BeginsDown, StagesDown, OfItsParts}
-use Rattle.switch_ir.specs.UnderWay.{Passes, PassState, UnderWay, OthersStay}
+use Rattle.flat_ir.specs.Blocks.{Reading}
+use Rattle.switch_ir.specs.Port.{PortState, BeginsUp, StagesUp, BeginsDown, StagesDown, OfItsParts, IsHandedDown, IsNothing}
+use Rattle.switch_ir.specs.Staged.{Staging, post_staging, pre_staging}
+use Rattle.switch_ir.specs.Tables.{Told}
+use Rattle.switch_ir.specs.UnderWay.{Passes, PassState, ToldPass, UnderWay, EntersTold, OthersStay, StagesTold}
 use Rattle.writeback_table.specs.declared.command.Command.{Command}
 use Rattle.writeback_table.specs.declared.command.Update.{Update}
 use Rattle.output_commit.specs.Batches.{commands_in}
@@ -21,7 +24,7 @@ use Rattle.replay_state.specs.Journal.{UpAnswer, Finished, SentUp, GoingUp, Down
 use Rattle.replay_state.specs.Journal.{asks, asked, asks_stage, asks_command, asks_down, down_frame, question_of}
 use Rattle.replay_state.specs.Places.{HavePlaces}
 use Rattle.replay_state.specs.Program.{SplitProgram, packet_at}
-use Rattle.replay_state.specs.State.{Pass, State}
+use Rattle.replay_state.specs.State.{Pass, State, bit_behind}
 use Rattle.replay_state.specs.Step.{applies, came, came_in, came_out, ended, entered, happens, pass_of, came_down, ran, served, staged, step, tick, let_go, with_changes}
 use Rattle.split_answers.specs.Through.{down_end_of, end_of}
 use Rattle.split_answers.specs.UnderWay.{AreOnSwitch, IsOnSwitch, highest_of, passes_of}
@@ -46,20 +49,39 @@ pub record Left (pre : Bool) (n : ℕ) (u w : UnderWay) (ends : Bool) (IsNew : P
   pub gone : ends ≡ true → passes_of pre w n ≡ None
   pub new : ends ≡ false → (own : PassState) × (passes_of pre w n ≡ Some own) × IsNew own
 
-abbrev HasBegun : Packet → PassState → Type 0
-HasBegun packet own = (own.packet ≡ packet) × (own.stage ≡ 0)
+-- where it is told, it goes by this bit
+abbrev GoesBy : Bool → PassState → Type 0
+GoesBy bit own = (told : ToldPass) → own.told ≡ Some told → told.bit ≡ bit
+
+-- the bit of the tables, where they are told
+abbrev BitIs : Bool → PortState → Type 0
+BitIs bit port = (tables : Told) → port.told ≡ Some tables → tables.bit ≡ bit
+
+abbrev HasBegun : Packet → Bool → PassState → Type 0
+HasBegun packet bit own = (own.packet ≡ packet) × (own.stage ≡ 0) × GoesBy bit own
 
 abbrev HasGone : PassState → PassState → Type 0
-HasGone old own = (own.packet ≡ old.packet) × (own.stage ≡ suc old.stage)
+HasGone old own = (own.packet ≡ old.packet) × (own.stage ≡ suc old.stage) × ((bit : Bool) → GoesBy bit old → GoesBy bit own)
 
-begun_up : (code : Code) (n : ℕ) (packet : Packet) (answer : UpAnswer) (old new : PortState) → old.code ≡ Some code → BeginsUp (end_of answer) n packet.port packet.bytes old new
-    → Left true n old.passes new.passes (is_up_end answer) (HasBegun packet)
-begun_up code n packet (Finished y) old new loaded h = record { others = others_up n old.passes new.passes h.post h.others; gone = λ g. h.pass code loaded; new = λ g. absurd (true≢false g) }
-begun_up code n packet (SentUp frame) old new loaded h = record { others = others_up n old.passes new.passes h.post h.others; gone = λ g. h.pass code loaded; new = λ g. absurd (true≢false g) }
-begun_up code n packet GoingUp old new loaded h = record {
+enters_by : (p : Staging) (Given : Reading → Type 0) (packet : Packet) (tables : Option Told) (o : Option ToldPass) (bit : Bool) → EntersTold p Given packet tables o
+    → ((t : Told) → tables ≡ Some t → t.bit ≡ bit) → (told : ToldPass) → o ≡ Some told → told.bit ≡ bit
+enters_by p Given packet None o bit h is told e = absurd (none-some told (sym h ∙ e))
+enters_by p Given packet (Some t) o bit h is told e = ap (λ (k : ToldPass). k.bit) (same_Some _ _ (sym e ∙ h.1)) ∙ h.2 ∙ is t refl
+
+stages_by : (p : Staging) (t : ℕ) (packet : Packet) (tables : Option Told) (before after : Option ToldPass) (bit : Bool) → StagesTold p t packet tables before after
+    → ((told : ToldPass) → before ≡ Some told → told.bit ≡ bit) → (told : ToldPass) → after ≡ Some told → told.bit ≡ bit
+stages_by p t packet None before after bit h is told e = absurd (none-some told (sym h ∙ e))
+stages_by p t packet (Some tables) None after bit h is told e = absurd (none-some told (sym h ∙ e))
+stages_by p t packet (Some tables) (Some old) after bit h is told e = ap (λ (k : ToldPass). k.bit) (same_Some _ _ (sym e ∙ h.1)) ∙ h.2 ∙ is old refl
+
+begun_up : (code : Code) (n : ℕ) (packet : Packet) (answer : UpAnswer) (bit : Bool) (old new : PortState) → old.code ≡ Some code → BitIs bit old → BeginsUp (end_of answer) n packet.port packet.bytes old new
+    → Left true n old.passes new.passes (is_up_end answer) (HasBegun packet bit)
+begun_up code n packet (Finished y) bit old new loaded by h = record { others = others_up n old.passes new.passes h.post h.others; gone = λ g. h.pass code loaded; new = λ g. absurd (true≢false g) }
+begun_up code n packet (SentUp frame) bit old new loaded by h = record { others = others_up n old.passes new.passes h.post h.others; gone = λ g. h.pass code loaded; new = λ g. absurd (true≢false g) }
+begun_up code n packet GoingUp bit old new loaded by h = record {
   others = others_up n old.passes new.passes h.post h.others;
   gone = λ g. absurd (false≢true g);
-  new = λ g. let p = h.pass code loaded in (p.0, p.1, (p.2.packet, p.2.stage));
+  new = λ g. let p = h.pass code loaded in (p.0, p.1, (p.2.packet, p.2.stage, enters_by (pre_staging code) IsNothing packet old.told p.0.told bit p.2.told by));
 }
 
 gone_up : (code : Code) (n : ℕ) (answer : UpAnswer) (own : PassState) (old new : PortState) → old.code ≡ Some code → old.passes.pre n ≡ Some own → StagesUp (end_of answer) n old new
@@ -69,7 +91,7 @@ gone_up code n (SentUp frame) own old new loaded there h = record { others = oth
 gone_up code n GoingUp own old new loaded there h = record {
   others = others_up n old.passes new.passes h.post h.others;
   gone = λ g. absurd (false≢true g);
-  new = λ g. let p = h.pass code own loaded there in (p.0, p.1, (p.2.packet, p.2.stage));
+  new = λ g. let p = h.pass code own loaded there in (p.0, p.1, (p.2.packet, p.2.stage, λ bit by. stages_by (pre_staging code) (suc own.stage) own.packet old.told own.told p.0.told bit p.2.told by));
 }
 
 gone_down : (code : Code) (n : ℕ) (answer : DownAnswer) (own : PassState) (old new : PortState) → old.code ≡ Some code → old.passes.post n ≡ Some own → StagesDown (down_end_of answer) n old new
@@ -78,21 +100,25 @@ gone_down code n (Released y) own old new loaded there h = record { others = oth
 gone_down code n GoingDown own old new loaded there h = record {
   others = others_down n old.passes new.passes h.pre h.others;
   gone = λ g. absurd (false≢true g);
-  new = λ g. let p = h.pass code own loaded there in (p.0, p.1, (p.2.packet, p.2.stage));
+  new = λ g. let p = h.pass code own loaded there in (p.0, p.1, (p.2.packet, p.2.stage, λ bit by. stages_by (post_staging code) (suc own.stage) own.packet old.told own.told p.0.told bit p.2.told by));
 }
 
 -- by the parts of its frame
-begun_down : (code : Code) (frame : List ℕ) (framed : IsFrame 2 code.down frame) (answer : DownAnswer) (old new : PortState) → old.code ≡ Some code → BeginsDown (down_end_of answer) frame old new
-    → Left false framed.number old.passes new.passes (is_down_end answer) (λ own. own.stage ≡ 0)
-begun_down code frame framed (Released y) old new loaded h = record {
+abbrev HasBegunDown : Bool → PassState → Type 0
+HasBegunDown bit own = (own.stage ≡ 0) × GoesBy bit own
+
+begun_down : (code : Code) (frame : List ℕ) (framed : IsFrame 2 code.down frame) (answer : DownAnswer) (bit : Bool) (old new : PortState) → old.code ≡ Some code → BitIs bit old → BeginsDown (down_end_of answer) frame old new
+    → Left false framed.number old.passes new.passes (is_down_end answer) (HasBegunDown bit)
+begun_down code frame framed (Released y) bit old new loaded by h = record {
   others = others_down framed.number old.passes new.passes h.pre (h.others code loaded framed.number framed.port framed.values framed.packet framed.is);
   gone = λ g. h.pass code loaded framed.number framed.port framed.values framed.packet framed.is;
   new = λ g. absurd (true≢false g);
 }
-begun_down code frame framed GoingDown old new loaded h = record {
+begun_down code frame framed GoingDown bit old new loaded by h = record {
   others = others_down framed.number old.passes new.passes h.pre (h.others code loaded framed.number framed.port framed.values framed.packet framed.is);
   gone = λ g. absurd (false≢true g);
-  new = λ g. let p = h.pass code loaded framed.number framed.port framed.values framed.packet framed.is in (p.0, p.1, p.2.stage);
+  new = λ g. let p = h.pass code loaded framed.number framed.port framed.values framed.packet framed.is in
+      (p.0, p.1, (p.2.stage, enters_by (post_staging code) (IsHandedDown code framed.values (record { port = framed.port; bytes = framed.packet })) (record { port = framed.port; bytes = framed.packet }) old.told p.0.told bit p.2.told by));
 }
 
 -- ## What the state's passes are
@@ -115,7 +141,7 @@ passes_staged a w j p = elim (cases_Bool (leb p.left 1)) [ inl t ↦ rw t (passe
 module _ (setup : Setup) (packets : List Packet) where
   -- a pass enters
   enters : (xs : List Pass) (p : Pass) (u w : UnderWay) (IsNew : PassState → Type 0) → Left p.pre p.number u w (eqb p.left 0) IsNew → passes_of p.pre u p.number ≡ None → p.left ≡ highest_of p.pre setup
-      → ((own : PassState) → IsNew own → (own.stage ≡ 0) × (p.pre ≡ true → own.packet ≡ packet_at packets p.number))
+      → ((own : PassState) → IsNew own → (own.stage ≡ 0) × (p.pre ≡ true → own.packet ≡ packet_at packets p.number) × GoesBy p.bit own)
       → OnList setup packets xs u → OnList setup packets (if p.left == 0 then xs else xs ++ p ∷ []) w
   enters xs p u w IsNew left none all news on = elim (cases_Bool (eqb p.left 0)) [
     | inl t ↦ rw t (same_on setup packets xs u w (all_same setup packets p.pre p.number u w left.others (left.gone t ∙ sym none)) on)
@@ -125,6 +151,7 @@ module _ (setup : Setup) (packets : List Packet) where
           own = found.0;
           there = found.1;
           packet = is.1;
+          bit = is.2;
           left = let z = is.0 in omega arith;
           some = let d = eqb-false p.left 0 t in positive p.left d;
         } in
@@ -146,6 +173,7 @@ module _ (setup : Setup) (packets : List Packet) where
           own = found.0;
           there = found.1;
           packet = λ pre. found.2.0 ∙ is.packet pre;
+          bit = found.2.2 p.bit is.bit;
           left = let z = found.2.1 in let y = is.left in omega arith;
           some = omega arith;
         } in
@@ -160,7 +188,7 @@ there_at (x ∷ xs) (suc j) h = there_at xs j (omega arith)
 -- ## An event
 
 module _ (setup : Setup) (s : SplitProgram) (packets : List Packet) (calls one : List Call) (a : Answers) (code : Code) (parts : Parts) (st : State) (old new : PortState)
-    (plain : setup.fine ≡ false → (setup.pre_stages ≡ 0) × (setup.post_stages ≡ 0))
+    (bit : BitIs (bit_behind st.batches st.done) old) (plain : setup.fine ≡ false → (setup.pre_stages ≡ 0) × (setup.post_stages ≡ 0))
     (loaded : old.code ≡ Some code) (places : HavePlaces st) (on : OnList setup packets st.passes old.passes) (called : WasCalled code one old new) where
   abbrev w : State
   w = tick st
@@ -184,8 +212,8 @@ module _ (setup : Setup) (s : SplitProgram) (packets : List Packet) (calls one :
       subst (λ l. OnList setup packets l new.passes) (sym (passes_entered a (came w) p))
       (kept_on mid xs made.3 (elim (cases_Bool setup.fine) [
         | inl t ↦ let begun = subst (λ b. WasMade (CalledUp b n packet u.answer) old mid) t made.2 in
-            let left = subst (λ b. Left true n old.passes mid.passes b (HasBegun packet)) u.ended (begun_up code n packet u.answer old mid loaded begun.1) in
-            enters setup packets st.passes p old.passes mid.passes (HasBegun packet) left begun.0 refl (λ own is. (is.1, λ z. is.0)) on
+            let left = subst (λ b. Left true n old.passes mid.passes b (HasBegun packet p.bit)) u.ended (begun_up code n packet u.answer p.bit old mid loaded bit begun.1) in
+            enters setup packets st.passes p old.passes mid.passes (HasBegun packet p.bit) left begun.0 refl (λ own is. (is.1, λ z. is.0, is.2)) on
         | inr t ↦ let passed = subst (λ b. WasMade (CalledUp b n packet u.answer) old mid) t made.2 in
             let none = (plain t).0 in
             rw none (subst (OnList setup packets st.passes) (sym passed.kept.passes) on)
@@ -229,9 +257,9 @@ module _ (setup : Setup) (s : SplitProgram) (packets : List Packet) (calls one :
         | inl t ↦ let begun = subst (λ b. WasMade (CalledDown b n frame q.answer) old mid) t made.2 in
             let none_of_frame = subst (λ o. IfSome o (λ c. OfItsParts c frame (λ m packet values. old.passes.post m ≡ None))) loaded begun.0 in
             let none : old.passes.post n ≡ None = subst (λ m. old.passes.post m ≡ None) number (none_of_frame framed.number framed.port framed.values framed.packet framed.is) in
-            let by_frame = subst (λ b. Left false framed.number old.passes mid.passes b (λ own. own.stage ≡ 0)) q.ended (begun_down code frame framed q.answer old mid loaded begun.1) in
-            let left = subst (λ m. Left false m old.passes mid.passes (eqb setup.post_stages 0) (λ own. own.stage ≡ 0)) number by_frame in
-            enters setup packets st.passes p old.passes mid.passes (λ own. own.stage ≡ 0) left none refl (λ own is. (is, λ z. absurd (false≢true z))) on
+            let by_frame = subst (λ b. Left false framed.number old.passes mid.passes b (HasBegunDown p.bit)) q.ended (begun_down code frame framed q.answer p.bit old mid loaded bit begun.1) in
+            let left = subst (λ m. Left false m old.passes mid.passes (eqb setup.post_stages 0) (HasBegunDown p.bit)) number by_frame in
+            enters setup packets st.passes p old.passes mid.passes (HasBegunDown p.bit) left none refl (λ own is. (is.0, λ z. absurd (false≢true z), is.1)) on
         | inr t ↦ let passed = subst (λ b. WasMade (CalledDown b n frame q.answer) old mid) t made.2 in
             let none = (plain t).1 in
             rw none (subst (OnList setup packets st.passes) (sym passed.kept.passes) on)

@@ -21,7 +21,7 @@ ghost use Rattle.replay_contracts.specs.Replay.{HasDrained, HasPicked, IsLoaded,
 use replay_state::{
     a_packet_is_fast_by_what_is_seen, a_quiet_switch_has_the_newest_tables,
     a_run_is_answered_by_its_calls, a_told_step_keeps_the_tie, commands_are_applied_in_order,
-    drain_ends, every_run_serialises, lookups_see_one_version, passes_with_no_stages_end_at_once,
+    drain_ends, every_run_serialises, lookups_see_one_version,
     whole_runs_are_sound,
 };
 use split_answers::{
@@ -145,5 +145,4 @@ pub fn a_journal_determines_its_replay()
     a_run_is_answered_by_its_calls();
     frames_are_told_by_place();
     frames_do_what_packets_do();
-    passes_with_no_stages_end_at_once();
 }

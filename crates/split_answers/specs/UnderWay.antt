@@ -39,6 +39,8 @@ pub record IsOnSwitch (setup : Setup) (packets : List Packet) (passes : UnderWay
   pub own : PassState
   pub there : passes_of pass.pre passes pass.number ≡ Some own
   pub packet : pass.pre ≡ true → own.packet ≡ packet_at packets pass.number
+  -- where it is told, it goes by the bit that stood at its entry
+  pub bit : (told : ToldPass) → own.told ≡ Some told → told.bit ≡ pass.bit
   pub left : own.stage + pass.left ≡ highest_of pass.pre setup
   pub some : 0 < pass.left
 

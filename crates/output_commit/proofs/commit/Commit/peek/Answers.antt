@@ -28,8 +28,8 @@ command_at-requires-clause-within c =
     let same = ap length (c.of.ensures ∙ ap (λ us. (batch_in us c.pass-step.result.0).updates) c.as_slice.ensures.value) in
     omega arith
 
-pub returns-clause : goal.returns-clause
-returns-clause c =
+pub returns : goal.returns
+returns c =
     let less = less_by c.self.invariant.done_within c.if-self.false in
     let here = next_stands _ _ _ _ _ _ _ _ _ _ c.pass-step.result c.self.invariant less c.begun.ensures c.pass-step.ensures.stands in
     let is = command_is c.self.inside.batches c.self.inside.done c.pass-step.result.0 c.pass-step.result.1 c.self.invariant.kept here in

@@ -15,7 +15,7 @@ step-requires-clause-events g c = few_drained _ c.loop-event.count c.args.self.n
 
 pub step-requires-clause-room : goal.step-requires-clause-room
 step-requires-clause-room g c =
-    drain_room c.the_next_command_finds_room.ensures _ c.loop-event.count c.args.self.now c.loop-event.self _ _ c.requires.on_its_way c.loop-event.invariant.0
+    drain_room c.the_next_calls_may_be_made.ensures _ c.loop-event.count c.args.self.now c.loop-event.self _ _ c.requires.on_its_way c.loop-event.invariant.0
 
 pub loop-event-smaller : goal.loop-event-smaller
 loop-event-smaller g c =

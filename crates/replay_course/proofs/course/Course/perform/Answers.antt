@@ -9,7 +9,7 @@ use Rattle.replay_course.proofs.Failing.{fails_behind, goes_gone}
 use Rattle.replay_course.proofs.course.Course.perform.Goals as goal
 
 pub step-requires-clause-room : goal.step-requires-clause-room
-step-requires-clause-room g c = room_by c.the_next_command_finds_room.ensures _ _ c.loop-event.self _ _ c.loop-event.invariant
+step-requires-clause-room g c = room_by c.the_next_calls_may_be_made.ensures _ _ c.loop-event.self _ _ c.loop-event.invariant
 
 pub loop-event-preserved : goal.loop-event-preserved
 loop-event-preserved g c =

@@ -1,5 +1,5 @@
 use Rattle.replay_course.proofs.Room.{finds_room}
-use Rattle.replay_course.proofs.laws.the_next_command_finds_room.Goals as goal
+use Rattle.replay_course.proofs.laws.the_next_calls_may_be_made.Goals as goal
 
 pub returns : goal.returns
 returns c =
