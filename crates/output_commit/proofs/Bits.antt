@@ -106,9 +106,13 @@ bit_whole us =
 
 -- ## Among batches
 
+take_none : (n : ℕ) → take {A = Command} n [] ≡ []
+take_none zero = refl
+take_none (suc n) = refl
+
 bit_spans : (us : List Update) (spans : List Span) (batch step : ℕ) → AreFull us spans → IsIn spans (record { batch = batch; step = step })
     → bit_through false (take (total (take batch spans) + step) (commands_in (map (batch_in us) spans))) ≡ bit_at spans (record { batch = batch; step = step })
-bit_spans us [] zero step full is = refl
+bit_spans us [] zero step full is = ap (bit_through false) (take_none (0 + step))
 bit_spans us [] (suc batch) step full is = let b = is.batch in absurd (omega arith)
 bit_spans us (s ∷ ss) zero step full is =
     let own = (batch_in us s).updates in

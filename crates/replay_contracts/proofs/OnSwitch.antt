@@ -4,7 +4,7 @@ use Rattle.std.specs.Prelude.{slice_get, remove}
 use Rattle.std.proofs.lemmas.Bool.{cases_eq, cases_lt}
 use Rattle.std.proofs.lemmas.Option.{same_Some, none-some}
 use Rattle.packet_fields.specs.declared.packet.Packet.{Packet}
-use Rattle.switch_ir.specs.UnderWay.{PassState, UnderWay}
+use Rattle.switch_ir.specs.UnderWay.{PassState, UnderWay, none_under_way}
 use Rattle.replay_state.specs.Answers.{Setup}
 use Rattle.replay_state.specs.State.{Pass, State}
 use Rattle.split_answers.specs.UnderWay.{AreOnSwitch, IsOnSwitch, passes_of}
@@ -194,3 +194,14 @@ module _ (setup : Setup) (packets : List Packet) where
           other (sym r.3 ∙ ap (λ (z : Pass). z.pre) is) (sym r.4 ∙ ap (λ (z : Pass). z.number) is) in
           let left = is_left xs j r.0 r.1 r.2 apart in
           (left.0, r.1, left.1, r.3, r.4)
+
+  -- none are under way
+  no_pass : (pre : Bool) (n : ℕ) (own : PassState) → passes_of pre none_under_way n ≡ Some own → ⊥
+  no_pass true n own e = cc
+  no_pass false n own e = cc
+
+  pub none_on : OnList [] none_under_way
+  none_on = record { each = λ j p e. absurd (no_place j p e); only = λ pre n own e. absurd (no_pass pre n own e) }
+    where
+      no_place : (j : ℕ) (p : Pass) → slice_get [] j ≡ Some p → ⊥
+      no_place j p e = cc

@@ -4,9 +4,8 @@ use Rattle.packet_fields.specs.declared.packet.Packet.{Packet}
 use Rattle.packet_fields.specs.Sizes.{largest_packet}
 use Rattle.flat_ir.specs.Blocks.{Reading}
 use Rattle.transfer_header.specs.Registers.{Registers}
-use Rattle.switch_ir.specs.Code.{code_of}
+use Rattle.switch_ir.specs.Code.{code_of, Code}
 use Rattle.switch_ir.specs.declared.code.Pass.{Pass}
-use Rattle.switch_ir.specs.declared.code.SwitchCode.{SwitchCode}
 use Rattle.switch_ir.specs.Staged.{post_staging, IsEntered, IsStaged, Staging}
 use Rattle.switch_ir.specs.Tables.{seen_tables, view_of, Told}
 use Rattle.switch_machine.specs.declared.flight.Flight.{Flight}
@@ -62,6 +61,6 @@ pub begun_by : (a b : Loaded) → StaysLoaded a b → (given other : Reading) (n
     → HasBegun b.code.post (post_staging (code_of b.code)) b.post_numbering given number packet told f
     → HasBegun a.code.post (post_staging (code_of a.code)) a.post_numbering other n q told f
 begun_by a b same given other number n packet q told f given_is number_is packet_is h =
-    let P : SwitchCode × List ValueRange × Reading × ℕ × Packet → Type 0 =
-    λ (code, ranges, reads, m, r). HasBegun code.post (post_staging (code_of code)) ranges reads m r told f in
-    subst P (λ i. (same.0 i, same.2 i, given_is i, number_is i, packet_is i)) h
+    let P : Pass × Code × List ValueRange × Reading × ℕ × Packet → Type 0 =
+    λ (pass, code, ranges, reads, m, r). HasBegun pass (post_staging code) ranges reads m r told f in
+    subst P (λ i. (same.1 i, same.2 i, same.4 i, given_is i, number_is i, packet_is i)) h

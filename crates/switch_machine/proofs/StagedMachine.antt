@@ -55,8 +55,8 @@ has_gone_on pass p ranges told old new h = record {
 -- code that is the same shows the same
 pub stays_under : (a b : Loaded) (xs ys : List Flight) → StaysLoaded a b → under_way (Some b) xs ys ≡ under_way (Some a) xs ys
 stays_under a b xs ys same = λ i. record {
-  pre = passes_in (pre_staging (code_of (same.0 i))) (same.1 i) xs;
-  post = passes_in (post_staging (code_of (same.0 i))) (same.2 i) ys;
+  pre = passes_in (pre_staging (same.2 i)) (same.3 i) xs;
+  post = passes_in (post_staging (same.2 i)) (same.4 i) ys;
 }
 
 module _ (l : Loaded) (xs ys : List Flight) (n : ℕ) where

@@ -53,7 +53,8 @@ under_way (Some l) arriving leaving = record {
 -- the code, and where its values stand, are the same
 abbrev pub StaysLoaded : Loaded → Loaded → Type 0
 StaysLoaded old new =
-    (new.code ≡ old.code) × (new.pre_numbering ≡ old.pre_numbering) × (new.post_numbering ≡ old.post_numbering)
+    (new.code.pre ≡ old.code.pre) × (new.code.post ≡ old.code.post) × (code_of new.code ≡ code_of old.code)
+    × (new.pre_numbering ≡ old.pre_numbering) × (new.post_numbering ≡ old.post_numbering)
 
 -- ## What holds of them
 
@@ -65,9 +66,9 @@ pub record IsFlightOf (pass : Pass) (f : Flight) : Type 0 where
   pub below : f.stage < pass.highest
 
 -- those of the code that is loaded
-pub record AreFlightsOf (l : Loaded) (arriving leaving : List Flight) : Type 0 where
-  pub arriving : Each (IsFlightOf l.code.pre) arriving
-  pub leaving : Each (IsFlightOf l.code.post) leaving
+pub record AreFlightsOf (l : Loaded) (up down : List Flight) : Type 0 where
+  pub arriving : Each (IsFlightOf l.code.pre) up
+  pub leaving : Each (IsFlightOf l.code.post) down
 
 abbrev pub AreReadyIn : Option Loaded → List Flight → List Flight → Type 0
 AreReadyIn loaded arriving leaving = (l : Loaded) → loaded ≡ Some l → AreFlightsOf l arriving leaving

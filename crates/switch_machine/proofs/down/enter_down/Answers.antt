@@ -34,7 +34,9 @@ returns-clause-begun c number port values packet frame_is =
     ∙ ap (down_given code values) packet_is in
     let begins = subst (λ (x : Code). BeginsWith given_to.post_numbering (begins_down given_to.post_numbering x) given given_to.down.registers)
     (sym c.give.ensures.code) c.give.ensures.begins in
-    let stays = (c.give.ensures.stays.0 ∙ c.unpack-head.ensures.stays.0, c.give.ensures.stays.1 ∙ c.unpack-head.ensures.stays.1, c.give.ensures.stays.2 ∙ c.unpack-head.ensures.stays.2) in
+    let one = c.unpack-head.ensures.stays in
+    let two = c.give.ensures.stays in
+    let stays = (two.0 ∙ one.0, two.1 ∙ one.1, two.2 ∙ one.2, two.3 ∙ one.3, two.4 ∙ one.4) in
     ok_weaker (HasBegun given_to.code.post (post_staging (code_of given_to.code)) given_to.post_numbering given head.number arrived told)
     (HasBegun first.code.post (post_staging code) first.post_numbering other number packet_too told) c.begin.result
     (λ f h. begun_by first given_to stays given other head.number number arrived packet_too told f given_is same.same_number packet_is h)
