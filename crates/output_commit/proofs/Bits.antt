@@ -154,7 +154,7 @@ bit_placed b sent done acked left applied known v a c =
     let all = c.all in
     let d = c.done_within in
     sym (
-      ap (bit_through false) (front_commands us (begun_in b) (drop b.next b.spans.items) done full (omega arith))
-      ∙ ap (λ n. bit_through false (take n (commands_in (map (batch_in us) (begun_in b))))) (sym c.applied_at.passed)
-      ∙ bit_spans us (begun_in b) applied.batch applied.step full c.applied_at.within
+    ap (bit_through false) (front_commands us (begun_in b) (drop b.next b.spans.items) done full (omega arith))
+    ∙ ap (λ n. bit_through false (take n (commands_in (map (batch_in us) (begun_in b))))) (sym c.applied_at.passed)
+    ∙ bit_spans us (begun_in b) applied.batch applied.step full c.applied_at.within
     )

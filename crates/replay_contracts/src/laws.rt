@@ -26,9 +26,8 @@ use replay_state::{
 };
 use split_answers::{
     a_switch_that_tells_its_tables_tells_right, a_told_command_goes_through,
-    a_told_pass_in_stages_is_right,
-    frames_do_what_packets_do, quiet_tables_are_the_stores, split_programs_have_their_laws,
-    told_rows_are_the_visible_stores, told_tables_start,
+    a_told_pass_in_stages_is_right, frames_do_what_packets_do, quiet_tables_are_the_stores,
+    split_programs_have_their_laws, told_rows_are_the_visible_stores, told_tables_start,
 };
 use transfer_header::frames_are_told_by_place;
 

@@ -86,12 +86,6 @@ impl Course {
         let store = Store::new(alloc, &job.flat.objects)?;
         let server = Server::new(alloc, &job.flat, &job.split, store)?;
         let (pre_stages, post_stages) = stages_in(job.fine, &code);
-        Ok(Course::new(
-            alloc,
-            server,
-            job.writeback,
-            pre_stages,
-            post_stages,
-        ))
+        Ok(Course::new(alloc, server, job.writeback, pre_stages, post_stages))
     }
 }
