@@ -6,7 +6,8 @@ ghost use Rattle.run_model.specs.declared.event.Event.{Event};
 ghost use Rattle.run_model.specs.declared.event.Event.TheVariants as event;
 ghost use Rattle.replay_state.specs.Answers.{Answers, Setup};
 ghost use Rattle.replay_state.specs.Journal.{Call, DownAnswer, UpAnswer, asked, asks_command, down_answer, journal};
-ghost use Rattle.replay_state.specs.Journal.{down_end as down_ended, is_down_end, is_up_end, up_answer, up_end as up_ended};
+ghost use Rattle.replay_state.specs.Journal.{down_end as down_ended, is_down_end, is_up_end, up_answer};
+ghost use Rattle.replay_state.specs.Journal.{up_end as up_ended};
 ghost use Rattle.replay_state.specs.Program.{SplitProgram};
 ghost use Rattle.replay_state.specs.State.{State, first_state};
 ghost use Rattle.replay_state.specs.Step.{applies, came, pass_of, step, tick, waits};
@@ -33,8 +34,8 @@ use std::collections::VecDeque;
 use switch_ir::{DownEnd, UpEnd};
 use writeback_table::Command;
 
-/// The passes under way, the server, the frames on their way, the held outputs with the commands, and how far each packet
-/// has come.
+/// The passes under way, the server, the frames on their way, the held outputs with the commands, and how far each
+/// packet has come.
 #[derive(Debug, Drop)]
 pub struct Course {
     /// How many stages a pass has left where it enters before the server, and behind it.

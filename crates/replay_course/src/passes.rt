@@ -63,8 +63,8 @@ impl Course {
         requires going { IsGoing (given_of job.now) self.old (S.seen port.old) }
         requires events { self.old.events < 2 ^ 32 - 1 }
         requires may_call { MayCall (given_of job.now) self.old (S.seen port.old) }
-        ensures turned { OnOk result (HasTurned (given_of job.now) (event.Stage j) Stepped.Did self.old (S.seen port.old)
-            self.new (S.seen port.new)) }
+        ensures turned { OnOk result (HasTurned (given_of job.now) (event.Stage j) Stepped.Did self.old
+            (S.seen port.old) self.new (S.seen port.new)) }
         ensures fails { IfErr result (λ e. Fails e (S.seen port.old) (S.seen port.new)) }
     {
         self.events += 1;
@@ -94,8 +94,8 @@ impl Course {
         requires going { IsGoing (given_of job.now) self.old (S.seen port.old) }
         requires events { self.old.events < 2 ^ 32 - 1 }
         requires may_call { MayCall (given_of job.now) self.old (S.seen port.old) }
-        ensures turned { OnOk result (HasTurned (given_of job.now) (event.Stage j) Stepped.Did self.old (S.seen port.old)
-            self.new (S.seen port.new)) }
+        ensures turned { OnOk result (HasTurned (given_of job.now) (event.Stage j) Stepped.Did self.old
+            (S.seen port.old) self.new (S.seen port.new)) }
         ensures fails { IfErr result (λ e. Fails e (S.seen port.old) (S.seen port.new)) }
     {
         self.events += 1;
