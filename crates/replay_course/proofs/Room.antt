@@ -1,8 +1,8 @@
 -- The next command finds room, where the tables are told.
-use Rattle.std.proofs.Common.{◌≡◌, ℕ, zero, suc, Bool, true, false, List, [], ◌∷◌, Option, Some, None, inl, inr, length, refl, sym, ap, subst, ◌∙◌}
+use Rattle.std.proofs.Common.{◌≡◌, ℕ, zero, suc, Bool, true, false, List, [], ◌∷◌, Option, Some, None, inl, inr, length, map, arith, refl, sym, ap, subst, ◌∙◌}
 use Rattle.std.proofs.lemmas.Bool.{cases_Bool, or_parts}
 use Rattle.std.proofs.lemmas.List.{length-map}
-use Rattle.std.proofs.lemmas.Option.{same_Some, none-some}
+use Rattle.std.proofs.lemmas.Option.{same_Some, none-some, slice_get_within}
 use Rattle.std.specs.List.{list_any}
 use Rattle.std.specs.Prelude.{slice_get, IfSome}
 use Rattle.std.specs.List.{AllByRecursion as Each}
@@ -15,15 +15,20 @@ use Rattle.writeback_table.specs.declared.command.Command.{Command}
 use Rattle.writeback_table.specs.Commands.{pair_through, room_for}
 use Rattle.run_model.specs.declared.event.Event.{Event}
 use Rattle.switch_ir.specs.Emitted.{emitted}
-use Rattle.switch_ir.specs.Port.{PortState, HasNoUpPass, HasRoomFor, IsCommandOf}
+use Rattle.switch_ir.specs.Port.{PortState, HasNoUpPass, HasRoomFor, IsCommandOf, OfItsParts}
 use Rattle.switch_ir.specs.UnderWay.{PassState, ToldPass}
 use Rattle.writeback_table.specs.Views.{disturbs}
 use Rattle.output_commit.specs.Commit.{next as next_command}
 use Rattle.split_answers.specs.UnderWay.{passes_of}
+use Rattle.split_model.specs.declared.layout.Crossing.{Crossing}
+use Rattle.transfer_header.specs.Frames.{IsFrameOf}
+use Rattle.transfer_header.specs.Told.{IsToldByPlace, number_in}
+use Rattle.replay_state.specs.Carried.{Carried, Member}
+use Rattle.replay_state.specs.Told.{HasFrames}
 use Rattle.replay_state.specs.Places.{HavePlaces}
 use Rattle.switch_ir.specs.Tables.{Told, has_room_in}
 use Rattle.replay_state.specs.Answers.{Answers, Setup}
-use Rattle.replay_state.specs.Journal.{Call}
+use Rattle.replay_state.specs.Journal.{Call, HasGoneUp, IsNumbered, SentUp, down_frame, frame_in, over_in, up_answer}
 use Rattle.replay_state.specs.Program.{IsSplitProgram, Manner, SplitProgram, plain, setup_of}
 use Rattle.replay_state.specs.Sound.{AreSound}
 use Rattle.output_commit.specs.Batches.{commands_in}
@@ -32,11 +37,12 @@ use Rattle.replay_state.specs.Step.{state_of, waits}
 use Rattle.replay_state.specs.Tables.{IsSeen}
 use Rattle.split_answers.specs.Through.{IsThrough, first_pair}
 use Rattle.split_answers.specs.Whole.{IsSplit, whole_of}
-use Rattle.replay_contracts.specs.Given.{Given, setup_for, whole, whole_runs}
+use Rattle.replay_contracts.specs.Given.{Given, code_for, setup_for, whole, whole_runs}
 use Rattle.replay_contracts.specs.Replay.{IsReplay}
 use Rattle.replay_course.specs.declared.course.Course.{Course}
 use Rattle.replay_course.specs.Going.{IsGoing, MayCall, ready_next, unless_waits}
 use Rattle.replay_course.specs.Shown.{IsShown}
+use Rattle.replay_course.proofs.Travelling.{down_at}
 use Rattle.replay_course.proofs.Turning.{next_at, next_named}
 
 abbrev pub SplitLaws : Type 0
@@ -59,8 +65,9 @@ RoomLaw = (f : Program) (split : List Part) (writeback : ℕ) (commands : List C
 pub is_split_program : SplitLaws → (x : Given) (c : Course) (port : PortState) → IsGoing x c port → IsSplitProgram (whole x) x.packets
 is_split_program law x c port going = law x.program x.split x.writeback x.packets going.prepared.ready.split going.prepared.ready.arrivals
 
-abbrev PlacesLaw : Type 0
-PlacesLaw = (setup : Setup) (a : Answers) (events : List Event) → HavePlaces (state_of setup a events)
+abbrev Parts : Type 0
+Parts = (kind : ℕ) (layout : List Crossing) (number port : ℕ) (values : Crossing → ℕ) (packet frame : List ℕ)
+    → IsFrameOf kind layout number port values packet frame → IsToldByPlace layout number port packet frame
 
 -- ## What need not wait
 
@@ -75,6 +82,11 @@ none_at : (test : Pass → Bool) (passes : List Pass) (j : ℕ) (p : Pass) → l
 none_at test [] j p e at = cc
 none_at test (q ∷ passes) zero p e at = subst (λ r. test r ≡ false) (same_Some _ _ at) (or_parts (test q) (list_any test passes) e).0
 none_at test (q ∷ passes) (suc j) p e at = none_at test passes j p (or_parts (test q) (list_any test passes) e).1 at
+
+get_member : {X : Type 0} (xs : List X) (j : ℕ) (x : X) → slice_get xs j ≡ Some x → Member x xs
+get_member [] j x h = cc
+get_member (y ∷ ys) zero x h = inl (same_Some _ _ h)
+get_member (y ∷ ys) (suc j) x h = inr (get_member ys j x h)
 
 get_past : {X : Type 0} (xs : List X) → slice_get xs (length xs) ≡ None
 get_past [] = refl
@@ -127,3 +139,37 @@ module _ (x : Given) (events : List Event) (calls : List Call) (st : State) (c :
     none_behind i n here = none_by (port.passes.post n) (λ own there.
         let found = replay.passes.only false n own there in
         places.comes_once i found.0 n found.1 here found.2 found.3 found.4)
+
+    -- what comes down has the number of its packet
+    down_numbered : HasFrames (whole x) x.packets → ((n : ℕ) (frame : List ℕ) → up_answer calls n ≡ Some (SentUp frame) → IsNumbered (whole x) n frame) → Carried (HasGoneUp calls) st
+        → (j n : ℕ) → slice_get st.down j ≡ Some n → IsNumbered (whole x) n (down_frame (whole x) calls st n)
+    down_numbered frames numbered gone j n here =
+        let up = gone.down n (get_member st.down j n here) in
+        let held = places.down j n here in
+        let admitted = going.sound.within.admitted in
+        let count : length c.fates.items ≡ length st.progress = ap length shown.fates ∙ length-map st.progress fate_of in
+        let low = slice_get_within st.progress n held.4 in
+        subst (λ o. IsNumbered (whole x) n ((whole x).serve_down (over_in (slice_get st.progress n)) (frame_in o))) (sym up.1)
+        (frames.numbered n up.0 (over_in (slice_get st.progress n)) (omega arith) (numbered n up.0 up.1))
+
+    pub may_call : SplitLaws → SoundLaw → SeenLaw → RoomLaw → Parts → HasFrames (whole x) x.packets
+        → ((n : ℕ) (frame : List ℕ) → up_answer calls n ≡ Some (SentUp frame) → IsNumbered (whole x) n frame) → Carried (HasGoneUp calls) st → MayCall x c port
+    may_call split sound seen room parts frames numbered gone = record {
+      room = finds_room split sound seen room;
+      waits = λ command ready. record {
+        pre = λ n own told there is. undisturbed command ready true n own told there is;
+        post = λ n own told there is. undisturbed command ready false n own told there is;
+      };
+      arrives = arrives;
+      comes_down = λ j item here.
+          let at = down_at (whole x) calls st c shown j item here in
+          let frame_is = shown.down_frames j item here in
+          let number = subst (λ frame. number_in frame ≡ item.0) (sym frame_is) (down_numbered frames numbered gone j item.0 at) in (
+            subst (λ o. IfSome o (λ code. OfItsParts code item.1 (λ m packet values. port.passes.post m ≡ None))) (sym going.loaded)
+                (λ m p values packet framed.
+                let same : m ≡ item.0 = sym (parts 2 (code_for x).down m p values packet item.1 framed).numbered ∙ number in
+                subst (λ k. port.passes.post k ≡ None) (sym same) (none_behind j item.0 at)),
+            number,
+          );
+      under_way = λ j p at. replay.passes.each j p (ap (λ l. slice_get l j) (sym shown.passes) ∙ at);
+    }

@@ -15,10 +15,15 @@ ghost use Rattle.replay_course.specs.Going.{HasTurned, IsGoing, IsPrepared, MayC
 ghost use Rattle.replay_course.specs.Shown.{IsShown};
 ghost use Rattle.replay_course.specs.UnderWay.{course_left};
 
+use replay_contracts::frames_have_their_forms;
 use replay_state::{
-    a_run_is_answered_by_its_calls, drain_ends, lookups_see_one_version, whole_runs_are_sound,
+    a_run_is_answered_by_its_calls, drain_ends, lookups_see_one_version,
+    packets_are_where_they_are_told, whole_runs_are_sound,
 };
-use split_answers::{a_told_command_finds_room, split_programs_have_their_laws};
+use split_answers::{
+    a_told_command_finds_room, frames_do_what_packets_do, split_programs_have_their_laws,
+};
+use transfer_header::frames_are_told_by_place;
 
 /// The next calls of the port have what they ask for: a command finds room in the tables that are told, and disturbs no
 /// pass; and no pass is under way over a packet that comes in or down next.
@@ -30,6 +35,11 @@ pub fn the_next_calls_may_be_made()
     whole_runs_are_sound();
     lookups_see_one_version();
     a_told_command_finds_room();
+    a_run_is_answered_by_its_calls();
+    packets_are_where_they_are_told();
+    frames_are_told_by_place();
+    frames_do_what_packets_do();
+    frames_have_their_forms();
 }
 
 /// A trace of at most so many packets brings few commands, and few events end its run. An event leaves no more of
