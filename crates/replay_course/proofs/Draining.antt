@@ -23,7 +23,7 @@ use Rattle.replay_contracts.specs.Given.{Given, IsReady, code_for, setup_for, wh
 use Rattle.replay_contracts.specs.Replay.{HasDrained, HasPicked, IsReplay, answered}
 use Rattle.replay_contracts.specs.declared.job.Stepped.{Stepped}
 use Rattle.replay_course.specs.declared.course.Course.{Course}
-use Rattle.replay_course.specs.Going.{HasRoomNext, HasTurned, IsGoing, IsPrepared, IsSound}
+use Rattle.replay_course.specs.Going.{HasTurned, IsGoing, IsPrepared, IsSound, MayCall}
 use Rattle.replay_course.specs.Shown.{IsShown}
 use Rattle.replay_course.specs.UnderWay.{IsDrained, IsDraining, IsOnItsWay, course_left, picked_by}
 use Rattle.replay_course.proofs.Calling.{stays_all, stays_more}
@@ -224,7 +224,7 @@ left_falls split stays few falls x count event stepped c mid after old port new 
     subst (λ n. n < course_left x mid) (sym (left_is x (calls ++ t.one) _ after t.shown))
     (subst (λ n. events_left setup (step setup a on.last event) < n) (sym (left_is x calls on.last mid on.shown)) less)
 
-pub drain_room : FindsRoom → (x : Given) (count : ℕ) (c mid : Course) (old port : PortState) → IsOnItsWay x c old → IsDraining x count c old mid port → HasRoomNext mid port
+pub drain_room : FindsRoom → (x : Given) (count : ℕ) (c mid : Course) (old port : PortState) → IsOnItsWay x c old → IsDraining x count c old mid port → MayCall x mid port
 drain_room room x count c mid old port way draining =
     let on = draining.turns way.events way.under_way.calls way.under_way.st way.under_way.replay way.under_way.shown in
     room x (way.events ++ on.more) (way.under_way.calls ++ on.others) on.last mid port on.picked.replay on.shown draining.going

@@ -69,6 +69,10 @@ abbrev Parts : Type 0
 Parts = (kind : ℕ) (layout : List Crossing) (number port : ℕ) (values : Crossing → ℕ) (packet frame : List ℕ)
     → IsFrameOf kind layout number port values packet frame → IsToldByPlace layout number port packet frame
 
+abbrev pub FindsRoom : Type 0
+FindsRoom = (x : Given) (events : List Event) (calls : List Call) (st : State) (c : Course) (port : PortState)
+    → IsReplay x events calls st port → IsShown (whole x) calls st c → IsGoing x c port → MayCall x c port
+
 -- ## What need not wait
 
 pub is_ready : (passes : List Pass) (o : Option Command) (command : Command) → unless_waits passes o ≡ Some command → (o ≡ Some command) × (waits passes (Some command) ≡ false)

@@ -17,7 +17,7 @@ use Rattle.replay_contracts.specs.declared.job.Replayed.{Replayed}
 use Rattle.replay_contracts.specs.declared.job.ReplayError.{ReplayError}
 use Rattle.replay_contracts.specs.declared.job.Stepped.{Stepped}
 use Rattle.replay_course.specs.declared.course.Course.{Course}
-use Rattle.replay_course.specs.Going.{HasRoomNext, HasTurned, IsGoing}
+use Rattle.replay_course.specs.Going.{HasTurned, IsGoing, MayCall}
 use Rattle.replay_course.specs.Shown.{IsShown}
 use Rattle.replay_course.specs.UnderWay.{HasGone, IsDrained, IsOnItsWay, course_left}
 use Rattle.schedule_replay.specs.Replayer.{IsKept, IsPerforming, view_of}
@@ -44,7 +44,7 @@ LessLaw = (x : Given) (events : List Event) (event : Event) (stepped : Stepped) 
 
 abbrev pub FindsRoom : Type 0
 FindsRoom = (x : Given) (events : List Event) (calls : List Call) (st : State) (c : Course) (port : PortState)
-    → IsReplay x events calls st port → IsShown (whole x) calls st c → IsGoing x c port → HasRoomNext c port
+    → IsReplay x events calls st port → IsShown (whole x) calls st c → IsGoing x c port → MayCall x c port
 
 -- ## Lists of events
 
@@ -81,7 +81,7 @@ pub few_events : BoundLaw → (x : Given) (c : Course) (port : PortState) (steps
 few_events bound x c port steps failed stands none = let few = few_left bound x c port steps failed stands none in omega arith
 
 pub room_there : FindsRoom → (x : Given) (c : Course) (port : PortState) (steps : ℕ) (failed : Option ReplayError) → IsKept x c port steps failed
-    → failed ≡ None → HasRoomNext c port
+    → failed ≡ None → MayCall x c port
 room_there law x c port steps failed stands none =
     let u = (stands.performed none).under_way in
     law x stands.events u.calls u.st c port u.replay u.shown u.going
