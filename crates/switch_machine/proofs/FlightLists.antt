@@ -125,12 +125,15 @@ push_is (f ∷ fs) g n m same none =
 abbrev pub is_other : ℕ → Flight → Bool
 is_other n f = not (f.number == n)
 
+abbrev no_flight : Option Flight
+no_flight = None
+
+none_either : (b : Bool) → no_flight ≡ cond b no_flight no_flight
+none_either true = refl
+none_either false = refl
+
 pub removed_is : (fs : List Flight) (n m : ℕ) → flight_at (filter (is_other n) fs) m ≡ cond (n == m) None (flight_at fs m)
-removed_is [] n m = go (n == m)
-  where
-    go : (b : Bool) → None ≡ cond b None None
-    go true = refl
-    go false = refl
+removed_is [] n m = none_either (n == m)
 removed_is (f ∷ fs) n m = elim (cases_Bool (f.number == n)) [
   | inl here ↦ (
       let at = eqb-true f.number n here in
