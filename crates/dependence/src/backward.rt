@@ -11,7 +11,6 @@ ghost use Rattle.dependence.specs.Posted.{IsPostFrom};
 
 use crate::guard::guards;
 use crate::marks::Marks;
-use crate::operand::{fits_switch, is_field, is_mutable_look};
 use crate::uses::Uses;
 use flat_ir::{Flat, Instr};
 use gal_io::NoMemory;
@@ -23,7 +22,7 @@ fn may_be_post(f: &Flat, one: &Instr) -> bool
         && (not (is_mutable_look (program_of f.now) (work_of one.now.kind))
         && not (is_field (work_of one.now.kind)))) }
 {
-    fits_switch(one) && (!is_mutable_look(f, &one.kind) && !is_field(&one.kind))
+    one.fits_switch() && (!f.is_mutable_look(&one.kind) && !one.kind.is_field())
 }
 
 // Whether postprocessing has instruction `i`, by what it has of those behind it.

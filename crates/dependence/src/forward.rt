@@ -7,7 +7,7 @@ ghost use Rattle.flat_ir.specs.Sets.{IsPreClosed, IsCarriedClosed, IsGreatest};
 ghost use Rattle.dependence.specs.Marked.{are_marked};
 
 use crate::marks::Marks;
-use crate::operand::{fits_switch, has_needs, has_operands, is_mutable_look};
+use crate::operand::{has_needs, has_operands};
 use flat_ir::{Flat, Instr};
 use gal_io::NoMemory;
 use std::alloc::Global;
@@ -17,7 +17,7 @@ fn enters_pre(i: usize, k: usize, one: &Instr, pre: &Marks) -> bool
     ensures { result ≡ (nat_lt i k
         && (fits_switch (step_of one.now) && are_marked pre.now (needed (work_of one.now.kind)))) }
 {
-    i < k && (fits_switch(one) && has_needs(pre, &one.kind))
+    i < k && (one.fits_switch() && has_needs(pre, &one.kind))
 }
 
 // Whether the next instruction is carried, by what is carried so far.
@@ -26,7 +26,7 @@ fn enters_carried(i: usize, f: &Flat, one: &Instr, pre: &Marks, carried: &Marks)
         && (not (is_mutable_look (program_of f.now) (work_of one.now.kind))
         && are_marked carried.now (operands (work_of one.now.kind)))) }
 {
-    pre.at(i) && (!is_mutable_look(f, &one.kind) && has_operands(carried, &one.kind))
+    pre.at(i) && (!f.is_mutable_look(&one.kind) && has_operands(carried, &one.kind))
 }
 
 /// The greatest set that is closed for preprocessing, among the first `k` instructions. It takes one step an operand.

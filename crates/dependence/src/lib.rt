@@ -16,5 +16,4 @@ pub use forward::{carried_closure, pre_closure};
 pub use guard::guards;
 pub use laws::depths_are_least;
 pub use marks::{Depths, Marks};
-pub use operand::{fits_switch, is_field, is_mutable_look};
 pub use uses::Uses;

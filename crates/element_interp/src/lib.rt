@@ -10,4 +10,4 @@ mod value;
 
 pub use interp::run;
 pub use laws::stores_are_kept;
-pub use serial::{Served, run_all};
+pub use serial::{SerialRun, run_all};

@@ -15,7 +15,7 @@ use std::alloc::Global;
 
 /// What came of some packets, and what they left.
 #[derive(Drop)]
-pub struct Served {
+pub struct SerialRun {
     /// The verdict of each packet, in order.
     pub verdicts: Vec<Verdict>,
     /// The store behind the last one.
@@ -24,7 +24,7 @@ pub struct Served {
 
 /// Runs a middlebox on packets of at most 9,216 bytes, one after the other: the first from the store that runs start
 /// with, each other one from what the one before has left.
-pub fn run_all(alloc: Global, m: &Middlebox, packets: &[Packet]) -> Result<Served, NoMemory>
+pub fn run_all(alloc: Global, m: &Middlebox, packets: &[Packet]) -> Result<SerialRun, NoMemory>
     requires good { IsTrue (is_good (tree m.now)) }
     requires short { All (λ p. length p.bytes ≤ largest_packet) packets.now }
     ensures verdicts { IfOk result
@@ -41,5 +41,5 @@ pub fn run_all(alloc: Global, m: &Middlebox, packets: &[Packet]) -> Result<Serve
         verdicts.push(verdict)?;
         memory = locals;
     }
-    Ok(Served { verdicts, store })
+    Ok(SerialRun { verdicts, store })
 }

@@ -8,11 +8,11 @@ use Rattle.flat_ir.specs.declared.spans.Span.{Span}
 use Rattle.flat_ir.specs.Spans.{covers, overlap}
 
 -- rows from values to registers, and how many registers there are
-pub record Plan : Type 0 where
+pub record RegisterPlan : Type 0 where
   pub rows : Contents
   pub count : ℕ
 
-abbrev pub plan_code : Coded Plan
+abbrev pub plan_code : Coded RegisterPlan
 plan_code =
     code_by (Contents × ℕ) (coded× (map.code (coded_list coded_ℕ) (coded_list coded_ℕ)) coded_ℕ)
     (λ p. (p.rows, p.count)) (λ p. record { rows = p.0; count = p.1 }) (λ _. refl)
@@ -21,7 +21,7 @@ abbrev pub register_in : Contents → ℕ → Option ℕ
 register_in rows value = option_map (λ words. slice_index words 0) (map.get rows (value ∷ []))
 
 -- the register of a value, if it has one
-abbrev pub register_of : Plan → ℕ → Option ℕ
+abbrev pub register_of : RegisterPlan → ℕ → Option ℕ
 register_of plan value = register_in plan.rows value
 
 -- each register is below a number

@@ -1,11 +1,11 @@
 //! Kinds of instructions, their operands, and the results that they have.
 ghost use Rattle.std.specs.Prelude.{◌≡◌, ◌<◌, ◌≤◌, ◌++◌, List, length, slice_get, slice_index, Some};
 ghost use Rattle.state_store.specs.declared.object.ObjectDecl.{ObjectDecl as Declared};
-ghost use Rattle.flat_ir.specs.Kinds.{is_input, is_write, looks_at};
-ghost use Rattle.flat_ir.specs.Program.{work_of, operands, value_widths, result_widths, result_count};
+ghost use Rattle.flat_ir.specs.Kinds.{can_switch, fits_switch, is_field, is_input, is_mutable_look, is_write, looks_at};
+ghost use Rattle.flat_ir.specs.Program.{program_of, step_of, work_of, operands, value_widths, result_widths, result_count};
 
-use crate::program::{InstrKind, ValueId};
-use gal_bits::Width;
+use crate::program::{Flat, Instr, InstrKind, ValueId};
+use gal_bits::{Width, on_switch};
 use packet_fields::width;
 use state_store::ObjectDecl;
 
@@ -72,6 +72,28 @@ impl InstrKind {
         match self {
             InstrKind::Look { object: looked, .. } => *looked == object,
             _ => false,
+        }
+    }
+
+    /// Whether it reads a field of the packet.
+    pub fn is_field(&self) -> bool
+        ensures { result ≡ is_field (work_of self.now) }
+    {
+        match self {
+            InstrKind::Field(_) => true,
+            _ => false,
+        }
+    }
+
+    // Whether the switch has this kind of work.
+    fn can_switch(&self) -> bool
+        ensures { result ≡ can_switch (work_of self.now) }
+    {
+        match self {
+            InstrKind::Const(..) | InstrKind::Field(_) => true,
+            InstrKind::Apply { op, .. } => on_switch(*op),
+            InstrKind::Shift { .. } | InstrKind::Select { .. } | InstrKind::Look { .. } => true,
+            InstrKind::Byte(_) | InstrKind::Put { .. } | InstrKind::Del { .. } => false,
         }
     }
 
@@ -158,6 +180,27 @@ impl InstrKind {
         match self {
             InstrKind::Look { object, .. } => value_width(objects, *object, place - 1),
             _ => 0,
+        }
+    }
+}
+
+impl Instr {
+    /// Whether the switch can compute it: its kind is one of the switch's, and it stands in no repeat.
+    pub fn fits_switch(&self) -> bool
+        ensures { result ≡ fits_switch (step_of self.now) }
+    {
+        !self.looped && self.kind.can_switch()
+    }
+}
+
+impl Flat {
+    /// Whether work of this kind looks up rows that can change.
+    pub fn is_mutable_look(&self, kind: &InstrKind) -> bool
+        ensures { result ≡ is_mutable_look (program_of self.now) (work_of kind.now) }
+    {
+        match kind {
+            InstrKind::Look { object, .. } => !self.objects.is_constant(*object),
+            _ => false,
         }
     }
 }

@@ -2,7 +2,7 @@
 ghost use Rattle.std.specs.Prelude.{◌≡◌, ◌<◌, ◌≤◌, ◌↔◌, ◌^◌, ℕ, length, IfOk, IfSome, None};
 ghost use Rattle.std.specs.List.Sorted.{IsPermutation, IsNonDecreasingBy};
 ghost use Rattle.flat_ir.specs.Spans.{ValuesDiffer, AreWrittenFirst, spans_of};
-ghost use Rattle.flat_ir.specs.Plan.{Plan, register_in, register_of, AreBelow, AreFirst, AreApart, IsGreatestOverlap};
+ghost use Rattle.flat_ir.specs.Plan.{RegisterPlan, register_in, register_of, AreBelow, AreFirst, AreApart, IsGreatestOverlap};
 
 use crate::spans::{Span, Spans};
 use crate::taken::{Taken, take};
@@ -30,9 +30,9 @@ impl Debug for RegPlan {
 
 impl Model for RegPlan {
     ghost use Rattle.std.specs.Prelude.{◌<◌, ◌^◌};
-    ghost use Rattle.flat_ir.specs.Plan.{Plan, AreBelow, AreFirst, plan_code};
+    ghost use Rattle.flat_ir.specs.Plan.{RegisterPlan, AreBelow, AreFirst, plan_code};
 
-    ghost Value = { Plan };
+    ghost Value = { RegisterPlan };
 
     ghost coded = { plan_code };
 

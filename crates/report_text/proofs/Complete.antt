@@ -13,7 +13,7 @@ use Rattle.run_model.specs.declared.fate.Fate.{Fate}
 use Rattle.run_model.specs.declared.run.Part.{Part}
 use Rattle.run_model.specs.declared.run.Run.{Run}
 use Rattle.run_text.specs.Report.{name_in}
-use Rattle.report_text.specs.declared.head.Counts.{Counts}
+use Rattle.report_text.specs.declared.head.PacketCounts.{PacketCounts}
 use Rattle.report_text.specs.declared.head.EventCounts.{EventCounts}
 use Rattle.report_text.specs.declared.head.Versions.{Versions}
 use Rattle.report_text.specs.declared.stage.Side.{Side}
@@ -38,18 +38,18 @@ truth b h = h
 -- ---- the first lines
 
 -- behind them
-abbrev pub at_fates : Counts → EventCounts → Versions → Bool → List Fate → State
+abbrev pub at_fates : PacketCounts → EventCounts → Versions → Bool → List Fate → State
 at_fates c e v d fs =
     record { counts = c; events = e; versions = v; drained = d; fates = fs; order = []; server = []; switch = []; rows = []; stage = Fates }
 
-head_read : (declared : List ObjectDecl) (c : Counts) (e : EventCounts) (v : Versions) (d : Bool) (ls : List (List ℕ)) → AreCounts c → (eqb c.decided 0 || ltb 0 c.admitted) ≡ true → AreEvents e → AreVersions v
+head_read : (declared : List ObjectDecl) (c : PacketCounts) (e : EventCounts) (v : Versions) (d : Bool) (ls : List (List ℕ)) → AreCounts c → (eqb c.decided 0 || ltb 0 c.admitted) ≡ true → AreEvents e → AreVersions v
     → resume declared at_start (head_told c e v d ++ ls) ≡ resume declared (at_fates c e v d []) ls
 head_read declared c e v true ls hc can he hv = rw (counts_back c hc) (rw can (rw (events_back e he) (rw (versions_back v hv) refl)))
 head_read declared c e v false ls hc can he hv = rw (counts_back c hc) (rw can (rw (events_back e he) (rw (versions_back v hv) refl)))
 
 -- ---- packets
 
-fates_read : (declared : List ObjectDecl) (c : Counts) (e : EventCounts) (v : Versions) (d : Bool) (before fs : List Fate) (ls : List (List ℕ)) → AreCounts c → AllByRecursion IsFate fs → length before + length fs ≡ c.admitted
+fates_read : (declared : List ObjectDecl) (c : PacketCounts) (e : EventCounts) (v : Versions) (d : Bool) (before fs : List Fate) (ls : List (List ℕ)) → AreCounts c → AllByRecursion IsFate fs → length before + length fs ≡ c.admitted
     → resume declared (at_fates c e v d before) (fates_told (length before) fs ++ ls) ≡ resume declared (at_fates c e v d (before ++ fs)) ls
 fates_read declared c e v d before [] ls hc h total = ap (λ l. resume declared (at_fates c e v d l) ls) (sym (append-nil before))
 fates_read declared c e v d before (f ∷ fs) ls hc h total =
@@ -63,11 +63,11 @@ fates_read declared c e v d before (f ∷ fs) ls hc h total =
 
 -- ---- the order
 
-abbrev pub at_server : Counts → EventCounts → Versions → Bool → List Fate → List ℕ → List Part → ℕ → State
+abbrev pub at_server : PacketCounts → EventCounts → Versions → Bool → List Fate → List ℕ → List Part → ℕ → State
 at_server c e v d fs o ps n =
     record { counts = c; events = e; versions = v; drained = d; fates = fs; order = o; server = ps; switch = []; rows = []; stage = Server n }
 
-order_read : (declared : List ObjectDecl) (c : Counts) (e : EventCounts) (v : Versions) (d : Bool) (fs : List Fate) (o : List ℕ) (ls : List (List ℕ)) → AreCounts c → length fs ≡ c.admitted → length o ≡ c.decided → AreBelow c.admitted o
+order_read : (declared : List ObjectDecl) (c : PacketCounts) (e : EventCounts) (v : Versions) (d : Bool) (fs : List Fate) (o : List ℕ) (ls : List (List ℕ)) → AreCounts c → length fs ≡ c.admitted → length o ≡ c.decided → AreBelow c.admitted o
     → resume declared (at_fates c e v d fs) (order_told o ∷ ls) ≡ resume declared (at_server c e v d fs o [] 0) ls
 order_read declared c e v d fs o ls hc all many h =
     let done : ltb (length fs) c.admitted ≡ false = grind (arith, nat_tests, all) in
@@ -171,11 +171,11 @@ shown_same declared s st (Some x) = opened_same OnSwitch x.0 x.1 s st (slice_get
 switch_same : (declared : List ObjectDecl) (s : State) (st : Stage) (n : ℕ) (l : List ℕ) → switch_read declared (record s { stage = st }) n l ≡ switch_read declared s n l
 switch_same declared s st n l = ap (λ o. cond (bytes_eq l (codes "end")) (Some (record s { stage = Ended })) o) (shown_same declared s st (shown_from n (drop n declared) l))
 
-abbrev pub at_switch : Counts → EventCounts → Versions → Bool → List Fate → List ℕ → List Part → List Part → ℕ → State
+abbrev pub at_switch : PacketCounts → EventCounts → Versions → Bool → List Fate → List ℕ → List Part → List Part → ℕ → State
 at_switch c e v d fs o ps qs n =
     record { counts = c; events = e; versions = v; drained = d; fates = fs; order = o; server = ps; switch = qs; rows = []; stage = Switch n }
 
-gone_read : (declared : List ObjectDecl) (c : Counts) (e : EventCounts) (v : Versions) (d : Bool) (fs : List Fate) (o : List ℕ) (ps : List Part) (n : ℕ) (ls : List (List ℕ)) → kept_from n (drop n declared) ≡ []
+gone_read : (declared : List ObjectDecl) (c : PacketCounts) (e : EventCounts) (v : Versions) (d : Bool) (fs : List Fate) (o : List ℕ) (ps : List Part) (n : ℕ) (ls : List (List ℕ)) → kept_from n (drop n declared) ≡ []
     → resume declared (at_server c e v d fs o ps n) ls ≡ resume declared (at_switch c e v d fs o ps [] 0) ls
 gone_read declared c e v d fs o ps n [] none = refl
 gone_read declared c e v d fs o ps n (l ∷ ls) none =
@@ -188,7 +188,7 @@ part_begun declared word m count object is = ap (λ x. part_told word (name_in x
 tail_of : (xs ys : List ℕ) (m : ℕ) → m ∷ xs ≡ m ∷ ys → xs ≡ ys
 tail_of xs ys m e = ap (drop 1) e
 
-server_parts : (declared : List ObjectDecl) (k : AreKnown declared) (c : Counts) (e : EventCounts) (v : Versions) (d : Bool) (fs : List Fate) (o : List ℕ) (before ps : List Part) (n : ℕ) (ls : List (List ℕ)) → AllByRecursion (IsPart declared) ps → numbers_of ps ≡ kept_from n (drop n declared)
+server_parts : (declared : List ObjectDecl) (k : AreKnown declared) (c : PacketCounts) (e : EventCounts) (v : Versions) (d : Bool) (fs : List Fate) (o : List ℕ) (before ps : List Part) (n : ℕ) (ls : List (List ℕ)) → AllByRecursion (IsPart declared) ps → numbers_of ps ≡ kept_from n (drop n declared)
     → resume declared (at_server c e v d fs o before n) (parts_told (codes "object ") declared ps ++ ls) ≡ resume declared (at_switch c e v d fs o (before ++ ps) [] 0) ls
 server_parts declared k c e v d fs o before [] n ls h numbers =
     gone_read declared c e v d fs o before n ls (sym numbers) ∙ ap (λ ps. resume declared (at_switch c e v d fs o ps [] 0) ls) (sym (append-nil before))
@@ -215,7 +215,7 @@ server_parts declared k c e v d fs o before (p ∷ ps) n ls h numbers =
     ∙ server_parts declared k c e v d fs o (before ++ p ∷ []) ps (m + 1) ls h.1 later
     ∙ ap (λ l. resume declared (at_switch c e v d fs o l [] 0) ls) (append_assoc before (p ∷ []) ps)
 
-switch_parts : (declared : List ObjectDecl) (k : AreKnown declared) (c : Counts) (e : EventCounts) (v : Versions) (d : Bool) (fs : List Fate) (o : List ℕ) (server before ps : List Part) (n : ℕ) → AllByRecursion (IsPart declared) ps → AreInOrder n ps
+switch_parts : (declared : List ObjectDecl) (k : AreKnown declared) (c : PacketCounts) (e : EventCounts) (v : Versions) (d : Bool) (fs : List Fate) (o : List ℕ) (server before ps : List Part) (n : ℕ) → AllByRecursion (IsPart declared) ps → AreInOrder n ps
     → resume declared (at_switch c e v d fs o server before n) (parts_told (codes "switch ") declared ps ++ (codes "end" ∷ [])) ≡ Some (run_of (at_switch c e v d fs o server (before ++ ps) n))
 switch_parts declared k c e v d fs o server before [] n h order = ap (λ l. Some (run_of (at_switch c e v d fs o server l n))) (sym (append-nil before))
 switch_parts declared k c e v d fs o server before (p ∷ ps) n h order =

@@ -3,24 +3,24 @@ use Rattle.std.proofs.Common.{◌≡◌, ℕ, ◌≤◌, List, [], ◌++◌, Som
 use Rattle.std.specs.Prelude.{codes}
 use Rattle.std.specs.Fmt.{decimal}
 use Rattle.run_text.specs.Trace.{largest}
-use Rattle.report_text.specs.declared.head.Counts.{Counts}
+use Rattle.report_text.specs.declared.head.PacketCounts.{PacketCounts}
 use Rattle.report_text.specs.declared.head.EventCounts.{EventCounts}
 use Rattle.report_text.specs.declared.head.Versions.{Versions}
 use Rattle.report_text.specs.Parse.{counts_of, events_of, versions_of, labelled}
 use Rattle.report_text.proofs.Pieces.{bound, labelled_back, labelled_is, whole_is}
 
-abbrev pub counts_text : Counts → List ℕ
+abbrev pub counts_text : PacketCounts → List ℕ
 counts_text c =
     codes "packets " ++ (decimal c.total ++ (codes " admitted " ++ (decimal c.admitted
     ++ (codes " decided " ++ (decimal c.decided ++ (codes " released " ++ (decimal c.released ++ [])))))))
 
-pub record AreCounts (c : Counts) : Type 0 where
+pub record AreCounts (c : PacketCounts) : Type 0 where
   pub total : c.total ≤ largest
   pub admitted : c.admitted ≤ largest
   pub decided : c.decided ≤ largest
   pub released : c.released ≤ largest
 
-pub counts_back : (c : Counts) → AreCounts c → counts_of (counts_text c) ≡ Some c
+pub counts_back : (c : PacketCounts) → AreCounts c → counts_of (counts_text c) ≡ Some c
 unfolding counts_of
 counts_back c h =
     let r4 : List ℕ = [] in
@@ -34,11 +34,11 @@ counts_back c h =
       labelled_back largest c.released (codes " released ") r4 h.released (omega arith) refl,
     ) refl
 
-pub record HasCounts (line : List ℕ) (c : Counts) : Type 0 where
+pub record HasCounts (line : List ℕ) (c : PacketCounts) : Type 0 where
   pub are : AreCounts c
   pub is : line ≡ counts_text c
 
-pub counts_is : (line : List ℕ) (c : Counts) → counts_of line ≡ Some c → HasCounts line c
+pub counts_is : (line : List ℕ) (c : PacketCounts) → counts_of line ≡ Some c → HasCounts line c
 unfolding counts_of
 counts_is line c h =
     bound (labelled largest (codes "packets ") line) _ c h (λ t et ht.

@@ -10,7 +10,7 @@ use Rattle.state_store.specs.declared.object.Row.{Row}
 use Rattle.state_store.specs.Kept.{have_widths}
 use Rattle.run_model.specs.declared.fate.Fate.TheVariants.{Up}
 use Rattle.run_model.specs.declared.run.Run.{Run}
-use Rattle.report_text.specs.declared.head.Counts.{Counts}
+use Rattle.report_text.specs.declared.head.PacketCounts.{PacketCounts}
 use Rattle.report_text.specs.declared.head.EventCounts.{EventCounts}
 use Rattle.report_text.specs.declared.head.Versions.{Versions}
 use Rattle.report_text.specs.declared.stage.Side.{Side}
@@ -186,7 +186,7 @@ live_events declared k s e hc can =
 
 live_packets : (declared : List ObjectDecl) (k : AreKnown declared) (s : State) → s.stage ≡ Packets → IsLive declared s
 live_packets declared k s e =
-    let c : Counts = record { total = 0; admitted = 0; decided = 0; released = 0 } in
+    let c : PacketCounts = record { total = 0; admitted = 0; decided = 0; released = 0 } in
     let hc : AreCounts c = record { total = omega arith; admitted = omega arith; decided = omega arith; released = omega arith } in
     live_by declared s (record s { counts = c; stage = Events }) (counts_text c) Packets e (ap (counts_read s) (counts_back c hc))
     (live_events declared k (record s { counts = c; stage = Events }) refl hc (λ some. some))

@@ -19,7 +19,7 @@ use Rattle.run_model.specs.declared.fate.Fate.{Fate}
 use Rattle.run_model.specs.declared.fate.Fate.TheVariants.{Pass, Up, Held, Slow, Fast}
 use Rattle.run_text.specs.Printed.{lined}
 use Rattle.run_text.specs.Report.{body_text, key_text}
-use Rattle.report_text.specs.declared.head.Counts.{Counts}
+use Rattle.report_text.specs.declared.head.PacketCounts.{PacketCounts}
 use Rattle.report_text.specs.declared.head.EventCounts.{EventCounts}
 use Rattle.report_text.specs.declared.head.Versions.{Versions}
 use Rattle.report_text.specs.Form.{IsFate, IsVerdict, is_plain}
@@ -93,7 +93,7 @@ digits_told (d ∷ ds) rest some h = grind (arith, nat_tests, h)
 
 -- ---- the first lines
 
-pub counts_plain : (c : Counts) → AreCounts c → IsTold (counts_text c)
+pub counts_plain : (c : PacketCounts) → AreCounts c → IsTold (counts_text c)
 counts_plain c h = record {
   whole = number_plain c.total _ (omega (arith, h.total)) (number_plain c.admitted _ (omega (arith, h.admitted)) (number_plain c.decided _ (omega (arith, h.decided)) (number_plain c.released [] (omega (arith, h.released)) refl)));
   told = refl;

@@ -14,7 +14,7 @@ use Rattle.run_model.specs.declared.fate.Fate.{Fate}
 use Rattle.run_model.specs.declared.run.Part.{Part}
 use Rattle.run_model.specs.declared.run.Run.{Run}
 use Rattle.run_text.specs.Report.{name_in, report_of}
-use Rattle.report_text.specs.declared.head.Counts.{Counts}
+use Rattle.report_text.specs.declared.head.PacketCounts.{PacketCounts}
 use Rattle.report_text.specs.declared.stage.Stage.{Stage}
 use Rattle.report_text.specs.declared.stage.Stage.TheVariants.{Title, Packets, Events, Version, Drained, Fates, Server, Switch, Table, Ended}
 use Rattle.report_text.specs.Form.{InForm, IsFate, IsPart, IsRowOf, are_widths}
@@ -166,7 +166,7 @@ ended_told declared s f =
     let objects = parts_told (codes "object ") declared s.server in
     let shown = parts_told (codes "switch ") declared s.switch in
     let rest = fates_told 0 s.fates ++ (order_told s.order ∷ (objects ++ (shown ++ (codes "end" ∷ [])))) in
-    let c : ℕ → Counts = λ n. record { total = s.counts.total; admitted = n; decided = s.counts.decided; released = s.counts.released } in
+    let c : ℕ → PacketCounts = λ n. record { total = s.counts.total; admitted = n; decided = s.counts.decided; released = s.counts.released } in
     ap (λ l. head_told s.counts s.events s.versions s.drained ++ (fates_told 0 s.fates ++ (order_told s.order ∷ l))) (append_assoc objects shown (codes "end" ∷ []))
     ∙ ap (λ n. head_told (c n) s.events s.versions s.drained ++ rest) (sym f.0.admitted)
 

@@ -13,7 +13,7 @@ use Rattle.state_store.specs.Kinds.{is_table}
 use Rattle.state_store.specs.Store.{key_cmp}
 use Rattle.run_model.specs.declared.fate.Fate.{Fate}
 use Rattle.run_model.specs.declared.run.Part.{Part}
-use Rattle.report_text.specs.declared.head.Counts.{Counts}
+use Rattle.report_text.specs.declared.head.PacketCounts.{PacketCounts}
 use Rattle.report_text.specs.declared.stage.Side.{Side}
 use Rattle.report_text.specs.declared.stage.Side.TheVariants.{OnServer, OnSwitch}
 use Rattle.report_text.specs.declared.stage.Stage.{Stage}
@@ -111,7 +111,7 @@ pub record IsNew (s : State) : Type 0 where
   pub rows : s.rows ≡ []
 
 -- packets can be named on the order line, if any are to be
-abbrev pub CanOrder : Counts → Type 0
+abbrev pub CanOrder : PacketCounts → Type 0
 CanOrder c = 0 < c.decided → 0 < c.admitted
 
 -- the lines up to the order line were read

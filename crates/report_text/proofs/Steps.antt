@@ -11,7 +11,7 @@ use Rattle.state_store.specs.declared.object.Row.{Row}
 use Rattle.state_store.specs.Kinds.{is_table}
 use Rattle.run_text.specs.Report.{name_in}
 use Rattle.run_text.specs.Trace.{largest}
-use Rattle.report_text.specs.declared.head.Counts.{Counts}
+use Rattle.report_text.specs.declared.head.PacketCounts.{PacketCounts}
 use Rattle.report_text.specs.declared.head.EventCounts.{EventCounts}
 use Rattle.report_text.specs.declared.head.Versions.{Versions}
 use Rattle.report_text.specs.declared.stage.Side.{Side}
@@ -30,7 +30,7 @@ use Rattle.report_text.proofs.Told.{drained_text, fates_told, head_told, name_of
 use Rattle.report_text.proofs.Declared.{AreKnown, IsNext, next_is, next_none, shown_is}
 use Rattle.report_text.proofs.Sound.{AreWithin, Before, CanOrder, Goes, HasRoom, IsFresh, IsHead, IsLeft, IsOrdered, IsPartly, IsRead, Stands, all_more, base, fates_more, front, front_on, in_order, keys_suc, last_more, last_of, left_read, numbers_of, rising_more, rows_more, told, with_part, within_later, word_of}
 
-fresh : (s : State) (c : Counts) (e : EventCounts) (v : Versions) (d : Bool) (st : Stage) → IsFresh s → IsFresh (record s { counts = c; events = e; versions = v; drained = d; stage = st })
+fresh : (s : State) (c : PacketCounts) (e : EventCounts) (v : Versions) (d : Bool) (st : Stage) → IsFresh s → IsFresh (record s { counts = c; events = e; versions = v; drained = d; stage = st })
 fresh s c e v d st f = record { fates = f.fates; server = f.server; switch = f.switch; rows = f.rows }
 
 then_is : {X : Type 0} (put : X → State) (o : Option X) (t : State) {P : Type 0} → then_put put o ≡ Some t → ((x : X) → o ≡ Some x → put x ≡ t → P) → P
@@ -51,10 +51,10 @@ title_goes declared s t l f h =
       told = ap (λ x. x ∷ []) (sym (are_same l (codes "report 1") same));
     }))
 
-can_order : (c : Counts) → (eqb c.decided 0 || ltb 0 c.admitted) ≡ true → CanOrder c
+can_order : (c : PacketCounts) → (eqb c.decided 0 || ltb 0 c.admitted) ≡ true → CanOrder c
 can_order c h some = grind (arith, nat_tests, h, some)
 
-counts_goes : (declared : List ObjectDecl) (o : Option Counts) (s t : State) (l : List ℕ) → IsFresh s → counts_of l ≡ o → counts_read s o ≡ Some t
+counts_goes : (declared : List ObjectDecl) (o : Option PacketCounts) (s t : State) (l : List ℕ) → IsFresh s → counts_of l ≡ o → counts_read s o ≡ Some t
     → Goes declared (codes "report 1" ∷ (l ∷ [])) t
 counts_goes declared None s t l f e h = cc h
 counts_goes declared (Some c) s t l f e h =

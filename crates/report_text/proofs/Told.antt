@@ -11,7 +11,7 @@ use Rattle.run_model.specs.declared.run.Part.{Part}
 use Rattle.run_model.specs.declared.run.Run.{Run}
 use Rattle.run_text.specs.Printed.{lined}
 use Rattle.run_text.specs.Report.{drained_line, events_line, fate_line, fate_lines, fate_text, line_end, name_in, order_line, packets_line, part_lines, report_of, row_lines, tables_text, version_line}
-use Rattle.report_text.specs.declared.head.Counts.{Counts}
+use Rattle.report_text.specs.declared.head.PacketCounts.{PacketCounts}
 use Rattle.report_text.specs.declared.head.EventCounts.{EventCounts}
 use Rattle.report_text.specs.declared.head.Versions.{Versions}
 use Rattle.report_text.proofs.HeadLines.{counts_text, events_text, versions_text}
@@ -34,10 +34,10 @@ abbrev pub parts_told : List ℕ → List ObjectDecl → List Part → List (Lis
 parts_told word declared [] = []
 parts_told word declared (p ∷ ps) = part_told word (name_of declared p.object) (length p.rows) ∷ (map row_told p.rows ++ parts_told word declared ps)
 
-abbrev pub head_told : Counts → EventCounts → Versions → Bool → List (List ℕ)
+abbrev pub head_told : PacketCounts → EventCounts → Versions → Bool → List (List ℕ)
 head_told c e v d = codes "report 1" ∷ (counts_text c ∷ (events_text e ∷ (versions_text v ∷ (drained_text d ∷ []))))
 
-abbrev pub counts_in : Run → Counts
+abbrev pub counts_in : Run → PacketCounts
 counts_in run = record { total = run.total; admitted = length run.fates; decided = run.decided; released = run.released }
 
 abbrev pub events_in : Run → EventCounts

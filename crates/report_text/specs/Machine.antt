@@ -12,7 +12,7 @@ use Rattle.state_store.specs.Store.{key_cmp}
 use Rattle.run_model.specs.declared.fate.Fate.{Fate}
 use Rattle.run_model.specs.declared.run.Part.{Part}
 use Rattle.run_model.specs.declared.run.Run.{Run}
-use Rattle.report_text.specs.declared.head.Counts.{Counts}
+use Rattle.report_text.specs.declared.head.PacketCounts.{PacketCounts}
 use Rattle.report_text.specs.declared.head.EventCounts.{EventCounts}
 use Rattle.report_text.specs.declared.head.Versions.{Versions}
 use Rattle.report_text.specs.declared.stage.Side.{Side}
@@ -25,7 +25,7 @@ use Rattle.report_text.specs.Parse.{most_of}
 
 -- the parts that were read, the rows of the part that is being read, and what is awaited
 pub record State : Type 0 where
-  pub counts : Counts
+  pub counts : PacketCounts
   pub events : EventCounts
   pub versions : Versions
   pub drained : Bool
@@ -36,7 +36,7 @@ pub record State : Type 0 where
   pub rows : List Row
   pub stage : Stage
 
-abbrev pub no_counts : Counts
+abbrev pub no_counts : PacketCounts
 no_counts = record { total = 0; admitted = 0; decided = 0; released = 0 }
 
 -- before the first line
@@ -92,7 +92,7 @@ abbrev pub title_read : State → List ℕ → Option State
 title_read s line = if bytes_eq line (codes "report 1") then Some (record s { stage = Packets }) else None
 
 -- no packet can be named on the order line where none was admitted
-abbrev pub counts_read : State → Option Counts → Option State
+abbrev pub counts_read : State → Option PacketCounts → Option State
 counts_read s None = None
 counts_read s (Some c) =
     if c.decided == 0 || nat_lt 0 c.admitted then Some (record s { counts = c; stage = Events }) else None

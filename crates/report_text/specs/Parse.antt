@@ -13,7 +13,7 @@ use Rattle.state_store.specs.declared.object.Row.{Row}
 use Rattle.run_model.specs.declared.fate.Fate.{Fate}
 use Rattle.run_model.specs.declared.fate.Fate.TheVariants.{Pass, Up, Held, Slow, Fast}
 use Rattle.run_text.specs.Trace.{is_space, largest}
-use Rattle.report_text.specs.declared.head.Counts.{Counts}
+use Rattle.report_text.specs.declared.head.PacketCounts.{PacketCounts}
 use Rattle.report_text.specs.declared.head.EventCounts.{EventCounts}
 use Rattle.report_text.specs.declared.head.Versions.{Versions}
 use Rattle.report_text.specs.declared.fate.Stamps.{Stamps}
@@ -47,7 +47,7 @@ number_at most line =
 unfoldable pub labelled : ℕ → List ℕ → List ℕ → Option (ℕ × List ℕ)
 labelled most word line = after word line >>= number_at most
 
-unfoldable pub counts_of : List ℕ → Option Counts
+unfoldable pub counts_of : List ℕ → Option PacketCounts
 counts_of line = do
   total ← labelled largest (codes "packets ") line
   admitted ← labelled largest (codes " admitted ") total.1

@@ -6,7 +6,7 @@ use crate::piece::{labelled, whole};
 
 /// The second line: packets of the trace, and how many were admitted, decided and released.
 #[derive(Clone, Copy, Debug)]
-pub(crate) struct Counts {
+pub(crate) struct PacketCounts {
     pub(crate) total: u32,
     pub(crate) admitted: u32,
     pub(crate) decided: u32,
@@ -28,7 +28,7 @@ pub(crate) struct Versions {
 }
 
 #[tactic(auto, unfolding(crate::specs::Parse::counts_of))]
-pub(crate) fn read_counts(line: &[u8]) -> Option<Counts>
+pub(crate) fn read_counts(line: &[u8]) -> Option<PacketCounts>
     ensures { result ≡ counts_of line.now }
 {
     let (total, rest) = labelled(b"packets ", line)?;
@@ -36,7 +36,7 @@ pub(crate) fn read_counts(line: &[u8]) -> Option<Counts>
     let (decided, rest) = labelled(b" decided ", rest)?;
     let (released, rest) = labelled(b" released ", rest)?;
     whole(
-        Counts {
+        PacketCounts {
             total,
             admitted,
             decided,

@@ -11,7 +11,7 @@ ghost use Rattle.report_text.specs.Machine.{events_read, row_put, server_opened,
 ghost use Rattle.report_text.specs.Machine.{versions_read, with_left};
 
 use crate::fate::read_fate;
-use crate::head::{Counts, EventCounts, Versions, read_counts, read_events, read_versions};
+use crate::head::{EventCounts, PacketCounts, Versions, read_counts, read_events, read_versions};
 use crate::order::read_order;
 use crate::row::{leaves, read_count, read_row};
 use crate::stage::{Side, Stage};
@@ -26,7 +26,7 @@ use std::mem;
 /// What the lines so far have told, and which line is awaited.
 #[derive(Debug, Drop)]
 pub(crate) struct Reading {
-    counts: Counts,
+    counts: PacketCounts,
     events: EventCounts,
     versions: Versions,
     drained: bool,
@@ -128,7 +128,7 @@ impl Reading {
         ensures { result ≡ at_start }
     {
         Reading {
-            counts: Counts {
+            counts: PacketCounts {
                 total: 0,
                 admitted: 0,
                 decided: 0,

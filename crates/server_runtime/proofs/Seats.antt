@@ -2,7 +2,7 @@
 use Rattle.std.proofs.Common.{◌≡◌, ◌+◌, ◌^◌, ◌<◌, ℕ, Bool, true, false, List, length, slice_index, Option, Some, None, IsSome, if◌then◌else◌, refl, sym, ap, ◌∙◌, arith}
 use Rattle.std.specs.Prelude.{unwrap_or, slice_set}
 use Rattle.std.proofs.lemmas.List.{get_or_past, length-set}
-use Rattle.flat_ir.specs.Plan.{Plan}
+use Rattle.flat_ir.specs.Plan.{RegisterPlan}
 use Rattle.flat_ir.specs.Program.{is_named, result_count, step_at, Program}
 use Rattle.split_model.specs.Layouts.{number_of, values_below}
 use Rattle.transfer_header.specs.Registers.{number_by, place_by, place_of, placed, set_by, written, Registers}
@@ -22,12 +22,12 @@ pub planned_seats : (f : Program) (seats : List ℕ) (before after : Registers) 
     → AreSeats f seats before → AreSeats f seats after
 planned_seats f seats before after plan count = still_seats f seats before after (λ value p. place_by (plan p) (count p) value)
 
-pub seats_by_plan : (f : Program) (seats : List ℕ) (plan : Plan) (registers : Registers) → registers.plan ≡ Some plan → length seats ≡ length f.code
+pub seats_by_plan : (f : Program) (seats : List ℕ) (plan : RegisterPlan) (registers : Registers) → registers.plan ≡ Some plan → length seats ≡ length f.code
     → ((i : ℕ) → i < length f.code → slice_index seats i ≡ seat_by f plan i) → AreSeats f seats registers
 seats_by_plan f seats plan registers planned count each = record {
   count = count;
   each = λ i lt. each i lt
-      ∙ ap (λ (p : Option Plan). unwrap_or (if is_named f (first_of i) then place_by p (length registers.numbers) (number_of f (first_of i)) else None) no_place) (sym planned);
+      ∙ ap (λ (p : Option RegisterPlan). unwrap_or (if is_named f (first_of i) then place_by p (length registers.numbers) (number_of f (first_of i)) else None) no_place) (sym planned);
 }
 
 -- ## The number at a seat

@@ -7,11 +7,11 @@ use Rattle.split_model.specs.Layouts.{down_layout, up_layout, values_of}
 use Rattle.split_model.specs.Legal.{IsLegal}
 use Rattle.split_model.specs.Passes.{server_fields}
 use Rattle.split_model.specs.Shown.{is_replicated}
-use Rattle.server_runtime.specs.declared.plan.SplitProgram.{SplitProgram}
+use Rattle.server_runtime.specs.declared.plan.PreparedProgram.{PreparedProgram}
 use Rattle.server_runtime.specs.Registers.{AreFirsts}
 use Rattle.server_runtime.specs.Serving.{followed_writes}
 
-pub record Plan : Type 0 where
+pub record ServerPlan : Type 0 where
   pub program : Program
   pub split : List Part
 
@@ -21,7 +21,7 @@ pub record AreReplicated (f : Program) (split : List Part) (marks : List Bool) :
   pub exact : (o : ℕ) → o < length f.objects → slice_index_or marks o false ≡ is_replicated f split o
 
 -- the split is legal, and what was worked out beforehand is so
-pub record IsPrepared (w : SplitProgram) : Type 0 where
+pub record IsPrepared (w : PreparedProgram) : Type 0 where
   pub bounded : IsBounded (program_of w.flat)
   pub legal : IsLegal (program_of w.flat) w.split
   pub up : w.up ≡ up_layout (program_of w.flat) w.split

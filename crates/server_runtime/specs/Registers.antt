@@ -2,7 +2,7 @@
 use Rattle.std.specs.Prelude.{◌≡◌, ℕ, suc, ◌+◌, ◌-◌, ◌^◌, ◌<◌, ◌≤◌, List, length, slice_get, slice_index, Option, Some, None, if◌then◌else◌, unwrap_or}
 use Rattle.flat_ir.specs.declared.program.ValueId.{ValueId}
 use Rattle.flat_ir.specs.Blocks.{Reading}
-use Rattle.flat_ir.specs.Plan.{Plan, register_of}
+use Rattle.flat_ir.specs.Plan.{RegisterPlan, register_of}
 use Rattle.flat_ir.specs.Program.{Program, is_named, result_count, step_at}
 use Rattle.split_model.specs.declared.split.Part.{Part}
 use Rattle.split_model.specs.Crossing.{crosses_up}
@@ -66,7 +66,7 @@ seat_in f registers i =
     unwrap_or (if is_named f (first_of i) then place_of registers (number_of f (first_of i)) else None) no_place
 
 -- the same by a plan
-abbrev pub seat_by : Program → Plan → ℕ → ℕ
+abbrev pub seat_by : Program → RegisterPlan → ℕ → ℕ
 seat_by f plan i =
     unwrap_or (if is_named f (first_of i) then register_of plan (number_of f (first_of i)) else None) no_place
 

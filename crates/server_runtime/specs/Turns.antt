@@ -27,7 +27,7 @@ use Rattle.transfer_header.specs.Registers.{Registers}
 use Rattle.transfer_header.specs.Steps.{IsReady}
 use Rattle.transfer_header.specs.Told.{number_in, packet_in, reads_in}
 use Rattle.writeback_table.specs.declared.command.Update.{Update}
-use Rattle.server_runtime.specs.declared.plan.SplitProgram.{SplitProgram}
+use Rattle.server_runtime.specs.declared.plan.PreparedProgram.{PreparedProgram}
 use Rattle.server_runtime.specs.declared.run.Ran.{Ran}
 use Rattle.server_runtime.specs.Plans.{IsPrepared}
 use Rattle.server_runtime.specs.Registers.{contents_of, handed, register_reads, with_row}
@@ -75,7 +75,7 @@ abbrev pub changed_by : Reading → ℕ → Work → List Change
 changed_by reads number work = if number == 1 then made true (wanted reads work) else []
 
 -- a turn is taken of a prepared program, at an instruction that it has, and at a packet whose headers were found
-pub record IsAtTurn (whole : SplitProgram) (arrival : Arrival) (i : ℕ) : Type 0 where
+pub record IsAtTurn (whole : PreparedProgram) (arrival : Arrival) (i : ℕ) : Type 0 where
   pub prepared : IsPrepared whole
   pub within : i < length whole.flat.code
   pub size : length arrival.bytes.now ≤ largest_packet

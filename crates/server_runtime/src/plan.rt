@@ -23,7 +23,7 @@ use transfer_header::Regs;
 
 /// A split program, and what is looked up in it at each packet.
 #[derive(Debug, Drop)]
-pub(crate) struct SplitProgram {
+pub(crate) struct PreparedProgram {
     pub flat: Flat,
     pub split: Split,
     /// The values that are handed up, and those that are handed down.
@@ -43,18 +43,18 @@ pub(crate) struct SplitProgram {
 
 /// A legally split program, and the registers in which it is run. Contracts see the program and the split.
 #[derive(Debug, Drop)]
-pub(crate) struct Plan {
-    pub whole: SplitProgram,
+pub(crate) struct ServerPlan {
+    pub whole: PreparedProgram,
     pub values: Regs,
 }
 
-impl Model for Plan {
+impl Model for ServerPlan {
     ghost use Rattle.flat_ir.specs.Program.{program_of};
     ghost use Rattle.server_runtime.specs.Plans as plans;
     ghost use Rattle.server_runtime.specs.Plans.{IsPrepared};
     ghost use Rattle.server_runtime.specs.Registers.{AreSeats, AreServing};
 
-    ghost Value = { plans.Plan };
+    ghost Value = { plans.ServerPlan };
 
     ghost view = { λ plan. record { program = program_of plan.whole.flat; split = plan.whole.split } };
 
@@ -63,18 +63,18 @@ impl Model for Plan {
         × AreSeats (program_of plan.whole.flat) plan.whole.seats.items plan.values };
 }
 
-impl Plan {
+impl ServerPlan {
     /// The plan of a split program.
-    pub(crate) fn of(alloc: Global, f: &Flat, s: &Split) -> Result<Plan, NoMemory>
+    pub(crate) fn of(alloc: Global, f: &Flat, s: &Split) -> Result<ServerPlan, NoMemory>
         requires bounded { IsBounded (program_of f.now) }
         requires legal { IsLegal (program_of f.now) s.now }
         ensures program { IfOk result (λ plan. plan.program ≡ program_of f.now) }
         ensures split { IfOk result (λ plan. plan.split ≡ s.now) }
     {
-        let mut whole = SplitProgram::of(alloc, f, s)?;
+        let mut whole = PreparedProgram::of(alloc, f, s)?;
         let Seated { values, seats } = registers_of(alloc, &whole)?;
         whole.take_seats(seats);
-        Ok(Plan { whole, values })
+        Ok(ServerPlan { whole, values })
     }
 }
 
@@ -196,9 +196,9 @@ fn count_writes(f: &Flat, followed: &[bool]) -> usize
     writes
 }
 
-impl SplitProgram {
+impl PreparedProgram {
     // The split program, with what is looked up in it.
-    fn of(alloc: Global, f: &Flat, s: &Split) -> Result<SplitProgram, NoMemory>
+    fn of(alloc: Global, f: &Flat, s: &Split) -> Result<PreparedProgram, NoMemory>
         requires bounded { IsBounded (program_of f.now) }
         requires legal { IsLegal (program_of f.now) s.now }
         ensures prepared { IfOk result (λ whole. IsPrepared whole) }
@@ -210,7 +210,7 @@ impl SplitProgram {
         let split = s.copy(alloc)?;
         let flat = f.copy(alloc)?;
         let writes = count_writes(f, &lists.followed);
-        Ok(SplitProgram {
+        Ok(PreparedProgram {
             flat,
             split,
             up: layouts.up,

@@ -6,14 +6,14 @@ ghost use Rattle.split_model.specs.Layouts.{values_below};
 ghost use Rattle.server_runtime.specs.Plans.{IsPrepared};
 ghost use Rattle.server_runtime.specs.Registers.{first_of, register_reads, seat_in, with_row, AreSeats, HaveRegisters};
 
-use crate::plan::SplitProgram;
+use crate::plan::PreparedProgram;
 use flat_ir::{Numbers, Results, ValueId};
 use transfer_header::Regs;
 
 /// The numbers that a server has so far.
 #[derive(Clone, Copy)]
 pub(crate) struct Registers<'a> {
-    pub whole: &'a SplitProgram,
+    pub whole: &'a PreparedProgram,
     pub values: &'a Regs,
     ghost count: { length whole.now.firsts.items ≡ suc (length (program_of whole.now.flat).code) },
     ghost each: { (i : ℕ) → i ≤ length (program_of whole.now.flat).code
@@ -64,7 +64,12 @@ impl Numbers for Registers<'_> {
 }
 
 /// Gives the register of an instruction with one result its number.
-pub(crate) fn set_number(whole: &SplitProgram, values: &mut Regs, instruction: usize, number: u64)
+pub(crate) fn set_number(
+    whole: &PreparedProgram,
+    values: &mut Regs,
+    instruction: usize,
+    number: u64,
+)
     requires prepared { IsPrepared whole.now }
     requires within { instruction < length whole.now.flat.code }
     requires has { HaveRegisters (program_of whole.now.flat) instruction values.old }
@@ -79,7 +84,7 @@ pub(crate) fn set_number(whole: &SplitProgram, values: &mut Regs, instruction: u
 
 /// Gives the registers of an instruction its results.
 pub(crate) fn set_results(
-    whole: &SplitProgram,
+    whole: &PreparedProgram,
     values: &mut Regs,
     instruction: usize,
     results: &Results,

@@ -2,7 +2,7 @@
 ghost use Rattle.std.specs.Prelude.{◌≡◌, ◌≤◌, [], vec_capacity, IfOk};
 ghost use Rattle.transfer_header.specs.Frames.{HasRoom};
 
-use crate::plan::SplitProgram;
+use crate::plan::PreparedProgram;
 use gal_io::NoMemory;
 use std::alloc::Global;
 use transfer_header::FrameRoom;
@@ -19,7 +19,11 @@ pub(crate) struct Room {
 
 impl Room {
     /// Room for what comes of a packet of so many bytes.
-    pub(crate) fn take(alloc: Global, whole: &SplitProgram, packet: usize) -> Result<Room, NoMemory>
+    pub(crate) fn take(
+        alloc: Global,
+        whole: &PreparedProgram,
+        packet: usize,
+    ) -> Result<Room, NoMemory>
         ensures frame { IfOk result (λ room. HasRoom whole.now.down packet room.frame) }
         ensures empty { IfOk result (λ room. room.updates.items ≡ []) }
         ensures updates { IfOk result (λ room. whole.now.writes ≤ vec_capacity room.updates) }

@@ -20,7 +20,7 @@ ghost use Rattle.server_runtime.specs.Serving.{evaluated_steps, followed_writes}
 ghost use Rattle.server_runtime.specs.Spans.{server_spans};
 ghost use Rattle.server_runtime.specs.Turns.{IsOutcome, IsRead, IsServing};
 
-use crate::plan::{Plan, SplitProgram};
+use crate::plan::{PreparedProgram, ServerPlan};
 use crate::registers::Registers;
 use crate::room::Room;
 use crate::run_laws::{a_frame_is_read, a_server_run_has_an_outcome, a_server_takes_turns};
@@ -50,7 +50,7 @@ pub(crate) struct Ran {
 // All turns of the server, in order. What the switch is told goes into `updates`, which has room for it. The answer is
 // how many instructions other than consts and fields were evaluated.
 fn take_turns(
-    whole: &SplitProgram,
+    whole: &PreparedProgram,
     arrival: &Arrival<'_>,
     values: &mut Regs,
     store: &mut Store,
@@ -84,7 +84,7 @@ fn take_turns(
 // A frame, where the fields are set in its packet that the server sets. They are set in the frame's own bytes, of which
 // the packet's are the last ones.
 fn set_fields(
-    whole: &SplitProgram,
+    whole: &PreparedProgram,
     values: &Regs,
     arrival: &Arrival<'_>,
     mut frame: Vec<u8>,
@@ -113,7 +113,7 @@ fn set_fields(
 
 // The server's run of a packet. This takes no memory besides `room`.
 fn run(
-    whole: &SplitProgram,
+    whole: &PreparedProgram,
     arrival: &Arrival<'_>,
     number: u32,
     values: &mut Regs,
@@ -159,7 +159,7 @@ fn run(
 }
 
 // Reads a frame that came up: its head, with the numbers that it hands up put into registers. All others are 0.
-fn read(whole: &SplitProgram, frame: &[u8], values: &mut Regs) -> Result<Head, Malformed>
+fn read(whole: &PreparedProgram, frame: &[u8], values: &mut Regs) -> Result<Head, Malformed>
     requires prepared { IsPrepared whole.now }
     requires serving { AreServing (program_of whole.now.flat) whole.now.split values.old }
     requires seats { AreSeats (program_of whole.now.flat) whole.now.seats.items values.old }
@@ -176,7 +176,7 @@ fn read(whole: &SplitProgram, frame: &[u8], values: &mut Regs) -> Result<Head, M
 /// What comes of a frame that came up. All memory is taken before the store changes.
 pub(crate) fn answer(
     alloc: Global,
-    plan: &mut Plan,
+    plan: &mut ServerPlan,
     store: &mut Store,
     frame: &[u8],
 ) -> Result<Ran, ServeError>

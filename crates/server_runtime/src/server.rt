@@ -9,7 +9,7 @@ ghost use Rattle.transfer_header.specs.Frames.{IsFrame};
 ghost use Rattle.state_store.specs.Once.{kept_prop};
 ghost use Rattle.server_runtime.specs.Serving.{version_after};
 
-use crate::plan::Plan;
+use crate::plan::ServerPlan;
 use crate::run::answer;
 use crate::served::{ServeError, Served};
 use flat_ir::Flat;
@@ -23,7 +23,7 @@ use writeback_table::Updates;
 #[derive(Debug, Drop)]
 pub struct Server {
     alloc: Global,
-    plan: Plan,
+    plan: ServerPlan,
     store: Store,
     version: u32,
     evaluated: u32,
@@ -54,7 +54,7 @@ impl Server {
         ensures { IfOk result (λ made. server_of made
             ≡ record { program = program_of f.now; split = s.now; store = store; version = 0; evaluated = 0 }) }
     {
-        let plan = Plan::of(alloc, f, s)?;
+        let plan = ServerPlan::of(alloc, f, s)?;
         Ok(Server {
             alloc,
             plan,

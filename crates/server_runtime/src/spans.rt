@@ -15,7 +15,7 @@ ghost use Rattle.server_runtime.specs.Spans.{last_below, last_read, numbers_of, 
 ghost use Rattle.server_runtime.specs.Spans.{server_spans, values_at, values_kept, writes_at};
 
 use crate::laws::a_server_run_goes_by_steps;
-use crate::plan::SplitProgram;
+use crate::plan::PreparedProgram;
 use crate::turn::is_mine;
 use flat_ir::{Instr, InstrKind, RegPlan, Span, Spans, ValueId};
 use gal_io::NoMemory;
@@ -25,7 +25,7 @@ use transfer_header::{BlockSteps, Regs, a_plan_keeps_apart, values_have_their_nu
 
 // Puts the numbers of some values last.
 fn push_numbers(
-    whole: &SplitProgram,
+    whole: &PreparedProgram,
     values: &[ValueId],
     numbers: &mut Vec<u32>,
 ) -> Result<(), NoMemory>
@@ -42,7 +42,7 @@ fn push_numbers(
 
 // Puts the numbers of an instruction's operands last.
 fn push_operands(
-    whole: &SplitProgram,
+    whole: &PreparedProgram,
     kind: &InstrKind,
     numbers: &mut Vec<u32>,
 ) -> Result<(), NoMemory>
@@ -72,7 +72,7 @@ fn push_operands(
 }
 
 // The numbers of the operands of instruction `i`.
-fn operands_of(alloc: Global, whole: &SplitProgram, i: usize) -> Result<Vec<u32>, NoMemory>
+fn operands_of(alloc: Global, whole: &PreparedProgram, i: usize) -> Result<Vec<u32>, NoMemory>
     requires prepared { IsPrepared whole.now }
     requires within { i < length whole.now.flat.code }
     ensures { let f = program_of whole.now.flat in
@@ -95,7 +95,7 @@ fn push_layout(layout: &Layout, numbers: &mut Vec<u32>) -> Result<(), NoMemory>
 }
 
 // Puts the numbers of the values last that the server sets fields to.
-fn push_written(whole: &SplitProgram, numbers: &mut Vec<u32>) -> Result<(), NoMemory>
+fn push_written(whole: &PreparedProgram, numbers: &mut Vec<u32>) -> Result<(), NoMemory>
     requires prepared { IsPrepared whole.now }
     ensures { let f = program_of whole.now.flat in
         OnOk result (numbers.new.items
@@ -109,7 +109,7 @@ fn push_written(whole: &SplitProgram, numbers: &mut Vec<u32>) -> Result<(), NoMe
 
 // The numbers of the values that are read once all instructions are done.
 #[tactic(auto, using(crate::proofs::Listed::kept_numbers))]
-fn numbers_kept(alloc: Global, whole: &SplitProgram) -> Result<Vec<u32>, NoMemory>
+fn numbers_kept(alloc: Global, whole: &PreparedProgram) -> Result<Vec<u32>, NoMemory>
     requires prepared { IsPrepared whole.now }
     ensures { let f = program_of whole.now.flat in
         IfOk result (λ numbers. numbers.items ≡ numbers_of f (values_kept f whole.now.split)) }
@@ -147,7 +147,7 @@ fn note_write(instr: &Instr, step: u32, blocks: &mut BlockSteps)
 // Notes the operands of instruction `i`, and its block where it is a write, if the server evaluates it.
 fn note_turn(
     alloc: Global,
-    whole: &SplitProgram,
+    whole: &PreparedProgram,
     i: usize,
     blocks: &mut BlockSteps,
     last: &mut Vec<u32>,
@@ -186,7 +186,7 @@ fn note_one(number: u32, step: u32, last: &mut Vec<u32>)
 }
 
 // Notes that the condition of each block is read at the block's step.
-fn note_conditions(whole: &SplitProgram, blocks: &BlockSteps, last: &mut Vec<u32>)
+fn note_conditions(whole: &PreparedProgram, blocks: &BlockSteps, last: &mut Vec<u32>)
     requires prepared { IsPrepared whole.now }
     requires blocks { length blocks.now ≡ suc (length whole.now.flat.blocks) }
     requires count { length last.old.items ≡ length (values_of (program_of whole.now.flat)) }
@@ -202,7 +202,7 @@ fn note_conditions(whole: &SplitProgram, blocks: &BlockSteps, last: &mut Vec<u32
 }
 
 // The last instruction's step that reads each value, 0 where none does.
-fn turn_reads(alloc: Global, whole: &SplitProgram) -> Result<Vec<u32>, NoMemory>
+fn turn_reads(alloc: Global, whole: &PreparedProgram) -> Result<Vec<u32>, NoMemory>
     requires { IsPrepared whole.now }
     ensures last { let f = program_of whole.now.flat in
         IfOk result (λ last. (n : ℕ) → n < length (values_of f) → slice_index last.items n
@@ -221,7 +221,7 @@ fn turn_reads(alloc: Global, whole: &SplitProgram) -> Result<Vec<u32>, NoMemory>
 }
 
 // The step that reads each value last, 0 where none does.
-fn last_reads(alloc: Global, whole: &SplitProgram) -> Result<Vec<u32>, NoMemory>
+fn last_reads(alloc: Global, whole: &PreparedProgram) -> Result<Vec<u32>, NoMemory>
     requires { IsPrepared whole.now }
     ensures last { let f = program_of whole.now.flat in
         IfOk result (λ last. (n : ℕ) → n < length (values_of f)
@@ -237,7 +237,7 @@ fn last_reads(alloc: Global, whole: &SplitProgram) -> Result<Vec<u32>, NoMemory>
 
 // The numbers of the values that are handed up.
 #[tactic(auto, using(crate::proofs::Listed::crossing_numbers))]
-fn numbers_handed(alloc: Global, whole: &SplitProgram) -> Result<Vec<u32>, NoMemory>
+fn numbers_handed(alloc: Global, whole: &PreparedProgram) -> Result<Vec<u32>, NoMemory>
     requires { IsPrepared whole.now }
     ensures { IfOk result (λ numbers.
         numbers.items ≡ writes_at (program_of whole.now.flat) whole.now.split 0) }
@@ -248,7 +248,7 @@ fn numbers_handed(alloc: Global, whole: &SplitProgram) -> Result<Vec<u32>, NoMem
 }
 
 // The numbers of the values of instruction `i`.
-fn numbers_at(alloc: Global, whole: &SplitProgram, i: usize) -> Result<Vec<u32>, NoMemory>
+fn numbers_at(alloc: Global, whole: &PreparedProgram, i: usize) -> Result<Vec<u32>, NoMemory>
     requires prepared { IsPrepared whole.now }
     requires within { i < length whole.now.flat.code }
     ensures { let f = program_of whole.now.flat in
@@ -264,7 +264,7 @@ fn numbers_at(alloc: Global, whole: &SplitProgram, i: usize) -> Result<Vec<u32>,
 }
 
 // The numbers of the values of instruction `i`, where the server evaluates it.
-fn numbers_written(alloc: Global, whole: &SplitProgram, i: usize) -> Result<Vec<u32>, NoMemory>
+fn numbers_written(alloc: Global, whole: &PreparedProgram, i: usize) -> Result<Vec<u32>, NoMemory>
     requires prepared { IsPrepared whole.now }
     requires within { i < length whole.now.flat.code }
     ensures { IfOk result (λ numbers.
@@ -293,7 +293,7 @@ fn push_spans(spans: &mut Spans, from: u32, numbers: &[u32], last: &[u32]) -> Re
 }
 
 // The spans of the values of a run.
-fn spans_of(alloc: Global, whole: &SplitProgram) -> Result<Spans, NoMemory>
+fn spans_of(alloc: Global, whole: &PreparedProgram) -> Result<Spans, NoMemory>
     requires { IsPrepared whole.now }
     ensures { IfOk result (λ spans. spans ≡ server_spans (program_of whole.now.flat) whole.now.split) }
 {
@@ -317,7 +317,7 @@ pub(crate) struct Seated {
 }
 
 // Where the number of an instruction's first value stands by a plan, past all registers if nowhere.
-fn seat_of(whole: &SplitProgram, plan: &RegPlan, instruction: usize) -> u32
+fn seat_of(whole: &PreparedProgram, plan: &RegPlan, instruction: usize) -> u32
     requires prepared { IsPrepared whole.now }
     requires within { instruction < length whole.now.flat.code }
     ensures { let f = program_of whole.now.flat in
@@ -334,7 +334,7 @@ fn seat_of(whole: &SplitProgram, plan: &RegPlan, instruction: usize) -> u32
 }
 
 // Where each instruction's first value stands by a plan.
-fn seats_of(alloc: Global, whole: &SplitProgram, plan: &RegPlan) -> Result<Vec<u32>, NoMemory>
+fn seats_of(alloc: Global, whole: &PreparedProgram, plan: &RegPlan) -> Result<Vec<u32>, NoMemory>
     requires { IsPrepared whole.now }
     ensures count { IfOk result (λ seats. length seats.items ≡ length whole.now.flat.code) }
     ensures each { let f = program_of whole.now.flat in
@@ -350,7 +350,7 @@ fn seats_of(alloc: Global, whole: &SplitProgram, plan: &RegPlan) -> Result<Vec<u
 }
 
 /// Registers for a run, with a zero in each.
-pub(crate) fn registers_of(alloc: Global, whole: &SplitProgram) -> Result<Seated, NoMemory>
+pub(crate) fn registers_of(alloc: Global, whole: &PreparedProgram) -> Result<Seated, NoMemory>
     requires { IsPrepared whole.now }
     ensures serving { IfOk result (λ made. AreServing (program_of whole.now.flat) whole.now.split made.values) }
     ensures seats { IfOk result (λ made. AreSeats (program_of whole.now.flat) made.seats.items made.values) }

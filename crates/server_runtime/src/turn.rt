@@ -14,7 +14,7 @@ ghost use Rattle.server_runtime.specs.Serving.{is_evaluated, updates_of};
 ghost use Rattle.server_runtime.specs.Spans.{is_turn};
 ghost use Rattle.server_runtime.specs.Turns.{changed_by, told_of, wanted, HasRoomFor, HasTurned, IsAtTurn};
 
-use crate::plan::SplitProgram;
+use crate::plan::PreparedProgram;
 use crate::registers::{Registers, set_number, set_results};
 use flat_ir::{
     Arrival, Instr, InstrKind, ValueId, compute_number, key_of, look, row_of, what_fits_can_run,
@@ -34,7 +34,7 @@ fn push(updates: &mut Vec<Update>, update: Update)
 }
 
 // Tells the switch of a change, where its object is replicated.
-fn follow(whole: &SplitProgram, update: Update, updates: &mut Vec<Update>)
+fn follow(whole: &PreparedProgram, update: Update, updates: &mut Vec<Update>)
     requires prepared { IsPrepared whole.now }
     requires declared { update.object < length whole.now.flat.objects }
     requires room { vec_len updates.old + length (told_of (program_of whole.now.flat) whole.now.split update)
@@ -109,7 +109,7 @@ fn tell(numbers: &Registers<'_>, kind: &InstrKind, number: u64, updates: &mut Ve
 
 // The turn of an instruction that gives one number.
 fn give_number(
-    whole: &SplitProgram,
+    whole: &PreparedProgram,
     arrival: &Arrival<'_>,
     instruction: usize,
     instr: &Instr,
@@ -137,7 +137,7 @@ fn give_number(
 
 // Looks a key up and gives the registers of an instruction what was found.
 fn look_up(
-    whole: &SplitProgram,
+    whole: &PreparedProgram,
     instruction: usize,
     object: u32,
     keys: &[ValueId],
@@ -163,7 +163,7 @@ fn look_up(
 
 // The turn of an instruction that the server evaluates.
 fn evaluate(
-    whole: &SplitProgram,
+    whole: &PreparedProgram,
     arrival: &Arrival<'_>,
     instruction: usize,
     instr: &Instr,
@@ -193,7 +193,7 @@ fn evaluate(
 }
 
 /// Whether the server evaluates an instruction.
-pub(crate) fn is_mine(whole: &SplitProgram, instruction: usize, kind: &InstrKind) -> bool
+pub(crate) fn is_mine(whole: &PreparedProgram, instruction: usize, kind: &InstrKind) -> bool
     ensures { result ≡ (is_input (work_of kind.now) || is_server whole.now.split instruction) }
 {
     kind.is_input() || whole.split.is_server(instruction)
@@ -202,7 +202,7 @@ pub(crate) fn is_mine(whole: &SplitProgram, instruction: usize, kind: &InstrKind
 /// The server's turn at an instruction. What the switch is told of it goes into `updates`, which has room for it. The
 /// answer is how many instructions other than consts and fields were evaluated.
 pub(crate) fn take_turn(
-    whole: &SplitProgram,
+    whole: &PreparedProgram,
     arrival: &Arrival<'_>,
     instruction: usize,
     values: &mut Regs,

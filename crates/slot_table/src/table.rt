@@ -68,10 +68,8 @@ impl<const K: usize, const V: usize> SlotTable<K, V> {
             return Err(NoMemory);
         }
         let count = 2 * capacity + 1;
-        let mut slots = Vec::with_capacity(alloc, count)?;
-        for _ in 0..count {
-            slots.push(None)?;
-        }
+        let mut slots = Vec::new(alloc);
+        slots.resize(count, None)?;
         Ok(SlotTable {
             slots,
             len: 0,

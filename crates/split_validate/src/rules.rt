@@ -10,7 +10,6 @@ ghost use Rattle.split_model.specs.Legal.{rule_5, rule_6, rule_7, rule_8, rule_9
 ghost use Rattle.split_validate.specs.Flaws.{ArePostGuarded, stage_in};
 
 use crate::operand::{Flaw, Pass};
-use dependence::{fits_switch, is_field, is_mutable_look};
 use flat_ir::{Flat, Instr, InstrKind, lines_of_blocks};
 use gal_io::NoMemory;
 use split_model::Split;
@@ -50,7 +49,7 @@ fn breaks_1(f: &Flat, s: &Split, i: usize) -> bool
     requires { i < length f.now.code }
     ensures { result ≡ rule_1 (program_of f.now) s.now i }
 {
-    s.is_pre(i) && !fits_switch(&f.code.as_slice()[i])
+    s.is_pre(i) && !f.code.as_slice()[i].fits_switch()
 }
 
 // Preprocessing lacks an operand.
@@ -73,7 +72,7 @@ fn breaks_4(f: &Flat, s: &Split, i: usize) -> bool
     requires { i < length f.now.code }
     ensures { result ≡ rule_4 (program_of f.now) s.now i }
 {
-    s.is_carried(i) && is_mutable_look(f, &f.code.as_slice()[i].kind)
+    s.is_carried(i) && f.is_mutable_look(&f.code.as_slice()[i].kind)
 }
 
 // What is carried has an operand that isn't.
@@ -101,7 +100,7 @@ fn is_out_of_post(f: &Flat, one: &Instr) -> bool
     ensures { result ≡ (not (fits_switch (step_of one.now))
         || (is_mutable_look (program_of f.now) (work_of one.now.kind) || is_field (work_of one.now.kind))) }
 {
-    !fits_switch(one) || (is_mutable_look(f, &one.kind) || is_field(&one.kind))
+    !one.fits_switch() || (f.is_mutable_look(&one.kind) || one.kind.is_field())
 }
 
 // What the switch can't compute without mutable rows and the packet is in postprocessing.

@@ -1,6 +1,6 @@
 -- Code by its parts.
 use Rattle.std.proofs.Common.{◌≡◌, List, length, sym, subst}
-use Rattle.flat_ir.specs.Plan.{Plan}
+use Rattle.flat_ir.specs.Plan.{RegisterPlan}
 use Rattle.split_model.specs.declared.layout.Crossing.{Crossing}
 use Rattle.transfer_header.specs.Plans.{IsPlanOf}
 use Rattle.switch_ir.specs.declared.code.Table.{Table}
@@ -26,11 +26,11 @@ by_parts f split code pre post up down tables values = λ i. record {
 }
 
 -- a plan of a pass and its copy
-pub copied_plan : (tables tables' : List Table) (handed handed' up up' : List Crossing) (pass pass' : PassCode) (plan plan' : Plan)
+pub copied_plan : (tables tables' : List Table) (handed handed' up up' : List Crossing) (pass pass' : PassCode) (plan plan' : RegisterPlan)
     → tables' ≡ tables → handed' ≡ handed → up' ≡ up → pass' ≡ pass → plan' ≡ plan
     → IsPlanOf (pass_spans tables handed up pass) plan → IsPlanOf (pass_spans tables' handed' up' pass') plan'
 copied_plan tables tables' handed handed' up up' pass pass' plan plan' same_tables same_handed same_up same_pass same_plan is =
-    subst (λ (p : Plan). IsPlanOf (pass_spans tables' handed' up' pass') p) (sym same_plan)
+    subst (λ (p : RegisterPlan). IsPlanOf (pass_spans tables' handed' up' pass') p) (sym same_plan)
     (subst (λ (p : PassCode). IsPlanOf (pass_spans tables' handed' up' p) plan) (sym same_pass)
     (subst (λ (l : List Crossing). IsPlanOf (pass_spans tables' handed' l pass) plan) (sym same_up)
     (subst (λ (l : List Crossing). IsPlanOf (pass_spans tables' l up pass) plan) (sym same_handed)

@@ -7,7 +7,7 @@ use Rattle.packet_fields.specs.declared.packet.Packet.{Packet}
 use Rattle.state_store.specs.Store.{Store}
 use Rattle.flat_ir.specs.declared.program.ValueId.{ValueId}
 use Rattle.flat_ir.specs.Blocks.{Reading}
-use Rattle.flat_ir.specs.Plan.{Plan, register_of}
+use Rattle.flat_ir.specs.Plan.{RegisterPlan, register_of}
 use Rattle.transfer_header.specs.Registers.{Registers, content_of, number_by, place_by, place_of, placed, set_by, written}
 use Rattle.transfer_header.specs.Steps.{pairs_written}
 use Rattle.switch_ir.specs.Code.{PassCode, Step}
@@ -30,9 +30,9 @@ set_in : (numbers : List ℕ) → length numbers < 2 ^ 32 → (place : Option �
 set_in numbers few None to = set_past numbers no_place to (omega (arith, few))
 set_in numbers few (Some place) to = refl
 
-module _ (plan : Plan) (registers : Registers) (planned : registers.plan ≡ Some plan) (few : length registers.numbers < 2 ^ 32) where
+module _ (plan : RegisterPlan) (registers : Registers) (planned : registers.plan ≡ Some plan) (few : length registers.numbers < 2 ^ 32) where
   place_is : (n : ℕ) → place_of registers n ≡ register_of plan n
-  place_is n = ap (λ (p : Option Plan). place_by p (length registers.numbers) n) planned
+  place_is n = ap (λ (p : Option RegisterPlan). place_by p (length registers.numbers) n) planned
 
   read_in : (number : Option ℕ) → slice_index registers.numbers (known_place plan number) ≡ content_at (content_of registers) number
   read_in None = get_or_past registers.numbers no_place 0 (omega (arith, few))
@@ -48,7 +48,7 @@ module _ (plan : Plan) (registers : Registers) (planned : registers.plan ≡ Som
       ap with_numbers (set_in registers.numbers few (register_of plan n) to ∙ ap (λ (o : Option ℕ). set_by registers.numbers o to) (sym (place_is n)))
 
 -- by their places values are written as by their numbers
-all_is : (plan : Plan) (pairs : List (ℕ × ℕ)) (registers : Registers) → registers.plan ≡ Some plan → length registers.numbers < 2 ^ 32
+all_is : (plan : RegisterPlan) (pairs : List (ℕ × ℕ)) (registers : Registers) → registers.plan ≡ Some plan → length registers.numbers < 2 ^ 32
     → all_placed registers (by_place plan pairs) ≡ pairs_written registers pairs
 all_is plan [] registers planned few = refl
 all_is plan (p ∷ ps) registers planned few =
@@ -58,7 +58,7 @@ all_is plan (p ∷ ps) registers planned few =
 -- ## Stages
 
 -- what a stage gives is written by place as by number
-pub stage_is : (ranges : List ValueRange) (plan : Plan) (steps : List Step) (highest : ℕ) (stages : List (List ReadyStep))
+pub stage_is : (ranges : List ValueRange) (plan : RegisterPlan) (steps : List Step) (highest : ℕ) (stages : List (List ReadyStep))
     (reads : Reading) (tables : Store) (packet : Packet) (registers : Registers) (t : ℕ) → AreReady ranges plan steps highest stages
     → registers.plan ≡ Some plan → length registers.numbers < 2 ^ 32 → t ≤ highest
     → all_placed registers (ready_gives (ready_at stages t) reads tables packet)
@@ -67,7 +67,7 @@ stage_is ranges plan steps highest stages reads tables packet registers t are pl
     ap (all_placed registers) (are.gives t le reads tables packet)
     ∙ all_is plan (stage_gives ranges (of_stage t steps) (λ v. reads (place_name ranges plan v)) tables packet) registers planned few
 
-module _ (ranges : List ValueRange) (plan : Plan) (pass : PassCode) (stages : List (List ReadyStep))
+module _ (ranges : List ValueRange) (plan : RegisterPlan) (pass : PassCode) (stages : List (List ReadyStep))
     (are : AreReady ranges plan pass.steps pass.highest stages) (tables : Store) (packet : Packet) where
   module _ (start : Registers) (planned : start.plan ≡ Some plan) (few : length start.numbers < 2 ^ 32) where
     plan_at : (t : ℕ) → (registers_at ranges pass tables packet start t).plan ≡ Some plan
@@ -95,7 +95,7 @@ module _ (ranges : List ValueRange) (plan : Plan) (pass : PassCode) (stages : Li
         ∙ ap (λ (reads : Reading). pairs_written before (stage_gives ranges (of_stage t pass.steps) reads tables packet)) (reads_same plan before (plan_at t) (few_at t) ranges)
 
 -- and after the last
-pub pass_is : (ranges : List ValueRange) (plan : Plan) (pass : PassCode) (stages : List (List ReadyStep)) (tables : Store) (packet : Packet)
+pub pass_is : (ranges : List ValueRange) (plan : RegisterPlan) (pass : PassCode) (stages : List (List ReadyStep)) (tables : Store) (packet : Packet)
     (start : Registers) → AreReady ranges plan pass.steps pass.highest stages → start.plan ≡ Some plan → length start.numbers < 2 ^ 32
     → placed_at stages tables packet start (length stages) ≡ registers_at ranges pass tables packet start (suc pass.highest)
 pass_is ranges plan pass stages tables packet start are planned few =
@@ -103,6 +103,6 @@ pass_is ranges plan pass stages tables packet start are planned few =
     ∙ stages_are ranges plan pass stages are tables packet start planned few (suc pass.highest) (omega arith)
 
 -- each stage can be computed
-pub stage_can : (ranges : List ValueRange) (plan : Plan) (steps : List Step) (highest : ℕ) (stages : List (List ReadyStep)) (t : ℕ)
+pub stage_can : (ranges : List ValueRange) (plan : RegisterPlan) (steps : List Step) (highest : ℕ) (stages : List (List ReadyStep)) (t : ℕ)
     → AreReady ranges plan steps highest stages → Each CanStep steps → t < length stages → Each CanReady (ready_at stages t)
 stage_can ranges plan steps highest stages t are can lt = are.can can t (omega (arith, lt, are.count))

@@ -9,7 +9,7 @@ use Rattle.std.specs.Prelude.{slice_index}
 use Rattle.packet_fields.specs.declared.packet.Packet.{Packet}
 use Rattle.state_store.specs.Store.{Store}
 use Rattle.flat_ir.specs.Blocks.{Reading}
-use Rattle.flat_ir.specs.Plan.{Plan}
+use Rattle.flat_ir.specs.Plan.{RegisterPlan}
 use Rattle.flat_ir.specs.Run.{results}
 use Rattle.switch_ir.specs.declared.code.PassStep.{PassStep}
 use Rattle.switch_ir.specs.Code.{Step, pass_step_of}
@@ -27,7 +27,7 @@ at_map f none [] t = sym none
 at_map f none (x ∷ xs) zero = refl
 at_map f none (x ∷ xs) (suc t) = at_map f none xs t
 
-module _ (plan : Plan) where
+module _ (plan : RegisterPlan) where
   -- ## Places of results
 
   count_first : (range : ValueRange) (n : ℕ) → length (map (place_in plan) (first_values range n)) ≡ n
@@ -78,7 +78,7 @@ module _ (plan : Plan) where
 
 -- ## Instructions
 
-module _ (ranges : List ValueRange) (plan : Plan) where
+module _ (ranges : List ValueRange) (plan : RegisterPlan) where
   resolved_gives : (steps : List Step) (reads : Reading) (tables : Store) (packet : Packet)
       → ready_gives (map (resolved ranges plan) steps) reads tables packet
       ≡ by_place plan (stage_gives ranges steps (λ v. reads (place_name ranges plan v)) tables packet)

@@ -8,7 +8,7 @@ use Rattle.state_store.specs.Store.{Store}
 use Rattle.flat_ir.specs.declared.program.ValueId.{ValueId}
 use Rattle.flat_ir.specs.Blocks.{Reading}
 use Rattle.flat_ir.specs.Operands.{CanRun}
-use Rattle.flat_ir.specs.Plan.{Plan, register_of}
+use Rattle.flat_ir.specs.Plan.{RegisterPlan, register_of}
 use Rattle.flat_ir.specs.Program.{Work, work_of}
 use Rattle.flat_ir.specs.Run.{results}
 use Rattle.transfer_header.specs.Registers.{Registers, placed}
@@ -30,19 +30,19 @@ abbrev pub no_place : ℕ
 no_place = 2 ^ 32 - 1
 
 -- the place of the register of a value, past all registers where it has none
-abbrev pub place_in : Plan → ℕ → ℕ
+abbrev pub place_in : RegisterPlan → ℕ → ℕ
 place_in plan number = unwrap_or (register_of plan number) no_place
 
-abbrev pub known_place : Plan → Option ℕ → ℕ
+abbrev pub known_place : RegisterPlan → Option ℕ → ℕ
 known_place plan None = no_place
 known_place plan (Some number) = place_in plan number
 
 -- a value of a pass, named by its place
-abbrev pub place_name : List ValueRange → Plan → ValueId → ValueId
+abbrev pub place_name : List ValueRange → RegisterPlan → ValueId → ValueId
 place_name ranges plan v = record { instruction = known_place plan (number_in ranges v); result = 0 }
 
 -- the places of the values of an instruction
-abbrev pub places_in : Plan → ValueRange → List ℕ
+abbrev pub places_in : RegisterPlan → ValueRange → List ℕ
 places_in plan range = map (place_in plan) (values range)
 
 abbrev pub places_of : Places → List ℕ
@@ -60,7 +60,7 @@ abbrev pub ready_of : ReadyStep → Ready
 ready_of s = record { work = work_of s.kind; places = places_of s.places }
 
 -- an instruction of a pass with the places of its values
-abbrev pub resolved : List ValueRange → Plan → Step → Ready
+abbrev pub resolved : List ValueRange → RegisterPlan → Step → Ready
 resolved ranges plan s = record {
   work = renamed (place_name ranges plan) s.work;
   places = places_in plan (range_at ranges s.instruction);
@@ -84,7 +84,7 @@ ready_gives (r ∷ rs) reads tables packet =
     placed_gives r.places (results reads false tables packet r.work) ++ ready_gives rs reads tables packet
 
 -- numbers of values, each with the value's place
-abbrev pub by_place : Plan → List (ℕ × ℕ) → List (ℕ × ℕ)
+abbrev pub by_place : RegisterPlan → List (ℕ × ℕ) → List (ℕ × ℕ)
 by_place plan pairs = map (λ (p : ℕ × ℕ). (place_in plan p.0, p.1)) pairs
 
 -- ## Registers by place
@@ -112,7 +112,7 @@ placed_at stages tables packet start (suc t) =
 
 -- Each stage up to the highest has instructions of its own, which give by place what those of the pass give in it.
 pub record AreReady
-    (ranges : List ValueRange) (plan : Plan) (steps : List Step) (highest : ℕ) (stages : List (List ReadyStep))
+    (ranges : List ValueRange) (plan : RegisterPlan) (steps : List Step) (highest : ℕ) (stages : List (List ReadyStep))
     : Type 0 where
   pub count : length stages ≡ suc highest
   pub can : Each CanStep steps → (t : ℕ) → t ≤ highest → Each CanReady (ready_at stages t)
@@ -128,7 +128,7 @@ lone work = record { instruction = 0; stage = 0; first = 0; work = work }
 can_ready_prop : (r : Ready) → IsProp (CanReady r)
 can_ready_prop r a b = λ i. (can_step_prop (lone r.work ∷ []) (a, tt) (b, tt) i).0
 
-pub ready_prop : (ranges : List ValueRange) (plan : Plan) (steps : List Step) (highest : ℕ) (stages : List (List ReadyStep))
+pub ready_prop : (ranges : List ValueRange) (plan : RegisterPlan) (steps : List Step) (highest : ℕ) (stages : List (List ReadyStep))
     → IsProp (AreReady ranges plan steps highest stages)
 ready_prop ranges plan steps highest stages a b = λ i. record {
   count = Coded-set coded_ℕ _ _ a.count b.count i;

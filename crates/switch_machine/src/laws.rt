@@ -5,7 +5,7 @@ ghost use Rattle.packet_fields.specs.declared.packet.Packet.{Packet};
 ghost use Rattle.state_store.specs.Store.{Store};
 ghost use Rattle.flat_ir.specs.declared.program.ValueId.{ValueId as Value};
 ghost use Rattle.flat_ir.specs.Blocks.{nothing, Reading};
-ghost use Rattle.flat_ir.specs.Plan.{Plan};
+ghost use Rattle.flat_ir.specs.Plan.{RegisterPlan};
 ghost use Rattle.transfer_header.specs.Registers.{content_of, value_in, ArePlaced, FitsLayout, HasRegister, Registers};
 ghost use Rattle.transfer_header.specs.Steps.{pairs_written};
 ghost use Rattle.switch_ir.specs.Code.{Code, PassCode, Step};
@@ -43,17 +43,17 @@ fn a_pass_is_computed()
 
 /// Computed by place, a pass leaves what it leaves by the numbers of its values.
 pub(crate) fn a_pass_by_place()
-    ensures can { (ranges : List ValueRange) (plan : Plan) (steps : List Step) (highest : ℕ)
+    ensures can { (ranges : List ValueRange) (plan : RegisterPlan) (steps : List Step) (highest : ℕ)
         (stages : List (List ReadyStep)) (t : ℕ) → AreReady ranges plan steps highest stages → Each CanStep steps
         → t < length stages → Each CanReady (ready_at stages t) }
-    ensures stage { (ranges : List ValueRange) (plan : Plan) (steps : List Step) (highest : ℕ)
+    ensures stage { (ranges : List ValueRange) (plan : RegisterPlan) (steps : List Step) (highest : ℕ)
         (stages : List (List ReadyStep)) (reads : Reading) (tables : Store) (packet : Packet) (registers : Registers)
         (t : ℕ) → AreReady ranges plan steps highest stages → registers.plan ≡ Some plan
         → length registers.numbers < 2 ^ 32 → t ≤ highest
         → all_placed registers (ready_gives (ready_at stages t) reads tables packet)
         ≡ pairs_written registers (stage_gives ranges (of_stage t steps) (λ v. reads (place_name ranges plan v)) tables
         packet) }
-    ensures pass { (ranges : List ValueRange) (plan : Plan) (pass : PassCode) (stages : List (List ReadyStep))
+    ensures pass { (ranges : List ValueRange) (plan : RegisterPlan) (pass : PassCode) (stages : List (List ReadyStep))
         (tables : Store) (packet : Packet) (start : Registers) → AreReady ranges plan pass.steps pass.highest stages
         → start.plan ≡ Some plan → length start.numbers < 2 ^ 32
         → placed_at stages tables packet start (length stages)

@@ -9,7 +9,7 @@ use Rattle.std.proofs.lemmas.List.Elements.{All-map, All-head, All-tail}
 use Rattle.std.proofs.lemmas.Map.Made.{IsDistinct-from_AllPairs}
 use Rattle.std.proofs.lemmas.Map.Steps.{length-le_from_distinct_below}
 use Rattle.flat_ir.specs.declared.spans.Span.{Span}
-use Rattle.flat_ir.specs.Plan.{Plan}
+use Rattle.flat_ir.specs.Plan.{RegisterPlan}
 use Rattle.flat_ir.specs.Spans.{covers}
 use Rattle.split_model.specs.declared.layout.Crossing.{Crossing}
 use Rattle.transfer_header.specs.Registers.{Registers, place_by, place_of, HasRegister, ArePlaced, IsRising, FitsLayout}
@@ -19,7 +19,7 @@ use Rattle.transfer_header.proofs.Elements.{AllPairs-map}
 -- ---- a register for each value
 pub own_place : (registers : Registers) → registers.plan ≡ None → (value : ℕ) → value < length registers.numbers → place_of registers value ≡ Some value
 own_place registers none value below =
-    ap (λ (p : Option Plan). place_by p (length registers.numbers) value) none
+    ap (λ (p : Option RegisterPlan). place_by p (length registers.numbers) value) none
     ∙ ap (λ (b : Bool). cond b (Some value) None) (lt-ltb value (length registers.numbers) below)
 
 pub some_is : {X : Type 0} (o : Option X) (x : X) → o ≡ Some x → IsSome o

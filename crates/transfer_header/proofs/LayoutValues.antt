@@ -8,7 +8,7 @@ use Rattle.std.specs.List.{All, AllPairs}
 use Rattle.split_model.specs.declared.layout.Crossing.{Crossing}
 use Rattle.transfer_header.specs.Bits.{bits_of, number_from, bits_in, bytes_for}
 use Rattle.transfer_header.specs.Values.{total, value_bits, AreNarrow, Agree}
-use Rattle.flat_ir.specs.Plan.{Plan}
+use Rattle.flat_ir.specs.Plan.{RegisterPlan}
 use Rattle.transfer_header.specs.Registers.{Registers, place_by, place_of, content_of, HasRegister, value_in, ChangesOnly}
 use Rattle.transfer_header.proofs.BitLists.{AreBits, are_bits_of, length-bits_of, length-bits_in, number_from-bits_of}
 
@@ -106,7 +106,7 @@ pub record IsSet (before after : Registers) (value to : ℕ) : Type 0 where
 -- places hang on the plan and on how many numbers there are
 pub same_places : (before after : Registers) → after.plan ≡ before.plan → length after.numbers ≡ length before.numbers → (value : ℕ) → place_of after value ≡ place_of before value
 same_places before after plan count value =
-    ap (λ (p : Option Plan). place_by p (length after.numbers) value) plan ∙ ap (λ n. place_by before.plan n value) count
+    ap (λ (p : Option RegisterPlan). place_by p (length after.numbers) value) plan ∙ ap (λ n. place_by before.plan n value) count
 
 abbrev pub AreApartIn : Registers → List Crossing → Type 0
 AreApartIn registers layout = AllPairs (λ (a b : Crossing). place_of registers a.number ≢ place_of registers b.number) layout

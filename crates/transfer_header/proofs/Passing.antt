@@ -5,7 +5,7 @@ use Rattle.std.proofs.lemmas.List.Elements.{All-contains, All-head, All-tail}
 use Rattle.std.proofs.lemmas.Bool.{cases_eq, cases_Bool, and_from, and_parts, le-leb, leb-true, true≢false}
 use Rattle.flat_ir.specs.declared.spans.Span.{Span}
 use Rattle.flat_ir.specs.Spans.{last_step, covers, spans_of}
-use Rattle.flat_ir.specs.Plan.{Plan, register_of, AreApart}
+use Rattle.flat_ir.specs.Plan.{RegisterPlan, register_of, AreApart}
 use Rattle.transfer_header.specs.Registers.{Registers, place_by, place_of, number_by, content_of, written, ArePlaced}
 use Rattle.transfer_header.specs.Steps.{Contents, Steps, is_among, LooksAtReadsAlone, reading_after, one_each, all_written, pairs_written, registers_after, in_registers, IsSpanOf, AreSpansOf, AreKeptApart, IsReady, KeepsCovered, IsDoneAlike, IsAlike}
 use Rattle.transfer_header.proofs.Members.{HasSpan, has_span, is_counted}
@@ -147,7 +147,7 @@ some_of : (o : Option ℕ) → (o ≡ None → ⊥) → IsSome o
 some_of (Some x) other = refl
 some_of None other = absurd (other refl)
 
-pub plan_apart : (spans : List Span) (plan : Plan) (registers : Registers)
+pub plan_apart : (spans : List Span) (plan : RegisterPlan) (registers : Registers)
     → ((value : ℕ) → (register_of plan value ≡ None) ↔ (spans_of spans value ≡ 0))
     → AreApart spans plan.rows → registers.plan ≡ Some plan → AreKeptApart spans registers
 plan_apart spans plan registers none apart is = record {
@@ -158,7 +158,7 @@ plan_apart spans plan registers none apart is = record {
 }
   where
     place : (value : ℕ) → place_of registers value ≡ register_of plan value
-    place value = ap (λ (p : Option Plan). place_by p (length registers.numbers) value) is
+    place value = ap (λ (p : Option RegisterPlan). place_by p (length registers.numbers) value) is
 
 -- ---- a list of values and their numbers
 pub pairs_are : (registers : Registers) (pairs : List (ℕ × ℕ)) (numbers : Contents) → All (λ p. p.1 ≡ numbers p.0) pairs

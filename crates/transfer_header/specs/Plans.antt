@@ -2,12 +2,12 @@
 use Rattle.std.specs.Prelude.{◌≡◌, ◌↔◌, ℕ, ◌≤◌, List, None}
 use Rattle.std.specs.Coded.{Coded-set, coded_ℕ, coded_option, le_prop}
 use Rattle.flat_ir.specs.declared.spans.Span.{Span}
-use Rattle.flat_ir.specs.Plan.{Plan, register_of, AreBelow, AreApart}
+use Rattle.flat_ir.specs.Plan.{RegisterPlan, register_of, AreBelow, AreApart}
 use Rattle.flat_ir.specs.Spans.{overlap, spans_of}
 
 -- Whatever has a span has a register, and nothing else has; values that are needed at one step have two; and there are
 -- no more registers than the greatest number of spans that cover one step.
-pub record IsPlanOf (spans : List Span) (plan : Plan) : Type 0 where
+pub record IsPlanOf (spans : List Span) (plan : RegisterPlan) : Type 0 where
   pub registers : (value : ℕ) → (register_of plan value ≡ None) ↔ (spans_of spans value ≡ 0)
   pub below : AreBelow plan.rows plan.count
   pub apart : AreApart spans plan.rows
@@ -18,7 +18,7 @@ pub record IsPlanOf (spans : List Span) (plan : Plan) : Type 0 where
 never_prop : IsProp ⊥
 never_prop a b = absurd a
 
-pub plan_prop : (spans : List Span) (plan : Plan) → IsProp (IsPlanOf spans plan)
+pub plan_prop : (spans : List Span) (plan : RegisterPlan) → IsProp (IsPlanOf spans plan)
 plan_prop spans plan a b = λ i. record {
   registers = λ value. (
     λ none. Coded-set coded_ℕ _ _ ((a.registers value).0 none) ((b.registers value).0 none) i,

@@ -4,7 +4,7 @@ use Rattle.std.specs.Prelude.{slice_set, Option, Some, None, IsSome, refl}
 use Rattle.std.specs.Coded.{Coded, code_by, coded×, coded_ℕ, coded_list, coded_option}
 use Rattle.std.specs.List.{All, AllPairs}
 use Rattle.flat_ir.specs.Blocks.{Reading}
-use Rattle.flat_ir.specs.Plan.{Plan, plan_code, register_of}
+use Rattle.flat_ir.specs.Plan.{RegisterPlan, plan_code, register_of}
 use Rattle.flat_ir.specs.Program.{Program}
 use Rattle.split_model.specs.declared.layout.Crossing.{Crossing}
 use Rattle.split_model.specs.Layouts.{number_of}
@@ -14,15 +14,15 @@ use Rattle.transfer_header.specs.Values.{Agree, value_by}
 
 -- numbers, and a plan of which value has which of them; without a plan each value has the one at its own place
 pub record Registers : Type 0 where
-  pub plan : Option Plan
+  pub plan : Option RegisterPlan
   pub numbers : List ℕ
 
 abbrev pub registers_code : Coded Registers
 registers_code =
-    code_by (Option Plan × List ℕ) (coded× (coded_option plan_code) (coded_list coded_ℕ))
+    code_by (Option RegisterPlan × List ℕ) (coded× (coded_option plan_code) (coded_list coded_ℕ))
     (λ r. (r.plan, r.numbers)) (λ p. record { plan = p.0; numbers = p.1 }) (λ _. refl)
 
-abbrev pub place_by : Option Plan → ℕ → ℕ → Option ℕ
+abbrev pub place_by : Option RegisterPlan → ℕ → ℕ → Option ℕ
 place_by None count value = if nat_lt value count then Some value else None
 place_by (Some plan) count value = register_of plan value
 

@@ -7,7 +7,7 @@ ghost use Rattle.flat_ir.specs.declared.program.ValueId.{ValueId};
 ghost use Rattle.flat_ir.specs.declared.spans.Span.{Span};
 ghost use Rattle.flat_ir.specs.Blocks.{Reading};
 ghost use Rattle.flat_ir.specs.Spans.{spans_of};
-ghost use Rattle.flat_ir.specs.Plan.{Plan, register_of, AreApart, AreBelow, IsGreatestOverlap};
+ghost use Rattle.flat_ir.specs.Plan.{RegisterPlan, register_of, AreApart, AreBelow, IsGreatestOverlap};
 ghost use Rattle.flat_ir.specs.Program.{Program, is_named};
 ghost use Rattle.split_model.specs.declared.split.Part.{Part};
 ghost use Rattle.split_model.specs.declared.layout.Crossing.{Crossing};
@@ -127,7 +127,7 @@ pub fn a_write_keeps_others()
 
 /// In the registers of a plan that was made of spans, values that are needed at one step are apart.
 pub fn a_plan_keeps_apart()
-    ensures { (spans : List Span) (plan : Plan) (registers : Registers)
+    ensures { (spans : List Span) (plan : RegisterPlan) (registers : Registers)
         → ((value : ℕ) → (register_of plan value ≡ None) ↔ (spans_of spans value ≡ 0))
         → AreApart spans plan.rows → registers.plan ≡ Some plan → AreKeptApart spans registers }
 {}
@@ -135,11 +135,11 @@ pub fn a_plan_keeps_apart()
 /// What gives registers to what has a span, and no more of them than values that are needed at one step, is a plan of
 /// the spans, and in its registers such values are apart.
 pub fn plans_of_spans()
-    ensures made { (spans : List Span) (plan : Plan)
+    ensures made { (spans : List Span) (plan : RegisterPlan)
         → ((value : ℕ) → (register_of plan value ≡ None) ↔ (spans_of spans value ≡ 0))
         → AreBelow plan.rows plan.count → AreApart spans plan.rows → IsGreatestOverlap spans plan.count
         → IsPlanOf spans plan }
-    ensures apart { (spans : List Span) (plan : Plan) (registers : Registers)
+    ensures apart { (spans : List Span) (plan : RegisterPlan) (registers : Registers)
         → IsPlanOf spans plan → registers.plan ≡ Some plan → AreKeptApart spans registers }
 {}
 

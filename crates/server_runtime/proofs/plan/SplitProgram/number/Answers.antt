@@ -3,7 +3,7 @@ use Rattle.std.proofs.lemmas.Grind.{get_or_default_zero}
 use Rattle.flat_ir.specs.Program.{program_of}
 use Rattle.server_runtime.proofs.Numbers.{number_of_named, number_of_none}
 use Rattle.server_runtime.proofs.Steps.{code_length}
-use Rattle.server_runtime.proofs.plan.SplitProgram.number.Goals as goal
+use Rattle.server_runtime.proofs.plan.PreparedProgram.number.Goals as goal
 
 pub returns-then-value-index : goal.returns-then-value-index
 returns-then-value-index c =

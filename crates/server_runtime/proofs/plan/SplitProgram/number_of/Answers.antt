@@ -2,7 +2,7 @@ use Rattle.std.proofs.Common.{arith, ◌∙◌}
 use Rattle.std.proofs.lemmas.Grind.{get_or_default_zero}
 use Rattle.flat_ir.specs.Program.{program_of}
 use Rattle.server_runtime.proofs.Numbers.{below_all, named_parts}
-use Rattle.server_runtime.proofs.plan.SplitProgram.number_of.Goals as goal
+use Rattle.server_runtime.proofs.plan.PreparedProgram.number_of.Goals as goal
 
 pub overflow_add-result : goal.overflow_add-result
 overflow_add-result c =
