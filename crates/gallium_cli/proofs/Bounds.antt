@@ -23,7 +23,7 @@ use Rattle.gal_bits.specs.Fitting.{sum_of}
 use Rattle.split_model.specs.Bounds.{IsSmall, IsBounded}
 use Rattle.gallium_cli.specs.declared.refusal.Refusal.TheVariants.{LongProgram}
 use Rattle.gallium_cli.specs.Roles.{program, IsShort}
-use Rattle.gallium_cli.specs.Answers.{IsOnlySource}
+use Rattle.gallium_cli.specs.Roles.{IsOnlySource}
 use Rattle.gallium_cli.specs.Loads.{IsUnread}
 
 left : (a b : Bool) → (a && b) ≡ true → a ≡ true

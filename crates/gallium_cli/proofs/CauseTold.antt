@@ -1,5 +1,5 @@
 -- Which line a shut gate leads to.
-use Rattle.std.proofs.Common.{◌≡◌, ◌<◌, ◌⊎◌, ℕ, List, length, Option, Some, None, IfSome, IsSomeAnd, sym}
+use Rattle.std.proofs.Common.{◌≡◌, ◌≢◌, ◌<◌, ◌⊎◌, ℕ, List, length, Option, Some, None, IfSome, IsSomeAnd, sym}
 use Rattle.std.proofs.Common.{refl, ap, subst, ◌∙◌, inl, inr, arith}
 use Rattle.std.specs.Io.KnownBytes.{append_known}
 use Rattle.gal_io.specs.Files.{FilesState}
@@ -14,28 +14,43 @@ use Rattle.element_lang.specs.Tree.{Tree}
 use Rattle.flat_ir.specs.Program.{Program}
 use Rattle.flatten.specs.Flatten.{flat_of}
 use Rattle.run_text.specs.declared.refusal.LinesError.{LinesError}
+use Rattle.element_chain.specs.declared.chain.Chain.{Chain as ChainTold}
+use Rattle.chain_text.specs.declared.error.ChainTextError.{ChainTextError}
+use Rattle.chain_compose.specs.Refusals as reasons
+use Rattle.chain_compose.specs.declared.error.ComposeError.{ComposeError}
+use Rattle.chain_compose.specs.declared.error.ComposeError.TheVariants as composing
 use Rattle.gallium_cli.specs.declared.status.Status.{Status}
+use Rattle.gallium_cli.specs.declared.status.Status.TheVariants as statuses
 use Rattle.gallium_cli.specs.declared.refusal.Refusal.{Refusal}
 use Rattle.gallium_cli.specs.declared.refusal.Refusal.TheVariants.{Source, LongProgram, Limits, Exceeded, Split, Trace, Schedule}
-use Rattle.gallium_cli.specs.declared.refusal.Refusal.TheVariants.{TooLong, ReadFault, NoMemory, Pcap, Report, Audit}
+use Rattle.gallium_cli.specs.declared.refusal.Refusal.TheVariants.{TooLong, ReadFault, NoMemory, Pcap, Report, Audit, Chain}
+use Rattle.gallium_cli.specs.declared.refusal.Refusal.TheVariants.{ClassSource, ClassTooLong, ClassReadFault}
+use Rattle.gallium_cli.specs.declared.refusal.Refusal.TheVariants as refusals
 use Rattle.gallium_cli.specs.Call.{Call}
 use Rattle.gallium_cli.specs.Lines.{status_of, line_of}
 use Rattle.gallium_cli.specs.Words.{Request}
-use Rattle.gallium_cli.specs.Roles.{Role, source, program, limits, legal_split, true_report, trace, schedule, capture}
-use Rattle.gallium_cli.specs.Roles.{size_of, IsBad, Gate, File, Choice, SplitFile, ReportFile, gates_of}
+use Rattle.gallium_cli.specs.Roles.{Role, source, program, limits, legal_split, true_report, wiring, trace, schedule}
+use Rattle.gallium_cli.specs.Roles.{capture, IsGood}
+use Rattle.gallium_cli.specs.Roles.{size_of, IsBad, Gate, File, Choice, SplitFile, ReportFile, Composed}
+use Rattle.gallium_cli.specs.Roles.{gates_of}
 use Rattle.gallium_cli.specs.Splits.{IsBadSplit}
 use Rattle.gallium_cli.specs.Reports.{IsBadReport}
 use Rattle.gallium_cli.specs.Loads.{IsBadSource, IsLongProgram, AreBadLimits, IsBadTrace, IsBadSchedule, IsFileRefused}
-use Rattle.gallium_cli.specs.Loads.{IsBadCapture}
+use Rattle.gallium_cli.specs.Loads.{IsBadCapture, IsBadChain}
+use Rattle.gallium_cli.specs.Chains.{AreClasses, IsClassRefused, IsFirstClassRefused, IsUncomposed}
+use Rattle.gallium_cli.specs.Chains.{class_files, connected, uncomposed_of}
 use Rattle.gallium_cli.specs.Causes.{IsPassed, IsRefusedAt, IsFirstRefused, IsTold, EndsFor}
 use Rattle.gallium_cli.specs.Promises.{IsEarlyFault, IsStatusOf, IsRefusedAs, IsOpen, IsShut, IsCause, IsShutFor, IsFirstShut}
-use Rattle.gallium_cli.specs.Promises.{IsFirstCause, IsCauseTold}
+use Rattle.gallium_cli.specs.Promises.{IsFirstCause, IsCauseTold, IsFirstClassCause, IsFirstClassShut, IsClassCause}
+use Rattle.gallium_cli.specs.Promises.{IsToldUncomposed}
 use Rattle.gallium_cli.proofs.Choices.{same_role, same_excess}
 use Rattle.gallium_cli.proofs.Unkept.{Laws, bad_split, cause_split, one_cause}
 use Rattle.gallium_cli.proofs.Untrue.{cause_report, same_report}
 use Rattle.gallium_cli.proofs.Walks.{walks, at_gates}
 use Rattle.gallium_cli.proofs.Exact.{no_limits, no_trace, no_schedule, open_refused, shut_unpassed, passed_unshut}
 use Rattle.gallium_cli.proofs.Exact.{answer_passed, failed_passed, unwritten_fault}
+use Rattle.gallium_cli.proofs.Exact.{good_class, good_classes, good_not_refused, told_good, classes_good, classes_unshut}
+use Rattle.gallium_cli.proofs.Exact.{one_chain, one_classes}
 
 -- a status and what err received, for this cause
 abbrev IsLine : Refusal → Status → SinkState → SinkState → Type 0
@@ -71,6 +86,7 @@ cause_is_bad laws (Schedule fault) schedule text why = no_schedule fault text wh
 cause_is_bad laws (Pcap fault) capture text why = why.1
 cause_is_bad laws (Report number) (true_report m packets) text why = why.0
 cause_is_bad laws (Audit untruth) (true_report m packets) text why = why.0
+cause_is_bad laws (Chain fault) wiring text why = why.1
 cause_is_bad laws _ role text why = absurd why
 
 not_long : Laws → (cause : Refusal) (role : Role) (told : Option (List ℕ)) → IsSomeAnd told (IsCause cause role)
@@ -125,6 +141,11 @@ same_in_capture : (cause : Refusal) (found : PcapError) (text : List ℕ) → Is
     → IsBadCapture found text → cause ≡ Pcap found
 same_in_capture (Pcap fault) found text why bad = ap Pcap (bad.1.only fault why.0 why.2)
 same_in_capture _ found text why bad = absurd why
+
+same_in_chain : (cause : Refusal) (found : ChainTextError) (text : List ℕ) → IsCause cause wiring text
+    → IsBadChain found text → cause ≡ Chain found
+same_in_chain (Chain fault) found text why bad = ap Chain (bad.1.only fault why.0 why.2)
+same_in_chain _ found text why bad = absurd why
 
 same_in_report : (cause found : Refusal) (m : Tree) (packets : List Packet) (text : List ℕ)
     → IsCause cause (true_report m packets) text → IsBadReport found m packets text → cause ≡ found
@@ -187,6 +208,9 @@ cause_file (Audit found) (true_report m packets) name cause result f f' e e' law
     same_told (IsBadReport (Audit found) m packets) cause (Audit found) role
     (same_in_report cause (Audit found) m packets) (f.told name) why refused in
     line_of_cause (Audit found) cause result e e' same told
+cause_file (Chain found) wiring name cause result f f' e e' laws why refused told =
+    let same = same_told (IsBadChain found) cause (Chain found) wiring (same_in_chain cause found) (f.told name) why refused.1 in
+    line_of_cause (Chain found) cause result e e' same told
 cause_file (TooLong blamed) role name cause result f f' e e' laws why refused told =
     absurd (not_long laws cause role (f.told name) why refused.1)
 cause_file (ReadFault blamed) role name cause result f f' e e' laws why refused told =
@@ -208,6 +232,7 @@ cause_status laws (Schedule fault) schedule text why = refl
 cause_status laws (Pcap fault) capture text why = refl
 cause_status laws (Report number) (true_report m packets) text why = cause_report (Report number) m packets text why.1
 cause_status laws (Audit untruth) (true_report m packets) text why = cause_report (Audit untruth) m packets text why.1
+cause_status laws (Chain fault) wiring text why = refl
 cause_status laws _ role text why = absurd why
 
 refused_as : Laws → (cause : Refusal) (role : Role) (told : Option (List ℕ)) → IsSomeAnd told (IsCause cause role)
@@ -215,6 +240,107 @@ refused_as : Laws → (cause : Refusal) (role : Role) (told : Option (List ℕ))
 refused_as laws cause role None why = why
 refused_as laws cause role (Some text) why =
     inr (cause_status laws cause role text why, cause_is_bad laws cause role text why)
+
+-- ## One chain
+
+-- the file of a class with a cause is refused with its status
+class_as : Laws → (cause : Refusal) (name : List ℕ) (told : Option (List ℕ)) → IsSomeAnd told (IsClassCause cause name)
+    → IsSomeAnd told (IsRefusedAs source (status_of cause))
+class_as laws cause name None why = why
+class_as laws (ClassSource fault file) name (Some text) why =
+    refused_as laws (Source fault) source (Some text) why.1
+class_as laws _ name (Some text) why = absurd why
+
+class_with : Laws → (told : List ℕ → Option (List ℕ)) (cause : Refusal) (name : List ℕ)
+    → IsSomeAnd (told name) (IsClassCause cause name) → IsSomeAnd (told name) (IsRefusedAs source (status_of cause))
+class_with laws told cause name why = class_as laws cause name (told name) why
+
+classes_with : Laws → (told : List ℕ → Option (List ℕ)) (names : List (List ℕ)) (cause : Refusal)
+    → IsFirstClassCause told names cause → IsFirstClassShut told names (status_of cause)
+classes_with laws told names cause why =
+    at_gates (λ name. IsSomeAnd (told name) (IsGood source)) (λ name. IsSomeAnd (told name) (IsClassCause cause name))
+    (λ name. IsSomeAnd (told name) (IsRefusedAs source (status_of cause)))
+    (λ name here. class_with laws told cause name here) names why
+
+chain_with : Laws → (told : List ℕ → Option (List ℕ)) (chain : ChainTold) (cause : Refusal)
+    → (IsFirstClassCause told (class_files chain.elements) cause
+    ⊎ ((error : ComposeError) × IsToldUncomposed told chain error
+    × (cause ≡ refusals.Uncomposed (uncomposed_of chain.elements error))))
+    → IsFirstClassShut told (class_files chain.elements) (status_of cause)
+    ⊎ ((status_of cause ≡ statuses.Chain) × ((error : ComposeError) × IsToldUncomposed told chain error))
+chain_with laws told chain cause (inl first) = inl (classes_with laws told (class_files chain.elements) cause first)
+chain_with laws told chain cause (inr (error, why, is)) = inr (ap status_of is, (error, why))
+
+-- a class file that is refused where it has a cause is refused for that, or there is a fault
+class_source : (told : Option (List ℕ)) (cause : Refusal) (name file : List ℕ) (found : TextError)
+    → IsSomeAnd told (IsClassCause cause name) → file ≡ name → IfSome told (IsBadSource found)
+    → cause ≡ ClassSource found file
+class_source None cause name file found why is bad = absurd why
+class_source (Some text) (ClassSource fault other) name file found why is bad =
+    let faults : fault ≡ found = bad.1.only fault why.1 why.3 in
+    let files : other ≡ file = why.0 ∙ sym is in
+    ap (λ (x : TextError). ClassSource x other) faults ∙ ap (ClassSource found) files
+class_source (Some text) _ name file found why is bad = absurd why
+
+class_not_long : Laws → (cause : Refusal) (name : List ℕ) (told : Option (List ℕ)) → IsSomeAnd told (IsClassCause cause name)
+    → IfSome told (λ text. size_of source < length text) → ⊥
+class_not_long laws cause name None why long = why
+class_not_long laws (ClassSource fault file) name (Some text) why long =
+    not_long laws (Source fault) source (Some text) why.1 long
+class_not_long laws _ name (Some text) why long = why
+
+class_line : (refusal : Refusal) (name : List ℕ) (cause : Refusal) (result : Status) (f f' : FilesState)
+    (e e' : SinkState) → Laws → IsSomeAnd (f.told name) (IsClassCause cause name) → IsClassRefused refusal name f f'
+    → IsTold refusal result e e' → IsLine cause result e e'
+class_line (ClassSource found file) name cause result f f' e e' laws why refused told =
+    line_of_cause (ClassSource found file) cause result e e'
+    (class_source (f.told name) cause name file found why refused.0 refused.2) told
+class_line (ClassTooLong file) name cause result f f' e e' laws why refused told =
+    absurd (class_not_long laws cause name (f.told name) why refused.1)
+class_line (ClassReadFault file) name cause result f f' e e' laws why refused told =
+    line_of_fault (ClassReadFault file) cause result e e' told tt
+class_line NoMemory name cause result f f' e e' laws why refused told = line_of_fault NoMemory cause result e e' told tt
+class_line _ name cause result f f' e e' laws why refused told = absurd refused
+
+composing_told : (refusal : Refusal) (chain : ChainTold) (ms : List Tree) (error : ComposeError) (cause : Refusal)
+    (result : Status) (e e' : SinkState) → Laws → error ≢ composing.NoMemory → reasons.IsRefused (connected chain ms) error
+    → cause ≡ refusals.Uncomposed (uncomposed_of chain.elements error) → IsUncomposed refusal chain ms
+    → IsTold refusal result e e' → IsLine cause result e e'
+composing_told (refusals.Uncomposed told) chain ms error cause result e e' laws real why is (found, other, refused, same) line =
+    let one = laws.reason (connected chain ms) error found real other why refused in
+    line_of_cause (refusals.Uncomposed told) cause result e e'
+    (is ∙ ap (λ x. refusals.Uncomposed (uncomposed_of chain.elements x)) one ∙ ap refusals.Uncomposed (sym same)) line
+composing_told NoMemory chain ms error cause result e e' laws real why is refused line =
+    line_of_fault NoMemory cause result e e' line tt
+composing_told _ chain ms error cause result e e' laws real why is refused line = absurd refused
+
+chain_line : (refusal : Refusal) (chain : ChainTold) (cause : Refusal) (result : Status) (f f' : FilesState)
+    (e e' : SinkState) → Laws
+    → (IsFirstClassCause f.told (class_files chain.elements) cause
+    ⊎ ((error : ComposeError) × IsToldUncomposed f.told chain error
+    × (cause ≡ refusals.Uncomposed (uncomposed_of chain.elements error))))
+    → (IsFirstClassRefused refusal (class_files chain.elements) f f'
+    ⊎ ((ns : List Tree) × AreClasses f.told chain.elements ns × IsUncomposed refusal chain ns))
+    → IsTold refusal result e e' → IsLine cause result e e'
+chain_line refusal chain cause result f f' e e' laws (inl first) (inl refused) told =
+    walks (λ name. IsSomeAnd (f.told name) (IsGood source)) (λ name. IsSomeAnd (f.told name) (IsClassCause cause name))
+    (λ name. IfSome (f.told name) (IsGood source)) (λ name. IsClassRefused refusal name f f') (IsLine cause result e e')
+    (λ name here there. class_line refusal name cause result f f' e e' laws here there told)
+    (λ name here passed.
+    absurd (good_not_refused source (status_of cause) (f.told name) passed (class_with laws f.told cause name here)))
+    (λ name free there. line_of_fault refusal cause result e e' told (good_class refusal name f f' laws free there))
+    (class_files chain.elements) first refused
+chain_line refusal chain cause result f f' e e' laws (inl first) (inr (ns, are, why)) told =
+    let names = class_files chain.elements in
+    absurd (classes_unshut f.told names (status_of cause) (classes_good f.told chain.elements ns are)
+    (classes_with laws f.told names cause first))
+chain_line refusal chain cause result f f' e e' laws (inr (error, (ms, asked, real, why), is)) (inl first) told =
+    line_of_fault refusal cause result e e' told
+    (good_classes refusal (class_files chain.elements) f f' laws (told_good f.told chain ms asked) first)
+chain_line refusal chain cause result f f' e e' laws (inr (error, (ms, asked, real, why), is)) (inr (ns, are, refused)) told =
+    let same = one_classes f.told chain ms ns asked are in
+    composing_told refusal chain ns error cause result e e' laws real
+    (subst (λ (k : List Tree). reasons.IsRefused (connected chain k) error) same why) is refused told
 
 -- ## One gate
 
@@ -228,6 +354,7 @@ shut_with laws told (SplitFile s l p) cause (m, allowed, asked, why) =
     (m, allowed, asked, refused_as laws cause (legal_split (flat_of m) allowed) (told p) why)
 shut_with laws told (ReportFile s t r) cause (m, packets, asked, why) =
     (m, packets, asked, refused_as laws cause (true_report m packets) (told r) why)
+shut_with laws told (Composed w) cause (chain, asked, why) = (chain, asked, chain_with laws told chain cause why)
 
 -- what is refused at such a gate is refused for this cause, or there is a fault
 shut_line : (refusal : Refusal) (gate : Gate) (cause : Refusal) (result : Status) (f f' : FilesState) (e e' : SinkState)
@@ -243,6 +370,11 @@ shut_line refusal (ReportFile s t r) cause result f f' e e' laws (m, packets, as
     let same = same_report f.told s t m m' packets packets' asked found in
     cause_file refusal (true_report m' packets') r cause result f f' e e' laws
     (subst (λ (role : Role). IsSomeAnd (f.told r) (IsCause cause role)) same why) refused told
+shut_line refusal (Composed w) cause result f f' e e' laws (chain, asked, why) (found, wired, refused) told =
+    let same = one_chain laws f.told w chain found asked wired in
+    chain_line refusal chain cause result f f' e e' laws why
+    (subst (λ (c : ChainTold). IsFirstClassRefused refusal (class_files c.elements) f f'
+    ⊎ ((ns : List Tree) × AreClasses f.told c.elements ns × IsUncomposed refusal c ns)) (sym same) refused) told
 shut_line refusal (Choice s l shrink) cause result f f' e e' laws (m, allowed, over, asked, exceeded, is) refused told =
     elim (same_excess refusal f.told s l shrink m allowed over laws.greatest asked exceeded refused) [
       | inl same ↦ line_of_cause refusal cause result e e' (is ∙ same) told

@@ -21,7 +21,8 @@ use Rattle.gallium_cli.specs.declared.refusal.Refusal.{Refusal}
 use Rattle.gallium_cli.specs.declared.refusal.Refusal.TheVariants.{Exceeded, NoMemory}
 use Rattle.gallium_cli.specs.Lines.{status_of}
 use Rattle.gallium_cli.specs.Roles.{program, limits, legal_split, size_of, AreLimits}
-use Rattle.gallium_cli.specs.Answers.{IsOnlySource, IsPlan}
+use Rattle.gallium_cli.specs.Roles.{IsOnlySource}
+use Rattle.gallium_cli.specs.Answers.{IsPlan}
 use Rattle.gallium_cli.specs.Splits.{excess_of}
 use Rattle.gallium_cli.specs.Causes.{IsOverLimit}
 use Rattle.gallium_cli.specs.Promises.{IsToldPlan, IsEarlyFault, IsUnlessEarlyFault}

@@ -14,9 +14,11 @@ use Rattle.gallium_cli.specs.declared.status.Status.{Status}
 use Rattle.gallium_cli.specs.declared.status.Status.TheVariants as statuses
 use Rattle.gallium_cli.specs.declared.refusal.Refusal.{Refusal}
 use Rattle.gallium_cli.specs.declared.refusal.Refusal.TheVariants.{Usage, TooLong, ReadFault, WriteFault, SwitchFault, NoMemory}
+use Rattle.gallium_cli.specs.declared.refusal.Refusal.TheVariants.{ClassTooLong, ClassReadFault}
 use Rattle.gallium_cli.specs.Call.{work_of}
 use Rattle.gallium_cli.specs.Lines.{status_of}
-use Rattle.gallium_cli.specs.Roles.{Role, Gate, File, Choice, SplitFile, ReportFile}
+use Rattle.gallium_cli.specs.Roles.{Role, Gate, File, Choice, SplitFile, ReportFile, Composed}
+use Rattle.gallium_cli.specs.Chains.{IsFirstClassRefused, class_files}
 use Rattle.gallium_cli.specs.Loads.{GoesOn, IsUnread, is_read_fault, is_too_long}
 use Rattle.gallium_cli.specs.Puts.{IsPut, IsNotPut}
 use Rattle.gallium_cli.specs.Causes.{IsFirstRefused, IsUnchosen, CountsFaults, is_write_fault, is_switch_fault}
@@ -102,12 +104,16 @@ pub unread_status : (refusal : Refusal) (role : Role) (text : List ℕ) → IsUn
     → IsNoFileFault (status_of refusal)
 unread_status (TooLong name) role text unread = absurd unread
 unread_status (ReadFault name) role text unread = absurd unread
+unread_status (ClassTooLong name) role text unread = absurd unread
+unread_status (ClassReadFault name) role text unread = absurd unread
 unread_status _ role text unread = (refl, refl)
 
 pub unchosen_status : (refusal : Refusal) (f : Program) (allowed : Limits) (shrink : Bool)
     → IsUnchosen refusal f allowed shrink → IsNoFileFault (status_of refusal)
 unchosen_status (TooLong name) f allowed shrink why = absurd why
 unchosen_status (ReadFault name) f allowed shrink why = absurd why
+unchosen_status (ClassTooLong name) f allowed shrink why = absurd why
+unchosen_status (ClassReadFault name) f allowed shrink why = absurd why
 unchosen_status _ f allowed shrink why = (refl, refl)
 
 -- a text that isn't read, and limits that allow no split, leave the files as the reads did
@@ -123,13 +129,26 @@ unchosen_goes refusal p allowed shrink f g why goes =
 
 -- ## Gates
 
--- no gate is refused for out or for the switch
+-- no class file and no gate is refused for out or for the switch
+no_write_class : (names : List (List ℕ)) (f f' : FilesState) → IsFirstClassRefused WriteFault names f f' → ⊥
+no_write_class [] f f' h = h
+no_write_class (name ∷ names) f f' (inl h) = h
+no_write_class (name ∷ names) f f' (inr later) = no_write_class names f f' later.1
+
+no_switch_class : (names : List (List ℕ)) (f f' : FilesState) → IsFirstClassRefused SwitchFault names f f' → ⊥
+no_switch_class [] f f' h = h
+no_switch_class (name ∷ names) f f' (inl h) = h
+no_switch_class (name ∷ names) f f' (inr later) = no_switch_class names f f' later.1
+
 pub no_write_fault : (gates : List Gate) (f f' : FilesState) → IsFirstRefused WriteFault gates f f' → ⊥
 no_write_fault [] f f' h = h
 no_write_fault (File name role ∷ gates) f f' (inl h) = h
 no_write_fault (Choice s l shrink ∷ gates) f f' (inl (m, allowed, found, never)) = never
 no_write_fault (SplitFile s l p ∷ gates) f f' (inl (m, allowed, found, never)) = never
 no_write_fault (ReportFile s t r ∷ gates) f f' (inl (m, packets, found, never)) = never
+no_write_fault (Composed w ∷ gates) f f' (inl (chain, wired, inl first)) =
+    no_write_class (class_files chain.elements) f f' first
+no_write_fault (Composed w ∷ gates) f f' (inl (chain, wired, inr (ms, are, never))) = never
 no_write_fault (gate ∷ gates) f f' (inr later) = no_write_fault gates f f' later.1
 
 pub no_switch_fault : (gates : List Gate) (f f' : FilesState) → IsFirstRefused SwitchFault gates f f' → ⊥
@@ -138,6 +157,9 @@ no_switch_fault (File name role ∷ gates) f f' (inl h) = h
 no_switch_fault (Choice s l shrink ∷ gates) f f' (inl (m, allowed, found, never)) = never
 no_switch_fault (SplitFile s l p ∷ gates) f f' (inl (m, allowed, found, never)) = never
 no_switch_fault (ReportFile s t r ∷ gates) f f' (inl (m, packets, found, never)) = never
+no_switch_fault (Composed w ∷ gates) f f' (inl (chain, wired, inl first)) =
+    no_switch_class (class_files chain.elements) f f' first
+no_switch_fault (Composed w ∷ gates) f f' (inl (chain, wired, inr (ms, are, never))) = never
 no_switch_fault (gate ∷ gates) f f' (inr later) = no_switch_fault gates f f' later.1
 
 gates_no_write : (refusal : Refusal) (gates : List Gate) (f f' : FilesState) → IsFirstRefused refusal gates f f'

@@ -1,6 +1,16 @@
 -- Which status told files and limits lead to.
 use Rattle.std.proofs.Common.{◌≡◌, ◌<◌, ℕ, List, [], ◌∷◌, length, Option, Some, None, IfSome, IsSomeAnd, subst, sym}
-use Rattle.std.proofs.Common.{inl, inr, arith}
+use Rattle.std.proofs.Common.{inl, inr, arith, refl, ap, ◌∙◌, ◌≤◌, zero, suc, Bool, true, false, map, slice_get}
+use Rattle.std.specs.Prelude.{filter, not, if◌then◌else◌}
+use Rattle.std.specs.List.{AllByRecursion as Each}
+use Rattle.std.specs.Str.{bytes_eq}
+use Rattle.element_lang.specs.Accepted.{IsSource}
+use Rattle.element_chain.specs.declared.chain.Chain.{Chain as ChainTold}
+use Rattle.element_chain.specs.declared.chain.Element.{Element}
+use Rattle.chain_text.specs.Reads.{IsChainText}
+use Rattle.chain_text.specs.declared.error.ChainTextError.{ChainTextError}
+use Rattle.chain_compose.specs.Refusals as composing
+use Rattle.chain_compose.specs.declared.error.ComposeError.{ComposeError}
 use Rattle.gal_io.specs.Files.{FilesState}
 use Rattle.gal_io.specs.Sink.{SinkState}
 use Rattle.gal_io.specs.declared.sink.SinkEnd.{SinkEnd}
@@ -20,22 +30,30 @@ use Rattle.gallium_cli.specs.declared.status.Status.TheVariants as statuses
 use Rattle.gallium_cli.specs.declared.refusal.Refusal.{Refusal}
 use Rattle.gallium_cli.specs.declared.refusal.Refusal.TheVariants.{Source, LongProgram, Limits, Exceeded, Split, Trace, Schedule}
 use Rattle.gallium_cli.specs.declared.refusal.Refusal.TheVariants.{TooLong, ReadFault, WriteFault, SwitchFault, NoMemory, Pcap}
-use Rattle.gallium_cli.specs.declared.refusal.Refusal.TheVariants.{Report, Audit}
+use Rattle.gallium_cli.specs.declared.refusal.Refusal.TheVariants.{Report, Audit, Chain}
+use Rattle.gallium_cli.specs.declared.refusal.Refusal.TheVariants.{ClassSource, ClassTooLong, ClassReadFault}
+use Rattle.gallium_cli.specs.declared.refusal.Refusal.TheVariants as refusals
 use Rattle.gallium_cli.specs.Call.{Call, Work}
 use Rattle.gallium_cli.specs.Lines.{status_of}
-use Rattle.gallium_cli.specs.Words.{Request, Run, Compile, Replay, Check, Audit as Audited, Gen, PcapIn, PcapOut}
+use Rattle.gallium_cli.specs.Words.{Request, Run, Compile, Replay, Check, Audit as Audited, Chain as Chained, Gen, PcapIn}
+use Rattle.gallium_cli.specs.Words.{PcapOut}
 use Rattle.gallium_cli.specs.Words.{Within, Spelled}
-use Rattle.gallium_cli.specs.Roles.{Role, source, program, limits, legal_split, true_report, trace, schedule, capture}
-use Rattle.gallium_cli.specs.Roles.{size_of, IsGood, IsBad, Gate, File, Choice, SplitFile, ReportFile, gates_of}
+use Rattle.gallium_cli.specs.Roles.{Role, source, program, limits, legal_split, true_report, wiring, trace, schedule}
+use Rattle.gallium_cli.specs.Roles.{capture, IsOnlySource}
+use Rattle.gallium_cli.specs.Roles.{size_of, IsGood, IsBad, Gate, File, Choice, SplitFile, ReportFile, Composed}
+use Rattle.gallium_cli.specs.Roles.{gates_of}
 use Rattle.gallium_cli.specs.Roles.{split_gates, event_gates}
 use Rattle.gallium_cli.specs.Splits.{IsBadSplit}
 use Rattle.gallium_cli.specs.Reports.{IsBadReport}
 use Rattle.gallium_cli.specs.Answers.{IsAnswer}
 use Rattle.gallium_cli.specs.Loads.{IsFileRefused, IsBadSource, IsLongProgram, AreBadLimits, IsBadTrace, IsBadSchedule}
-use Rattle.gallium_cli.specs.Loads.{IsBadCapture}
+use Rattle.gallium_cli.specs.Loads.{IsBadCapture, IsBadChain}
+use Rattle.gallium_cli.specs.Chains.{AreClasses, IsClassRefused, IsFirstClassRefused, IsUncomposed, IsWired}
+use Rattle.gallium_cli.specs.Chains.{class_files, connected, file_of, firsts}
 use Rattle.gallium_cli.specs.Causes.{IsRefusedAt, IsPassed, AllPassed, IsFirstRefused, IsSwitchFaulty, IsNotWritten, after_line}
 use Rattle.gallium_cli.specs.Causes.{IsTold, EndsFor}
 use Rattle.gallium_cli.specs.Promises.{IsWriteFault, IsEarlyFault, IsFault, IsUnlessEarlyFault, IsUnlessFault, IsStatusOf}
+use Rattle.gallium_cli.specs.Promises.{AreToldClasses, IsToldWiring, IsToldUncomposed, IsFirstClassShut}
 use Rattle.gallium_cli.specs.Promises.{IsRefusedAs, IsOpen, AllOpen, IsShut, IsFirstShut, IsExact, IsComplete}
 use Rattle.gallium_cli.proofs.Choices.{same_role, refused_unchosen, open_over, over_status}
 use Rattle.gallium_cli.proofs.Unkept.{Laws, bad_split, exact_split}
@@ -56,7 +74,7 @@ good_not_long : (role : Role) (told : Option (List ℕ)) → IsSomeAnd told (IsG
 good_not_long role None good long = good
 good_not_long role (Some text) good long = let short = good.0 in omega arith
 
-good_not_refused : (role : Role) (status : Status) (told : Option (List ℕ)) → IfSome told (IsGood role)
+pub good_not_refused : (role : Role) (status : Status) (told : Option (List ℕ)) → IfSome told (IsGood role)
     → IsSomeAnd told (IsRefusedAs role status) → ⊥
 good_not_refused role status None good refused = refused
 good_not_refused role status (Some text) good (inl long) = let short = good.0 in let above = long.1 in omega arith
@@ -106,6 +124,10 @@ bad_capture : (fault : PcapError) (told : Option (List ℕ)) → IfSome told (Is
     → IfSome told (IsBad capture)
 bad_capture fault told = if_told (IsBadCapture fault) (IsBad capture) (λ bytes bad. bad.0) told
 
+bad_chain : (fault : ChainTextError) (told : Option (List ℕ)) → IfSome told (IsBadChain fault)
+    → IfSome told (IsBad wiring)
+bad_chain fault told = if_told (IsBadChain fault) (IsBad wiring) (λ text bad. bad.0) told
+
 bad_reports : (refusal : Refusal) (m : Tree) (packets : List Packet) (told : Option (List ℕ))
     → IfSome told (IsBadReport refusal m packets) → IfSome told (IsBad (true_report m packets))
 bad_reports refusal m packets told =
@@ -142,6 +164,8 @@ good_refused (Report number) (true_report m packets) name f f' laws good refused
     good_not_bad (true_report m packets) (f.told name) good (bad_reports (Report number) m packets (f.told name) refused)
 good_refused (Audit untruth) (true_report m packets) name f f' laws good refused =
     good_not_bad (true_report m packets) (f.told name) good (bad_reports (Audit untruth) m packets (f.told name) refused)
+good_refused (Chain fault) wiring name f f' laws good refused =
+    good_not_bad wiring (f.told name) good (bad_chain fault (f.told name) refused.1)
 good_refused (TooLong blamed) role name f f' laws good refused = good_not_long role (f.told name) good refused.1
 good_refused (ReadFault blamed) role name f f' laws good refused = tt
 good_refused NoMemory role name f f' laws good refused = tt
@@ -186,11 +210,214 @@ exact_file (Report number) (true_report m packets) name status f f' laws bad ref
     inl (exact_report (Report number) m packets status (f.told name) bad refused)
 exact_file (Audit untruth) (true_report m packets) name status f f' laws bad refused =
     inl (exact_report (Audit untruth) m packets status (f.told name) bad refused)
+exact_file (Chain fault) wiring name status f f' laws bad refused =
+    inl (sym (bad_only wiring status (f.told name) bad (bad_chain fault (f.told name) refused.1)).1)
 exact_file (TooLong blamed) role name status f f' laws bad refused =
     inl (sym (long_only role status (f.told name) bad refused.1))
 exact_file (ReadFault blamed) role name status f f' laws bad refused = inr tt
 exact_file NoMemory role name status f f' laws bad refused = inr tt
 exact_file _ role name status f f' laws bad refused = absurd refused
+
+-- ## One chain
+
+abbrev Tells : Option (List ℕ) → Tree → Type 0
+Tells told m = IsSomeAnd told (λ text. (length text ≤ size_of source) × IsSource text m)
+
+abbrev MayTell : Option (List ℕ) → Tree → Type 0
+MayTell told m = IfSome told (λ text. (length text ≤ size_of source) × IsOnlySource text m)
+
+one_text : Laws → (told : Option (List ℕ)) (chain found : ChainTold)
+    → IsSomeAnd told (λ text. (length text ≤ size_of wiring) × IsChainText text chain)
+    → IfSome told (λ text. (length text ≤ size_of wiring) × IsChainText text found) → chain ≡ found
+one_text laws None chain found one two = absurd one
+one_text laws (Some text) chain found one two = laws.chain text chain found one.1 two.1
+
+pub one_chain : Laws → (told : List ℕ → Option (List ℕ)) (w : List ℕ) (chain found : ChainTold)
+    → IsToldWiring told w chain → IsWired told w found → chain ≡ found
+one_chain laws told w chain found asked wired = one_text laws (told w) chain found asked.text wired.text
+
+one_class : (told : Option (List ℕ)) (m n : Tree) → Tells told m → MayTell told n → m ≡ n
+one_class None m n one two = absurd one
+one_class (Some text) m n one two = two.1.only m one.1
+
+-- one list of middleboxes has these elements
+one_list : (told : List ℕ → Option (List ℕ)) (es : List Element) (ms ns : List Tree)
+    → length ms ≡ length es → length ns ≡ length es
+    → ((e : ℕ) (x : Element) (m : Tree) → slice_get es e ≡ Some x → slice_get ms e ≡ Some m → Tells (told (file_of x.class)) m)
+    → ((e : ℕ) (x : Element) (m : Tree) → slice_get es e ≡ Some x → slice_get ns e ≡ Some m
+    → MayTell (told (file_of x.class)) m) → ms ≡ ns
+one_list told [] [] [] one two tells may = refl
+one_list told [] (m ∷ ms) ns one two tells may = absurd (omega arith)
+one_list told [] [] (n ∷ ns) one two tells may = absurd (omega arith)
+one_list told (x ∷ es) [] ns one two tells may = absurd (omega arith)
+one_list told (x ∷ es) (m ∷ ms) [] one two tells may = absurd (omega arith)
+one_list told (x ∷ es) (m ∷ ms) (n ∷ ns) one two tells may =
+    let first = one_class (told (file_of x.class)) m n (tells 0 x m refl refl) (may 0 x n refl refl) in
+    let rest =
+    one_list told es ms ns (omega arith) (omega arith) (λ e y k. tells (suc e) y k) (λ e y k. may (suc e) y k) in
+    ap (λ (k : Tree). k ∷ ms) first ∙ ap (λ (ks : List Tree). n ∷ ks) rest
+
+pub one_classes : (told : List ℕ → Option (List ℕ)) (chain : ChainTold) (ms ns : List Tree)
+    → AreToldClasses told chain ms → AreClasses told chain.elements ns → ms ≡ ns
+one_classes told chain ms ns asked found = one_list told chain.elements ms ns asked.count found.count asked.each found.each
+
+-- what holds of the files of all elements holds of those of their classes
+each_if : (P : List ℕ → Type 0) (b : Bool) (w : List ℕ) (ws : List (List ℕ)) → P w → Each P ws
+    → Each P (if b then w ∷ ws else ws)
+each_if P true w ws one rest = (one, rest)
+each_if P false w ws one rest = rest
+
+each_filter : (P : List ℕ → Type 0) (keep : List ℕ → Bool) (ws : List (List ℕ)) → Each P ws → Each P (filter keep ws)
+each_filter P keep [] all = tt
+each_filter P keep (w ∷ ws) all = each_if P (keep w) w (filter keep ws) all.0 (each_filter P keep ws all.1)
+
+each_first : (P : List ℕ → Type 0) (ws : List (List ℕ)) → Each P ws → Each P (firsts ws)
+each_first P [] all = tt
+each_first P (w ∷ ws) all =
+    (all.0, each_filter P (λ v. not (bytes_eq v w)) (firsts ws) (each_first P ws all.1))
+
+each_class : (P : List ℕ → Type 0) (es : List Element)
+    → ((e : ℕ) (x : Element) → slice_get es e ≡ Some x → P x.class) → Each P (map (λ (e : Element). e.class) es)
+each_class P [] all = tt
+each_class P (x ∷ es) all = (all 0 x refl, each_class P es (λ e y. all (suc e) y))
+
+each_file : (P : List ℕ → Type 0) (ws : List (List ℕ)) → Each (λ w. P (file_of w)) ws → Each P (map file_of ws)
+each_file P [] all = tt
+each_file P (w ∷ ws) all = (all.0, each_file P ws all.1)
+
+each_class_file : (P : List ℕ → Type 0) (es : List Element)
+    → ((e : ℕ) (x : Element) → slice_get es e ≡ Some x → P (file_of x.class)) → Each P (class_files es)
+each_class_file P es all =
+    each_file P (firsts (map (λ (e : Element). e.class) es))
+    (each_first (λ w. P (file_of w)) (map (λ (e : Element). e.class) es) (each_class (λ w. P (file_of w)) es all))
+
+-- an element at a place has its middlebox at the same place of as many
+same_place : (es : List Element) (ms : List Tree) (e : ℕ) (x : Element) → length ms ≡ length es
+    → slice_get es e ≡ Some x → (m : Tree) × (slice_get ms e ≡ Some m)
+same_place [] ms e x count there = cc
+same_place (y ∷ es) [] e x count there = absurd (omega arith)
+same_place (y ∷ es) (m ∷ ms) zero x count there = (m, refl)
+same_place (y ∷ es) (m ∷ ms) (suc e) x count there = same_place es ms e x (omega arith) there
+
+tells_good : (told : Option (List ℕ)) (m : Tree) → Tells told m → IsSomeAnd told (IsGood source)
+tells_good None m tells = tells
+tells_good (Some text) m tells = (tells.0, (m, tells.1))
+
+-- the files of middleboxes that are told are good
+pub told_good : (told : List ℕ → Option (List ℕ)) (chain : ChainTold) (ms : List Tree) → AreToldClasses told chain ms
+    → Each (λ name. IsSomeAnd (told name) (IsGood source)) (class_files chain.elements)
+told_good told chain ms asked =
+    each_class_file (λ name. IsSomeAnd (told name) (IsGood source)) chain.elements
+    (λ e x there.
+    let m = same_place chain.elements ms e x asked.count there in
+    tells_good (told (file_of x.class)) m.0 (asked.each e x m.0 there m.1))
+
+-- what is refused of a good class file is a fault
+pub good_class : (refusal : Refusal) (name : List ℕ) (f f' : FilesState) → Laws
+    → IsSomeAnd (f.told name) (IsGood source) → IsClassRefused refusal name f f' → IsEarlyFault (status_of refusal)
+good_class (ClassSource fault file) name f f' laws good refused =
+    good_refused (Source fault) source name f f' laws good refused.1
+good_class (ClassTooLong file) name f f' laws good refused = good_not_long source (f.told name) good refused.1
+good_class (ClassReadFault file) name f f' laws good refused = tt
+good_class NoMemory name f f' laws good refused = tt
+good_class _ name f f' laws good refused = absurd refused
+
+pub good_classes : (refusal : Refusal) (names : List (List ℕ)) (f f' : FilesState) → Laws
+    → Each (λ name. IsSomeAnd (f.told name) (IsGood source)) names → IsFirstClassRefused refusal names f f'
+    → IsEarlyFault (status_of refusal)
+good_classes refusal [] f f' laws good refused = absurd refused
+good_classes refusal (name ∷ names) f f' laws good (inl here) = good_class refusal name f f' laws good.0 here
+good_classes refusal (name ∷ names) f f' laws good (inr later) = good_classes refusal names f f' laws good.1 later.1
+
+-- a chain that is composed isn't refused but for want of memory
+composed_refused : (refusal : Refusal) (chain : ChainTold) (ms : List Tree) → Laws
+    → composing.IsUnrefused (connected chain ms) → IsUncomposed refusal chain ms → IsEarlyFault (status_of refusal)
+composed_refused (refusals.Uncomposed told) chain ms laws none (error, real, refused, is) =
+    absurd (laws.unrefused (connected chain ms) error real none refused)
+composed_refused NoMemory chain ms laws none refused = tt
+composed_refused _ chain ms laws none refused = absurd refused
+
+open_chain : (refusal : Refusal) (f f' : FilesState) (chain : ChainTold) (ms : List Tree) → Laws
+    → AreToldClasses f.told chain ms → composing.IsUnrefused (connected chain ms)
+    → (IsFirstClassRefused refusal (class_files chain.elements) f f'
+    ⊎ ((ns : List Tree) × AreClasses f.told chain.elements ns × IsUncomposed refusal chain ns))
+    → IsEarlyFault (status_of refusal)
+open_chain refusal f f' chain ms laws asked none (inl first) =
+    good_classes refusal (class_files chain.elements) f f' laws (told_good f.told chain ms asked) first
+open_chain refusal f f' chain ms laws asked none (inr (ns, are, why)) =
+    let same = one_classes f.told chain ms ns asked are in
+    composed_refused refusal chain ns laws
+    (subst (λ (k : List Tree). composing.IsUnrefused (connected chain k)) same none) why
+
+-- the files of middleboxes that elements have are good, where they are told
+may_tell_good : (told : Option (List ℕ)) (m : Tree) → MayTell told m → IfSome told (IsGood source)
+may_tell_good None m may = tt
+may_tell_good (Some text) m may = (may.0, (m, may.1.source))
+
+pub classes_good : (told : List ℕ → Option (List ℕ)) (es : List Element) (ms : List Tree) → AreClasses told es ms
+    → Each (λ name. IfSome (told name) (IsGood source)) (class_files es)
+classes_good told es ms are =
+    each_class_file (λ name. IfSome (told name) (IsGood source)) es
+    (λ e x there.
+    let m = same_place es ms e x are.count there in
+    may_tell_good (told (file_of x.class)) m.0 (are.each e x m.0 there m.1))
+
+-- none of them is refused for what it holds
+pub classes_unshut : (told : List ℕ → Option (List ℕ)) (names : List (List ℕ)) (status : Status)
+    → Each (λ name. IfSome (told name) (IsGood source)) names → IsFirstClassShut told names status → ⊥
+classes_unshut told [] status good shut = shut
+classes_unshut told (name ∷ names) status good (inl here) = good_not_refused source status (told name) good.0 here
+classes_unshut told (name ∷ names) status good (inr later) = classes_unshut told names status good.1 later.1
+
+unshut_chain : (chain : ChainTold) (ms : List Tree) (status : Status) (f : FilesState) → Laws
+    → AreClasses f.told chain.elements ms → composing.IsUnrefused (connected chain ms)
+    → (IsFirstClassShut f.told (class_files chain.elements) status
+    ⊎ ((status ≡ statuses.Chain) × ((error : ComposeError) × IsToldUncomposed f.told chain error))) → ⊥
+unshut_chain chain ms status f laws are none (inl first) =
+    classes_unshut f.told (class_files chain.elements) status (classes_good f.told chain.elements ms are) first
+unshut_chain chain ms status f laws are none (inr (is, (error, (ns, told, real, refused)))) =
+    let same = one_classes f.told chain ns ms told are in
+    laws.unrefused (connected chain ms) error real none
+    (subst (λ (k : List Tree). composing.IsRefused (connected chain k) error) same refused)
+
+-- the status of a refused class file is the one that its told text has, or a fault
+exact_class : (refusal : Refusal) (name : List ℕ) (status : Status) (f f' : FilesState) → Laws
+    → IsSomeAnd (f.told name) (IsRefusedAs source status) → IsClassRefused refusal name f f'
+    → IsUnlessEarlyFault status (status_of refusal)
+exact_class (ClassSource fault file) name status f f' laws bad refused =
+    exact_file (Source fault) source name status f f' laws bad refused.1
+exact_class (ClassTooLong file) name status f f' laws bad refused =
+    inl (sym (long_only source status (f.told name) bad refused.1))
+exact_class (ClassReadFault file) name status f f' laws bad refused = inr tt
+exact_class NoMemory name status f f' laws bad refused = inr tt
+exact_class _ name status f f' laws bad refused = absurd refused
+
+exact_composing : (refusal : Refusal) (chain : ChainTold) (ms : List Tree) (status : Status) → status ≡ statuses.Chain
+    → IsUncomposed refusal chain ms → IsUnlessEarlyFault status (status_of refusal)
+exact_composing (refusals.Uncomposed told) chain ms status is why = inl (sym is)
+exact_composing NoMemory chain ms status is why = inr tt
+exact_composing _ chain ms status is why = absurd why
+
+exact_chain : (refusal : Refusal) (chain : ChainTold) (status : Status) (f f' : FilesState) → Laws
+    → (IsFirstClassShut f.told (class_files chain.elements) status
+    ⊎ ((status ≡ statuses.Chain) × ((error : ComposeError) × IsToldUncomposed f.told chain error)))
+    → (IsFirstClassRefused refusal (class_files chain.elements) f f'
+    ⊎ ((ns : List Tree) × AreClasses f.told chain.elements ns × IsUncomposed refusal chain ns))
+    → IsUnlessEarlyFault status (status_of refusal)
+exact_chain refusal chain status f f' laws (inl first) (inl refused) =
+    walks (λ name. IsSomeAnd (f.told name) (IsGood source)) (λ name. IsSomeAnd (f.told name) (IsRefusedAs source status))
+    (λ name. IfSome (f.told name) (IsGood source)) (λ name. IsClassRefused refusal name f f')
+    (IsUnlessEarlyFault status (status_of refusal))
+    (λ name here there. exact_class refusal name status f f' laws here there)
+    (λ name here passed. absurd (good_not_refused source status (f.told name) passed here))
+    (λ name free there. inr (good_class refusal name f f' laws free there))
+    (class_files chain.elements) first refused
+exact_chain refusal chain status f f' laws (inl first) (inr (ns, are, why)) =
+    absurd (classes_unshut f.told (class_files chain.elements) status (classes_good f.told chain.elements ns are) first)
+exact_chain refusal chain status f f' laws (inr (is, (error, (ms, told, real, refused)))) (inl first) =
+    inr (good_classes refusal (class_files chain.elements) f f' laws (told_good f.told chain ms told) first)
+exact_chain refusal chain status f f' laws (inr (is, why)) (inr (ns, are, refused)) =
+    exact_composing refusal chain ns status is refused
 
 -- ## One gate
 
@@ -209,6 +436,11 @@ open_refused refusal (ReportFile s t r) f f' laws (m, packets, asked, good) (m',
     good_refused refusal (true_report m' packets') r f f' laws
     (subst (λ (role : Role). IsSomeAnd (f.told r) (IsGood role)) same good) refused
 
+open_refused refusal (Composed w) f f' laws (chain, ms, asked, told, none) (found, wired, why) =
+    let same = one_chain laws f.told w chain found asked wired in
+    open_chain refusal f f' found ms laws (subst (λ (c : ChainTold). AreToldClasses f.told c ms) same told)
+    (subst (λ (c : ChainTold). composing.IsUnrefused (connected c ms)) same none) why
+
 -- a gate that is shut isn't passed
 pub shut_unpassed : (gate : Gate) (status : Status) (f : FilesState) → Laws
     → IsShut f.told gate status → IsPassed gate f → ⊥
@@ -224,6 +456,12 @@ shut_unpassed (ReportFile s t r) status f laws (m, packets, asked, shut) (m', pa
     good_not_refused (true_report m' packets') status (f.told r) passed
     (subst (λ (role : Role). IsSomeAnd (f.told r) (IsRefusedAs role status)) same shut)
 
+shut_unpassed (Composed w) status f laws (chain, asked, shut) (found, ms, wired, are, none) =
+    let same = one_chain laws f.told w chain found asked wired in
+    unshut_chain chain ms status f laws
+    (subst (λ (c : ChainTold). AreClasses f.told c.elements ms) (sym same) are)
+    (subst (λ (c : ChainTold). composing.IsUnrefused (connected c ms)) (sym same) none) shut
+
 -- the status of a refusal at a shut gate is the one with which it is shut, or a fault
 shut_refused : (refusal : Refusal) (gate : Gate) (status : Status) (f f' : FilesState)
     → Laws → IsShut f.told gate status → IsRefusedAt refusal gate f f' → IsUnlessEarlyFault status (status_of refusal)
@@ -237,6 +475,11 @@ shut_refused refusal (ReportFile s t r) status f f' laws (m, packets, asked, shu
     let same = same_report f.told s t m m' packets packets' asked found in
     exact_file refusal (true_report m' packets') r status f f' laws
     (subst (λ (role : Role). IsSomeAnd (f.told r) (IsRefusedAs role status)) same shut) refused
+shut_refused refusal (Composed w) status f f' laws (chain, asked, shut) (found, wired, why) =
+    let same = one_chain laws f.told w chain found asked wired in
+    exact_chain refusal chain status f f' laws shut
+    (subst (λ (c : ChainTold). IsFirstClassRefused refusal (class_files c.elements) f f'
+    ⊎ ((ns : List Tree) × AreClasses f.told c.elements ns × IsUncomposed refusal c ns)) (sym same) why)
 shut_refused refusal (Choice s l shrink) status f f' laws (is, why) refused =
     let found = over_status refusal f.told s l shrink refused in
     subst (λ (wanted : Status). IsUnlessEarlyFault wanted (status_of refusal)) (sym is) found
@@ -284,6 +527,11 @@ answer_passed text (Check s l split) f p p' (m, parts, writeback, found, printed
     split_passed (Spelled l split) s f m parts writeback found
 answer_passed text (Audited s t r) f p p' (m, packets, run, found, told, printed) =
     audit_passed s t r f m packets run found told
+answer_passed text (Chained w) f p p' (chain, ms, wired, are, one) = (
+  if_told (λ content. (length content ≤ size_of wiring) × IsChainText content chain) (IsGood wiring)
+  (λ content h. (h.0, (chain, h.1))) (f.told w) wired.text,
+  ((chain, ms, wired, are, one.unrefused), tt),
+)
 answer_passed text (Gen seed count) f p p' answer = tt
 answer_passed text (PcapIn c port) f p p' (found, told, printed) = (passed_capture c f found told, tt)
 answer_passed text (PcapOut t big nano) f p p' (packets, told, printed) = (passed_trace t f packets told, tt)

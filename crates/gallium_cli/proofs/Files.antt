@@ -7,6 +7,8 @@ use Rattle.gal_io.specs.Files.{FilesState, Gives}
 use Rattle.gal_io.specs.declared.files.ReadEnd.TheVariants as ends
 use Rattle.packet_fields.specs.declared.packet.Packet.{Packet}
 use Rattle.element_lang.specs.Tree.{Tree}
+use Rattle.element_chain.specs.declared.chain.Chain.{Chain as ChainTold}
+use Rattle.element_chain.specs.declared.chain.Element.{Element}
 use Rattle.flat_ir.specs.Program.{Program}
 use Rattle.flatten.specs.Flatten.{flat_of}
 use Rattle.split_model.specs.declared.split.Part.{Part}
@@ -22,13 +24,19 @@ use Rattle.gallium_cli.specs.declared.status.Status.TheVariants as statuses
 use Rattle.gallium_cli.specs.declared.refusal.Refusal.{Refusal}
 use Rattle.gallium_cli.specs.declared.refusal.Refusal.TheVariants.{Source, LongProgram, Limits, Exceeded, Split, Trace, Schedule}
 use Rattle.gallium_cli.specs.declared.refusal.Refusal.TheVariants.{TooLong, ReadFault, NoMemory, Pcap, Report, Audit}
+use Rattle.gallium_cli.specs.declared.refusal.Refusal.TheVariants.{Chain, ClassSource, ClassTooLong, ClassReadFault}
 use Rattle.gallium_cli.specs.Words.{Splitting, Served, Within, Spelled, Run, Audit as Audited}
-use Rattle.gallium_cli.specs.Roles.{Role, source, program, limits, legal_split, true_report, trace, schedule, capture}
-use Rattle.gallium_cli.specs.Roles.{IsShort, IsGood, AreLimits, Gate, File, Choice, SplitFile, ReportFile, gates_of}
+use Rattle.gallium_cli.specs.Roles.{Role, source, program, limits, legal_split, true_report, wiring, trace, schedule}
+use Rattle.gallium_cli.specs.Roles.{capture}
+use Rattle.gallium_cli.specs.Roles.{IsShort, IsGood, AreLimits, Gate, File, Choice, SplitFile, ReportFile, Composed}
+use Rattle.gallium_cli.specs.Roles.{gates_of}
 use Rattle.gallium_cli.specs.Roles.{plan_files, plan_gates, given_gates, split_gates, event_gates, size_of, IsCaptured}
-use Rattle.gallium_cli.specs.Answers.{IsInput, IsOnlySource, IsProgram, IsPlan, IsGivenSplit, IsSplitBy, IsTraffic}
+use Rattle.gallium_cli.specs.Roles.{IsOnlySource}
+use Rattle.gallium_cli.specs.Answers.{IsInput, IsProgram, IsPlan, IsGivenSplit, IsSplitBy, IsTraffic}
 use Rattle.gallium_cli.specs.Answers.{IsAuditInput, IsTrueFile}
-use Rattle.gallium_cli.specs.Loads.{GoesOn, IsUnread, IsFileRefused, IsLoaded}
+use Rattle.gallium_cli.specs.Loads.{GoesOn, IsUnread, IsFileRefused, IsFileTooLong, IsFileFaulty, IsLoaded}
+use Rattle.gallium_cli.specs.Chains.{AreClasses, IsClassRefused, IsFirstClassRefused, IsChainPassed, IsChainRefused}
+use Rattle.gallium_cli.specs.Chains.{IsWired, class_files, file_of}
 use Rattle.gallium_cli.specs.Causes.{IsRefusedAt, IsPassed, AllPassed, IsFirstRefused, IsUnchosen}
 
 -- ## One file
@@ -40,6 +48,7 @@ small_size program = omega arith
 small_size limits = omega arith
 small_size (legal_split f allowed) = omega arith
 small_size (true_report m packets) = omega arith
+small_size wiring = omega arith
 small_size trace = omega arith
 small_size schedule = omega arith
 small_size capture = omega arith
@@ -75,6 +84,8 @@ unread_refused (Report number) (true_report m packets) bytes name f f' loaded un
     told_text _ bytes (f.told name) loaded.1 ((loaded.0, unread.0), unread.1)
 unread_refused (Audit untruth) (true_report m packets) bytes name f f' loaded unread =
     told_text _ bytes (f.told name) loaded.1 ((loaded.0, unread.0), unread.1)
+unread_refused (Chain fault) wiring bytes name f f' loaded unread =
+    (unread.0, told_text _ bytes (f.told name) loaded.1 ((loaded.0, unread.1), unread.2))
 unread_refused NoMemory role bytes name f f' loaded unread = tt
 unread_refused _ role bytes name f f' loaded unread = absurd unread
 
@@ -142,6 +153,16 @@ told_before : (P : List ℕ → Type 0) (f g : FilesState) (name : List ℕ)
     → GoesOn statuses.Done f g → IfSome (g.told name) P → IfSome (f.told name) P
 told_before P f g name goes h = subst (λ told. IfSome told P) (goes.told name) h
 
+-- a file that is too long or can't be read after other reads is so as if they hadn't been
+long_later : (role : Role) (name : List ℕ) (f g h : FilesState) → GoesOn statuses.Done f g
+    → IsFileTooLong role name g h → IsFileTooLong role name f h
+long_later role name f g h goes (long, blamed, rose) =
+    (told_before _ f g name goes long, blamed, rose ∙ ap one_more goes.overlong)
+
+faulty_later : (name : List ℕ) (f g h : FilesState) → GoesOn statuses.Done f g
+    → IsFileFaulty name g h → IsFileFaulty name f h
+faulty_later name f g h goes (blamed, rose) = (blamed, rose ∙ ap one_more goes.faults)
+
 -- a file that is refused after other reads is refused as if they hadn't been
 refused_later : (refusal : Refusal) (role : Role) (name : List ℕ) (f g h : FilesState)
     → GoesOn statuses.Done f g → IsFileRefused refusal role name g h → IsFileRefused refusal role name f h
@@ -156,10 +177,9 @@ refused_later (Schedule fault) schedule name f g h goes refused = (refused.0, to
 refused_later (Pcap fault) capture name f g h goes refused = (refused.0, told_before _ f g name goes refused.1)
 refused_later (Report number) (true_report m packets) name f g h goes refused = told_before _ f g name goes refused
 refused_later (Audit untruth) (true_report m packets) name f g h goes refused = told_before _ f g name goes refused
-refused_later (TooLong blamed) role name f g h goes refused =
-    (refused.0, told_before _ f g name goes refused.1, refused.2, refused.3 ∙ ap one_more goes.overlong)
-refused_later (ReadFault blamed) role name f g h goes refused =
-    (refused.0, refused.1, refused.2 ∙ ap one_more goes.faults)
+refused_later (Chain fault) wiring name f g h goes refused = (refused.0, told_before _ f g name goes refused.1)
+refused_later (TooLong blamed) role name f g h goes refused = (refused.0, long_later role name f g h goes refused.1)
+refused_later (ReadFault blamed) role name f g h goes refused = (refused.0, faulty_later name f g h goes refused.1)
 refused_later NoMemory role name f g h goes refused = tt
 refused_later _ role name f g h goes refused = absurd refused
 
@@ -185,6 +205,53 @@ audit_before s t f g m packets goes is = record {
   few = is.few;
 }
 
+-- ## Chains after other reads
+
+wired_before : (w : List ℕ) (f g : FilesState) (chain : ChainTold) → GoesOn statuses.Done f g
+    → IsWired g.told w chain → IsWired f.told w chain
+wired_before w f g chain goes is = record { text = told_before _ f g w goes is.text; composable = is.composable }
+
+pub classes_before : (f g : FilesState) (es : List Element) (ms : List Tree) → GoesOn statuses.Done f g
+    → AreClasses g.told es ms → AreClasses f.told es ms
+classes_before f g es ms goes are = record {
+  count = are.count;
+  each = λ e x m there here. told_before _ f g (file_of x.class) goes (are.each e x m there here);
+  same = are.same;
+}
+
+pub class_later : (refusal : Refusal) (name : List ℕ) (f g h : FilesState) → GoesOn statuses.Done f g
+    → IsClassRefused refusal name g h → IsClassRefused refusal name f h
+class_later (ClassSource fault file) name f g h goes (is, refused) =
+    (is, refused_later (Source fault) source name f g h goes refused)
+class_later (ClassTooLong file) name f g h goes (is, refused) = (is, long_later source name f g h goes refused)
+class_later (ClassReadFault file) name f g h goes (is, refused) = (is, faulty_later name f g h goes refused)
+class_later NoMemory name f g h goes refused = tt
+class_later _ name f g h goes refused = absurd refused
+
+first_class_later : (refusal : Refusal) (names : List (List ℕ)) (f g h : FilesState) → GoesOn statuses.Done f g
+    → IsFirstClassRefused refusal names g h → IsFirstClassRefused refusal names f h
+first_class_later refusal [] f g h goes refused = refused
+first_class_later refusal (name ∷ names) f g h goes (inl here) = inl (class_later refusal name f g h goes here)
+first_class_later refusal (name ∷ names) f g h goes (inr later) =
+    inr (told_before (IsGood source) f g name goes later.0, first_class_later refusal names f g h goes later.1)
+
+passed_before : (w : List ℕ) (f g : FilesState) → GoesOn statuses.Done f g → IsChainPassed w g → IsChainPassed w f
+passed_before w f g goes (chain, ms, wired, are, none) =
+    (chain, ms, wired_before w f g chain goes wired, classes_before f g chain.elements ms goes are, none)
+
+pub chain_later : (refusal : Refusal) (w : List ℕ) (f g h : FilesState) → GoesOn statuses.Done f g
+    → IsChainRefused refusal w g h → IsChainRefused refusal w f h
+chain_later refusal w f g h goes (chain, wired, inl first) = (
+  chain,
+  wired_before w f g chain goes wired,
+  inl (first_class_later refusal (class_files chain.elements) f g h goes first),
+)
+chain_later refusal w f g h goes (chain, wired, inr (ms, are, why)) = (
+  chain,
+  wired_before w f g chain goes wired,
+  inr (ms, classes_before f g chain.elements ms goes are, why),
+)
+
 -- so is a gate that is passed, or that isn't
 gate_before : (gate : Gate) (f g : FilesState) → GoesOn statuses.Done f g → IsPassed gate g → IsPassed gate f
 gate_before (File name role) f g goes passed = told_before (IsGood role) f g name goes passed
@@ -194,6 +261,7 @@ gate_before (SplitFile s l p) f g goes (m, allowed, found, good) =
     (m, allowed, plan_before s l f g m allowed goes found, told_before _ f g p goes good)
 gate_before (ReportFile s t r) f g goes (m, packets, found, good) =
     (m, packets, audit_before s t f g m packets goes found, told_before _ f g r goes good)
+gate_before (Composed w) f g goes passed = passed_before w f g goes passed
 
 refused_before : (refusal : Refusal) (gate : Gate) (f g h : FilesState) → GoesOn statuses.Done f g → IsRefusedAt refusal gate g h
     → IsRefusedAt refusal gate f h
@@ -212,6 +280,7 @@ refused_before refusal (ReportFile s t r) f g h goes (m, packets, found, refused
   audit_before s t f g m packets goes found,
   refused_later refusal (true_report m packets) r f g h goes refused,
 )
+refused_before refusal (Composed w) f g h goes refused = chain_later refusal w f g h goes refused
 
 pub first_before : (refusal : Refusal) (gates : List Gate) (f g h : FilesState) → GoesOn statuses.Done f g
     → IsFirstRefused refusal gates g h → IsFirstRefused refusal gates f h

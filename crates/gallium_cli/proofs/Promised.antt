@@ -9,30 +9,32 @@ use Rattle.gal_io.specs.declared.sink.SinkEnd.{SinkEnd}
 use Rattle.gal_io.specs.declared.sink.SinkEnd.TheVariants as ends
 use Rattle.packet_fields.specs.declared.packet.Packet.{Packet}
 use Rattle.element_lang.specs.Tree.{Tree}
+use Rattle.element_chain.specs.declared.chain.Chain.{Chain as ChainTold}
 use Rattle.switch_ir.specs.Port.{PortState}
 use Rattle.gallium_cli.specs.declared.status.Status.{Status}
 use Rattle.gallium_cli.specs.declared.status.Status.TheVariants as statuses
 use Rattle.gallium_cli.specs.declared.refusal.Excess.{Excess}
 use Rattle.gallium_cli.specs.declared.refusal.Refusal.{Refusal}
 use Rattle.gallium_cli.specs.declared.refusal.Refusal.TheVariants.{Usage, Exceeded, TooLong, ReadFault, WriteFault, SwitchFault}
-use Rattle.gallium_cli.specs.declared.refusal.Refusal.TheVariants.{NoMemory, Report, Audit}
+use Rattle.gallium_cli.specs.declared.refusal.Refusal.TheVariants.{NoMemory, Report, Audit, ClassTooLong, ClassReadFault}
 use Rattle.gallium_cli.specs.Call.{Call, Work}
 use Rattle.gallium_cli.specs.Lines.{status_of}
-use Rattle.gallium_cli.specs.Words.{Request, Run, Compile, Replay, Check, Audit as Audited, Gen, PcapIn, PcapOut}
+use Rattle.gallium_cli.specs.Words.{Request, Run, Compile, Replay, Check, Audit as Audited, Chain as Chained, Gen, PcapIn}
+use Rattle.gallium_cli.specs.Words.{PcapOut}
 use Rattle.gallium_cli.specs.Words.{Served, Within, Spelled, is_replay, request_of}
 use Rattle.gallium_cli.specs.Roles.{Role, source, trace, legal_split, true_report, Gate, File, Choice, SplitFile}
-use Rattle.gallium_cli.specs.Roles.{ReportFile}
-use Rattle.gallium_cli.specs.Roles.{IsSpelled, gates_of, names_in}
+use Rattle.gallium_cli.specs.Roles.{ReportFile, Composed, IsSpelled, gates_of}
+use Rattle.gallium_cli.specs.Chains.{IsFirstClassRefused, IsWired, class_files}
 use Rattle.gallium_cli.specs.Loads.{IsFileRefused}
 use Rattle.gallium_cli.specs.Reports.{IsBadReport}
 use Rattle.gallium_cli.specs.Causes.{IsFirstRefused, IsSwitchKept, IsSwitchFaulty, IsNotWritten, IsIdle, IsDone}
 use Rattle.gallium_cli.specs.Causes.{HasCause}
 use Rattle.gallium_cli.specs.Causes.{CountsFaults, after_line, EndsFor, Ends}
-use Rattle.gallium_cli.specs.Promises.{IsWriteFault, BlamesInput, IsReadOnce, IsUsage, IsOneOf, IsBlamed}
+use Rattle.gallium_cli.specs.Promises.{IsWriteFault, BlamesInput, IsReadOnce, IsUsage, IsOneOf, BlamesOne, IsBlamed}
 use Rattle.gallium_cli.specs.Promises.{IsFailedOnSwitch}
 use Rattle.gallium_cli.specs.Promises.{CountsOne}
 use Rattle.gallium_cli.specs.Promises.{MayExceed, IsReplay, IsReplayReport, Promises}
-use Rattle.gallium_cli.proofs.Written.{at_most}
+use Rattle.gallium_cli.proofs.Written.{all_some}
 use Rattle.gallium_cli.proofs.Counted.{no_switch_fault}
 use Rattle.gallium_cli.proofs.Unkept.{Laws}
 use Rattle.gallium_cli.proofs.Untrue.{same_input}
@@ -133,7 +135,12 @@ IsUsageStatus _ = ⊥
 usage_gates : IsOfGates IsUsageStatus
 usage_gates = record { done = λ h. h; write = λ h. h; switch = λ h. h; memory = λ h. h }
 
--- no gate is refused for the words
+-- no class file and no gate is refused for the words
+no_usage_class : (names : List (List ℕ)) (f f' : FilesState) → IsFirstClassRefused Usage names f f' → ⊥
+no_usage_class [] f f' h = h
+no_usage_class (name ∷ names) f f' (inl h) = h
+no_usage_class (name ∷ names) f f' (inr later) = no_usage_class names f f' later.1
+
 no_usage : (refusal : Refusal) (gates : List Gate) (f f' : FilesState)
     → IsUsageStatus (status_of refusal) → IsFirstRefused refusal gates f f' → ⊥
 no_usage Usage [] f f' is h = h
@@ -141,6 +148,9 @@ no_usage Usage (File name role ∷ gates) f f' is (inl h) = h
 no_usage Usage (Choice s l shrink ∷ gates) f f' is (inl (m, allowed, found, never)) = never
 no_usage Usage (SplitFile s l p ∷ gates) f f' is (inl (m, allowed, found, never)) = never
 no_usage Usage (ReportFile s t r ∷ gates) f f' is (inl (m, packets, found, never)) = never
+no_usage Usage (Composed w ∷ gates) f f' is (inl (chain, wired, inl first)) =
+    no_usage_class (class_files chain.elements) f f' first
+no_usage Usage (Composed w ∷ gates) f f' is (inl (chain, wired, inr (ms, are, never))) = never
 no_usage Usage (gate ∷ gates) f f' is (inr later) = no_usage Usage gates f f' is later.1
 no_usage _ gates f f' is h = is
 
@@ -161,9 +171,61 @@ IsTooLong _ = ⊥
 long_gates : IsOfGates IsTooLong
 long_gates = record { done = λ h. h; write = λ h. h; switch = λ h. h; memory = λ h. h }
 
+-- the files that may be blamed at gates: those that they name, and those of the classes of a chain
+abbrev BlamesIn : (List ℕ → Option (List ℕ)) → List Gate → Option (List ℕ) → Type 0
+BlamesIn told [] blamed = ⊥
+BlamesIn told (File name role ∷ gates) blamed = (blamed ≡ Some name) ⊎ BlamesIn told gates blamed
+BlamesIn told (Choice s l shrink ∷ gates) blamed = BlamesIn told gates blamed
+BlamesIn told (SplitFile s l p ∷ gates) blamed = (blamed ≡ Some p) ⊎ BlamesIn told gates blamed
+BlamesIn told (ReportFile s t r ∷ gates) blamed = (blamed ≡ Some r) ⊎ BlamesIn told gates blamed
+BlamesIn told (Composed w ∷ gates) blamed =
+    ((chain : ChainTold) × IsWired told w chain × IsOneOf (class_files chain.elements) blamed)
+    ⊎ BlamesIn told gates blamed
+
+blames_one : (told : List ℕ → Option (List ℕ)) (request : Request) (blamed : Option (List ℕ))
+    → BlamesIn told (gates_of request) blamed → BlamesOne told request blamed
+blames_one told (Run s t) blamed h = h
+blames_one told (Compile s l shrink) blamed h = h
+blames_one told (Replay s t c Served) blamed h = h
+blames_one told (Replay s t c (Within l shrink)) blamed h = h
+blames_one told (Replay s t c (Spelled l p)) blamed h = h
+blames_one told (Check s l p) blamed h = h
+blames_one told (Audited s t r) blamed h = h
+blames_one told (Chained w) blamed (inl is) = (w ∷ [], inl refl, inl is)
+blames_one told (Chained w) blamed (inr (inl (chain, wired, one))) =
+    (w ∷ class_files chain.elements, inr (chain, wired, refl), inr one)
+blames_one told (Chained w) blamed (inr (inr never)) = absurd never
+blames_one told (Gen seed count) blamed h = h
+blames_one told (PcapIn c port) blamed h = h
+blames_one told (PcapOut t big nano) blamed h = h
+
+-- the file of a class is blamed by a name of its own
+abbrev IsOfWords : Refusal → Type 0
+IsOfWords (TooLong name) = Unit {0}
+IsOfWords (ReadFault name) = Unit {0}
+IsOfWords _ = ⊥
+
+no_named_class : (refusal : Refusal) (names : List (List ℕ)) (f f' : FilesState) → IsOfWords refusal
+    → IsFirstClassRefused refusal names f f' → ⊥
+no_named_class (TooLong blamed) [] f f' of h = h
+no_named_class (TooLong blamed) (name ∷ names) f f' of (inl h) = h
+no_named_class (TooLong blamed) (name ∷ names) f f' of (inr later) = no_named_class (TooLong blamed) names f f' tt later.1
+no_named_class (ReadFault blamed) [] f f' of h = h
+no_named_class (ReadFault blamed) (name ∷ names) f f' of (inl h) = h
+no_named_class (ReadFault blamed) (name ∷ names) f f' of (inr later) =
+    no_named_class (ReadFault blamed) names f f' tt later.1
+no_named_class _ names f f' of h = of
+
+long_class : (name : List ℕ) (names : List (List ℕ)) (f f' : FilesState) → IsFirstClassRefused (ClassTooLong name) names f f'
+    → Rose f.overlong f'.overlong × IsOneOf names f'.overlong_name
+long_class name [] f f' h = absurd h
+long_class name (file ∷ names) f f' (inl h) = (h.3, inl h.2)
+long_class name (file ∷ names) f f' (inr later) =
+    let rest = long_class name names f f' later.1 in (rest.0, inr rest.1)
+
 long_rose : (refusal : Refusal) (gates : List Gate) (f f' : FilesState)
     → IsTooLong (status_of refusal) → IsFirstRefused refusal gates f f'
-    → Rose f.overlong f'.overlong × IsOneOf (names_in gates) f'.overlong_name
+    → Rose f.overlong f'.overlong × BlamesIn f.told gates f'.overlong_name
 long_rose (TooLong name) [] f f' is h = absurd h
 long_rose (TooLong name) (File file role ∷ gates) f f' is (inl h) = (h.3, inl h.2)
 long_rose (TooLong name) (File file role ∷ gates) f f' is (inr later) =
@@ -177,17 +239,42 @@ long_rose (TooLong name) (SplitFile s l p ∷ gates) f f' is (inr later) =
 long_rose (TooLong name) (ReportFile s t r ∷ gates) f f' is (inl (m, packets, found, h)) = (h.3, inl h.2)
 long_rose (TooLong name) (ReportFile s t r ∷ gates) f f' is (inr later) =
     let rest = long_rose (TooLong name) gates f f' is later.1 in (rest.0, inr rest.1)
+long_rose (TooLong name) (Composed w ∷ gates) f f' is (inl (chain, wired, inl first)) =
+    absurd (no_named_class (TooLong name) (class_files chain.elements) f f' tt first)
+long_rose (TooLong name) (Composed w ∷ gates) f f' is (inl (chain, wired, inr (ms, are, never))) = absurd never
+long_rose (TooLong name) (Composed w ∷ gates) f f' is (inr later) =
+    let rest = long_rose (TooLong name) gates f f' is later.1 in (rest.0, inr rest.1)
+long_rose (ClassTooLong name) [] f f' is h = absurd h
+long_rose (ClassTooLong name) (File file role ∷ gates) f f' is (inl never) = absurd never
+long_rose (ClassTooLong name) (File file role ∷ gates) f f' is (inr later) =
+    let rest = long_rose (ClassTooLong name) gates f f' is later.1 in (rest.0, inr rest.1)
+long_rose (ClassTooLong name) (Choice s l shrink ∷ gates) f f' is (inl (m, allowed, found, never)) = absurd never
+long_rose (ClassTooLong name) (Choice s l shrink ∷ gates) f f' is (inr later) =
+    long_rose (ClassTooLong name) gates f f' is later.1
+long_rose (ClassTooLong name) (SplitFile s l p ∷ gates) f f' is (inl (m, allowed, found, never)) = absurd never
+long_rose (ClassTooLong name) (SplitFile s l p ∷ gates) f f' is (inr later) =
+    let rest = long_rose (ClassTooLong name) gates f f' is later.1 in (rest.0, inr rest.1)
+long_rose (ClassTooLong name) (ReportFile s t r ∷ gates) f f' is (inl (m, packets, found, never)) = absurd never
+long_rose (ClassTooLong name) (ReportFile s t r ∷ gates) f f' is (inr later) =
+    let rest = long_rose (ClassTooLong name) gates f f' is later.1 in (rest.0, inr rest.1)
+long_rose (ClassTooLong name) (Composed w ∷ gates) f f' is (inl (chain, wired, inl first)) =
+    let class = long_class name (class_files chain.elements) f f' first in
+    (class.0, inl (chain, wired, class.1))
+long_rose (ClassTooLong name) (Composed w ∷ gates) f f' is (inl (chain, wired, inr (ms, are, never))) = absurd never
+long_rose (ClassTooLong name) (Composed w ∷ gates) f f' is (inr later) =
+    let rest = long_rose (ClassTooLong name) gates f f' is later.1 in (rest.0, inr rest.1)
 long_rose _ gates f f' is h = absurd is
 
 too_long_ends : (request : Option Request) (status : Status) (call : Call)
     → EndsFor request status call → IsTooLong status
-    → IsBlamed request call.work.files.overlong call.work.files_after.overlong call.work.files_after.overlong_name
+    → IsBlamed call.work.files.told request call.work.files.overlong call.work.files_after.overlong call.work.files_after.overlong_name
 too_long_ends None status call (inl done) long = absurd done.1
 too_long_ends None status call (inr (refusal, cause, counts, (end, is, written))) long =
     subst (λ r. IsTooLong (status_of r)) cause.0 (told_of IsTooLong refusal end status long_gates is long)
 too_long_ends (Some request) status call end long =
     let out = shut_out IsTooLong request status call long_gates end long in
-    long_rose out.refusal (gates_of request) call.work.files call.work.files_after out.is out.first
+    let rose = long_rose out.refusal (gates_of request) call.work.files call.work.files_after out.is out.first in
+    (rose.0, blames_one call.work.files.told request _ rose.1)
 
 abbrev IsReadFault : Status → Type 0
 IsReadFault statuses.ReadFault = Unit {0}
@@ -196,9 +283,16 @@ IsReadFault _ = ⊥
 fault_gates : IsOfGates IsReadFault
 fault_gates = record { done = λ h. h; write = λ h. h; switch = λ h. h; memory = λ h. h }
 
+fault_class : (name : List ℕ) (names : List (List ℕ)) (f f' : FilesState) → IsFirstClassRefused (ClassReadFault name) names f f'
+    → Rose f.faults f'.faults × IsOneOf names f'.fault_name
+fault_class name [] f f' h = absurd h
+fault_class name (file ∷ names) f f' (inl h) = (h.2, inl h.1)
+fault_class name (file ∷ names) f f' (inr later) =
+    let rest = fault_class name names f f' later.1 in (rest.0, inr rest.1)
+
 fault_rose : (refusal : Refusal) (gates : List Gate) (f f' : FilesState)
     → IsReadFault (status_of refusal) → IsFirstRefused refusal gates f f'
-    → Rose f.faults f'.faults × IsOneOf (names_in gates) f'.fault_name
+    → Rose f.faults f'.faults × BlamesIn f.told gates f'.fault_name
 fault_rose (ReadFault name) [] f f' is h = absurd h
 fault_rose (ReadFault name) (File file role ∷ gates) f f' is (inl h) = (h.2, inl h.1)
 fault_rose (ReadFault name) (File file role ∷ gates) f f' is (inr later) =
@@ -212,17 +306,42 @@ fault_rose (ReadFault name) (SplitFile s l p ∷ gates) f f' is (inr later) =
 fault_rose (ReadFault name) (ReportFile s t r ∷ gates) f f' is (inl (m, packets, found, h)) = (h.2, inl h.1)
 fault_rose (ReadFault name) (ReportFile s t r ∷ gates) f f' is (inr later) =
     let rest = fault_rose (ReadFault name) gates f f' is later.1 in (rest.0, inr rest.1)
+fault_rose (ReadFault name) (Composed w ∷ gates) f f' is (inl (chain, wired, inl first)) =
+    absurd (no_named_class (ReadFault name) (class_files chain.elements) f f' tt first)
+fault_rose (ReadFault name) (Composed w ∷ gates) f f' is (inl (chain, wired, inr (ms, are, never))) = absurd never
+fault_rose (ReadFault name) (Composed w ∷ gates) f f' is (inr later) =
+    let rest = fault_rose (ReadFault name) gates f f' is later.1 in (rest.0, inr rest.1)
+fault_rose (ClassReadFault name) [] f f' is h = absurd h
+fault_rose (ClassReadFault name) (File file role ∷ gates) f f' is (inl never) = absurd never
+fault_rose (ClassReadFault name) (File file role ∷ gates) f f' is (inr later) =
+    let rest = fault_rose (ClassReadFault name) gates f f' is later.1 in (rest.0, inr rest.1)
+fault_rose (ClassReadFault name) (Choice s l shrink ∷ gates) f f' is (inl (m, allowed, found, never)) = absurd never
+fault_rose (ClassReadFault name) (Choice s l shrink ∷ gates) f f' is (inr later) =
+    fault_rose (ClassReadFault name) gates f f' is later.1
+fault_rose (ClassReadFault name) (SplitFile s l p ∷ gates) f f' is (inl (m, allowed, found, never)) = absurd never
+fault_rose (ClassReadFault name) (SplitFile s l p ∷ gates) f f' is (inr later) =
+    let rest = fault_rose (ClassReadFault name) gates f f' is later.1 in (rest.0, inr rest.1)
+fault_rose (ClassReadFault name) (ReportFile s t r ∷ gates) f f' is (inl (m, packets, found, never)) = absurd never
+fault_rose (ClassReadFault name) (ReportFile s t r ∷ gates) f f' is (inr later) =
+    let rest = fault_rose (ClassReadFault name) gates f f' is later.1 in (rest.0, inr rest.1)
+fault_rose (ClassReadFault name) (Composed w ∷ gates) f f' is (inl (chain, wired, inl first)) =
+    let class = fault_class name (class_files chain.elements) f f' first in
+    (class.0, inl (chain, wired, class.1))
+fault_rose (ClassReadFault name) (Composed w ∷ gates) f f' is (inl (chain, wired, inr (ms, are, never))) = absurd never
+fault_rose (ClassReadFault name) (Composed w ∷ gates) f f' is (inr later) =
+    let rest = fault_rose (ClassReadFault name) gates f f' is later.1 in (rest.0, inr rest.1)
 fault_rose _ gates f f' is h = absurd is
 
 read_fault_ends : (request : Option Request) (status : Status) (call : Call)
     → EndsFor request status call → IsReadFault status
-    → IsBlamed request call.work.files.faults call.work.files_after.faults call.work.files_after.fault_name
+    → IsBlamed call.work.files.told request call.work.files.faults call.work.files_after.faults call.work.files_after.fault_name
 read_fault_ends None status call (inl done) fault = absurd done.1
 read_fault_ends None status call (inr (refusal, cause, counts, (end, is, written))) fault =
     subst (λ r. IsReadFault (status_of r)) cause.0 (told_of IsReadFault refusal end status fault_gates is fault)
 read_fault_ends (Some request) status call end fault =
     let out = shut_out IsReadFault request status call fault_gates end fault in
-    fault_rose out.refusal (gates_of request) call.work.files call.work.files_after out.is out.first
+    let rose = fault_rose out.refusal (gates_of request) call.work.files call.work.files_after out.is out.first in
+    (rose.0, blames_one call.work.files.told request _ rose.1)
 
 -- ## A limit that is exceeded
 
@@ -251,6 +370,13 @@ AllMayShrink (Choice s l true ∷ gates) = AllMayShrink gates
 AllMayShrink (Choice s l false ∷ gates) = ⊥
 AllMayShrink (SplitFile s l p ∷ gates) = ⊥
 AllMayShrink (ReportFile s t r ∷ gates) = AllMayShrink gates
+AllMayShrink (Composed w ∷ gates) = AllMayShrink gates
+
+no_excess_class : (excess : Excess) (names : List (List ℕ)) (f f' : FilesState)
+    → IsFirstClassRefused (Exceeded excess) names f f' → ⊥
+no_excess_class excess [] f f' h = h
+no_excess_class excess (name ∷ names) f f' (inl h) = h
+no_excess_class excess (name ∷ names) f f' (inr later) = no_excess_class excess names f f' later.1
 
 shrunk_unexceeded : (refusal : Refusal) (gates : List Gate) (f f' : FilesState) → AllMayShrink gates
     → IsExceededStatus (status_of refusal) → IsFirstRefused refusal gates f f' → ⊥
@@ -267,6 +393,11 @@ shrunk_unexceeded (Exceeded excess) (Choice s l false ∷ gates) f f' may is h =
 shrunk_unexceeded (Exceeded excess) (SplitFile s l p ∷ gates) f f' may is h = may
 shrunk_unexceeded (Exceeded excess) (ReportFile s t r ∷ gates) f f' may is (inl (m, packets, found, never)) = never
 shrunk_unexceeded (Exceeded excess) (ReportFile s t r ∷ gates) f f' may is (inr later) =
+    shrunk_unexceeded (Exceeded excess) gates f f' may is later.1
+shrunk_unexceeded (Exceeded excess) (Composed w ∷ gates) f f' may is (inl (chain, wired, inl first)) =
+    no_excess_class excess (class_files chain.elements) f f' first
+shrunk_unexceeded (Exceeded excess) (Composed w ∷ gates) f f' may is (inl (chain, wired, inr (ms, are, never))) = never
+shrunk_unexceeded (Exceeded excess) (Composed w ∷ gates) f f' may is (inr later) =
     shrunk_unexceeded (Exceeded excess) gates f f' may is later.1
 shrunk_unexceeded _ gates f f' may is h = is
 
@@ -285,6 +416,8 @@ may_exceed refusal (Replay s t c (Spelled l p)) f f' is first = tt
 may_exceed refusal (Check s l p) f f' is first = tt
 may_exceed refusal (Audited s t r) f f' is first =
     shrunk_unexceeded refusal (gates_of (Audited s t r)) f f' (tt, (tt, tt)) is first
+may_exceed refusal (Chained w) f f' is first =
+    shrunk_unexceeded refusal (gates_of (Chained w)) f f' (tt, tt) is first
 may_exceed refusal (Gen seed count) f f' is first = absurd first
 may_exceed refusal (PcapIn c port) f f' is first =
     shrunk_unexceeded refusal (gates_of (PcapIn c port)) f f' (tt, tt) is first
@@ -404,7 +537,7 @@ once_ends : (request : Option Request) (status : Status) (call : Call)
 once_ends None status call (inl done) = absurd done.1
 once_ends None status call (inr (refusal, cause, counts, told)) = cause.1
 once_ends (Some request) status call (inl (is, (text, answer, taken, read, aside), counts, silent)) =
-    (at_most _ _ read, λ _. read)
+    (all_some request call.work.files call.work.files_after read, λ _. read)
 once_ends (Some request) status call (inr (refusal, (why, few, aside), counts, (end, told, written))) =
     (few, λ is. absurd (subst IsNotDone (sym told ∙ is) (told_not_done refusal end)))
 

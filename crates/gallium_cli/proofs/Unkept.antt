@@ -1,7 +1,13 @@
 -- Why the split that a file spells isn't taken: for one cause, and not where it is.
-use Rattle.std.proofs.Common.{◌≡◌, ◌<◌, ◌≤◌, ◌^◌, ◌⊎◌, ℕ, suc, List, length, Option, Some, None, IfSome, IsSomeAnd}
+use Rattle.std.proofs.Common.{◌≡◌, ◌≢◌, ◌<◌, ◌≤◌, ◌^◌, ◌⊎◌, ℕ, suc, List, length, Option, Some, None, IfSome, IsSomeAnd}
 use Rattle.std.proofs.Common.{refl, sym, ap, subst, ◌∙◌, inl, inr, arith}
 use Rattle.std.proofs.lemmas.Bool.{cases_lt, true≢false}
+use Rattle.element_chain.specs.Chain.{Connected}
+use Rattle.element_chain.specs.declared.chain.Chain.{Chain}
+use Rattle.chain_text.specs.Reads.{IsChainText}
+use Rattle.chain_compose.specs.Refusals as reasons
+use Rattle.chain_compose.specs.declared.error.ComposeError.{ComposeError}
+use Rattle.chain_compose.specs.declared.error.ComposeError.TheVariants as composing
 use Rattle.flat_ir.specs.Program.{Program}
 use Rattle.split_model.specs.declared.split.Part.{Part}
 use Rattle.split_model.specs.Bounds.{IsBounded}
@@ -37,11 +43,27 @@ IsSplitOne =
     (count : ℕ) (text : List ℕ) (split other : List Part) → count < 2 ^ 64
     → IsSplitText count text split → IsSplitText count text other → other ≡ split
 
+-- a text is that of one chain; a chain is composed, or refused for one reason
+abbrev pub IsChainOne : Type 0
+IsChainOne = (text : List ℕ) (a b : Chain) → IsChainText text a → IsChainText text b → a ≡ b
+
+abbrev pub IsReasonOne : Type 0
+IsReasonOne =
+    (c : Connected) (d e : ComposeError) → d ≢ composing.NoMemory → e ≢ composing.NoMemory → reasons.IsRefused c d
+    → reasons.IsRefused c e → d ≡ e
+
+abbrev pub IsReasonNone : Type 0
+IsReasonNone =
+    (c : Connected) (e : ComposeError) → e ≢ composing.NoMemory → reasons.IsUnrefused c → reasons.IsRefused c e → ⊥
+
 pub record Laws : Type 0 where
   pub greatest : IsGreatestOne
   pub kept : IsKeptUnexceeded
   pub line : IsFirstWrongOne
   pub split : IsSplitOne
+  pub chain : IsChainOne
+  pub reason : IsReasonOne
+  pub unrefused : IsReasonNone
 
 -- ## Rules
 

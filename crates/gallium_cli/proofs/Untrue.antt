@@ -22,7 +22,8 @@ use Rattle.gallium_cli.specs.declared.refusal.Refusal.TheVariants.{Report, Audit
 use Rattle.gallium_cli.specs.declared.refusal.Untruth.{Untruth}
 use Rattle.gallium_cli.specs.Lines.{status_of}
 use Rattle.gallium_cli.specs.Roles.{source, trace, true_report, size_of}
-use Rattle.gallium_cli.specs.Answers.{IsOnlySource, IsInput, IsAuditInput}
+use Rattle.gallium_cli.specs.Roles.{IsOnlySource}
+use Rattle.gallium_cli.specs.Answers.{IsInput, IsAuditInput}
 use Rattle.gallium_cli.specs.Loads.{IsUnread}
 use Rattle.gallium_cli.specs.Reports.{IsBadReport, IsUntrue, untruth_of}
 use Rattle.gallium_cli.specs.Promises.{IsStatusOf, IsRefusedAs, IsToldInput}

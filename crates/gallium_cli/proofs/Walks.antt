@@ -1,11 +1,11 @@
--- Walks over the same gates.
+-- Walks over the same gates, or the same files.
 use Rattle.std.proofs.Common.{List, [], ◌∷◌, inl, inr}
-use Rattle.gallium_cli.specs.Roles.{Gate, IsFirst}
+use Rattle.gallium_cli.specs.Roles.{IsFirst}
 
 -- What two walks come to: both end at one gate, or one ends where the other goes on.
-pub walks : (IsOpen IsShut IsPassed IsRefused : Gate → Type 0) (P : Type 0)
-    → ((gate : Gate) → IsShut gate → IsRefused gate → P) → ((gate : Gate) → IsShut gate → IsPassed gate → P)
-    → ((gate : Gate) → IsOpen gate → IsRefused gate → P) → (gates : List Gate)
+pub walks : {A : Type 0} (IsOpen IsShut IsPassed IsRefused : A → Type 0) (P : Type 0)
+    → ((gate : A) → IsShut gate → IsRefused gate → P) → ((gate : A) → IsShut gate → IsPassed gate → P)
+    → ((gate : A) → IsOpen gate → IsRefused gate → P) → (gates : List A)
     → IsFirst IsOpen IsShut gates → IsFirst IsPassed IsRefused gates → P
 walks IsOpen IsShut IsPassed IsRefused P both passed refused [] one two = absurd one
 walks IsOpen IsShut IsPassed IsRefused P both passed refused (gate ∷ gates) (inl one) (inl two) = both gate one two
@@ -15,8 +15,8 @@ walks IsOpen IsShut IsPassed IsRefused P both passed refused (gate ∷ gates) (i
     walks IsOpen IsShut IsPassed IsRefused P both passed refused gates one.1 two.1
 
 -- what ends at a gate where another doesn't passes the same gates
-pub at_gates : (IsBefore IsAt IsThere : Gate → Type 0) → ((gate : Gate) → IsAt gate → IsThere gate)
-    → (gates : List Gate) → IsFirst IsBefore IsAt gates → IsFirst IsBefore IsThere gates
+pub at_gates : {A : Type 0} (IsBefore IsAt IsThere : A → Type 0) → ((gate : A) → IsAt gate → IsThere gate)
+    → (gates : List A) → IsFirst IsBefore IsAt gates → IsFirst IsBefore IsThere gates
 at_gates IsBefore IsAt IsThere follows [] first = absurd first
 at_gates IsBefore IsAt IsThere follows (gate ∷ gates) (inl here) = inl (follows gate here)
 at_gates IsBefore IsAt IsThere follows (gate ∷ gates) (inr later) =

@@ -33,20 +33,34 @@ use Rattle.traffic_generator.specs.Packets.{packets_of as made_packets}
 use Rattle.traffic_generator.specs.Summary.{summary_of}
 use Rattle.traffic_generator.specs.Translator.{translator_limits, translator_text}
 use Rattle.gallium_cli.specs.Lines.{line_end}
-use Rattle.gallium_cli.specs.Words.{Splitting, Served, Within, Spelled, Request, Replay, is_replay}
+use Rattle.gallium_cli.specs.Words.{Splitting, Served, Within, Spelled, is_replay}
+use Rattle.gallium_cli.specs.Words.{Request, Run, Compile, Replay, Check, Audit, Chain, Gen, PcapIn, PcapOut}
 use Rattle.gallium_cli.specs.Roles.{gates_of, split_gates, event_gates, names_of, split_reads}
 use Rattle.gallium_cli.specs.Answers.{IsAnswer, IsProgram, IsPlan, IsTraffic, IsChoice, IsNoChoice, IsGivenSplit}
 use Rattle.gallium_cli.specs.Answers.{IsSplitBy, IsReport, IsReplayed, given, heading_text, compiled_text, checked_text}
-use Rattle.gallium_cli.specs.Answers.{IsOnlySource, IsMadeSplit, IsSummary, made_plan}
+use Rattle.gallium_cli.specs.Roles.{IsOnlySource}
+use Rattle.gallium_cli.specs.Answers.{IsMadeSplit, IsSummary, made_plan}
 use Rattle.gallium_cli.specs.Loads.{GoesOn, raised_by}
 use Rattle.gallium_cli.specs.Puts.{IsPut, IsNotPut}
-use Rattle.gallium_cli.specs.Causes.{IsFirstRefused, IsAllRead, IsNotWritten, IsSwitchKept, IsDone, HasCause, most_reads}
-use Rattle.gallium_cli.specs.Causes.{reads_after}
+use Rattle.gallium_cli.specs.Causes.{IsFirstRefused, IsAllRead, IsNotWritten, IsSwitchKept, IsDone, HasCause}
+use Rattle.gallium_cli.specs.Causes.{ReadsAll, ReadsSome, reads_after}
 use Rattle.gallium_cli.proofs.Files.{first_before, passed_both, refused_behind, refused_of_more, split_passed, traffic_before}
 use Rattle.gallium_cli.proofs.Files.{traffic_passed}
 
 pub at_most : (n m : ℕ) → n ≡ m → n ≤ m
 at_most n m same = omega arith
+
+-- a file that was read once was read at most once
+pub all_some : (request : Request) (f f' : FilesState) → ReadsAll request f f' → ReadsSome request f f'
+all_some (Run s t) f f' read = at_most _ _ read
+all_some (Compile s l shrink) f f' read = at_most _ _ read
+all_some (Replay s t c by) f f' read = at_most _ _ read
+all_some (Check s l p) f f' read = at_most _ _ read
+all_some (Audit s t r) f f' read = at_most _ _ read
+all_some (Chain w) f f' (names, are, read) = (names, inr are, at_most _ _ read)
+all_some (Gen seed count) f f' read = at_most _ _ read
+all_some (PcapIn c port) f f' read = at_most _ _ read
+all_some (PcapOut t big nano) f f' read = at_most _ _ read
 
 -- ## Causes
 
@@ -57,14 +71,14 @@ switch_kept false p = refl
 
 -- a request that isn't let through a gate is refused there
 pub gate_cause : (refusal : Refusal) (request : Request) (f f' : FilesState) (p : PortState) (o : SinkState)
-    → IsFirstRefused refusal (gates_of request) f f' → f'.reads ≤ most_reads request f
+    → IsFirstRefused refusal (gates_of request) f f' → ReadsSome request f f'
     → HasCause refusal (Some request) (work_of f f' p p o o)
 gate_cause refusal request f f' p o first few =
     (inl (first, record { out = refl; port = refl }), few, switch_kept (is_replay request) p)
 
 -- without memory nothing is written
 pub memory_cause : (refusal : Refusal) (request : Request) (f f' : FilesState) (p p' : PortState) (o : SinkState)
-    → refusal ≡ NoMemory → f'.reads ≤ most_reads request f → IsSwitchKept (is_replay request) p p'
+    → refusal ≡ NoMemory → ReadsSome request f f' → IsSwitchKept (is_replay request) p p'
     → HasCause refusal (Some request) (work_of f f' p p' o o)
 memory_cause NoMemory request f f' p p' o is few kept = (inr (inr refl), few, kept)
 memory_cause _ request f f' p p' o is few kept = cc
@@ -75,7 +89,7 @@ pub switch_cause : (refusal : Refusal) (request : Request) (f f' : FilesState) (
     → IsAllRead request (work_of f f' p p' o o) → IsSwitchKept (is_replay request) p p'
     → HasCause refusal (Some request) (work_of f f' p p' o o)
 switch_cause SwitchFault request f f' p p' o is replays rose all kept =
-    (inr (inl ((replays, rose, all), refl)), at_most _ _ all.reads, kept)
+    (inr (inl ((replays, rose, all), refl)), all_some request f f' all.reads, kept)
 switch_cause _ request f f' p p' o is replays rose all kept = cc
 
 -- a replay that came to no report
@@ -84,14 +98,14 @@ pub replay_cause : (refusal : Refusal) (request : Request) (f f' : FilesState) (
     → is_replay request ≡ true → IsAllRead request (work_of f f' p p' o o) → IsSwitchKept (is_replay request) p p'
     → HasCause refusal (Some request) (work_of f f' p p' o o)
 replay_cause refusal request f f' p p' o (inl memory) replays all kept =
-    memory_cause refusal request f f' p p' o memory.0 (at_most _ _ all.reads) kept
+    memory_cause refusal request f f' p p' o memory.0 (all_some request f f' all.reads) kept
 replay_cause refusal request f f' p p' o (inr switch) replays all kept =
     switch_cause refusal request f f' p p' o switch.0 replays switch.1 all kept
 
 -- ## Answers
 
 not_written : (refusal : Refusal) (request : Request) (text : List ℕ) (f f' : FilesState) (p p' : PortState)
-    (o o' : SinkState) → IsAnswer text request f.told p p' → f'.reads ≡ most_reads request f
+    (o o' : SinkState) → IsAnswer text request f.told p p' → ReadsAll request f f'
     → IsNotPut refusal text o o' → IsNotWritten refusal request (work_of f f' p p' o o')
 not_written WriteFault request text f f' p p' o o' answer read put = (put.0, read, text, answer, put.1, put.2)
 not_written NoMemory request text f f' p p' o o' answer read put = put
@@ -99,7 +113,7 @@ not_written _ request text f f' p p' o o' answer read put = absurd put
 
 -- an answer that was put on out is done
 pub put_answer : {A : Type 0} {E : Type 0} (result : Result A E) (request : Request) (text : List ℕ) (f f' : FilesState)
-    (p p' : PortState) (o o' : SinkState) → IsAnswer text request f.told p p' → f'.reads ≡ most_reads request f
+    (p p' : PortState) (o o' : SinkState) → IsAnswer text request f.told p p' → ReadsAll request f f'
     → IsSwitchKept (is_replay request) p p' → OnOk result (IsPut text o o')
     → OnOk result (IsDone (Some request) (work_of f f' p p' o o'))
 put_answer (Ok x) request text f f' p p' o o' answer read kept put = (text, answer, put.0, read, kept)
@@ -107,12 +121,12 @@ put_answer (Err e) request text f f' p p' o o' answer read kept put = tt
 
 -- an answer that wasn't put on out is the cause of its refusal
 pub unput_answer : {A : Type 0} (result : Result A Refusal) (request : Request) (text : List ℕ) (f f' : FilesState)
-    (p p' : PortState) (o o' : SinkState) → IsAnswer text request f.told p p' → f'.reads ≡ most_reads request f
+    (p p' : PortState) (o o' : SinkState) → IsAnswer text request f.told p p' → ReadsAll request f f'
     → IsSwitchKept (is_replay request) p p' → IfErr result (λ refusal. IsNotPut refusal text o o')
     → IfErr result (λ refusal. HasCause refusal (Some request) (work_of f f' p p' o o'))
 unput_answer (Ok x) request text f f' p p' o o' answer read kept put = tt
 unput_answer (Err refusal) request text f f' p p' o o' answer read kept put =
-    (inr (inr (not_written refusal request text f f' p p' o o' answer read put)), at_most _ _ read, kept)
+    (inr (inr (not_written refusal request text f f' p p' o o' answer read put)), all_some request f f' read, kept)
 
 -- ## Splits
 
@@ -195,7 +209,7 @@ replay_names s t c (Spelled l p) count = refl
 
 -- all reads of a replay
 pub replay_reads : (s t c : List ℕ) (by : Splitting) (f g h : FilesState) → g.reads ≡ raised_by (split_reads s by) f.reads
-    → h.reads ≡ raised_by 2 g.reads → h.reads ≡ most_reads (Replay s t c by) f
+    → h.reads ≡ raised_by 2 g.reads → ReadsAll (Replay s t c by) f h
 replay_reads s t c by f g h one two =
     subst (λ n. h.reads ≡ n) (sym (replay_names s t c by f.reads))
     (reads_in_all (split_reads s by) 2 f.reads g.reads h.reads one two)

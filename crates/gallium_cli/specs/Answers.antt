@@ -52,20 +52,18 @@ use Rattle.traffic_generator.specs.Packets.{packets_of as made_packets}
 use Rattle.traffic_generator.specs.Schedule.{events_of as made_events}
 use Rattle.traffic_generator.specs.Summary.{summary_of}
 use Rattle.traffic_generator.specs.Translator.{translator_limits, translator_text}
+use Rattle.gallium_cli.specs.Words as words
 use Rattle.gallium_cli.specs.Words.{Splitting, Served, Within, Spelled}
 use Rattle.gallium_cli.specs.Words.{Request, Run, Compile, Replay, Check, Audit, Gen, PcapIn, PcapOut}
 use Rattle.gallium_cli.specs.Lines.{line_end}
 use Rattle.gallium_cli.specs.Roles.{source, program, limits, legal_split, trace, schedule, capture, size_of}
-use Rattle.gallium_cli.specs.Roles.{true_report, AreLimits, IsCaptured, IsShort}
+use Rattle.gallium_cli.specs.Roles.{true_report, AreLimits, IsCaptured, IsOnlySource, IsShort}
+use Rattle.gallium_cli.specs.Chains.{IsWired, AreClasses, IsOneSource, connected}
+use Rattle.element_chain.specs.declared.chain.Chain.{Chain as ChainTold}
 use Rattle.report_text.specs.Form.{are_declared}
 use Rattle.report_text.specs.Lines as reports
 use Rattle.run_audit.specs.Source.{source_of}
 use Rattle.run_audit.specs.Told.{IsTrueReport}
-
--- the text is a source of this middlebox, and of no other
-pub record IsOnlySource (text : List ℕ) (m : Tree) : Type 0 where
-  pub source : IsSource text m
-  pub only : (other : Tree) → IsSource text other → other ≡ m
 
 -- the told contents spell this middlebox and these packets, each within its size
 pub record IsInput (told : List ℕ → Option (List ℕ)) (s t : List ℕ) (m : Tree) (packets : List Packet) : Type 0 where
@@ -285,7 +283,7 @@ IsToldTrace told t packets = IfSome (told t) (λ text. (length text ≤ size_of 
 
 -- A text that answers a request: for some middlebox, packets and events that the files spell, what the source does to
 -- the packets one after the other; or the split that is asked for; or the report of a replay by that split; or what a
--- split takes that a file spells. Or the summary of a replay of made packets. Or the trace of a capture's packets by one
+-- split takes that a file spells; or one source of a chain. Or the summary of a replay of made packets. Or the trace of a capture's packets by one
 -- port, or the bytes of the capture of a trace's packets.
 abbrev pub IsAnswer : List ℕ → Request → (List ℕ → Option (List ℕ)) → PortState → PortState → Type 0
 IsAnswer text (Run s t) told port port_after =
@@ -303,6 +301,9 @@ IsAnswer text (Check s l p) told port port_after =
 IsAnswer text (Audit s t r) told port port_after =
     (m : Tree) × (packets : List Packet) × (run : RunTold)
     × IsAuditInput told s t m packets × IsTrueFile told r m packets run × (text ≡ audited_text run)
+IsAnswer text (words.Chain w) told port port_after =
+    (chain : ChainTold) × (ms : List Tree)
+    × IsWired told w chain × AreClasses told chain.elements ms × IsOneSource (connected chain ms) text
 IsAnswer text (Gen seed count) told port port_after = IsSummary text seed count port port_after
 IsAnswer text (PcapIn c by) told port port_after =
     (p : Pcap) × IsToldCapture told c p × (text ≡ trace_text (packets_of p by))

@@ -21,10 +21,11 @@ use Rattle.gallium_cli.specs.declared.status.Status.TheVariants as statuses
 use Rattle.gallium_cli.specs.declared.refusal.Refusal.{Refusal}
 use Rattle.gallium_cli.specs.declared.refusal.Refusal.TheVariants.{Usage, Exceeded, WriteFault, SwitchFault, NoMemory}
 use Rattle.gallium_cli.specs.Call.{Call, Work}
-use Rattle.gallium_cli.specs.Words.{Request, is_replay, request_of}
+use Rattle.gallium_cli.specs.Words.{Request, Chain, is_replay, request_of}
 use Rattle.gallium_cli.specs.Lines.{status_of, line_of}
-use Rattle.gallium_cli.specs.Roles.{legal_split, true_report, Gate, File, Choice, SplitFile, ReportFile, IsFirst}
-use Rattle.gallium_cli.specs.Roles.{IsGood}
+use Rattle.gallium_cli.specs.Roles.{legal_split, true_report, Gate, File, Choice, SplitFile, ReportFile, Composed}
+use Rattle.gallium_cli.specs.Roles.{IsFirst, IsGood}
+use Rattle.gallium_cli.specs.Chains.{IsChainRefused, IsChainPassed, AreAllNames, AreNames}
 use Rattle.gallium_cli.specs.Roles.{gates_of, names_of}
 use Rattle.gallium_cli.specs.Splits.{excess_of}
 use Rattle.gallium_cli.specs.Answers.{IsPlan, IsAuditInput, IsAnswer}
@@ -45,7 +46,7 @@ IsOverLimit refusal s l shrink told =
 -- ## The first gate that isn't passed
 
 -- why a request goes no further: a file is refused, or no split is chosen, or the split or the report of a file isn't
--- taken
+-- taken, or a chain isn't composed
 abbrev pub IsRefusedAt : Refusal → Gate → FilesState → FilesState → Type 0
 IsRefusedAt refusal (File name role) f f' = IsFileRefused refusal role name f f'
 IsRefusedAt refusal (Choice s l shrink) f f' = IsOverLimit refusal s l shrink f.told
@@ -55,8 +56,9 @@ IsRefusedAt refusal (SplitFile s l p) f f' =
 IsRefusedAt refusal (ReportFile s t r) f f' =
     (m : Tree) × (packets : List Packet)
     × IsAuditInput f.told s t m packets × IsFileRefused refusal (true_report m packets) r f f'
+IsRefusedAt refusal (Composed w) f f' = IsChainRefused refusal w f f'
 
--- a file is good, where it is told, and a split is chosen, or taken, or a report is
+-- a file is good, where it is told, and a split is chosen, or taken, or a report is, or a chain is composed
 abbrev pub IsPassed : Gate → FilesState → Type 0
 IsPassed (File name role) f = IfSome (f.told name) (IsGood role)
 IsPassed (Choice s l shrink) f =
@@ -68,6 +70,7 @@ IsPassed (SplitFile s l p) f =
 IsPassed (ReportFile s t r) f =
     (m : Tree) × (packets : List Packet)
     × IsAuditInput f.told s t m packets × IfSome (f.told r) (IsGood (true_report m packets))
+IsPassed (Composed w) f = IsChainPassed w f
 
 -- each of these gates is passed
 abbrev pub AllPassed : List Gate → FilesState → Type 0
@@ -85,9 +88,17 @@ abbrev pub reads_after : List (List ℕ) → ℕ → ℕ
 reads_after [] count = count
 reads_after (name ∷ names) count = raised_by (length (name ∷ names)) count
 
--- there was at most one read for each file of a request, or just one
-abbrev pub most_reads : Request → FilesState → ℕ
-most_reads request f = reads_after (names_of request) f.reads
+-- there was just one read for each file of a request, those of the classes of a chain included
+abbrev pub ReadsAll : Request → FilesState → FilesState → Type 0
+ReadsAll (Chain w) f f' =
+    (names : List (List ℕ)) × AreAllNames f.told w names × (f'.reads ≡ reads_after names f.reads)
+ReadsAll request f f' = f'.reads ≡ reads_after (names_of request) f.reads
+
+-- there was at most one read for each file that it came to
+abbrev pub ReadsSome : Request → FilesState → FilesState → Type 0
+ReadsSome (Chain w) f f' =
+    (names : List (List ℕ)) × AreNames f.told w names × (f'.reads ≤ reads_after names f.reads)
+ReadsSome request f f' = f'.reads ≤ reads_after (names_of request) f.reads
 
 -- only a replay calls the switch, which then tells its tables just where it told them before
 abbrev pub IsSwitchKept : Bool → PortState → PortState → Type 0
@@ -97,7 +108,7 @@ IsSwitchKept false port port_after = port_after ≡ port
 -- every gate of a request is passed, and there was one read for each of its files
 pub record IsAllRead (request : Request) (work : Work) : Type 0 where
   pub passed : AllPassed (gates_of request) work.files
-  pub reads : work.files_after.reads ≡ most_reads request work.files
+  pub reads : ReadsAll request work.files work.files_after
 
 -- the answer to a request was taken whole by out, and there was one read for each of its files
 abbrev pub IsDone : Option Request → Work → Type 0
@@ -105,7 +116,7 @@ IsDone None work = ⊥
 IsDone (Some request) work =
     (text : List ℕ) × IsAnswer text request work.files.told work.port work.port_after
     × (work.out_after.taken ≡ append_known work.out.taken text)
-    × (work.files_after.reads ≡ most_reads request work.files)
+    × ReadsAll request work.files work.files_after
     × IsSwitchKept (is_replay request) work.port work.port_after
 
 -- all that a replay asks for is read and accepted, and then the switch failed, so that its count of faults rose
@@ -122,7 +133,7 @@ IsSwitchFaulty _ request work = ⊥
 abbrev pub IsNotWritten : Refusal → Request → Work → Type 0
 IsNotWritten WriteFault request work =
     Rose work.out.faults work.out_after.faults
-    × (work.files_after.reads ≡ most_reads request work.files)
+    × ReadsAll request work.files work.files_after
     × (text : List ℕ) × IsAnswer text request work.files.told work.port work.port_after
     × (n : ℕ) × (work.out_after.taken ≡ append_known work.out.taken (take n text))
 IsNotWritten NoMemory request work = work.out_after ≡ work.out
@@ -142,7 +153,7 @@ HasCause refusal (Some request) work =
     ((IsFirstRefused refusal (gates_of request) work.files work.files_after × IsIdle work)
     ⊎ (IsSwitchFaulty refusal request work × (work.out_after ≡ work.out))
     ⊎ IsNotWritten refusal request work)
-    × (work.files_after.reads ≤ most_reads request work.files)
+    × ReadsSome request work.files work.files_after
     × IsSwitchKept (is_replay request) work.port work.port_after
 
 abbrev pub is_write_fault : Status → Bool

@@ -5,8 +5,9 @@ pub mod Roles
 pub mod Splits
 pub mod Reports
 pub mod Runnable
-pub mod Answers
 pub mod Loads
+pub mod Chains
+pub mod Answers
 pub mod Puts
 pub mod Call
 pub mod Causes

@@ -2,6 +2,12 @@
 use Rattle.std.specs.Prelude.{ℕ, List, [], ◌∷◌, ◌++◌, Option, Some, None, codes, decimal}
 use Rattle.element_lang.specs.declared.sizes.What.{What}
 use Rattle.element_lang.specs.declared.sizes.What.TheVariants.{Depth, Objects, Entries, Writes}
+use Rattle.chain_compose.specs.declared.error.ComposeError.{ComposeError}
+use Rattle.chain_compose.specs.declared.error.ComposeError.TheVariants as composing
+use Rattle.chain_compose.specs.declared.error.What.{What as Amount}
+use Rattle.chain_compose.specs.declared.error.What.TheVariants as amounts
+use Rattle.chain_text.specs.declared.error.ChainTextError.{ChainTextError}
+use Rattle.chain_text.specs.declared.error.ChainTextError.TheVariants as chains
 use Rattle.element_text.specs.declared.error.TextError.{TextError}
 use Rattle.element_text.specs.declared.error.TextError.TheVariants as errors
 use Rattle.resource_limits.specs.Limits.{name_of}
@@ -25,7 +31,10 @@ use Rattle.gallium_cli.specs.declared.refusal.SplitFault.TheVariants as splits
 use Rattle.gallium_cli.specs.declared.refusal.Refusal.{Refusal}
 use Rattle.gallium_cli.specs.declared.refusal.Refusal.TheVariants.{Usage, Source, LongProgram, Limits, Exceeded, Split}
 use Rattle.gallium_cli.specs.declared.refusal.Refusal.TheVariants.{Trace, Schedule, TooLong, ReadFault, WriteFault}
-use Rattle.gallium_cli.specs.declared.refusal.Refusal.TheVariants.{SwitchFault, NoMemory, Pcap, Report, Audit}
+use Rattle.gallium_cli.specs.declared.refusal.Refusal.TheVariants.{SwitchFault, NoMemory, Pcap, Report, Audit, Chain}
+use Rattle.gallium_cli.specs.declared.refusal.Refusal.TheVariants.{ClassSource, ClassTooLong, ClassReadFault}
+use Rattle.gallium_cli.specs.declared.refusal.Refusal.TheVariants as refusals
+use Rattle.gallium_cli.specs.declared.refusal.Uncomposed.{Uncomposed}
 
 abbrev pub line_end : List ℕ
 line_end = 10 ∷ []
@@ -41,16 +50,23 @@ what_text Objects = codes "objects"
 what_text Entries = codes "entries"
 what_text Writes = codes "writes"
 
--- the line of a source that is refused; offsets are bytes from the start of the text
+-- what is wrong with a source that is refused; offsets are bytes from the start of the text
+abbrev pub source_text : TextError → List ℕ
+source_text (errors.NotUtf8 offset) = codes "source: not utf-8 at " ++ decimal offset
+source_text (errors.Token offset) = codes "source: token at " ++ decimal offset
+source_text (errors.Syntax offset) = codes "source: syntax at " ++ decimal offset
+source_text (errors.Rule rule offset) = codes "source: rule " ++ (decimal rule ++ (codes " at " ++ decimal offset))
+source_text (errors.TooLarge what have allowed) =
+    codes "source: " ++ (what_text what
+    ++ (codes " have " ++ (decimal have ++ (codes ", allowed " ++ decimal allowed))))
+source_text errors.NoMemory = codes "no memory"
+
+-- the line of a source, and that of the source of a class, which is in the file of this name
 abbrev pub source_line : TextError → List ℕ
-source_line (errors.NotUtf8 offset) = codes "source: not utf-8 at " ++ (decimal offset ++ line_end)
-source_line (errors.Token offset) = codes "source: token at " ++ (decimal offset ++ line_end)
-source_line (errors.Syntax offset) = codes "source: syntax at " ++ (decimal offset ++ line_end)
-source_line (errors.Rule rule offset) =
-    codes "source: rule " ++ (decimal rule ++ (codes " at " ++ (decimal offset ++ line_end)))
-source_line (errors.TooLarge what have allowed) =
-    codes "source: " ++ (what_text what ++ (codes " have " ++ numbers_text have allowed))
-source_line errors.NoMemory = codes "no memory" ++ line_end
+source_line fault = source_text fault ++ line_end
+
+abbrev pub class_line : TextError → List ℕ → List ℕ
+class_line fault name = source_text fault ++ (codes " in " ++ (name ++ line_end))
 
 -- the line of limits that are refused
 abbrev pub limits_line : LimitsError → List ℕ
@@ -119,6 +135,36 @@ audit_line u = audit_text u.error u.object
 abbrev pub report_line : ℕ → List ℕ
 report_line number = codes "report: line " ++ (decimal number ++ line_end)
 
+-- the line of a text that is no chain; offsets are bytes from its start, and statements go by their numbers from 1
+abbrev pub chain_line : ChainTextError → List ℕ
+chain_line (chains.Syntax offset) = codes "chain: syntax at " ++ (decimal offset ++ line_end)
+chain_line (chains.Elements have) =
+    codes "chain: elements have " ++ (decimal have ++ (codes ", allowed 32" ++ line_end))
+chain_line (chains.Statement number) = codes "chain: statement " ++ (decimal number ++ line_end)
+chain_line chains.Empty = codes "chain: empty" ++ line_end
+chain_line chains.Cycle = codes "chain: cycle" ++ line_end
+chain_line chains.NoMemory = codes "no memory" ++ line_end
+
+-- what there is too much of in a composed middlebox
+abbrev pub amount_text : Amount → List ℕ
+amount_text amounts.Objects = codes "objects"
+amount_text amounts.Entries = codes "entries"
+amount_text amounts.Writes = codes "writes"
+amount_text amounts.Depth = codes "depth"
+amount_text amounts.Bytes = codes "bytes"
+
+-- the line of a chain that isn't composed: an element goes by its name
+abbrev pub composing_text : ComposeError → Option (List ℕ) → List ℕ
+composing_text (composing.Byte number) element = codes "chain: byte" ++ (owner_text element ++ line_end)
+composing_text (composing.Repeat number) element = codes "chain: repeat" ++ (owner_text element ++ line_end)
+composing_text composing.Statements element = codes "chain: more than 65536 statements" ++ line_end
+composing_text (composing.TooLarge what have allowed) element =
+    codes "chain: " ++ (amount_text what ++ (codes " have " ++ numbers_text have allowed))
+composing_text composing.NoMemory element = codes "no memory" ++ line_end
+
+abbrev pub composing_line : Uncomposed → List ℕ
+composing_line u = composing_text u.error u.element
+
 abbrev pub status_of : Refusal → Status
 status_of Usage = statuses.Usage
 status_of (Source fault) = statuses.Source
@@ -136,6 +182,11 @@ status_of NoMemory = statuses.NoMemory
 status_of (Pcap fault) = statuses.Pcap
 status_of (Report number) = statuses.Report
 status_of (Audit untruth) = statuses.Audit
+status_of (Chain fault) = statuses.Chain
+status_of (ClassSource fault name) = statuses.Source
+status_of (ClassTooLong name) = statuses.TooLong
+status_of (ClassReadFault name) = statuses.ReadFault
+status_of (refusals.Uncomposed uncomposed) = statuses.Chain
 
 abbrev pub line_of : Refusal → List ℕ
 line_of Usage = codes "usage: gallium run, compile, check, replay or gen" ++ line_end
@@ -154,3 +205,8 @@ line_of NoMemory = codes "no memory" ++ line_end
 line_of (Pcap fault) = pcap_line fault
 line_of (Report number) = report_line number
 line_of (Audit untruth) = audit_line untruth
+line_of (Chain fault) = chain_line fault
+line_of (ClassSource fault name) = class_line fault name
+line_of (ClassTooLong name) = codes "too long: " ++ (name ++ line_end)
+line_of (ClassReadFault name) = codes "read fault: " ++ (name ++ line_end)
+line_of (refusals.Uncomposed uncomposed) = composing_line uncomposed

@@ -10,6 +10,9 @@ use Rattle.resource_limits.specs.declared.limits.LimitsError.TheVariants as faul
 use Rattle.element_text.specs.Refused.{IsRefused}
 use Rattle.element_text.specs.declared.error.TextError.{TextError}
 use Rattle.element_text.specs.declared.error.TextError.TheVariants as errors
+use Rattle.chain_text.specs.Reads as chain
+use Rattle.chain_text.specs.declared.error.ChainTextError.{ChainTextError}
+use Rattle.chain_text.specs.declared.error.ChainTextError.TheVariants as chains
 use Rattle.pcap_trace.specs.Refused as pcap
 use Rattle.pcap_trace.specs.declared.refusal.PcapError.{PcapError}
 use Rattle.pcap_trace.specs.declared.refusal.PcapError.TheVariants as pcaps
@@ -21,8 +24,9 @@ use Rattle.gallium_cli.specs.declared.status.Status.TheVariants as statuses
 use Rattle.gallium_cli.specs.declared.refusal.Refusal.{Refusal}
 use Rattle.gallium_cli.specs.declared.refusal.Refusal.TheVariants.{Source, LongProgram, Limits, Exceeded, Split, Trace, Schedule}
 use Rattle.gallium_cli.specs.declared.refusal.Refusal.TheVariants.{TooLong, ReadFault, NoMemory, Pcap, Report, Audit}
+use Rattle.gallium_cli.specs.declared.refusal.Refusal.TheVariants.{Chain}
 use Rattle.gallium_cli.specs.Roles.{Role, source, program, limits, legal_split, true_report, trace, schedule}
-use Rattle.gallium_cli.specs.Roles.{capture, size_of}
+use Rattle.gallium_cli.specs.Roles.{wiring, capture, size_of}
 use Rattle.gallium_cli.specs.Roles.{IsSpelled, IsGood, IsBad}
 use Rattle.gallium_cli.specs.Splits.{IsUnkept, IsBadSplit}
 use Rattle.gallium_cli.specs.Reports.{IsOnlyUntrue, IsBadReport}
@@ -60,6 +64,15 @@ pub record IsOnlyFault (fault : PcapError) (bytes : List ℕ) : Type 0 where
 abbrev pub IsBadCapture : PcapError → List ℕ → Type 0
 IsBadCapture fault bytes = IsBad capture bytes × IsOnlyFault fault bytes
 
+-- the bytes are no chain for this cause, and for no other
+pub record IsOnlyReason (fault : ChainTextError) (text : List ℕ) : Type 0 where
+  pub cause : chain.IsRefused text fault
+  pub only : (other : ChainTextError) → other ≢ chains.NoMemory → chain.IsRefused text other → other ≡ fault
+
+-- they are a bad chain, for this cause
+abbrev pub IsBadChain : ChainTextError → List ℕ → Type 0
+IsBadChain fault text = IsBad wiring text × IsOnlyReason fault text
+
 -- Why a text isn't read. What is refused for what it holds has a cause that isn't want of memory.
 abbrev pub IsUnread : Refusal → Role → List ℕ → Type 0
 IsUnread (Source fault) source text = (fault ≢ errors.NoMemory) × ¬ (IsSpelled source text) × IsOnlyCause fault text
@@ -76,8 +89,19 @@ IsUnread (Report number) (true_report m packets) text =
     ¬ (IsSpelled (true_report m packets) text) × IsOnlyUntrue (Report number) m packets text
 IsUnread (Audit untruth) (true_report m packets) text =
     ¬ (IsSpelled (true_report m packets) text) × IsOnlyUntrue (Audit untruth) m packets text
+IsUnread (Chain fault) wiring text =
+    (fault ≢ chains.NoMemory) × ¬ (IsSpelled wiring text) × IsOnlyReason fault text
 IsUnread NoMemory role text = Unit {0}
 IsUnread _ role text = ⊥
+
+-- a file of this role is too long, and is blamed for it; a file can't be read, and is blamed for that
+abbrev pub IsFileTooLong : Role → List ℕ → FilesState → FilesState → Type 0
+IsFileTooLong role name f f' =
+    IfSome (f.told name) (λ text. size_of role < length text)
+    × (f'.overlong_name ≡ Some name) × Rose f.overlong f'.overlong
+
+abbrev pub IsFileFaulty : List ℕ → FilesState → FilesState → Type 0
+IsFileFaulty name f f' = (f'.fault_name ≡ Some name) × Rose f.faults f'.faults
 
 -- Why a file is refused. What is said of its text is said where that is told.
 abbrev pub IsFileRefused : Refusal → Role → List ℕ → FilesState → FilesState → Type 0
@@ -96,11 +120,9 @@ IsFileRefused (Report number) (true_report m packets) name f f' =
     IfSome (f.told name) (IsBadReport (Report number) m packets)
 IsFileRefused (Audit untruth) (true_report m packets) name f f' =
     IfSome (f.told name) (IsBadReport (Audit untruth) m packets)
-IsFileRefused (TooLong blamed) role name f f' =
-    (blamed.now ≡ name) × IfSome (f.told name) (λ text. size_of role < length text)
-    × (f'.overlong_name ≡ Some name) × Rose f.overlong f'.overlong
-IsFileRefused (ReadFault blamed) role name f f' =
-    (blamed.now ≡ name) × (f'.fault_name ≡ Some name) × Rose f.faults f'.faults
+IsFileRefused (Chain fault) wiring name f f' = (fault ≢ chains.NoMemory) × IfSome (f.told name) (IsBadChain fault)
+IsFileRefused (TooLong blamed) role name f f' = (blamed.now ≡ name) × IsFileTooLong role name f f'
+IsFileRefused (ReadFault blamed) role name f f' = (blamed.now ≡ name) × IsFileFaulty name f f'
 IsFileRefused NoMemory role name f f' = Unit {0}
 IsFileRefused _ role name f f' = ⊥
 

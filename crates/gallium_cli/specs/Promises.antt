@@ -1,5 +1,6 @@
 -- What the program promises of a whole call.
-use Rattle.std.specs.Prelude.{◌≡◌, ◌<◌, ◌≤◌, ◌⊎◌, ◌≢◌, ℕ, true, false, List, [], ◌∷◌, length, Option, Some, None, Ok}
+use Rattle.std.specs.Prelude.{◌≡◌, ◌<◌, ◌≤◌, ◌⊎◌, ◌≢◌, ℕ, true, false, List, [], ◌∷◌, length, slice_get}
+use Rattle.std.specs.Prelude.{Option, Some, None, Ok}
 use Rattle.std.specs.Prelude.{IsSomeAnd, is_some}
 use Rattle.std.specs.Io.KnownBytes.{append_known}
 use Rattle.gal_io.specs.Count.{Rose}
@@ -11,6 +12,14 @@ use Rattle.split_model.specs.declared.split.Part.{Part}
 use Rattle.resource_limits.specs.declared.limits.Limits.{Limits}
 use Rattle.resource_limits.specs.declared.exceeding.Over.{Over}
 use Rattle.partition.specs.Choice as choice
+use Rattle.element_chain.specs.declared.chain.Chain.{Chain as ChainTold}
+use Rattle.element_chain.specs.declared.chain.Element.{Element}
+use Rattle.chain_text.specs.Reads as reads
+use Rattle.chain_text.specs.Reads.{IsChainText, IsComposable}
+use Rattle.chain_text.specs.declared.error.ChainTextError.TheVariants as chains
+use Rattle.chain_compose.specs.Refusals as composing
+use Rattle.chain_compose.specs.declared.error.ComposeError.{ComposeError}
+use Rattle.chain_compose.specs.declared.error.ComposeError.TheVariants as composed
 use Rattle.element_text.specs.Refused.{IsRefused}
 use Rattle.element_text.specs.declared.error.TextError.TheVariants as errors
 use Rattle.pcap_trace.specs.Refused as pcap
@@ -19,20 +28,23 @@ use Rattle.gallium_cli.specs.declared.status.Status.{Status}
 use Rattle.gallium_cli.specs.declared.status.Status.TheVariants.{Done, Usage, Source, Limits as BadLimits, Exceeded, Split}
 use Rattle.gallium_cli.specs.declared.status.Status.TheVariants.{Trace, Schedule, TooLong, ReadFault, WriteFault}
 use Rattle.gallium_cli.specs.declared.status.Status.TheVariants.{SwitchFault, NoMemory, Pcap, Report, Audit as Untrue}
+use Rattle.gallium_cli.specs.declared.status.Status.TheVariants.{Chain as BadChain}
 use Rattle.gallium_cli.specs.declared.refusal.Refusal.{Refusal}
 use Rattle.gallium_cli.specs.declared.refusal.Refusal.TheVariants as refusals
 use Rattle.gallium_cli.specs.Call.{Call, Work}
-use Rattle.gallium_cli.specs.Words.{Request, Compile, Replay, Check, Audit, Within, Spelled, is_replay, request_of}
+use Rattle.gallium_cli.specs.Words.{Request, Compile, Replay, Check, Audit, Chain, Within, Spelled, is_replay, request_of}
 use Rattle.gallium_cli.specs.Lines.{status_of, line_of}
-use Rattle.gallium_cli.specs.Roles.{Role, source, program, limits, legal_split, true_report, trace, schedule, capture}
-use Rattle.gallium_cli.specs.Roles.{Gate, File, Choice, SplitFile, ReportFile, IsFirst, gates_of, names_of, size_of}
-use Rattle.gallium_cli.specs.Roles.{IsGood, IsBad, IsShort, AreLimits}
+use Rattle.gallium_cli.specs.Roles.{Role, source, program, limits, legal_split, true_report, wiring, trace, schedule}
+use Rattle.gallium_cli.specs.Roles.{capture}
+use Rattle.gallium_cli.specs.Roles.{Gate, File, Choice, SplitFile, ReportFile, Composed, IsFirst, gates_of, names_of}
+use Rattle.gallium_cli.specs.Roles.{size_of, IsGood, IsBad, IsShort, AreLimits}
 use Rattle.gallium_cli.specs.Loads.{IsLongProgram, AreBadLimits, IsBadTrace, IsBadSchedule}
 use Rattle.gallium_cli.specs.Splits.{SpellsLegal, IsBadSplit, excess_of}
 use Rattle.gallium_cli.specs.Reports.{TellsRun, IsUntrue}
+use Rattle.gallium_cli.specs.Chains.{AreNames, class_files, file_of, connected, uncomposed_of}
 use Rattle.gallium_cli.specs.Answers.{IsReplayOf}
 use Rattle.run_text.specs.Trace.{trace_of}
-use Rattle.gallium_cli.specs.Causes.{IsDone, IsFailedReplay, CountsFaults, Ends, most_reads}
+use Rattle.gallium_cli.specs.Causes.{IsDone, IsFailedReplay, CountsFaults, Ends, ReadsAll, ReadsSome}
 
 -- an end that writing and memory may bring whatever the words are
 abbrev pub IsWriteFault : Status → Type 0
@@ -92,7 +104,18 @@ pub record IsReplayReport (told : List ℕ → Option (List ℕ)) (s t r : List 
   pub trace : IsSomeAnd (told t) (λ text. trace_of text ≡ Ok packets)
   pub replay : IsSomeAnd (told r) (IsReplayOf m packets)
 
--- a content is told and good, and a split is there to choose, or to take, or a report is there
+-- The contents are told, and spell this chain, which can be composed.
+pub record IsToldWiring (told : List ℕ → Option (List ℕ)) (w : List ℕ) (chain : ChainTold) : Type 0 where
+  pub text : IsSomeAnd (told w) (λ text. (length text ≤ size_of wiring) × IsChainText text chain)
+  pub composable : IsComposable chain
+
+-- They are told of the class of each element, and spell these middleboxes: one for all elements of a class.
+pub record AreToldClasses (told : List ℕ → Option (List ℕ)) (chain : ChainTold) (ms : List Tree) : Type 0 where
+  pub count : length ms ≡ length chain.elements
+  pub each : (e : ℕ) (x : Element) (m : Tree) → slice_get chain.elements e ≡ Some x → slice_get ms e ≡ Some m
+      → IsSomeAnd (told (file_of x.class)) (λ text. (length text ≤ size_of source) × IsSource text m)
+
+-- a content is told and good, and a split is there to choose, or to take, or a report is there, or a chain is composed
 abbrev pub IsOpen : (List ℕ → Option (List ℕ)) → Gate → Type 0
 IsOpen told (File name role) = IsSomeAnd (told name) (IsGood role)
 IsOpen told (Choice s l shrink) =
@@ -104,6 +127,9 @@ IsOpen told (SplitFile s l p) =
 IsOpen told (ReportFile s t r) =
     (m : Tree) × (packets : List Packet)
     × IsToldInput told s t m packets × IsSomeAnd (told r) (IsGood (true_report m packets))
+IsOpen told (Composed w) =
+    (chain : ChainTold) × (ms : List Tree)
+    × IsToldWiring told w chain × AreToldClasses told chain ms × composing.IsUnrefused (connected chain ms)
 
 abbrev pub AllOpen : (List ℕ → Option (List ℕ)) → List Gate → Type 0
 AllOpen told [] = Unit {0}
@@ -119,6 +145,7 @@ IsStatusOf status (legal_split f allowed) text =
     ((status ≡ Split) × ¬ (SpellsLegal f text)) ⊎ ((status ≡ Exceeded) × SpellsLegal f text)
 IsStatusOf status (true_report m packets) text =
     ((status ≡ Report) × ¬ (TellsRun m text)) ⊎ ((status ≡ Untrue) × TellsRun m text)
+IsStatusOf status wiring text = status ≡ BadChain
 IsStatusOf status trace text = status ≡ Trace
 IsStatusOf status schedule text = status ≡ Schedule
 IsStatusOf status capture text = status ≡ Pcap
@@ -128,7 +155,20 @@ abbrev pub IsRefusedAs : Role → Status → List ℕ → Type 0
 IsRefusedAs role status text =
     ((status ≡ TooLong) × (size_of role < length text)) ⊎ (IsStatusOf status role text × IsBad role text)
 
--- a content is told and refused with this status, or the greatest split exceeds a limit and may not shrink
+-- the first file of these that isn't good is told, and refused with this status as the source of a class
+abbrev pub IsFirstClassShut : (List ℕ → Option (List ℕ)) → List (List ℕ) → Status → Type 0
+IsFirstClassShut told names status =
+    IsFirst (λ name. IsSomeAnd (told name) (IsGood source))
+    (λ name. IsSomeAnd (told name) (IsRefusedAs source status)) names
+
+-- a chain of middleboxes that are told is refused for this
+abbrev pub IsToldUncomposed : (List ℕ → Option (List ℕ)) → ChainTold → ComposeError → Type 0
+IsToldUncomposed told chain error =
+    (ms : List Tree)
+    × AreToldClasses told chain ms × (error ≢ composed.NoMemory) × composing.IsRefused (connected chain ms) error
+
+-- a content is told and refused with this status, or the greatest split exceeds a limit and may not shrink, or a chain
+-- isn't composed
 abbrev pub IsShut : (List ℕ → Option (List ℕ)) → Gate → Status → Type 0
 IsShut told (File name role) status = IsSomeAnd (told name) (IsRefusedAs role status)
 IsShut told (Choice s l shrink) status =
@@ -141,6 +181,10 @@ IsShut told (SplitFile s l p) status =
 IsShut told (ReportFile s t r) status =
     (m : Tree) × (packets : List Packet)
     × IsToldInput told s t m packets × IsSomeAnd (told r) (IsRefusedAs (true_report m packets) status)
+IsShut told (Composed w) status =
+    (chain : ChainTold) × IsToldWiring told w chain
+    × (IsFirstClassShut told (class_files chain.elements) status
+    ⊎ ((status ≡ BadChain) × ((error : ComposeError) × IsToldUncomposed told chain error)))
 
 -- the gates before one are open, and that one is shut with this status
 abbrev pub IsFirstShut : (List ℕ → Option (List ℕ)) → List Gate → Status → Type 0
@@ -178,7 +222,20 @@ IsCause (refusals.Report number) (true_report m packets) text =
     IsBad (true_report m packets) text × IsUntrue (refusals.Report number) m packets text
 IsCause (refusals.Audit untruth) (true_report m packets) text =
     IsBad (true_report m packets) text × IsUntrue (refusals.Audit untruth) m packets text
+IsCause (refusals.Chain fault) wiring text =
+    (fault ≢ chains.NoMemory) × IsBad wiring text × reads.IsRefused text fault
 IsCause _ role text = ⊥
+
+-- why the text of this file is refused as the source of a class
+abbrev pub IsClassCause : Refusal → List ℕ → List ℕ → Type 0
+IsClassCause (refusals.ClassSource fault file) name text = (file ≡ name) × IsCause (refusals.Source fault) source text
+IsClassCause _ name text = ⊥
+
+-- the first file of these that isn't good is told, and refused for this cause
+abbrev pub IsFirstClassCause : (List ℕ → Option (List ℕ)) → List (List ℕ) → Refusal → Type 0
+IsFirstClassCause told names cause =
+    IsFirst (λ name. IsSomeAnd (told name) (IsGood source))
+    (λ name. IsSomeAnd (told name) (IsClassCause cause name)) names
 
 -- a content is told and refused for this cause, or the greatest split exceeds this limit first and may not shrink
 abbrev pub IsShutFor : (List ℕ → Option (List ℕ)) → Gate → Refusal → Type 0
@@ -193,6 +250,11 @@ IsShutFor told (SplitFile s l p) cause =
 IsShutFor told (ReportFile s t r) cause =
     (m : Tree) × (packets : List Packet)
     × IsToldInput told s t m packets × IsSomeAnd (told r) (IsCause cause (true_report m packets))
+IsShutFor told (Composed w) cause =
+    (chain : ChainTold) × IsToldWiring told w chain
+    × (IsFirstClassCause told (class_files chain.elements) cause
+    ⊎ ((error : ComposeError) × IsToldUncomposed told chain error
+    × (cause ≡ refusals.Uncomposed (uncomposed_of chain.elements error))))
 
 -- the gates before one are open, and that one is shut for this cause
 abbrev pub IsFirstCause : (List ℕ → Option (List ℕ)) → List Gate → Refusal → Type 0
@@ -221,8 +283,8 @@ MayExceed _ = ⊥
 abbrev pub IsReadOnce : Option Request → Status → Call → Type 0
 IsReadOnce None result call = call.work.files_after ≡ call.work.files
 IsReadOnce (Some request) result call =
-    let all = most_reads request call.work.files in
-    (call.work.files_after.reads ≤ all) × (result ≡ Done → call.work.files_after.reads ≡ all)
+    ReadsSome request call.work.files call.work.files_after
+    × (result ≡ Done → ReadsAll request call.work.files call.work.files_after)
 
 -- the blamed name is one of these
 abbrev pub IsOneOf : List (List ℕ) → Option (List ℕ) → Type 0
@@ -233,10 +295,15 @@ IsOneOf (name ∷ names) blamed = (blamed ≡ Some name) ⊎ IsOneOf names blame
 abbrev pub CountsOne : Work → Type 0
 CountsOne work = (status : Status) × CountsFaults status work
 
--- a count of files rose, and blames one that the request names
-abbrev pub IsBlamed : Option Request → ℕ → ℕ → Option (List ℕ) → Type 0
-IsBlamed None before now blamed = ⊥
-IsBlamed (Some request) before now blamed = Rose before now × IsOneOf (names_of request) blamed
+-- a file is to blame that the request names, or that the class of an element of its chain does
+abbrev pub BlamesOne : (List ℕ → Option (List ℕ)) → Request → Option (List ℕ) → Type 0
+BlamesOne told (Chain w) blamed = (names : List (List ℕ)) × AreNames told w names × IsOneOf names blamed
+BlamesOne told request blamed = IsOneOf (names_of request) blamed
+
+-- a count of files rose, and blames one of these
+abbrev pub IsBlamed : (List ℕ → Option (List ℕ)) → Option Request → ℕ → ℕ → Option (List ℕ) → Type 0
+IsBlamed told None before now blamed = ⊥
+IsBlamed told (Some request) before now blamed = Rose before now × BlamesOne told request blamed
 
 -- the request is a replay
 abbrev pub IsReplay : Option Request → Type 0
@@ -284,10 +351,10 @@ pub record Promises (status : Status) (call : Call) : Type 0 where
   -- which count rose, whether or not anything is told
   pub too_long : status ≡ TooLong
       → let before = call.work.files in let now = call.work.files_after in
-      IsBlamed (request_of call.words) before.overlong now.overlong now.overlong_name
+      IsBlamed before.told (request_of call.words) before.overlong now.overlong now.overlong_name
   pub read_fault : status ≡ ReadFault
       → let before = call.work.files in let now = call.work.files_after in
-      IsBlamed (request_of call.words) before.faults now.faults now.fault_name
+      IsBlamed before.told (request_of call.words) before.faults now.faults now.fault_name
   pub write_fault : status ≡ WriteFault
       → (CountsFaults WriteFault call.work × (call.err_after.faults ≡ call.err.faults))
       ⊎ (CountsOne call.work × Rose call.err.faults call.err_after.faults)

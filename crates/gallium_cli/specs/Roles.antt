@@ -15,9 +15,12 @@ use Rattle.resource_limits.specs.Limits as texts
 use Rattle.resource_limits.specs.declared.limits.Limits.{Limits}
 use Rattle.run_text.specs.declared.plan.Plan.{Plan}
 use Rattle.run_text.specs.Trace.{trace_of, schedule_of}
+use Rattle.element_chain.specs.declared.chain.Chain.{Chain}
+use Rattle.chain_text.specs.Reads.{IsChainText}
 use Rattle.pcap_trace.specs.declared.pcap.Pcap.{Pcap}
 use Rattle.pcap_trace.specs.Format.{IsPcap, pcap_bytes}
 use Rattle.gallium_cli.specs.Words.{Splitting, Served, Within, Spelled}
+use Rattle.gallium_cli.specs.Words as words
 use Rattle.gallium_cli.specs.Words.{Request, Run, Compile, Replay, Check, Audit, Gen, PcapIn, PcapOut}
 
 -- what a file is read as
@@ -30,6 +33,8 @@ pub data Role : Type 0 where
   legal_split : (f : Program) (allowed : Limits) → Role
   -- a report of a serial run of this middlebox over these packets
   true_report : (m : Tree) (packets : List Packet) → Role
+  -- the elements of a chain and the wires between them
+  wiring : Role
   trace : Role
   schedule : Role
   capture : Role
@@ -41,9 +46,15 @@ size_of program = 262144
 size_of limits = 67108864
 size_of (legal_split f allowed) = 67108864
 size_of (true_report m packets) = 67108864
+size_of wiring = 67108864
 size_of trace = 67108864
 size_of schedule = 67108864
 size_of capture = 67108864
+
+-- the text is a source of this middlebox, and of no other
+pub record IsOnlySource (text : List ℕ) (m : Tree) : Type 0 where
+  pub source : IsSource text m
+  pub only : (other : Tree) → IsSource text other → other ≡ m
 
 -- the flat program of a middlebox has at most 4,096 instructions
 abbrev pub IsShort : Tree → Type 0
@@ -66,6 +77,7 @@ IsSpelled (legal_split f allowed) text =
     (split : List Part) × IsSplitText (length f.code) text split × IsAccepted f split allowed
 IsSpelled (true_report m packets) text =
     (run : RunTold) × IsReport m.objects text run × IsTrueReport m packets run
+IsSpelled wiring text = (chain : Chain) × IsChainText text chain
 IsSpelled trace text = (packets : List Packet) × (trace_of text ≡ Ok packets)
 IsSpelled schedule text = (plan : Plan) × (schedule_of text ≡ Ok plan)
 IsSpelled capture text = (p : Pcap) × IsCaptured text p
@@ -81,12 +93,14 @@ IsBad role text = (length text ≤ size_of role) × ¬ (IsSpelled role text)
 -- ## What comes before an answer
 
 -- a file is read, or a split is chosen for the source of one file within the limits of another, or a file is read as a
--- split of that source within those limits, or as a report of that source over the packets of another
+-- split of that source within those limits, or as a report of that source over the packets of another; or the chain of
+-- a file is composed, of the middleboxes that the files of its classes spell
 pub data Gate : Type 0 where
   File : (name : List ℕ) (role : Role) → Gate
   Choice : (source limits : List ℕ) (shrink : Bool) → Gate
   SplitFile : (source limits name : List ℕ) → Gate
   ReportFile : (source trace name : List ℕ) → Gate
+  Composed : (chain : List ℕ) → Gate
 
 -- the source and the limits of a split
 abbrev pub plan_files : List ℕ → List ℕ → List Gate
@@ -114,26 +128,28 @@ gates_of (Compile s l shrink) = plan_gates s l shrink
 gates_of (Replay s t c by) = split_gates s by ++ event_gates t c
 gates_of (Check s l p) = given_gates s l p
 gates_of (Audit s t r) = File s source ∷ (File t trace ∷ (ReportFile s t r ∷ []))
+gates_of (words.Chain w) = File w wiring ∷ (Composed w ∷ [])
 gates_of (Gen seed count) = []
 gates_of (PcapIn c port) = File c capture ∷ []
 gates_of (PcapOut t big nano) = File t trace ∷ []
 
--- the names of the files among them
+-- the names of the files among them, without those of the classes of a chain
 abbrev pub names_in : List Gate → List (List ℕ)
 names_in [] = []
 names_in (File name role ∷ gates) = name ∷ names_in gates
 names_in (Choice s l shrink ∷ gates) = names_in gates
 names_in (SplitFile s l p ∷ gates) = p ∷ names_in gates
 names_in (ReportFile s t r ∷ gates) = r ∷ names_in gates
+names_in (Composed w ∷ gates) = names_in gates
 
 -- the names of the files of a request, in that order
 abbrev pub names_of : Request → List (List ℕ)
 names_of request = names_in (gates_of request)
 
--- a walk over gates: those before one have a property, and that one has another
-abbrev pub IsFirst : (Gate → Type 0) → (Gate → Type 0) → List Gate → Type 0
+-- a walk over gates, or over files: those before one have a property, and that one has another
+abbrev pub IsFirst : {A : Type 0} → (A → Type 0) → (A → Type 0) → List A → Type 0
 IsFirst IsBefore IsAt [] = ⊥
-IsFirst IsBefore IsAt (gate ∷ gates) = IsAt gate ⊎ (IsBefore gate × IsFirst IsBefore IsAt gates)
+IsFirst IsBefore IsAt (x ∷ xs) = IsAt x ⊎ (IsBefore x × IsFirst IsBefore IsAt xs)
 
 -- how many files a split of a source is read from
 abbrev pub split_reads : List ℕ → Splitting → ℕ

@@ -3,7 +3,7 @@ use Rattle.std.specs.Prelude.{ℕ}
 use Rattle.gallium_cli.specs.declared.status.Status.{Status}
 use Rattle.gallium_cli.specs.declared.status.Status.TheVariants.{Done, Usage, Source, Limits, Exceeded, Split, Trace, Schedule}
 use Rattle.gallium_cli.specs.declared.status.Status.TheVariants.{TooLong, ReadFault, WriteFault, SwitchFault, NoMemory, Pcap}
-use Rattle.gallium_cli.specs.declared.status.Status.TheVariants.{Report, Audit}
+use Rattle.gallium_cli.specs.declared.status.Status.TheVariants.{Report, Audit, Chain}
 
 abbrev pub code_of : Status → ℕ
 code_of Done = 0
@@ -19,6 +19,7 @@ code_of ReadFault = 10
 code_of WriteFault = 11
 code_of SwitchFault = 12
 code_of NoMemory = 13
+code_of Chain = 14
 code_of Pcap = 15
 code_of Report = 16
 code_of Audit = 17

@@ -25,6 +25,8 @@ pub data Request : Type 0 where
   Check : (source limits split : List ℕ) → Request
   -- whether a report of packets that came to a middlebox is true
   Audit : (source trace report : List ℕ) → Request
+  -- one source of the chain of a file
+  Chain : (wiring : List ℕ) → Request
   -- a replay of so many packets that are made from a number
   Gen : (seed count : ℕ) → Request
   -- the packets of a capture, each of which arrives by this port
@@ -77,6 +79,7 @@ made_by seed count = with_count (number_up_to (2 ^ 64 - 1) seed) (count_of count
 
 -- what these words ask for: the place of a word alone tells what it is
 abbrev pub request_of : List (List ℕ) → Option Request
+request_of (word ∷ wiring ∷ []) = if bytes_eq word (codes "chain") then Some (Chain wiring) else None
 request_of (word ∷ source ∷ second ∷ []) =
     if bytes_eq word (codes "run") then Some (Run source second)
     else (if bytes_eq word (codes "compile") then Some (Compile source second false)
@@ -112,6 +115,7 @@ asked_by (forms.Compile source limits shrink) = Compile source.now limits.now sh
 asked_by (forms.Replay source trace schedule split) = Replay source.now trace.now schedule.now (split_asked split)
 asked_by (forms.Check source limits split) = Check source.now limits.now split.now
 asked_by (forms.Audit source trace report) = Audit source.now trace.now report.now
+asked_by (forms.Chain wiring) = Chain wiring.now
 asked_by (forms.Gen seed count) = Gen seed count.packets
 asked_by (forms.PcapIn capture port) = PcapIn capture.now port
 asked_by (forms.PcapOut trace big nano) = PcapOut trace.now big nano
@@ -123,6 +127,7 @@ is_replay (Compile s l shrink) = false
 is_replay (Replay s t c by) = true
 is_replay (Check s l p) = false
 is_replay (Audit s t r) = false
+is_replay (Chain w) = false
 is_replay (Gen seed count) = true
 is_replay (PcapIn c port) = false
 is_replay (PcapOut t big nano) = false

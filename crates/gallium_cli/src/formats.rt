@@ -1,6 +1,7 @@
 //! What the files of a command are read as.
 ghost use Rattle.std.specs.Prelude.{◌≡◌, ◌≤◌, ◌<◌, ◌^◌, IsTrue, Ok, IfOk, IfErr, length};
 ghost use Rattle.packet_fields.specs.Sizes.{AreShort};
+ghost use Rattle.element_lang.specs.Accepted.{HasNames};
 ghost use Rattle.element_lang.specs.View.{tree};
 ghost use Rattle.element_lang.specs.Rules.{is_good};
 ghost use Rattle.flat_ir.specs.Program.{program_of};
@@ -11,7 +12,7 @@ ghost use Rattle.run_model.specs.Sizes.{most_events, most_packets};
 ghost use Rattle.report_text.specs.Form.{are_declared};
 ghost use Rattle.run_text.specs.Trace.{trace_of, schedule_of};
 ghost use Rattle.gallium_cli.specs.Roles.{source, program, limits, trace, schedule, capture, AreLimits, IsCaptured};
-ghost use Rattle.gallium_cli.specs.Answers.{IsOnlySource};
+ghost use Rattle.gallium_cli.specs.Roles.{IsOnlySource};
 ghost use Rattle.gallium_cli.specs.Loads.{refusal_of, IsUnread};
 
 use crate::load::Format;
@@ -75,7 +76,7 @@ impl Format for SourceFormat {
     ghost spells = { λ _ text m. IsOnlySource text (tree m) };
 
     ghost sound = { λ _ m. IsTrue (is_good (tree m)) × (length m.objects < 2 ^ 32)
-        × IsTrue (are_declared (tree m).objects) };
+        × IsTrue (are_declared (tree m).objects) × HasNames (tree m) };
 
     ghost ready = { λ _. Unit {0} };
 

@@ -3,11 +3,14 @@ ghost use Rattle.std.specs.Prelude.{◌≡◌, ◌++◌, IfOk, string_bytes};
 ghost use Rattle.gallium_cli.specs.declared.refusal.Refusal.{Refusal};
 ghost use Rattle.gallium_cli.specs.declared.refusal.Excess.{Excess};
 ghost use Rattle.gallium_cli.specs.Lines.{status_of, line_of, line_end, what_text, kind_text};
+ghost use Rattle.gallium_cli.specs.Lines.{source_text, class_line, chain_line, amount_text, composing_line};
 ghost use Rattle.gallium_cli.specs.Lines.{source_line, limits_line, excess_line, split_line, lines_line, owner_text};
 ghost use Rattle.gallium_cli.specs.Lines.{pcap_line, audit_line, report_line};
 ghost use Rattle.gallium_cli.specs.Causes.{IsTold};
 
 use crate::status::Status;
+use chain_compose::{ComposeError, What as ChainWhat};
+use chain_text::ChainTextError;
 use element_lang::What;
 use element_text::TextError;
 use gal_io::{NoMemory, Sink, SinkEnd, Text};
@@ -46,6 +49,15 @@ pub struct Untruth {
     pub object: Option<Text>,
 }
 
+/// Why a chain isn't composed.
+#[derive(Debug, Drop)]
+pub struct Uncomposed {
+    /// The cause, which isn't want of memory.
+    pub error: ComposeError,
+    /// The name of the element, where one is to blame.
+    pub element: Option<Text>,
+}
+
 /// Why nothing is answered. A name is that of the file that is to blame.
 #[derive(Debug, Drop)]
 pub enum Refusal<'a> {
@@ -82,6 +94,16 @@ pub enum Refusal<'a> {
     Report(usize),
     /// The report isn't true.
     Audit(Untruth),
+    /// The text of a chain is refused, for this cause, which isn't want of memory.
+    Chain(ChainTextError),
+    /// The source of a class is refused, for this cause, which isn't want of memory.
+    ClassSource(TextError, Text),
+    /// The file of a class has more bytes than its size allows.
+    ClassTooLong(Text),
+    /// The file of a class can't be read.
+    ClassReadFault(Text),
+    /// The chain isn't composed.
+    Uncomposed(Uncomposed),
 }
 
 impl From<NoMemory> for Refusal<'_> {
@@ -115,15 +137,19 @@ fn status(refusal: &Refusal<'_>) -> Status
         Refusal::Pcap(_) => Status::Pcap,
         Refusal::Report(_) => Status::Report,
         Refusal::Audit(_) => Status::Audit,
+        Refusal::Chain(_) | Refusal::Uncomposed(_) => Status::Chain,
+        Refusal::ClassSource(_, _) => Status::Source,
+        Refusal::ClassTooLong(_) => Status::TooLong,
+        Refusal::ClassReadFault(_) => Status::ReadFault,
     }
 }
 
 // A line that ends in a name.
-fn naming(alloc: Global, what: &[u8], name: &str) -> Result<Text, NoMemory>
+fn naming(alloc: Global, what: &[u8], name: &[u8]) -> Result<Text, NoMemory>
     ensures { IfOk result (λ text. text ≡ what.now ++ (name.now ++ line_end)) }
 {
     let mut text = Text::from_slice(alloc, what)?;
-    text.extend(name.as_bytes())?;
+    text.extend(name)?;
     text.extend(b"\n")?;
     Ok(text)
 }
@@ -147,19 +173,16 @@ fn told(alloc: Global, line: String) -> Result<Text, NoMemory>
     Text::from_slice(alloc, line.as_bytes())
 }
 
-// The line of a source that is refused.
-fn source_line(alloc: Global, fault: TextError) -> Result<Text, NoMemory>
-    ensures { IfOk result (λ text. text ≡ source_line fault) }
+// What is wrong with a source that is refused.
+fn source_text(alloc: Global, fault: TextError) -> Result<Text, NoMemory>
+    ensures { IfOk result (λ text. text ≡ source_text fault) }
 {
     match fault {
-        TextError::NotUtf8(at) => told(alloc, format!(in alloc; "source: not utf-8 at {at}\n")?),
-        TextError::Token(at) => told(alloc, format!(in alloc; "source: token at {at}\n")?),
-        TextError::Syntax(at) => told(alloc, format!(in alloc; "source: syntax at {at}\n")?),
+        TextError::NotUtf8(at) => told(alloc, format!(in alloc; "source: not utf-8 at {at}")?),
+        TextError::Token(at) => told(alloc, format!(in alloc; "source: token at {at}")?),
+        TextError::Syntax(at) => told(alloc, format!(in alloc; "source: syntax at {at}")?),
         TextError::Rule { rule, offset } => {
-            told(
-                alloc,
-                format!(in alloc; "source: rule {rule} at {offset}\n")?,
-            )
+            told(alloc, format!(in alloc; "source: rule {rule} at {offset}")?)
         }
         TextError::TooLarge {
             what,
@@ -169,11 +192,31 @@ fn source_line(alloc: Global, fault: TextError) -> Result<Text, NoMemory>
             let what = what_name(what);
             told(
                 alloc,
-                format!(in alloc; "source: {what} have {have}, allowed {allowed}\n")?,
+                format!(in alloc; "source: {what} have {have}, allowed {allowed}")?,
             )
         }
-        TextError::NoMemory => Text::from_slice(alloc, b"no memory\n"),
+        TextError::NoMemory => Text::from_slice(alloc, b"no memory"),
     }
+}
+
+// The line of a source that is refused.
+fn source_line(alloc: Global, fault: TextError) -> Result<Text, NoMemory>
+    ensures { IfOk result (λ text. text ≡ source_line fault) }
+{
+    let mut text = source_text(alloc, fault)?;
+    text.extend(b"\n")?;
+    Ok(text)
+}
+
+// The line of the source of a class, which is in the file of this name.
+fn class_line(alloc: Global, fault: TextError, name: &[u8]) -> Result<Text, NoMemory>
+    ensures { IfOk result (λ text. text ≡ class_line fault name.now) }
+{
+    let mut text = source_text(alloc, fault)?;
+    text.extend(b" in ")?;
+    text.extend(name)?;
+    text.extend(b"\n")?;
+    Ok(text)
 }
 
 // The line of limits that are refused.
@@ -182,9 +225,9 @@ fn limits_line(alloc: Global, fault: LimitsError) -> Result<Text, NoMemory>
 {
     match fault {
         LimitsError::Toml => Text::from_slice(alloc, b"limits: not toml\n"),
-        LimitsError::Missing(key) => naming(alloc, b"limits: missing ", key.name()),
+        LimitsError::Missing(key) => naming(alloc, b"limits: missing ", key.name().as_bytes()),
         LimitsError::Unknown => Text::from_slice(alloc, b"limits: unknown key\n"),
-        LimitsError::Range(key) => naming(alloc, b"limits: range ", key.name()),
+        LimitsError::Range(key) => naming(alloc, b"limits: range ", key.name().as_bytes()),
         LimitsError::NoMemory => Text::from_slice(alloc, b"no memory\n"),
     }
 }
@@ -296,13 +339,75 @@ fn audit_line(alloc: Global, untruth: &Untruth) -> Result<Text, NoMemory>
         AuditError::Verdict(number) => {
             told(alloc, format!(in alloc; "audit: verdict {number}\n")?)
         }
-        AuditError::Object(_) => {
-            let mut text = Text::from_slice(alloc, b"audit: object")?;
-            text.extend(owner_text(alloc, &untruth.object)?.as_slice())?;
-            text.extend(b"\n")?;
-            Ok(text)
-        }
+        AuditError::Object(_) => owner_line(alloc, b"audit: object", &untruth.object),
         AuditError::NoMemory => Text::from_slice(alloc, b"no memory\n"),
+    }
+}
+
+// The line of a text that is no chain.
+fn chain_line(alloc: Global, fault: ChainTextError) -> Result<Text, NoMemory>
+    ensures { IfOk result (λ text. text ≡ chain_line fault) }
+{
+    match fault {
+        ChainTextError::Syntax(at) => told(alloc, format!(in alloc; "chain: syntax at {at}\n")?),
+        ChainTextError::Elements(have) => told(
+            alloc,
+            format!(in alloc; "chain: elements have {have}, allowed 32\n")?,
+        ),
+        ChainTextError::Statement(number) => {
+            told(alloc, format!(in alloc; "chain: statement {number}\n")?)
+        }
+        ChainTextError::Empty => Text::from_slice(alloc, b"chain: empty\n"),
+        ChainTextError::Cycle => Text::from_slice(alloc, b"chain: cycle\n"),
+        ChainTextError::NoMemory => Text::from_slice(alloc, b"no memory\n"),
+    }
+}
+
+// What there is too much of in a chain, in a word.
+fn amount_name(what: ChainWhat) -> &'static str
+    ensures { result.now ≡ amount_text what }
+{
+    match what {
+        ChainWhat::Objects => "objects",
+        ChainWhat::Entries => "entries",
+        ChainWhat::Writes => "writes",
+        ChainWhat::Depth => "depth",
+        ChainWhat::Bytes => "bytes",
+    }
+}
+
+// A line that ends in a name, where there is one.
+fn owner_line(alloc: Global, what: &[u8], owner: &Option<Text>) -> Result<Text, NoMemory>
+    ensures { IfOk result (λ text. text ≡ what.now ++ (owner_text owner.now ++ line_end)) }
+{
+    let mut text = Text::from_slice(alloc, what)?;
+    text.extend(owner_text(alloc, owner)?.as_slice())?;
+    text.extend(b"\n")?;
+    Ok(text)
+}
+
+// The line of a chain that isn't composed.
+fn composing_line(alloc: Global, uncomposed: &Uncomposed) -> Result<Text, NoMemory>
+    ensures { IfOk result (λ text. text ≡ composing_line uncomposed.now) }
+{
+    match uncomposed.error {
+        ComposeError::Byte(_) => owner_line(alloc, b"chain: byte", &uncomposed.element),
+        ComposeError::Repeat(_) => owner_line(alloc, b"chain: repeat", &uncomposed.element),
+        ComposeError::Statements => {
+            Text::from_slice(alloc, b"chain: more than 65536 statements\n")
+        }
+        ComposeError::TooLarge {
+            what,
+            have,
+            allowed,
+        } => {
+            let what = amount_name(what);
+            told(
+                alloc,
+                format!(in alloc; "chain: {what} have {have}, allowed {allowed}\n")?,
+            )
+        }
+        ComposeError::NoMemory => Text::from_slice(alloc, b"no memory\n"),
     }
 }
 
@@ -322,14 +427,19 @@ fn line(alloc: Global, refusal: &Refusal<'_>) -> Result<Text, NoMemory>
         Refusal::Split(fault) => split_line(alloc, *fault),
         Refusal::Trace(fault) => lines_line(alloc, "trace", "packets", *fault),
         Refusal::Schedule(fault) => lines_line(alloc, "schedule", "events", *fault),
-        Refusal::TooLong(name) => naming(alloc, b"too long: ", name),
-        Refusal::ReadFault(name) => naming(alloc, b"read fault: ", name),
+        Refusal::TooLong(name) => naming(alloc, b"too long: ", name.as_bytes()),
+        Refusal::ReadFault(name) => naming(alloc, b"read fault: ", name.as_bytes()),
         Refusal::WriteFault => Text::from_slice(alloc, b"write fault\n"),
         Refusal::SwitchFault => Text::from_slice(alloc, b"switch fault\n"),
         Refusal::NoMemory => Text::from_slice(alloc, b"no memory\n"),
         Refusal::Pcap(fault) => pcap_line(alloc, *fault),
         Refusal::Report(number) => report_line(alloc, *number),
         Refusal::Audit(untruth) => audit_line(alloc, untruth),
+        Refusal::Chain(fault) => chain_line(alloc, *fault),
+        Refusal::ClassSource(fault, name) => class_line(alloc, *fault, name.as_slice()),
+        Refusal::ClassTooLong(name) => naming(alloc, b"too long: ", name.as_slice()),
+        Refusal::ClassReadFault(name) => naming(alloc, b"read fault: ", name.as_slice()),
+        Refusal::Uncomposed(told) => composing_line(alloc, told),
     }
 }
 

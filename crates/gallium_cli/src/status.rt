@@ -29,6 +29,8 @@ pub enum Status {
     SwitchFault,
     /// No memory was found.
     NoMemory,
+    /// The chain is refused, or isn't composed.
+    Chain,
     /// The capture is refused.
     Pcap,
     /// The report is refused for its form.
@@ -59,6 +61,7 @@ impl Status {
             Status::WriteFault => 11,
             Status::SwitchFault => 12,
             Status::NoMemory => 13,
+            Status::Chain => 14,
             Status::Pcap => 15,
             Status::Report => 16,
             Status::Audit => 17,

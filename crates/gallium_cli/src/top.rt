@@ -17,6 +17,7 @@ ghost use Rattle.gallium_cli.specs.Promises.{Promises};
 
 use crate::audit::perform_audit;
 use crate::captures::{perform_pcap_in, perform_pcap_out};
+use crate::chain::perform_chain;
 use crate::check::perform_check;
 use crate::compile::perform_compile;
 use crate::generated::perform_gen;
@@ -27,6 +28,8 @@ use crate::refusal::{Refusal, tell};
 use crate::replay::perform_replay;
 use crate::status::Status;
 use crate::words::{Form, form_of};
+use chain_compose::one_composition_or_one_reason;
+use chain_text::one_chain_or_one_reason;
 use element_interp::run_all;
 use element_lang::Middlebox;
 use gal_io::{Files, NoMemory, Sink, Text};
@@ -127,6 +130,7 @@ fn perform<'a, F: Files, S: SwitchPort, O: Sink>(
                 report,
             },
         ) => perform_audit(alloc, source, trace, report, files, out),
+        Some(Form::Chain { wiring }) => perform_chain(alloc, wiring, files, out),
         Some(Form::Gen { seed, count }) => perform_gen(alloc, seed, count, port, out),
         Some(Form::PcapIn { capture, port: by }) => perform_pcap_in(alloc, capture, by, files, out),
         Some(Form::PcapOut { trace, big, nano }) => {
@@ -159,6 +163,8 @@ pub fn gallium<F: Files, S: SwitchPort, O: Sink, E: Sink>(
     kept_limits_are_not_exceeded();
     one_line_is_first_wrong();
     a_text_is_of_one_split();
+    one_chain_or_one_reason();
+    one_composition_or_one_reason();
     reports_of_replays_are_true();
     match perform(alloc, words, files, port, out) {
         Ok(()) => Status::Done,

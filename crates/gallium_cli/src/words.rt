@@ -51,6 +51,8 @@ pub enum Form<'a> {
         trace: &'a str,
         report: &'a str,
     },
+    /// Prints a chain of middleboxes as one source.
+    Chain { wiring: &'a str },
     /// Replays so many packets that are made from a seed, and prints a summary.
     Gen {
         seed: u64,
@@ -154,6 +156,14 @@ pub fn form_of<'a>(words: &'a [String]) -> Option<Form<'a>>
         (λ form. request_of (map string_bytes words.now) ≡ Some (asked_by form)) }
 {
     match words {
+        [word, wiring] => {
+            if word.as_str() == "chain" {
+                return Some(Form::Chain {
+                    wiring: wiring.as_str(),
+                });
+            }
+            None
+        }
         [word, source, second] => {
             if word.as_str() == "run" {
                 return Some(Form::Run {

@@ -1,5 +1,6 @@
 use Rattle.std.proofs.Common.{ap}
-use Rattle.gallium_cli.specs.Words.{Run, Compile, Replay, Check, Audit, Gen, PcapIn, PcapOut, asked_by, split_asked}
+use Rattle.gallium_cli.specs.Words.{Run, Compile, Replay, Check, Audit, Chain, Gen, PcapIn, PcapOut}
+use Rattle.gallium_cli.specs.Words.{asked_by, split_asked}
 use Rattle.gallium_cli.proofs.Written.{asked_ok, asked_err}
 use Rattle.gallium_cli.proofs.top.perform.Goals as goal
 
@@ -48,6 +49,15 @@ returns-in-Some-Audit-clause-err g c =
     (g.S.SwitchPort.seen c.args.port.now) (g.S.SwitchPort.seen c.args.port.now)
     (g.O.Sink.seen c.args.out.now) (g.O.Sink.seen c.perform_audit.new.out)
     arm.ensures (ap asked_by arm.field-0-is) (c.perform_audit.ensures.err (g.S.SwitchPort.seen c.args.port.now))
+
+pub returns-in-Some-Chain-clause-err : goal.returns-in-Some-Chain-clause-err
+returns-in-Some-Chain-clause-err g c =
+    let arm = c.in-Some-Chain in
+    asked_err c.perform_chain.result _ (asked_by arm.field-0) (Chain arm.wiring.now)
+    (g.F.Files.seen c.args.files.now) (g.F.Files.seen c.perform_chain.new.files)
+    (g.S.SwitchPort.seen c.args.port.now) (g.S.SwitchPort.seen c.args.port.now)
+    (g.O.Sink.seen c.args.out.now) (g.O.Sink.seen c.perform_chain.new.out)
+    arm.ensures (ap asked_by arm.field-0-is) (c.perform_chain.ensures.err (g.S.SwitchPort.seen c.args.port.now))
 
 pub returns-in-Some-Gen-clause-ok : goal.returns-in-Some-Gen-clause-ok
 returns-in-Some-Gen-clause-ok g c =

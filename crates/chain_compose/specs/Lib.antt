@@ -1,0 +1,6 @@
+pub mod Refusals
+pub mod Counts
+pub mod Routes
+pub mod Declares
+pub mod Parts
+pub mod Reach

@@ -1,0 +1,268 @@
+//! From a chain to one middlebox.
+ghost use Rattle.std.specs.Prelude.{◌≡◌, ◌≢◌, ◌<◌, ◌≤◌, ◌+◌, ◌^◌, ◌⊎◌, ℕ, List, true, length, IsTrue};
+ghost use Rattle.std.specs.Prelude.{IfOk, IfErr, MatchResult};
+ghost use Rattle.std.specs.List.{All, list_all};
+ghost use Rattle.element_lang.specs.Accepted.{HasNames, deepest};
+ghost use Rattle.element_lang.specs.Rules.{is_good};
+ghost use Rattle.element_lang.specs.Token.{Token};
+ghost use Rattle.element_lang.specs.View.{tree};
+ghost use Rattle.element_print.specs.ReadsBack.{HasExactly};
+ghost use Rattle.packet_fields.specs.declared.packet.Packet.{Packet};
+ghost use Rattle.packet_fields.specs.Arrivals.{IsArrival};
+ghost use Rattle.state_store.specs.Kept.{IsKept};
+ghost use Rattle.state_store.specs.Store.{Store, object_at};
+ghost use Rattle.element_lang.specs.Meaning.{source_store, source_verdict};
+ghost use Rattle.element_chain.specs.Chain.{element_at, store_at, chain_run};
+ghost use Rattle.element_chain.specs.Compose.{composed, joined, base_of};
+ghost use Rattle.element_chain.specs.Laws.{IsFit, AreKept};
+ghost use Rattle.element_chain.specs.Wiring.{AreWithin, HasNoCycle};
+ghost use Rattle.chain_compose.specs.Parts.{connected, chain_of};
+ghost use Rattle.chain_compose.specs.Refusals.{AreInPlace, IsRefused, IsUnrefused, KeepsSizes, IsSizeRefusal};
+ghost use Rattle.chain_compose.specs.Refusals.{IsCountRefusal, statements_in, most_statements, order, amount, allowed};
+
+use crate::error::{ComposeError, What};
+use crate::matrix::Reach;
+use crate::names::{locals, objects};
+use crate::parts::{Parts, Place};
+use crate::refusals::{first_reader, first_repeater};
+use crate::routes::Routes;
+use crate::uses::fields_set;
+use element_chain::{
+    Chain, Classes, Wire, composition_keeps_the_meaning, composition_keeps_the_rules, wires_lead,
+};
+use element_lang::{MAX_DEPTH, MAX_ENTRIES, MAX_OBJECTS, MAX_WRITES, Middlebox};
+use element_print::print;
+use element_rules::{entries, writes};
+use element_tokens::{depth, tokens};
+use gal_io::{NoMemory, Text};
+use packet_fields::{Field, width};
+use std::alloc::Global;
+
+/// The most bytes of a source.
+const MAX_BYTES: u64 = 262_144;
+
+/// The most statements of a composed middlebox, those within others counted.
+const MAX_STATEMENTS: u64 = 65_536;
+
+// Refuses elements that can't stand where they are.
+fn refuse_elements(alloc: Global, chain: &Chain, classes: &[Middlebox]) -> Result<(), ComposeError>
+    requires few { length classes.now ≤ 32 }
+    requires within { AreWithin (length classes.now) chain.now.wires }
+    ensures ok { IfOk result (λ _. AreInPlace (connected classes.now chain.now.wires)) }
+    ensures err { IfErr result (IsRefused (connected classes.now chain.now.wires)) }
+{
+    wires_lead();
+    if let Some(element) = first_reader(classes) {
+        return Err(ComposeError::Byte(element));
+    }
+    let reach = Reach::new(alloc, chain.wires.as_slice(), classes.len())?;
+    match first_repeater(classes, &reach) {
+        Some(element) => Err(ComposeError::Repeat(element)),
+        None => Ok(()),
+    }
+}
+
+impl Parts<'_> {
+    // The elements as one middlebox.
+    fn whole(&self) -> Result<Middlebox, NoMemory>
+        requires some { 0 < length self.now.classes.now }
+        requires few { length self.now.classes.now ≤ 32 }
+        ensures made { IfOk result (λ m. tree m ≡ composed (chain_of self.now)) }
+        ensures small { IfOk result (λ m. length m.locals < 2 ^ 64) }
+    {
+        let entry = Place {
+            element: 0,
+            port: None,
+            levels: self.classes.len() as u32,
+        };
+        let mut names = Vec::new(self.alloc);
+        let mut widths = Vec::new(self.alloc);
+        let mut body = Vec::new(self.alloc);
+        self.put_body(
+            entry,
+            &self.classes[0].body,
+            &mut names,
+            &mut widths,
+            &mut body,
+        )?;
+        Ok(Middlebox {
+            objects: objects(self.alloc, self.classes)?,
+            locals: locals(self.alloc, &widths)?,
+            body,
+        })
+    }
+
+    // The same, where it has few enough statements. They are counted before it is made.
+    fn few(&self) -> Result<Middlebox, ComposeError>
+        requires some { 0 < length self.now.classes.now }
+        requires few { length self.now.classes.now ≤ 32 }
+        requires within { AreWithin (length self.now.classes.now) self.now.chain.now.wires }
+        ensures made { IfOk result (λ m. tree m ≡ composed (chain_of self.now)) }
+        ensures small { IfOk result (λ m. length m.locals < 2 ^ 64) }
+        ensures few { IfOk result (λ _. statements_in (composed (chain_of self.now)).body ≤ most_statements) }
+        ensures err { IfErr result (IsCountRefusal (chain_of self.now)) }
+    {
+        if self.size()? > MAX_STATEMENTS {
+            return Err(ComposeError::Statements);
+        }
+        self.refuse_deep()?;
+        Ok(self.whole()?)
+    }
+}
+
+// The elements as one middlebox, where it has few enough statements.
+fn whole(alloc: Global, chain: &Chain, classes: &[Middlebox]) -> Result<Middlebox, ComposeError>
+    requires some { 0 < length classes.now }
+    requires few { length classes.now ≤ 32 }
+    requires within { AreWithin (length classes.now) chain.now.wires }
+    requires good { list_all (λ m. is_good (tree m)) classes.now ≡ true }
+    ensures made { IfOk result (λ m. tree m ≡ composed (connected classes.now chain.now.wires)) }
+    ensures small { IfOk result (λ m. length m.locals < 2 ^ 64) }
+    ensures few { let c = connected classes.now chain.now.wires in
+        IfOk result (λ _. statements_in (composed c).body ≤ most_statements) }
+    ensures err { IfErr result (IsCountRefusal (connected classes.now chain.now.wires)) }
+{
+    let routes = Routes::new(alloc, chain.wires.as_slice(), classes.len() as u32)?;
+    let cleared = fields_set(alloc, classes)?;
+    let parts = Parts {
+        alloc,
+        chain,
+        classes,
+        routes: &routes,
+        cleared: &cleared,
+        bit: width(Field::HasIp),
+        byte: width(Field::MetaPort),
+    };
+    parts.few()
+}
+
+fn within(what: What, have: u64, allowed: u64) -> Result<(), ComposeError>
+    ensures ok { IfOk result (λ _. have ≤ allowed) }
+    ensures err { IfErr result (λ e. (allowed < have) × (e ≡ ComposeError.TooLarge what have allowed)) }
+{
+    if have > allowed {
+        return Err(ComposeError::TooLarge {
+            what,
+            have,
+            allowed,
+        });
+    }
+    Ok(())
+}
+
+// How many brackets of a printed text are open at once.
+fn depth_of(alloc: Global, text: &Text) -> Result<u64, NoMemory>
+    ensures { (ts : List Token) → HasExactly text.now ts → IfOk result (λ found. found ≡ deepest 0 ts) }
+{
+    match tokens(alloc, text.as_slice()) {
+        Ok(found) => Ok(depth(text.as_slice(), &found) as u64),
+        Err(_) => Err(NoMemory),
+    }
+}
+
+// Refuses a middlebox that doesn't keep the sizes of sources.
+fn refuse_middlebox(m: &Middlebox) -> Result<(), ComposeError>
+    ensures ok { IfOk result (λ _. (what : What) → order what < 3 → amount what (tree m.now) ≤ allowed what) }
+    ensures err { IfErr result (IsSizeRefusal (tree m.now)) }
+{
+    within(What::Objects, m.objects.len() as u64, MAX_OBJECTS as u64)?;
+    within(What::Entries, entries(m), MAX_ENTRIES)?;
+    within(What::Writes, writes(m), MAX_WRITES)?;
+    Ok(())
+}
+
+// Refuses a middlebox whose text doesn't keep the sizes of sources.
+fn refuse_text(alloc: Global, m: &Middlebox) -> Result<(), ComposeError>
+    requires good { IsTrue (is_good (tree m.now)) }
+    requires names { HasNames (tree m.now) }
+    requires sizes { (what : What) → order what < 3 → amount what (tree m.now) ≤ allowed what }
+    ensures ok { IfOk result (λ _. KeepsSizes (tree m.now)) }
+    ensures err { IfErr result (IsSizeRefusal (tree m.now)) }
+{
+    let text = print(alloc, m)?;
+    within(What::Depth, depth_of(alloc, &text)?, MAX_DEPTH as u64)?;
+    within(What::Bytes, text.len() as u64, MAX_BYTES)?;
+    Ok(())
+}
+
+// A number of 8 bits is one.
+fn is_byte(number: u8)
+    ensures { number < 2 ^ 8 }
+{}
+
+// Inputs are numbers of 8 bits, as their type says.
+fn inputs_are_bytes(wires: &[Wire])
+    ensures { All (λ w. w.input < 2 ^ 8) wires.now }
+{
+    for wire in wires {
+        is_byte(wire.input);
+    }
+}
+
+// The elements as one middlebox, or the first reason for which there is none.
+fn compose_elements(
+    alloc: Global,
+    chain: &Chain,
+    classes: &[Middlebox],
+) -> Result<Middlebox, ComposeError>
+    requires some { 0 < length classes.now }
+    requires few { length classes.now ≤ 32 }
+    requires within { AreWithin (length classes.now) chain.now.wires }
+    requires acyclic { HasNoCycle chain.now.wires }
+    requires good { All (λ m. IsTrue (is_good (tree m))) classes.now }
+    requires names { All (λ m. HasNames (tree m)) classes.now }
+    ensures made { IfOk result (λ m. tree m ≡ composed (connected classes.now chain.now.wires)) }
+    ensures unrefused { IfOk result (λ _. IsUnrefused (connected classes.now chain.now.wires)) }
+    ensures refused { IfErr result (IsRefused (connected classes.now chain.now.wires)) }
+    ensures fits { IfOk result (λ _. IsFit (connected classes.now chain.now.wires)) }
+    ensures rules { IfOk result (λ m. IsTrue (is_good (tree m))) }
+    ensures names { IfOk result (λ m. HasNames (tree m)) }
+{
+    composition_keeps_the_rules();
+    inputs_are_bytes(chain.wires.as_slice());
+    refuse_elements(alloc, chain, classes)?;
+    let middlebox = whole(alloc, chain, classes)?;
+    refuse_middlebox(&middlebox)?;
+    refuse_text(alloc, &middlebox)?;
+    Ok(middlebox)
+}
+
+/// One middlebox that does what the chain does, of the middleboxes of its elements, in order: the body of the entry, in
+/// which the bodies of the elements behind it stand where it sends. Of several reasons for which there is none, the
+/// first one in the order of `ComposeError` is answered.
+pub fn compose(alloc: Global, chain: &Chain, classes: &Classes) -> Result<Middlebox, ComposeError>
+    requires some { 0 < length classes.now.items }
+    requires few { length classes.now.items ≤ 32 }
+    requires within { AreWithin (length classes.now.items) chain.now.wires }
+    requires acyclic { HasNoCycle chain.now.wires }
+    requires good { All (λ m. IsTrue (is_good (tree m))) classes.now.items }
+    requires names { All (λ m. HasNames (tree m)) classes.now.items }
+    ensures made { IfOk result (λ m. tree m ≡ composed (connected classes.now.items chain.now.wires)) }
+    ensures unrefused { IfOk result (λ _. IsUnrefused (connected classes.now.items chain.now.wires)) }
+    ensures refused { IfErr result (IsRefused (connected classes.now.items chain.now.wires)) }
+    ensures exact { (e : ComposeError) → e ≢ ComposeError.NoMemory
+        → IsRefused (connected classes.now.items chain.now.wires) e
+        → MatchResult result (λ _. ⊥) (λ found. (found ≡ e) ⊎ (found ≡ ComposeError.NoMemory)) }
+    ensures found { IsUnrefused (connected classes.now.items chain.now.wires)
+        → MatchResult result (λ m. tree m ≡ composed (connected classes.now.items chain.now.wires))
+        (λ e. e ≡ ComposeError.NoMemory) }
+    ensures rules { IfOk result (λ m. IsTrue (is_good (tree m))) }
+    ensures names { IfOk result (λ m. HasNames (tree m)) }
+    ensures verdict { let c = connected classes.now.items chain.now.wires in
+        IfOk result (λ m. (stores : List Store) (packet : Packet) → AreKept c.elements stores → IsArrival packet
+        → source_verdict (tree m) (joined stores) packet ≡ (chain_run c stores packet).verdict) }
+    ensures stores { let c = connected classes.now.items chain.now.wires in
+        IfOk result (λ m. (stores : List Store) (packet : Packet) → AreKept c.elements stores → IsArrival packet
+        → source_store (tree m) (joined stores) packet ≡ joined (chain_run c stores packet).stores) }
+    ensures objects { let c = connected classes.now.items chain.now.wires in
+        IfOk result (λ m. (stores : List Store) (packet : Packet) (e o : ℕ) → AreKept c.elements stores
+        → IsArrival packet → e < length c.elements → o < length (element_at c.elements e).objects
+        → object_at (source_store (tree m) (joined stores) packet) (base_of c.elements e + o)
+        ≡ object_at (store_at (chain_run c stores packet).stores e) o) }
+    ensures parts { let c = connected classes.now.items chain.now.wires in
+        IfOk result (λ m. (store : Store) → IsKept (tree m).objects store
+        → (stores : List Store) × AreKept c.elements stores × (store ≡ joined stores)) }
+{
+    composition_keeps_the_meaning();
+    compose_elements(alloc, chain, classes)
+}

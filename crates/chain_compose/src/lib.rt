@@ -1,0 +1,25 @@
+//! One middlebox that does what a chain of elements does, and the reasons for which there is none.
+#![tactic(auto)]
+
+mod body;
+mod clearing;
+mod composition;
+mod count;
+mod ends;
+mod error;
+mod expressions;
+mod laws;
+mod matrix;
+mod names;
+mod nesting;
+mod parts;
+mod plain;
+mod reach;
+mod refusals;
+mod routes;
+mod terms;
+mod uses;
+
+pub use composition::compose;
+pub use error::{ComposeError, What};
+pub use laws::one_composition_or_one_reason;

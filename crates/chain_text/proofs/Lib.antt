@@ -1,0 +1,11 @@
+pub mod Fitting
+pub mod FirstWrong
+pub mod Parsing
+pub mod Naming
+pub mod Building
+pub mod Outputs
+pub mod Declared
+pub mod TakingAll
+pub mod Tables
+pub mod OneAnswer
+pub mod Reading

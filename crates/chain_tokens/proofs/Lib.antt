@@ -1,0 +1,5 @@
+pub mod Spellings
+pub mod WordSpans
+pub mod WordTokens
+pub mod OneTokenList
+pub mod FoundTokens

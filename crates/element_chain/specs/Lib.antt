@@ -1,0 +1,4 @@
+pub mod Chain
+pub mod Wiring
+pub mod Compose
+pub mod Laws
