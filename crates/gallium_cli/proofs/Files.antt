@@ -25,7 +25,7 @@ use Rattle.gallium_cli.specs.declared.refusal.Refusal.{Refusal}
 use Rattle.gallium_cli.specs.declared.refusal.Refusal.TheVariants.{Source, LongProgram, Limits, Exceeded, Split, Trace, Schedule}
 use Rattle.gallium_cli.specs.declared.refusal.Refusal.TheVariants.{TooLong, ReadFault, NoMemory, Pcap, Report, Audit}
 use Rattle.gallium_cli.specs.declared.refusal.Refusal.TheVariants.{Chain, ClassSource, ClassTooLong, ClassReadFault}
-use Rattle.gallium_cli.specs.Words.{Splitting, Served, Within, Spelled, Run, Audit as Audited}
+use Rattle.gallium_cli.specs.Words.{Splitting, ServerAlone, Within, Spelled, Run, Audit as Audited}
 use Rattle.gallium_cli.specs.Roles.{Role, source, program, limits, legal_split, true_report, wiring, trace, schedule}
 use Rattle.gallium_cli.specs.Roles.{capture}
 use Rattle.gallium_cli.specs.Roles.{IsShort, IsGood, AreLimits, Gate, File, Choice, SplitFile, ReportFile, Composed}
@@ -346,7 +346,7 @@ passed_split p f g allowed split given =
 -- what a split goes through that is found
 pub split_passed : (by : Splitting) (s : List ℕ) (f : FilesState) (m : Tree) (split : List Part) (writeback : ℕ)
     → IsSplitBy by f.told s m split writeback → AllPassed (split_gates s by) f
-split_passed Served s f m split writeback found = (passed_program s f m found.0.source found.0.bounded.few, tt)
+split_passed ServerAlone s f m split writeback found = (passed_program s f m found.0.source found.0.bounded.few, tt)
 split_passed (Within l shrink) s f m split writeback (allowed, plan, choice, rows) = (
   passed_program s f m plan.program.source plan.program.bounded.few,
   (passed_limits l f allowed plan.limits, ((m, allowed, split, plan, choice.chosen), tt)),

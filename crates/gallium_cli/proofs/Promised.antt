@@ -21,7 +21,7 @@ use Rattle.gallium_cli.specs.Call.{Call, Work}
 use Rattle.gallium_cli.specs.Lines.{status_of}
 use Rattle.gallium_cli.specs.Words.{Request, Run, Compile, Replay, Check, Audit as Audited, Chain as Chained, Gen, PcapIn}
 use Rattle.gallium_cli.specs.Words.{PcapOut}
-use Rattle.gallium_cli.specs.Words.{Served, Within, Spelled, is_replay, request_of}
+use Rattle.gallium_cli.specs.Words.{ServerAlone, Within, Spelled, is_replay, request_of}
 use Rattle.gallium_cli.specs.Roles.{Role, source, trace, legal_split, true_report, Gate, File, Choice, SplitFile}
 use Rattle.gallium_cli.specs.Roles.{ReportFile, Composed, IsSpelled, gates_of}
 use Rattle.gallium_cli.specs.Chains.{IsFirstClassRefused, IsWired, class_files}
@@ -186,7 +186,7 @@ blames_one : (told : List ℕ → Option (List ℕ)) (request : Request) (blamed
     → BlamesIn told (gates_of request) blamed → BlamesOne told request blamed
 blames_one told (Run s t) blamed h = h
 blames_one told (Compile s l shrink) blamed h = h
-blames_one told (Replay s t c Served) blamed h = h
+blames_one told (Replay s t c ServerAlone) blamed h = h
 blames_one told (Replay s t c (Within l shrink)) blamed h = h
 blames_one told (Replay s t c (Spelled l p)) blamed h = h
 blames_one told (Check s l p) blamed h = h
@@ -407,8 +407,8 @@ may_exceed refusal (Run s t) f f' is first = shrunk_unexceeded refusal (gates_of
 may_exceed refusal (Compile s l false) f f' is first = tt
 may_exceed refusal (Compile s l true) f f' is first =
     shrunk_unexceeded refusal (gates_of (Compile s l true)) f f' (tt, (tt, tt)) is first
-may_exceed refusal (Replay s t c Served) f f' is first =
-    shrunk_unexceeded refusal (gates_of (Replay s t c Served)) f f' (tt, (tt, (tt, tt))) is first
+may_exceed refusal (Replay s t c ServerAlone) f f' is first =
+    shrunk_unexceeded refusal (gates_of (Replay s t c ServerAlone)) f f' (tt, (tt, (tt, tt))) is first
 may_exceed refusal (Replay s t c (Within l false)) f f' is first = tt
 may_exceed refusal (Replay s t c (Within l true)) f f' is first =
     shrunk_unexceeded refusal (gates_of (Replay s t c (Within l true))) f f' (tt, (tt, (tt, (tt, tt)))) is first
