@@ -9,6 +9,7 @@ use Rattle.packet_fields.specs.declared.packet.Packet.{Packet}
 use Rattle.element_lang.specs.Tree.{Tree}
 use Rattle.element_chain.specs.declared.chain.Chain.{Chain as ChainTold}
 use Rattle.element_chain.specs.declared.chain.Element.{Element}
+use Rattle.chain_text.specs.Reads.{IsChainText}
 use Rattle.flat_ir.specs.Program.{Program}
 use Rattle.flatten.specs.Flatten.{flat_of}
 use Rattle.split_model.specs.declared.split.Part.{Part}
@@ -146,6 +147,12 @@ passed_capture c f p spelled =
     if_spelled (λ bytes. (length bytes ≤ size_of capture) × IsCaptured bytes p) (IsGood capture) (f.told c)
     (λ bytes h. (h.0, (p, h.1))) spelled
 
+pub passed_wiring : (w : List ℕ) (f : FilesState) (chain : ChainTold)
+    → IfSome (f.told w) (λ text. (length text ≤ size_of wiring) × IsChainText text chain) → IsPassed (File w wiring) f
+passed_wiring w f chain spelled =
+    if_spelled (λ text. (length text ≤ size_of wiring) × IsChainText text chain) (IsGood wiring) (f.told w)
+    (λ text h. (h.0, (chain, h.1))) spelled
+
 -- ## After other reads
 
 -- what is told of a content is as before
@@ -228,7 +235,7 @@ class_later (ClassReadFault file) name f g h goes (is, refused) = (is, faulty_la
 class_later NoMemory name f g h goes refused = tt
 class_later _ name f g h goes refused = absurd refused
 
-first_class_later : (refusal : Refusal) (names : List (List ℕ)) (f g h : FilesState) → GoesOn statuses.Done f g
+pub first_class_later : (refusal : Refusal) (names : List (List ℕ)) (f g h : FilesState) → GoesOn statuses.Done f g
     → IsFirstClassRefused refusal names g h → IsFirstClassRefused refusal names f h
 first_class_later refusal [] f g h goes refused = refused
 first_class_later refusal (name ∷ names) f g h goes (inl here) = inl (class_later refusal name f g h goes here)

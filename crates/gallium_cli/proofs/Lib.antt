@@ -3,6 +3,9 @@ pub mod Declared
 pub mod Files
 pub mod Counted
 pub mod Written
+pub mod Firsts
+pub mod Classes
+pub mod Chained
 pub mod Reported
 pub mod Runnable
 pub mod Choices

@@ -106,6 +106,11 @@ ReadsNext before now reads reads_now =
     ((now ≡ before) × (reads_now ≡ reads))
     ⊎ ((name : List ℕ) × (now ≡ before ++ name ∷ []) × (reads_now ≡ raised_by 1 reads))
 
+-- no file was read, or that one more was
+abbrev pub MayReadNext : List (List ℕ) → List (List ℕ) → ℕ → ℕ → Type 0
+MayReadNext before now reads reads_now =
+    (reads_now ≡ reads) ⊎ ((name : List ℕ) × (now ≡ before ++ name ∷ []) × (reads_now ≡ raised_by 1 reads))
+
 -- ## Why no source is made of a chain
 
 -- the file of a class is refused
@@ -116,6 +121,19 @@ IsClassRefused (refusals.ClassTooLong file) name f f' = (file ≡ name) × IsFil
 IsClassRefused (refusals.ClassReadFault file) name f f' = (file ≡ name) × IsFileFaulty name f f'
 IsClassRefused refusals.NoMemory name f f' = Unit {0}
 IsClassRefused _ name f f' = ⊥
+
+-- what is told of the file of a class that is refused
+abbrev pub class_refusal : Refusal → List ℕ → Refusal
+class_refusal (refusals.Source fault) name = refusals.ClassSource fault name
+class_refusal (refusals.TooLong blamed) name = refusals.ClassTooLong name
+class_refusal (refusals.ReadFault blamed) name = refusals.ClassReadFault name
+class_refusal _ name = refusals.NoMemory
+
+-- there is no middlebox of one more element: no memory was found, or its class is a new one, whose file is refused
+abbrev pub IsNextRefused : Refusal → List (List ℕ) → List (List ℕ) → FilesState → FilesState → Type 0
+IsNextRefused refusal before now f f' =
+    (refusal ≡ refusals.NoMemory)
+    ⊎ ((name : List ℕ) × (now ≡ before ++ name ∷ []) × IsClassRefused refusal name f f')
 
 -- the name of the element that stands in the way, where one does
 abbrev pub element_of : List Element → ComposeError → Option (List ℕ)

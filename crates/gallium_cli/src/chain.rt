@@ -1,6 +1,6 @@
 //! Chains of elements as one source.
-ghost use Rattle.std.specs.Prelude.{◌≡◌, ◌≤◌, ◌<◌, ◌+◌, ◌++◌, ◌∷◌, [], ℕ, List, IsTrue, Some, IfOk, IfErr};
-ghost use Rattle.std.specs.Prelude.{IfSome, OnOk, OnErr, OnNone, length, take, map, string_bytes};
+ghost use Rattle.std.specs.Prelude.{◌≡◌, ◌≤◌, ◌<◌, ◌+◌, ◌^◌, ◌⊎◌, ◌++◌, ◌∷◌, [], ℕ, List, IsTrue, Some, IfOk, IfErr};
+ghost use Rattle.std.specs.Prelude.{IfSome, OnOk, OnErr, MatchOption, length, take, map, string_bytes};
 ghost use Rattle.std.specs.List.{All};
 ghost use Rattle.gal_io.specs.Files.{FilesState};
 ghost use Rattle.element_lang.specs.Accepted.{HasNames};
@@ -16,8 +16,8 @@ ghost use Rattle.gallium_cli.specs.Call.{work_of};
 ghost use Rattle.gallium_cli.specs.Lines.{status_of};
 ghost use Rattle.gallium_cli.specs.Roles.{source, wiring, size_of, IsOnlySource};
 ghost use Rattle.gallium_cli.specs.Loads.{GoesOn, IsFileRefused, IsUnread, raised_by};
-ghost use Rattle.gallium_cli.specs.Chains.{AreClasses, IsPlaceOf, ReadsNext, class_files, file_of};
-ghost use Rattle.gallium_cli.specs.Chains.{IsClassRefused, IsFirstClassRefused, IsUncomposed, IsOneSource};
+ghost use Rattle.gallium_cli.specs.Chains.{AreClasses, IsPlaceOf, MayReadNext, ReadsNext, class_files, class_refusal, file_of};
+ghost use Rattle.gallium_cli.specs.Chains.{IsClassRefused, IsFirstClassRefused, IsNextRefused, IsUncomposed, IsOneSource};
 ghost use Rattle.gallium_cli.specs.Chains.{connected, element_of};
 ghost use Rattle.gallium_cli.specs.Causes.{CountsFaults, HasCause, IsDone, reads_after};
 
@@ -85,10 +85,7 @@ fn file_of(alloc: Global, class: &[u8]) -> Result<String, NoMemory>
 
 // The refusal of the file of a class, of this name.
 fn of_class(refusal: Refusal<'_>, name: Text) -> Refusal<'static>
-    ensures cause { (f f' : FilesState) → IsFileRefused refusal.entry source name f f'
-        → IsClassRefused result name f f' }
-    ensures fault { (f f' : FilesState) → IsFileRefused refusal.entry source name f f'
-        → GoesOn (status_of refusal.entry) f f' → GoesOn (status_of result) f f' }
+    ensures { result ≡ class_refusal refusal.entry name }
 {
     match refusal {
         Refusal::Source(fault) => Refusal::ClassSource(fault, name),
@@ -114,10 +111,15 @@ fn load_class<F: Files>(
     ensures fault { IfErr result (λ refusal.
         GoesOn (status_of refusal) (F.seen files.old) (F.seen files.new)) }
     ensures read { OnOk result ((F.seen files.new).reads ≡ raised_by 1 (F.seen files.old).reads) }
-    ensures few_reads { (F.seen files.new).reads ≤ raised_by 1 (F.seen files.old).reads }
+    ensures few_reads { ((F.seen files.new).reads ≡ (F.seen files.old).reads)
+        ⊎ ((F.seen files.new).reads ≡ raised_by 1 (F.seen files.old).reads) }
 {
-    let file = file_of(alloc, class)?;
-    let name = Text::from_slice(alloc, file.as_bytes())?;
+    let Ok(file) = file_of(alloc, class) else {
+        return Err(Refusal::NoMemory);
+    };
+    let Ok(name) = Text::from_slice(alloc, file.as_bytes()) else {
+        return Err(Refusal::NoMemory);
+    };
     match load(alloc, files, &SourceFormat, file.as_str()) {
         Ok(middlebox) => Ok(middlebox),
         Err(refusal) => Err(of_class(refusal, name)),
@@ -126,12 +128,15 @@ fn load_class<F: Files>(
 
 // The place of the first of these elements that is of this class.
 fn place_of(elements: &[Element], class: &[u8]) -> Option<usize>
-    ensures some { IfSome result (IsPlaceOf elements.now class.now) }
-    ensures none { OnNone result ((e : ℕ) → IsPlaceOf elements.now class.now e → ⊥) }
+    ensures { MatchOption result ((e : ℕ) → IsPlaceOf elements.now class.now e → ⊥)
+        (λ place. IsPlaceOf elements.now class.now place) }
 {
-    elements
-        .iter()
-        .position(|element| element.class.as_slice() == class)
+    for (place, element) in elements.iter().enumerate() {
+        if element.class.as_slice() == class {
+            return Some(place);
+        }
+    }
+    None
 }
 
 // The middlebox of one more element behind those whose middleboxes are there: that of an element of the same class, or
@@ -150,20 +155,22 @@ fn next_class<F: Files>(
         (map tree known.now ++ tree m ∷ [])) }
     ensures good { IfOk result (λ m. IsTrue (is_good (tree m))) }
     ensures names { IfOk result (λ m. HasNames (tree m)) }
-    ensures err { IfErr result (λ refusal. (name : List ℕ)
-        × (class_files (take (length known.now + 1) elements.now)
-        ≡ class_files (take (length known.now) elements.now) ++ name ∷ [])
-        × IsClassRefused refusal name (F.seen files.old) (F.seen files.new)) }
+    ensures err { IfErr result (λ refusal. IsNextRefused refusal (class_files (take (length known.now) elements.now))
+        (class_files (take (length known.now + 1) elements.now)) (F.seen files.old) (F.seen files.new)) }
     ensures stays { OnOk result (GoesOn Status.Done (F.seen files.old) (F.seen files.new)) }
     ensures fault { IfErr result (λ refusal.
         GoesOn (status_of refusal) (F.seen files.old) (F.seen files.new)) }
     ensures read { OnOk result (ReadsNext (class_files (take (length known.now) elements.now))
         (class_files (take (length known.now + 1) elements.now)) (F.seen files.old).reads (F.seen files.new).reads) }
-    ensures few_reads { OnErr result ((F.seen files.new).reads ≤ raised_by 1 (F.seen files.old).reads) }
+    ensures few_reads { MayReadNext (class_files (take (length known.now) elements.now))
+        (class_files (take (length known.now + 1) elements.now)) (F.seen files.old).reads (F.seen files.new).reads }
 {
     let class = elements[known.len()].class.as_slice();
     match place_of(&elements[..known.len()], class) {
-        Some(place) => Ok(known[place].copy(alloc)?),
+        Some(place) => match known[place].copy(alloc) {
+            Ok(middlebox) => Ok(middlebox),
+            Err(_) => Err(Refusal::NoMemory),
+        },
         None => load_class(alloc, class, files),
     }
 }
@@ -174,6 +181,7 @@ fn load_classes<F: Files>(
     elements: &[Element],
     files: &mut F,
 ) -> Result<Classes, Refusal<'static>>
+    requires { (F.seen files.old).reads < 2 ^ 64 }
     ensures ok { IfOk result (λ ms. AreClasses (F.seen files.old).told elements.now (map tree ms.items)) }
     ensures good { IfOk result (λ ms. All (λ m. IsTrue (is_good (tree m))) ms.items) }
     ensures names { IfOk result (λ ms. All (λ m. HasNames (tree m)) ms.items) }
@@ -188,8 +196,11 @@ fn load_classes<F: Files>(
         ≤ reads_after (class_files elements.now) (F.seen files.old).reads }
 {
     let mut classes = Vec::new(alloc);
-    for _ in 0..elements.len() {
-        let middlebox = next_class(alloc, elements, &classes, files)?;
+    while classes.len() < elements.len() {
+        let middlebox = match next_class(alloc, elements, &classes, files) {
+            Ok(middlebox) => middlebox,
+            Err(refusal) => return Err(refusal),
+        };
         if classes.push(middlebox).is_err() {
             return Err(Refusal::NoMemory);
         }
@@ -240,7 +251,10 @@ fn composed(alloc: Global, chain: &Chain, classes: &Classes) -> Result<Text, Ref
     ensures err { IfErr result (λ refusal. IsUncomposed refusal chain.now (map tree classes.now.items)) }
 {
     match compose(alloc, chain, classes) {
-        Ok(middlebox) => Ok(print(alloc, &middlebox)?),
+        Ok(middlebox) => match print(alloc, &middlebox) {
+            Ok(text) => Ok(text),
+            Err(_) => Err(Refusal::NoMemory),
+        },
         Err(error) => Err(told(alloc, chain.elements.as_slice(), error)),
     }
 }

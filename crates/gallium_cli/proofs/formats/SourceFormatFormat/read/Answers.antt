@@ -9,4 +9,4 @@ returns-in-Ok-clause-sound c =
     let is = c.in-Ok.ensures.ok in
     let good = is.spelling.good in
     let few = few_objects c.args.text.now m is in
-    (good, few, declared_objects m good c.in-Ok.ensures.names few)
+    (good, few, declared_objects m good c.in-Ok.ensures.names few, c.in-Ok.ensures.names)

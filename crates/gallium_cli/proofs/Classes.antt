@@ -1,0 +1,328 @@
+-- The middleboxes of elements, one after the other.
+use Rattle.std.proofs.Common.{◌≡◌, ◌<◌, ◌≤◌, ◌+◌, ◌^◌, ℕ, suc, zero, List, [], ◌∷◌, ◌++◌, ◌⊎◌, inl, inr, map, length, take, get_or}
+use Rattle.std.proofs.Common.{Option, Some, None, IfSome, refl, sym, ap, subst, ◌∙◌, append_assoc, length-append, arith}
+use Rattle.std.proofs.Common.{Result, Ok, Err, IfOk, IfErr}
+use Rattle.std.specs.Prelude.{slice_get, OnOk}
+use Rattle.std.specs.List.{All}
+use Rattle.std.proofs.lemmas.List.Elements.{All-append, All-nil, All-cons, All-head, All-tail, All-filter, All-map}
+use Rattle.std.proofs.lemmas.List.{take_more, length-take, map-append}
+use Rattle.std.proofs.lemmas.Option.{same_Some, slice_get_within, slice_get_read}
+use Rattle.gal_io.specs.Files.{FilesState}
+use Rattle.element_lang.specs.Tree.{Tree}
+use Rattle.element_lang.specs.View.{tree}
+use Rattle.element_lang.specs.declared.tree.Middlebox.{Middlebox}
+use Rattle.element_chain.specs.declared.chain.Element.{Element}
+use Rattle.gallium_cli.specs.declared.status.Status.TheVariants as statuses
+use Rattle.gallium_cli.specs.declared.refusal.Refusal.{Refusal}
+use Rattle.gallium_cli.specs.declared.refusal.Refusal.TheVariants.{NoMemory}
+use Rattle.gallium_cli.specs.Roles.{source, size_of, IsFirst, IsGood, IsOnlySource}
+use Rattle.gallium_cli.specs.Loads.{GoesOn, raised_by}
+use Rattle.gallium_cli.specs.Chains.{firsts, file_of, class_files, IsPlaceOf, AreClasses, MayReadNext, ReadsNext}
+use Rattle.gallium_cli.specs.Chains.{IsClassRefused, IsFirstClassRefused, IsNextRefused}
+use Rattle.gallium_cli.specs.Causes.{reads_after}
+use Rattle.gallium_cli.proofs.Files.{class_later, classes_before}
+use Rattle.gallium_cli.proofs.Firsts.{files_begin, files_known, files_new, placed_among, none_among, place_here, no_place_here}
+
+-- ## One more in a list
+
+get_last : {X : Type 0} (xs : List X) (y : X) → slice_get (xs ++ y ∷ []) (length xs) ≡ Some y
+get_last [] y = refl
+get_last (z ∷ xs) y = get_last xs y
+
+get_front : {X : Type 0} (xs ys : List X) (k : ℕ) (x : X) → slice_get xs k ≡ Some x → slice_get (xs ++ ys) k ≡ Some x
+get_front [] ys k x there = cc
+get_front (y ∷ xs) ys zero x there = there
+get_front (y ∷ xs) ys (suc k) x there = get_front xs ys k x there
+
+-- what stands there is the last one, or stood there before
+got_more : {X : Type 0} (xs : List X) (y x : X) (k : ℕ) → slice_get (xs ++ y ∷ []) k ≡ Some x
+    → ((k ≡ length xs) × (y ≡ x)) ⊎ (slice_get xs k ≡ Some x)
+got_more [] y x zero there = inl (refl, same_Some _ _ there)
+got_more [] y x (suc k) there = inr there
+got_more (z ∷ xs) y x zero there = inr there
+got_more (z ∷ xs) y x (suc k) there = elim (got_more xs y x k there) [
+  | inl (at, is) ↦ inl (ap suc at, is)
+  | inr before ↦ inr before
+]
+
+get_within : {X : Type 0} (xs : List X) (k : ℕ) → k < length xs → (x : X) × (slice_get xs k ≡ Some x)
+get_within [] k lt = absurd (omega arith)
+get_within (x ∷ xs) zero lt = (x, refl)
+get_within (x ∷ xs) (suc k) lt = get_within xs k (omega arith)
+
+-- ## One more middlebox
+
+abbrev Spells : (List ℕ → Option (List ℕ)) → List ℕ → Tree → Type 0
+Spells told class m = IfSome (told (file_of class)) (λ text. (length text ≤ size_of source) × IsOnlySource text m)
+
+-- it has the class of the last element, and those of that class before it have the same middlebox
+abbrev SameBefore : List Element → List Tree → Element → Tree → Type 0
+SameBefore es ms x m = (e : ℕ) (y : Element) → slice_get es e ≡ Some y → y.class ≡ x.class → slice_get ms e ≡ Some m
+
+each_more : (told : List ℕ → Option (List ℕ)) (es : List Element) (ms : List Tree) (x : Element) (m : Tree)
+    → AreClasses told es ms → Spells told x.class m → (e : ℕ) (y : Element) (k : Tree)
+    → slice_get (es ++ x ∷ []) e ≡ Some y → slice_get (ms ++ m ∷ []) e ≡ Some k → Spells told y.class k
+each_more told es ms x m are spelled e y k there here =
+    by_place (got_more es x y e there) (got_more ms m k e here)
+  where
+    by_place : ((e ≡ length es) × (x ≡ y)) ⊎ (slice_get es e ≡ Some y)
+        → ((e ≡ length ms) × (m ≡ k)) ⊎ (slice_get ms e ≡ Some k) → Spells told y.class k
+    by_place (inl last) (inl end) =
+        subst (λ (z : Element). Spells told z.class k) last.1 (subst (λ (t : Tree). Spells told x.class t) end.1 spelled)
+    by_place (inl last) (inr before) =
+        let lt = slice_get_within ms e k before in let count = are.count in let at = last.0 in absurd (omega arith)
+    by_place (inr before) (inl end) =
+        let lt = slice_get_within es e y before in let count = are.count in let at = end.0 in absurd (omega arith)
+    by_place (inr one) (inr two) = are.each e y k one two
+
+same_more : (told : List ℕ → Option (List ℕ)) (es : List Element) (ms : List Tree) (x : Element) (m : Tree)
+    → AreClasses told es ms → SameBefore es ms x m → (d e : ℕ) (y z : Element)
+    → slice_get (es ++ x ∷ []) d ≡ Some y → slice_get (es ++ x ∷ []) e ≡ Some z
+    → y.class ≡ z.class → slice_get (ms ++ m ∷ []) d ≡ slice_get (ms ++ m ∷ []) e
+same_more told es ms x m are before d e y z there here same =
+    by_place (got_more es x y d there) (got_more es x z e here)
+  where
+    at_end : (n : ℕ) → n ≡ length es → slice_get (ms ++ m ∷ []) n ≡ Some m
+    at_end n at =
+        subst (λ k. slice_get (ms ++ m ∷ []) k ≡ Some m) (are.count ∙ sym at) (get_last ms m)
+    is_there : (n : ℕ) (w : Element) → slice_get es n ≡ Some w → (k : Tree) × (slice_get ms n ≡ Some k)
+    is_there n w one =
+        let lt = slice_get_within es n w one in let count = are.count in get_within ms n (omega arith)
+    by_place : ((d ≡ length es) × (x ≡ y)) ⊎ (slice_get es d ≡ Some y)
+        → ((e ≡ length es) × (x ≡ z)) ⊎ (slice_get es e ≡ Some z)
+        → slice_get (ms ++ m ∷ []) d ≡ slice_get (ms ++ m ∷ []) e
+    by_place (inl one) (inl two) = at_end d one.0 ∙ sym (at_end e two.0)
+    by_place (inl one) (inr two) =
+        at_end d one.0
+        ∙ sym (get_front ms (m ∷ []) e m (before e z two (sym same ∙ ap (λ (w : Element). w.class) (sym one.1))))
+    by_place (inr one) (inl two) =
+        get_front ms (m ∷ []) d m (before d y one (same ∙ ap (λ (w : Element). w.class) (sym two.1)))
+        ∙ sym (at_end e two.0)
+    by_place (inr one) (inr two) =
+        let k = is_there d y one in
+        get_front ms (m ∷ []) d k.0 k.1
+        ∙ sym (get_front ms (m ∷ []) e k.0 (sym (are.same d e y z one two same) ∙ k.1))
+
+classes_more : (told : List ℕ → Option (List ℕ)) (es : List Element) (ms : List Tree) (x : Element) (m : Tree)
+    → AreClasses told es ms → Spells told x.class m → SameBefore es ms x m
+    → AreClasses told (es ++ x ∷ []) (ms ++ m ∷ [])
+classes_more told es ms x m are spelled before = record {
+  count = let one = length-append ms (m ∷ []) in let two = length-append es (x ∷ []) in let count = are.count in omega arith;
+  each = each_more told es ms x m are spelled;
+  same = same_more told es ms x m are before;
+}
+
+-- that of an element of the same class
+pub known_class : (told : List ℕ → Option (List ℕ)) (es : List Element) (ms : List Tree) (x : Element) (m : Tree) (e : ℕ)
+    → AreClasses told es ms → IsPlaceOf es x.class e → slice_get ms e ≡ Some m
+    → AreClasses told (es ++ x ∷ []) (ms ++ m ∷ [])
+known_class told es ms x m e are (y, there, same) here =
+    classes_more told es ms x m are
+    (subst (λ class. Spells told class m) same (are.each e y m there here))
+    (λ d z before alike. are.same d e z y before there (alike ∙ sym same) ∙ here)
+
+-- that of a new class
+pub new_class : (told : List ℕ → Option (List ℕ)) (es : List Element) (ms : List Tree) (x : Element) (m : Tree)
+    → AreClasses told es ms → ((e : ℕ) → IsPlaceOf es x.class e → ⊥)
+    → IfSome (told (file_of x.class)) (λ text. (length text ≤ size_of source) × IsOnlySource text m)
+    → AreClasses told (es ++ x ∷ []) (ms ++ m ∷ [])
+new_class told es ms x m are none spelled =
+    classes_more told es ms x m are spelled (λ e y there same. absurd (none e (y, there, same)))
+
+-- ## Files that are good
+
+all_firsts : (P : List ℕ → Type 0) (ws : List (List ℕ)) → All P ws → All P (firsts ws)
+all_firsts P [] all = All-nil P
+all_firsts P (w ∷ ws) all =
+    All-cons P w _ (All-head P w ws all) (All-filter _ P (firsts ws) (all_firsts P ws (All-tail P w ws all)))
+
+all_classes : (P : List ℕ → Type 0) (es : List Element) → ((e : ℕ) (x : Element) → slice_get es e ≡ Some x → P x.class)
+    → All P (map (λ (e : Element). e.class) es)
+all_classes P [] each = All-nil P
+all_classes P (x ∷ es) each =
+    All-cons P x.class _ (each 0 x refl) (all_classes P es (λ e y there. each (suc e) y there))
+
+if_good : (told : Option (List ℕ)) (m : Tree) → IfSome told (λ text. (length text ≤ size_of source) × IsOnlySource text m)
+    → IfSome told (IsGood source)
+if_good None m h = tt
+if_good (Some text) m h = (h.0, (m, h.1.source))
+
+classes_good : (told : List ℕ → Option (List ℕ)) (es : List Element) (ms : List Tree) → AreClasses told es ms
+    → All (λ name. IfSome (told name) (IsGood source)) (class_files es)
+classes_good told es ms are =
+    All-map (λ name. IfSome (told name) (IsGood source)) file_of _ (all_firsts (λ class. IfSome (told (file_of class)) (IsGood source)) _ (all_classes _ es (λ e x there.
+    let lt = slice_get_within es e x there in let count = are.count in
+    let m = get_within ms e (omega arith) in
+    if_good (told (file_of x.class)) m.0 (are.each e x m.0 there m.1))))
+
+first_behind : {A : Type 0} (IsBefore IsAt : A → Type 0) (before : List A) (x : A) (rest : List A) → All IsBefore before
+    → IsAt x → IsFirst IsBefore IsAt (before ++ x ∷ rest)
+first_behind IsBefore IsAt [] x rest all here = inl here
+first_behind IsBefore IsAt (y ∷ before) x rest all here = inr (
+  All-head IsBefore y before all,
+  first_behind IsBefore IsAt before x rest (All-tail IsBefore y before all) here,
+)
+
+next_refused : (told : List ℕ → Option (List ℕ)) (IsAt : List ℕ → Type 0) (es : List Element) (n : ℕ) (ms : List Tree)
+    (name : List ℕ) → AreClasses told (take n es) ms
+    → class_files (take (n + 1) es) ≡ class_files (take n es) ++ name ∷ [] → IsAt name
+    → IsFirst (λ name. IfSome (told name) (IsGood source)) IsAt (class_files es)
+next_refused told IsAt es n ms name are next here =
+    let before = class_files (take n es) in
+    let begin = files_begin es (n + 1) in
+    let all : class_files es ≡ before ++ name ∷ begin.0 =
+    begin.1 ∙ ap (λ names. names ++ begin.0) next ∙ append_assoc before (name ∷ []) begin.0 in
+    subst (IsFirst (λ name. IfSome (told name) (IsGood source)) IsAt) (sym all)
+    (first_behind (λ name. IfSome (told name) (IsGood source)) IsAt before name begin.0
+    (classes_good told (take n es) ms are) here)
+
+-- want of memory may come at the first file
+no_memory : (refusal : Refusal) (es : List Element) (n : ℕ) (f h : FilesState) → refusal ≡ NoMemory → n < length es
+    → IsFirstClassRefused refusal (class_files es) f h
+no_memory NoMemory [] n f h is lt = absurd (omega arith)
+no_memory NoMemory (x ∷ es) n f h is lt = inl tt
+no_memory _ es n f h is lt = cc
+
+-- where there is no middlebox of the next element, the first file is refused that isn't good
+pub next_class_refused : (refusal : Refusal) (es : List Element) (n : ℕ) (ms : List Tree) (f g h : FilesState)
+    → n < length es → AreClasses f.told (take n es) ms → GoesOn statuses.Done f g
+    → IsNextRefused refusal (class_files (take n es)) (class_files (take (n + 1) es)) g h
+    → IsFirstClassRefused refusal (class_files es) f h
+next_class_refused refusal es n ms f g h lt are goes (inl memory) = no_memory refusal es n f h memory lt
+next_class_refused refusal es n ms f g h lt are goes (inr (name, next, here)) =
+    next_refused f.told (λ name. IsClassRefused refusal name f h) es n ms name are next
+    (class_later refusal name f g h goes here)
+
+-- ## The next element
+
+pub placed_within : (es : List Element) (n : ℕ) (class : List ℕ) (e : ℕ) → IsPlaceOf (take n es) class e → e < n
+placed_within es n class e (x, there, same) =
+    let lt = slice_get_within (take n es) e x there in let long = length-take n es in omega arith
+
+got_tree : (ks : List Middlebox) (e : ℕ) (k : Middlebox) → slice_get ks e ≡ Some k → slice_get (map tree ks) e ≡ Some (tree k)
+got_tree [] e k there = cc
+got_tree (x ∷ ks) zero k there = ap (λ (m : Middlebox). Some (tree m)) (same_Some _ _ there)
+got_tree (x ∷ ks) (suc e) k there = got_tree ks e k there
+
+-- elements of which these come first, and the last of those
+abbrev pub IsNextOf : List Element → ℕ → List ℕ → Type 0
+IsNextOf es n class = (x : Element) × (take (n + 1) es ≡ take n es ++ x ∷ []) × (class ≡ x.class)
+
+pub is_next : (es : List Element) (n : ℕ) (x : Element) (class : List ℕ) → n < length es → class ≡ (get_or es n x).class
+    → IsNextOf es n class
+is_next es n x class lt named = (get_or es n x, take_more es n x lt, named)
+
+-- its class is that of one before it
+pub next_known : (told : List ℕ → Option (List ℕ)) (es : List Element) (known : List Middlebox) (class : List ℕ)
+    (k : Middlebox) (m : Tree) (e : ℕ) → IsNextOf es (length known) class
+    → AreClasses told (take (length known) es) (map tree known) → IsPlaceOf (take (length known) es) class e
+    → k ≡ get_or known e k → m ≡ tree k → AreClasses told (take (length known + 1) es) (map tree known ++ m ∷ [])
+next_known told es known class k m e (x, next, named) are placed there same =
+    let lt = placed_within es (length known) class e placed in
+    let here = got_tree known e k (slice_get_read known (length known) e k refl lt there) ∙ ap Some (sym same) in
+    subst (λ (xs : List Element). AreClasses told xs (map tree known ++ m ∷ [])) (sym next)
+    (known_class told (take (length known) es) (map tree known) x m e are
+    (place_here (take (length known) es) (take (length known) es) class x.class e refl named placed) here)
+
+pub next_known_files : (es : List Element) (n : ℕ) (class : List ℕ) (e reads : ℕ) → IsNextOf es n class
+    → IsPlaceOf (take n es) class e → ReadsNext (class_files (take n es)) (class_files (take (n + 1) es)) reads reads
+next_known_files es n class e reads (x, next, named) placed =
+    let here = place_here (take n es) (take n es) class x.class e refl named placed in
+    inl (ap class_files next ∙ files_known (take n es) x (placed_among (take n es) x.class e here), refl)
+
+-- or a new one
+pub next_new : {E : Type 0} (result : Result Middlebox E) (told : List ℕ → Option (List ℕ)) (es : List Element) (n : ℕ)
+    (ms : List Tree) (class : List ℕ) → IsNextOf es n class → AreClasses told (take n es) ms
+    → ((e : ℕ) → IsPlaceOf (take n es) class e → ⊥)
+    → IfOk result (λ m. IfSome (told (file_of class)) (λ text. (length text ≤ size_of source) × IsOnlySource text (tree m)))
+    → IfOk result (λ m. AreClasses told (take (n + 1) es) (ms ++ tree m ∷ []))
+next_new (Err e) told es n ms class next are none spelled = tt
+next_new (Ok m) told es n ms class (x, next, named) are none spelled =
+    subst (λ (xs : List Element). AreClasses told xs (ms ++ tree m ∷ [])) (sym next)
+    (new_class told (take n es) ms x (tree m) are (no_place_here (take n es) (take n es) class x.class refl named none)
+    (subst (λ word. IfSome (told (file_of word)) (λ text. (length text ≤ size_of source) × IsOnlySource text (tree m)))
+    named spelled))
+
+pub next_new_files : (es : List Element) (n : ℕ) (class : List ℕ) → IsNextOf es n class
+    → ((e : ℕ) → IsPlaceOf (take n es) class e → ⊥)
+    → class_files (take (n + 1) es) ≡ class_files (take n es) ++ file_of class ∷ []
+next_new_files es n class (x, next, named) none =
+    ap class_files next
+    ∙ files_new (take n es) x (none_among (take n es) x.class (no_place_here (take n es) (take n es) class x.class refl named none))
+    ∙ ap (λ word. class_files (take n es) ++ file_of word ∷ []) (sym named)
+
+-- what is refused, and what is read, of its file
+pub next_new_refused : {A : Type 0} (result : Result A Refusal) (before now : List (List ℕ)) (name : List ℕ)
+    (f f' : FilesState) → now ≡ before ++ name ∷ [] → IfErr result (λ refusal. IsClassRefused refusal name f f')
+    → IfErr result (λ refusal. IsNextRefused refusal before now f f')
+next_new_refused (Ok x) before now name f f' next refused = tt
+next_new_refused (Err refusal) before now name f f' next refused = inr (name, next, refused)
+
+pub next_new_read : {A E : Type 0} (result : Result A E) (before now : List (List ℕ)) (name : List ℕ) (x y : ℕ)
+    → now ≡ before ++ name ∷ [] → OnOk result (y ≡ raised_by 1 x) → OnOk result (ReadsNext before now x y)
+next_new_read (Ok v) before now name x y next read = inr (name, next, read)
+next_new_read (Err e) before now name x y next read = tt
+
+pub next_new_few : (before now : List (List ℕ)) (name : List ℕ) (x y : ℕ) → now ≡ before ++ name ∷ []
+    → (y ≡ x) ⊎ (y ≡ raised_by 1 x) → MayReadNext before now x y
+next_new_few before now name x y next (inl same) = inl same
+next_new_few before now name x y next (inr read) = inr (name, next, read)
+
+-- ## How often files are read
+
+after_more : (before : List (List ℕ)) (name : List ℕ) (rest : List (List ℕ)) (x y : ℕ) → y ≡ reads_after before x
+    → reads_after (before ++ name ∷ rest) x ≡ raised_by (length rest + 1) y
+after_more [] name rest x y is = subst (λ n. raised_by (length (name ∷ rest)) x ≡ raised_by (length rest + 1) n) (sym is) (omega arith)
+after_more (w ∷ before) name rest x y is =
+    let long = length-append before (name ∷ rest) in omega arith
+
+pub reads_next : (before now : List (List ℕ)) (x y z : ℕ) → y ≡ reads_after before x → ReadsNext before now y z
+    → z ≡ reads_after now x
+reads_next before now x y z is (inl same) = same.1 ∙ is ∙ ap (λ names. reads_after names x) (sym same.0)
+reads_next before now x y z is (inr (name, next, read)) =
+    let after = after_more before name [] x y is in
+    subst (λ names. z ≡ reads_after names x) (sym next) (omega arith)
+
+few_more : (before rest : List (List ℕ)) (x : ℕ) → x < 2 ^ 64 → reads_after before x ≤ reads_after (before ++ rest) x
+few_more [] [] x fits = omega arith
+few_more [] (name ∷ rest) x fits = omega arith
+few_more (w ∷ before) rest x fits = let long = length-append before rest in omega arith
+
+pub few_next : (es : List Element) (n x y z : ℕ) → x < 2 ^ 64 → y ≡ reads_after (class_files (take n es)) x
+    → MayReadNext (class_files (take n es)) (class_files (take (n + 1) es)) y z → z ≤ reads_after (class_files es) x
+few_next es n x y z fits is (inl same) =
+    let begin = files_begin es n in
+    let few = few_more (class_files (take n es)) begin.0 x fits in
+    subst (λ names. z ≤ reads_after names x) (sym begin.1) (omega arith)
+few_next es n x y z fits is (inr (name, next, read)) =
+    let begin = files_begin es (n + 1) in
+    let after = after_more (class_files (take n es)) name [] x y is in
+    let few = few_more (class_files (take n es) ++ name ∷ []) begin.0 x fits in
+    subst (λ names. z ≤ reads_after names x) (sym (begin.1 ∙ ap (λ names. names ++ begin.0) next)) (omega arith)
+
+-- ## One more that is known
+
+pub classes_next : (f g : FilesState) (es : List Element) (known now : List Middlebox) (m : Middlebox)
+    → now ≡ known ++ m ∷ [] → GoesOn statuses.Done f g
+    → AreClasses g.told (take (length known + 1) es) (map tree known ++ tree m ∷ [])
+    → AreClasses f.told (take (length now) es) (map tree now)
+classes_next f g es known now m is goes are =
+    let long : length now ≡ length known + 1 = ap length is ∙ length-append known (m ∷ []) in
+    let trees : map tree now ≡ map tree known ++ tree m ∷ [] = ap (map tree) is ∙ map-append tree known (m ∷ []) in
+    subst (λ n. AreClasses f.told (take n es) (map tree now)) (sym long)
+    (subst (λ (ts : List Tree). AreClasses f.told (take (length known + 1) es) ts) (sym trees)
+    (classes_before f g (take (length known + 1) es) (map tree known ++ tree m ∷ []) goes are))
+
+pub all_next : (P : Middlebox → Type 0) (known now : List Middlebox) (m : Middlebox) → now ≡ known ++ m ∷ []
+    → All P known → P m → All P now
+all_next P known now m is all here =
+    subst (All P) (sym is) (All-append P known (m ∷ []) all (All-cons P m [] here (All-nil P)))
+
+pub reads_more : (es : List Element) (known now : List Middlebox) (m : Middlebox) (x y z : ℕ) → now ≡ known ++ m ∷ []
+    → y ≡ reads_after (class_files (take (length known) es)) x
+    → ReadsNext (class_files (take (length known) es)) (class_files (take (length known + 1) es)) y z
+    → z ≡ reads_after (class_files (take (length now) es)) x
+reads_more es known now m x y z is before next =
+    let long : length now ≡ length known + 1 = ap length is ∙ length-append known (m ∷ []) in
+    subst (λ n. z ≡ reads_after (class_files (take n es)) x) (sym long)
+    (reads_next (class_files (take (length known) es)) (class_files (take (length known + 1) es)) x y z before next)
