@@ -166,6 +166,7 @@ both_all : (c : Connected) (fit : IsRanked c) (calm : IsCalm c) → All (λ (w :
 both_all c fit calm = λ k d lt. (fit.wires k d lt, calm.wires k d lt)
 
 pub known_wires : (c : Connected) (fit : IsRanked c) (calm : IsCalm c) (e : ℕ) → EachWire (IsKnown c fit calm e) (wires_of c.wires e)
+unfolding wires_of
 known_wires c fit calm e = each_low (λ (w : Wire). IsWireOf c fit.rank w × IsPassedOn c calm.reached calm.repeated w) c.wires e 256 0 (omega arith) (both_all c fit calm)
 
 abbrev MayBeWithin : (c : Connected) → IsCalm c → Target → Type 0

@@ -42,7 +42,7 @@ use Rattle.element_chain.proofs.SetFields.{value_absent}
 use Rattle.element_chain.proofs.Sent.{written_twice, sent_length}
 use Rattle.element_chain.proofs.Sets.{set_only, set_by, sent_bytes}
 use Rattle.element_chain.proofs.Stores.{joined_set, joined_at, base_right}
-use Rattle.element_chain.proofs.Wired.{first_at, EachWire, each_from, first_of_all}
+use Rattle.element_chain.proofs.Wired.{first_at, EachWire, each_of, first_of_all}
 use Rattle.element_chain.proofs.Alike.{Instance, Alike, AlikeOutcomes, do_followed}
 use Rattle.element_chain.proofs.Clearing.{eq_value, no_place, clearing_leaves, before_clearing}
 use Rattle.element_chain.proofs.Bodies.{ended, IsReady, do_one, body_alike}
@@ -282,7 +282,7 @@ ready_at c fit widths whole n ends e stores own port lt behind kept arrives as_s
       grow = sent_grow (ends_within c n) (ends_grow c fit n) (wires_of c.wires e);
       sends = λ send_port before t st at low grown.
           sent_right c fit widths whole n ends e (wires_of c.wires e) send_port before t (slice_set stores e st)
-          behind (each_from (IsWireOf c fit.rank) c.wires e 256 0 fit.wires)
+          behind (each_of (IsWireOf c fit.rank) c.wires e fit.wires)
           (record {
             many = at.many;
             all = at.all;

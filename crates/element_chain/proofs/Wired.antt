@@ -82,10 +82,15 @@ first_from wires e (suc n) output x all le lt =
         ap (λ b. cond b (Some w) (first_at x (wires_from wires e n (suc output)))) apart
         ∙ later other
 
+pub each_of : (P : Wire → Type 0) (wires : List Wire) (e : ℕ) → All P wires → EachWire (λ (w : Wire). P w × (w.from ≡ e)) (wires_of wires e)
+unfolding wires_of
+each_of P wires e all = each_from P wires e 256 0 all
+
 any_wire : (wires : List Wire) → All (λ (w : Wire). Unit {0}) wires
 any_wire wires = λ k d lt. tt
 
 pub first_of_all : (wires : List Wire) (e x : ℕ) → x < 256 → first_at x (wires_of wires e) ≡ wire_at wires e x
+unfolding wires_of
 first_of_all wires e x lt = first_from wires e 256 0 x (any_wire wires) (omega arith) (omega (arith, lt))
 
 -- the outputs have 8 bits

@@ -157,7 +157,7 @@ abbrev pub wires_from : List Wire → ℕ → ℕ → ℕ → List Wire
 wires_from wires e zero output = []
 wires_from wires e (suc n) output = with_wire (wire_at wires e output) (wires_from wires e n (suc output))
 
-abbrev pub wires_of : List Wire → ℕ → List Wire
+unfoldable pub wires_of : List Wire → ℕ → List Wire
 wires_of wires e = wires_from wires e 256 0
 
 -- what stands at the end of a wire
@@ -218,11 +218,14 @@ tag_test =
     apply And 1
     (two (apply Eq 1 (two (field EthType) (lit 0x8100 16))) (apply Lt 1 (two (lit 17 16) (field MetaLen))))
 
+-- whether the packet is too short for an Ethernet header
+abbrev pub short_test : ExprTree
+short_test = apply Lt 1 (two (field MetaLen) (lit 14 16))
+
 -- a field's own value where its header is there, and else 0
 abbrev pub kept_where : Header → Field → ℕ → ExprTree
 kept_where Meta f width = field f
-kept_where Ethernet f width =
-    apply Select width (three (apply Lt 1 (two (field MetaLen) (lit 14 16))) (lit 0 width) (field f))
+kept_where Ethernet f width = apply Select width (three short_test (lit 0 width) (field f))
 kept_where Vlan f width = apply Select width (three tag_test (field f) (lit 0 width))
 kept_where Ip f width = apply Select width (three (field HasIp) (field f) (lit 0 width))
 kept_where Tcp f width = apply Select width (three (field HasTcp) (field f) (lit 0 width))
