@@ -22,13 +22,13 @@ use Rattle.gallium_cli.specs.declared.status.Status.TheVariants as statuses
 use Rattle.gallium_cli.specs.declared.refusal.Refusal.{Refusal}
 use Rattle.gallium_cli.specs.declared.refusal.Refusal.TheVariants.{Source, LongProgram, Limits, Exceeded, Split, Trace, Schedule}
 use Rattle.gallium_cli.specs.declared.refusal.Refusal.TheVariants.{TooLong, ReadFault, NoMemory, Pcap, Report, Audit}
-use Rattle.gallium_cli.specs.Words.{Splitting, Served, Within, Spelled, Run, Audit as Audited}
+use Rattle.gallium_cli.specs.Words.{Splitting, ServerAlone, Within, Spelled, Run, Audit as Audited}
 use Rattle.gallium_cli.specs.Roles.{Role, source, program, limits, legal_split, true_report, trace, schedule, capture}
 use Rattle.gallium_cli.specs.Roles.{IsShort, IsGood, AreLimits, Gate, File, Choice, SplitFile, ReportFile, gates_of}
 use Rattle.gallium_cli.specs.Roles.{plan_files, plan_gates, given_gates, split_gates, event_gates, size_of, IsCaptured}
 use Rattle.gallium_cli.specs.Answers.{IsInput, IsOnlySource, IsProgram, IsPlan, IsGivenSplit, IsSplitBy, IsTraffic}
 use Rattle.gallium_cli.specs.Answers.{IsAuditInput, IsTrueFile}
-use Rattle.gallium_cli.specs.Loads.{GoesOn, IsUnread, IsFileRefused, IsLoaded}
+use Rattle.gallium_cli.specs.Loads.{GoesOn, IsUnread, IsFileRefused, AreBytesOf}
 use Rattle.gallium_cli.specs.Causes.{IsRefusedAt, IsPassed, AllPassed, IsFirstRefused, IsUnchosen}
 
 -- ## One file
@@ -52,7 +52,7 @@ told_text P bytes (Some content) same holds = subst P same holds
 
 -- a file whose text isn't read is refused
 pub unread_refused : (refusal : Refusal) (role : Role) (bytes name : List ℕ) (f f' : FilesState)
-    → IsLoaded bytes name (size_of role) f → IsUnread refusal role bytes → IsFileRefused refusal role name f f'
+    → AreBytesOf bytes name (size_of role) f → IsUnread refusal role bytes → IsFileRefused refusal role name f f'
 unread_refused (Source fault) source bytes name f f' loaded unread =
     (unread.0, told_text _ bytes (f.told name) loaded.1 ((loaded.0, unread.1), unread.2))
 unread_refused (Source fault) program bytes name f f' loaded unread =
@@ -84,8 +84,8 @@ pub read_refused : {A : Type 0} (result : Result A Refusal) (role : Role) (bytes
     → IfErr result (λ refusal. IsUnread refusal role bytes)
     → IfErr result (λ refusal. IsFileRefused refusal role name f f')
 read_refused result role bytes into name max f f' same size gives unread =
-    let loaded : IsLoaded bytes name (size_of role) f =
-    subst (λ (n : ℕ). IsLoaded bytes name n f) size (subst (λ (b : List ℕ). IsLoaded b name max f) (sym same) gives) in
+    let loaded : AreBytesOf bytes name (size_of role) f =
+    subst (λ (n : ℕ). AreBytesOf bytes name n f) size (subst (λ (b : List ℕ). AreBytesOf b name max f) (sym same) gives) in
     IfErr-weaker result (λ refusal. IsUnread refusal role bytes) (λ refusal. IsFileRefused refusal role name f f')
     (λ refusal here. unread_refused refusal role bytes name f f' loaded here) unread
 
@@ -277,7 +277,7 @@ passed_split p f g allowed split given =
 -- what a split goes through that is found
 pub split_passed : (by : Splitting) (s : List ℕ) (f : FilesState) (m : Tree) (split : List Part) (writeback : ℕ)
     → IsSplitBy by f.told s m split writeback → AllPassed (split_gates s by) f
-split_passed Served s f m split writeback found = (passed_program s f m found.0.source found.0.bounded.few, tt)
+split_passed ServerAlone s f m split writeback found = (passed_program s f m found.0.source found.0.bounded.few, tt)
 split_passed (Within l shrink) s f m split writeback (allowed, plan, choice, rows) = (
   passed_program s f m plan.program.source plan.program.bounded.few,
   (passed_limits l f allowed plan.limits, ((m, allowed, split, plan, choice.chosen), tt)),
