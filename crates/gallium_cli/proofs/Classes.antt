@@ -85,9 +85,11 @@ same_more told es ms x m are before d e y z there here same =
     at_end : (n : ℕ) → n ≡ length es → slice_get (ms ++ m ∷ []) n ≡ Some m
     at_end n at =
         subst (λ k. slice_get (ms ++ m ∷ []) k ≡ Some m) (are.count ∙ sym at) (get_last ms m)
+
     is_there : (n : ℕ) (w : Element) → slice_get es n ≡ Some w → (k : Tree) × (slice_get ms n ≡ Some k)
     is_there n w one =
         let lt = slice_get_within es n w one in let count = are.count in get_within ms n (omega arith)
+
     by_place : ((d ≡ length es) × (x ≡ y)) ⊎ (slice_get es d ≡ Some y)
         → ((e ≡ length es) × (x ≡ z)) ⊎ (slice_get es e ≡ Some z)
         → slice_get (ms ++ m ∷ []) d ≡ slice_get (ms ++ m ∷ []) e

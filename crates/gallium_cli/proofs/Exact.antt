@@ -435,7 +435,6 @@ open_refused refusal (ReportFile s t r) f f' laws (m, packets, asked, good) (m',
     let same = same_report f.told s t m m' packets packets' asked found in
     good_refused refusal (true_report m' packets') r f f' laws
     (subst (λ (role : Role). IsSomeAnd (f.told r) (IsGood role)) same good) refused
-
 open_refused refusal (Composed w) f f' laws (chain, ms, asked, told, none) (found, wired, why) =
     let same = one_chain laws f.told w chain found asked wired in
     open_chain refusal f f' found ms laws (subst (λ (c : ChainTold). AreToldClasses f.told c ms) same told)
@@ -455,7 +454,6 @@ shut_unpassed (ReportFile s t r) status f laws (m, packets, asked, shut) (m', pa
     let same = same_report f.told s t m m' packets packets' asked found in
     good_not_refused (true_report m' packets') status (f.told r) passed
     (subst (λ (role : Role). IsSomeAnd (f.told r) (IsRefusedAs role status)) same shut)
-
 shut_unpassed (Composed w) status f laws (chain, asked, shut) (found, ms, wired, are, none) =
     let same = one_chain laws f.told w chain found asked wired in
     unshut_chain chain ms status f laws
@@ -529,7 +527,7 @@ answer_passed text (Audited s t r) f p p' (m, packets, run, found, told, printed
     audit_passed s t r f m packets run found told
 answer_passed text (Chained w) f p p' (chain, ms, wired, are, one) = (
   if_told (λ content. (length content ≤ size_of wiring) × IsChainText content chain) (IsGood wiring)
-  (λ content h. (h.0, (chain, h.1))) (f.told w) wired.text,
+      (λ content h. (h.0, (chain, h.1))) (f.told w) wired.text,
   ((chain, ms, wired, are, one.unrefused), tt),
 )
 answer_passed text (Gen seed count) f p p' answer = tt

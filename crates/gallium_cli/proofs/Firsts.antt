@@ -105,11 +105,10 @@ files_new es x is =
 
 files_front : (es more : List Element) → (rest : List (List ℕ)) × (class_files (es ++ more) ≡ class_files es ++ rest)
 files_front es more =
-    let front = firsts_front (classes_of es) (classes_of more) in
-    (
+    let front = firsts_front (classes_of es) (classes_of more) in (
       map file_of front.0,
       ap (λ ws. map file_of (firsts ws)) (map-append (λ (e : Element). e.class) es more)
-      ∙ ap (map file_of) front.1 ∙ map-append file_of (firsts (classes_of es)) front.0,
+          ∙ ap (map file_of) front.1 ∙ map-append file_of (firsts (classes_of es)) front.0,
     )
 
 -- the files of the first elements come first

@@ -52,7 +52,9 @@ pub enum Form<'a> {
         report: &'a str,
     },
     /// Prints a chain of middleboxes as one source.
-    Chain { wiring: &'a str },
+    Chain {
+        wiring: &'a str,
+    },
     /// Replays so many packets that are made from a seed, and prints a summary.
     Gen {
         seed: u64,

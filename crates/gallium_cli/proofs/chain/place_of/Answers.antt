@@ -8,8 +8,7 @@ use Rattle.gallium_cli.proofs.chain.place_of.Goals as goal
 
 pub returns-then-eq : goal.returns-then-eq
 returns-then-eq c =
-    let x = c.index-elements-place in
-    (
+    let x = c.index-elements-place in (
       x.result,
       slice_get_read c.args.elements.now _ c.loop-place.place x.result refl c.loop-place-test.true x.is,
       sym c.as_slice.ensures ∙ (slice_eq-Decides Decides-eqb _ _ _ c.eq.ensures).0 c.if-eq.true,
