@@ -49,7 +49,8 @@ use Rattle.gallium_cli.proofs.Untrue.{cause_report, same_report}
 use Rattle.gallium_cli.proofs.Walks.{walks, at_gates}
 use Rattle.gallium_cli.proofs.Exact.{no_limits, no_trace, no_schedule, open_refused, shut_unpassed, passed_unshut}
 use Rattle.gallium_cli.proofs.Exact.{answer_passed, failed_passed, unwritten_fault}
-use Rattle.gallium_cli.proofs.Exact.{good_class, good_classes, good_not_refused, told_good, classes_good, classes_unshut}
+use Rattle.gallium_cli.proofs.Exact.{good_class, good_classes, good_not_refused, told_good, classes_unshut}
+use Rattle.gallium_cli.proofs.Classes.{classes_good}
 use Rattle.gallium_cli.proofs.Exact.{one_chain, one_classes}
 
 -- a status and what err received, for this cause

@@ -2,9 +2,10 @@
 use Rattle.std.proofs.Common.{◌≡◌, ◌<◌, ◌≤◌, ◌+◌, ◌^◌, ℕ, suc, zero, List, [], ◌∷◌, ◌++◌, ◌⊎◌, inl, inr, map, length, take, get_or}
 use Rattle.std.proofs.Common.{Option, Some, None, IfSome, refl, sym, ap, subst, ◌∙◌, append_assoc, length-append, arith}
 use Rattle.std.proofs.Common.{Result, Ok, Err, IfOk, IfErr}
-use Rattle.std.specs.Prelude.{slice_get, OnOk}
-use Rattle.std.specs.List.{All}
-use Rattle.std.proofs.lemmas.List.Elements.{All-append, All-nil, All-cons, All-head, All-tail, All-filter, All-map}
+use Rattle.std.specs.Prelude.{Bool, true, false, slice_get, filter, not, if◌then◌else◌, OnOk}
+use Rattle.std.specs.List.{All, AllByRecursion as Each}
+use Rattle.std.specs.Str.{bytes_eq}
+use Rattle.std.proofs.lemmas.List.Elements.{All-append, All-cons, All-nil}
 use Rattle.std.proofs.lemmas.List.{take_more, length-take, map-append}
 use Rattle.std.proofs.lemmas.Option.{same_Some, slice_get_within, slice_get_read}
 use Rattle.gal_io.specs.Files.{FilesState}
@@ -45,10 +46,13 @@ got_more (z ∷ xs) y x (suc k) there = elim (got_more xs y x k there) [
   | inr before ↦ inr before
 ]
 
-get_within : {X : Type 0} (xs : List X) (k : ℕ) → k < length xs → (x : X) × (slice_get xs k ≡ Some x)
-get_within [] k lt = absurd (omega arith)
-get_within (x ∷ xs) zero lt = (x, refl)
-get_within (x ∷ xs) (suc k) lt = get_within xs k (omega arith)
+-- an element at a place has its middlebox at the same place of as many
+pub same_place : (es : List Element) (ms : List Tree) (e : ℕ) (x : Element) → length ms ≡ length es
+    → slice_get es e ≡ Some x → (m : Tree) × (slice_get ms e ≡ Some m)
+same_place [] ms e x count there = cc
+same_place (y ∷ es) [] e x count there = absurd (omega arith)
+same_place (y ∷ es) (m ∷ ms) zero x count there = (m, refl)
+same_place (y ∷ es) (m ∷ ms) (suc e) x count there = same_place es ms e x (omega arith) there
 
 -- ## One more middlebox
 
@@ -87,8 +91,7 @@ same_more told es ms x m are before d e y z there here same =
         subst (λ k. slice_get (ms ++ m ∷ []) k ≡ Some m) (are.count ∙ sym at) (get_last ms m)
 
     is_there : (n : ℕ) (w : Element) → slice_get es n ≡ Some w → (k : Tree) × (slice_get ms n ≡ Some k)
-    is_there n w one =
-        let lt = slice_get_within es n w one in let count = are.count in get_within ms n (omega arith)
+    is_there n w one = same_place es ms n w are.count one
 
     by_place : ((d ≡ length es) × (x ≡ y)) ⊎ (slice_get es d ≡ Some y)
         → ((e ≡ length es) × (x ≡ z)) ⊎ (slice_get es e ≡ Some z)
@@ -133,37 +136,56 @@ new_class told es ms x m are none spelled =
 
 -- ## Files that are good
 
-all_firsts : (P : List ℕ → Type 0) (ws : List (List ℕ)) → All P ws → All P (firsts ws)
-all_firsts P [] all = All-nil P
-all_firsts P (w ∷ ws) all =
-    All-cons P w _ (All-head P w ws all) (All-filter _ P (firsts ws) (all_firsts P ws (All-tail P w ws all)))
+-- what holds of the files of all elements holds of those of their classes
+each_if : (P : List ℕ → Type 0) (b : Bool) (w : List ℕ) (ws : List (List ℕ)) → P w → Each P ws
+    → Each P (if b then w ∷ ws else ws)
+each_if P true w ws one rest = (one, rest)
+each_if P false w ws one rest = rest
 
-all_classes : (P : List ℕ → Type 0) (es : List Element) → ((e : ℕ) (x : Element) → slice_get es e ≡ Some x → P x.class)
-    → All P (map (λ (e : Element). e.class) es)
-all_classes P [] each = All-nil P
-all_classes P (x ∷ es) each =
-    All-cons P x.class _ (each 0 x refl) (all_classes P es (λ e y there. each (suc e) y there))
+each_filter : (P : List ℕ → Type 0) (keep : List ℕ → Bool) (ws : List (List ℕ)) → Each P ws → Each P (filter keep ws)
+each_filter P keep [] all = tt
+each_filter P keep (w ∷ ws) all = each_if P (keep w) w (filter keep ws) all.0 (each_filter P keep ws all.1)
 
-if_good : (told : Option (List ℕ)) (m : Tree) → IfSome told (λ text. (length text ≤ size_of source) × IsOnlySource text m)
+each_first : (P : List ℕ → Type 0) (ws : List (List ℕ)) → Each P ws → Each P (firsts ws)
+each_first P [] all = tt
+each_first P (w ∷ ws) all =
+    (all.0, each_filter P (λ v. not (bytes_eq v w)) (firsts ws) (each_first P ws all.1))
+
+each_class : (P : List ℕ → Type 0) (es : List Element)
+    → ((e : ℕ) (x : Element) → slice_get es e ≡ Some x → P x.class) → Each P (map (λ (e : Element). e.class) es)
+each_class P [] all = tt
+each_class P (x ∷ es) all = (all 0 x refl, each_class P es (λ e y. all (suc e) y))
+
+each_file : (P : List ℕ → Type 0) (ws : List (List ℕ)) → Each (λ w. P (file_of w)) ws → Each P (map file_of ws)
+each_file P [] all = tt
+each_file P (w ∷ ws) all = (all.0, each_file P ws all.1)
+
+pub each_class_file : (P : List ℕ → Type 0) (es : List Element)
+    → ((e : ℕ) (x : Element) → slice_get es e ≡ Some x → P (file_of x.class)) → Each P (class_files es)
+each_class_file P es all =
+    each_file P (firsts (map (λ (e : Element). e.class) es))
+    (each_first (λ w. P (file_of w)) (map (λ (e : Element). e.class) es) (each_class (λ w. P (file_of w)) es all))
+
+-- the files of middleboxes that elements have are good, where they are told
+may_tell_good : (told : Option (List ℕ)) (m : Tree) → IfSome told (λ text. (length text ≤ size_of source) × IsOnlySource text m)
     → IfSome told (IsGood source)
-if_good None m h = tt
-if_good (Some text) m h = (h.0, (m, h.1.source))
+may_tell_good None m may = tt
+may_tell_good (Some text) m may = (may.0, (m, may.1.source))
 
-classes_good : (told : List ℕ → Option (List ℕ)) (es : List Element) (ms : List Tree) → AreClasses told es ms
-    → All (λ name. IfSome (told name) (IsGood source)) (class_files es)
+pub classes_good : (told : List ℕ → Option (List ℕ)) (es : List Element) (ms : List Tree) → AreClasses told es ms
+    → Each (λ name. IfSome (told name) (IsGood source)) (class_files es)
 classes_good told es ms are =
-    All-map (λ name. IfSome (told name) (IsGood source)) file_of _ (all_firsts (λ class. IfSome (told (file_of class)) (IsGood source)) _ (all_classes _ es (λ e x there.
-    let lt = slice_get_within es e x there in let count = are.count in
-    let m = get_within ms e (omega arith) in
-    if_good (told (file_of x.class)) m.0 (are.each e x m.0 there m.1))))
+    each_class_file (λ name. IfSome (told name) (IsGood source)) es
+    (λ e x there.
+    let m = same_place es ms e x are.count there in
+    may_tell_good (told (file_of x.class)) m.0 (are.each e x m.0 there m.1))
 
-first_behind : {A : Type 0} (IsBefore IsAt : A → Type 0) (before : List A) (x : A) (rest : List A) → All IsBefore before
+-- the first that isn't good, behind those that are
+first_behind : {A : Type 0} (IsBefore IsAt : A → Type 0) (before : List A) (x : A) (rest : List A) → Each IsBefore before
     → IsAt x → IsFirst IsBefore IsAt (before ++ x ∷ rest)
 first_behind IsBefore IsAt [] x rest all here = inl here
-first_behind IsBefore IsAt (y ∷ before) x rest all here = inr (
-  All-head IsBefore y before all,
-  first_behind IsBefore IsAt before x rest (All-tail IsBefore y before all) here,
-)
+first_behind IsBefore IsAt (y ∷ before) x rest all here =
+    inr (all.0, first_behind IsBefore IsAt before x rest all.1 here)
 
 next_refused : (told : List ℕ → Option (List ℕ)) (IsAt : List ℕ → Type 0) (es : List Element) (n : ℕ) (ms : List Tree)
     (name : List ℕ) → AreClasses told (take n es) ms

@@ -58,6 +58,7 @@ use Rattle.gallium_cli.specs.Promises.{IsRefusedAs, IsOpen, AllOpen, IsShut, IsF
 use Rattle.gallium_cli.proofs.Choices.{same_role, refused_unchosen, open_over, over_status}
 use Rattle.gallium_cli.proofs.Unkept.{Laws, bad_split, exact_split}
 use Rattle.gallium_cli.proofs.Untrue.{exact_report, same_report}
+use Rattle.gallium_cli.proofs.Classes.{classes_good, each_class_file, same_place}
 use Rattle.gallium_cli.proofs.Walks.{walks}
 use Rattle.gallium_cli.proofs.Files.{passed_source, passed_trace, passed_capture, split_passed, traffic_passed}
 use Rattle.gallium_cli.proofs.Files.{passed_both, audit_passed}
@@ -261,44 +262,6 @@ pub one_classes : (told : List ℕ → Option (List ℕ)) (chain : ChainTold) (m
     → AreToldClasses told chain ms → AreClasses told chain.elements ns → ms ≡ ns
 one_classes told chain ms ns asked found = one_list told chain.elements ms ns asked.count found.count asked.each found.each
 
--- what holds of the files of all elements holds of those of their classes
-each_if : (P : List ℕ → Type 0) (b : Bool) (w : List ℕ) (ws : List (List ℕ)) → P w → Each P ws
-    → Each P (if b then w ∷ ws else ws)
-each_if P true w ws one rest = (one, rest)
-each_if P false w ws one rest = rest
-
-each_filter : (P : List ℕ → Type 0) (keep : List ℕ → Bool) (ws : List (List ℕ)) → Each P ws → Each P (filter keep ws)
-each_filter P keep [] all = tt
-each_filter P keep (w ∷ ws) all = each_if P (keep w) w (filter keep ws) all.0 (each_filter P keep ws all.1)
-
-each_first : (P : List ℕ → Type 0) (ws : List (List ℕ)) → Each P ws → Each P (firsts ws)
-each_first P [] all = tt
-each_first P (w ∷ ws) all =
-    (all.0, each_filter P (λ v. not (bytes_eq v w)) (firsts ws) (each_first P ws all.1))
-
-each_class : (P : List ℕ → Type 0) (es : List Element)
-    → ((e : ℕ) (x : Element) → slice_get es e ≡ Some x → P x.class) → Each P (map (λ (e : Element). e.class) es)
-each_class P [] all = tt
-each_class P (x ∷ es) all = (all 0 x refl, each_class P es (λ e y. all (suc e) y))
-
-each_file : (P : List ℕ → Type 0) (ws : List (List ℕ)) → Each (λ w. P (file_of w)) ws → Each P (map file_of ws)
-each_file P [] all = tt
-each_file P (w ∷ ws) all = (all.0, each_file P ws all.1)
-
-each_class_file : (P : List ℕ → Type 0) (es : List Element)
-    → ((e : ℕ) (x : Element) → slice_get es e ≡ Some x → P (file_of x.class)) → Each P (class_files es)
-each_class_file P es all =
-    each_file P (firsts (map (λ (e : Element). e.class) es))
-    (each_first (λ w. P (file_of w)) (map (λ (e : Element). e.class) es) (each_class (λ w. P (file_of w)) es all))
-
--- an element at a place has its middlebox at the same place of as many
-same_place : (es : List Element) (ms : List Tree) (e : ℕ) (x : Element) → length ms ≡ length es
-    → slice_get es e ≡ Some x → (m : Tree) × (slice_get ms e ≡ Some m)
-same_place [] ms e x count there = cc
-same_place (y ∷ es) [] e x count there = absurd (omega arith)
-same_place (y ∷ es) (m ∷ ms) zero x count there = (m, refl)
-same_place (y ∷ es) (m ∷ ms) (suc e) x count there = same_place es ms e x (omega arith) there
-
 tells_good : (told : Option (List ℕ)) (m : Tree) → Tells told m → IsSomeAnd told (IsGood source)
 tells_good None m tells = tells
 tells_good (Some text) m tells = (tells.0, (m, tells.1))
@@ -348,19 +311,6 @@ open_chain refusal f f' chain ms laws asked none (inr (ns, are, why)) =
     let same = one_classes f.told chain ms ns asked are in
     composed_refused refusal chain ns laws
     (subst (λ (k : List Tree). composing.IsUnrefused (connected chain k)) same none) why
-
--- the files of middleboxes that elements have are good, where they are told
-may_tell_good : (told : Option (List ℕ)) (m : Tree) → MayTell told m → IfSome told (IsGood source)
-may_tell_good None m may = tt
-may_tell_good (Some text) m may = (may.0, (m, may.1.source))
-
-pub classes_good : (told : List ℕ → Option (List ℕ)) (es : List Element) (ms : List Tree) → AreClasses told es ms
-    → Each (λ name. IfSome (told name) (IsGood source)) (class_files es)
-classes_good told es ms are =
-    each_class_file (λ name. IfSome (told name) (IsGood source)) es
-    (λ e x there.
-    let m = same_place es ms e x are.count there in
-    may_tell_good (told (file_of x.class)) m.0 (are.each e x m.0 there m.1))
 
 -- none of them is refused for what it holds
 pub classes_unshut : (told : List ℕ → Option (List ℕ)) (names : List (List ℕ)) (status : Status)
