@@ -35,10 +35,10 @@ use Rattle.gallium_cli.specs.declared.refusal.Uncomposed.{Uncomposed as Told}
 use Rattle.gallium_cli.specs.Call.{work_of}
 use Rattle.gallium_cli.specs.Lines.{status_of}
 use Rattle.gallium_cli.specs.Words.{Chain}
-use Rattle.gallium_cli.specs.Roles.{wiring, size_of, gates_of}
+use Rattle.gallium_cli.specs.Roles.{source, wiring, size_of, gates_of}
 use Rattle.gallium_cli.specs.Loads.{GoesOn, IsFileRefused, IsUnread, raised_by}
 use Rattle.gallium_cli.specs.Chains.{AreClasses, IsFirstClassRefused, IsOneSource, IsUncomposed, IsWired}
-use Rattle.gallium_cli.specs.Chains.{AreAllNames, AreNames, class_files, connected, uncomposed_of}
+use Rattle.gallium_cli.specs.Chains.{AreAllNames, AreNames, class_files, class_refusal, connected, uncomposed_of}
 use Rattle.gallium_cli.specs.Answers.{IsAnswer}
 use Rattle.gallium_cli.specs.Causes.{CountsFaults, HasCause, IsFirstRefused, ReadsAll, ReadsSome, reads_after}
 use Rattle.gallium_cli.proofs.Counted.{IsNoFileFault, gate_counts, goes_further, goes_still}
@@ -60,6 +60,17 @@ chain_unread fault text some is exact found = (
     only = λ other here refused. elim (exact other here refused) [ inl same ↦ sym same | inr none ↦ absurd (some none) ];
   },
 )
+
+-- ## Files of classes
+
+-- what is told of the file of a class leaves the files as they are
+pub class_goes : (refusal : Refusal) (name file : List ℕ) (f f' : FilesState) → IsFileRefused refusal source file f f'
+    → GoesOn (status_of refusal) f f' → GoesOn (status_of (class_refusal refusal name)) f f'
+class_goes (refusals.Source fault) name file f f' refused goes = goes
+class_goes (refusals.TooLong blamed) name file f f' refused goes = goes
+class_goes (refusals.ReadFault blamed) name file f f' refused goes = goes
+class_goes refusals.NoMemory name file f f' refused goes = goes
+class_goes _ name file f f' refused goes = absurd refused
 
 -- ## The composed source
 
