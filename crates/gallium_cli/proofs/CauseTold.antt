@@ -213,7 +213,7 @@ cause_file (Chain found) wiring name cause result f f' e e' laws why refused tol
     let same = same_told (IsBadChain found) cause (Chain found) wiring (same_in_chain cause found) (f.told name) why refused.1 in
     line_of_cause (Chain found) cause result e e' same told
 cause_file (TooLong blamed) role name cause result f f' e e' laws why refused told =
-    absurd (not_long laws cause role (f.told name) why refused.1)
+    absurd (not_long laws cause role (f.told name) why refused.1.0)
 cause_file (ReadFault blamed) role name cause result f f' e e' laws why refused told =
     line_of_fault (ReadFault blamed) cause result e e' told tt
 cause_file NoMemory role name cause result f f' e e' laws why refused told = line_of_fault NoMemory cause result e e' told tt
@@ -278,7 +278,7 @@ class_source : (told : Option (List ℕ)) (cause : Refusal) (name file : List �
     → cause ≡ ClassSource found file
 class_source None cause name file found why is bad = absurd why
 class_source (Some text) (ClassSource fault other) name file found why is bad =
-    let faults : fault ≡ found = bad.1.only fault why.1 why.3 in
+    let faults : fault ≡ found = bad.1.only fault why.1.0 why.1.2 in
     let files : other ≡ file = why.0 ∙ sym is in
     ap (λ (x : TextError). ClassSource x other) faults ∙ ap (ClassSource found) files
 class_source (Some text) _ name file found why is bad = absurd why
@@ -295,9 +295,9 @@ class_line : (refusal : Refusal) (name : List ℕ) (cause : Refusal) (result : S
     → IsTold refusal result e e' → IsLine cause result e e'
 class_line (ClassSource found file) name cause result f f' e e' laws why refused told =
     line_of_cause (ClassSource found file) cause result e e'
-    (class_source (f.told name) cause name file found why refused.0 refused.2) told
+    (class_source (f.told name) cause name file found why refused.0 refused.1.1) told
 class_line (ClassTooLong file) name cause result f f' e e' laws why refused told =
-    absurd (class_not_long laws cause name (f.told name) why refused.1)
+    absurd (class_not_long laws cause name (f.told name) why refused.1.0)
 class_line (ClassReadFault file) name cause result f f' e e' laws why refused told =
     line_of_fault (ClassReadFault file) cause result e e' told tt
 class_line NoMemory name cause result f f' e e' laws why refused told = line_of_fault NoMemory cause result e e' told tt

@@ -1,7 +1,7 @@
 -- Which status told files and limits lead to.
 use Rattle.std.proofs.Common.{◌≡◌, ◌<◌, ℕ, List, [], ◌∷◌, length, Option, Some, None, IfSome, IsSomeAnd, subst, sym}
 use Rattle.std.proofs.Common.{inl, inr, arith, refl, ap, ◌∙◌, ◌≤◌, zero, suc, Bool, true, false, map, slice_get}
-use Rattle.std.specs.Prelude.{filter, not, if◌then◌else◌}
+use Rattle.std.specs.Prelude.{◌⊎◌, filter, not, if◌then◌else◌}
 use Rattle.std.specs.List.{AllByRecursion as Each}
 use Rattle.std.specs.Str.{bytes_eq}
 use Rattle.element_lang.specs.Accepted.{IsSource}
@@ -167,7 +167,7 @@ good_refused (Audit untruth) (true_report m packets) name f f' laws good refused
     good_not_bad (true_report m packets) (f.told name) good (bad_reports (Audit untruth) m packets (f.told name) refused)
 good_refused (Chain fault) wiring name f f' laws good refused =
     good_not_bad wiring (f.told name) good (bad_chain fault (f.told name) refused.1)
-good_refused (TooLong blamed) role name f f' laws good refused = good_not_long role (f.told name) good refused.1
+good_refused (TooLong blamed) role name f f' laws good refused = good_not_long role (f.told name) good refused.1.0
 good_refused (ReadFault blamed) role name f f' laws good refused = tt
 good_refused NoMemory role name f f' laws good refused = tt
 good_refused _ role name f f' laws good refused = absurd refused
@@ -214,7 +214,7 @@ exact_file (Audit untruth) (true_report m packets) name status f f' laws bad ref
 exact_file (Chain fault) wiring name status f f' laws bad refused =
     inl (sym (bad_only wiring status (f.told name) bad (bad_chain fault (f.told name) refused.1)).1)
 exact_file (TooLong blamed) role name status f f' laws bad refused =
-    inl (sym (long_only role status (f.told name) bad refused.1))
+    inl (sym (long_only role status (f.told name) bad refused.1.0))
 exact_file (ReadFault blamed) role name status f f' laws bad refused = inr tt
 exact_file NoMemory role name status f f' laws bad refused = inr tt
 exact_file _ role name status f f' laws bad refused = absurd refused
@@ -280,7 +280,7 @@ pub good_class : (refusal : Refusal) (name : List ℕ) (f f' : FilesState) → L
     → IsSomeAnd (f.told name) (IsGood source) → IsClassRefused refusal name f f' → IsEarlyFault (status_of refusal)
 good_class (ClassSource fault file) name f f' laws good refused =
     good_refused (Source fault) source name f f' laws good refused.1
-good_class (ClassTooLong file) name f f' laws good refused = good_not_long source (f.told name) good refused.1
+good_class (ClassTooLong file) name f f' laws good refused = good_not_long source (f.told name) good refused.1.0
 good_class (ClassReadFault file) name f f' laws good refused = tt
 good_class NoMemory name f f' laws good refused = tt
 good_class _ name f f' laws good refused = absurd refused
@@ -337,7 +337,7 @@ exact_class : (refusal : Refusal) (name : List ℕ) (status : Status) (f f' : Fi
 exact_class (ClassSource fault file) name status f f' laws bad refused =
     exact_file (Source fault) source name status f f' laws bad refused.1
 exact_class (ClassTooLong file) name status f f' laws bad refused =
-    inl (sym (long_only source status (f.told name) bad refused.1))
+    inl (sym (long_only source status (f.told name) bad refused.1.0))
 exact_class (ClassReadFault file) name status f f' laws bad refused = inr tt
 exact_class NoMemory name status f f' laws bad refused = inr tt
 exact_class _ name status f f' laws bad refused = absurd refused

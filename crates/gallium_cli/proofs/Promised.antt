@@ -219,7 +219,7 @@ no_named_class _ names f f' of h = of
 long_class : (name : List ℕ) (names : List (List ℕ)) (f f' : FilesState) → IsFirstClassRefused (ClassTooLong name) names f f'
     → Rose f.overlong f'.overlong × IsOneOf names f'.overlong_name
 long_class name [] f f' h = absurd h
-long_class name (file ∷ names) f f' (inl h) = (h.3, inl h.2)
+long_class name (file ∷ names) f f' (inl h) = (h.1.2, inl h.1.1)
 long_class name (file ∷ names) f f' (inr later) =
     let rest = long_class name names f f' later.1 in (rest.0, inr rest.1)
 
@@ -227,7 +227,7 @@ long_rose : (refusal : Refusal) (gates : List Gate) (f f' : FilesState)
     → IsTooLong (status_of refusal) → IsFirstRefused refusal gates f f'
     → Rose f.overlong f'.overlong × BlamesIn f.told gates f'.overlong_name
 long_rose (TooLong name) [] f f' is h = absurd h
-long_rose (TooLong name) (File file role ∷ gates) f f' is (inl h) = (h.3, inl h.2)
+long_rose (TooLong name) (File file role ∷ gates) f f' is (inl h) = (h.1.2, inl h.1.1)
 long_rose (TooLong name) (File file role ∷ gates) f f' is (inr later) =
     let rest = long_rose (TooLong name) gates f f' is later.1 in (rest.0, inr rest.1)
 long_rose (TooLong name) (Choice s l shrink ∷ gates) f f' is (inl (m, allowed, found, never)) = absurd never
@@ -286,7 +286,7 @@ fault_gates = record { done = λ h. h; write = λ h. h; switch = λ h. h; memory
 fault_class : (name : List ℕ) (names : List (List ℕ)) (f f' : FilesState) → IsFirstClassRefused (ClassReadFault name) names f f'
     → Rose f.faults f'.faults × IsOneOf names f'.fault_name
 fault_class name [] f f' h = absurd h
-fault_class name (file ∷ names) f f' (inl h) = (h.2, inl h.1)
+fault_class name (file ∷ names) f f' (inl h) = (h.1.1, inl h.1.0)
 fault_class name (file ∷ names) f f' (inr later) =
     let rest = fault_class name names f f' later.1 in (rest.0, inr rest.1)
 
@@ -294,7 +294,7 @@ fault_rose : (refusal : Refusal) (gates : List Gate) (f f' : FilesState)
     → IsReadFault (status_of refusal) → IsFirstRefused refusal gates f f'
     → Rose f.faults f'.faults × BlamesIn f.told gates f'.fault_name
 fault_rose (ReadFault name) [] f f' is h = absurd h
-fault_rose (ReadFault name) (File file role ∷ gates) f f' is (inl h) = (h.2, inl h.1)
+fault_rose (ReadFault name) (File file role ∷ gates) f f' is (inl h) = (h.1.1, inl h.1.0)
 fault_rose (ReadFault name) (File file role ∷ gates) f f' is (inr later) =
     let rest = fault_rose (ReadFault name) gates f f' is later.1 in (rest.0, inr rest.1)
 fault_rose (ReadFault name) (Choice s l shrink ∷ gates) f f' is (inl (m, allowed, found, never)) = absurd never

@@ -1,7 +1,9 @@
-use Rattle.std.proofs.Common.{IsTrue, subst, sym, ◌∙◌}
+use Rattle.std.proofs.Common.{IsTrue, length, subst, sym, ◌∙◌}
+use Rattle.std.proofs.lemmas.List.Elements.{All-get_or}
+use Rattle.element_lang.specs.Accepted.{HasNames}
 use Rattle.element_lang.specs.View.{tree}
 use Rattle.gallium_cli.proofs.Classes.{is_next, next_known, next_known_files, next_new, next_new_files, next_new_refused}
-use Rattle.gallium_cli.proofs.Classes.{next_new_read, next_new_few}
+use Rattle.gallium_cli.proofs.Classes.{next_new_read, next_new_few, placed_within}
 use Rattle.gallium_cli.proofs.chain.next_class.Goals as goal
 
 pub returns-in-Ok-clause-ok : goal.returns-in-Ok-clause-ok
@@ -10,6 +12,14 @@ returns-in-Ok-clause-ok g c =
     c.as_slice-class.ensures in
     next_known _ c.args.elements.now c.args.known.now c.as_slice-class.result.now c.index-known-place.result _ c.in-Some.place
     next c.requires.known c.in-Some.ensures c.index-known-place.is c.in-Ok.ensures
+
+pub returns-in-Ok-clause-names : goal.returns-in-Ok-clause-names
+returns-in-Ok-clause-names g c =
+    let known = c.args.known.now in
+    let found = c.index-known-place.result in
+    let within = placed_within c.args.elements.now (length known) c.as_slice-class.result.now c.in-Some.place c.in-Some.ensures in
+    let named = All-get_or (λ m. HasNames (tree m)) known c.in-Some.place found within c.requires.names in
+    subst HasNames (sym c.in-Ok.ensures) (subst (λ m. HasNames (tree m)) (sym c.index-known-place.is) named)
 
 pub returns-in-Ok-clause-read : goal.returns-in-Ok-clause-read
 returns-in-Ok-clause-read g c =
