@@ -233,10 +233,10 @@ long_rose (TooLong name) (File file role ∷ gates) f f' is (inr later) =
 long_rose (TooLong name) (Choice s l shrink ∷ gates) f f' is (inl (m, allowed, found, never)) = absurd never
 long_rose (TooLong name) (Choice s l shrink ∷ gates) f f' is (inr later) =
     long_rose (TooLong name) gates f f' is later.1
-long_rose (TooLong name) (SplitFile s l p ∷ gates) f f' is (inl (m, allowed, found, h)) = (h.3, inl h.2)
+long_rose (TooLong name) (SplitFile s l p ∷ gates) f f' is (inl (m, allowed, found, h)) = (h.1.2, inl h.1.1)
 long_rose (TooLong name) (SplitFile s l p ∷ gates) f f' is (inr later) =
     let rest = long_rose (TooLong name) gates f f' is later.1 in (rest.0, inr rest.1)
-long_rose (TooLong name) (ReportFile s t r ∷ gates) f f' is (inl (m, packets, found, h)) = (h.3, inl h.2)
+long_rose (TooLong name) (ReportFile s t r ∷ gates) f f' is (inl (m, packets, found, h)) = (h.1.2, inl h.1.1)
 long_rose (TooLong name) (ReportFile s t r ∷ gates) f f' is (inr later) =
     let rest = long_rose (TooLong name) gates f f' is later.1 in (rest.0, inr rest.1)
 long_rose (TooLong name) (Composed w ∷ gates) f f' is (inl (chain, wired, inl first)) =
@@ -300,10 +300,10 @@ fault_rose (ReadFault name) (File file role ∷ gates) f f' is (inr later) =
 fault_rose (ReadFault name) (Choice s l shrink ∷ gates) f f' is (inl (m, allowed, found, never)) = absurd never
 fault_rose (ReadFault name) (Choice s l shrink ∷ gates) f f' is (inr later) =
     fault_rose (ReadFault name) gates f f' is later.1
-fault_rose (ReadFault name) (SplitFile s l p ∷ gates) f f' is (inl (m, allowed, found, h)) = (h.2, inl h.1)
+fault_rose (ReadFault name) (SplitFile s l p ∷ gates) f f' is (inl (m, allowed, found, h)) = (h.1.1, inl h.1.0)
 fault_rose (ReadFault name) (SplitFile s l p ∷ gates) f f' is (inr later) =
     let rest = fault_rose (ReadFault name) gates f f' is later.1 in (rest.0, inr rest.1)
-fault_rose (ReadFault name) (ReportFile s t r ∷ gates) f f' is (inl (m, packets, found, h)) = (h.2, inl h.1)
+fault_rose (ReadFault name) (ReportFile s t r ∷ gates) f f' is (inl (m, packets, found, h)) = (h.1.1, inl h.1.0)
 fault_rose (ReadFault name) (ReportFile s t r ∷ gates) f f' is (inr later) =
     let rest = fault_rose (ReadFault name) gates f f' is later.1 in (rest.0, inr rest.1)
 fault_rose (ReadFault name) (Composed w ∷ gates) f f' is (inl (chain, wired, inl first)) =
