@@ -126,7 +126,7 @@ pub sent_turned : (x : Given) (stepped : Stepped) (c after : Course) (port : Por
 sent_turned x stepped c after port going so shows sound fewer counted =
     quiet_turned x event.Send stepped c after port port going (keeps_all port) (sound x going.sound) (enough _ _ _ fewer going.spare) counted
     (λ calls st h may. refl)
-    (λ events calls st replay h. (so (whole x) (setup_for x) calls st h, shows (whole x) (setup_for x) (answered x calls) calls st (fits_same x c going.plain going.sound) h))
+    (λ events calls st replay h. (so (whole x) (setup_for x) calls st h, shows (whole x) (setup_for x) (answered x calls) calls st (fits_same x c going.prepared going.sound) h))
 
 -- ## A packet that arrives
 
@@ -144,7 +144,7 @@ module _ (x : Given) (c after : Course) (old new : PortState) (packet : Packet) 
   arriving = here_at list x.packets number _ packet same_list is less at
 
   arrives : IsArrival packet
-  arrives = each_at IsArrival x.packets _ packet going.plain.ready.arrivals arriving
+  arrives = each_at IsArrival x.packets _ packet going.prepared.ready.arrivals arriving
 
   in_trace : length c.fates.items < length x.packets
   in_trace = subst (λ n. n < length x.packets) is (subst (λ l. number < length l) same_list less)

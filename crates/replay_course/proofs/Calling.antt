@@ -30,6 +30,7 @@ pub kept_calls : (code : Code) (old new : PortState) → KeepsCalls old new → 
 kept_calls code old new kept = record {
   loaded = kept.code;
   told = kept.told ∙ same_told old.told;
+  passes = kept.passes;
   journal = kept.journal ∙ sym (append-nil (calls_in old.journal));
   faults = kept.faults;
   formed = tt;
@@ -60,7 +61,7 @@ stays_more a b c one two = record {
 }
 
 pub keeps_all : (port : PortState) → KeepsCalls port port
-keeps_all port = record { code = refl; told = refl; journal = refl; spare = omega arith; faults = refl }
+keeps_all port = record { code = refl; told = refl; passes = refl; journal = refl; spare = omega arith; faults = refl }
 
 one_entry : (journal more : List Entry) (entry : Entry) → is_of_replay entry ≡ true → more ≡ journal ++ entry ∷ []
     → calls_in more ≡ calls_in journal ++ entry ∷ []
@@ -80,6 +81,7 @@ pub finished : (code : Code) (number : ℕ) (packet : Packet) (verdict : Verdict
 finished code number packet verdict old new arrives loaded passes = record {
   loaded = passes.kept.code;
   told = passes.kept.told ∙ same_told_one old.told (CalledUp false number packet (Finished verdict)) (λ told. refl);
+  passes = passes.kept.passes;
   journal = one_entry _ _ _ refl passes.journal;
   faults = passes.faults;
   formed = (tt, tt);
@@ -92,6 +94,7 @@ pub went_up : (code : Code) (number : ℕ) (packet : Packet) (frame : List ℕ) 
 went_up code number packet frame old new arrives loaded passes = record {
   loaded = passes.kept.code;
   told = passes.kept.told ∙ same_told_one old.told (CalledUp false number packet (SentUp frame)) (λ told. refl);
+  passes = passes.kept.passes;
   journal = one_entry _ _ _ refl passes.journal;
   faults = passes.faults;
   formed = (passes.frame code loaded, tt);
@@ -104,6 +107,7 @@ pub came_down : (code : Code) (number : ℕ) (frame : List ℕ) (verdict : Verdi
 came_down code number frame verdict old new loaded framed passes = record {
   loaded = passes.kept.code;
   told = passes.kept.told ∙ same_told_one old.told (CalledDown false number frame (Released verdict)) (λ told. refl);
+  passes = passes.kept.passes;
   journal = one_entry _ _ _ refl passes.journal;
   faults = passes.faults;
   formed = (tt, tt);
@@ -115,6 +119,7 @@ pub commanded : (code : Code) (c : Command) (old new : PortState) → IsCommandO
 commanded code c old new named commands = record {
   loaded = commands.code;
   told = commands.told;
+  passes = commands.passes;
   journal = one_entry _ _ _ refl commands.journal;
   faults = commands.faults;
   formed = (tt, tt);

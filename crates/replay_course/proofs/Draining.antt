@@ -23,7 +23,7 @@ use Rattle.replay_contracts.specs.Given.{Given, IsReady, code_for, setup_for, wh
 use Rattle.replay_contracts.specs.Replay.{HasDrained, HasPicked, IsReplay, answered}
 use Rattle.replay_contracts.specs.declared.job.Stepped.{Stepped}
 use Rattle.replay_course.specs.declared.course.Course.{Course}
-use Rattle.replay_course.specs.Going.{HasRoomNext, HasTurned, IsGoing, IsPlain, IsSound}
+use Rattle.replay_course.specs.Going.{HasTurned, IsGoing, IsPrepared, IsSound, MayCall}
 use Rattle.replay_course.specs.Shown.{IsShown}
 use Rattle.replay_course.specs.UnderWay.{IsDrained, IsDraining, IsOnItsWay, course_left, picked_by}
 use Rattle.replay_course.proofs.Calling.{stays_all, stays_more}
@@ -50,7 +50,7 @@ and_true false c h = refl
 map_length : {X Y : Type 0} (f : X → Y) (xs : List X) (ys : List Y) → map f xs ≡ ys → length xs ≡ length ys
 map_length f xs ys e = sym (length_map f xs) ∙ ap length e
 
-module _ (x : Given) (calls : List Call) (st : State) (c : Course) (plain : IsPlain x) (sound : IsSound x c) (h : IsShown (whole x) calls st c) where
+module _ (x : Given) (calls : List Call) (st : State) (c : Course) (plain : IsPrepared x) (sound : IsSound x c) (h : IsShown (whole x) calls st c) where
   -- the first held output may go, where every command is acknowledged
   known_is : nat_lt c.commit.acked c.commit.done ≡ false → nat_lt c.commit.done c.commit.sent ≡ false → nat_lt c.commit.sent (length (commands c.commit)) ≡ false
       → c.server.version ≡ visible st.batches st.acked
@@ -138,7 +138,7 @@ FewLaw = (s : SplitProgram) (packets : List Packet) (manner : Manner) (calls : L
 
 -- what a course picks
 abbrev pub PickLaw : Given → Course → Option Event → Type 0
-PickLaw x c o = (calls : List Call) (st : State) → IsPlain x → IsSound x c → IsShown (whole x) calls st c → o ≡ next_event (setup_for x) st
+PickLaw x c o = (calls : List Call) (st : State) → IsPrepared x → IsSound x c → IsShown (whole x) calls st c → o ≡ next_event (setup_for x) st
 
 pub none_drained : FirstLaw → (x : Given) (c : Course) (port : PortState) → IsGoing x c port → IsDraining x 0 c port c port
 none_drained first x c port going = record {
@@ -165,8 +165,8 @@ drains_more on_law more_law x count event stepped c mid after old port new drain
       let on = draining.turns events calls st replay shown in
       let now = on.picked.replay in
       let t = turned.turns (events ++ on.more) (calls ++ on.others) on.last now on.shown in
-      let picked_so = sym (picks (calls ++ on.others) on.last draining.going.plain draining.going.sound on.shown) in
-      let after_one = on_law x (events ++ on.more) event (calls ++ on.others) t.one on.last port new draining.going.plain.ready now t.asks t.called in
+      let picked_so = sym (picks (calls ++ on.others) on.last draining.going.prepared draining.going.sound on.shown) in
+      let after_one = on_law x (events ++ on.more) event (calls ++ on.others) t.one on.last port new draining.going.prepared.ready now t.asks t.called in
       let all = more_law x events on.more event (calls ++ on.others) t.one on.last _ port new on.picked picked_so turned.stays.told after_one in
       let same = append_assoc calls on.others t.one in
       let next = step (setup_for x) (answered x ((calls ++ on.others) ++ t.one)) on.last event in
@@ -190,8 +190,8 @@ has_drained law x count c after old new draining picks = record {
       let on = draining.turns events calls st replay shown in
       record {
         on = on;
-        drained = law x events on.more (calls ++ on.others) on.last new draining.going.plain.ready on.picked
-            (sym (picks (calls ++ on.others) on.last draining.going.plain draining.going.sound on.shown));
+        drained = law x events on.more (calls ++ on.others) on.last new draining.going.prepared.ready on.picked
+            (sym (picks (calls ++ on.others) on.last draining.going.prepared draining.going.sound on.shown));
       };
 }
 
@@ -215,7 +215,7 @@ left_falls split stays few falls x count event stepped c mid after old port new 
     let t = turned.turns events calls on.last now on.shown in
     let setup = setup_for x in
     let a = answered x (calls ++ t.one) in
-    let picked_so : next_event setup on.last ≡ Some event = sym (picks calls on.last draining.going.plain draining.going.sound on.shown) in
+    let picked_so : next_event setup on.last ≡ Some event = sym (picks calls on.last draining.going.prepared draining.going.sound on.shown) in
     let may = first_applies (applies setup on.last) drain_order event picked_so in
     let is : on.last ≡ state_of setup a events = stays setup (whole x) x.packets events calls t.one on.last now.answered in
     let less : events_left setup (step setup a on.last event) < events_left setup on.last =
@@ -224,7 +224,7 @@ left_falls split stays few falls x count event stepped c mid after old port new 
     subst (λ n. n < course_left x mid) (sym (left_is x (calls ++ t.one) _ after t.shown))
     (subst (λ n. events_left setup (step setup a on.last event) < n) (sym (left_is x calls on.last mid on.shown)) less)
 
-pub drain_room : FindsRoom → (x : Given) (count : ℕ) (c mid : Course) (old port : PortState) → IsOnItsWay x c old → IsDraining x count c old mid port → HasRoomNext mid port
+pub drain_room : FindsRoom → (x : Given) (count : ℕ) (c mid : Course) (old port : PortState) → IsOnItsWay x c old → IsDraining x count c old mid port → MayCall x mid port
 drain_room room x count c mid old port way draining =
     let on = draining.turns way.events way.under_way.calls way.under_way.st way.under_way.replay way.under_way.shown in
     room x (way.events ++ on.more) (way.under_way.calls ++ on.others) on.last mid port on.picked.replay on.shown draining.going

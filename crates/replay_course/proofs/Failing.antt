@@ -30,6 +30,7 @@ pub keeps_more : (old mid new : PortState) → KeepsCalls old mid → KeepsCalls
 keeps_more old mid new one two = record {
   code = two.code ∙ one.code;
   told = two.told ∙ one.told;
+  passes = two.passes ∙ one.passes;
   journal = two.journal ∙ one.journal;
   spare = let a = one.spare in let b = two.spare in omega arith;
   faults = two.faults ∙ one.faults;

@@ -15,7 +15,7 @@ use Rattle.replay_contracts.specs.Given.{Given, setup_for, whole}
 use Rattle.replay_contracts.specs.Replay.{IsReplay, answered}
 use Rattle.replay_contracts.specs.declared.job.Stepped.{Stepped}
 use Rattle.replay_course.specs.declared.course.Course.{Course}
-use Rattle.replay_course.specs.Going.{HasTurned, IsGoing, IsPlain, most_commands}
+use Rattle.replay_course.specs.Going.{HasTurned, IsGoing, IsPrepared, most_commands}
 use Rattle.replay_course.specs.Shown.{IsShown}
 use Rattle.replay_course.specs.UnderWay.{course_left}
 use Rattle.replay_course.proofs.Draining.{FewLaw, StaysLaw, left_is}
@@ -39,7 +39,7 @@ pub few_commands_in : (x : Given) → IsSplit x.program x.split x.writeback → 
     → length x.packets * most_commands x < 2 ^ 32
 few_commands_in x split few = commands_by _ _ few (few_writes x split)
 
-pub few_events_in : (x : Given) → IsPlain x → length x.packets ≤ most_packets → drain_bound (setup_for x) < 2 ^ 30
+pub few_events_in : (x : Given) → IsPrepared x → length x.packets ≤ most_packets → drain_bound (setup_for x) < 2 ^ 30
 few_events_in x plain few =
     subst (λ n. n < 2 ^ 30) (sym (plain_setup x drain_bound plain)) (events_by _ _ few (few_writes x plain.ready.split))
 

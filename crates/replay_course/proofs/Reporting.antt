@@ -18,7 +18,7 @@ use Rattle.replay_contracts.specs.Given.{Given, setup_for, whole}
 use Rattle.replay_contracts.specs.Promise.{Reports}
 use Rattle.replay_course.specs.declared.course.Course.{Course}
 use Rattle.replay_course.specs.Shown.{IsShown}
-use Rattle.replay_course.specs.Going.{IsPlain, IsSound}
+use Rattle.replay_course.specs.Going.{IsPrepared, IsSound}
 use Rattle.replay_course.specs.Telling.{ShowsParts, is_done, told_run}
 use Rattle.replay_course.proofs.Lists.{length_map}
 
@@ -80,8 +80,8 @@ reported x calls st c old new parts run number h shows is count =
 less_by : (n k : ℕ) → n * k < 2 ^ 32 → 2 ≤ k → n < 2 ^ 32
 less_by n k few two = let same : n ≤ n = omega arith in let twice = mul-le-mul same two in omega arith
 
-pub few_packets : (x : Given) → IsPlain x → length x.packets < 2 ^ 32
+pub few_packets : (x : Given) → IsPrepared x → length x.packets < 2 ^ 32
 few_packets x plain = less_by _ _ plain.few (omega arith)
 
-pub few_fates : (x : Given) (c : Course) → IsPlain x → IsSound x c → length c.fates.items < 2 ^ 32
+pub few_fates : (x : Given) (c : Course) → IsPrepared x → IsSound x c → length c.fates.items < 2 ^ 32
 few_fates x c plain sound = let few = few_packets x plain in let within = sound.within.admitted in omega arith

@@ -152,7 +152,7 @@ few_writes x is =
 
 pub few_updates : (x : Given) (c : Course) (port : PortState) (frame : List ℕ) (s : Served) (server : Runtime) → IsGoing x c port
     → IsServed (server_of c.server) frame s (server_of server) → length s.updates ≤ 4096
-few_updates x c port frame s server going is = enough _ _ _ (served_by x c server frame s going.sound is).few (few_writes x going.plain.ready.split)
+few_updates x c port frame s server going is = enough _ _ _ (served_by x c server frame s going.sound is).few (few_writes x going.prepared.ready.split)
 
 -- the frame is one of those that went up
 pub framed_up : (x : Given) (c : Course) (port : PortState) (j n : ℕ) (frame : List ℕ) → IsGoing x c port
@@ -168,7 +168,7 @@ few_versions version u n k h few two =
 
 -- there are versions left
 pub versions_left : (x : Given) (c : Course) (port : PortState) → IsGoing x c port → c.server.version < 2 ^ 32 - 1
-versions_left x c port going = few_versions _ _ _ (most_commands x) going.sound.within.versions going.plain.few (omega arith)
+versions_left x c port going = few_versions _ _ _ (most_commands x) going.sound.within.versions going.prepared.few (omega arith)
 
 few_commands : (n b up rest k total : ℕ) → n + (up + rest) * k ≤ total → 0 < up → b ≤ k → total < 2 ^ 32 → n + b < 2 ^ 32
 few_commands n b up rest k total h some few all =
@@ -184,4 +184,4 @@ pub commands_left : (x : Given) (c : Course) (port : PortState) (j n : ℕ) (fra
 commands_left x c port j n frame s server going here is =
     let less = slice_get_within c.up.items j (n, frame) here in
     few_commands _ _ (length c.up.items) _ (most_commands x) _ going.sound.within.commands
-    (omega arith) (batch_count s.updates (whole x).writes (served_by x c server frame s going.sound is).few) going.plain.few
+    (omega arith) (batch_count s.updates (whole x).writes (served_by x c server frame s going.sound is).few) going.prepared.few

@@ -27,7 +27,7 @@ use Rattle.replay_contracts.specs.declared.job.Stepped.{Stepped}
 use Rattle.replay_contracts.specs.declared.job.Stepped.TheVariants.{Did, Idle}
 use Rattle.replay_course.specs.Fates as fates_of
 use Rattle.replay_course.specs.declared.course.Course.{Course}
-use Rattle.replay_course.specs.Going.{HasTurned, IsGoing, IsPlain, IsSound, unapplied}
+use Rattle.replay_course.specs.Going.{HasTurned, IsGoing, IsPrepared, IsSound, unapplied}
 use Rattle.replay_course.specs.Shown.{IsShown, taken}
 use Rattle.replay_course.proofs.Calling.{called_stays, keeps_all, kept_calls, kept_stays}
 use Rattle.replay_course.proofs.Lists.{each_at, length_map, none_at_end}
@@ -62,11 +62,11 @@ have_places law setup s packets events calls st h = subst HavePlaces (sym h.run)
 
 -- ## Plain runs
 
-pub plain_setup : {X : Type 0} (x : Given) (f : Setup → X) → IsPlain x → f (setup_for x) ≡ f (setup_of (whole x) x.packets (record { fine = false; merges = true }))
+pub plain_setup : {X : Type 0} (x : Given) (f : Setup → X) → IsPrepared x → f (setup_for x) ≡ f (setup_of (whole x) x.packets (record { fine = false; merges = true }))
 plain_setup x f plain = ap (λ m. f (setup_of (whole x) x.packets m)) plain.manner
 
 -- what fits is what the commit holds to
-pub fits_same : (x : Given) (c : Course) → IsPlain x → IsSound x c → (setup_for x).fits ≡ fits c.commit.writeback
+pub fits_same : (x : Given) (c : Course) → IsPrepared x → IsSound x c → (setup_for x).fits ≡ fits c.commit.writeback
 fits_same x c plain sound = plain_setup x (λ setup. setup.fits) plain ∙ ap fits (sym sound.writeback)
 
 -- ## Events that call for no packet and no command
@@ -80,7 +80,7 @@ pub quiet_turned : (x : Given) (ev : Event) (stepped : Stepped) (c after : Cours
 quiet_turned x ev stepped c after old new going kept sound spare counted asks_none shows = record {
   stays = kept_stays old new kept;
   counted = counted;
-  going = record { plain = going.plain; sound = sound; loaded = kept.code ∙ going.loaded; spare = spare };
+  going = record { prepared = going.prepared; sound = sound; loaded = kept.code ∙ going.loaded; spare = spare };
   turns = λ events calls st replay shown.
       let was = shows events calls st replay shown in
       let same = sym (append-nil calls) in
@@ -129,7 +129,7 @@ admit_turned places once fresh x c after old new packet answer going here ends c
   stays = called_stays (code_for x) _ old new called;
   counted = counted;
   going = record {
-    plain = going.plain;
+    prepared = going.prepared;
     sound = sound;
     loaded = called.loaded ∙ going.loaded;
     spare = let before = going.spare in subst (λ n. n ≤ new.spare) (sym same) (omega arith);
@@ -139,8 +139,8 @@ admit_turned places once fresh x c after old new packet answer going here ends c
       let count = fates_count (whole x) calls st c h in
       let at : slice_get x.packets n ≡ Some packet = subst (λ k. slice_get x.packets k ≡ Some packet) count here in
       let may : applies (setup_for x) st event.Admit ≡ true = lt-ltb _ _ (slice_get_within x.packets n packet at) in
-      let stages : (setup_for x).pre_stages ≡ 0 = plain_setup x (λ setup. setup.pre_stages) going.plain in
-      let coarse : (setup_for x).fine ≡ false = plain_setup x (λ setup. setup.fine) going.plain in
+      let stages : (setup_for x).pre_stages ≡ 0 = plain_setup x (λ setup. setup.pre_stages) going.prepared in
+      let coarse : (setup_for x).fine ≡ false = plain_setup x (λ setup. setup.fine) going.prepared in
       let none : up_answer calls n ≡ None =
       subst (λ cs. up_answer cs n ≡ None) (append-nil calls)
       (fresh calls [] n ((once (setup_for x) (whole x) x.packets events calls st replay.answered).up n ∙ ap (λ p. one_if (has_passed p)) (none_at_end st.progress))) in
@@ -170,7 +170,7 @@ down_turned places once step_law fresh x c after old new j n frame y going here 
   stays = called_stays (code_for x) _ old new called;
   counted = events;
   going = record {
-    plain = going.plain;
+    prepared = going.prepared;
     sound = down_sound x c after j n _ going.sound up server commit down fates (let i = going.sound.within.idle in omega (arith, events, idle));
     loaded = called.loaded ∙ going.loaded;
     spare = let before = going.spare in subst (λ (k : Commit). length (commands k) - k.done ≤ new.spare) (sym commit) (omega arith);
@@ -182,8 +182,8 @@ down_turned places once step_law fresh x c after old new j n frame y going here 
       let all = brought_down calls n frame y in
       let at = down_at s calls st c h j (n, frame) here in
       let may : applies setup st (event.Down j) ≡ true = lt-ltb _ _ (slice_get_within st.down j n at) in
-      let stages : setup.post_stages ≡ 0 = plain_setup x (λ z. z.post_stages) going.plain in
-      let coarse : setup.fine ≡ false = plain_setup x (λ z. z.fine) going.plain in
+      let stages : setup.post_stages ≡ 0 = plain_setup x (λ z. z.post_stages) going.prepared in
+      let coarse : setup.fine ≡ false = plain_setup x (λ z. z.fine) going.prepared in
       let stand = have_places places setup s x.packets events_so calls st replay.answered in
       let held = stand.down j n at in
       let none_yet : down_ends n calls ≡ 0 = (once setup s x.packets events_so calls st replay.answered).down n ∙ ap (λ p. one_if (has_come_down p)) held.4 in
@@ -220,7 +220,7 @@ apply_turned x c after old new command going called spare sound one_less counted
   stays = called_stays (code_for x) _ old new called;
   counted = counted;
   going = record {
-    plain = going.plain;
+    prepared = going.prepared;
     sound = sound;
     loaded = called.loaded ∙ going.loaded;
     spare = let before = going.spare in omega arith;

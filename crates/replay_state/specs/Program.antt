@@ -92,9 +92,9 @@ pub record Manner : Type 0 where
   pub fine : Bool
   pub merges : Bool
 
--- each pass takes one event, and each batch takes up those behind it that fit
-abbrev pub plain_manner : Manner
-plain_manner = record { fine = false; merges = true }
+-- a fine run or a plain one, in which each batch takes up those behind it that fit
+abbrev pub manner_of : Bool → Manner
+manner_of fine = record { fine = fine; merges = true }
 
 abbrev pub setup_of : SplitProgram → List Packet → Manner → Setup
 setup_of s packets manner = record {

@@ -8,3 +8,4 @@ mod Commanded
 mod Seen
 mod Passed
 mod Tells
+mod InStages

@@ -26,16 +26,14 @@ use Rattle.transfer_header.specs.Told.{reads_in, AreToldByPlace, IsToldByPlace}
 use Rattle.transfer_header.specs.Values.{value_by, Agree}
 use Rattle.writeback_table.specs.declared.command.Command.{Command}
 use Rattle.split_answers.specs.Whole.{whole_of, IsSplit}
-use Rattle.replay_state.specs.Journal.{UpAnswer, Finished, SentUp, GoingUp}
+use Rattle.replay_state.specs.Journal.{UpAnswer, Finished, SentUp, GoingUp, is_up_end}
 use Rattle.replay_state.specs.Told.{IsRight}
 use Rattle.switch_ir.specs.declared.port.DownEnd.TheVariants as down
-use Rattle.switch_ir.specs.declared.port.UpEnd.{UpEnd}
-use Rattle.switch_ir.specs.declared.port.UpEnd.TheVariants as up
 use Rattle.switch_ir.specs.Emitted.{emitted, Computes}
 use Rattle.switch_ir.specs.Meaning.{goes_up, leaves, up_values, up_verdict}
 use Rattle.switch_ir.specs.Port.{EndsDown, EndsUp}
 use Rattle.switch_ir.specs.Tables.{Told, seen_tables}
-use Rattle.split_answers.specs.Through.{IsEndOf, IsThrough}
+use Rattle.split_answers.specs.Through.{IsThrough, end_of}
 use Rattle.split_answers.proofs.Seen.{AreSeen, has_replicated, is_loaded}
 
 -- What holds of the code, of the passes and of frames.
@@ -107,23 +105,17 @@ module _ (laws : UpLaws) (f : Program) (split : List Part) (writeback : ℕ) (st
       ∙ laws.carried f split st tables packet is.bounded.formed is.legal has_tables ready v carried
       ∙ sym (laws.carried f split st start packet is.bounded.formed is.legal has_tables (loaded f split start (laws.tables f start is.kept)) v carried)
 
-  is_right : (answer : UpAnswer) (end : UpEnd) → IsEndOf end answer → EndsUp (emitted f split writeback) told number packet end → IsRight (whole_of f split writeback) st number packet (Some answer)
-  is_right (Finished verdict) end same ends =
-      let own : EndsUp (emitted f split writeback) told number packet (up.Finished verdict) = subst (EndsUp (emitted f split writeback) told number packet) same ends in
-      one_of (is_fast f split st packet) (flat_verdict f st packet) verdict (sym verdict_is ∙ own)
-  is_right (SentUp frame) end same ends =
+  pub passes_up : (answer : UpAnswer) → EndsUp (emitted f split writeback) told number packet (end_of answer) → is_up_end answer ≡ true → IsRight (whole_of f split writeback) st number packet (Some answer)
+  passes_up (Finished verdict) own ended = one_of (is_fast f split st packet) (flat_verdict f st packet) verdict (sym verdict_is ∙ own)
+  passes_up (SentUp frame) own ended =
       let code = emitted f split writeback in
-      let own : EndsUp code told number packet (up.Up frame) = subst (EndsUp code told number packet) same ends in
       let reads : Reading = up_values code tables packet in
       let none : up_verdict code tables packet ≡ None = cond-true (goes_up code reads) None (Some (leaves code.pre reads packet)) own.0 in (
         none_of (is_fast f split st packet) (flat_verdict f st packet) (sym verdict_is ∙ none),
         own.1 ∙ laws.alike 1 (up_layout f split) number packet.port (value_by reads) (value_by (pre_values f split (start_store f.objects) packet)) packet.bytes
             (each_crossing f (crosses_up f split) (λ (c : Crossing). value_by reads c ≡ value_by (pre_values f split (start_store f.objects) packet) c) carried_is),
       )
-  is_right GoingUp end same ends = absurd same
-
-  pub passes_up : (end : UpEnd) (answer : UpAnswer) → EndsUp (emitted f split writeback) told number packet end → IsEndOf end answer → IsRight (whole_of f split writeback) st number packet (Some answer)
-  passes_up end answer ends same = is_right answer end same ends
+  passes_up GoingUp own ended = cc
 
 -- ## Down
 

@@ -1,3 +1,5 @@
 pub mod Whole
 pub mod Through
 pub mod Over
+pub mod InStages
+pub mod UnderWay

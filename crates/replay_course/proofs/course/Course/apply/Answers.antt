@@ -1,6 +1,7 @@
 use Rattle.std.proofs.Common.{sym, subst}
 use Rattle.std.specs.Prelude.{IfSome}
 use Rattle.switch_ir.specs.Port.{IsCommandOf}
+use Rattle.switch_ir.specs.UnderWay.{DisturbsNone, UnderWay}
 use Rattle.replay_course.proofs.Calling.{commanded}
 use Rattle.replay_course.proofs.Turning.{apply_turned, next_named, no_command_turned}
 use Rattle.replay_course.proofs.Failing.{fails_command}
@@ -10,6 +11,11 @@ pub command-requires-clause-named : goal.command-requires-clause-named
 command-requires-clause-named g c =
     subst (λ o. IfSome o (λ code. IsCommandOf code c.in-Some.command)) (sym c.requires.going.loaded)
     (next_named _ c.args.self.now c.in-Some.command c.requires.going.sound c.in-Some.ensures.next)
+
+pub command-requires-clause-waits : goal.command-requires-clause-waits
+command-requires-clause-waits g c =
+    subst (λ (passes : UnderWay). DisturbsNone passes c.in-Some.command) (sym c.requires.going.passes)
+    (record { pre = λ number pass own is told. cc; post = λ number pass own is told. cc })
 
 pub returns-in_default-clause-turned : goal.returns-in_default-clause-turned
 returns-in_default-clause-turned g c =

@@ -6,7 +6,7 @@ use Rattle.flat_ir.specs.Arrivals.{IsArrival}
 use Rattle.switch_ir.specs.Port.{Loads}
 use Rattle.switch_ir.specs.declared.port.PortEnd.TheVariants as port
 use Rattle.replay_contracts.specs.Replayer.{given_of}
-use Rattle.replay_course.proofs.Going.{is_plain, started}
+use Rattle.replay_course.proofs.Going.{is_prepared, started}
 use Rattle.replay_course.proofs.course.Course.start.Goals as goal
 
 pub returns-clause-started : goal.returns-clause-started
@@ -15,7 +15,7 @@ returns-clause-started g c =
     let loads = subst (λ code. Loads port.Done code (g.S.SwitchPort.seen c.args.port.now) (g.S.SwitchPort.seen c.load.new.port)) c.in_ok-code.ensures.code
     c.in_ok-load.ensures.loads in
     started c.a_replay_begins.ensures x c.new-3.result (server_of c.in_ok-server.server) _ _
-    (is_plain x c.requires.split (subst (Each IsArrival) c.as_slice.ensures.value c.all_arrive.ensures) refl c.requires.few)
+    (is_prepared x c.requires.split (subst (Each IsArrival) c.as_slice.ensures.value c.all_arrive.ensures) refl c.requires.few)
     loads
     (c.in_ok-server.ensures ∙ ap (λ st. record {
       program = program_of c.args.job.now.flat;
