@@ -1,7 +1,6 @@
 -- What calls of a switch leave in its journal and its tables.
-use Rattle.std.proofs.Common.{◌≡◌, ℕ, true, false, List, [], ◌∷◌, ◌++◌, Option, Some, None, map, refl, sym, ap, ◌∙◌}
-use Rattle.std.specs.Prelude.{IsSome}
-use Rattle.std.specs.List.{filter, AllByRecursion as Each}
+use Rattle.std.proofs.Common.{◌≡◌, true, false, List, [], ◌∷◌, ◌++◌, Option, Some, None, refl, sym, ap, ◌∙◌}
+use Rattle.std.specs.List.{filter}
 use Rattle.std.specs.Option.{option_map}
 use Rattle.std.proofs.lemmas.List.{append-nil, append_assoc}
 use Rattle.std.proofs.lemmas.List.Elements.{filter-append}
@@ -11,7 +10,7 @@ use Rattle.switch_ir.specs.Tables.{Told}
 use Rattle.switch_ir.specs.declared.journal.Entry.{Entry}
 use Rattle.replay_state.specs.Journal.{Call, CalledUp, CalledStageUp, CalledCommand, CalledDown, CalledStageDown}
 use Rattle.replay_state.specs.Journal.{Finished, SentUp, GoingUp, Released, GoingDown}
-use Rattle.replay_contracts.specs.Called.{KeepsCalls, WasCalled, WasMade, calls_in, entry_of, is_of_replay, journal_of, told_then, told_through}
+use Rattle.replay_contracts.specs.Called.{WasCalled, WasMade, calls_in, entry_of, is_of_replay, journal_of, told_then, told_through}
 
 -- what one call leaves
 pub record Leaves (call : Call) (old new : PortState) : Type 0 where

@@ -1,5 +1,5 @@
 -- Over a switch that tells its tables, what each pass under way knows after an event, and what the last stage answers.
-use Rattle.std.proofs.Common.{◌≡◌, ◌≤◌, ◌<◌, ◌+◌, ℕ, zero, suc, Bool, true, false, cond, eqb, leb, List, [], ◌∷◌, ◌++◌, Option, Some, None, inl, inr, length, map, get_or, refl, sym, ap, ◌∙◌, subst, arith}
+use Rattle.std.proofs.Common.{◌≡◌, ◌≤◌, ◌<◌, ◌+◌, ℕ, zero, suc, Bool, true, false, leb, List, [], ◌∷◌, ◌++◌, Option, Some, None, inl, inr, map, refl, sym, ap, ◌∙◌, subst, arith}
 use Rattle.std.specs.Prelude.{slice_get, if◌then◌else◌}
 use Rattle.std.specs.List.{AllByRecursion as Each}
 use Rattle.std.proofs.lemmas.Bool.{cases_Bool, eq-eqb, le-leb, false≢true}
@@ -27,15 +27,15 @@ use Rattle.replay_state.specs.Journal.{asked, asks, asks_stage, down_answer, dow
 use Rattle.replay_state.specs.Places.{HavePlaces}
 use Rattle.replay_state.specs.Program.{SplitProgram, packet_at}
 use Rattle.replay_state.specs.declared.pass.Pass.{Pass}
-use Rattle.replay_state.specs.State.{State, applied_commands, bit_behind, seen, store_at}
+use Rattle.replay_state.specs.State.{State, applied_commands, seen, store_at}
 use Rattle.replay_state.specs.Step.{applies}
 use Rattle.replay_state.specs.Told.{EndsRight, IsRight}
 use Rattle.replay_state.specs.Views.{KeepViews}
 use Rattle.split_answers.specs.Through.{end_of}
-use Rattle.split_answers.specs.UnderWay.{IsOnSwitch, Knows, KnowsItsOwn, KnowsOver, KnowTheirOwn, Views, passes_of, staging}
+use Rattle.split_answers.specs.UnderWay.{Knows, KnowsItsOwn, KnowsOver, KnowTheirOwn, Views, passes_of, staging}
 use Rattle.replay_contracts.specs.Called.{WasCalled}
 use Rattle.replay_contracts.specs.Given.{Given, code_for, setup_for, whole}
-use Rattle.replay_contracts.proofs.Asked.{AskedStageUp, AskedStageDown, asked_stage_up, asked_stage_down}
+use Rattle.replay_contracts.proofs.Asked.{asked_stage_up, asked_stage_down}
 use Rattle.replay_contracts.proofs.OnSwitch.{OnList}
 use Rattle.replay_contracts.proofs.PassingOn.{Kept, Rests}
 use Rattle.replay_contracts.proofs.Turns.{Around, Enters, less}

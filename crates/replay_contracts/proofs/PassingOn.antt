@@ -1,9 +1,9 @@
 -- What each event does to the passes under way on a switch, and what it leaves of the state that they rest on.
-use Rattle.std.proofs.Common.{◌≡◌, ◌≢◌, ◌≤◌, ◌<◌, ◌+◌, ◌-◌, ℕ, zero, suc, Bool, true, false, cond, eqb, leb, List, [], ◌∷◌, ◌++◌, Option, Some, None, inl, inr, length, map, set, get_or, refl, sym, ap, ◌∙◌, subst, arith}
+use Rattle.std.proofs.Common.{◌≡◌, ◌<◌, ℕ, zero, suc, Bool, true, false, eqb, leb, List, [], ◌∷◌, ◌++◌, Option, Some, None, inl, inr, length, map, set, refl, sym, ap, ◌∙◌, subst, arith}
 use Rattle.std.specs.Prelude.{⊤, ◌==◌, nat_le, slice_get, remove, if◌then◌else◌, IfSome}
 use Rattle.std.proofs.Math.ListN.{get_or-append}
 use Rattle.std.proofs.lemmas.Bool.{cases_Bool, eqb-false, leb-false, ltb-true, ltb-false, true≢false, false≢true}
-use Rattle.std.proofs.lemmas.Option.{same_Some, none-some, slice_get_within}
+use Rattle.std.proofs.lemmas.Option.{same_Some, slice_get_within}
 use Rattle.packet_fields.specs.declared.packet.Packet.{Packet}
 use Rattle.packet_fields.specs.declared.verdict.Verdict.{Verdict}
 use Rattle.state_store.specs.Store.{Store}
@@ -19,7 +19,7 @@ use Rattle.writeback_table.specs.declared.command.Command.{Command}
 use Rattle.writeback_table.specs.declared.command.Update.{Update}
 use Rattle.output_commit.specs.Batches.{commands_in}
 use Rattle.replay_state.specs.Answers.{Answers, Setup}
-use Rattle.replay_state.specs.Journal.{Call, CalledUp, CalledStageUp, CalledCommand, CalledDown, CalledStageDown}
+use Rattle.replay_state.specs.Journal.{Call, CalledUp, CalledDown}
 use Rattle.replay_state.specs.Journal.{UpAnswer, Finished, SentUp, GoingUp, DownAnswer, Released, GoingDown, is_up_end, is_down_end}
 use Rattle.replay_state.specs.Journal.{asks, asked, asks_stage, asks_command, asks_down, down_frame, question_of}
 use Rattle.replay_state.specs.Places.{HavePlaces}
@@ -30,7 +30,7 @@ use Rattle.replay_state.specs.Step.{applies, came, came_in, came_out, ended, ent
 use Rattle.split_answers.specs.Through.{down_end_of, end_of}
 use Rattle.split_answers.specs.UnderWay.{highest_of, passes_of, staging}
 use Rattle.replay_contracts.specs.Called.{KeepsCalls, WasCalled, WasMade}
-use Rattle.replay_contracts.proofs.Asked.{AskedUp, AskedStageUp, AskedDown, AskedStageDown, asked_up, asked_stage_up, asked_down, asked_stage_down, asked_command, none_asked}
+use Rattle.replay_contracts.proofs.Asked.{asked_up, asked_stage_up, asked_down, asked_stage_down, asked_command, none_asked}
 use Rattle.replay_contracts.proofs.Formed.{Parts}
 use Rattle.replay_contracts.proofs.OnSwitch.{OnList, Others, all_same, get_push_old, get_set_other}
 use Rattle.replay_contracts.proofs.Turns.{Around, Enters, Turn, Stay, Come, Move, End, less}
