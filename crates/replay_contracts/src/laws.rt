@@ -27,7 +27,8 @@ use replay_state::{
 use split_answers::{
     a_switch_that_tells_its_tables_tells_right, a_told_command_goes_through,
     a_told_pass_in_stages_is_right, frames_do_what_packets_do, quiet_tables_are_the_stores,
-    split_programs_have_their_laws, told_rows_are_the_visible_stores, told_tables_start,
+    split_programs_have_their_laws, told_rows_are_the_visible_stores,
+    told_tables_are_those_of_the_commands, told_tables_start,
 };
 use transfer_header::frames_are_told_by_place;
 
@@ -64,6 +65,7 @@ pub fn a_replay_goes_on()
     packets_are_where_they_are_told();
     passes_keep_their_views();
     a_told_pass_in_stages_is_right();
+    told_tables_are_those_of_the_commands();
     lookups_see_one_version();
     stores_keep_what_was_declared();
     whole_runs_are_sound();

@@ -91,6 +91,14 @@ pub fn a_told_command_goes_through()
         → IsThrough code (commands ++ command ∷ []) (told_after command told) }
 {}
 
+/// The tables of a replicated object are those that the commands make of its start tables, one after the other.
+pub fn told_tables_are_those_of_the_commands()
+    ensures { (f : Program) (split : List Part) (writeback o : ℕ) (commands : List Command) (told : Told)
+        → IsSplit f split writeback → IsThrough (emitted f split writeback) commands told
+        → is_replicated f split o ≡ true
+        → pair_at told.pairs o ≡ pair_through o (first_pair f writeback o) commands }
+{}
+
 /// The code of a split program has tables for its replicated objects, and for no other object that can change.
 pub fn replicated_objects_are_declared()
     ensures there { (f : Program) (split : List Part) (writeback o : ℕ) → IsSplit f split writeback
