@@ -1,6 +1,6 @@
 //! How a replay over a switch begins, goes on and ends, whatever the switch answers, and what it promises where the
 //! switch tells its tables. These functions do nothing: their contracts are the laws.
-ghost use Rattle.std.specs.Prelude.{◌≡◌, ◌++◌, ◌∷◌, [], ℕ, false, IsTrue, List, None, Some, is_some, map};
+ghost use Rattle.std.specs.Prelude.{◌≡◌, ◌++◌, ◌∷◌, [], ℕ, IsTrue, List, None, Some, is_some, map};
 ghost use Rattle.state_store.specs.Store.{start_store};
 ghost use Rattle.run_model.specs.declared.event.Event.{Event};
 ghost use Rattle.run_model.specs.declared.run.Run.{Run};
@@ -15,7 +15,7 @@ ghost use Rattle.replay_state.specs.Step.{step};
 ghost use Rattle.split_answers.specs.Through.{HasTables};
 ghost use Rattle.replay_contracts.specs.Called.{WasCalled};
 ghost use Rattle.replay_contracts.specs.Given.{Given, IsReady, code_for, setup_for, whole, whole_runs};
-ghost use Rattle.replay_contracts.specs.Promise.{Promises, Reports, state_for};
+ghost use Rattle.replay_contracts.specs.Promise.{Promises, Reports};
 ghost use Rattle.replay_contracts.specs.Replay.{HasDrained, HasPicked, IsLoaded, IsReplay, answered};
 
 use replay_state::{

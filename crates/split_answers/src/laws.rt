@@ -45,9 +45,8 @@ use replay_state::{
 };
 use server_runtime::{a_served_packet_is_the_whole_run, what_the_switch_is_told_fits};
 use split_model::{
-    a_split_is_the_whole, carried_values_stand, kept_stores_have_tables,
-    postprocessing_reads_constant_tables, preprocessing_is_exact, replicated_objects_show,
-    what_preprocessing_reads_is_all,
+    carried_values_stand, kept_stores_have_tables, postprocessing_reads_constant_tables,
+    preprocessing_is_exact, replicated_objects_show, what_preprocessing_reads_is_all,
 };
 use state_store::rows_change_alone;
 use switch_ir::what_is_emitted_computes_the_split;
