@@ -1,7 +1,8 @@
-use Rattle.std.proofs.Common.{◌≡◌, [], Some, refl, sym, subst}
+use Rattle.std.proofs.Common.{◌≡◌, ℕ, [], Some, refl, sym, subst}
 use Rattle.std.specs.Prelude.{slice_get}
 use Rattle.state_store.specs.Store.{start_store}
-use Rattle.replay_state.specs.State.{Pass, first_state}
+use Rattle.replay_state.specs.declared.pass.Pass.{Pass}
+use Rattle.replay_state.specs.State.{first_state}
 use Rattle.split_answers.specs.UnderWay.{AreOnSwitch}
 use Rattle.replay_contracts.specs.Given.{code_for, setup_for, whole}
 use Rattle.replay_contracts.proofs.OnSwitch.{none_on, to_state}
@@ -21,6 +22,7 @@ returns c x port ready loaded =
             (c.split_programs_have_their_laws.ensures x.program x.split x.writeback x.packets ready.split ready.arrivals)
             (c.frames_do_what_packets_do.ensures x.program x.split x.writeback x.packets ready.split ready.arrivals ready.few);
         through = c.told_tables_start.ensures (code_for x) tables (loaded.start tables is);
+        views = λ j o pass here shown. absurd (nowhere j pass here);
         knows = λ j pass own here there. absurd (nowhere j pass here);
       };
     }
