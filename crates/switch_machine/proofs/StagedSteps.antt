@@ -34,7 +34,7 @@ use Rattle.switch_machine.specs.Loading.{code_in}
 use Rattle.switch_machine.specs.Machine.{seen_of, MachineState}
 use Rattle.switch_machine.specs.Staging.{EntersByFrame, EntersUp, GoesOnDown, GoesOnUp, IsLastDown, IsLastUp, IsPlaceOf}
 use Rattle.switch_machine.proofs.Each.{each_append, each_at}
-use Rattle.switch_machine.proofs.FlightLists.{is_of, is_other, none_placed, number_is, place_within, shown_at}
+use Rattle.switch_machine.proofs.FlightLists.{at_place_is, is_of, is_other, none_placed, number_is, place_within, shown_at}
 use Rattle.switch_machine.proofs.KeptRows.{none_some, the_some}
 use Rattle.switch_machine.proofs.StagedCalls.{begins_whole_down, begins_whole_up}
 use Rattle.switch_machine.proofs.StagedMachine.{has_entered, has_gone_on, pushed_down, pushed_up, removed_down, removed_up, set_down, set_up, stays_under}
@@ -368,6 +368,16 @@ pub flight_up : (loaded : Option Loaded) (l : Loaded) (xs ys : List Flight) (n i
 flight_up loaded l xs ys n i f is ready place here =
     subst (IsFlightOf l.code.pre) (sym here) (each_at (IsFlightOf l.code.pre) xs i f (ready l is).arriving (place_within xs n i place))
 
+-- what is asked of its stage
+pub asked_up : (Holds : ℕ → ℕ → Type 0) (loaded : Option Loaded) (l : Loaded) (xs ys : List Flight) (n i : ℕ) (f : Flight) → loaded ≡ Some l → IsPlaceOf xs n i → f ≡ get_or xs i f
+    → ((code : Code) (pass : PassState) → code_in loaded ≡ Some code → (under_way loaded xs ys).pre n ≡ Some pass → Holds (suc pass.stage) code.pre.highest)
+    → Holds (suc f.stage) l.code.pre.highest
+asked_up Holds loaded l xs ys n i f is place here asked =
+    let show = shown (pre_staging (code_of l.code)) l.pre_numbering in
+    let there = ap (option_map show) (at_place_is xs n i f place).1 ∙ ap (λ (x : Flight). Some (show x)) (sym here) in
+    subst (λ (o : Option Loaded). (code : Code) (pass : PassState) → code_in o ≡ Some code → (under_way o xs ys).pre n ≡ Some pass → Holds (suc pass.stage) code.pre.highest) is asked
+    (code_of l.code) (show f) refl there
+
 -- its stage, which is below the highest one
 pub stage_up : (loaded : Option Loaded) (xs ys : List Flight) (n i : ℕ) (f : Flight) (pass : PassState) → IsPlaceOf xs n i → f ≡ get_or xs i f
     → (under_way loaded xs ys).pre n ≡ Some pass → pass.stage ≡ f.stage
@@ -411,6 +421,16 @@ pub flight_down : (loaded : Option Loaded) (l : Loaded) (xs ys : List Flight) (n
     → IsFlightOf l.code.post f
 flight_down loaded l xs ys n i f is ready place here =
     subst (IsFlightOf l.code.post) (sym here) (each_at (IsFlightOf l.code.post) ys i f (ready l is).leaving (place_within ys n i place))
+
+-- what is asked of its stage
+pub asked_down : (Holds : ℕ → ℕ → Type 0) (loaded : Option Loaded) (l : Loaded) (xs ys : List Flight) (n i : ℕ) (f : Flight) → loaded ≡ Some l → IsPlaceOf ys n i → f ≡ get_or ys i f
+    → ((code : Code) (pass : PassState) → code_in loaded ≡ Some code → (under_way loaded xs ys).post n ≡ Some pass → Holds (suc pass.stage) code.post.highest)
+    → Holds (suc f.stage) l.code.post.highest
+asked_down Holds loaded l xs ys n i f is place here asked =
+    let show = shown (post_staging (code_of l.code)) l.post_numbering in
+    let there = ap (option_map show) (at_place_is ys n i f place).1 ∙ ap (λ (x : Flight). Some (show x)) (sym here) in
+    subst (λ (o : Option Loaded). (code : Code) (pass : PassState) → code_in o ≡ Some code → (under_way o xs ys).post n ≡ Some pass → Holds (suc pass.stage) code.post.highest) is asked
+    (code_of l.code) (show f) refl there
 
 -- its stage, which is below the highest one
 pub stage_down : (loaded : Option Loaded) (xs ys : List Flight) (n i : ℕ) (f : Flight) (pass : PassState) → IsPlaceOf ys n i → f ≡ get_or ys i f
