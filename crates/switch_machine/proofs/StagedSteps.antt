@@ -63,6 +63,10 @@ found_down (Some l) xs ys n h e = none_shown (post_staging (code_of l.code)) l.p
 
 -- ## The machine from its parts
 
+-- what is told of a pass besides its packet and its stage
+abbrev told_of : Staging → List ValueRange → Flight → ToldPass
+told_of p ranges f = record { bit = f.bit; numbers = numbers_in p ranges f.stage f.registers }
+
 module _ (tables : Told) (faults : ℕ) (planned : List (CallKind × ℕ)) (calls : CallCounts) where
   abbrev pub made : Option Loaded → JournalState → List Flight → List Flight → MachineState
   made loaded journal xs ys = record {
@@ -136,7 +140,7 @@ module _ (tables : Told) (faults : ℕ) (planned : List (CallKind × ℕ)) (call
             subst Framed (λ k. (the_some (code_of l.code) code code_is k, numbered k, before_is k)) frame;
         told = λ code before code_is there told own told_is own_is.
             let before_is = before_at code before there in
-            let own_eq = the_some own_told own (ap (λ (b : PassState). b.told) before_is ∙ own_is) in
+            let own_eq = the_some (told_of (pre_staging (code_of l.code)) l.pre_numbering f) own (ap (λ (b : PassState). b.told) before_is ∙ own_is) in
             let Ended : Code × ℕ × PassState × ToldPass × Told → Type 0 =
             λ (x, m, b, o, t). EndsBy x (last_numbers (pre_staging x) (suc b.stage) o.numbers (view_of o.bit t.pairs) b.packet) m b.packet end in
             subst Ended (λ k. (the_some (code_of l.code) code code_is k, numbered k, before_is k, own_eq k, the_some tables told told_is k)) ends;
@@ -156,9 +160,6 @@ module _ (tables : Told) (faults : ℕ) (planned : List (CallKind × ℕ)) (call
       numbered : f.number ≡ n
       numbered = ap (λ (x : Flight). x.number) here ∙ number_is xs n i f place
 
-      abbrev own_told : ToldPass
-      own_told = record { bit = f.bit; numbers = numbers_in (pre_staging (code_of l.code)) l.pre_numbering f.stage f.registers }
-
       before_at : (code : Code) (before : PassState) → (under_way (Some l) xs ys).pre n ≡ Some before → shown (pre_staging (code_of l.code)) l.pre_numbering f ≡ before
       before_at code before there =
           ap (shown (pre_staging (code_of l.code)) l.pre_numbering) here ∙ shown_at (pre_staging (code_of l.code)) l.pre_numbering xs n i f before place there
@@ -172,10 +173,10 @@ module _ (tables : Told) (faults : ℕ) (planned : List (CallKind × ℕ)) (call
   enters_up loaded l after journal noted xs ys zs n port packet f is same begun none zs_is noted_is =
       subst (λ (o : Option Loaded). EntersUp n port packet (made o journal xs ys) (made (Some after) noted zs ys)) (sym is)
       (record {
-        pass = shown p l.pre_numbering f;
+        pass = shown (pre_staging (code_of l.code)) l.pre_numbering f;
         has = λ code code_is.
-            subst (λ (x : Code). HasEntered (pre_staging x) IsNothing arrived (Some tables) (shown p l.pre_numbering f)) (the_some (code_of l.code) code code_is)
-            (has_entered l.code.pre p l.pre_numbering nothing n arrived tables f IsNothing (λ other e. e) begun);
+            subst (λ (x : Code). HasEntered (pre_staging x) IsNothing (record { port = port; bytes = packet }) (Some tables) (shown (pre_staging (code_of l.code)) l.pre_numbering f)) (the_some (code_of l.code) code code_is)
+            (has_entered l.code.pre (pre_staging (code_of l.code)) l.pre_numbering nothing n (record { port = port; bytes = packet }) tables f IsNothing (λ other e. e) begun);
         is =
             let none_there = subst (λ (o : Option Loaded). (under_way o xs ys).pre n ≡ None) is none in
             let all = stays_under l after zs ys same ∙ ap (λ (fs : List Flight). under_way (Some l) fs ys) zs_is ∙ pushed_up l xs ys n f begun.number_is none_there in
@@ -189,12 +190,6 @@ module _ (tables : Told) (faults : ℕ) (planned : List (CallKind × ℕ)) (call
               calls = calls;
             };
       })
-    where
-      abbrev p : Staging
-      p = pre_staging (code_of l.code)
-
-      abbrev arrived : Packet
-      arrived = record { port = port; bytes = packet }
 
   pub goes_on_down : (loaded : Option Loaded) (l after : Loaded) (journal noted : JournalState) (xs ys : List Flight) (n i : ℕ) (f g : Flight)
       → loaded ≡ Some l → StaysLoaded l after → IsPlaceOf ys n i → f ≡ get_or ys i f
@@ -237,7 +232,7 @@ module _ (tables : Told) (faults : ℕ) (planned : List (CallKind × ℕ)) (call
         passes = passes;
         told = λ code before code_is there told own told_is own_is.
             let before_is = before_at code before there in
-            let own_eq = the_some own_told own (ap (λ (b : PassState). b.told) before_is ∙ own_is) in
+            let own_eq = the_some (told_of (post_staging (code_of l.code)) l.post_numbering f) own (ap (λ (b : PassState). b.told) before_is ∙ own_is) in
             let Ended : Code × PassState × ToldPass × Told → Type 0 =
             λ (x, b, o, t). EndsDownBy x (last_numbers (post_staging x) (suc b.stage) o.numbers (view_of o.bit t.pairs) b.packet) b.packet end in
             subst Ended (λ k. (the_some (code_of l.code) code code_is k, before_is k, own_eq k, the_some tables told told_is k)) ends;
@@ -254,9 +249,6 @@ module _ (tables : Told) (faults : ℕ) (planned : List (CallKind × ℕ)) (call
             };
       })
     where
-      abbrev own_told : ToldPass
-      own_told = record { bit = f.bit; numbers = numbers_in (post_staging (code_of l.code)) l.post_numbering f.stage f.registers }
-
       before_at : (code : Code) (before : PassState) → (under_way (Some l) xs ys).post n ≡ Some before → shown (post_staging (code_of l.code)) l.post_numbering f ≡ before
       before_at code before there =
           ap (shown (post_staging (code_of l.code)) l.post_numbering) here ∙ shown_at (post_staging (code_of l.code)) l.post_numbering ys n i f before place there
@@ -274,12 +266,16 @@ module _ (tables : Told) (faults : ℕ) (planned : List (CallKind × ℕ)) (call
       subst (λ (o : Option Loaded). EntersByFrame frame (made o journal xs ys) (made (Some after) noted xs zs)) (sym is)
       (record {
         number = n;
-        pass = shown p l.post_numbering f;
+        pass = shown (post_staging (code_of l.code)) l.post_numbering f;
         has = λ code code_is.
+            let Entered : Code → Type 0 =
+            λ x. (m port : ℕ) (values : Crossing → ℕ) (packet : List ℕ) → IsFrameOf 2 x.down m port values packet frame
+            → (m ≡ n) × HasEntered (post_staging x) (IsHandedDown x values (record { port = port; bytes = packet })) (record { port = port; bytes = packet }) (Some tables)
+            (shown (post_staging (code_of l.code)) l.post_numbering f) in
             subst Entered (the_some (code_of l.code) code code_is) (λ m port values packet framed.
             let b = begun m port values packet framed in (
               sym b.number_is ∙ number,
-              has_entered l.code.post p l.post_numbering (down_given (code_of l.code) values (record { port = port; bytes = packet })) m
+              has_entered l.code.post (post_staging (code_of l.code)) l.post_numbering (down_given (code_of l.code) values (record { port = port; bytes = packet })) m
                   (record { port = port; bytes = packet }) tables f (IsHandedDown (code_of l.code) values (record { port = port; bytes = packet })) (λ other e. e) b,
             ));
         is =
@@ -295,13 +291,6 @@ module _ (tables : Told) (faults : ℕ) (planned : List (CallKind × ℕ)) (call
               calls = calls;
             };
       })
-    where
-      abbrev p : Staging
-      p = post_staging (code_of l.code)
-
-      abbrev Entered : Code → Type 0
-      Entered x = (m port : ℕ) (values : Crossing → ℕ) (packet : List ℕ) → IsFrameOf 2 x.down m port values packet frame
-          → (m ≡ n) × HasEntered (post_staging x) (IsHandedDown x values (record { port = port; bytes = packet })) (record { port = port; bytes = packet }) (Some tables) (shown p l.post_numbering f)
 
 -- ## What holds of the passes that are under way
 
@@ -447,6 +436,11 @@ below_down (Some l) xs ys n i f code ready is place here =
     subst (λ (x : Code). f.stage < x.post.highest) (the_some (code_of l.code) code is) (flight_down (Some l) l xs ys n i f refl ready place here).below
 
 -- ## Where a pass ends at once
+
+-- what is there
+pub some_of : {X : Type 0} (o : Option X) → IsSome o → (x : X) × (o ≡ Some x)
+some_of None h = absurd (false≢true h)
+some_of (Some x) h = (x, refl)
 
 pub whole_low : (fails : Bool) (h : ℕ) → (fails || h == 0) ≡ true → fails ≡ false → h ≡ 0
 whole_low true h w e = absurd (true≢false e)

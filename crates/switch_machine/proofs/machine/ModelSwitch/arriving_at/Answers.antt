@@ -1,3 +1,6 @@
+use Rattle.std.proofs.Common.{◌≡◌, None}
+use Rattle.std.specs.Prelude.{position}
+use Rattle.switch_machine.proofs.FlightLists.{is_of}
 use Rattle.switch_machine.proofs.StagedSteps.{found_up, loaded_up}
 use Rattle.switch_machine.proofs.machine.ModelSwitch.arriving_at.Goals as goal
 
@@ -7,4 +10,7 @@ returns-in-Some-clause-loaded c =
     loaded_up m.loaded m.arriving.items m.leaving.items c.args.number c.requires
 
 pub prove-unreachable-requires : goal.prove-unreachable-requires
-prove-unreachable-requires c = let h = c in ?
+prove-unreachable-requires c =
+    let m = c.args.self.now in
+    let none : position (is_of c.args.number) m.arriving.items ≡ None = cc in
+    found_up m.loaded m.arriving.items m.leaving.items c.args.number c.requires none
