@@ -1,5 +1,5 @@
 -- What the steps of a switch in memory leave by which passes go on stage by stage.
-use Rattle.std.proofs.Common.{◌≡◌, ◌∙◌, ◌<◌, ◌++◌, ℕ, zero, suc, ◌==◌, Bool, true, false, cond, List, [], ◌∷◌, Option, Some, None, Result, Ok, Err, IfOk, refl, sym, ap, subst, arith, get_or}
+use Rattle.std.proofs.Common.{◌≡◌, ◌∙◌, ◌<◌, ◌++◌, ℕ, zero, suc, ◌==◌, Bool, true, false, cond, List, [], ◌∷◌, Option, Some, None, Result, Ok, Err, IfOk, IfSome, refl, sym, ap, subst, arith, get_or}
 use Rattle.std.specs.Prelude.{filter, position, slice_set, ◌||◌, IsSome}
 use Rattle.std.specs.List.{AllByRecursion as Each}
 use Rattle.std.specs.Option.{option_map}
@@ -7,11 +7,11 @@ use Rattle.std.proofs.lemmas.Bool.{eqb-true, false≢true, true≢false}
 use Rattle.packet_fields.specs.declared.packet.Packet.{Packet}
 use Rattle.flat_ir.specs.Blocks.{nothing}
 use Rattle.split_model.specs.declared.layout.Crossing.{Crossing}
-use Rattle.transfer_header.specs.Frames.{IsFrameOf}
+use Rattle.transfer_header.specs.Frames.{IsFrame, IsFrameOf}
 use Rattle.switch_ir.specs.Code.{code_of, Code}
 use Rattle.switch_ir.specs.Journal.{JournalState}
 use Rattle.switch_ir.specs.Meaning.{down_given}
-use Rattle.switch_ir.specs.Port.{noted_down, noted_up, down_failed, up_failed, BeginsDown, BeginsUp, EndsDown, EndsUp, HasNoDownPassOf, IsHandedDown, IsNothing, IsUpFrame}
+use Rattle.switch_ir.specs.Port.{noted_down, noted_up, down_failed, up_failed, BeginsDown, BeginsUp, EndsDown, EndsUp, HasNoDownPassOf, IsHandedDown, IsNothing, IsUpFrame, OfItsParts}
 use Rattle.switch_ir.specs.Staged.{last_numbers, pre_staging, post_staging, EndsBy, EndsDownBy, Staging}
 use Rattle.switch_ir.specs.Tables.{view_of, Told}
 use Rattle.switch_ir.specs.UnderWay.{HasEntered, HasGoneOn, PassState, ToldPass}
@@ -436,6 +436,23 @@ below_down (Some l) xs ys n i f code ready is place here =
     subst (λ (x : Code). f.stage < x.post.highest) (the_some (code_of l.code) code is) (flight_down (Some l) l xs ys n i f refl ready place here).below
 
 -- ## Where a pass ends at once
+
+-- the pass of a frame's packet isn't under way, by the number that it was given
+pub none_entered : (loaded : Option Loaded) (l : Loaded) (xs ys : List Flight) (frame : List ℕ) (f : Flight) → loaded ≡ Some l
+    → IfSome (code_in loaded) (λ code. IsFrame 2 code.down frame)
+    → IfSome (code_in loaded) (λ code. OfItsParts code frame (λ number packet values. (under_way loaded xs ys).post number ≡ None))
+    → ((number port : ℕ) (values : Crossing → ℕ) (packet : List ℕ) → IsFrameOf 2 l.code.down number port values packet frame → f.number ≡ number)
+    → (under_way loaded xs ys).post f.number ≡ None
+none_entered None l xs ys frame f is framed none number = absurd (none_some l is)
+none_entered (Some k) l xs ys frame f is framed none number =
+    let told = subst (λ (x : Loaded). (n port : ℕ) (values : Crossing → ℕ) (packet : List ℕ) → IsFrameOf 2 x.code.down n port values packet frame → f.number ≡ n) (sym (the_some k l is)) number in
+    subst (λ n. (under_way (Some k) xs ys).post n ≡ None) (sym (told framed.number framed.port framed.values framed.packet framed.is))
+    (none framed.number framed.port framed.values framed.packet framed.is)
+
+-- the frame is one of the code that is loaded
+pub framed_of : (loaded : Option Loaded) (l : Loaded) (frame : List ℕ) → loaded ≡ Some l → IfSome (code_in loaded) (λ code. IsFrame 2 code.down frame) → IsFrame 2 l.code.down frame
+framed_of None l frame is framed = absurd (none_some l is)
+framed_of (Some k) l frame is framed = subst (λ (x : Loaded). IsFrame 2 x.code.down frame) (the_some k l is) framed
 
 -- what is there
 pub some_of : {X : Type 0} (o : Option X) → IsSome o → (x : X) × (o ≡ Some x)
