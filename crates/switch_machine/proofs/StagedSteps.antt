@@ -316,13 +316,13 @@ each_set P [] i x h own = tt
 each_set P (y ∷ ys) zero x h own = (own, h.1)
 each_set P (y ∷ ys) (suc i) x h own = (h.0, each_set P ys i x h.1 own)
 
+chosen : {X : Type 0} (P : X → Type 0) (b : Bool) (x : X) (xs : List X) → P x → Each P xs → Each P (cond b (x ∷ xs) xs)
+chosen P true x xs own h = (own, h)
+chosen P false x xs own h = h
+
 each_kept : {X : Type 0} (P : X → Type 0) (test : X → Bool) (xs : List X) → Each P xs → Each P (filter test xs)
 each_kept P test [] h = tt
-each_kept P test (x ∷ xs) h = chosen (test x)
-  where
-    chosen : (b : Bool) → Each P (cond b (x ∷ filter test xs) (filter test xs))
-    chosen true = (h.0, each_kept P test xs h.1)
-    chosen false = each_kept P test xs h.1
+each_kept P test (x ∷ xs) h = chosen P (test x) x (filter test xs) h.0 (each_kept P test xs h.1)
 
 of_parts : (a : Loaded) (xs ys : List Flight) → AreFlightsOf a xs ys → AreReadyIn (Some a) xs ys
 of_parts a xs ys h l is = subst (λ (x : Loaded). AreFlightsOf x xs ys) (the_some a l is) h
