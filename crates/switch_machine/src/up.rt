@@ -99,6 +99,11 @@ fn end_up(
     Ok(UpEnd::Finished(leave(&pass.out, arrival, &run, copy)))
 }
 
+// A port is below 256.
+fn fits(port: u8)
+    ensures { port < 256 }
+{}
+
 /// What the code does with a packet that arrives.
 pub(crate) fn go_up(
     alloc: Global,
@@ -209,6 +214,7 @@ pub(crate) fn finish_up(
     take_stage(&loaded.pre, &mut loaded.up, tables, flight);
     let bytes = flight.packet.as_slice();
     let port = flight.port;
+    fits(port);
     let arrival = Arrival {
         port,
         bytes,
