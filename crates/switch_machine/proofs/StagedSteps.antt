@@ -1,5 +1,5 @@
 -- What the steps of a switch in memory leave by which passes go on stage by stage.
-use Rattle.std.proofs.Common.{◌≡◌, ◌∙◌, ◌<◌, ◌++◌, ℕ, zero, suc, ◌==◌, Bool, true, false, cond, List, [], ◌∷◌, Option, Some, None, Result, Ok, Err, IfOk, refl, sym, ap, subst, arith, get_or}
+use Rattle.std.proofs.Common.{◌≡◌, ◌∙◌, ◌<◌, ◌++◌, ℕ, zero, suc, ◌==◌, Bool, true, false, cond, List, [], ◌∷◌, Option, Some, None, Result, Ok, Err, IfOk, IfSome, refl, sym, ap, subst, arith, get_or}
 use Rattle.std.specs.Prelude.{filter, position, slice_set, ◌||◌, IsSome}
 use Rattle.std.specs.List.{AllByRecursion as Each}
 use Rattle.std.specs.Option.{option_map}
@@ -7,11 +7,11 @@ use Rattle.std.proofs.lemmas.Bool.{eqb-true, false≢true, true≢false}
 use Rattle.packet_fields.specs.declared.packet.Packet.{Packet}
 use Rattle.flat_ir.specs.Blocks.{nothing}
 use Rattle.split_model.specs.declared.layout.Crossing.{Crossing}
-use Rattle.transfer_header.specs.Frames.{IsFrameOf}
+use Rattle.transfer_header.specs.Frames.{IsFrame, IsFrameOf}
 use Rattle.switch_ir.specs.Code.{code_of, Code}
 use Rattle.switch_ir.specs.Journal.{JournalState}
 use Rattle.switch_ir.specs.Meaning.{down_given}
-use Rattle.switch_ir.specs.Port.{noted_down, noted_up, down_failed, up_failed, BeginsDown, BeginsUp, EndsDown, EndsUp, HasNoDownPassOf, IsHandedDown, IsNothing, IsUpFrame}
+use Rattle.switch_ir.specs.Port.{noted_down, noted_up, down_failed, up_failed, BeginsDown, BeginsUp, EndsDown, EndsUp, HasNoDownPassOf, IsHandedDown, IsNothing, IsUpFrame, OfItsParts}
 use Rattle.switch_ir.specs.Staged.{last_numbers, pre_staging, post_staging, EndsBy, EndsDownBy, Staging}
 use Rattle.switch_ir.specs.Tables.{view_of, Told}
 use Rattle.switch_ir.specs.UnderWay.{HasEntered, HasGoneOn, PassState, ToldPass}
@@ -34,7 +34,7 @@ use Rattle.switch_machine.specs.Loading.{code_in}
 use Rattle.switch_machine.specs.Machine.{seen_of, MachineState}
 use Rattle.switch_machine.specs.Staging.{EntersByFrame, EntersUp, GoesOnDown, GoesOnUp, IsLastDown, IsLastUp, IsPlaceOf}
 use Rattle.switch_machine.proofs.Each.{each_append, each_at}
-use Rattle.switch_machine.proofs.FlightLists.{is_of, is_other, none_placed, number_is, place_within, shown_at}
+use Rattle.switch_machine.proofs.FlightLists.{at_place_is, is_of, is_other, none_placed, number_is, place_within, shown_at}
 use Rattle.switch_machine.proofs.KeptRows.{none_some, the_some}
 use Rattle.switch_machine.proofs.StagedCalls.{begins_whole_down, begins_whole_up}
 use Rattle.switch_machine.proofs.StagedMachine.{has_entered, has_gone_on, pushed_down, pushed_up, removed_down, removed_up, set_down, set_up, stays_under}
@@ -62,6 +62,10 @@ found_down None xs ys n h e = false≢true h
 found_down (Some l) xs ys n h e = none_shown (post_staging (code_of l.code)) l.post_numbering (flight_at ys n) (none_placed ys n e) h
 
 -- ## The machine from its parts
+
+-- what is told of a pass besides its packet and its stage
+abbrev told_of : Staging → List ValueRange → Flight → ToldPass
+told_of p ranges f = record { bit = f.bit; numbers = numbers_in p ranges f.stage f.registers }
 
 module _ (tables : Told) (faults : ℕ) (planned : List (CallKind × ℕ)) (calls : CallCounts) where
   abbrev pub made : Option Loaded → JournalState → List Flight → List Flight → MachineState
@@ -136,7 +140,7 @@ module _ (tables : Told) (faults : ℕ) (planned : List (CallKind × ℕ)) (call
             subst Framed (λ k. (the_some (code_of l.code) code code_is k, numbered k, before_is k)) frame;
         told = λ code before code_is there told own told_is own_is.
             let before_is = before_at code before there in
-            let own_eq = the_some own_told own (ap (λ (b : PassState). b.told) before_is ∙ own_is) in
+            let own_eq = the_some (told_of (pre_staging (code_of l.code)) l.pre_numbering f) own (ap (λ (b : PassState). b.told) before_is ∙ own_is) in
             let Ended : Code × ℕ × PassState × ToldPass × Told → Type 0 =
             λ (x, m, b, o, t). EndsBy x (last_numbers (pre_staging x) (suc b.stage) o.numbers (view_of o.bit t.pairs) b.packet) m b.packet end in
             subst Ended (λ k. (the_some (code_of l.code) code code_is k, numbered k, before_is k, own_eq k, the_some tables told told_is k)) ends;
@@ -156,9 +160,6 @@ module _ (tables : Told) (faults : ℕ) (planned : List (CallKind × ℕ)) (call
       numbered : f.number ≡ n
       numbered = ap (λ (x : Flight). x.number) here ∙ number_is xs n i f place
 
-      abbrev own_told : ToldPass
-      own_told = record { bit = f.bit; numbers = numbers_in (pre_staging (code_of l.code)) l.pre_numbering f.stage f.registers }
-
       before_at : (code : Code) (before : PassState) → (under_way (Some l) xs ys).pre n ≡ Some before → shown (pre_staging (code_of l.code)) l.pre_numbering f ≡ before
       before_at code before there =
           ap (shown (pre_staging (code_of l.code)) l.pre_numbering) here ∙ shown_at (pre_staging (code_of l.code)) l.pre_numbering xs n i f before place there
@@ -172,10 +173,10 @@ module _ (tables : Told) (faults : ℕ) (planned : List (CallKind × ℕ)) (call
   enters_up loaded l after journal noted xs ys zs n port packet f is same begun none zs_is noted_is =
       subst (λ (o : Option Loaded). EntersUp n port packet (made o journal xs ys) (made (Some after) noted zs ys)) (sym is)
       (record {
-        pass = shown p l.pre_numbering f;
+        pass = shown (pre_staging (code_of l.code)) l.pre_numbering f;
         has = λ code code_is.
-            subst (λ (x : Code). HasEntered (pre_staging x) IsNothing arrived (Some tables) (shown p l.pre_numbering f)) (the_some (code_of l.code) code code_is)
-            (has_entered l.code.pre p l.pre_numbering nothing n arrived tables f IsNothing (λ other e. e) begun);
+            subst (λ (x : Code). HasEntered (pre_staging x) IsNothing (record { port = port; bytes = packet }) (Some tables) (shown (pre_staging (code_of l.code)) l.pre_numbering f)) (the_some (code_of l.code) code code_is)
+            (has_entered l.code.pre (pre_staging (code_of l.code)) l.pre_numbering nothing n (record { port = port; bytes = packet }) tables f IsNothing (λ other e. e) begun);
         is =
             let none_there = subst (λ (o : Option Loaded). (under_way o xs ys).pre n ≡ None) is none in
             let all = stays_under l after zs ys same ∙ ap (λ (fs : List Flight). under_way (Some l) fs ys) zs_is ∙ pushed_up l xs ys n f begun.number_is none_there in
@@ -189,12 +190,6 @@ module _ (tables : Told) (faults : ℕ) (planned : List (CallKind × ℕ)) (call
               calls = calls;
             };
       })
-    where
-      abbrev p : Staging
-      p = pre_staging (code_of l.code)
-
-      abbrev arrived : Packet
-      arrived = record { port = port; bytes = packet }
 
   pub goes_on_down : (loaded : Option Loaded) (l after : Loaded) (journal noted : JournalState) (xs ys : List Flight) (n i : ℕ) (f g : Flight)
       → loaded ≡ Some l → StaysLoaded l after → IsPlaceOf ys n i → f ≡ get_or ys i f
@@ -237,7 +232,7 @@ module _ (tables : Told) (faults : ℕ) (planned : List (CallKind × ℕ)) (call
         passes = passes;
         told = λ code before code_is there told own told_is own_is.
             let before_is = before_at code before there in
-            let own_eq = the_some own_told own (ap (λ (b : PassState). b.told) before_is ∙ own_is) in
+            let own_eq = the_some (told_of (post_staging (code_of l.code)) l.post_numbering f) own (ap (λ (b : PassState). b.told) before_is ∙ own_is) in
             let Ended : Code × PassState × ToldPass × Told → Type 0 =
             λ (x, b, o, t). EndsDownBy x (last_numbers (post_staging x) (suc b.stage) o.numbers (view_of o.bit t.pairs) b.packet) b.packet end in
             subst Ended (λ k. (the_some (code_of l.code) code code_is k, before_is k, own_eq k, the_some tables told told_is k)) ends;
@@ -254,9 +249,6 @@ module _ (tables : Told) (faults : ℕ) (planned : List (CallKind × ℕ)) (call
             };
       })
     where
-      abbrev own_told : ToldPass
-      own_told = record { bit = f.bit; numbers = numbers_in (post_staging (code_of l.code)) l.post_numbering f.stage f.registers }
-
       before_at : (code : Code) (before : PassState) → (under_way (Some l) xs ys).post n ≡ Some before → shown (post_staging (code_of l.code)) l.post_numbering f ≡ before
       before_at code before there =
           ap (shown (post_staging (code_of l.code)) l.post_numbering) here ∙ shown_at (post_staging (code_of l.code)) l.post_numbering ys n i f before place there
@@ -274,12 +266,16 @@ module _ (tables : Told) (faults : ℕ) (planned : List (CallKind × ℕ)) (call
       subst (λ (o : Option Loaded). EntersByFrame frame (made o journal xs ys) (made (Some after) noted xs zs)) (sym is)
       (record {
         number = n;
-        pass = shown p l.post_numbering f;
+        pass = shown (post_staging (code_of l.code)) l.post_numbering f;
         has = λ code code_is.
+            let Entered : Code → Type 0 =
+            λ x. (m port : ℕ) (values : Crossing → ℕ) (packet : List ℕ) → IsFrameOf 2 x.down m port values packet frame
+            → (m ≡ n) × HasEntered (post_staging x) (IsHandedDown x values (record { port = port; bytes = packet })) (record { port = port; bytes = packet }) (Some tables)
+            (shown (post_staging (code_of l.code)) l.post_numbering f) in
             subst Entered (the_some (code_of l.code) code code_is) (λ m port values packet framed.
             let b = begun m port values packet framed in (
               sym b.number_is ∙ number,
-              has_entered l.code.post p l.post_numbering (down_given (code_of l.code) values (record { port = port; bytes = packet })) m
+              has_entered l.code.post (post_staging (code_of l.code)) l.post_numbering (down_given (code_of l.code) values (record { port = port; bytes = packet })) m
                   (record { port = port; bytes = packet }) tables f (IsHandedDown (code_of l.code) values (record { port = port; bytes = packet })) (λ other e. e) b,
             ));
         is =
@@ -295,13 +291,6 @@ module _ (tables : Told) (faults : ℕ) (planned : List (CallKind × ℕ)) (call
               calls = calls;
             };
       })
-    where
-      abbrev p : Staging
-      p = post_staging (code_of l.code)
-
-      abbrev Entered : Code → Type 0
-      Entered x = (m port : ℕ) (values : Crossing → ℕ) (packet : List ℕ) → IsFrameOf 2 x.down m port values packet frame
-          → (m ≡ n) × HasEntered (post_staging x) (IsHandedDown x values (record { port = port; bytes = packet })) (record { port = port; bytes = packet }) (Some tables) (shown p l.post_numbering f)
 
 -- ## What holds of the passes that are under way
 
@@ -327,13 +316,13 @@ each_set P [] i x h own = tt
 each_set P (y ∷ ys) zero x h own = (own, h.1)
 each_set P (y ∷ ys) (suc i) x h own = (h.0, each_set P ys i x h.1 own)
 
+chosen : {X : Type 0} (P : X → Type 0) (b : Bool) (x : X) (xs : List X) → P x → Each P xs → Each P (cond b (x ∷ xs) xs)
+chosen P true x xs own h = (own, h)
+chosen P false x xs own h = h
+
 each_kept : {X : Type 0} (P : X → Type 0) (test : X → Bool) (xs : List X) → Each P xs → Each P (filter test xs)
 each_kept P test [] h = tt
-each_kept P test (x ∷ xs) h = chosen (test x)
-  where
-    chosen : (b : Bool) → Each P (cond b (x ∷ filter test xs) (filter test xs))
-    chosen true = (h.0, each_kept P test xs h.1)
-    chosen false = each_kept P test xs h.1
+each_kept P test (x ∷ xs) h = chosen P (test x) x (filter test xs) h.0 (each_kept P test xs h.1)
 
 of_parts : (a : Loaded) (xs ys : List Flight) → AreFlightsOf a xs ys → AreReadyIn (Some a) xs ys
 of_parts a xs ys h l is = subst (λ (x : Loaded). AreFlightsOf x xs ys) (the_some a l is) h
@@ -367,6 +356,16 @@ pub flight_up : (loaded : Option Loaded) (l : Loaded) (xs ys : List Flight) (n i
     → IsFlightOf l.code.pre f
 flight_up loaded l xs ys n i f is ready place here =
     subst (IsFlightOf l.code.pre) (sym here) (each_at (IsFlightOf l.code.pre) xs i f (ready l is).arriving (place_within xs n i place))
+
+-- what is asked of its stage
+pub asked_up : (Holds : ℕ → ℕ → Type 0) (loaded : Option Loaded) (l : Loaded) (xs ys : List Flight) (n i : ℕ) (f : Flight) → loaded ≡ Some l → IsPlaceOf xs n i → f ≡ get_or xs i f
+    → ((code : Code) (pass : PassState) → code_in loaded ≡ Some code → (under_way loaded xs ys).pre n ≡ Some pass → Holds (suc pass.stage) code.pre.highest)
+    → Holds (suc f.stage) l.code.pre.highest
+asked_up Holds loaded l xs ys n i f is place here asked =
+    let show = shown (pre_staging (code_of l.code)) l.pre_numbering in
+    let there = ap (option_map show) (at_place_is xs n i f place).1 ∙ ap (λ (x : Flight). Some (show x)) (sym here) in
+    subst (λ (o : Option Loaded). (code : Code) (pass : PassState) → code_in o ≡ Some code → (under_way o xs ys).pre n ≡ Some pass → Holds (suc pass.stage) code.pre.highest) is asked
+    (code_of l.code) (show f) refl there
 
 -- its stage, which is below the highest one
 pub stage_up : (loaded : Option Loaded) (xs ys : List Flight) (n i : ℕ) (f : Flight) (pass : PassState) → IsPlaceOf xs n i → f ≡ get_or xs i f
@@ -412,6 +411,16 @@ pub flight_down : (loaded : Option Loaded) (l : Loaded) (xs ys : List Flight) (n
 flight_down loaded l xs ys n i f is ready place here =
     subst (IsFlightOf l.code.post) (sym here) (each_at (IsFlightOf l.code.post) ys i f (ready l is).leaving (place_within ys n i place))
 
+-- what is asked of its stage
+pub asked_down : (Holds : ℕ → ℕ → Type 0) (loaded : Option Loaded) (l : Loaded) (xs ys : List Flight) (n i : ℕ) (f : Flight) → loaded ≡ Some l → IsPlaceOf ys n i → f ≡ get_or ys i f
+    → ((code : Code) (pass : PassState) → code_in loaded ≡ Some code → (under_way loaded xs ys).post n ≡ Some pass → Holds (suc pass.stage) code.post.highest)
+    → Holds (suc f.stage) l.code.post.highest
+asked_down Holds loaded l xs ys n i f is place here asked =
+    let show = shown (post_staging (code_of l.code)) l.post_numbering in
+    let there = ap (option_map show) (at_place_is ys n i f place).1 ∙ ap (λ (x : Flight). Some (show x)) (sym here) in
+    subst (λ (o : Option Loaded). (code : Code) (pass : PassState) → code_in o ≡ Some code → (under_way o xs ys).post n ≡ Some pass → Holds (suc pass.stage) code.post.highest) is asked
+    (code_of l.code) (show f) refl there
+
 -- its stage, which is below the highest one
 pub stage_down : (loaded : Option Loaded) (xs ys : List Flight) (n i : ℕ) (f : Flight) (pass : PassState) → IsPlaceOf ys n i → f ≡ get_or ys i f
     → (under_way loaded xs ys).post n ≡ Some pass → pass.stage ≡ f.stage
@@ -427,6 +436,28 @@ below_down (Some l) xs ys n i f code ready is place here =
     subst (λ (x : Code). f.stage < x.post.highest) (the_some (code_of l.code) code is) (flight_down (Some l) l xs ys n i f refl ready place here).below
 
 -- ## Where a pass ends at once
+
+-- the pass of a frame's packet isn't under way, by the number that it was given
+pub none_entered : (loaded : Option Loaded) (l : Loaded) (xs ys : List Flight) (frame : List ℕ) (f : Flight) → loaded ≡ Some l
+    → IfSome (code_in loaded) (λ code. IsFrame 2 code.down frame)
+    → IfSome (code_in loaded) (λ code. OfItsParts code frame (λ number packet values. (under_way loaded xs ys).post number ≡ None))
+    → ((number port : ℕ) (values : Crossing → ℕ) (packet : List ℕ) → IsFrameOf 2 l.code.down number port values packet frame → f.number ≡ number)
+    → (under_way loaded xs ys).post f.number ≡ None
+none_entered None l xs ys frame f is framed none number = absurd (none_some l is)
+none_entered (Some k) l xs ys frame f is framed none number =
+    let told = subst (λ (x : Loaded). (n port : ℕ) (values : Crossing → ℕ) (packet : List ℕ) → IsFrameOf 2 x.code.down n port values packet frame → f.number ≡ n) (sym (the_some k l is)) number in
+    subst (λ n. (under_way (Some k) xs ys).post n ≡ None) (sym (told framed.number framed.port framed.values framed.packet framed.is))
+    (none framed.number framed.port framed.values framed.packet framed.is)
+
+-- the frame is one of the code that is loaded
+pub framed_of : (loaded : Option Loaded) (l : Loaded) (frame : List ℕ) → loaded ≡ Some l → IfSome (code_in loaded) (λ code. IsFrame 2 code.down frame) → IsFrame 2 l.code.down frame
+framed_of None l frame is framed = absurd (none_some l is)
+framed_of (Some k) l frame is framed = subst (λ (x : Loaded). IsFrame 2 x.code.down frame) (the_some k l is) framed
+
+-- what is there
+pub some_of : {X : Type 0} (o : Option X) → IsSome o → (x : X) × (o ≡ Some x)
+some_of None h = absurd (false≢true h)
+some_of (Some x) h = (x, refl)
 
 pub whole_low : (fails : Bool) (h : ℕ) → (fails || h == 0) ≡ true → fails ≡ false → h ≡ 0
 whole_low true h w e = absurd (true≢false e)

@@ -210,10 +210,10 @@ fn begin(
     a_pass_by_place();
     are_few(&loaded.down.registers);
     take_first(&loaded.post, &mut loaded.down, tables, arrival);
-    let pass = &loaded.code.post;
+    let plan = loaded.code.post.plan.copy(alloc)?;
     keep(
         alloc,
-        &pass.plan,
+        plan,
         &loaded.down.registers,
         number,
         arrival,

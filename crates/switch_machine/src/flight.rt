@@ -82,17 +82,17 @@ fn copy_numbers(from: &Regs, to: &mut Regs)
 /// A pass whose stage 0 is done, in registers of its own that have these numbers.
 pub(crate) fn keep(
     alloc: Global,
-    plan: &RegPlan,
+    plan: RegPlan,
     registers: &Regs,
     number: u32,
     arrival: &Arrival<'_>,
     bit: bool,
 ) -> Result<Flight, NoMemory>
-    requires plan { registers.now.plan ≡ Some plan.now }
-    requires count { length registers.now.numbers ≡ plan.now.count }
+    requires plan { registers.now.plan ≡ Some plan }
+    requires count { length registers.now.numbers ≡ plan.count }
     ensures { IfOk result (IsBegun number (packet_of arrival.now) bit registers.now) }
 {
-    let mut own = Regs::planned(alloc, plan.copy(alloc)?)?;
+    let mut own = Regs::planned(alloc, plan)?;
     copy_numbers(registers, &mut own);
     Ok(Flight {
         number,
@@ -148,6 +148,8 @@ pub(crate) fn take_stage(
     ensures written { place.new.registers ≡ all_placed flight.now.registers
         (ready_gives (ready_at stages.now (suc flight.now.stage)) (reads_at flight.now.registers.numbers)
         (view_of flight.now.bit tables.now.pairs) (packet_in flight.now)) }
+    ensures plan { place.new.registers.plan ≡ place.old.registers.plan }
+    ensures count { length place.new.registers.numbers ≡ length place.old.registers.numbers }
     ensures room { length place.new.before.items ≡ length place.old.before.items }
 {
     copy_numbers(&flight.registers, &mut place.registers);

@@ -99,6 +99,11 @@ fn end_up(
     Ok(UpEnd::Finished(leave(&pass.out, arrival, &run, copy)))
 }
 
+// A port is below 256.
+fn fits(port: u8)
+    ensures { port < 256 }
+{}
+
 /// What the code does with a packet that arrives.
 pub(crate) fn go_up(
     alloc: Global,
@@ -152,10 +157,10 @@ pub(crate) fn enter_up(
     loaded.up.clear();
     are_few(&loaded.up.registers);
     take_first(&loaded.pre, &mut loaded.up, tables, &arrival);
-    let pass = &loaded.code.pre;
+    let plan = loaded.code.pre.plan.copy(alloc)?;
     keep(
         alloc,
-        &pass.plan,
+        plan,
         &loaded.up.registers,
         number,
         &arrival,
@@ -208,8 +213,10 @@ pub(crate) fn finish_up(
     are_few(&flight.registers);
     take_stage(&loaded.pre, &mut loaded.up, tables, flight);
     let bytes = flight.packet.as_slice();
+    let port = flight.port;
+    fits(port);
     let arrival = Arrival {
-        port: flight.port,
+        port,
         bytes,
         shape: Shape::of(bytes),
     };

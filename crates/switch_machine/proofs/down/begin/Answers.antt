@@ -1,4 +1,5 @@
-use Rattle.std.proofs.Common.{◌≡◌, ◌∙◌, subst, arith, Bool, IfOk, refl}
+use Rattle.std.proofs.Common.{◌≡◌, ◌∙◌, ap, subst, sym, arith, Bool, IfOk, Some, refl}
+use Rattle.flat_ir.specs.Plan.{RegisterPlan}
 use Rattle.flat_ir.specs.Registers.{packet_of}
 use Rattle.switch_ir.specs.Code.{code_of}
 use Rattle.switch_ir.specs.Staged.{post_staging}
@@ -20,10 +21,12 @@ pub take_first-requires-clause-within : goal.take_first-requires-clause-within
 take_first-requires-clause-within c = omega (arith, c.args.loaded.now.post_stages.count)
 
 pub keep-requires-clause-plan : goal.keep-requires-clause-plan
-keep-requires-clause-plan c = c.take_first.ensures.plan ∙ c.args.loaded.now.post_plan
+keep-requires-clause-plan c =
+    c.take_first.ensures.plan ∙ c.args.loaded.now.post_plan ∙ ap (λ (p : RegisterPlan). Some p) (sym c.in_ok-plan.ensures)
 
 pub keep-requires-clause-count : goal.keep-requires-clause-count
-keep-requires-clause-count c = c.take_first.ensures.count ∙ c.args.loaded.now.down_count
+keep-requires-clause-count c =
+    c.take_first.ensures.count ∙ c.args.loaded.now.down_count ∙ ap (λ (p : RegisterPlan). p.count) (sym c.in_ok-plan.ensures)
 
 pub returns-clause-begun : goal.returns-clause-begun
 returns-clause-begun c given begins =

@@ -4,7 +4,7 @@ use Rattle.transfer_header.specs.Registers.{value_in}
 use Rattle.switch_ir.specs.Code.{code_of, Code}
 use Rattle.switch_ir.specs.Meaning.{down_given}
 use Rattle.switch_ir.specs.Staged.{post_staging}
-use Rattle.switch_machine.specs.Flights.{HasBegun}
+use Rattle.switch_machine.specs.Flights.{HasBegun, StaysLoaded}
 use Rattle.switch_machine.specs.Keeping.{begins_down}
 use Rattle.switch_machine.specs.Planned.{BeginsWith}
 use Rattle.switch_machine.proofs.Beginnings.{begun_by}
@@ -36,7 +36,7 @@ returns-clause-begun c number port values packet frame_is =
     (sym c.give.ensures.code) c.give.ensures.begins in
     let one = c.unpack-head.ensures.stays in
     let two = c.give.ensures.stays in
-    let stays = (two.0 ∙ one.0, two.1 ∙ one.1, two.2 ∙ one.2, two.3 ∙ one.3, two.4 ∙ one.4) in
+    let stays : StaysLoaded first given_to = (two.0 ∙ one.0, two.1 ∙ one.1, two.2 ∙ one.2, two.3 ∙ one.3, two.4 ∙ one.4) in
     ok_weaker (HasBegun given_to.code.post (post_staging (code_of given_to.code)) given_to.post_numbering given head.number arrived told)
     (HasBegun first.code.post (post_staging code) first.post_numbering other number packet_too told) c.begin.result
     (λ f h. begun_by first given_to stays given other head.number number arrived packet_too told f given_is same.same_number packet_is h)

@@ -1,6 +1,7 @@
-use Rattle.std.proofs.Common.{◌≡◌, ◌∙◌, subst, arith, Bool, IfOk}
+use Rattle.std.proofs.Common.{◌≡◌, ◌∙◌, ap, subst, sym, arith, Bool, IfOk, Some}
 use Rattle.packet_fields.specs.declared.packet.Packet.{Packet}
 use Rattle.flat_ir.specs.Blocks.{nothing}
+use Rattle.flat_ir.specs.Plan.{RegisterPlan}
 use Rattle.switch_ir.specs.Code.{code_of}
 use Rattle.switch_ir.specs.Staged.{pre_staging}
 use Rattle.switch_ir.specs.Tables.{seen_tables}
@@ -21,10 +22,12 @@ pub take_first-requires-clause-within : goal.take_first-requires-clause-within
 take_first-requires-clause-within c = omega (arith, c.args.loaded.now.pre_stages.count)
 
 pub keep-requires-clause-plan : goal.keep-requires-clause-plan
-keep-requires-clause-plan c = c.take_first.ensures.plan ∙ c.clear.ensures.plan ∙ c.args.loaded.now.pre_plan
+keep-requires-clause-plan c =
+    c.take_first.ensures.plan ∙ c.clear.ensures.plan ∙ c.args.loaded.now.pre_plan ∙ ap (λ (p : RegisterPlan). Some p) (sym c.in_ok-plan.ensures)
 
 pub keep-requires-clause-count : goal.keep-requires-clause-count
-keep-requires-clause-count c = c.take_first.ensures.count ∙ c.clear.ensures.count ∙ c.args.loaded.now.up_count
+keep-requires-clause-count c =
+    c.take_first.ensures.count ∙ c.clear.ensures.count ∙ c.args.loaded.now.up_count ∙ ap (λ (p : RegisterPlan). p.count) (sym c.in_ok-plan.ensures)
 
 pub returns-clause-begun : goal.returns-clause-begun
 returns-clause-begun c =

@@ -47,6 +47,9 @@ end_up-requires-clause-fits c =
     c.preprocessing_is_computed.ensures.fits code l.pre_numbering registers
     (ready_up l registers (ap (λ (rs : Registers). rs.plan) same ∙ plan_pairs f.registers gives ∙ c.requires.flight.plan ∙ sym l.pre_plan))
 
+pub end_up-requires-clause-port : goal.end_up-requires-clause-port
+end_up-requires-clause-port c = c.fits.ensures
+
 pub returns-clause-told : goal.returns-clause-told
 returns-clause-told c =
     let l = c.args.loaded.now in

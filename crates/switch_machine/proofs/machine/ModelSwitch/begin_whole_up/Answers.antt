@@ -5,7 +5,7 @@ use Rattle.switch_ir.specs.declared.port.UpEnd.{UpEnd}
 use Rattle.switch_machine.specs.Calls.{ended}
 use Rattle.switch_machine.specs.Views.{machine_of}
 use Rattle.switch_machine.proofs.Passing.{up_is, ended_by, noted_whole_up}
-use Rattle.switch_machine.proofs.staging.ModelSwitch.begin_whole_up.Goals as goal
+use Rattle.switch_machine.proofs.machine.ModelSwitch.begin_whole_up.Goals as goal
 
 pub returns-clause-ok : goal.returns-clause-ok
 returns-clause-ok c =
