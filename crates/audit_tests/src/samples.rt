@@ -9,7 +9,7 @@ use element_text::read;
 use gal_bits::Values;
 use gal_io::Bytes;
 use packet_fields::{Packet, Packets, Verdict};
-use run_model::{Fate, Fates, Order, Part, Parts, Run};
+use run_model::{Fate, Fates, Order, ObjectRows, StoreRows, Run};
 use state_store::{Row, Rows};
 use std::alloc::Global;
 use std::test::Fail;
@@ -155,7 +155,7 @@ fn numbers(of: &[u64]) -> Values
 }
 
 // The part of an object with one row.
-fn part(alloc: Global, object: u32, keys: &[u64], values: &[u64]) -> Result<Part, Fail>
+fn part(alloc: Global, object: u32, keys: &[u64], values: &[u64]) -> Result<ObjectRows, Fail>
     requires few_keys { length keys.now ≤ 8 }
     requires few_values { length values.now ≤ 8 }
 {
@@ -164,16 +164,16 @@ fn part(alloc: Global, object: u32, keys: &[u64], values: &[u64]) -> Result<Part
         keys: numbers(keys),
         values: numbers(values),
     })?;
-    Ok(Part { object, rows })
+    Ok(ObjectRows { object, rows })
 }
 
 // What the translator stores of the segment's flow, but with this next port.
-fn parts(alloc: Global, next: u64) -> Result<Parts, Fail> {
+fn parts(alloc: Global, next: u64) -> Result<StoreRows, Fail> {
     let mut parts = Vec::new(alloc);
     parts.push(part(alloc, 0, &[0x0a00_0001, 5000], &[1024])?)?;
     parts.push(part(alloc, 1, &[1024], &[0x0a00_0001, 5000])?)?;
     parts.push(part(alloc, 2, &[], &[next])?)?;
-    Ok(Parts::from(parts))
+    Ok(StoreRows::from(parts))
 }
 
 /// A report of so many packets, of which so many are told to be released; all others are decided.
@@ -197,6 +197,6 @@ pub(crate) fn report(
         fates: fates(alloc, told)?,
         order: Order::from(order.to_vec(alloc)?),
         objects: parts(alloc, next)?,
-        switch: Parts::from(Vec::new(alloc)),
+        switch: StoreRows::from(Vec::new(alloc)),
     })
 }

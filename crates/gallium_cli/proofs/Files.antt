@@ -28,7 +28,7 @@ use Rattle.gallium_cli.specs.Roles.{IsShort, IsGood, AreLimits, Gate, File, Choi
 use Rattle.gallium_cli.specs.Roles.{plan_files, plan_gates, given_gates, split_gates, event_gates, size_of, IsCaptured}
 use Rattle.gallium_cli.specs.Answers.{IsInput, IsOnlySource, IsProgram, IsPlan, IsGivenSplit, IsSplitBy, IsTraffic}
 use Rattle.gallium_cli.specs.Answers.{IsAuditInput, IsTrueFile}
-use Rattle.gallium_cli.specs.Loads.{GoesOn, IsUnread, IsFileRefused, IsLoaded}
+use Rattle.gallium_cli.specs.Loads.{GoesOn, IsUnread, IsFileRefused, AreBytesOf}
 use Rattle.gallium_cli.specs.Causes.{IsRefusedAt, IsPassed, AllPassed, IsFirstRefused, IsUnchosen}
 
 -- ## One file
@@ -52,7 +52,7 @@ told_text P bytes (Some content) same holds = subst P same holds
 
 -- a file whose text isn't read is refused
 pub unread_refused : (refusal : Refusal) (role : Role) (bytes name : List ℕ) (f f' : FilesState)
-    → IsLoaded bytes name (size_of role) f → IsUnread refusal role bytes → IsFileRefused refusal role name f f'
+    → AreBytesOf bytes name (size_of role) f → IsUnread refusal role bytes → IsFileRefused refusal role name f f'
 unread_refused (Source fault) source bytes name f f' loaded unread =
     (unread.0, told_text _ bytes (f.told name) loaded.1 ((loaded.0, unread.1), unread.2))
 unread_refused (Source fault) program bytes name f f' loaded unread =
@@ -84,8 +84,8 @@ pub read_refused : {A : Type 0} (result : Result A Refusal) (role : Role) (bytes
     → IfErr result (λ refusal. IsUnread refusal role bytes)
     → IfErr result (λ refusal. IsFileRefused refusal role name f f')
 read_refused result role bytes into name max f f' same size gives unread =
-    let loaded : IsLoaded bytes name (size_of role) f =
-    subst (λ (n : ℕ). IsLoaded bytes name n f) size (subst (λ (b : List ℕ). IsLoaded b name max f) (sym same) gives) in
+    let loaded : AreBytesOf bytes name (size_of role) f =
+    subst (λ (n : ℕ). AreBytesOf bytes name n f) size (subst (λ (b : List ℕ). AreBytesOf b name max f) (sym same) gives) in
     IfErr-weaker result (λ refusal. IsUnread refusal role bytes) (λ refusal. IsFileRefused refusal role name f f')
     (λ refusal here. unread_refused refusal role bytes name f f' loaded here) unread
 

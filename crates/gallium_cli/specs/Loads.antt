@@ -105,8 +105,8 @@ IsFileRefused NoMemory role name f f' = Unit {0}
 IsFileRefused _ role name f f' = ⊥
 
 -- the bytes of a file that was read: the told ones, where they are told
-abbrev pub IsLoaded : List ℕ → List ℕ → ℕ → FilesState → Type 0
-IsLoaded bytes name size f = (length bytes ≤ size) × IfSome (f.told name) (λ told. bytes ≡ told)
+abbrev pub AreBytesOf : List ℕ → List ℕ → ℕ → FilesState → Type 0
+AreBytesOf bytes name size f = (length bytes ≤ size) × IfSome (f.told name) (λ told. bytes ≡ told)
 
 -- a count after so many more; it stands still at its type's end
 abbrev pub raised_by : ℕ → ℕ → ℕ

@@ -33,7 +33,7 @@ use gal_io::{Files, NoMemory, Sink, Text};
 use packet_fields::Packet;
 use partition::greatest_split_is_one;
 use resource_limits::kept_limits_are_not_exceeded;
-use run_model::Parts;
+use run_model::StoreRows;
 use run_text::print_answer;
 use split_validate::{a_text_is_of_one_split, one_line_is_first_wrong};
 use std::alloc::Global;
@@ -47,7 +47,7 @@ fn answer(alloc: Global, m: &Middlebox, packets: &[Packet]) -> Result<Text, NoMe
     ensures { IfOk result (λ text. text ≡ serial_answer (tree m.now) packets.now) }
 {
     let served = run_all(alloc, m, packets)?;
-    let parts = Parts::of(alloc, m.objects.as_slice(), &served.store)?;
+    let parts = StoreRows::of(alloc, m.objects.as_slice(), &served.store)?;
     print_answer(alloc, &m.objects, served.verdicts.as_slice(), &parts)
 }
 

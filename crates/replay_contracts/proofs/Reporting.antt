@@ -11,7 +11,7 @@ use Rattle.writeback_table.specs.Commands.{bit_through, pair_through}
 use Rattle.writeback_table.specs.Pair.{Pair, visible, visible_rows}
 use Rattle.run_model.specs.declared.event.Event.{Event}
 use Rattle.run_model.specs.declared.event.Event.TheVariants.{Admit}
-use Rattle.run_model.specs.declared.run.Part.{Part}
+use Rattle.run_model.specs.declared.run.ObjectRows.{ObjectRows}
 use Rattle.run_model.specs.declared.run.Run.{Run}
 use Rattle.run_model.specs.Parts.{parts_where}
 use Rattle.run_model.specs.Serialises.{Serialises, AllReleased, IsDrained, is_fast, is_passing}
@@ -55,9 +55,9 @@ module _ (x : Given) (events : List Event) (st : State) where
       → run ≡ job_run (setup_for x) (whole_runs x) events
   run_told old new run commands tables is reports same rows =
       let parts : run.switch ≡ seen_parts (setup_for x) st = reports.rows tables is ∙ parts_same (whole x).replicated tables (seen_store st) rows 0 (whole x).objects in
-      reports.is ∙ ap (λ (l : List Part). with_parts l) parts ∙ ap (run_of (setup_for x)) same
+      reports.is ∙ ap (λ (l : List ObjectRows). with_parts l) parts ∙ ap (run_of (setup_for x)) same
     where
-      with_parts : List Part → Run
+      with_parts : List ObjectRows → Run
       with_parts l = record (run_of (setup_for x) st) { switch = l }
 
 -- ---- the promises

@@ -5,7 +5,7 @@ use Rattle.state_store.specs.declared.object.ObjectDecl.{ObjectDecl}
 use Rattle.writeback_table.specs.Pair.{visible_rows}
 use Rattle.run_model.specs.declared.event.Event.{Event}
 use Rattle.run_model.specs.declared.event.Event.TheVariants.{Admit}
-use Rattle.run_model.specs.declared.run.Part.{Part}
+use Rattle.run_model.specs.declared.run.ObjectRows.{ObjectRows}
 use Rattle.run_model.specs.declared.run.Run.{Run}
 use Rattle.run_model.specs.Serialises.{Serialises, AllReleased, IsDrained, is_fast, is_passing}
 use Rattle.switch_ir.specs.Port.{PortState}
@@ -20,7 +20,7 @@ use Rattle.replay_contracts.specs.Called.{KeepsCalls}
 use Rattle.replay_contracts.specs.Given.{Given, whole, setup_for, whole_runs, meaning_for}
 
 -- the rows of the replicated objects, from number n on, that lookups see
-abbrev pub told_parts : (ℕ → Bool) → Told → ℕ → List ObjectDecl → List Part
+abbrev pub told_parts : (ℕ → Bool) → Told → ℕ → List ObjectDecl → List ObjectRows
 told_parts test told n [] = []
 told_parts test told n (object ∷ objects) =
     let behind = told_parts test told (suc n) objects in

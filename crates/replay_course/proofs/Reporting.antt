@@ -5,7 +5,7 @@ use Rattle.std.specs.Prelude.{◌&&◌, count_by}
 use Rattle.run_model.specs.Fate.{is_decided, is_released}
 use Rattle.run_model.specs.Order.{order_of}
 use Rattle.run_model.specs.Parts.{parts_of}
-use Rattle.run_model.specs.declared.run.Part.{Part}
+use Rattle.run_model.specs.declared.run.ObjectRows.{ObjectRows}
 use Rattle.run_model.specs.declared.run.Run.{Run}
 use Rattle.switch_ir.specs.Port.{PortState}
 use Rattle.output_commit.specs.Batches.{commands_in, visible}
@@ -43,7 +43,7 @@ module _ (x : Given) (calls : List Call) (st : State) (c : Course) (h : IsShown 
       grouped n true false k d a e = refl
       grouped n false u k d a e = cc
 
-  pub tells_run : (parts : List Part) → told_run x c parts ≡ record (run_of (setup_for x) st) { switch = parts }
+  pub tells_run : (parts : List ObjectRows) → told_run x c parts ≡ record (run_of (setup_for x) st) { switch = parts }
   tells_run parts =
       let vis : seen_by c.commit ≡ seen st = λ i. visible (h.batches i) (h.done i) in
       λ i. record {
@@ -61,18 +61,18 @@ module _ (x : Given) (calls : List Call) (st : State) (c : Course) (h : IsShown 
         switch = parts;
       }
 
-pub reported : (x : Given) (calls : List Call) (st : State) (c : Course) (old new : PortState) (parts : List Part) (run : Run) (number : ℕ) → IsShown (whole x) calls st c
+pub reported : (x : Given) (calls : List Call) (st : State) (c : Course) (old new : PortState) (parts : List ObjectRows) (run : Run) (number : ℕ) → IsShown (whole x) calls st c
     → ShowsParts x old new parts → run ≡ told_run x c parts → number ≡ length (commands c.commit) → Reports x st old new run number
 reported x calls st c old new parts run number h shows is count =
     let same : run.switch ≡ parts = ap (λ (r : Run). r.switch) is in
     record {
-      is = is ∙ tells_run x calls st c h parts ∙ ap (λ (l : List Part). with_parts l) (sym same);
+      is = is ∙ tells_run x calls st c h parts ∙ ap (λ (l : List ObjectRows). with_parts l) (sym same);
       count = count ∙ ap (λ bs. length (commands_in bs)) h.batches;
       kept = shows.kept;
       rows = λ told told_is. same ∙ shows.rows told told_is;
     }
   where
-    with_parts : List Part → Run
+    with_parts : List ObjectRows → Run
     with_parts l = record (run_of (setup_for x) st) { switch = l }
 
 -- ## Packets and fates are few

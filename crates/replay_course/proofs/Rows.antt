@@ -6,7 +6,7 @@ use Rattle.std.proofs.lemmas.List.Elements.{filter-append}
 use Rattle.state_store.specs.declared.object.ObjectDecl.{ObjectDecl}
 use Rattle.state_store.specs.declared.object.Row.{Row}
 use Rattle.writeback_table.specs.Pair.{visible_rows}
-use Rattle.run_model.specs.declared.run.Part.{Part}
+use Rattle.run_model.specs.declared.run.ObjectRows.{ObjectRows}
 use Rattle.split_model.specs.Shown.{is_replicated}
 use Rattle.switch_ir.specs.Code.{Code}
 use Rattle.switch_ir.specs.Port.{PortState, HasReplicated, IsLoaded, IsReplicatedIn, ShowsRows}
@@ -21,7 +21,7 @@ use Rattle.replay_course.proofs.Calling.{keeps_all}
 use Rattle.replay_course.proofs.Failing.{keeps_more}
 
 -- the rows of the objects below a number were found, and those behind it are to come
-pub record IsShowing (x : Given) (n : ℕ) (parts : List Part) (first port : PortState) : Type 0 where
+pub record IsShowing (x : Given) (n : ℕ) (parts : List ObjectRows) (first port : PortState) : Type 0 where
   pub kept : KeepsCalls first port
   pub rows : (told : Told) → first.told ≡ Some told
       → parts ++ told_parts (is_replicated x.program x.split) told n (drop n x.program.objects)
@@ -33,10 +33,10 @@ shows_none x port = record { kept = keeps_all port; rows = λ told is. refl }
 loaded_by : (code : Option Code) (c : Code) → code ≡ Some c → IsSome code
 loaded_by code c is = subst IsSome (sym is) refl
 
-pub is_loaded : (x : Given) (first port : PortState) (n : ℕ) (parts : List Part) → first.code ≡ Some (code_for x) → IsShowing x n parts first port → IsLoaded port
+pub is_loaded : (x : Given) (first port : PortState) (n : ℕ) (parts : List ObjectRows) → first.code ≡ Some (code_for x) → IsShowing x n parts first port → IsLoaded port
 is_loaded x first port n parts is shows = loaded_by port.code (code_for x) (shows.kept.code ∙ is)
 
-pub has_replicated : (x : Given) (first port : PortState) (n : ℕ) (parts : List Part) (o : ℕ) → first.code ≡ Some (code_for x) → IsShowing x n parts first port
+pub has_replicated : (x : Given) (first port : PortState) (n : ℕ) (parts : List ObjectRows) (o : ℕ) → first.code ≡ Some (code_for x) → IsShowing x n parts first port
     → (d : ObjectDecl) × IsReplicatedIn (code_for x) o d → HasReplicated port o
 has_replicated x first port n parts o is shows there =
     subst (λ c. IfSome c (λ code. (d : ObjectDecl) × IsReplicatedIn code o d)) (sym (shows.kept.code ∙ is)) there
@@ -75,14 +75,14 @@ drop_past [] (suc n) h = refl
 drop_past (o ∷ os) zero h = absurd (omega arith)
 drop_past (o ∷ os) (suc n) h = drop_past os n (omega arith)
 
-pub shows_past : (x : Given) (n : ℕ) (parts : List Part) (first port : PortState) → IsShowing x n parts first port → n < length x.program.objects
+pub shows_past : (x : Given) (n : ℕ) (parts : List ObjectRows) (first port : PortState) → IsShowing x n parts first port → n < length x.program.objects
     → is_replicated x.program x.split n ≡ false → IsShowing x (n + 1) parts first port
 shows_past x n parts first port shows less none = record {
   kept = shows.kept;
   rows = λ told is. ap (λ l. parts ++ l) (sym (next_parts (is_replicated x.program x.split) told n x.program.objects less _ none)) ∙ shows.rows told is;
 }
 
-pub shows_more : (x : Given) (n : ℕ) (parts : List Part) (list : List Row) (first old new : PortState) → IsShowing x n parts first old → n < length x.program.objects
+pub shows_more : (x : Given) (n : ℕ) (parts : List ObjectRows) (list : List Row) (first old new : PortState) → IsShowing x n parts first old → n < length x.program.objects
     → is_replicated x.program x.split n ≡ true → ShowsRows (rows.Rows list) n old new
     → IsShowing x (n + 1) (parts ++ (record { object = n; rows = list }) ∷ []) first new
 shows_more x n parts list first old new shows less some seen = record {
@@ -94,12 +94,12 @@ shows_more x n parts list first old new shows less some seen = record {
       ∙ ap (λ l. parts ++ l) (sym (next_parts (is_replicated x.program x.split) told n x.program.objects less _ some)) ∙ shows.rows told is;
 }
 
-pub shows_all : (x : Given) (n : ℕ) (parts : List Part) (first port : PortState) → IsShowing x n parts first port → length x.program.objects ≤ n → ShowsParts x first port parts
+pub shows_all : (x : Given) (n : ℕ) (parts : List ObjectRows) (first port : PortState) → IsShowing x n parts first port → length x.program.objects ≤ n → ShowsParts x first port parts
 shows_all x n parts first port shows past = record {
   kept = shows.kept;
   rows = λ told is. sym (append-nil parts) ∙ ap (λ os. parts ++ told_parts (is_replicated x.program x.split) told n os) (sym (drop_past x.program.objects n past)) ∙ shows.rows told is;
 }
 
-pub shows_same : (x : Given) (n : ℕ) (parts others : List Part) (first port other : PortState) → IsShowing x n parts first port → others ≡ parts → other ≡ port → IsShowing x n others first other
+pub shows_same : (x : Given) (n : ℕ) (parts others : List ObjectRows) (first port other : PortState) → IsShowing x n parts first port → others ≡ parts → other ≡ port → IsShowing x n others first other
 shows_same x n parts others first port other shows is same =
     subst (λ p. IsShowing x n others first p) (sym same) (subst (λ l. IsShowing x n l first port) (sym is) shows)

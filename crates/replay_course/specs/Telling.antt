@@ -3,7 +3,7 @@ use Rattle.std.specs.Prelude.{◌≡◌, ◌==◌, ◌&&◌, ℕ, Bool, List, So
 use Rattle.run_model.specs.Fate.{is_decided, is_released}
 use Rattle.run_model.specs.Order.{order_of}
 use Rattle.run_model.specs.Parts.{parts_of}
-use Rattle.run_model.specs.declared.run.Part.{Part}
+use Rattle.run_model.specs.declared.run.ObjectRows.{ObjectRows}
 use Rattle.run_model.specs.declared.run.Run.{Run}
 use Rattle.output_commit.specs.Commit.{commands, visible}
 use Rattle.switch_ir.specs.Port.{PortState}
@@ -15,7 +15,7 @@ use Rattle.replay_contracts.specs.Promise.{told_parts}
 use Rattle.replay_course.specs.declared.course.Course.{Course}
 
 -- the rows that the port shows of the replicated objects
-pub record ShowsParts (x : Given) (old new : PortState) (parts : List Part) : Type 0 where
+pub record ShowsParts (x : Given) (old new : PortState) (parts : List ObjectRows) : Type 0 where
   pub kept : KeepsCalls old new
   pub rows : (told : Told) → old.told ≡ Some told
       → parts ≡ told_parts (is_replicated x.program x.split) told 0 x.program.objects
@@ -27,7 +27,7 @@ is_done packets c =
     && c.commit.acked == length (commands c.commit)))))
 
 -- the run so far, with these rows of the switch
-abbrev pub told_run : Given → Course → List Part → Run
+abbrev pub told_run : Given → Course → List ObjectRows → Run
 told_run x c parts = record {
   total = length x.packets;
   decided = count_by is_decided c.fates.items;

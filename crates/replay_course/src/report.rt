@@ -16,7 +16,7 @@ use crate::course::Course;
 use crate::fates::{copy_fates, count_decided, count_released};
 use gal_io::NoMemory;
 use replay_contracts::{Job, ReplayError, Replayed};
-use run_model::{Part, Parts, Run, order};
+use run_model::{ObjectRows, StoreRows, Run, order};
 use split_answers::replicated_objects_are_declared;
 use split_model::replicated;
 use state_store::Rows;
@@ -42,7 +42,7 @@ fn visible_rows<S: SwitchPort>(
 }
 
 // The rows of each replicated object that lookups on the switch see.
-fn switch_parts<S: SwitchPort>(alloc: Global, job: &Job, port: &mut S) -> Result<Parts, ReplayError>
+fn switch_parts<S: SwitchPort>(alloc: Global, job: &Job, port: &mut S) -> Result<StoreRows, ReplayError>
     requires split { IsSplit (program_of job.now.flat) job.now.split job.now.writeback }
     requires code { (S.seen port.old).code ≡ Some (code_for (given_of job.now)) }
     ensures shows { IfOk result (λ parts. ShowsParts (given_of job.now) (S.seen port.old) (S.seen port.new) parts) }
@@ -54,10 +54,10 @@ fn switch_parts<S: SwitchPort>(alloc: Global, job: &Job, port: &mut S) -> Result
         let object = number as u32;
         if replicated(&job.flat, &job.split, object) {
             let rows = visible_rows(alloc, port, object)?;
-            parts.push(Part { object, rows })?;
+            parts.push(ObjectRows { object, rows })?;
         }
     }
-    Ok(Parts::from(parts))
+    Ok(StoreRows::from(parts))
 }
 
 impl Course {
@@ -75,13 +75,13 @@ impl Course {
     }
 
     // The run so far, with these rows of the switch.
-    fn run(&self, alloc: Global, job: &Job, switch: Parts) -> Result<Run, NoMemory>
+    fn run(&self, alloc: Global, job: &Job, switch: StoreRows) -> Result<Run, NoMemory>
         requires split { IsSplit (program_of job.now.flat) job.now.split job.now.writeback }
         requires few_packets { length job.now.packets < 2 ^ 32 }
         requires few { length self.now.fates.items < 2 ^ 32 }
         ensures { IfOk result (λ run. run ≡ told_run (given_of job.now) self.now switch) }
     {
-        let objects = Parts::of(alloc, job.flat.objects.as_slice(), self.server.store())?;
+        let objects = StoreRows::of(alloc, job.flat.objects.as_slice(), self.server.store())?;
         let fates = copy_fates(alloc, &self.fates)?;
         let packets = job.packets.len();
         Ok(Run {

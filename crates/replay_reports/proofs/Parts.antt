@@ -9,7 +9,7 @@ use Rattle.state_store.specs.declared.object.ObjectDecl.{ObjectDecl}
 use Rattle.state_store.specs.Kept.{IsKept}
 use Rattle.state_store.specs.Kinds.{is_table, is_constant}
 use Rattle.state_store.specs.Store.{Store, object_at, rows_of}
-use Rattle.run_model.specs.declared.run.Part.{Part}
+use Rattle.run_model.specs.declared.run.ObjectRows.{ObjectRows}
 use Rattle.run_model.specs.Parts.{parts_from, parts_of, parts_where}
 use Rattle.split_model.specs.Bounds as bounds
 use Rattle.report_text.specs.Form.{IsPart, kept_from, AreInOrder}
@@ -30,25 +30,25 @@ constant_at [] n d there = absurd (none-some d there)
 constant_at (x ∷ objects) zero d there = ap (λ (o : ObjectDecl). is_table o.kind) (same_Some x d there)
 constant_at (x ∷ objects) (suc n) d there = constant_at objects n d there
 
-abbrev part_at : ℕ → Store → Part
+abbrev part_at : ℕ → Store → ObjectRows
 part_at n store = record { object = n; rows = rows_of (object_at store n) }
 
 -- ## The server's
 
-numbered : (test : Bool) (part : Part) (parts : List Part) (ns : List ℕ) (n : ℕ) → part.object ≡ n
-    → map (λ (p : Part). p.object) parts ≡ ns
-    → map (λ (p : Part). p.object) (if test then parts else part ∷ parts) ≡ (if test then ns else n ∷ ns)
+numbered : (test : Bool) (part : ObjectRows) (parts : List ObjectRows) (ns : List ℕ) (n : ℕ) → part.object ≡ n
+    → map (λ (p : ObjectRows). p.object) parts ≡ ns
+    → map (λ (p : ObjectRows). p.object) (if test then parts else part ∷ parts) ≡ (if test then ns else n ∷ ns)
 numbered true part parts ns n here rest = rest
-numbered false part parts ns n here rest = ap (λ k. k ∷ map (λ (p : Part). p.object) parts) here ∙ ap (λ l. n ∷ l) rest
+numbered false part parts ns n here rest = ap (λ k. k ∷ map (λ (p : ObjectRows). p.object) parts) here ∙ ap (λ l. n ∷ l) rest
 
 pub numbers_from : (n : ℕ) (objects : List ObjectDecl) (store : Store)
-    → map (λ (p : Part). p.object) (parts_from n objects store) ≡ kept_from n objects
+    → map (λ (p : ObjectRows). p.object) (parts_from n objects store) ≡ kept_from n objects
 numbers_from n [] store = refl
 numbers_from n (object ∷ objects) store =
     numbered (is_table object.kind) (part_at n store) (parts_from (suc n) objects store) (kept_from (suc n) objects) n refl
     (numbers_from (suc n) objects store)
 
-all_if : (P : Part → Type 0) (test : Bool) (xs ys : List Part) → (test ≡ true → Each P xs) → (test ≡ false → Each P ys)
+all_if : (P : ObjectRows → Type 0) (test : Bool) (xs ys : List ObjectRows) → (test ≡ true → Each P xs) → (test ≡ false → Each P ys)
     → Each P (if test then xs else ys)
 all_if P true xs ys one other = one refl
 all_if P false xs ys one other = other refl
@@ -107,11 +107,11 @@ module _ (declared : List ObjectDecl) (store : Store) (small : All bounds.IsSmal
         whole : (i : ℕ) → i ≡ 0 + i
         whole i = omega arith
 
-lower : (n k : ℕ) (parts : List Part) → n ≤ k → AreInOrder k parts → AreInOrder n parts
+lower : (n k : ℕ) (parts : List ObjectRows) → n ≤ k → AreInOrder k parts → AreInOrder n parts
 lower n k [] low rising = tt
 lower n k (part ∷ parts) low rising = (omega arith, rising.1)
 
-rising_if : (test : Bool) (n : ℕ) (xs ys : List Part) → AreInOrder n xs → AreInOrder n ys
+rising_if : (test : Bool) (n : ℕ) (xs ys : List ObjectRows) → AreInOrder n xs → AreInOrder n ys
     → AreInOrder n (if test then xs else ys)
 rising_if true n xs ys one other = one
 rising_if false n xs ys one other = other

@@ -2,7 +2,7 @@
 use Rattle.std.specs.Prelude.{List, map, count_by}
 use Rattle.state_store.specs.Store.{Store}
 use Rattle.run_model.specs.declared.event.Event.{Event}
-use Rattle.run_model.specs.declared.run.Part.{Part}
+use Rattle.run_model.specs.declared.run.ObjectRows.{ObjectRows}
 use Rattle.run_model.specs.declared.run.Run.{Run}
 use Rattle.run_model.specs.Fate.{is_decided, is_released}
 use Rattle.run_model.specs.Order.{order_of}
@@ -17,7 +17,7 @@ abbrev pub seen_store : State → Store
 seen_store st = store_at st.stores (seen st)
 
 -- the rows of each replicated object there
-abbrev pub seen_parts : Setup → State → List Part
+abbrev pub seen_parts : Setup → State → List ObjectRows
 seen_parts setup st = parts_where setup.replicated 0 setup.objects (seen_store st)
 
 abbrev pub run_of : Setup → State → Run

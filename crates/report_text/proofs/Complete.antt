@@ -10,7 +10,7 @@ use Rattle.std.proofs.lemmas.Bool.Decides.{nat_tests}
 use Rattle.state_store.specs.declared.object.ObjectDecl.{ObjectDecl}
 use Rattle.state_store.specs.declared.object.Row.{Row}
 use Rattle.run_model.specs.declared.fate.Fate.{Fate}
-use Rattle.run_model.specs.declared.run.Part.{Part}
+use Rattle.run_model.specs.declared.run.ObjectRows.{ObjectRows}
 use Rattle.run_model.specs.declared.run.Run.{Run}
 use Rattle.run_text.specs.Report.{name_in}
 use Rattle.report_text.specs.declared.head.PacketCounts.{PacketCounts}
@@ -63,7 +63,7 @@ fates_read declared c e v d before (f ∷ fs) ls hc h total =
 
 -- ---- the order
 
-abbrev pub at_server : PacketCounts → EventCounts → Versions → Bool → List Fate → List ℕ → List Part → ℕ → State
+abbrev pub at_server : PacketCounts → EventCounts → Versions → Bool → List Fate → List ℕ → List ObjectRows → ℕ → State
 at_server c e v d fs o ps n =
     record { counts = c; events = e; versions = v; drained = d; fates = fs; order = o; server = ps; switch = []; rows = []; stage = Server n }
 
@@ -106,10 +106,10 @@ row_step declared s side m behind object row st is k fit follows room =
     (both_true (is_after s.rows row.keys) (leb behind (keys_above 0 object.keys row.keys)) follows (le-leb behind (keys_above 0 object.keys row.keys) room))
 
 -- the part of an object whose rows are these
-abbrev part_with : ℕ → List Row → Part
+abbrev part_with : ℕ → List Row → ObjectRows
 part_with m rows = record { object = m; rows = rows }
 
-closed_same : (side : Side) (s : State) (p : Part) (rows : List Row) (st : Stage) → closed_by side p (record s { rows = rows; stage = st }) ≡ closed_by side p s
+closed_same : (side : Side) (s : State) (p : ObjectRows) (rows : List Row) (st : Stage) → closed_by side p (record s { rows = rows; stage = st }) ≡ closed_by side p s
 closed_same OnServer s p rows st = refl
 closed_same OnSwitch s p rows st = refl
 
@@ -171,11 +171,11 @@ shown_same declared s st (Some x) = opened_same OnSwitch x.0 x.1 s st (slice_get
 switch_same : (declared : List ObjectDecl) (s : State) (st : Stage) (n : ℕ) (l : List ℕ) → switch_read declared (record s { stage = st }) n l ≡ switch_read declared s n l
 switch_same declared s st n l = ap (λ o. cond (bytes_eq l (codes "end")) (Some (record s { stage = Ended })) o) (shown_same declared s st (shown_from n (drop n declared) l))
 
-abbrev pub at_switch : PacketCounts → EventCounts → Versions → Bool → List Fate → List ℕ → List Part → List Part → ℕ → State
+abbrev pub at_switch : PacketCounts → EventCounts → Versions → Bool → List Fate → List ℕ → List ObjectRows → List ObjectRows → ℕ → State
 at_switch c e v d fs o ps qs n =
     record { counts = c; events = e; versions = v; drained = d; fates = fs; order = o; server = ps; switch = qs; rows = []; stage = Switch n }
 
-gone_read : (declared : List ObjectDecl) (c : PacketCounts) (e : EventCounts) (v : Versions) (d : Bool) (fs : List Fate) (o : List ℕ) (ps : List Part) (n : ℕ) (ls : List (List ℕ)) → kept_from n (drop n declared) ≡ []
+gone_read : (declared : List ObjectDecl) (c : PacketCounts) (e : EventCounts) (v : Versions) (d : Bool) (fs : List Fate) (o : List ℕ) (ps : List ObjectRows) (n : ℕ) (ls : List (List ℕ)) → kept_from n (drop n declared) ≡ []
     → resume declared (at_server c e v d fs o ps n) ls ≡ resume declared (at_switch c e v d fs o ps [] 0) ls
 gone_read declared c e v d fs o ps n [] none = refl
 gone_read declared c e v d fs o ps n (l ∷ ls) none =
@@ -188,7 +188,7 @@ part_begun declared word m count object is = ap (λ x. part_told word (name_in x
 tail_of : (xs ys : List ℕ) (m : ℕ) → m ∷ xs ≡ m ∷ ys → xs ≡ ys
 tail_of xs ys m e = ap (drop 1) e
 
-server_parts : (declared : List ObjectDecl) (k : AreKnown declared) (c : PacketCounts) (e : EventCounts) (v : Versions) (d : Bool) (fs : List Fate) (o : List ℕ) (before ps : List Part) (n : ℕ) (ls : List (List ℕ)) → AllByRecursion (IsPart declared) ps → numbers_of ps ≡ kept_from n (drop n declared)
+server_parts : (declared : List ObjectDecl) (k : AreKnown declared) (c : PacketCounts) (e : EventCounts) (v : Versions) (d : Bool) (fs : List Fate) (o : List ℕ) (before ps : List ObjectRows) (n : ℕ) (ls : List (List ℕ)) → AllByRecursion (IsPart declared) ps → numbers_of ps ≡ kept_from n (drop n declared)
     → resume declared (at_server c e v d fs o before n) (parts_told (codes "object ") declared ps ++ ls) ≡ resume declared (at_switch c e v d fs o (before ++ ps) [] 0) ls
 server_parts declared k c e v d fs o before [] n ls h numbers =
     gone_read declared c e v d fs o before n ls (sym numbers) ∙ ap (λ ps. resume declared (at_switch c e v d fs o ps [] 0) ls) (sym (append-nil before))
@@ -215,7 +215,7 @@ server_parts declared k c e v d fs o before (p ∷ ps) n ls h numbers =
     ∙ server_parts declared k c e v d fs o (before ++ p ∷ []) ps (m + 1) ls h.1 later
     ∙ ap (λ l. resume declared (at_switch c e v d fs o l [] 0) ls) (append_assoc before (p ∷ []) ps)
 
-switch_parts : (declared : List ObjectDecl) (k : AreKnown declared) (c : PacketCounts) (e : EventCounts) (v : Versions) (d : Bool) (fs : List Fate) (o : List ℕ) (server before ps : List Part) (n : ℕ) → AllByRecursion (IsPart declared) ps → AreInOrder n ps
+switch_parts : (declared : List ObjectDecl) (k : AreKnown declared) (c : PacketCounts) (e : EventCounts) (v : Versions) (d : Bool) (fs : List Fate) (o : List ℕ) (server before ps : List ObjectRows) (n : ℕ) → AllByRecursion (IsPart declared) ps → AreInOrder n ps
     → resume declared (at_switch c e v d fs o server before n) (parts_told (codes "switch ") declared ps ++ (codes "end" ∷ [])) ≡ Some (run_of (at_switch c e v d fs o server (before ++ ps) n))
 switch_parts declared k c e v d fs o server before [] n h order = ap (λ l. Some (run_of (at_switch c e v d fs o server l n))) (sym (append-nil before))
 switch_parts declared k c e v d fs o server before (p ∷ ps) n h order =

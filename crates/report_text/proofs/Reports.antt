@@ -11,7 +11,7 @@ use Rattle.state_store.specs.declared.object.ObjectDecl.{ObjectDecl}
 use Rattle.state_store.specs.declared.object.Row.{Row}
 use Rattle.state_store.specs.Kept.{have_widths}
 use Rattle.run_model.specs.declared.fate.Fate.{Fate}
-use Rattle.run_model.specs.declared.run.Part.{Part}
+use Rattle.run_model.specs.declared.run.ObjectRows.{ObjectRows}
 use Rattle.run_model.specs.declared.run.Run.{Run}
 use Rattle.run_text.specs.Report.{name_in, report_of}
 use Rattle.report_text.specs.declared.head.PacketCounts.{PacketCounts}
@@ -52,7 +52,7 @@ rows_told object [] k h = tt
 rows_told object (row ∷ rows) k h =
     (row_plain row (rows_wide object.keys row.keys k.keys (truth _ h.0.0)) (rows_wide object.values row.values k.values (truth _ h.0.1)), rows_told object rows k h.1)
 
-parts_plain : (declared : List ObjectDecl) (k : AreKnown declared) (word : List ℕ) (ps : List Part) → ((o : ObjectDecl) (count : ℕ) → IsKnown o → count < 2 ^ 32 → IsTold (part_told word o.name count)) → AllByRecursion (IsPart declared) ps → AllByRecursion IsTold (parts_told word declared ps)
+parts_plain : (declared : List ObjectDecl) (k : AreKnown declared) (word : List ℕ) (ps : List ObjectRows) → ((o : ObjectDecl) (count : ℕ) → IsKnown o → count < 2 ^ 32 → IsTold (part_told word o.name count)) → AllByRecursion (IsPart declared) ps → AllByRecursion IsTold (parts_told word declared ps)
 parts_plain declared k word [] line h = tt
 parts_plain declared k word (p ∷ ps) line h =
     let x = h.0 in

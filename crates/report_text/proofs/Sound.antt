@@ -12,7 +12,7 @@ use Rattle.state_store.specs.declared.object.Row.{Row}
 use Rattle.state_store.specs.Kinds.{is_table}
 use Rattle.state_store.specs.Store.{key_cmp}
 use Rattle.run_model.specs.declared.fate.Fate.{Fate}
-use Rattle.run_model.specs.declared.run.Part.{Part}
+use Rattle.run_model.specs.declared.run.ObjectRows.{ObjectRows}
 use Rattle.report_text.specs.declared.head.PacketCounts.{PacketCounts}
 use Rattle.report_text.specs.declared.stage.Side.{Side}
 use Rattle.report_text.specs.declared.stage.Side.TheVariants.{OnServer, OnSwitch}
@@ -38,7 +38,7 @@ fates_more n (g ∷ fs) f =
     let e : suc n + length fs ≡ n + suc (length fs) = omega arith in
     ap (λ l. fate_told n g ∷ l) (fates_more (suc n) fs f ∙ ap (λ m. fates_told (suc n) fs ++ fate_told m f ∷ []) e)
 
-parts_more : (word : List ℕ) (declared : List ObjectDecl) (ps : List Part) (p : Part) → parts_told word declared (ps ++ p ∷ []) ≡ parts_told word declared ps ++ (part_told word (name_of declared p.object) (length p.rows) ∷ map row_told p.rows)
+parts_more : (word : List ℕ) (declared : List ObjectDecl) (ps : List ObjectRows) (p : ObjectRows) → parts_told word declared (ps ++ p ∷ []) ≡ parts_told word declared ps ++ (part_told word (name_of declared p.object) (length p.rows) ∷ map row_told p.rows)
 parts_more word declared [] p = ap (λ l. part_told word (name_of declared p.object) (length p.rows) ∷ l) (append-nil (map row_told p.rows))
 parts_more word declared (q ∷ ps) p =
     ap (λ l. part_told word (name_of declared q.object) (length q.rows) ∷ l)
@@ -49,7 +49,7 @@ pub rows_more : (rows : List Row) (row : Row) → map row_told (rows ++ row ∷ 
 rows_more [] row = refl
 rows_more (r ∷ rows) row = ap (λ l. row_told r ∷ l) (rows_more rows row)
 
-pub numbers_more : (ps : List Part) (p : Part) → map (λ (q : Part). q.object) (ps ++ p ∷ []) ≡ map (λ (q : Part). q.object) ps ++ p.object ∷ []
+pub numbers_more : (ps : List ObjectRows) (p : ObjectRows) → map (λ (q : ObjectRows). q.object) (ps ++ p ∷ []) ≡ map (λ (q : ObjectRows). q.object) ps ++ p.object ∷ []
 numbers_more [] p = refl
 numbers_more (q ∷ ps) p = ap (λ l. q.object ∷ l) (numbers_more ps p)
 
@@ -77,26 +77,26 @@ rising_more (row ∷ rows) next h r = below_more rows row next h r
 -- ---- parts in order
 
 -- the numbers of their objects rise, from one on and up to another
-abbrev pub AreWithin : ℕ → List Part → ℕ → Type 0
+abbrev pub AreWithin : ℕ → List ObjectRows → ℕ → Type 0
 AreWithin low [] high = low ≤ high
 AreWithin low (p ∷ ps) high = (low ≤ p.object) × AreWithin (suc p.object) ps high
 
-within_more : (low : ℕ) (ps : List Part) (high : ℕ) (p : Part) → AreWithin low ps high → high ≤ p.object → AreWithin low (ps ++ p ∷ []) (p.object + 1)
+within_more : (low : ℕ) (ps : List ObjectRows) (high : ℕ) (p : ObjectRows) → AreWithin low ps high → high ≤ p.object → AreWithin low (ps ++ p ∷ []) (p.object + 1)
 within_more low [] high p h later = (omega arith, omega arith)
 within_more low (q ∷ ps) high p h later = (h.0, within_more (suc q.object) ps high p h.1 later)
 
-pub in_order : (low : ℕ) (ps : List Part) (high : ℕ) → AreWithin low ps high → AreInOrder low ps
+pub in_order : (low : ℕ) (ps : List ObjectRows) (high : ℕ) → AreWithin low ps high → AreInOrder low ps
 in_order low [] high h = tt
 in_order low (p ∷ ps) high h = (h.0, in_order (suc p.object) ps high h.1)
 
-pub within_later : (low : ℕ) (ps : List Part) (high later : ℕ) → AreWithin low ps high → high ≤ later → AreWithin low ps later
+pub within_later : (low : ℕ) (ps : List ObjectRows) (high later : ℕ) → AreWithin low ps high → high ≤ later → AreWithin low ps later
 within_later low [] high later h k = omega arith
 within_later low (p ∷ ps) high later h k = (h.0, within_later (suc p.object) ps high later h.1 k)
 
 -- ---- what holds at a stage
 
-abbrev pub numbers_of : List Part → List ℕ
-numbers_of ps = map (λ (p : Part). p.object) ps
+abbrev pub numbers_of : List ObjectRows → List ℕ
+numbers_of ps = map (λ (p : ObjectRows). p.object) ps
 
 -- nothing of the lines behind the first ones was read
 pub record IsFresh (s : State) : Type 0 where
@@ -234,7 +234,7 @@ pub record IsRead (declared : List ObjectDecl) (s : State) (m left : ℕ) (objec
   pub fit : AllByRecursion (IsRowOf object) s.rows
   pub rising : AreRising s.rows
 
-abbrev part_of : State → ℕ → Part
+abbrev part_of : State → ℕ → ObjectRows
 part_of s m = record { object = m; rows = s.rows }
 
 part_made : (declared : List ObjectDecl) (s : State) (m : ℕ) (o : ObjectDecl) → IsRead declared s m 0 o → IsPart declared (part_of s m)

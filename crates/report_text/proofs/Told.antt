@@ -7,7 +7,7 @@ use Rattle.state_store.specs.declared.object.ObjectDecl.{ObjectDecl}
 use Rattle.state_store.specs.declared.object.Row.{Row}
 use Rattle.run_model.specs.declared.fate.Fate.{Fate}
 use Rattle.run_model.specs.declared.fate.Fate.TheVariants.{Pass, Up, Held, Slow, Fast}
-use Rattle.run_model.specs.declared.run.Part.{Part}
+use Rattle.run_model.specs.declared.run.ObjectRows.{ObjectRows}
 use Rattle.run_model.specs.declared.run.Run.{Run}
 use Rattle.run_text.specs.Printed.{lined}
 use Rattle.run_text.specs.Report.{drained_line, events_line, fate_line, fate_lines, fate_text, line_end, name_in, order_line, packets_line, part_lines, report_of, row_lines, tables_text, version_line}
@@ -30,7 +30,7 @@ fates_told n (f ∷ fs) = fate_told n f ∷ fates_told (suc n) fs
 abbrev pub name_of : List ObjectDecl → ℕ → List ℕ
 name_of declared n = name_in (slice_get declared n)
 
-abbrev pub parts_told : List ℕ → List ObjectDecl → List Part → List (List ℕ)
+abbrev pub parts_told : List ℕ → List ObjectDecl → List ObjectRows → List (List ℕ)
 parts_told word declared [] = []
 parts_told word declared (p ∷ ps) = part_told word (name_of declared p.object) (length p.rows) ∷ (map row_told p.rows ++ parts_told word declared ps)
 
@@ -79,7 +79,7 @@ rows_both : (rows : List Row) → lined (map row_told rows) ≡ row_lines rows
 rows_both [] = refl
 rows_both (row ∷ rows) = ap (λ l. row_told row ++ (10 ∷ l)) (rows_both rows) ∙ simp append_assoc refl
 
-parts_both : (word said : List ℕ) (declared : List ObjectDecl) (ps : List Part) → ((x : List ℕ) → said ++ x ≡ word ++ (codes " " ++ x)) → lined (parts_told said declared ps) ≡ part_lines word declared ps
+parts_both : (word said : List ℕ) (declared : List ObjectDecl) (ps : List ObjectRows) → ((x : List ℕ) → said ++ x ≡ word ++ (codes " " ++ x)) → lined (parts_told said declared ps) ≡ part_lines word declared ps
 parts_both word said declared [] h = refl
 parts_both word said declared (p ∷ ps) h =
     let name = name_of declared p.object in

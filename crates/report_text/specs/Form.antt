@@ -15,7 +15,7 @@ use Rattle.state_store.specs.Kept.{have_widths}
 use Rattle.state_store.specs.Store.{key_cmp}
 use Rattle.run_model.specs.declared.fate.Fate.{Fate}
 use Rattle.run_model.specs.declared.fate.Fate.TheVariants.{Pass, Up, Held, Slow, Fast}
-use Rattle.run_model.specs.declared.run.Part.{Part}
+use Rattle.run_model.specs.declared.run.ObjectRows.{ObjectRows}
 use Rattle.run_model.specs.declared.run.Run.{Run}
 
 -- A name that a line can hold: no byte of it is a blank or ends a line.
@@ -69,7 +69,7 @@ AreRising [] = Unit {0}
 AreRising (row ∷ rows) = IsBelow row.keys rows × AreRising rows
 
 -- rows of an object that is no table
-pub record IsPart (declared : List ObjectDecl) (part : Part) : Type 0 where
+pub record IsPart (declared : List ObjectDecl) (part : ObjectRows) : Type 0 where
   pub object : ObjectDecl
   pub is : slice_get declared part.object ≡ Some object
   pub kind : is_table object.kind ≡ false
@@ -84,7 +84,7 @@ kept_from n (object ∷ objects) =
     if is_table object.kind then kept_from (suc n) objects else n ∷ kept_from (suc n) objects
 
 -- the numbers of their objects strictly rise, from n on
-abbrev pub AreInOrder : ℕ → List Part → Type 0
+abbrev pub AreInOrder : ℕ → List ObjectRows → Type 0
 AreInOrder n [] = Unit {0}
 AreInOrder n (part ∷ parts) = (n ≤ part.object) × AreInOrder (suc part.object) parts
 

@@ -10,7 +10,7 @@ use Rattle.state_store.specs.declared.object.Row.{Row}
 use Rattle.state_store.specs.Kinds.{is_table}
 use Rattle.state_store.specs.Store.{key_cmp}
 use Rattle.run_model.specs.declared.fate.Fate.{Fate}
-use Rattle.run_model.specs.declared.run.Part.{Part}
+use Rattle.run_model.specs.declared.run.ObjectRows.{ObjectRows}
 use Rattle.run_model.specs.declared.run.Run.{Run}
 use Rattle.report_text.specs.declared.head.PacketCounts.{PacketCounts}
 use Rattle.report_text.specs.declared.head.EventCounts.{EventCounts}
@@ -31,8 +31,8 @@ pub record State : Type 0 where
   pub drained : Bool
   pub fates : List Fate
   pub order : List ℕ
-  pub server : List Part
-  pub switch : List Part
+  pub server : List ObjectRows
+  pub switch : List ObjectRows
   pub rows : List Row
   pub stage : Stage
 
@@ -68,7 +68,7 @@ abbrev pub is_after : List Row → List ℕ → Bool
 is_after rows key = is_behind (slice_get rows (length rows - 1)) key
 
 -- the part that was read is put behind the others
-abbrev pub closed_by : Side → Part → State → State
+abbrev pub closed_by : Side → ObjectRows → State → State
 closed_by OnServer part s =
     record s { server = s.server ++ part ∷ []; rows = []; stage = Server (part.object + 1) }
 closed_by OnSwitch part s =

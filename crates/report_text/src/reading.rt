@@ -17,7 +17,7 @@ use crate::row::{leaves, read_count, read_row};
 use crate::stage::{Side, Stage};
 use gal_bits::{Values, Widths};
 use gal_io::{NoMemory, is_skipped};
-use run_model::{Fate, Fates, Order, Part, Parts, Run};
+use run_model::{Fate, Fates, Order, ObjectRows, StoreRows, Run};
 use state_store::{ObjectDecl, Row, Rows};
 use std::alloc::Global;
 use std::marker::Model;
@@ -32,8 +32,8 @@ pub(crate) struct Reading {
     drained: bool,
     fates: Vec<Fate>,
     order: Order,
-    server: Vec<Part>,
-    switch: Vec<Part>,
+    server: Vec<ObjectRows>,
+    switch: Vec<ObjectRows>,
     rows: Rows,
     stage: Stage,
 }
@@ -248,7 +248,7 @@ impl Reading {
             ≡ closed_by side (record { object = object; rows = self.old.rows }) self.old) }
     {
         let rows = mem::replace(&mut self.rows, Rows::new(alloc));
-        let part = Part { object, rows };
+        let part = ObjectRows { object, rows };
         let next = object as usize + 1;
         match side {
             Side::OnServer => {
@@ -451,8 +451,8 @@ impl Reading {
                 drained: self.drained,
                 fates: Fates::from(self.fates),
                 order: self.order,
-                objects: Parts::from(self.server),
-                switch: Parts::from(self.switch),
+                objects: StoreRows::from(self.server),
+                switch: StoreRows::from(self.switch),
             }),
             _ => None,
         }

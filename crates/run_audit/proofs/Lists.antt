@@ -3,7 +3,7 @@ use Rattle.std.proofs.Common.{◌≡◌, ◌<◌, ◌≤◌, ◌+◌, ℕ, suc, 
 use Rattle.std.specs.Prelude.{slice_get}
 use Rattle.std.proofs.lemmas.Bool.{cases_lt}
 use Rattle.std.proofs.lemmas.Option.{slice_get_past}
-use Rattle.run_model.specs.declared.run.Part.{Part}
+use Rattle.run_model.specs.declared.run.ObjectRows.{ObjectRows}
 use Rattle.run_audit.specs.Order.{DifferFirst, IsFirstApart, first_of}
 use Rattle.run_audit.specs.Told.{IsFirstUnlike, object_of}
 
@@ -63,7 +63,7 @@ apart_past told wanted n p alike none is = record {
 
 -- ---- parts
 
-pub unlike_here : (told wanted : List Part) (n : ℕ) (part : Part) → AlikeTo told wanted n → slice_get wanted n ≡ Some part
+pub unlike_here : (told wanted : List ObjectRows) (n : ℕ) (part : ObjectRows) → AlikeTo told wanted n → slice_get wanted n ≡ Some part
     → (slice_get told n ≡ Some part → ⊥) → IsFirstUnlike told wanted part.object
 unlike_here told wanted n part alike is other = record {
   place = n;
@@ -71,7 +71,7 @@ unlike_here told wanted n part alike is other = record {
   number = ap (λ o. first_of (object_of o) (object_of (slice_get told n))) is;
 }
 
-pub unlike_past : (told wanted : List Part) (n : ℕ) (part : Part) → AlikeTo told wanted n → slice_get wanted n ≡ None
+pub unlike_past : (told wanted : List ObjectRows) (n : ℕ) (part : ObjectRows) → AlikeTo told wanted n → slice_get wanted n ≡ None
     → slice_get told n ≡ Some part → IsFirstUnlike told wanted part.object
 unlike_past told wanted n part alike none is = record {
   place = n;

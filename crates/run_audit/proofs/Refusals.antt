@@ -10,7 +10,7 @@ use Rattle.run_model.specs.Order.{order_of}
 use Rattle.run_model.specs.Parts.{parts_of}
 use Rattle.run_model.specs.Serialises.{run_store}
 use Rattle.run_model.specs.declared.run.Run.{Run}
-use Rattle.run_model.specs.declared.run.Part.{Part}
+use Rattle.run_model.specs.declared.run.ObjectRows.{ObjectRows}
 use Rattle.run_audit.specs.declared.error.AuditError.{AuditError}
 use Rattle.run_audit.specs.declared.error.AuditError.TheVariants.{Counts, Order, Time, Verdict, Object, NoMemory}
 use Rattle.run_audit.specs.Source.{source_of}
@@ -60,7 +60,7 @@ apart_one told wanted p q one two =
     same_Some p q (sym one.number
     ∙ subst (λ z. first_of (slice_get told z) (slice_get wanted z) ≡ Some q) (sym same) two.number)
 
-unlike_one : (told wanted : List Part) (p q : ℕ) → IsFirstUnlike told wanted p → IsFirstUnlike told wanted q → p ≡ q
+unlike_one : (told wanted : List ObjectRows) (p q : ℕ) → IsFirstUnlike told wanted p → IsFirstUnlike told wanted q → p ≡ q
 unlike_one told wanted p q one two =
     let same = one_place told wanted (one.place) (two.place) one.first two.first in
     same_Some p q (sym one.number

@@ -4,7 +4,7 @@ use Rattle.packet_fields.specs.declared.packet.Packet.{Packet}
 use Rattle.packet_fields.specs.declared.verdict.Verdict.{Verdict}
 use Rattle.element_lang.specs.Tree.{Tree}
 use Rattle.run_model.specs.declared.fate.Fate.{Fate}
-use Rattle.run_model.specs.declared.run.Part.{Part}
+use Rattle.run_model.specs.declared.run.ObjectRows.{ObjectRows}
 use Rattle.run_model.specs.declared.run.Run.{Run}
 use Rattle.run_model.specs.Meaning.{Meaning}
 use Rattle.run_model.specs.Parts.{parts_of}
@@ -73,12 +73,12 @@ pub record IsFirst (Is : ℕ → Type 0) (order : List ℕ) (p : ℕ) : Type 0 w
   pub first : (i : ℕ) → i < place → Is i → ⊥
 
 -- which object a part is of
-abbrev pub object_of : Option Part → Option ℕ
-object_of part = option_map (λ (p : Part). p.object) part
+abbrev pub object_of : Option ObjectRows → Option ℕ
+object_of part = option_map (λ (p : ObjectRows). p.object) part
 
 -- the object of the part that is wanted at the first place at which another one is told, or none; where no more are
 -- wanted, it is the object of the part that is told
-pub record IsFirstUnlike (told wanted : List Part) (object : ℕ) : Type 0 where
+pub record IsFirstUnlike (told wanted : List ObjectRows) (object : ℕ) : Type 0 where
   pub place : ℕ
   pub first : DifferFirst told wanted place
   pub number : first_of (object_of (slice_get wanted place)) (object_of (slice_get told place)) ≡ Some object

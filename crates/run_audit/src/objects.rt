@@ -5,7 +5,7 @@ ghost use Rattle.run_audit.specs.Told.{IsFirstUnlike};
 
 use element_lang::Middlebox;
 use gal_io::NoMemory;
-use run_model::{Part, Parts, Run};
+use run_model::{ObjectRows, StoreRows, Run};
 use state_store::{Row, Store};
 use std::alloc::Global;
 
@@ -30,7 +30,7 @@ fn are_same_rows(some: &[Row], others: &[Row]) -> bool
     true
 }
 
-fn is_same_part(one: &Part, other: &Part) -> bool
+fn is_same_part(one: &ObjectRows, other: &ObjectRows) -> bool
     ensures { IsTrue result ↔ (one.now ≡ other.now) }
 {
     one.object == other.object && are_same_rows(one.rows.as_slice(), other.rows.as_slice())
@@ -38,7 +38,7 @@ fn is_same_part(one: &Part, other: &Part) -> bool
 
 // The object of the wanted part at the first place at which the part that is told isn't the wanted one, or of the told
 // one where no more are wanted.
-fn first_apart(told: &[Part], wanted: &[Part]) -> Option<u32>
+fn first_apart(told: &[ObjectRows], wanted: &[ObjectRows]) -> Option<u32>
     ensures { MatchOption result (told.now ≡ wanted.now) (λ object. IsFirstUnlike told.now wanted.now object) }
 {
     for place in 0..wanted.len() {
@@ -63,6 +63,6 @@ pub(crate) fn first_unlike(
     ensures { IfOk result (λ found. MatchOption found (run.now.objects ≡ parts_of m.now.objects store.now)
         (λ object. IsFirstUnlike run.now.objects (parts_of m.now.objects store.now) object)) }
 {
-    let wanted = Parts::of(alloc, m.objects.as_slice(), store)?;
+    let wanted = StoreRows::of(alloc, m.objects.as_slice(), store)?;
     Ok(first_apart(run.objects.as_slice(), wanted.as_slice()))
 }

@@ -40,29 +40,29 @@ impl From<Vec<u32>> for Order {
 
 /// The rows of one object, which is known by its place among the declared ones, from 0.
 #[derive(Debug, Drop)]
-pub struct Part {
+pub struct ObjectRows {
     pub object: u32,
     pub rows: Rows,
 }
 
 /// The rows of several objects, in order of declaration.
 #[derive(Debug, Drop)]
-pub struct Parts {
-    items: Vec<Part>,
+pub struct StoreRows {
+    items: Vec<ObjectRows>,
 }
 
-impl Model for Parts {
+impl Model for StoreRows {
     ghost use Rattle.std.specs.Prelude.{List};
-    ghost use Rattle.run_model.specs.declared.run.Part.{Part};
+    ghost use Rattle.run_model.specs.declared.run.ObjectRows.{ObjectRows};
 
-    ghost Value = { List Part };
+    ghost Value = { List ObjectRows };
 
     ghost view = { λ parts. parts.items.items };
 }
 
-impl Parts {
+impl StoreRows {
     /// The rows of each object of a store that isn't a table.
-    pub fn of(alloc: Global, objects: &[ObjectDecl], store: &Store) -> Result<Parts, NoMemory>
+    pub fn of(alloc: Global, objects: &[ObjectDecl], store: &Store) -> Result<StoreRows, NoMemory>
         requires { length objects.now < 2 ^ 32 }
         ensures { IfOk result (λ parts. parts ≡ parts_of objects.now store.now) }
     {
@@ -71,24 +71,24 @@ impl Parts {
             if objects[number].kind != Kind::Table {
                 let object = number as u32;
                 let rows = store.rows(alloc, object)?;
-                items.push(Part { object, rows })?;
+                items.push(ObjectRows { object, rows })?;
             }
         }
-        Ok(Parts { items })
+        Ok(StoreRows { items })
     }
 
-    pub fn as_slice(&self) -> &[Part]
+    pub fn as_slice(&self) -> &[ObjectRows]
         ensures { result.now ≡ self.now }
     {
         self.items.as_slice()
     }
 }
 
-impl From<Vec<Part>> for Parts {
+impl From<Vec<ObjectRows>> for StoreRows {
     ghost from_gives = { λ items parts. parts ≡ items.items };
 
-    fn from(items: Vec<Part>) -> Parts {
-        Parts { items }
+    fn from(items: Vec<ObjectRows>) -> StoreRows {
+        StoreRows { items }
     }
 }
 
@@ -112,7 +112,7 @@ pub struct Run {
     /// The numbers of the decided packets in serial order.
     pub order: Order,
     /// The rows of each map, vector and integer on the server.
-    pub objects: Parts,
+    pub objects: StoreRows,
     /// The rows of each replicated object, as lookups on the switch see them.
-    pub switch: Parts,
+    pub switch: StoreRows,
 }

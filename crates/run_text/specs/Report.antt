@@ -9,7 +9,7 @@ use Rattle.run_model.specs.declared.fate.Fate.{Fate}
 use Rattle.run_model.specs.declared.fate.Fate.TheVariants.{Pass, Up, Held, Slow, Fast}
 use Rattle.state_store.specs.declared.object.Row.{Row}
 use Rattle.state_store.specs.declared.object.ObjectDecl.{ObjectDecl}
-use Rattle.run_model.specs.declared.run.Part.{Part}
+use Rattle.run_model.specs.declared.run.ObjectRows.{ObjectRows}
 use Rattle.run_model.specs.declared.run.Run.{Run}
 
 -- every line ends with LF
@@ -92,12 +92,12 @@ name_in None = []
 name_in (Some object) = object.name
 
 -- what the parts are called, an object's name, and its rows
-abbrev pub part_line : List ℕ → List ObjectDecl → Part → List ℕ
+abbrev pub part_line : List ℕ → List ObjectDecl → ObjectRows → List ℕ
 part_line word objects part =
     word ++ (codes " " ++ (name_in (slice_get objects part.object)
     ++ (codes " " ++ (decimal (length part.rows) ++ line_end))))
 
-abbrev pub part_lines : List ℕ → List ObjectDecl → List Part → List ℕ
+abbrev pub part_lines : List ℕ → List ObjectDecl → List ObjectRows → List ℕ
 part_lines word objects [] = []
 part_lines word objects (part ∷ parts) =
     part_line word objects part ++ (row_lines part.rows ++ part_lines word objects parts)

@@ -6,7 +6,7 @@ use crate::parts::put_parts;
 use crate::report::{put_packet_number, put_verdict};
 use gal_io::{NoMemory, Text};
 use packet_fields::Verdict;
-use run_model::Parts;
+use run_model::StoreRows;
 use state_store::Objects;
 use std::alloc::Global;
 
@@ -37,7 +37,7 @@ pub fn print_answer(
     alloc: Global,
     objects: &Objects,
     verdicts: &[Verdict],
-    parts: &Parts,
+    parts: &StoreRows,
 ) -> Result<Text, NoMemory>
     ensures { IfOk result (λ text. text ≡ answer_of objects.now verdicts.now parts.now) }
 {

@@ -3,7 +3,7 @@ ghost use Rattle.std.specs.Prelude.{◌≡◌, ◌++◌, OnOk, slice_get};
 ghost use Rattle.run_text.specs.Report.{key_text, part_line, part_lines, row_line, row_lines, name_in};
 
 use gal_io::{NoMemory, Text};
-use run_model::Part;
+use run_model::ObjectRows;
 use state_store::{ObjectDecl, Row};
 
 fn put_key(numbers: &[u64], text: &mut Text) -> Result<(), NoMemory>
@@ -47,7 +47,7 @@ fn name_of(objects: &[ObjectDecl], number: u32) -> &[u8]
 fn put_part_line(
     word: &str,
     objects: &[ObjectDecl],
-    part: &Part,
+    part: &ObjectRows,
     text: &mut Text,
 ) -> Result<(), NoMemory>
     ensures { OnOk result (text.new ≡ text.old ++ part_line word.now objects.now part.now) }
@@ -64,7 +64,7 @@ fn put_part_line(
 pub(crate) fn put_parts(
     word: &str,
     objects: &[ObjectDecl],
-    parts: &[Part],
+    parts: &[ObjectRows],
     text: &mut Text,
 ) -> Result<(), NoMemory>
     ensures { OnOk result (text.new ≡ text.old ++ part_lines word.now objects.now parts.now) }

@@ -4,7 +4,7 @@ use crate::samples::object;
 use gal_bits::{Values, Widths};
 use gal_io::{Bytes, NoMemory, Text};
 use packet_fields::{Packets, Verdict};
-use run_model::{Event, Events, Fate, Fates, Order, Part, Parts, Run, order};
+use run_model::{Event, Events, Fate, Fates, Order, ObjectRows, StoreRows, Run, order};
 use run_text::{
     LineKind, LinesError, Plan, print_run, print_schedule, print_trace, read_schedule, read_trace,
 };
@@ -304,7 +304,7 @@ fn stages_are_printed(rt: HostRuntime) -> Result<(), Fail> {
 }
 
 // A run that is over before it begins, with these rows on the server and on the switch.
-fn of_no_packets(alloc: Global, objects: Parts, switch: Parts) -> Run {
+fn of_no_packets(alloc: Global, objects: StoreRows, switch: StoreRows) -> Run {
     Run {
         total: 0,
         decided: 0,
@@ -324,8 +324,8 @@ fn of_no_packets(alloc: Global, objects: Parts, switch: Parts) -> Run {
 #[test]
 fn report_of_nothing(rt: HostRuntime) -> Result<(), Fail> {
     let alloc = rt.alloc();
-    let none = Parts::from(Vec::new(alloc));
-    let run = of_no_packets(alloc, none, Parts::from(Vec::new(alloc)));
+    let none = StoreRows::from(Vec::new(alloc));
+    let run = of_no_packets(alloc, none, StoreRows::from(Vec::new(alloc)));
     let text = print_run(alloc, &Objects::new(alloc), &run)?;
     let want = "report 1\npackets 0 admitted 0 decided 0 released 0\nevents 0 idle 0\n\
         version 0 visible 0\ndrained yes\norder -\nend\n";
@@ -379,8 +379,8 @@ fn report_of_all_fates(rt: HostRuntime) -> Result<(), Fail> {
         drained: false,
         fates,
         order,
-        objects: Parts::from(Vec::new(alloc)),
-        switch: Parts::from(Vec::new(alloc)),
+        objects: StoreRows::from(Vec::new(alloc)),
+        switch: StoreRows::from(Vec::new(alloc)),
     };
     let text = print_run(alloc, &Objects::new(alloc), &run)?;
     let want = "report 1\n\
@@ -427,7 +427,7 @@ fn objects(alloc: Global) -> Result<Objects, NoMemory> {
     Ok(objects)
 }
 
-fn parts(alloc: Global) -> Result<Parts, NoMemory> {
+fn parts(alloc: Global) -> Result<StoreRows, NoMemory> {
     let mut flows = Rows::new(alloc);
     flows.push(Row {
         keys: two(1, 80),
@@ -443,34 +443,34 @@ fn parts(alloc: Global) -> Result<Parts, NoMemory> {
         values: one(12),
     })?;
     let mut parts = Vec::new(alloc);
-    parts.push(Part {
+    parts.push(ObjectRows {
         object: 0,
         rows: flows,
     })?;
-    parts.push(Part {
+    parts.push(ObjectRows {
         object: 2,
         rows: count,
     })?;
-    parts.push(Part {
+    parts.push(ObjectRows {
         object: 3,
         rows: Rows::new(alloc),
     })?;
-    Ok(Parts::from(parts))
+    Ok(StoreRows::from(parts))
 }
 
 // The switch has one of the two maps, and an older row in it.
-fn switch_parts(alloc: Global) -> Result<Parts, NoMemory> {
+fn switch_parts(alloc: Global) -> Result<StoreRows, NoMemory> {
     let mut flows = Rows::new(alloc);
     flows.push(Row {
         keys: two(1, 80),
         values: one(6),
     })?;
     let mut parts = Vec::new(alloc);
-    parts.push(Part {
+    parts.push(ObjectRows {
         object: 0,
         rows: flows,
     })?;
-    Ok(Parts::from(parts))
+    Ok(StoreRows::from(parts))
 }
 
 fn report_with_rows(alloc: Global) -> Result<Text, NoMemory> {
@@ -505,10 +505,10 @@ const TRANSLATED: &[u8] = b"\x02\x00\x00\x00\x00\x01\x02\x00\x00\x00\x00\x02\x08
     \x45\x00\x00\x28\x00\x01\x40\x00\x40\x06\x4e\x93\xc0\x00\x02\x01\xc6\x33\x64\x07\
     \x04\x00\x00\x50\x00\x00\x00\x00\x00\x00\x00\x00\x50\x02\x20\x00\x9f\x56\x00\x00";
 
-fn part(alloc: Global, object: u32, keys: Values, values: Values) -> Result<Part, NoMemory> {
+fn part(alloc: Global, object: u32, keys: Values, values: Values) -> Result<ObjectRows, NoMemory> {
     let mut rows = Rows::new(alloc);
     rows.push(Row { keys, values })?;
-    Ok(Part { object, rows })
+    Ok(ObjectRows { object, rows })
 }
 
 // One packet went out by the translator, whose table of flows is in both places.
@@ -545,8 +545,8 @@ fn report_of_one_flow(alloc: Global) -> Result<Text, NoMemory> {
         drained: false,
         order: order(alloc, &fates)?,
         fates,
-        objects: Parts::from(on_server),
-        switch: Parts::from(on_switch),
+        objects: StoreRows::from(on_server),
+        switch: StoreRows::from(on_switch),
     };
     print_run(alloc, &objects, &run)
 }

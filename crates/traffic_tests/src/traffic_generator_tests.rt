@@ -2,7 +2,7 @@
 
 use gal_io::{Bytes, NoMemory};
 use packet_fields::Verdict;
-use run_model::{Event, Fate, Fates, Order, Parts, Run};
+use run_model::{Event, Fate, Fates, Order, StoreRows, Run};
 use std::alloc::Global;
 use traffic_generator::{Count, events_of, packets_of, print_summary};
 
@@ -123,8 +123,8 @@ fn run_of(alloc: Global, total: u32, drained: bool, fates: Vec<Fate>) -> Run {
         drained,
         fates: Fates::from(fates),
         order: Order::from(Vec::new(alloc)),
-        objects: Parts::from(Vec::new(alloc)),
-        switch: Parts::from(Vec::new(alloc)),
+        objects: StoreRows::from(Vec::new(alloc)),
+        switch: StoreRows::from(Vec::new(alloc)),
     }
 }
 
