@@ -22,7 +22,7 @@ use Rattle.gallium_cli.specs.declared.status.Status.TheVariants as statuses
 use Rattle.gallium_cli.specs.declared.refusal.Refusal.{Refusal}
 use Rattle.gallium_cli.specs.declared.refusal.Refusal.TheVariants.{Source, LongProgram, Limits, Exceeded, Split, Trace, Schedule}
 use Rattle.gallium_cli.specs.declared.refusal.Refusal.TheVariants.{TooLong, ReadFault, NoMemory, Pcap, Report, Audit}
-use Rattle.gallium_cli.specs.Words.{Splitting, Served, Within, Spelled, Run, Audit as Audited}
+use Rattle.gallium_cli.specs.Words.{Splitting, ServerAlone, Within, Spelled, Run, Audit as Audited}
 use Rattle.gallium_cli.specs.Roles.{Role, source, program, limits, legal_split, true_report, trace, schedule, capture}
 use Rattle.gallium_cli.specs.Roles.{IsShort, IsGood, AreLimits, Gate, File, Choice, SplitFile, ReportFile, gates_of}
 use Rattle.gallium_cli.specs.Roles.{plan_files, plan_gates, given_gates, split_gates, event_gates, size_of, IsCaptured}
@@ -277,7 +277,7 @@ passed_split p f g allowed split given =
 -- what a split goes through that is found
 pub split_passed : (by : Splitting) (s : List ℕ) (f : FilesState) (m : Tree) (split : List Part) (writeback : ℕ)
     → IsSplitBy by f.told s m split writeback → AllPassed (split_gates s by) f
-split_passed Served s f m split writeback found = (passed_program s f m found.0.source found.0.bounded.few, tt)
+split_passed ServerAlone s f m split writeback found = (passed_program s f m found.0.source found.0.bounded.few, tt)
 split_passed (Within l shrink) s f m split writeback (allowed, plan, choice, rows) = (
   passed_program s f m plan.program.source plan.program.bounded.few,
   (passed_limits l f allowed plan.limits, ((m, allowed, split, plan, choice.chosen), tt)),

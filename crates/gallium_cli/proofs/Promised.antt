@@ -19,7 +19,7 @@ use Rattle.gallium_cli.specs.declared.refusal.Refusal.TheVariants.{NoMemory, Rep
 use Rattle.gallium_cli.specs.Call.{Call, Work}
 use Rattle.gallium_cli.specs.Lines.{status_of}
 use Rattle.gallium_cli.specs.Words.{Request, Run, Compile, Replay, Check, Audit as Audited, Gen, PcapIn, PcapOut}
-use Rattle.gallium_cli.specs.Words.{Served, Within, Spelled, is_replay, request_of}
+use Rattle.gallium_cli.specs.Words.{ServerAlone, Within, Spelled, is_replay, request_of}
 use Rattle.gallium_cli.specs.Roles.{Role, source, trace, legal_split, true_report, Gate, File, Choice, SplitFile}
 use Rattle.gallium_cli.specs.Roles.{ReportFile}
 use Rattle.gallium_cli.specs.Roles.{IsSpelled, gates_of, names_in}
@@ -276,8 +276,8 @@ may_exceed refusal (Run s t) f f' is first = shrunk_unexceeded refusal (gates_of
 may_exceed refusal (Compile s l false) f f' is first = tt
 may_exceed refusal (Compile s l true) f f' is first =
     shrunk_unexceeded refusal (gates_of (Compile s l true)) f f' (tt, (tt, tt)) is first
-may_exceed refusal (Replay s t c Served) f f' is first =
-    shrunk_unexceeded refusal (gates_of (Replay s t c Served)) f f' (tt, (tt, (tt, tt))) is first
+may_exceed refusal (Replay s t c ServerAlone) f f' is first =
+    shrunk_unexceeded refusal (gates_of (Replay s t c ServerAlone)) f f' (tt, (tt, (tt, tt))) is first
 may_exceed refusal (Replay s t c (Within l false)) f f' is first = tt
 may_exceed refusal (Replay s t c (Within l true)) f f' is first =
     shrunk_unexceeded refusal (gates_of (Replay s t c (Within l true))) f f' (tt, (tt, (tt, (tt, tt)))) is first

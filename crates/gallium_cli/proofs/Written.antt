@@ -33,7 +33,7 @@ use Rattle.traffic_generator.specs.Packets.{packets_of as made_packets}
 use Rattle.traffic_generator.specs.Summary.{summary_of}
 use Rattle.traffic_generator.specs.Translator.{translator_limits, translator_text}
 use Rattle.gallium_cli.specs.Lines.{line_end}
-use Rattle.gallium_cli.specs.Words.{Splitting, Served, Within, Spelled, Request, Replay, is_replay}
+use Rattle.gallium_cli.specs.Words.{Splitting, ServerAlone, Within, Spelled, Request, Replay, is_replay}
 use Rattle.gallium_cli.specs.Roles.{gates_of, split_gates, event_gates, names_of, split_reads}
 use Rattle.gallium_cli.specs.Answers.{IsAnswer, IsProgram, IsPlan, IsTraffic, IsChoice, IsNoChoice, IsGivenSplit}
 use Rattle.gallium_cli.specs.Answers.{IsSplitBy, IsReport, IsReplayed, given, heading_text, compiled_text, checked_text}
@@ -119,7 +119,7 @@ unput_answer (Err refusal) request text f f' p p' o o' answer read kept put =
 -- the split of a flat program that leaves all to the server, and the chosen one, are those of the middlebox
 pub served_split : (told : List ℕ → Option (List ℕ)) (s : List ℕ) (m : Tree) (q : Program) (split : List Part)
     → IsProgram told s m → q ≡ flat_of m → IsGreatestSplit q 0 false split → IsLegal q split
-    → IsSplitBy Served told s m split 0
+    → IsSplitBy ServerAlone told s m split 0
 served_split told s m q split found same least legal =
     (found, subst (λ (x : Program). IsNoChoice x split) same record { least = least; legal = legal }, refl)
 
@@ -189,7 +189,7 @@ reads_in_all a b x y z one two = omega arith
 -- the files of a replay are those of its split, and two more
 replay_names : (s t c : List ℕ) (by : Splitting) (count : ℕ)
     → reads_after (names_of (Replay s t c by)) count ≡ raised_by (split_reads s by + 2) count
-replay_names s t c Served count = refl
+replay_names s t c ServerAlone count = refl
 replay_names s t c (Within l shrink) count = refl
 replay_names s t c (Spelled l p) count = refl
 

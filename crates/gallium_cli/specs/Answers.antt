@@ -52,7 +52,7 @@ use Rattle.traffic_generator.specs.Packets.{packets_of as made_packets}
 use Rattle.traffic_generator.specs.Schedule.{events_of as made_events}
 use Rattle.traffic_generator.specs.Summary.{summary_of}
 use Rattle.traffic_generator.specs.Translator.{translator_limits, translator_text}
-use Rattle.gallium_cli.specs.Words.{Splitting, Served, Within, Spelled}
+use Rattle.gallium_cli.specs.Words.{Splitting, ServerAlone, Within, Spelled}
 use Rattle.gallium_cli.specs.Words.{Request, Run, Compile, Replay, Check, Audit, Gen, PcapIn, PcapOut}
 use Rattle.gallium_cli.specs.Lines.{line_end}
 use Rattle.gallium_cli.specs.Roles.{source, program, limits, legal_split, trace, schedule, capture, size_of}
@@ -134,7 +134,7 @@ pub record IsGivenSplit (told : List ℕ → Option (List ℕ)) (p : List ℕ) (
 -- left to the server, and there are none; or it is the one that is chosen for these limits; or it is the one that a file
 -- spells, which keeps them.
 abbrev pub IsSplitBy : Splitting → (List ℕ → Option (List ℕ)) → List ℕ → Tree → List Part → ℕ → Type 0
-IsSplitBy Served told s m split writeback = IsProgram told s m × IsNoChoice (flat_of m) split × (writeback ≡ 0)
+IsSplitBy ServerAlone told s m split writeback = IsProgram told s m × IsNoChoice (flat_of m) split × (writeback ≡ 0)
 IsSplitBy (Within l shrink) told s m split writeback =
     (allowed : Limits) × IsPlan told s l m allowed × IsChoice (flat_of m) allowed shrink split
     × (writeback ≡ allowed.writeback)

@@ -17,7 +17,7 @@ use Rattle.run_text.specs.declared.plan.Plan.{Plan}
 use Rattle.run_text.specs.Trace.{trace_of, schedule_of}
 use Rattle.pcap_trace.specs.declared.pcap.Pcap.{Pcap}
 use Rattle.pcap_trace.specs.Format.{IsPcap, pcap_bytes}
-use Rattle.gallium_cli.specs.Words.{Splitting, Served, Within, Spelled}
+use Rattle.gallium_cli.specs.Words.{Splitting, ServerAlone, Within, Spelled}
 use Rattle.gallium_cli.specs.Words.{Request, Run, Compile, Replay, Check, Audit, Gen, PcapIn, PcapOut}
 
 -- what a file is read as
@@ -100,7 +100,7 @@ given_gates s l p = File s program ∷ (File l limits ∷ (SplitFile s l p ∷ [
 
 -- what a split of a source goes through
 abbrev pub split_gates : List ℕ → Splitting → List Gate
-split_gates s Served = File s program ∷ []
+split_gates s ServerAlone = File s program ∷ []
 split_gates s (Within l shrink) = plan_gates s l shrink
 split_gates s (Spelled l p) = given_gates s l p
 

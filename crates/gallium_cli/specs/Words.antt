@@ -11,7 +11,7 @@ use Rattle.gallium_cli.specs.declared.words.SplitForm.TheVariants as splits
 -- whose split a replay goes by
 pub data Splitting : Type 0 where
   -- every instruction is left to the server
-  Served : Splitting
+  ServerAlone : Splitting
   -- it is the one that is chosen within the limits of a file, which may shrink to keep them or not
   Within : (limits : List ℕ) (shrink : Bool) → Splitting
   -- it is the one that a file spells, and has to keep the limits of another
@@ -83,7 +83,7 @@ request_of (word ∷ source ∷ second ∷ []) =
     else (if bytes_eq word (codes "gen") then made_by source second else None))
 request_of (word ∷ source ∷ second ∷ third ∷ []) =
     if bytes_eq word (codes "pcap") then pcap_in source second third
-    else (if bytes_eq word (codes "replay") then Some (Replay source second third Served)
+    else (if bytes_eq word (codes "replay") then Some (Replay source second third ServerAlone)
     else (if bytes_eq word (codes "check") then Some (Check source second third)
     else (if bytes_eq word (codes "audit") then Some (Audit source second third)
     else (if bytes_eq word (codes "compile") && bytes_eq third (codes "shrink") then Some (Compile source second true)
@@ -102,7 +102,7 @@ request_of (word ∷ source ∷ trace ∷ schedule ∷ limits ∷ by ∷ split �
 request_of _ = None
 
 abbrev pub split_asked : SplitForm → Splitting
-split_asked splits.Served = Served
+split_asked splits.ServerAlone = ServerAlone
 split_asked (splits.Within limits shrink) = Within limits.now shrink
 split_asked (splits.Spelled limits split) = Spelled limits.now split.now
 

@@ -9,7 +9,7 @@ ghost use Rattle.resource_limits.specs.Kept.{KeepsLimits};
 ghost use Rattle.partition.specs.Choice.{IsChosen};
 ghost use Rattle.split_model.specs.Bounds.{HasFewStages, IsBounded};
 ghost use Rattle.split_model.specs.Legal.{IsLegal};
-ghost use Rattle.gallium_cli.specs.Words.{Served, Within, Spelled, split_asked};
+ghost use Rattle.gallium_cli.specs.Words.{ServerAlone, Within, Spelled, split_asked};
 ghost use Rattle.gallium_cli.specs.Lines.{status_of};
 ghost use Rattle.gallium_cli.specs.Roles.{plan_files, plan_gates, given_gates, split_gates, split_reads};
 ghost use Rattle.gallium_cli.specs.Answers.{IsPlan, IsSplitBy};
@@ -157,11 +157,11 @@ fn load_served<'a, F: Files>(
     source: &'a str,
     files: &mut F,
 ) -> Result<SplitMiddlebox, Refusal<'a>>
-    ensures ok { IfOk result (λ x. IsSplitBy Served (F.seen files.old).told source.now
+    ensures ok { IfOk result (λ x. IsSplitBy ServerAlone (F.seen files.old).told source.now
         (tree x.program.middlebox) x.split x.writeback) }
     ensures runnable { IfOk result (λ x.
         IsRunnable (tree x.program.middlebox) (program_of x.program.flat) x.split x.writeback) }
-    ensures err { IfErr result (λ refusal. IsFirstRefused refusal (split_gates source.now Served)
+    ensures err { IfErr result (λ refusal. IsFirstRefused refusal (split_gates source.now ServerAlone)
         (F.seen files.old) (F.seen files.new)) }
     ensures stays { OnOk result (GoesOn Status.Done (F.seen files.old) (F.seen files.new)) }
     ensures fault { IfErr result (λ refusal.
@@ -203,7 +203,7 @@ pub fn load_split<'a, F: Files>(
         ≤ raised_by (split_reads source.now (split_asked split.entry)) (F.seen files.old).reads }
 {
     match split {
-        SplitForm::Served => load_served(alloc, source, files),
+        SplitForm::ServerAlone => load_served(alloc, source, files),
         SplitForm::Within { limits, shrink } => load_within(alloc, source, limits, shrink, files),
         SplitForm::Spelled { limits, split } => load_given(alloc, source, limits, split, files),
     }

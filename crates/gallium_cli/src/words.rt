@@ -10,7 +10,7 @@ use traffic_generator::Count;
 #[derive(Clone, Copy, Debug)]
 pub enum SplitForm<'a> {
     /// Every instruction is left to the server, and so every packet is sent there.
-    Served,
+    ServerAlone,
     /// The split that `Compile` would print.
     Within { limits: &'a str, shrink: bool },
     /// The split that a file spells, which has to keep these limits.
@@ -182,7 +182,7 @@ pub fn form_of<'a>(words: &'a [String]) -> Option<Form<'a>>
                     source: source.as_str(),
                     trace: second.as_str(),
                     schedule: third.as_str(),
-                    split: SplitForm::Served,
+                    split: SplitForm::ServerAlone,
                 });
             }
             if word.as_str() == "check" {
