@@ -14,11 +14,11 @@ returns-in_ok-push_back-in-Frame-clause-stepped c = λ s setup calls st h.
 
 pub returns-in_ok-push_back-in-Frame-clause-shown : goal.returns-in_ok-push_back-in-Frame-clause-shown
 returns-in_ok-push_back-in-Frame-clause-shown c = λ s setup a calls st h.
-    (hold_goes s setup a calls st c.args.self.now _ c.args.j c.in-Frame.number c.in-Frame.frame refl refl c.release.ensures.after c.in-Frame.ensures.answer c.in_ok-push_back-in-Frame.ensures.items refl refl refl h).1
+    (hold_goes s setup a calls st c.args.self.now _ c.args.j c.in-Frame.number c.in-Frame.frame refl refl refl c.release.ensures.after c.in-Frame.ensures.answer c.in_ok-push_back-in-Frame.ensures.items refl refl refl h).1
 
 pub returns-in_ok-push_back-in-Frame-clause-sound : goal.returns-in_ok-push_back-in-Frame-clause-sound
 returns-in_ok-push_back-in-Frame-clause-sound c = λ x h.
-    goes_sound x c.args.self.now _ c.args.j c.in-Frame.number c.in-Frame.frame h refl refl c.release.ensures.after c.in-Frame.ensures.answer c.in_ok-push_back-in-Frame.ensures.items refl
+    goes_sound x c.args.self.now _ c.args.j c.in-Frame.number c.in-Frame.frame h refl refl refl refl refl c.release.ensures.after c.in-Frame.ensures.answer c.in_ok-push_back-in-Frame.ensures.items refl
     (let i = h.within.idle in omega arith)
 
 pub returns-in_ok-push_back-in-Frame-clause-unapplied : goal.returns-in_ok-push_back-in-Frame-clause-unapplied
@@ -31,9 +31,9 @@ returns-in-NotYet c =
       | inl p ↦ let bad = e ∙ sym c.release.ensures.answer ∙ p.2 in cc
       | inr p ↦ let bad = e ∙ sym c.release.ensures.answer ∙ p.1 in cc
     ] in record {
-      stepped = λ s setup calls st h. sym (ap stepped_by (hold_stays s setup (journal s calls) calls st c.args.self.now _ c.args.j refl refl c.release.ensures.after never refl refl refl refl h).0);
-      shown = λ s setup a calls st h. (hold_stays s setup a calls st c.args.self.now _ c.args.j refl refl c.release.ensures.after never refl refl refl refl h).1;
-      sound = λ x h. waits_sound x c.args.self.now _ c.args.j h refl refl c.release.ensures.after never refl refl (let i = h.within.idle in omega arith);
+      stepped = λ s setup calls st h. sym (ap stepped_by (hold_stays s setup (journal s calls) calls st c.args.self.now _ c.args.j refl refl refl c.release.ensures.after never refl refl refl refl h).0);
+      shown = λ s setup a calls st h. (hold_stays s setup a calls st c.args.self.now _ c.args.j refl refl refl c.release.ensures.after never refl refl refl refl h).1;
+      sound = λ x h. waits_sound x c.args.self.now _ c.args.j h refl refl refl refl refl c.release.ensures.after never refl refl (let i = h.within.idle in omega arith);
       unapplied = ap left_of c.release.ensures.after ∙ release_same c.args.self.now.commit c.args.j (slice_get c.args.self.now.commit.held c.args.j);
       counted = refl;
     }
