@@ -1,6 +1,6 @@
 -- A split program: what it does to whole packets, and what its parts on the switch and on the server do.
 use Rattle.std.specs.Prelude.{◌≡◌, ◌≤◌, ◌<◌, ℕ, Bool, true}
-use Rattle.std.specs.Prelude.{false, ◌&&◌, if◌then◌else◌, List, [], length, Some, None}
+use Rattle.std.specs.Prelude.{◌&&◌, if◌then◌else◌, List, [], length, Some, None}
 use Rattle.std.specs.Prelude.{slice_get, get_or}
 use Rattle.packet_fields.specs.declared.packet.Packet.{Packet}
 use Rattle.packet_fields.specs.declared.verdict.Verdict.{Verdict}

@@ -10,7 +10,7 @@ pub use Rattle.writeback_table.specs.Views.{disturbs}
 use Rattle.run_model.specs.declared.event.Event.{Event}
 use Rattle.run_model.specs.declared.event.Event.TheVariants.{Admit, Stage, Serve, Send, Apply, Ack, Hold, Down}
 use Rattle.replay_state.specs.Answers.{Answers, Setup}
-use Rattle.output_commit.specs.Batches.{Batch, commands_in, merged, visible}
+use Rattle.output_commit.specs.Batches.{commands_in, merged, visible}
 use Rattle.replay_state.specs.State.{State, Pass, Progress, Entered, Up, Held, Slow, Fast, first_state}
 use Rattle.replay_state.specs.State.{bit_behind, store_at, seen}
 

@@ -31,7 +31,11 @@ use Rattle.switch_ir.specs.declared.port.UpEnd.{UpEnd}
 use Rattle.switch_ir.specs.declared.port.UpEnd.TheVariants as up
 use Rattle.switch_ir.specs.declared.port.DownEnd.{DownEnd}
 use Rattle.switch_ir.specs.declared.port.DownEnd.TheVariants as down
-use Rattle.split_answers.specs.InStages.{AgreeLast, HasNoMore}
+use Rattle.split_answers.specs.UnderWay.{HasNoMore}
+
+-- the numbers agree on what is read once all stages are done
+abbrev pub AgreeLast : Staging → Reading → Reading → Type 0
+AgreeLast p reads others = (v : ValueId) → is_read_last p.layout p.code v ≡ true → reads v ≡ others v
 
 -- readings that agree on what an instruction reads
 pub record Agreements : Type 0 where
@@ -142,46 +146,46 @@ module _ (p : Staging) (given : Reading) (tables : Store) (packet : Packet) wher
 
   module _ (no_more : HasNoMore p given tables packet) where
     -- what is read later, the pass knows right
-    knows_by : (t : ℕ) (numbers : Numbers) (v : ValueId) → t ≤ p.code.highest → Over t numbers → is_read_later p t v ≡ true → (o : Option ℕ) → numbers v ≡ o → unwrap_or o 0 ≡ done (suc t) v
-    knows_by t numbers v low over later (Some n) e = over.right v n e
-    knows_by t numbers v low over later None e =
+    knows_by : (t : ℕ) (numbers : Numbers) (v : ValueId) → Over t numbers → is_read_later p t v ≡ true → (o : Option ℕ) → numbers v ≡ o → unwrap_or o 0 ≡ done (suc t) v
+    knows_by t numbers v over later (Some n) e = over.right v n e
+    knows_by t numbers v over later None e =
         ⊎_elim
         (λ had. absurd (false≢true (sym (ap is_some e) ∙ over.enough v had later)))
-        (λ not. sym (no_more t v low not))
+        (λ not. sym (no_more t v not))
         (cases_Bool (is_had p t v))
 
-    knows : (t : ℕ) (numbers : Numbers) (v : ValueId) → t ≤ p.code.highest → Over t numbers → is_read_later p t v ≡ true → known numbers v ≡ done (suc t) v
-    knows t numbers v low over later = knows_by t numbers v low over later (numbers v) refl
+    knows : (t : ℕ) (numbers : Numbers) (v : ValueId) → Over t numbers → is_read_later p t v ≡ true → known numbers v ≡ done (suc t) v
+    knows t numbers v over later = knows_by t numbers v over later (numbers v) refl
 
     module _ (agree : Agreements) where
       -- an instruction of the next stage gives, from what is known, what it gives in the whole pass
-      gives : (t : ℕ) (old : Numbers) (view : Store) (v : ValueId) → t ≤ p.code.highest → Over t old → Sees p view tables → (s : Step) → IsReader steps s × IsLooker steps s
+      gives : (t : ℕ) (old : Numbers) (view : Store) (v : ValueId) → Over t old → Sees p view tables → (s : Step) → IsReader steps s × IsLooker steps s
           → GivesSame (suc t) (known old) (done (suc t)) view tables packet v s
-      gives t old view v low over sees s h own =
+      gives t old view v over sees s h own =
           let stage : s.stage ≡ suc t = eqb-true s.stage (suc t) (and_parts (s.stage == suc t) (s.instruction == v.instruction) own).0 in
           agree.results (known old) (done (suc t)) false view packet s.work
-          (agree.operands (known old) (done (suc t)) s.work (each_weaker (λ w. s.stage ≤ last_stage steps w) (Same (known old) (done (suc t))) (λ w k. knows t old w low over (read_by t w (omega (arith, stage, k)))) (operands s.work) h.0))
+          (agree.operands (known old) (done (suc t)) s.work (each_weaker (λ w. s.stage ≤ last_stage steps w) (Same (known old) (done (suc t))) (λ w k. knows t old w over (read_by t w (omega (arith, stage, k)))) (operands s.work) h.0))
           ∙ seen_same (done (suc t)) view tables packet s.work (λ o k. sees o (h.1 o k))
 
-      all_give : (t : ℕ) (old : Numbers) (view : Store) (v : ValueId) → t ≤ p.code.highest → Over t old → Sees p view tables → Each (GivesSame (suc t) (known old) (done (suc t)) view tables packet v) steps
-      all_give t old view v low over sees =
-          each_weaker (λ s. IsReader steps s × IsLooker steps s) (GivesSame (suc t) (known old) (done (suc t)) view tables packet v) (gives t old view v low over sees) steps
+      all_give : (t : ℕ) (old : Numbers) (view : Store) (v : ValueId) → Over t old → Sees p view tables → Each (GivesSame (suc t) (known old) (done (suc t)) view tables packet v) steps
+      all_give t old view v over sees =
+          each_weaker (λ s. IsReader steps s × IsLooker steps s) (GivesSame (suc t) (known old) (done (suc t)) view tables packet v) (gives t old view v over sees) steps
           (each_both (IsReader steps) (IsLooker steps) steps (readers steps) (lookers steps))
 
-      pub staged_over : (t : ℕ) (old new : Numbers) (view : Store) → t ≤ p.code.highest → Over t old → IsStaged p (suc t) old view packet new → Sees p view tables → Over (suc t) new
-      staged_over t old new view low over staged sees = record {
+      pub staged_over : (t : ℕ) (old new : Numbers) (view : Store) → Over t old → IsStaged p (suc t) old view packet new → Sees p view tables → Over (suc t) new
+      staged_over t old new view over staged sees = record {
         enough = staged.enough;
         right = λ v n e. ⊎_elim
             (λ own. staged.newest v n own e
-            ∙ stage_same steps (suc t) (known old) (done (suc t)) view tables packet v (all_give t old view v low over sees) (λ none. absurd (true≢false (sym own ∙ none))))
+            ∙ stage_same steps (suc t) (known old) (done (suc t)) view tables packet v (all_give t old view v over sees) (λ none. absurd (true≢false (sym own ∙ none))))
             (λ other. over.right v n (staged.earlier v n other e) ∙ sym (stage_none steps (suc t) (done (suc t)) tables packet v other))
             (cases_Bool (is_of_stage steps (suc t) v));
       }
 
       last_over : (t : ℕ) (old : Numbers) (view : Store) → t ≤ p.code.highest → Over t old → Sees p view tables → AgreeLast p (last_numbers p (suc t) old view packet) (done (suc (suc t)))
       last_over t old view low over sees v last =
-          stage_same steps (suc t) (known old) (done (suc t)) view tables packet v (all_give t old view v low over sees)
-          (λ none. knows t old v low over (read_at_last t v low last))
+          stage_same steps (suc t) (known old) (done (suc t)) view tables packet v (all_give t old view v over sees)
+          (λ none. knows t old v over (read_at_last t v low last))
 
       pub ended_over : (t : ℕ) (old : Numbers) (view : Store) → p.code.highest ≡ suc t → Over t old → Sees p view tables
           → AgreeLast p (last_numbers p (suc t) old view packet) (pass_values p.code given tables packet)

@@ -9,3 +9,5 @@ mod Seen
 mod Passed
 mod Tells
 mod InStages
+mod Lacking
+mod Knowing

@@ -30,7 +30,7 @@ use Rattle.replay_state.specs.Journal.{UpAnswer, Finished, SentUp, GoingUp, is_u
 use Rattle.replay_state.specs.Told.{IsRight}
 use Rattle.switch_ir.specs.declared.port.DownEnd.TheVariants as down
 use Rattle.switch_ir.specs.Emitted.{emitted, Computes}
-use Rattle.switch_ir.specs.Meaning.{goes_up, leaves, up_values, up_verdict}
+use Rattle.switch_ir.specs.Meaning.{down_end, goes_up, leaves, up_values, up_verdict}
 use Rattle.switch_ir.specs.Port.{EndsDown, EndsUp}
 use Rattle.switch_ir.specs.Tables.{Told, seen_tables}
 use Rattle.split_answers.specs.Through.{IsThrough, end_of}
@@ -120,14 +120,14 @@ module _ (laws : UpLaws) (f : Program) (split : List Part) (writeback : ℕ) (st
 -- ## Down
 
 module _ (laws : DownLaws) (f : Program) (split : List Part) (writeback : ℕ) (commands : List Command) (told : Told) (frame : List ℕ) (is : IsSplit f split writeback) (through : IsThrough (emitted f split writeback) commands told) (framed : IsFrame 2 (down_layout f split) frame) where
-  abbrev layout : List Crossing
+  abbrev pub layout : List Crossing
   layout = down_layout f split
 
-  abbrev reads : Reading
+  abbrev pub reads : Reading
   reads = reads_in layout frame
 
   -- the frame is that of the numbers that stand in it by place
-  own_frame : IsFrameOf 2 layout framed.number framed.port (value_by reads) framed.packet frame
+  pub own_frame : IsFrameOf 2 layout framed.number framed.port (value_by reads) framed.packet frame
   own_frame =
       let by_place = laws.values f split 2 framed.number framed.port framed.values framed.packet frame framed.is in
       let same : Agree layout framed.values (value_by reads) =
@@ -140,11 +140,17 @@ module _ (laws : DownLaws) (f : Program) (split : List Part) (writeback : ℕ) (
         short = framed.is.short;
       }
 
-  pub passes_down : (verdict : Verdict) → EndsDown (emitted f split writeback) told frame (down.Verdict verdict) → verdict ≡ (whole_of f split writeback).post frame
-  passes_down verdict ends =
+  abbrev pub arrived : Packet
+  arrived = record { port = framed.port; bytes = framed.packet }
+
+  -- a verdict is right that is the code's of these numbers
+  pub verdict_down : (verdict : Verdict) → verdict ≡ down_end (emitted f split writeback) (value_by reads) (seen_tables told) arrived → verdict ≡ (whole_of f split writeback).post frame
+  verdict_down verdict own =
       let start : Store = start_store f.objects in
-      let P : Packet = record { port = framed.port; bytes = framed.packet } in
-      ends framed.number framed.port (value_by reads) framed.packet own_frame
-      ∙ (laws.computes f split writeback is.legal).verdict reads (seen_tables told) P
-      ∙ (laws.posted f split start (seen_tables told) P reads is.legal (loaded f split start (laws.tables f start is.kept)) (is_loaded f split writeback is commands told through)).verdict
+      own
+      ∙ (laws.computes f split writeback is.legal).verdict reads (seen_tables told) arrived
+      ∙ (laws.posted f split start (seen_tables told) arrived reads is.legal (loaded f split start (laws.tables f start is.kept)) (is_loaded f split writeback is commands told through)).verdict
       ∙ sym (ap (down_verdict f split reads start) (laws.parts 2 layout framed.number framed.port framed.values framed.packet frame framed.is).carries)
+
+  pub passes_down : (verdict : Verdict) → EndsDown (emitted f split writeback) told frame (down.Verdict verdict) → verdict ≡ (whole_of f split writeback).post frame
+  passes_down verdict ends = verdict_down verdict (ends framed.number framed.port (value_by reads) framed.packet own_frame)

@@ -25,7 +25,7 @@ use Rattle.switch_ir.specs.Port.{EndsDown, EndsUp}
 use Rattle.switch_ir.specs.Tables.{Told}
 use Rattle.replay_state.specs.Answers.{Setup}
 use Rattle.output_commit.specs.Batches.{commands_in}
-use Rattle.replay_state.specs.State.{State, Pass, seen, store_at}
+use Rattle.replay_state.specs.State.{State, seen, store_at}
 use Rattle.replay_state.specs.Step.{applies}
 use Rattle.replay_state.specs.Program.{Manner, SplitProgram, packet_at, setup_of}
 use Rattle.replay_state.specs.Journal.{UpAnswer, Finished, SentUp, GoingUp, Released, GoingDown}

@@ -1,5 +1,4 @@
 pub mod Whole
 pub mod Through
 pub mod Over
-pub mod InStages
 pub mod UnderWay
