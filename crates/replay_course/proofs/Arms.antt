@@ -25,7 +25,8 @@ use Rattle.replay_state.specs.Journal.{AsksDown, AsksStageDown, AsksStageUp, Ask
 use Rattle.replay_state.specs.Journal.{asks, asks_down, asks_stage, down_answer, down_end, down_frame, frame_in, is_down_end, is_up_end, journal, over_in, question_of, up_answer, up_end}
 use Rattle.replay_state.specs.Places.{HavePlaces, IsHeld}
 use Rattle.replay_state.specs.Program.{SplitProgram, packet_at}
-use Rattle.replay_state.specs.State.{Entered, Pass, State, seen}
+use Rattle.replay_state.specs.declared.pass.Pass.{Pass}
+use Rattle.replay_state.specs.State.{Entered, State, seen}
 use Rattle.replay_state.specs.Step.{applies, came, came_down, ended, happens, pass_of, staged, step, tick}
 use Rattle.split_answers.specs.Over.{IsGiven}
 use Rattle.split_answers.specs.Through.{down_end_of, end_of}

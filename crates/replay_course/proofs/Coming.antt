@@ -6,7 +6,8 @@ use Rattle.switch_ir.specs.declared.port.DownEnd.TheVariants as down
 use Rattle.switch_ir.specs.declared.port.UpEnd.TheVariants as up
 use Rattle.replay_state.specs.Journal.{Call, DownAnswer, Finished, GoingDown, GoingUp, Released, SentUp, UpAnswer, down_answer, down_end, is_down_end, is_up_end, journal, up_answer, up_end}
 use Rattle.replay_state.specs.Program.{SplitProgram}
-use Rattle.replay_state.specs.State.{Pass, State}
+use Rattle.replay_state.specs.declared.pass.Pass.{Pass}
+use Rattle.replay_state.specs.State.{State}
 use Rattle.split_answers.specs.Through.{down_end_of, end_of}
 use Rattle.replay_course.specs.Fates as fates_of
 use Rattle.replay_course.specs.declared.course.Course.{Course}

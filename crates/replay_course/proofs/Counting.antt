@@ -4,7 +4,7 @@ use Rattle.std.specs.Prelude.{count_by, slice_get, slice_set, remove}
 use Rattle.std.specs.List.{AllByRecursion as Each}
 use Rattle.std.proofs.lemmas.List.Sums.{sum_by_push, sum_by-remove, sum_by-set}
 use Rattle.std.proofs.lemmas.Option.{none-some, same_Some, slice_get-get_or, slice_get_within}
-use Rattle.replay_state.specs.State.{Pass}
+use Rattle.replay_state.specs.declared.pass.Pass.{Pass}
 
 abbrev pub before_server : List Pass → ℕ
 before_server passes = count_by (λ (pass : Pass). pass.pre) passes

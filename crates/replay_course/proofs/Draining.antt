@@ -17,7 +17,8 @@ use Rattle.replay_state.specs.Program.{IsSplitProgram, Manner, SplitProgram, set
 use Rattle.replay_state.specs.Sound.{AreFew}
 use Rattle.output_commit.specs.Batches.{commands_in, visible}
 use Rattle.output_commit.specs.Commit.{commands}
-use Rattle.replay_state.specs.State.{State, Pass, fate_of}
+use Rattle.replay_state.specs.declared.pass.Pass.{Pass}
+use Rattle.replay_state.specs.State.{State, fate_of}
 use Rattle.replay_state.specs.Step.{applies, may_go, state_of, step, waits}
 use Rattle.replay_contracts.specs.Called.{WasCalled}
 use Rattle.replay_contracts.specs.Given.{Given, IsReady, code_for, setup_for, whole}

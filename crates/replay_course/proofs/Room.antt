@@ -32,7 +32,8 @@ use Rattle.replay_state.specs.Journal.{Call, HasGoneUp, IsNumbered, SentUp, down
 use Rattle.replay_state.specs.Program.{IsSplitProgram, Manner, SplitProgram, plain, setup_of}
 use Rattle.replay_state.specs.Sound.{AreSound}
 use Rattle.output_commit.specs.Batches.{commands_in}
-use Rattle.replay_state.specs.State.{Pass, State, applied_commands, fate_of}
+use Rattle.replay_state.specs.declared.pass.Pass.{Pass}
+use Rattle.replay_state.specs.State.{State, applied_commands, fate_of}
 use Rattle.replay_state.specs.Step.{state_of, waits}
 use Rattle.replay_state.specs.Tables.{IsSeen}
 use Rattle.split_answers.specs.Through.{IsThrough, first_pair}

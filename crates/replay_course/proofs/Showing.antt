@@ -17,7 +17,8 @@ use Rattle.replay_state.specs.Answers.{Answers, Setup}
 use Rattle.replay_state.specs.Journal.{Call, SentUp, Question, UpAnswer, asked, asks_command, down_frame, ends_up, frame_in, or_else, over_in, up_answer}
 use Rattle.replay_state.specs.Program.{SplitProgram}
 use Rattle.output_commit.specs.Batches.{Batch, commands_in, fits, merged, visible}
-use Rattle.replay_state.specs.State.{State, Pass, Progress, fate_of}
+use Rattle.replay_state.specs.declared.pass.Pass.{Pass}
+use Rattle.replay_state.specs.State.{State, Progress, fate_of}
 use Rattle.replay_state.specs.Step.{applies, happens, idled, let_go, may_go, step, tick, waits}
 use Rattle.replay_course.specs.declared.course.Course.{Course}
 use Rattle.replay_course.specs.Going.{ready_next, unless_waits}

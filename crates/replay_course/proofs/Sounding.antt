@@ -13,7 +13,7 @@ use Rattle.output_commit.specs.declared.output.Output.{Output}
 use Rattle.run_model.specs.declared.fate.Fate.{Fate}
 use Rattle.server_runtime.specs.Views.{server_of}
 use Rattle.switch_ir.specs.Port.{IsUpdateOf}
-use Rattle.replay_state.specs.State.{Pass}
+use Rattle.replay_state.specs.declared.pass.Pass.{Pass}
 use Rattle.replay_contracts.specs.Given.{Given, code_for, setup_for}
 use Rattle.replay_course.specs.declared.course.Course.{Course}
 use Rattle.replay_course.specs.Going.{IsSound, IsWithin, TakesOneMore, most_commands, undecided}

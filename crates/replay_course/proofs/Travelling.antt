@@ -22,7 +22,8 @@ use Rattle.replay_state.specs.Journal.{down_end as down_ended, up_end as up_ende
 use Rattle.replay_state.specs.Places.{HavePlaces, IsHeld}
 use Rattle.replay_state.specs.Program.{SplitProgram}
 use Rattle.output_commit.specs.Batches.{Batch, commands_in, visible}
-use Rattle.replay_state.specs.State.{Pass, State, Entered, Fast, Held, Progress, Slow, Up, bit_behind, fate_of, seen, store_at}
+use Rattle.replay_state.specs.declared.pass.Pass.{Pass}
+use Rattle.replay_state.specs.State.{State, Entered, Fast, Held, Progress, Slow, Up, bit_behind, fate_of, seen, store_at}
 use Rattle.replay_state.specs.Step.{applies, came, came_in, came_out, decided, finished, happens, idled, pass_of, ran, released, served, step, tick, went_up, with_changes}
 use Rattle.replay_course.specs.Fates as fates_of
 use Rattle.replay_course.specs.declared.course.Course.{Course}

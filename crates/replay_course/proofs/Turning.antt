@@ -17,7 +17,8 @@ use Rattle.replay_state.specs.Carried.{Carried}
 use Rattle.replay_state.specs.Journal.{Call, CalledCommand, CalledDown, CalledStageDown, CalledStageUp, CalledUp, DownAnswer, EndOnce, HasGoneUp, IsAnswered, UpAnswer, asked, asks, asks_command, down_answer, down_end, down_ends, has_come_down, has_passed, journal, one_if, only_for, or_else, question_of, up_answer, up_end, up_ends}
 use Rattle.replay_state.specs.Places.{HavePlaces}
 use Rattle.replay_state.specs.Program.{SplitProgram, setup_of}
-use Rattle.replay_state.specs.State.{Pass, Progress, State, fate_of}
+use Rattle.replay_state.specs.declared.pass.Pass.{Pass}
+use Rattle.replay_state.specs.State.{Progress, State, fate_of}
 use Rattle.replay_state.specs.Step.{applies, ended, happens, idled, state_of, step, tick}
 use Rattle.split_answers.specs.Over.{IsGiven}
 use Rattle.replay_contracts.specs.Called.{KeepsCalls, WasCalled, WasMade}

@@ -9,7 +9,7 @@ use Rattle.output_commit.specs.declared.output.Output.{Output}
 use Rattle.output_commit.specs.declared.output.Release.TheVariants as release
 use Rattle.replay_contracts.specs.Given.{Given}
 use Rattle.replay_course.specs.declared.course.Course.{Course}
-use Rattle.replay_state.specs.State.{Pass}
+use Rattle.replay_state.specs.declared.pass.Pass.{Pass}
 use Rattle.replay_course.specs.Going.{IsSound, unless_waits}
 use Rattle.replay_course.proofs.Showing.{MergeLaw, goes, next_goes, stays}
 use Rattle.replay_course.proofs.Sounding.{hold_sound, idle_sound}

@@ -25,7 +25,8 @@ use Rattle.replay_state.specs.Carried.{Carried}
 use Rattle.replay_state.specs.Journal.{Call, DownAnswer, HasGoneUp, UpAnswer, asked, question_of}
 use Rattle.replay_state.specs.Places.{HavePlaces, IsHeld}
 use Rattle.replay_state.specs.Program.{manner_of}
-use Rattle.replay_state.specs.State.{Entered, Pass, State}
+use Rattle.replay_state.specs.declared.pass.Pass.{Pass}
+use Rattle.replay_state.specs.State.{Entered, State}
 use Rattle.replay_state.specs.Answers.{Answers}
 use Rattle.replay_state.specs.Step.{applies, ended, step, waits}
 use Rattle.replay_contracts.specs.Called.{KeepsCalls, WasCalled}

@@ -2,7 +2,7 @@ use Rattle.std.proofs.Common.{◌≡◌, Some, length, arith, refl, sym, ap, sub
 use Rattle.std.specs.Prelude.{slice_get}
 use Rattle.std.proofs.lemmas.Result.{err_from_is_err_and}
 use Rattle.switch_ir.specs.Port.{HasNoUpPass}
-use Rattle.replay_state.specs.State.{Pass}
+use Rattle.replay_state.specs.declared.pass.Pass.{Pass}
 use Rattle.replay_contracts.specs.Replayer.{given_of}
 use Rattle.replay_course.proofs.Arms.{admit_idles, admit_turned, arriving}
 use Rattle.replay_course.proofs.Failing.{fails_up}
