@@ -52,13 +52,16 @@ fn trace(alloc: Global) -> Result<Packets, Fail>
 
 // A program whose split may be replayed: with so few instructions it has no more writes than rows may be staged.
 fn job_of(alloc: Global, flat: Flat) -> Result<Job, Fail>
-    requires kept { IsKept (program_of flat).objects (start_store (program_of flat).objects) }
+    requires { IsKept (program_of flat).objects (start_store (program_of flat).objects) }
     ensures split { IfOk result (λ job. IsSplit (program_of job.flat) job.split job.writeback) }
     ensures stages { IfOk result (λ job. HasFewStages job.split) }
     ensures writeback { IfOk result (λ job. job.writeback ≤ 65536) }
     ensures few { IfOk result (λ job. length job.packets ≤ most_packets) }
 {
-    if !is_bounded(&flat) || flat.code.as_slice().len() > 16 {
+    if !is_bounded(&flat) {
+        return Err(Fail::from("not bounded"));
+    }
+    if flat.code.as_slice().len() > 16 {
         return Err(Fail::from("too long"));
     }
     let split = partition(alloc, &flat, &LIMITS, true)?;
