@@ -1,5 +1,5 @@
 -- The journal determines the calls.
-use Rattle.std.proofs.Common.{◌≡◌, ℕ, Bool, true, false, List, [], ◌∷◌, refl, sym, ◌∙◌, ap}
+use Rattle.std.proofs.Common.{◌≡◌, ℕ, true, false, List, [], ◌∷◌, refl, sym, ◌∙◌, ap}
 use Rattle.std.specs.Prelude.{⊤}
 use Rattle.std.specs.List.{AllByRecursion as Each}
 use Rattle.writeback_table.specs.declared.command.Command.TheVariants.{On}
@@ -16,20 +16,20 @@ use Rattle.replay_contracts.specs.Called.{entry_of, journal_of}
 
 -- ---- the call of an entry; of one that is none of a replay, any
 
-answer_in : UpEnd → UpAnswer
+abbrev answer_in : UpEnd → UpAnswer
 answer_in (up.Finished y) = Finished y
 answer_in (up.Up frame) = SentUp frame
 answer_in up.Going = GoingUp
 answer_in up.Failed = GoingUp
 answer_in up.NoMemory = GoingUp
 
-down_answer_in : DownEnd → DownAnswer
+abbrev down_answer_in : DownEnd → DownAnswer
 down_answer_in (down.Verdict y) = Released y
 down_answer_in down.Going = GoingDown
 down_answer_in down.Failed = GoingDown
 down_answer_in down.NoMemory = GoingDown
 
-call_of : (List ℕ → ℕ) → Entry → Call
+abbrev call_of : (List ℕ → ℕ) → Entry → Call
 call_of number entry.Load = CalledCommand On
 call_of number (entry.Room commands) = CalledCommand On
 call_of number (entry.Up n port packet answer) = CalledUp false n (record { port = port; bytes = packet }) (answer_in answer)

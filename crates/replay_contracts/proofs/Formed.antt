@@ -16,7 +16,7 @@ use Rattle.replay_state.specs.Program.{packet_at}
 use Rattle.replay_contracts.specs.Called.{IsFormed}
 use Rattle.replay_contracts.specs.Given.{Given, code_for, whole}
 
-abbrev Parts : Type 0
+abbrev pub Parts : Type 0
 Parts = (kind : ℕ) (layout : List Crossing) (number port : ℕ) (values : Crossing → ℕ) (packet frame : List ℕ)
     → IsFrameOf kind layout number port values packet frame → IsToldByPlace layout number port packet frame
 

@@ -20,7 +20,8 @@ use Rattle.replay_state.specs.Journal.{Call, CalledUp, CalledStageUp, CalledComm
 use Rattle.replay_state.specs.Journal.{Question, AsksUp, AsksStageUp, AsksCommand, AsksDown, AsksStageDown, asks, asked, asks_stage, asks_command, asks_down, question_of}
 use Rattle.replay_state.specs.Program.{SplitProgram}
 use Rattle.output_commit.specs.Batches.{commands_in}
-use Rattle.replay_state.specs.State.{State, Pass, applied_commands}
+use Rattle.replay_state.specs.declared.pass.Pass.{Pass}
+use Rattle.replay_state.specs.State.{State, applied_commands}
 use Rattle.replay_state.specs.Step.{applies, step}
 use Rattle.replay_state.specs.Told.{IsTied}
 use Rattle.split_answers.specs.Over.{AreAnswersOver, IsAnswerOver, IsGiven}

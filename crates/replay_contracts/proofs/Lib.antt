@@ -8,3 +8,5 @@ mod Asked
 mod OnSwitch
 mod Passing
 mod PassingOn
+mod Turns
+mod KnowingOn

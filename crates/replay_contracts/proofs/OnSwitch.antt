@@ -1,22 +1,23 @@
 -- The passes under way on a switch stay those of the state.
-use Rattle.std.proofs.Common.{◌≡◌, ℕ, zero, suc, ◌<◌, ◌≤◌, Bool, true, false, List, [], ◌∷◌, ◌++◌, ◌⊎◌, Option, Some, None, inl, inr, length, set, refl, sym, ap, ◌∙◌, subst, arith}
+use Rattle.std.proofs.Common.{◌≡◌, ℕ, zero, suc, ◌<◌, ◌≤◌, Bool, true, false, List, [], ◌∷◌, ◌++◌, ◌⊎◌, Some, None, inl, inr, length, set, refl, sym, ap, ◌∙◌, subst, arith}
 use Rattle.std.specs.Prelude.{slice_get, remove}
 use Rattle.std.proofs.lemmas.Bool.{cases_eq, cases_lt}
 use Rattle.std.proofs.lemmas.Option.{same_Some, none-some}
 use Rattle.packet_fields.specs.declared.packet.Packet.{Packet}
 use Rattle.switch_ir.specs.UnderWay.{PassState, UnderWay, none_under_way}
 use Rattle.replay_state.specs.Answers.{Setup}
-use Rattle.replay_state.specs.State.{Pass, State}
+use Rattle.replay_state.specs.declared.pass.Pass.{Pass}
+use Rattle.replay_state.specs.State.{State}
 use Rattle.split_answers.specs.UnderWay.{AreOnSwitch, IsOnSwitch, passes_of}
 
 -- ## Lists
 
-get_set_same : {X : Type 0} (xs : List X) (k : ℕ) (x y : X) → slice_get xs k ≡ Some x → slice_get (set xs k y) k ≡ Some y
+pub get_set_same : {X : Type 0} (xs : List X) (k : ℕ) (x y : X) → slice_get xs k ≡ Some x → slice_get (set xs k y) k ≡ Some y
 get_set_same [] k x y h = cc
 get_set_same (z ∷ xs) zero x y h = refl
 get_set_same (z ∷ xs) (suc k) x y h = get_set_same xs k x y h
 
-get_set_other : {X : Type 0} (xs : List X) (k n : ℕ) (y : X) → (n ≡ k → ⊥) → slice_get (set xs k y) n ≡ slice_get xs n
+pub get_set_other : {X : Type 0} (xs : List X) (k n : ℕ) (y : X) → (n ≡ k → ⊥) → slice_get (set xs k y) n ≡ slice_get xs n
 get_set_other [] k n y h = refl
 get_set_other (z ∷ xs) zero zero y h = absurd (h refl)
 get_set_other (z ∷ xs) zero (suc n) y h = refl
@@ -27,12 +28,12 @@ get_push_same : {X : Type 0} (xs : List X) (y : X) → slice_get (xs ++ y ∷ []
 get_push_same [] y = refl
 get_push_same (z ∷ xs) y = get_push_same xs y
 
-get_push_old : {X : Type 0} (xs : List X) (y x : X) (n : ℕ) → slice_get xs n ≡ Some x → slice_get (xs ++ y ∷ []) n ≡ Some x
+pub get_push_old : {X : Type 0} (xs : List X) (y x : X) (n : ℕ) → slice_get xs n ≡ Some x → slice_get (xs ++ y ∷ []) n ≡ Some x
 get_push_old [] y x n h = cc
 get_push_old (z ∷ xs) y x zero h = h
 get_push_old (z ∷ xs) y x (suc n) h = get_push_old xs y x n h
 
-push_cases : {X : Type 0} (xs : List X) (y z : X) (n : ℕ) → slice_get (xs ++ y ∷ []) n ≡ Some z → (y ≡ z) ⊎ (slice_get xs n ≡ Some z)
+pub push_cases : {X : Type 0} (xs : List X) (y z : X) (n : ℕ) → slice_get (xs ++ y ∷ []) n ≡ Some z → (y ≡ z) ⊎ (slice_get xs n ≡ Some z)
 push_cases [] y z zero h = inl (same_Some _ _ h)
 push_cases [] y z (suc n) h = cc
 push_cases (x ∷ xs) y z zero h = inr h
@@ -53,7 +54,7 @@ get_removed_high (x ∷ xs) (suc j) zero h = absurd (omega arith)
 get_removed_high (x ∷ xs) (suc j) (suc i) h = get_removed_high xs j i (omega arith)
 
 -- what is left stood elsewhere, and what stood elsewhere is left
-was_elsewhere : {X : Type 0} (xs : List X) (j i : ℕ) (x : X) → slice_get (remove xs j) i ≡ Some x → (k : ℕ) × (slice_get xs k ≡ Some x) × (k ≡ j → ⊥)
+pub was_elsewhere : {X : Type 0} (xs : List X) (j i : ℕ) (x : X) → slice_get (remove xs j) i ≡ Some x → (k : ℕ) × (slice_get xs k ≡ Some x) × (k ≡ j → ⊥)
 was_elsewhere xs j i x h = elim (cases_lt i j) [
   | inl lt ↦ (i, sym (get_removed_low xs j i lt) ∙ h, λ e. omega arith)
   | inr ge ↦ (suc i, sym (get_removed_high xs j i ge) ∙ h, λ e. omega arith)
@@ -118,7 +119,7 @@ module _ (setup : Setup) (packets : List Packet) where
     | inr d ↦ others k m (λ g f. d g)
   ]
 
-  at_own : (u : UnderWay) (p q : Pass) → q.pre ≡ p.pre → q.number ≡ p.number → passes_of q.pre u q.number ≡ passes_of p.pre u p.number
+  pub at_own : (u : UnderWay) (p q : Pass) → q.pre ≡ p.pre → q.number ≡ p.number → passes_of q.pre u q.number ≡ passes_of p.pre u p.number
   at_own u p q k m = ap (λ b. passes_of b u q.number) k ∙ ap (λ n. passes_of p.pre u n) m
 
   -- a pass enters

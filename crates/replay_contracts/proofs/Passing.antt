@@ -1,20 +1,19 @@
 -- What the call of an event does to the passes under way, and the frames that it answers.
-use Rattle.std.proofs.Common.{◌≡◌, ◌≤◌, ◌<◌, ◌+◌, ◌-◌, ℕ, zero, suc, Bool, true, false, cond, eqb, leb, List, [], ◌∷◌, ◌++◌, Option, Some, None, inl, inr, length, refl, sym, ap, ◌∙◌, subst, arith}
-use Rattle.std.specs.Prelude.{IsSome, nat_lt, slice_get}
+use Rattle.std.proofs.Common.{◌≡◌, ◌≤◌, ℕ, true, false, List, [], ◌∷◌, Option, Some, None, length, refl, sym, ap, ◌∙◌, subst, arith}
+use Rattle.std.specs.Prelude.{IsSome}
 use Rattle.std.specs.List.{AllByRecursion as Each}
-use Rattle.std.proofs.lemmas.Bool.{cases_Bool, ltb-true, ltb-false}
-use Rattle.std.proofs.lemmas.Option.{same_Some, none-some}
+use Rattle.std.proofs.lemmas.Bool.{false≢true}
+use Rattle.std.proofs.lemmas.Option.{same_Some}
 use Rattle.packet_fields.specs.declared.packet.Packet.{Packet}
 use Rattle.switch_ir.specs.Code.{Code}
 use Rattle.switch_ir.specs.Port.{PortState, IsUpFrame}
 use Rattle.switch_ir.specs.UnderWay.{PassState, UnderWay}
-use Rattle.switch_ir.specs.declared.port.UpEnd.{UpEnd}
 use Rattle.replay_state.specs.Answers.{Setup}
-use Rattle.replay_state.specs.Journal.{Call, CalledUp, CalledStageUp, CalledCommand, CalledDown, CalledStageDown, UpAnswer}
+use Rattle.replay_state.specs.Journal.{Call, CalledUp, CalledStageUp, CalledCommand, CalledDown, CalledStageDown}
 use Rattle.replay_state.specs.Program.{packet_at}
-use Rattle.replay_state.specs.State.{Pass, State}
+use Rattle.replay_state.specs.State.{State}
 use Rattle.split_answers.specs.Through.{end_of}
-use Rattle.split_answers.specs.UnderWay.{AreOnSwitch, IsOnSwitch, passes_of}
+use Rattle.split_answers.specs.UnderWay.{AreOnSwitch, passes_of}
 use Rattle.replay_contracts.specs.Called.{IsFormed, WasCalled, WasMade}
 
 -- a pass before the server that is under way on the switch is over the packet of its number
@@ -28,7 +27,7 @@ own_packet setup packets st u n own on there =
     ap (λ (s : PassState). s.packet) (sym same) ∙ is.packet found.3 ∙ ap (packet_at packets) found.4
 
 some_of : {X : Type 0} (o : Option X) → IsSome o → (x : X) × (o ≡ Some x)
-some_of None h = absurd h
+some_of None h = absurd (false≢true h)
 some_of (Some x) h = (x, refl)
 
 -- ## The frames

@@ -1,5 +1,5 @@
 -- A pass that goes on stage by stage, from its entry to its last answer.
-use Rattle.std.proofs.Common.{◌≡◌, ℕ, suc, Bool, true, false, List, Option, Some, None, slice_get, length, inl, inr, refl, sym, ap, ◌∙◌, subst}
+use Rattle.std.proofs.Common.{◌≡◌, ℕ, suc, Bool, true, false, List, Some, None, inl, inr, refl, sym, ap, ◌∙◌, subst}
 use Rattle.std.proofs.lemmas.Bool.{cond-false, cases_Bool}
 use Rattle.packet_fields.specs.declared.packet.Packet.{Packet}
 use Rattle.packet_fields.specs.declared.verdict.Verdict.{Verdict}
@@ -18,22 +18,22 @@ use Rattle.switch_ir.specs.declared.port.DownEnd.TheVariants as down
 use Rattle.switch_ir.specs.declared.port.UpEnd.{UpEnd}
 use Rattle.switch_ir.specs.declared.port.UpEnd.TheVariants as up
 use Rattle.switch_ir.specs.Code.{Code}
-use Rattle.switch_ir.specs.Emitted.{emitted, is_looked_up}
+use Rattle.switch_ir.specs.Emitted.{emitted}
 use Rattle.switch_ir.specs.Meaning.{down_given, goes_up, leaves, pass_values, up_values}
 use Rattle.switch_ir.specs.Port.{EndsUp, OfItsParts}
-use Rattle.switch_ir.specs.Staged.{EndsBy, EndsDownBy, IsEntered, IsOver, IsStaged, Numbers, Sees, Staging, is_had, is_looked_at, last_numbers, post_staging, pre_staging}
+use Rattle.switch_ir.specs.Staged.{EndsBy, EndsDownBy, IsEntered, IsOver, IsStaged, Sees, Staging, is_had, last_numbers, post_staging, pre_staging}
 use Rattle.switch_ir.specs.Tables.{Told, seen_tables, view_of}
 use Rattle.switch_ir.specs.UnderWay.{EndsWith, HasEntered, HasGoneOn, PassState, StagesTold}
-use Rattle.replay_state.specs.Journal.{UpAnswer, is_up_end}
+use Rattle.replay_state.specs.Journal.{UpAnswer}
 use Rattle.replay_state.specs.Told.{IsRight}
 use Rattle.split_answers.specs.Through.{IsThrough, end_of}
 use Rattle.split_answers.specs.UnderWay.{Knows, Shows, Views, staging}
 use Rattle.split_answers.specs.Whole.{whole_of, IsSplit}
 use Rattle.split_answers.proofs.Declared.{can_change, looked_up_declared, started_at}
 use Rattle.split_answers.proofs.InStages.{Agreements, AgreeLast, ended_over, ends_down, ends_up, entered_over, staged_over}
-use Rattle.split_answers.proofs.Lacking.{KeepLookedUp, down_given_none, looked_up_there, none_over}
+use Rattle.split_answers.proofs.Lacking.{KeepLookedUp, looked_up_there, none_over}
 use Rattle.split_answers.proofs.Passed.{DownLaws, own_frame, reads, verdict_down}
-use Rattle.split_answers.proofs.Seen.{constant_viewed, has_replicated, replicated_viewed, seen_now}
+use Rattle.split_answers.proofs.Seen.{constant_viewed, has_replicated, replicated_viewed}
 
 module _ (f : Program) (split : List Part) (writeback : ℕ) (is : IsSplit f split writeback) (st : Store) (kept : IsKept f.objects st) where
   abbrev code : Code

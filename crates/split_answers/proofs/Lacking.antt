@@ -1,5 +1,5 @@
 -- What a pass doesn't have counts as 0.
-use Rattle.std.proofs.Common.{◌≡◌, ◌≤◌, ◌<◌, ◌+◌, ◌==◌, ℕ, zero, suc, Bool, true, false, ◌&&◌, ◌||◌, List, [], ◌∷◌, ◌++◌, Option, Some, None, is_some, slice_get, unwrap_or, replicate, length, map, inl, inr, refl, sym, ap, ◌∙◌, subst, arith, nat_lt, slice_index, if◌then◌else◌, ◌^◌}
+use Rattle.std.proofs.Common.{◌≡◌, ◌≤◌, ◌<◌, ◌+◌, ◌==◌, ℕ, zero, suc, Bool, true, false, ◌&&◌, List, [], ◌∷◌, ◌++◌, Option, Some, None, is_some, slice_get, unwrap_or, replicate, length, map, inl, inr, refl, sym, ap, ◌∙◌, subst, arith, nat_lt, slice_index, ◌^◌}
 use Rattle.std.specs.Prelude.{nat_le}
 use Rattle.std.specs.FinMap as finmap
 use Rattle.std.specs.List.{AllByRecursion as Each, list_any}
@@ -29,7 +29,6 @@ use Rattle.switch_ir.specs.Meaning.{after_stage, after_stages, crosses, down_giv
 use Rattle.switch_ir.specs.Passes.{Step, Code}
 use Rattle.switch_ir.specs.Spans.{Written, handed_in, results_in, results_of, written_by}
 use Rattle.switch_ir.specs.Staged.{Staging, is_had, is_looked_at, post_staging}
-use Rattle.switch_ir.specs.Tables.{declared_at}
 use Rattle.split_answers.specs.UnderWay.{HasNoMore, staging}
 use Rattle.split_answers.proofs.Declared.{declared_there, looked_there, there_at}
 

@@ -1,5 +1,5 @@
 -- Answers of a switch over the tables that it tells.
-use Rattle.std.specs.Prelude.{◌≡◌, ⊤, ℕ, List}
+use Rattle.std.specs.Prelude.{◌≡◌, ⊤, List}
 use Rattle.std.specs.List.{AllByRecursion as Each}
 use Rattle.flat_ir.specs.Arrivals.{IsArrival}
 use Rattle.transfer_header.specs.Frames.{IsFrame}

@@ -1,7 +1,8 @@
-use Rattle.std.proofs.Common.{◌≡◌, [], Some, refl, sym, subst}
+use Rattle.std.proofs.Common.{◌≡◌, ℕ, [], Some, refl, sym, subst}
 use Rattle.std.specs.Prelude.{slice_get}
 use Rattle.state_store.specs.Store.{start_store}
-use Rattle.replay_state.specs.State.{Pass, first_state}
+use Rattle.replay_state.specs.declared.pass.Pass.{Pass}
+use Rattle.replay_state.specs.State.{first_state}
 use Rattle.split_answers.specs.UnderWay.{AreOnSwitch}
 use Rattle.replay_contracts.specs.Given.{code_for, setup_for, whole}
 use Rattle.replay_contracts.proofs.OnSwitch.{none_on, to_state}
