@@ -366,16 +366,13 @@ one_left : (left : ℕ) → 1 < left → 0 < left - 1
 one_left left h = omega arith
 
 -- a course whose pass has a stage less
-less_at : (passes : List Pass) (j : ℕ) (pass : Pass) → slice_get passes j ≡ Some pass → less_one (slice_get passes j) passes j ≡ slice_set passes j (record pass { left = pass.left - 1 })
-less_at passes j pass at = ap (λ o. less_one o passes j) at
-
 module _ (x : Given) (c after : Course) (j : ℕ) (pass : Pass) (here : slice_get c.passes.items j ≡ Some pass)
-    (is : HasStage (record c { events = c.events + 1 }) j after) where
+    (is : HasStage (record c { events = c.events + 1 }) j pass after) where
   less : Pass
-  less = record pass { left = pass.left - 1 }
+  less = less_one pass
 
   with_less : after.passes.items ≡ slice_set c.passes.items j less
-  with_less = is.passes ∙ less_at c.passes.items j pass here
+  with_less = is.passes
 
   with_less_sound : IsSound x c → 1 < pass.left → IsSound x after
   with_less_sound h more =
@@ -398,7 +395,7 @@ more_than_one left b is off = leb-false left 1 (sym is ∙ off)
 pub stage_goes_on : GoneLaw → (x : Given) (c after : Course) (old new : PortState) (j : ℕ) (pass : Pass) (call : Call)
     → IsGoing x c old → slice_get c.passes.items j ≡ Some pass → IsGiven (code_for x) call → WasMade call old new → old.spare ≤ new.spare → leb pass.left 1 ≡ false
     → ((calls : List Call) (st : State) → slice_get st.passes j ≡ Some pass → question_of call ∷ [] ≡ asks (setup_for x) (whole x) x.packets (calls ++ call ∷ []) st (event.Stage j))
-    → HasStage (record c { events = c.events + 1 }) j after → HasTurned x (event.Stage j) Did c old after new
+    → HasStage (record c { events = c.events + 1 }) j pass after → HasTurned x (event.Stage j) Did c old after new
 stage_goes_on gone x c after old new j pass call going here given was more some asks_so is =
     let same : unapplied after ≡ unapplied c = ap (λ (k : Commit). length (commands k) - k.done) is.commit in
     call_turned x (event.Stage j) c after old new call going given was (with_less_sound x c after j pass here is going.sound (leb-false pass.left 1 some))
@@ -417,7 +414,7 @@ stage_goes_on gone x c after old new j pass call going here given was more some 
 
 pub stage_up_goes_on : GoneLaw → (x : Given) (c after : Course) (old new : PortState) (j : ℕ) (pass : Pass) → IsGoing x c old
     → slice_get c.passes.items j ≡ Some pass → IsOnSwitch (setup_for x) x.packets old.passes pass → pass.pre ≡ true → StagesUp up.Going pass.number old new
-    → HasStage (record c { events = c.events + 1 }) j after → HasTurned x (event.Stage j) Did c old after new
+    → HasStage (record c { events = c.events + 1 }) j pass after → HasTurned x (event.Stage j) Did c old after new
 stage_up_goes_on gone x c after old new j pass going here on pre stages is =
     let call = CalledStageUp pass.number GoingUp in
     let more : false ≡ leb pass.left 1 = stage_ends x c old new j pass going here on pre GoingUp stages in
@@ -426,7 +423,7 @@ stage_up_goes_on gone x c after old new j pass going here on pre stages is =
 
 pub stage_down_goes_on : GoneLaw → (x : Given) (c after : Course) (old new : PortState) (j : ℕ) (pass : Pass) → IsGoing x c old
     → slice_get c.passes.items j ≡ Some pass → IsOnSwitch (setup_for x) x.packets old.passes pass → pass.pre ≡ false → StagesDown down.Going pass.number old new
-    → HasStage (record c { events = c.events + 1 }) j after → HasTurned x (event.Stage j) Did c old after new
+    → HasStage (record c { events = c.events + 1 }) j pass after → HasTurned x (event.Stage j) Did c old after new
 stage_down_goes_on gone x c after old new j pass going here on post stages is =
     let call = CalledStageDown pass.number GoingDown in
     let more : false ≡ leb pass.left 1 = stage_down_ends x c old new j pass going here on post GoingDown stages in

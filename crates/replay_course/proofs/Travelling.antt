@@ -185,12 +185,12 @@ serve_shown s setup calls st c after j n frame updates h places here passes up s
     let at = up_at s calls st c h j (n, frame) here in
     let may : applies setup st (event.Serve j) ≡ true = lt-ltb _ _ (slice_get_within st.up j n at) in
     let first : step setup a st (event.Serve j) ≡ served a (tick st) j (slice_get st.up j) = rw may refl in
-    let then : served a (tick st) j (slice_get st.up j) ≡ served a (tick st) j (Some n) = ap (served a (tick st) j) at in
+    let second : served a (tick st) j (slice_get st.up j) ≡ served a (tick st) j (Some n) = ap (served a (tick st) j) at in
     let told_so : a.changes st.store n ≡ updates = (λ i. s.serve_changes (sym h.store i) (frame_in (h.up_frames j (n, frame) here i))) ∙ changes in
     let last : served a (tick st) j (Some n) ≡ ran a (tick st) (with_changes (a.after st.store n) updates (tick st)) j n =
     ap (λ us. ran a (tick st) (with_changes (a.after st.store n) us (tick st)) j n) told_so in (
       may,
-      subst (λ w. IsShown s calls w after) (sym (first ∙ then ∙ last))
+      subst (λ w. IsShown s calls w after) (sym (first ∙ second ∙ last))
           (changes_shown s calls st c after j n frame updates h places here passes up store version commit down fates events idle (a.after st.store n)),
     )
 
@@ -313,12 +313,12 @@ module _ (s : SplitProgram) (calls more : List Call) (st : State) (c after : Cou
         let a = journal s (calls ++ more) in
         let new : Progress = Fast admitted st.events pass.version verdict in
         let first : came_to a st pass true ≡ came_in st n (verdict_in (up_answer (calls ++ more) n)) = rw pre refl in
-        let then : came_in st n (verdict_in (up_answer (calls ++ more) n)) ≡ came_in st n (Some verdict) = ap (λ u. came_in st n (verdict_in u)) answer in
+        let second : came_in st n (verdict_in (up_answer (calls ++ more) n)) ≡ came_in st n (Some verdict) = ap (λ u. came_in st n (verdict_in u)) answer in
         let last : came_in st n (Some verdict) ≡ record st { progress = slice_set st.progress n new } =
         ap (λ p. record st { progress = slice_set st.progress n (finished st.events verdict p) }) entered in
         let made : fates_of.finished c.events pass.version verdict (slice_get c.fates.items n) ≡ fate_of new =
         ap (fates_of.finished c.events pass.version verdict) was_pass ∙ ap (λ e. fate.Fast admitted e pass.version e verdict) h.events in
-        subst (λ w. IsShown s (calls ++ more) w after) (sym (first ∙ then ∙ last))
+        subst (λ w. IsShown s (calls ++ more) w after) (sym (first ∙ second ∙ last))
         (put_shown st.up new refl passes (ap (λ q. map number_of q.items) up ∙ h.up)
         (λ k item e. still_up calls more item.0 (SentUp item.1) (h.up_frames k item (sym (ap (λ q. slice_get q.items k) up) ∙ e)))
         server commit down (fates ∙ ap (slice_set c.fates.items n) made) events idle)
@@ -335,11 +335,11 @@ module _ (s : SplitProgram) (calls more : List Call) (st : State) (c after : Cou
         let a = journal s (calls ++ more) in
         let new : Progress = Up admitted in
         let first : came_to a st pass true ≡ came_in st n (verdict_in (up_answer (calls ++ more) n)) = rw pre refl in
-        let then : came_in st n (verdict_in (up_answer (calls ++ more) n)) ≡ came_in st n None = ap (λ u. came_in st n (verdict_in u)) answer in
+        let second : came_in st n (verdict_in (up_answer (calls ++ more) n)) ≡ came_in st n None = ap (λ u. came_in st n (verdict_in u)) answer in
         let last : came_in st n None ≡ record st { up = st.up ++ n ∷ []; progress = slice_set st.progress n new } =
         ap (λ p. record st { up = st.up ++ n ∷ []; progress = slice_set st.progress n (went_up p) }) entered in
         let made : fates_of.went_up (slice_get c.fates.items n) ≡ fate_of new = ap fates_of.went_up was_pass in
-        subst (λ w. IsShown s (calls ++ more) w after) (sym (first ∙ then ∙ last))
+        subst (λ w. IsShown s (calls ++ more) w after) (sym (first ∙ second ∙ last))
         (put_shown (st.up ++ n ∷ []) new refl passes
         (ap (map number_of) up ∙ map_push number_of c.up.items (n, frame) ∙ ap (λ l. l ++ n ∷ []) h.up)
         (λ k item e. elim (get_pushed c.up.items (n, frame) k item (sym (ap (λ l. slice_get l k) up) ∙ e)) [
@@ -361,11 +361,11 @@ module _ (s : SplitProgram) (calls more : List Call) (st : State) (c after : Cou
       let new : Progress = Slow held.0 held.1 held.2 verdict st.events in
       let set = slice_set st.progress n new in
       let first : came_to a st pass true ≡ came_out st n (λ over. a.post over n) = rw post refl in
-      let then : came_out st n (λ over. a.post over n) ≡ record st { progress = slice_set st.progress n (Slow held.0 held.1 held.2 (told (down_answer all n)) st.events) } =
+      let second : came_out st n (λ over. a.post over n) ≡ record st { progress = slice_set st.progress n (Slow held.0 held.1 held.2 (told (down_answer all n)) st.events) } =
       ap (λ p. record st { progress = slice_set st.progress n (released (λ over. a.post over n) st.events p) }) held.4 in
       let last : record st { progress = slice_set st.progress n (Slow held.0 held.1 held.2 (told (down_answer all n)) st.events) } ≡ record st { progress = set } =
       ap (λ v. record st { progress = slice_set st.progress n (Slow held.0 held.1 held.2 (told v) st.events) }) answer in
-      let next = first ∙ then ∙ last in
+      let next = first ∙ second ∙ last in
       let now : HavePlaces (record st { progress = set }) = subst HavePlaces next places in
       let there : slice_get set n ≡ Some new = get_set_same st.progress n new _ held.4 in
       let frames : (m : ℕ) → HasGoneUp calls m → IsHeld (record st { progress = set }) m

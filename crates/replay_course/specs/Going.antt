@@ -197,14 +197,13 @@ pub record MayComeOut (calls : List Call) (st : State) (pass : Pass) (after : St
   pub held : IsHeld st pass.number
   pub places : HavePlaces after
 
--- the pass at place j has one stage less left
-abbrev pub less_one : Option Pass → List Pass → ℕ → List Pass
-less_one None passes j = passes
-less_one (Some pass) passes j = slice_set passes j (record pass { left = pass.left - 1 })
+-- a pass with one stage less left
+abbrev pub less_one : Pass → Pass
+less_one pass = record pass { left = pass.left - 1 }
 
--- so it is in a course of which all else stays
-pub record HasStage (c : Course) (j : ℕ) (after : Course) : Type 0 where
-  pub passes : after.passes.items ≡ less_one (slice_get c.passes.items j) c.passes.items j
+-- the pass at place j is so, and all else stays
+pub record HasStage (c : Course) (j : ℕ) (pass : Pass) (after : Course) : Type 0 where
+  pub passes : after.passes.items ≡ slice_set c.passes.items j (less_one pass)
   pub pre_stages : after.pre_stages ≡ c.pre_stages
   pub post_stages : after.post_stages ≡ c.post_stages
   pub up : after.up ≡ c.up

@@ -1,5 +1,5 @@
 //! The events that call the switch.
-ghost use Rattle.std.specs.Prelude.{◌≡◌, ◌<◌, ◌≤◌, ◌-◌, ◌^◌, Some, true, false, length, slice_get, IfErr, IfOk, IfSome};
+ghost use Rattle.std.specs.Prelude.{◌≡◌, ◌<◌, ◌≤◌, ◌-◌, ◌^◌, Some, true, false, length, slice_get, IfErr, IfOk};
 ghost use Rattle.packet_fields.specs.Sizes.{largest_packet};
 ghost use Rattle.run_model.specs.declared.event.Event.TheVariants as event;
 ghost use Rattle.switch_ir.specs.Port.{HasNoDownPassOf, HasNoUpPass, IsDownFrame, IsLoaded};
@@ -75,11 +75,14 @@ impl Course {
     }
 
     // The pass at place `j` of those under way has one stage less left.
-    fn take_stage(&mut self, j: usize)
-        requires { IfSome (slice_get self.old.passes.items j) (λ pass. 1 < pass.left) }
-        ensures { HasStage self.old j self.new }
+    fn take_stage(&mut self, j: usize, pass: Pass)
+        requires there { slice_get self.old.passes.items j ≡ Some pass }
+        requires some { 1 < pass.left }
+        ensures { HasStage self.old j pass self.new }
     {
-        self.passes[j].left -= 1;
+        let mut less = pass;
+        less.left -= 1;
+        self.passes[j] = less;
     }
 
     // The pass at place `j`, of a packet that arrived, takes a stage.
@@ -106,7 +109,7 @@ impl Course {
         self.events += 1;
         match port.stage_up(alloc, pass.number) {
             UpEnd::Going => {
-                self.take_stage(j as usize);
+                self.take_stage(j as usize, pass);
                 Ok(Stepped::Did)
             }
             end => {
@@ -141,7 +144,7 @@ impl Course {
         self.events += 1;
         match port.stage_down(alloc, pass.number) {
             DownEnd::Going => {
-                self.take_stage(j as usize);
+                self.take_stage(j as usize, pass);
                 Ok(Stepped::Did)
             }
             end => {

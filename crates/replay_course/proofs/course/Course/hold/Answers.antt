@@ -25,15 +25,30 @@ pub returns-in_ok-push_back-in-Frame-clause-unapplied : goal.returns-in_ok-push_
 returns-in_ok-push_back-in-Frame-clause-unapplied c =
     ap left_of c.release.ensures.after ∙ release_same c.args.self.now.commit c.args.j (slice_get c.args.self.now.commit.held c.args.j)
 
-pub returns-in-NotYet : goal.returns-in-NotYet
-returns-in-NotYet c =
+pub returns-in-NotYet-clause-stepped : goal.returns-in-NotYet-clause-stepped
+returns-in-NotYet-clause-stepped c =
     let never : (n : ℕ) (f : List ℕ) → release.Frame n f ≡ answer c.args.self.now.commit (slice_get c.args.self.now.commit.held c.args.j) → ⊥ = λ n f e. elim c.in-NotYet.is [
       | inl p ↦ let bad = e ∙ sym c.release.ensures.answer ∙ p.2 in cc
       | inr p ↦ let bad = e ∙ sym c.release.ensures.answer ∙ p.1 in cc
-    ] in record {
-      stepped = λ s setup calls st h. sym (ap stepped_by (hold_stays s setup (journal s calls) calls st c.args.self.now _ c.args.j refl refl refl c.release.ensures.after never refl refl refl refl h).0);
-      shown = λ s setup a calls st h. (hold_stays s setup a calls st c.args.self.now _ c.args.j refl refl refl c.release.ensures.after never refl refl refl refl h).1;
-      sound = λ x h. waits_sound x c.args.self.now _ c.args.j h refl refl refl refl refl c.release.ensures.after never refl refl (let i = h.within.idle in omega arith);
-      unapplied = ap left_of c.release.ensures.after ∙ release_same c.args.self.now.commit c.args.j (slice_get c.args.self.now.commit.held c.args.j);
-      counted = refl;
-    }
+    ] in
+    λ s setup calls st h. sym (ap stepped_by (hold_stays s setup (journal s calls) calls st c.args.self.now _ c.args.j refl refl refl c.release.ensures.after never refl refl refl refl h).0)
+
+pub returns-in-NotYet-clause-shown : goal.returns-in-NotYet-clause-shown
+returns-in-NotYet-clause-shown c =
+    let never : (n : ℕ) (f : List ℕ) → release.Frame n f ≡ answer c.args.self.now.commit (slice_get c.args.self.now.commit.held c.args.j) → ⊥ = λ n f e. elim c.in-NotYet.is [
+      | inl p ↦ let bad = e ∙ sym c.release.ensures.answer ∙ p.2 in cc
+      | inr p ↦ let bad = e ∙ sym c.release.ensures.answer ∙ p.1 in cc
+    ] in
+    λ s setup a calls st h. (hold_stays s setup a calls st c.args.self.now _ c.args.j refl refl refl c.release.ensures.after never refl refl refl refl h).1
+
+pub returns-in-NotYet-clause-sound : goal.returns-in-NotYet-clause-sound
+returns-in-NotYet-clause-sound c =
+    let never : (n : ℕ) (f : List ℕ) → release.Frame n f ≡ answer c.args.self.now.commit (slice_get c.args.self.now.commit.held c.args.j) → ⊥ = λ n f e. elim c.in-NotYet.is [
+      | inl p ↦ let bad = e ∙ sym c.release.ensures.answer ∙ p.2 in cc
+      | inr p ↦ let bad = e ∙ sym c.release.ensures.answer ∙ p.1 in cc
+    ] in
+    λ x h. waits_sound x c.args.self.now _ c.args.j h refl refl refl refl refl c.release.ensures.after never refl refl (let i = h.within.idle in omega arith)
+
+pub returns-in-NotYet-clause-unapplied : goal.returns-in-NotYet-clause-unapplied
+returns-in-NotYet-clause-unapplied c =
+    ap left_of c.release.ensures.after ∙ release_same c.args.self.now.commit c.args.j (slice_get c.args.self.now.commit.held c.args.j)

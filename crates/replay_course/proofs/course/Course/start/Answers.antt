@@ -16,8 +16,8 @@ returns-clause-started g c =
     let x = given_of c.args.job.now in
     let loads = subst (λ code. Loads port.Done code (g.S.SwitchPort.seen c.args.port.now) (g.S.SwitchPort.seen c.load.new.port)) c.in_ok-code.ensures.code
     c.in_ok-load.ensures.loads in
-    let pre = c.stages_in.ensures.pre ∙ ap (λ (k : Code). if x.manner.fine then k.pre.highest else 0) c.in_ok-code.ensures.code in
-    let post = c.stages_in.ensures.post ∙ ap (λ (k : Code). if x.manner.fine then k.post.highest else 0) c.in_ok-code.ensures.code in
+    let pre = c.stages_in-pre_stages.ensures.pre ∙ ap (λ (k : Code). if x.manner.fine then k.pre.highest else 0) c.in_ok-code.ensures.code in
+    let post = c.stages_in-pre_stages.ensures.post ∙ ap (λ (k : Code). if x.manner.fine then k.post.highest else 0) c.in_ok-code.ensures.code in
     started c.a_replay_begins.ensures x c.new-3.result (server_of c.in_ok-server.server) _ _
     (is_prepared x c.requires.split c.requires.stages (subst (Each IsArrival) c.as_slice.ensures.value c.all_arrive.ensures) refl c.requires.few)
     loads pre post
