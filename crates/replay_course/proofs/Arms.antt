@@ -2,7 +2,7 @@
 use Rattle.std.proofs.Common.{◌≡◌, ◌<◌, ◌≤◌, ◌+◌, ◌-◌, ℕ, zero, suc, Bool, true, false, eqb, leb, List, [], ◌∷◌, ◌++◌, Option, Some, None, inl, inr, refl, sym, ap, subst, ◌∙◌, arith, length, get_or, map}
 use Rattle.std.specs.Prelude.{slice_get, slice_set, remove, nat_lt, not, IfSome, IsSome, OnSome, if◌then◌else◌}
 use Rattle.std.specs.List.{AllByRecursion as Each}
-use Rattle.std.proofs.lemmas.Bool.{cases_Bool, cases_lt, le-ltb, leb-false, leb-true, lt-ltb}
+use Rattle.std.proofs.lemmas.Bool.{cases_Bool, cases_lt, eqb-true, le-ltb, leb-false, leb-true, lt-ltb}
 use Rattle.std.proofs.lemmas.Bool.Decides.{nat_tests}
 use Rattle.std.proofs.lemmas.Option.{same_Some, slice_get-get_or, slice_get_within}
 use Rattle.packet_fields.specs.declared.packet.Packet.{Packet}
@@ -146,16 +146,19 @@ sent_turned x stepped c after port going so shows sound fewer counted =
 ends_at_once : (answer : UpAnswer) → EndsUpAtOnce (end_of answer) → is_up_end answer ≡ true
 ends_at_once (Finished verdict) h = refl
 ends_at_once (SentUp frame) h = refl
-ends_at_once GoingUp h = cc
+ends_at_once GoingUp h = absurd h
 
 ends_so : (left : Bool) (answer : UpAnswer) → GoesUp left (end_of answer) → is_up_end answer ≡ not left
 ends_so left (Finished verdict) h = ap not (sym h)
 ends_so left (SentUp frame) h = ap not (sym h)
 ends_so left GoingUp h = ap not (sym h)
 
+not_zero : (n : ℕ) → eqb (suc n) 0 ≡ false
+not_zero n = elim (cases_Bool (eqb (suc n) 0)) [ inl t ↦ let bad = eqb-true (suc n) 0 t in absurd (omega arith) | inr f ↦ f ]
+
 none_left : (highest : ℕ) → not (nat_lt 0 highest) ≡ eqb highest 0
 none_left zero = refl
-none_left (suc n) = refl
+none_left (suc n) = ap not (lt-ltb 0 (suc n) (omega arith)) ∙ sym (not_zero n)
 
 module _ (x : Given) (answer : UpAnswer) (n : ℕ) (packet : Packet) (old new : PortState) (loaded : old.code ≡ Some (code_for x)) where
   pub up_ends_so : (fine : Bool) → TakesUp fine (end_of answer) n packet old new
@@ -185,7 +188,7 @@ up_fits x pass n arrival bytes GoingUp shape left = left refl
 -- so do calls over packets that come down
 down_ends_at_once : (answer : DownAnswer) → EndsDownAtOnce (down_end_of answer) → is_down_end answer ≡ true
 down_ends_at_once (Released verdict) h = refl
-down_ends_at_once GoingDown h = cc
+down_ends_at_once GoingDown h = absurd h
 
 down_ends_by : (left : Bool) (answer : DownAnswer) → GoesDown left (down_end_of answer) → is_down_end answer ≡ not left
 down_ends_by left (Released verdict) h = ap not (sym h)
@@ -368,7 +371,7 @@ one_left left h = omega arith
 -- a course whose pass has a stage less
 module _ (x : Given) (c after : Course) (j : ℕ) (pass : Pass) (here : slice_get c.passes.items j ≡ Some pass)
     (is : HasStage (record c { events = c.events + 1 }) j pass after) where
-  less : Pass
+  abbrev less : Pass
   less = less_one pass
 
   with_less : after.passes.items ≡ slice_set c.passes.items j less
@@ -387,9 +390,6 @@ module _ (x : Given) (c after : Course) (j : ℕ) (pass : Pass) (here : slice_ge
   with_less_shown calls more st h gone =
       staged_shown (whole x) calls more st c after pass h gone (slice_set st.passes j less) (with_less ∙ ap (λ l. slice_set l j less) h.passes)
       is.up is.server is.commit is.down is.fates is.events is.idle
-
-pub more_than_one : (left : ℕ) (b : Bool) → b ≡ leb left 1 → b ≡ false → 1 < left
-more_than_one left b is off = leb-false left 1 (sym is ∙ off)
 
 -- the pass goes on
 pub stage_goes_on : GoneLaw → (x : Given) (c after : Course) (old new : PortState) (j : ℕ) (pass : Pass) (call : Call)
@@ -420,6 +420,14 @@ stage_up_goes_on gone x c after old new j pass going here on pre stages is =
     let more : false ≡ leb pass.left 1 = stage_ends x c old new j pass going here on pre GoingUp stages in
     stage_goes_on gone x c after old new j pass call going here tt (has_up_pass x c old new j pass going here on pre, stages) stages.kept.spare (sym more)
     (λ calls st at. asks_up x (calls ++ call ∷ []) st j pass false at pre more) is
+
+pub more_stages_up : (x : Given) (c : Course) (old new : PortState) (j : ℕ) (pass : Pass) → IsGoing x c old → slice_get c.passes.items j ≡ Some pass
+    → IsOnSwitch (setup_for x) x.packets old.passes pass → pass.pre ≡ true → StagesUp up.Going pass.number old new → 1 < pass.left
+more_stages_up x c old new j pass going here on pre stages = leb-false pass.left 1 (sym (stage_ends x c old new j pass going here on pre GoingUp stages))
+
+pub more_stages_down : (x : Given) (c : Course) (old new : PortState) (j : ℕ) (pass : Pass) → IsGoing x c old → slice_get c.passes.items j ≡ Some pass
+    → IsOnSwitch (setup_for x) x.packets old.passes pass → pass.pre ≡ false → StagesDown down.Going pass.number old new → 1 < pass.left
+more_stages_down x c old new j pass going here on post stages = leb-false pass.left 1 (sym (stage_down_ends x c old new j pass going here on post GoingDown stages))
 
 pub stage_down_goes_on : GoneLaw → (x : Given) (c after : Course) (old new : PortState) (j : ℕ) (pass : Pass) → IsGoing x c old
     → slice_get c.passes.items j ≡ Some pass → IsOnSwitch (setup_for x) x.packets old.passes pass → pass.pre ≡ false → StagesDown down.Going pass.number old new

@@ -149,7 +149,7 @@ module _ (x : Given) (events : List Event) (calls : List Call) (st : State) (c :
         let held = places.down j n here in
         let admitted = going.sound.within.admitted in
         let count : length c.fates.items ≡ length st.progress = ap length shown.fates ∙ length-map st.progress fate_of in
-        let low = slice_get_within st.progress n held.4 in
+        let low = slice_get_within st.progress n _ held.4 in
         subst (λ o. IsNumbered (whole x) n ((whole x).serve_down (over_in (slice_get st.progress n)) (frame_in o))) (sym up.1)
         (frames.numbered n up.0 (over_in (slice_get st.progress n)) (omega arith) (numbered n up.0 up.1))
 

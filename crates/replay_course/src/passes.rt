@@ -171,7 +171,7 @@ impl Course {
             (S.seen port.new)) }
         ensures fails { IfErr result (λ e. Fails e (S.seen port.old) (S.seen port.new)) }
     {
-        let Some(pass) = self.passes.get(j as usize).copied() else {
+        let Some(&pass) = self.passes.get(j as usize) else {
             return Ok(self.idled());
         };
         if pass.pre {

@@ -14,8 +14,8 @@ returns-in_default-clause-turned g c =
     admit_idles _ _ c.args.self.now _ _ c.len.result c.as_slice.result.now c.requires.going count c.as_slice.ensures.value
     c.in_default.ensures.lookup.3 c.idled.ensures.stepped c.idled.ensures.sound c.idled.ensures.unapplied c.idled.ensures.counted c.idled.ensures.shown
 
-pub arrive-requires-clause-none : goal.arrive-requires-clause-none
-arrive-requires-clause-none g c =
+pub arrive-end-requires-clause-none : goal.arrive-end-requires-clause-none
+arrive-end-requires-clause-none g c =
     subst (HasNoUpPass (g.S.SwitchPort.seen c.args.port.now)) (sym (ap (λ (p : Pass). p.number) c.in_ok-pass.ensures.pass)) c.requires.may_call.arrives
 
 pub returns-clause-turned : goal.returns-clause-turned
@@ -26,12 +26,12 @@ returns-clause-turned g c =
     let law = c.a_run_is_answered_by_its_calls.ensures in
     let first = c.in_ok-pass.ensures in
     let came = c.in_ok-come_in.ensures in
-    admit_turned law.once law.fresh_up law.gone x me c.admit_next.new.self c.come_in.new.self _ _ c.in-Some.packet.now c.in_ok-pass.pass c.arrive.result came.answers.0
+    admit_turned law.once law.fresh_up law.gone x me c.admit_next.new.self c.come_in.new.self _ _ c.in-Some.packet.now c.in_ok-pass.pass c.arrive-end.result came.answers.0
     came.answers.1 c.requires.going
     (arriving x me c.in-Some.packet.now c.len.result c.as_slice.result.now count c.as_slice.ensures.value c.in-Some.ensures.lookup.3.0 c.in-Some.ensures.lookup.1)
-    first.pass c.arrive.ensures first.shown first.sound came.shown came.sound (came.unapplied ∙ first.unapplied) (came.counted ∙ first.counted)
+    first.pass c.arrive-end.ensures first.shown first.sound came.shown came.sound (came.unapplied ∙ first.unapplied) (came.counted ∙ first.counted)
 
 pub returns-in_err-come_in-clause-fails : goal.returns-in_err-come_in-clause-fails
 returns-in_err-come_in-clause-fails g c =
-    let p = err_from_is_err_and c.from_residual.result c.from_residual.ensures.1 in
-    rw (p.1, p.2) (fails_up _ c.args.job.now.fine c.arrive.result _ c.in-Some.packet.now _ _ c.in_err-come_in.ensures.fails c.arrive.ensures)
+    let p = err_from_is_err_and c.from_residual-in_err-come_in.result c.from_residual-in_err-come_in.ensures.1 in
+    rw (p.1, p.2) (fails_up _ c.args.job.now.fine c.arrive-end.result _ c.in-Some.packet.now _ _ c.in_err-come_in.ensures.fails c.arrive-end.ensures)

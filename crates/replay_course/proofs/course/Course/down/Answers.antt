@@ -15,8 +15,8 @@ returns-in_default-clause-turned g c =
     let me = c.args.self.now in
     down_idles_from _ _ _ me _ _ c.args.j (λ i. record me { down = c.in_default.ensures.unchanged i }) c.requires.going past c.idled.ensures.stepped c.idled.ensures.sound c.idled.ensures.unapplied c.idled.ensures.counted c.idled.ensures.shown
 
-pub come_down-requires-clause-frame : goal.come_down-requires-clause-frame
-come_down-requires-clause-frame g c =
+pub come_down-end-requires-clause-frame : goal.come_down-end-requires-clause-frame
+come_down-end-requires-clause-frame g c =
     let before = c.args.self.now.down in
     let lt = (c.in-Some.ensures).variant.0 refl in
     let within : c.args.j < length before.items = omega (arith, lt, before.ok.0) in
@@ -24,8 +24,8 @@ come_down-requires-clause-frame g c =
     slice_get-get_or before.items c.args.j (c.in-Some.number, c.in-Some.frame) within ∙ ap (λ x. Some x) (sym (c.in-Some.ensures).value) in
     framed_down _ c.args.self.now _ c.args.j c.in-Some.number c.in-Some.frame c.requires.going here
 
-pub come_down-requires-clause-none : goal.come_down-requires-clause-none
-come_down-requires-clause-none g c =
+pub come_down-end-requires-clause-none : goal.come_down-end-requires-clause-none
+come_down-end-requires-clause-none g c =
     let before = c.args.self.now.down in
     let lt = (c.in-Some.ensures).variant.0 refl in
     let within : c.args.j < length before.items = omega (arith, lt, before.ok.0) in
