@@ -96,13 +96,13 @@ starts_with : (code : Code) (old new : Option Told) (told : Told) → StartsTold
 starts_with code None new told starts is = absurd (none-some told (sym starts ∙ is))
 starts_with code (Some before) new told starts is = subst (IsStart code) (same_Some _ _ (sym starts.1 ∙ is)) starts.2
 
-pub started : BeginLaw → (x : Given) (c : Course) (server : Server) (old new : PortState) → IsPrepared x → Loads port.Done (code_for x) old new
-    → c.pre_stages ≡ (setup_for x).pre_stages → c.post_stages ≡ (setup_for x).post_stages
+pub started : BeginLaw → (x : Given) (c : Course) (server : Server) (old new : PortState) (p q : ℕ) → IsPrepared x → Loads port.Done (code_for x) old new
+    → p ≡ (setup_for x).pre_stages → q ≡ (setup_for x).post_stages
     → server ≡ record { program = x.program; split = x.split; store = start_store x.program.objects; version = 0; evaluated = 0 }
     → ((s : SplitProgram) (calls : List Call) → IsShown s calls (first_state server.store) c)
-    → ((y : Given) → server.program ≡ y.program → server.split ≡ y.split → x.writeback ≡ y.writeback → c.pre_stages ≡ (setup_for y).pre_stages
-    → c.post_stages ≡ (setup_for y).post_stages → IsSound y c) → unapplied c ≡ 0 → HasGone x [] c old new
-started begins x c server old new plain loads pre post is shown sound none = record {
+    → ((y : Given) → server.program ≡ y.program → server.split ≡ y.split → x.writeback ≡ y.writeback → p ≡ (setup_for y).pre_stages
+    → q ≡ (setup_for y).post_stages → IsSound y c) → unapplied c ≡ 0 → HasGone x [] c old new
+started begins x c server old new p q plain loads pre post is shown sound none = record {
   under_way = record {
     calls = [];
     st = first_state (start_store x.program.objects);

@@ -191,6 +191,14 @@ stays c j (Some out) h = elim (cases_Bool (ltb (acknowledged c) out.need)) [
   | inr t ↦ absurd (h out.number out.frame (rw t refl))
 ]
 
+pub hold_idles : (s : SplitProgram) (setup : Setup) (calls : List Call) (st : State) (c : Course) (j : ℕ)
+    → ((n : ℕ) (f : List ℕ) → release.Frame n f ≡ answer c.commit (slice_get c.commit.held j) → ⊥)
+    → IsShown s calls st c → applies setup st (event.Hold j) ≡ false
+hold_idles s setup calls st c j never h =
+    let st_there = held_at s calls st c j (slice_get c.commit.held j) h refl in
+    let known = known_is s calls st c h in
+    (λ i. may_go (known i) (st_there i)) ∙ (stays c.commit j (slice_get c.commit.held j) never).1
+
 pub hold_stays : (s : SplitProgram) (setup : Setup) (a : Answers) (calls : List Call) (st : State) (c after : Course) (j : ℕ)
     → after.passes ≡ c.passes → after.up ≡ c.up → after.server ≡ c.server → after.commit ≡ after_release c.commit j (slice_get c.commit.held j)
     → ((n : ℕ) (f : List ℕ) → release.Frame n f ≡ answer c.commit (slice_get c.commit.held j) → ⊥)

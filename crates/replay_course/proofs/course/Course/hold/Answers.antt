@@ -2,9 +2,8 @@ use Rattle.std.proofs.Common.{◌≡◌, ℕ, List, refl, sym, ap, inl, inr, ◌
 use Rattle.std.specs.Prelude.{slice_get}
 use Rattle.output_commit.specs.Commit.{answer}
 use Rattle.output_commit.specs.declared.output.Release.TheVariants as release
-use Rattle.replay_state.specs.Journal.{journal}
 use Rattle.replay_contracts.specs.Replayer.{stepped_by}
-use Rattle.replay_course.proofs.Showing.{hold_applies, hold_goes, hold_stays}
+use Rattle.replay_course.proofs.Showing.{hold_applies, hold_goes, hold_idles, hold_stays}
 use Rattle.replay_course.proofs.Unapplied.{goes_sound, left_of, release_same, waits_sound}
 use Rattle.replay_course.proofs.course.Course.hold.Goals as goal
 
@@ -31,7 +30,7 @@ returns-in-NotYet-clause-stepped c =
       | inl p ↦ let bad = e ∙ sym c.release.ensures.answer ∙ p.2 in cc
       | inr p ↦ let bad = e ∙ sym c.release.ensures.answer ∙ p.1 in cc
     ] in
-    λ s setup calls st h. sym (ap stepped_by (hold_stays s setup (journal s calls) calls st c.args.self.now _ c.args.j refl refl refl c.release.ensures.after never refl refl refl refl h).0)
+    λ s setup calls st h. sym (ap stepped_by (hold_idles s setup calls st c.args.self.now c.args.j never h))
 
 pub returns-in-NotYet-clause-shown : goal.returns-in-NotYet-clause-shown
 returns-in-NotYet-clause-shown c =
