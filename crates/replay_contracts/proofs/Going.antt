@@ -26,7 +26,7 @@ use Rattle.replay_state.specs.Step.{applies, step}
 use Rattle.replay_state.specs.Told.{IsTied}
 use Rattle.split_answers.specs.Over.{AreAnswersOver, IsAnswerOver, IsGiven}
 use Rattle.split_answers.specs.Through.{IsThrough}
-use Rattle.split_answers.specs.UnderWay.{KnowTheirOwn}
+use Rattle.split_answers.specs.UnderWay.{KnowTheirOwn, SeeTheirOwn}
 use Rattle.replay_contracts.specs.Called.{HasCalls, WasCalled, WasMade, command_in, commands_among, entry_of, journal_of, told_through}
 use Rattle.replay_contracts.proofs.Calls.{called_leave}
 use Rattle.replay_contracts.specs.Given.{Given, setup_for, whole, code_for}
@@ -203,8 +203,9 @@ module _ (x : Given) (events : List Event) (event : Event) (calls one : List Cal
       → ((before : Told) → old.told ≡ Some before → IsTold x events calls st before old.passes → Each (IsGiven (code_for x)) one → AreAnswersOver (code_for x) before one
       → IsTied setup (whole x) x.packets (calls ++ one) (events ++ event ∷ []) next
       × KnowTheirOwn x.program x.split x.writeback x.packets (calls ++ one) next new.passes)
+      → ((tables : Told) → IsThrough (code_for x) (applied_commands next) tables → IsTied setup (whole x) x.packets (calls ++ one) (events ++ event ∷ []) next → SeeTheirOwn x.program x.split next tables)
       → (tables : Told) → new.told ≡ Some tables → IsTold x (events ++ event ∷ []) (calls ++ one) next tables new.passes
-  next_told law order tie tables is =
+  next_told law order tie see tables is =
       let leave = called_leave (code_for x) one old new called in
       let was = told_before one old.told tables (sym leave.told ∙ is) in
       let before = was.0 in
@@ -212,8 +213,10 @@ module _ (x : Given) (events : List Event) (event : Event) (calls one : List Cal
       let given = all_given (code_for x) one old new called in
       let few = few_calls setup (whole x) x.packets (calls ++ one) one st event asks_so in
       let both = tie before was.1 told given (one_answers (code_for x) one before old new few h.called.loaded was.1 called) in
+      let through = subst (IsThrough (code_for x) (applied_commands next)) was.2 (next_through law order before told.through) in
       record {
         tied = both.0;
-        through = subst (IsThrough (code_for x) (applied_commands next)) was.2 (next_through law order before told.through);
+        through = through;
+        views = see tables through both.0;
         knows = both.1;
       }

@@ -12,7 +12,7 @@ use Rattle.replay_state.specs.State.{State, applied_commands}
 use Rattle.replay_state.specs.Step.{state_of}
 use Rattle.replay_state.specs.Told.{IsTied}
 use Rattle.split_answers.specs.Through.{IsThrough}
-use Rattle.split_answers.specs.UnderWay.{AreOnSwitch, KnowTheirOwn}
+use Rattle.split_answers.specs.UnderWay.{AreOnSwitch, KnowTheirOwn, SeeTheirOwn}
 use Rattle.replay_contracts.specs.Called.{HasCalls, IsFormed}
 use Rattle.replay_contracts.specs.Given.{Given, whole, setup_for, whole_runs, code_for}
 
@@ -20,12 +20,14 @@ use Rattle.replay_contracts.specs.Given.{Given, whole, setup_for, whole_runs, co
 abbrev pub answered : Given → List Call → Answers
 answered x calls = journal (whole x) calls
 
--- over a port that tells its tables: the state is that of whole packets, the tables are those that the applied commands
--- make, and each pass under way knows what it computes over the store of the version with which it entered
+-- Over a port that tells its tables: the state is that of whole packets, and the tables are those that the applied
+-- commands make. Each pass under way sees the replicated objects of the version with which it entered, and knows what it
+-- computes over the store of that version.
 pub record IsTold (x : Given) (events : List Event) (calls : List Call) (st : State) (tables : Told) (passes : UnderWay)
     : Type 0 where
   pub tied : IsTied (setup_for x) (whole x) x.packets calls events st
   pub through : IsThrough (code_for x) (applied_commands st) tables
+  pub views : SeeTheirOwn x.program x.split st tables
   pub knows : KnowTheirOwn x.program x.split x.writeback x.packets calls st passes
 
 -- A replay of these events, by these calls of its port, which has made no others.

@@ -1,6 +1,6 @@
 //! How a replay over a switch begins, goes on and ends, whatever the switch answers, and what it promises where the
 //! switch tells its tables. These functions do nothing: their contracts are the laws.
-ghost use Rattle.std.specs.Prelude.{◌≡◌, ◌++◌, ◌∷◌, [], ℕ, false, IsTrue, List, None, Some, is_some, map};
+ghost use Rattle.std.specs.Prelude.{◌≡◌, ◌++◌, ◌∷◌, [], ℕ, IsTrue, List, None, Some, is_some, map};
 ghost use Rattle.state_store.specs.Store.{start_store};
 ghost use Rattle.run_model.specs.declared.event.Event.{Event};
 ghost use Rattle.run_model.specs.declared.run.Run.{Run};
@@ -15,7 +15,7 @@ ghost use Rattle.replay_state.specs.Step.{step};
 ghost use Rattle.split_answers.specs.Through.{HasTables};
 ghost use Rattle.replay_contracts.specs.Called.{WasCalled};
 ghost use Rattle.replay_contracts.specs.Given.{Given, IsReady, code_for, setup_for, whole, whole_runs};
-ghost use Rattle.replay_contracts.specs.Promise.{Promises, Reports, state_for};
+ghost use Rattle.replay_contracts.specs.Promise.{Promises, Reports};
 ghost use Rattle.replay_contracts.specs.Replay.{HasDrained, HasPicked, IsLoaded, IsReplay, answered};
 
 use replay_state::{
@@ -27,7 +27,8 @@ use replay_state::{
 use split_answers::{
     a_switch_that_tells_its_tables_tells_right, a_told_command_goes_through,
     a_told_pass_in_stages_is_right, frames_do_what_packets_do, quiet_tables_are_the_stores,
-    split_programs_have_their_laws, told_rows_are_the_visible_stores, told_tables_start,
+    split_programs_have_their_laws, told_rows_are_the_visible_stores,
+    told_tables_are_those_of_the_commands, told_tables_start,
 };
 use transfer_header::frames_are_told_by_place;
 
@@ -64,6 +65,7 @@ pub fn a_replay_goes_on()
     packets_are_where_they_are_told();
     passes_keep_their_views();
     a_told_pass_in_stages_is_right();
+    told_tables_are_those_of_the_commands();
     lookups_see_one_version();
     stores_keep_what_was_declared();
     whole_runs_are_sound();

@@ -20,7 +20,7 @@ use Rattle.run_text.specs.declared.plan.Plan.{Plan}
 use Rattle.run_text.specs.Report.{body_text}
 use Rattle.run_text.specs.Printed.{IsLineOf, drain_lines, event_text, fine_lines, lined, packet_text, schedule_text, trace_text}
 use Rattle.run_model.specs.Sizes.{most_packets, most_events}
-use Rattle.run_text.specs.Trace.{at_most, behind_fine, body_of, event_line, is_drain, largest, numbered, packet_line, plan_behind, schedule_of, trace_of, values_until}
+use Rattle.run_text.specs.Trace.{at_most, behind_fine, body_of, event_line, is_drain, largest, numbered, packet_line, plan_behind, plan_by, schedule_of, trace_of, values_until}
 use Rattle.run_text.proofs.LineSteps.{ahead_values, all_lines}
 use Rattle.run_text.proofs.ShortPackets.{trace_values}
 use Rattle.run_text.proofs.Numbers.{decimal_digits, read_again}
@@ -202,8 +202,10 @@ fine_read text = refl
 
 planned_by : (plan : Plan) (fine : Bool) (text : List ℕ) → plan.fine ≡ fine → lines text ≡ Lined plan
     → ((n : ℕ) → plan_behind fine n (Lined plan) ≡ Ok plan) → schedule_of (lined (fine_lines fine) ++ text) ≡ Ok plan
-planned_by plan true text is read told = rw (fine_read text) (rw read (told 1))
-planned_by plan false text is read told = rw read (rw (no_fine plan.events plan.drain) (told 0))
+planned_by plan true text is read told =
+    ap (λ ls. plan_by ls (behind_fine 0 ls)) (fine_read text) ∙ ap (plan_behind true 1) read ∙ told 1
+planned_by plan false text is read told =
+    ap (λ ls. plan_by ls (behind_fine 0 ls)) read ∙ ap (plan_by (Lined plan)) (no_fine plan.events plan.drain) ∙ told 0
 
 pub schedule_back : (plan : Plan) → AreLines event_line event_text plan.events → length plan.events ≤ most_events → schedule_of (schedule_text plan) ≡ Ok plan
 schedule_back plan h few = planned_by plan plan.fine _ refl (lines_read plan h) (λ n. lines_planned plan n h few)

@@ -17,7 +17,7 @@ use Rattle.switch_ir.specs.Emitted.{emitted}
 use Rattle.switch_ir.specs.Meaning.{after_stages, down_given}
 use Rattle.switch_ir.specs.Port.{OfItsParts}
 use Rattle.switch_ir.specs.Staged.{IsOver, Staging, is_had, post_staging, pre_staging}
-use Rattle.switch_ir.specs.Tables.{Told, seen_tables}
+use Rattle.switch_ir.specs.Tables.{Told, pair_at, seen_tables}
 use Rattle.switch_ir.specs.UnderWay.{Passes, PassState, ToldPass, UnderWay}
 use Rattle.replay_state.specs.Answers.{Setup}
 use Rattle.replay_state.specs.Journal.{Call, down_frame}
@@ -114,3 +114,10 @@ abbrev pub KnowTheirOwn : Program → List Part → ℕ → List Packet → List
 KnowTheirOwn f split writeback packets calls st passes =
     (j : ℕ) (pass : Pass) (own : PassState) → slice_get st.passes j ≡ Some pass
     → passes_of pass.pre passes pass.number ≡ Some own → KnowsItsOwn f split writeback packets calls st pass own
+
+-- by the bit that stood at its entry, each pass of the state sees in these tables the replicated objects of the version
+-- with which it entered
+abbrev pub SeeTheirOwn : Program → List Part → State → Told → Type 0
+SeeTheirOwn f split st tables =
+    (j o : ℕ) (pass : Pass) → slice_get st.passes j ≡ Some pass → is_replicated f split o ≡ true
+    → visible pass.bit (pair_at tables.pairs o) ≡ (object_at (store_at st.stores pass.version) o).contents

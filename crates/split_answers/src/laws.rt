@@ -45,9 +45,8 @@ use replay_state::{
 };
 use server_runtime::{a_served_packet_is_the_whole_run, what_the_switch_is_told_fits};
 use split_model::{
-    a_split_is_the_whole, carried_values_stand, kept_stores_have_tables,
-    postprocessing_reads_constant_tables, preprocessing_is_exact, replicated_objects_show,
-    what_preprocessing_reads_is_all,
+    carried_values_stand, kept_stores_have_tables, postprocessing_reads_constant_tables,
+    preprocessing_is_exact, replicated_objects_show, what_preprocessing_reads_is_all,
 };
 use state_store::rows_change_alone;
 use switch_ir::what_is_emitted_computes_the_split;
@@ -89,6 +88,14 @@ pub fn a_told_command_goes_through()
     ensures { (code : Code) (commands : List Command) (command : Command) (told : Told)
         → IsThrough code commands told → IsCommandOf code command
         → IsThrough code (commands ++ command ∷ []) (told_after command told) }
+{}
+
+/// The tables of a replicated object are those that the commands make of its start tables, one after the other.
+pub fn told_tables_are_those_of_the_commands()
+    ensures { (f : Program) (split : List Part) (writeback o : ℕ) (commands : List Command) (told : Told)
+        → IsSplit f split writeback → IsThrough (emitted f split writeback) commands told
+        → is_replicated f split o ≡ true
+        → pair_at told.pairs o ≡ pair_through o (first_pair f writeback o) commands }
 {}
 
 /// The code of a split program has tables for its replicated objects, and for no other object that can change.

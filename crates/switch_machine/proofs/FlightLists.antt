@@ -1,9 +1,9 @@
 -- Passes under way, in their list.
-use Rattle.std.proofs.Common.{◌≡◌, ◌≢◌, ◌∙◌, ℕ, zero, suc, ◌+◌, ◌<◌, ◌==◌, Bool, true, false, not, cond, List, [], ◌∷◌, ◌++◌, length, Option, Some, None, refl, sym, ap, subst, inl, inr, arith, get_or}
+use Rattle.std.proofs.Common.{◌≡◌, ◌≢◌, ◌∙◌, ℕ, zero, suc, ◌+◌, ◌<◌, ◌≤◌, ◌==◌, Bool, true, false, not, cond, List, [], ◌∷◌, ◌++◌, length, Option, Some, None, refl, sym, ap, subst, inl, inr, arith, get_or}
 use Rattle.std.specs.Prelude.{filter, nat_lt, position, slice_set}
 use Rattle.std.specs.List.{position_or_len, AllByRecursion as Each}
 use Rattle.std.specs.Option.{option_map}
-use Rattle.std.proofs.lemmas.Bool.{cases_Bool, cases_eq, cond-true, cond-false, eq-eqb, eqb-true, ltb-true, ne_eqb, true≢false}
+use Rattle.std.proofs.lemmas.Bool.{cases_Bool, cases_eq, cond-true, cond-false, eq-eqb, eqb-true, ltb-false, ltb-true, ne_eqb, true≢false}
 use Rattle.switch_ir.specs.Staged.{Staging}
 use Rattle.switch_ir.specs.UnderWay.{Passes, PassState}
 use Rattle.switch_machine.specs.declared.flight.Flight.{Flight}
@@ -71,6 +71,29 @@ pub number_is : (fs : List Flight) (n i : ℕ) (d : Flight) → IsPlaceOf fs n i
 number_is fs n i d e =
     let h = place_parts fs n i e in
     sym (ap (λ k. (get_or fs k d).number) h.1) ∙ number_at fs n d (subst (λ k. k < length fs) (sym h.1) h.0)
+
+pub place_within : (fs : List Flight) (n i : ℕ) → IsPlaceOf fs n i → i < length fs
+place_within fs n i e = (place_parts fs n i e).0
+
+-- where there is no place, there is no pass
+absent_at : (fs : List Flight) (n : ℕ) → length fs ≤ position_or_len (is_of n) fs → flight_at fs n ≡ None
+absent_at [] n le = refl
+absent_at (f ∷ fs) n le = elim (cases_Bool (f.number == n)) [
+  | inl here ↦ absurd (omega (arith, le, here_at f fs n here))
+  | inr other ↦ (
+      let past = past_at f fs n other in
+      cond-false (f.number == n) (Some f) (flight_at fs n) other ∙ absent_at fs n (omega (arith, le, past))
+      )
+]
+
+no_place : (b : Bool) (x : ℕ) → cond b (Some x) None ≡ None → b ≡ false
+no_place true x e = absurd (none_some x (sym e))
+no_place false x e = refl
+
+pub none_placed : (fs : List Flight) (n : ℕ) → position (is_of n) fs ≡ None → flight_at fs n ≡ None
+none_placed fs n e =
+    let at = position_or_len (is_of n) fs in
+    absent_at fs n (ltb-false at (length fs) (no_place (nat_lt at (length fs)) at e))
 
 -- ## What a change of the list leaves
 

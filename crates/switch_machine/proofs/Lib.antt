@@ -26,6 +26,7 @@ mod StageByStage
 mod StageLists
 mod StagedCalls
 mod StagedMachine
+mod StagedSteps
 mod StageRegisters
 mod Stepping
 mod TableRows

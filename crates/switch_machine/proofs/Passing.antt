@@ -8,7 +8,7 @@ use Rattle.switch_ir.specs.declared.port.UpEnd.TheVariants as up
 use Rattle.switch_ir.specs.declared.port.DownEnd.{DownEnd}
 use Rattle.switch_ir.specs.declared.port.DownEnd.TheVariants as down
 use Rattle.switch_ir.specs.Code.{Code}
-use Rattle.switch_ir.specs.Port.{up_failed, up_entry, down_failed, down_entry, EndsDown, EndsUp, IsUpFrame, Keeps, PassesDown, PassesUp}
+use Rattle.switch_ir.specs.Port.{up_failed, up_entry, noted_up, down_failed, down_entry, noted_down, EndsDown, EndsUp, IsUpFrame, Keeps, PassesDown, PassesUp}
 use Rattle.switch_ir.specs.Tables.{Told}
 use Rattle.switch_ir.specs.UnderWay.{EndsDownAtOnce, EndsUpAtOnce}
 use Rattle.switch_machine.specs.Calls.{ended}
@@ -32,6 +32,19 @@ down_is fails down.Failed frame h = (sym h, refl)
 down_is fails (down.Verdict verdict) frame h = (sym h, refl)
 down_is fails down.Going frame h = absurd h
 down_is fails down.NoMemory frame h = absurd h
+
+pub noted_whole_up : (call : UpEnd → Entry) (fails : Bool) (end : UpEnd) → UpPasses fails end → noted_up call end ≡ call end ∷ []
+noted_whole_up call fails up.Failed h = refl
+noted_whole_up call fails (up.Finished verdict) h = refl
+noted_whole_up call fails (up.Up frame) h = refl
+noted_whole_up call fails up.Going h = refl
+noted_whole_up call fails up.NoMemory h = absurd h
+
+pub noted_whole_down : (call : DownEnd → Entry) (fails : Bool) (end : DownEnd) → DownPasses fails end → noted_down call end ≡ call end ∷ []
+noted_whole_down call fails down.Failed h = refl
+noted_whole_down call fails (down.Verdict verdict) h = refl
+noted_whole_down call fails down.Going h = refl
+noted_whole_down call fails down.NoMemory h = absurd h
 
 -- it has no stages left
 pub up_at_once : (fails : Bool) (end : UpEnd) → UpPasses fails end → EndsUpAtOnce end

@@ -19,10 +19,10 @@ ghost use Rattle.switch_machine.specs.Kept.{KeepsTables};
 ghost use Rattle.switch_machine.specs.Numbers.{AreHeld};
 ghost use Rattle.switch_machine.specs.Planned.{BeginsWith};
 
-use crate::flight::{Flight, keep, take_stage};
+use crate::flight::{Flight, keep, take_first, take_stage};
 use crate::laws::{a_pass_by_place, postprocessing_goes_by_stages, postprocessing_is_computed};
 use crate::loaded::Loaded;
-use crate::passes::{are_few, run_pass, run_stage, run_steps};
+use crate::passes::{are_few, run_pass, run_steps};
 use crate::run::{Nothing, Run};
 use crate::tables::SwitchTables;
 use flat_ir::{Arrival, leave, readings_that_agree};
@@ -209,16 +209,11 @@ fn begin(
     postprocessing_goes_by_stages();
     a_pass_by_place();
     are_few(&loaded.down.registers);
-    run_stage(
-        loaded.post.stage(0),
-        tables,
-        arrival,
-        &mut loaded.down.registers,
-        &mut loaded.down.before,
-    );
+    take_first(&loaded.post, &mut loaded.down, tables, arrival);
+    let pass = &loaded.code.post;
     keep(
         alloc,
-        &loaded.code.post.plan,
+        &pass.plan,
         &loaded.down.registers,
         number,
         arrival,

@@ -4,7 +4,7 @@ ghost use Rattle.packet_fields.specs.Shape.{shape_of};
 ghost use Rattle.packet_fields.specs.Sizes.{largest_packet};
 ghost use Rattle.flat_ir.specs.Registers.{packet_of};
 ghost use Rattle.transfer_header.specs.Registers.{ArePlaced};
-ghost use Rattle.switch_ir.specs.Tables.{view_of};
+ghost use Rattle.switch_ir.specs.Tables.{seen_tables, view_of};
 ghost use Rattle.switch_machine.specs.Flights.{packet_in, IsBegun};
 ghost use Rattle.switch_machine.specs.Ready.{all_placed, reads_at, ready_at, ready_gives, CanReady};
 ghost use Rattle.std.specs.List.{AllByRecursion as Each};
@@ -102,6 +102,34 @@ pub(crate) fn keep(
         stage: 0,
         registers: own,
     })
+}
+
+/// Computes stage 0 of a pass at a workplace, over the tables as lookups see them.
+pub(crate) fn take_first(
+    stages: &ReadyStages,
+    place: &mut Workplace,
+    tables: &SwitchTables,
+    arrival: &Arrival<'_>,
+)
+    requires can { Each CanReady (ready_at stages.now 0) }
+    requires within { 0 < length stages.now }
+    requires size { length arrival.now.bytes.now ≤ largest_packet }
+    requires shape { arrival.now.shape ≡ shape_of arrival.now.bytes.now }
+    requires room { length place.old.before.items ≡ length place.old.registers.numbers }
+    ensures written { place.new.registers ≡ all_placed place.old.registers
+        (ready_gives (ready_at stages.now 0) (reads_at place.old.registers.numbers) (seen_tables tables.now)
+        (packet_of arrival.now)) }
+    ensures plan { place.new.registers.plan ≡ place.old.registers.plan }
+    ensures count { length place.new.registers.numbers ≡ length place.old.registers.numbers }
+    ensures room { length place.new.before.items ≡ length place.old.before.items }
+{
+    run_stage(
+        stages.stage(0),
+        tables,
+        arrival,
+        &mut place.registers,
+        &mut place.before,
+    );
 }
 
 /// Computes the next stage of a pass at a workplace, over the tables that the pass sees. The pass stays as it is.

@@ -1,5 +1,5 @@
 //! The calls of a switch in memory by which passes go on stage by stage.
-ghost use Rattle.std.specs.Prelude.{◌≡◌, ◌≤◌, ◌<◌, ◌∷◌, [], ℕ, suc, false, true, vec_len, vec_capacity, None, Some};
+ghost use Rattle.std.specs.Prelude.{◌≡◌, ◌≤◌, ◌<◌, ◌∷◌, ◌==◌, ◌||◌, [], ℕ, suc, false, true, None, Some};
 ghost use Rattle.std.specs.Prelude.{length, OnOk, OnErr, IfOk, IsSome};
 ghost use Rattle.gal_io.specs.Count.{IsCountedIf};
 ghost use Rattle.packet_fields.specs.Sizes.{largest_packet};
@@ -47,6 +47,14 @@ impl ModelSwitch {
         loaded.code.post.highest
     }
 
+    // Whether the pass over a packet that arrives fails or ends at once.
+    fn is_whole_up(&self, fails: bool) -> bool
+        requires { IsSome (machine_of self.now).code }
+        ensures { (code : Code) → (machine_of self.now).code ≡ Some code → result ≡ (fails || code.pre.highest == 0) }
+    {
+        fails || self.highest_up() == 0
+    }
+
     // The pass over a packet that arrives, where it fails or ends at once.
     fn begin_whole_up(
         &mut self,
@@ -80,31 +88,6 @@ impl ModelSwitch {
         Ok(end)
     }
 
-    // Notes that the pass over a packet entered, with the memory for it.
-    fn note_entry_up(
-        &mut self,
-        alloc: Global,
-        number: u32,
-        port: u8,
-        packet: &[u8],
-    ) -> Result<(), NoMemory>
-        ensures ok { OnOk result (machine_of self.new ≡ ended (machine_of self.old)
-            (entry.BeginUp number port packet.now UpEnd.Going ∷ []) false) }
-        ensures same { OnOk result ((self.new.loaded ≡ self.old.loaded)
-            × (self.new.arriving.items ≡ self.old.arriving.items) × (self.new.leaving.items ≡ self.old.leaving.items)) }
-        ensures room { OnOk result (vec_len self.new.arriving < vec_capacity self.new.arriving) }
-        ensures err { OnErr result (machine_of self.new ≡ machine_of self.old) }
-    {
-        let packet = Bytes::from_slice(alloc, packet)?;
-        self.arriving.reserve(1)?;
-        self.note(Entry::BeginUp {
-            number,
-            port,
-            packet,
-            answer: UpEnd::Going,
-        })
-    }
-
     // A packet arrives whose pass has a stage above 0.
     fn enter_arriving(
         &mut self,
@@ -120,12 +103,19 @@ impl ModelSwitch {
         ensures ok { OnOk result (EntersUp number port packet.now (machine_of self.old) (machine_of self.new)) }
         ensures err { OnErr result (machine_of self.new ≡ machine_of self.old) }
     {
+        let copy = Bytes::from_slice(alloc, packet)?;
+        self.arriving.reserve(1)?;
         let Some(loaded) = &mut self.loaded else {
             unreachable!()
         };
         self.registers = loaded.up.registers.len();
         let flight = enter_up(alloc, loaded, &self.tables, number, port, packet)?;
-        self.note_entry_up(alloc, number, port, packet)?;
+        self.journal.push(Entry::BeginUp {
+            number,
+            port,
+            packet: copy,
+            answer: UpEnd::Going,
+        })?;
         self.arriving.push_reserved(flight);
         Ok(())
     }
@@ -148,7 +138,7 @@ impl ModelSwitch {
         ensures stays { IfOk result (λ end. IsLeft (machine_of self.old) (machine_of self.new)) }
         ensures err { OnErr result (machine_of self.new ≡ machine_of self.old) }
     {
-        if fails || self.highest_up() == 0 {
+        if self.is_whole_up(fails) {
             self.begin_whole_up(alloc, number, port, packet, fails)
         } else {
             self.enter_arriving(alloc, number, port, packet)?;
@@ -165,7 +155,7 @@ impl ModelSwitch {
         ensures ok { OnOk result (GoesOnUp number (machine_of self.old) (machine_of self.new)) }
         ensures err { OnErr result (machine_of self.new ≡ machine_of self.old) }
     {
-        self.note(Entry::StageUp {
+        self.journal.push(Entry::StageUp {
             number,
             answer: UpEnd::Going,
         })?;
@@ -190,7 +180,7 @@ impl ModelSwitch {
         };
         let end = finish_up(alloc, loaded, &self.tables, &self.arriving[place])?;
         let answer = end.copy(alloc)?;
-        self.note(Entry::StageUp { number, answer })?;
+        self.journal.push(Entry::StageUp { number, answer })?;
         take_out(&mut self.arriving, number);
         Ok(end)
     }
@@ -248,6 +238,14 @@ impl ModelSwitch {
         }
     }
 
+    // Whether the pass over a packet that comes down fails or ends at once.
+    fn is_whole_down(&self, fails: bool) -> bool
+        requires { IsSome (machine_of self.now).code }
+        ensures { (code : Code) → (machine_of self.now).code ≡ Some code → result ≡ (fails || code.post.highest == 0) }
+    {
+        fails || self.highest_down() == 0
+    }
+
     // The pass over a packet that comes down, where it fails or ends at once.
     fn begin_whole_down(
         &mut self,
@@ -272,23 +270,6 @@ impl ModelSwitch {
         Ok(end)
     }
 
-    // Notes that the pass of a frame's packet entered, with the memory for it.
-    fn note_entry_down(&mut self, alloc: Global, frame: &[u8]) -> Result<(), NoMemory>
-        ensures ok { OnOk result (machine_of self.new ≡ ended (machine_of self.old)
-            (entry.BeginDown frame.now DownEnd.Going ∷ []) false) }
-        ensures same { OnOk result ((self.new.loaded ≡ self.old.loaded)
-            × (self.new.arriving.items ≡ self.old.arriving.items) × (self.new.leaving.items ≡ self.old.leaving.items)) }
-        ensures room { OnOk result (vec_len self.new.leaving < vec_capacity self.new.leaving) }
-        ensures err { OnErr result (machine_of self.new ≡ machine_of self.old) }
-    {
-        let frame = Bytes::from_slice(alloc, frame)?;
-        self.leaving.reserve(1)?;
-        self.note(Entry::BeginDown {
-            frame,
-            answer: DownEnd::Going,
-        })
-    }
-
     // A frame comes down whose packet's pass has a stage above 0.
     fn enter_leaving(&mut self, alloc: Global, frame: &[u8]) -> Result<(), NoMemory>
         requires loaded { IsSome (machine_of self.old).code }
@@ -298,12 +279,17 @@ impl ModelSwitch {
         ensures ok { OnOk result (EntersByFrame frame.now (machine_of self.old) (machine_of self.new)) }
         ensures err { OnErr result (machine_of self.new ≡ machine_of self.old) }
     {
+        let copy = Bytes::from_slice(alloc, frame)?;
+        self.leaving.reserve(1)?;
         let Some(loaded) = &mut self.loaded else {
             unreachable!()
         };
         self.registers = loaded.down.registers.len();
         let flight = enter_down(alloc, loaded, &self.tables, frame)?;
-        self.note_entry_down(alloc, frame)?;
+        self.journal.push(Entry::BeginDown {
+            frame: copy,
+            answer: DownEnd::Going,
+        })?;
         self.leaving.push_reserved(flight);
         Ok(())
     }
@@ -324,7 +310,7 @@ impl ModelSwitch {
         ensures stays { IfOk result (λ end. IsLeft (machine_of self.old) (machine_of self.new)) }
         ensures err { OnErr result (machine_of self.new ≡ machine_of self.old) }
     {
-        if fails || self.highest_down() == 0 {
+        if self.is_whole_down(fails) {
             self.begin_whole_down(alloc, frame, fails)
         } else {
             self.enter_leaving(alloc, frame)?;
@@ -341,7 +327,7 @@ impl ModelSwitch {
         ensures ok { OnOk result (GoesOnDown number (machine_of self.old) (machine_of self.new)) }
         ensures err { OnErr result (machine_of self.new ≡ machine_of self.old) }
     {
-        self.note(Entry::StageDown {
+        self.journal.push(Entry::StageDown {
             number,
             answer: DownEnd::Going,
         })?;
@@ -367,7 +353,7 @@ impl ModelSwitch {
         let verdict = finish_down(alloc, loaded, &self.tables, &self.leaving[place])?;
         let end = DownEnd::Verdict(verdict);
         let answer = end.copy(alloc)?;
-        self.note(Entry::StageDown { number, answer })?;
+        self.journal.push(Entry::StageDown { number, answer })?;
         take_out(&mut self.leaving, number);
         Ok(end)
     }

@@ -16,11 +16,11 @@ ghost use Rattle.switch_machine.specs.Keeping.{kept_up};
 ghost use Rattle.switch_machine.specs.Kept.{KeepsTables};
 ghost use Rattle.switch_machine.specs.Numbers.{AreHeld};
 
-use crate::flight::{Flight, keep, take_stage};
+use crate::flight::{Flight, keep, take_first, take_stage};
 use crate::laws::{a_pass_by_place, preprocessing_goes_by_stages, preprocessing_is_computed};
 use crate::live::leaves_work;
 use crate::loaded::Loaded;
-use crate::passes::{are_few, run_pass, run_stage};
+use crate::passes::{are_few, run_pass};
 use crate::run::Run;
 use crate::tables::SwitchTables;
 use flat_ir::{Arrival, leave, readings_that_agree};
@@ -151,16 +151,11 @@ pub(crate) fn enter_up(
     };
     loaded.up.clear();
     are_few(&loaded.up.registers);
-    run_stage(
-        loaded.pre.stage(0),
-        tables,
-        &arrival,
-        &mut loaded.up.registers,
-        &mut loaded.up.before,
-    );
+    take_first(&loaded.pre, &mut loaded.up, tables, &arrival);
+    let pass = &loaded.code.pre;
     keep(
         alloc,
-        &loaded.code.pre.plan,
+        &pass.plan,
         &loaded.up.registers,
         number,
         &arrival,

@@ -8,6 +8,7 @@ use Rattle.std.proofs.lemmas.List.{length-map}
 use Rattle.std.proofs.lemmas.List.Elements.{All-map, All-head, All-tail}
 use Rattle.std.proofs.lemmas.Map.Made.{IsDistinct-from_AllPairs}
 use Rattle.std.proofs.lemmas.Map.Steps.{length-le_from_distinct_below}
+use Rattle.std.proofs.lemmas.Option.{same_Some}
 use Rattle.flat_ir.specs.declared.spans.Span.{Span}
 use Rattle.flat_ir.specs.Plan.{RegisterPlan}
 use Rattle.flat_ir.specs.Spans.{covers}
@@ -25,9 +26,6 @@ own_place registers none value below =
 pub some_is : {X : Type 0} (o : Option X) (x : X) → o ≡ Some x → IsSome o
 some_is o x e = subst (λ (p : Option _). IsSome p) (sym e) refl
 
-some_same : (a b : ℕ) → Some a ≡ Some b → a ≡ b
-some_same a b e = cc
-
 pub fits_own : (layout : List Crossing) (registers : Registers) → registers.plan ≡ None → IsRising layout → All (λ (c : Crossing). c.number < length registers.numbers) layout → FitsLayout layout registers
 fits_own layout registers none rising among = record {
   rising = rising;
@@ -35,7 +33,7 @@ fits_own layout registers none rising among = record {
   apart = λ i j d order within same.
       let a = (get_or layout i d).number in
       let b = (get_or layout j d).number in
-      let equal : a ≡ b = some_same a b (sym (own_place registers none a (among i d (omega arith))) ∙ same ∙ own_place registers none b (among j d within)) in
+      let equal : a ≡ b = same_Some a b (sym (own_place registers none a (among i d (omega arith))) ∙ same ∙ own_place registers none b (among j d within)) in
       omega (arith, equal, rising i j d order within);
 }
 

@@ -22,6 +22,7 @@ returns c x port ready loaded =
             (c.split_programs_have_their_laws.ensures x.program x.split x.writeback x.packets ready.split ready.arrivals)
             (c.frames_do_what_packets_do.ensures x.program x.split x.writeback x.packets ready.split ready.arrivals ready.few);
         through = c.told_tables_start.ensures (code_for x) tables (loaded.start tables is);
+        views = λ j o pass here shown. absurd (nowhere j pass here);
         knows = λ j pass own here there. absurd (nowhere j pass here);
       };
     }

@@ -1,5 +1,6 @@
-use Rattle.std.proofs.Common.{◌≡◌, ◌++◌, ◌∙◌, cond, refl, sym, subst, ap}
+use Rattle.std.proofs.Common.{◌≡◌, [], ◌∷◌, ◌++◌, ◌∙◌, cond, refl, sym, subst, ap}
 use Rattle.state_store.specs.Kept.{IsKept}
+use Rattle.writeback_table.specs.Pair.{visible}
 use Rattle.switch_ir.specs.UnderWay.{HasGoneOn}
 use Rattle.replay_state.specs.Commands.{applied_by}
 use Rattle.replay_state.specs.Journal.{journal}
@@ -76,5 +77,11 @@ returns c x events event calls one st old new ready h asks called =
                 (λ pre given packet bit store own after own_kept sees knows gone. in_stages.goes_on x.program x.split x.writeback store (applied_commands st) before pre given packet bit own after ready.split own_kept told.through sees knows gone)
                 j p own after at was q (subst (λ o. HasGoneOn (staging p.pre code) o own after) is gone))
                 turn,
-          ));
+          ))
+          (λ tables through tied.
+          let sound = c.whole_runs_are_sound.ensures.sound s x.packets x.manner law in
+          let views = subst (KeepViews setup) (sym tied.same) (c.passes_keep_their_views.ensures setup (whole_runs x) (events ++ event ∷ []) sound) in
+          λ j o pass at shown.
+          ap (visible pass.bit) (c.told_tables_are_those_of_the_commands.ensures x.program x.split x.writeback o (applied_commands next) tables ready.split through shown)
+          ∙ views.each j o pass at shown);
     }

@@ -3,7 +3,7 @@ use Rattle.run_text.proofs.PrintedBack.{serve_back, hold_back, down_back, stage_
 use Rattle.run_text.proofs.schedule.put_event.Goals as goal
 
 pub returns-in-Stage-clause-back : goal.returns-in-Stage-clause-back
-returns-in-Stage-clause-back c = let back = stage_back c.in-Stage.item c.put_item-in-Stage.ensures.fits in rw c.in-Stage.is (search rules)
+returns-in-Stage-clause-back c = let back = stage_back c.in-Stage.item c.put_item.ensures.fits in rw c.in-Stage.is (search rules)
 
 pub returns-in-Serve-clause-back : goal.returns-in-Serve-clause-back
 returns-in-Serve-clause-back c = let back = serve_back c.in-Serve.item c.put_item-in-Serve.ensures.fits in rw c.in-Serve.is (search rules)

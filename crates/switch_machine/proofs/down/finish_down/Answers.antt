@@ -29,17 +29,6 @@ take_stage-requires-clause-plan c = c.args.loaded.now.post_plan ∙ sym c.requir
 pub take_stage-requires-clause-count : goal.take_stage-requires-clause-count
 take_stage-requires-clause-count c = c.args.loaded.now.down_count ∙ sym c.requires.flight.count
 
-same_done : (c : goal.After-take_stage) → c.take_stage.new.place.registers
-    ≡ stage_done c.args.loaded.now.post_numbering (code_of c.args.loaded.now.code).post.steps (suc c.args.flight.now.stage)
-    (view_of c.args.flight.now.bit c.args.tables.now.pairs) (packet_in c.args.flight.now) c.args.flight.now.registers
-same_done c =
-    let l = c.args.loaded.now in
-    let code = code_of l.code in
-    let f = c.args.flight.now in
-    c.take_stage.ensures.written
-    ∙ c.a_pass_by_place.ensures.one l.post_numbering l.code.post.plan code.post.steps code.post.highest l.post (view_of f.bit c.args.tables.now.pairs) (packet_in f) f.registers (suc f.stage)
-    l.post_stages c.requires.flight.plan c.are_few.ensures.few (omega (arith, c.requires.last))
-
 pub returns-clause-told : goal.returns-clause-told
 returns-clause-told c =
     let l = c.args.loaded.now in
@@ -49,7 +38,11 @@ returns-clause-told c =
     let view = view_of f.bit told.pairs in
     let last = last_numbers (post_staging code) (suc f.stage) (numbers_in (post_staging code) l.post_numbering f.stage f.registers) view (packet_in f) in
     let done = stage_done l.post_numbering code.post.steps (suc f.stage) view (packet_in f) f.registers in
-    let held = held_by l.post_numbering done c.take_stage.new.place.registers last (kept_down code) (same_done c)
+    let same : c.take_stage.new.place.registers ≡ done =
+    c.take_stage.ensures.written
+    ∙ c.a_pass_by_place.ensures.one l.post_numbering l.code.post.plan code.post.steps code.post.highest l.post view (packet_in f) f.registers (suc f.stage) l.post_stages
+    c.requires.flight.plan c.are_few.ensures.few (omega (arith, c.requires.last)) in
+    let held = held_by l.post_numbering done c.take_stage.new.place.registers last (kept_down code) same
     (c.postprocessing_goes_by_stages.ensures.last code l.post_numbering f.registers told f.bit (packet_in f) f.stage
     (ready_down l f.registers (c.requires.flight.plan ∙ sym l.post_plan)) c.requires.safe c.are_few.ensures.placed c.requires.last) in
     c.leave.ensures

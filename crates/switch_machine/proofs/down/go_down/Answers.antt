@@ -1,7 +1,7 @@
 use Rattle.std.proofs.Common.{◌≡◌, ◌-◌, ◌∙◌, ap, take, drop, length}
 use Rattle.packet_fields.specs.declared.packet.Packet.{Packet}
 use Rattle.transfer_header.specs.Registers.{value_in}
-use Rattle.switch_ir.specs.Code.{code_of}
+use Rattle.switch_ir.specs.Code.{code_of, Code}
 use Rattle.switch_ir.specs.Meaning.{down_end}
 use Rattle.switch_ir.specs.Port.{EndsDown}
 use Rattle.switch_ir.specs.Tables.{seen_tables}
@@ -19,10 +19,11 @@ returns-clause-told c =
     let told = value_in c.unpack-head.new.loaded.down.registers in
     let rest = take (length frame - at) (drop at frame) in
     let arrived : Packet = record { port = c.unpack-head.result.port; bytes = rest } in
-    ok_weaker (λ verdict. verdict ≡ down_end code told tables arrived) (λ verdict. EndsDown code c.args.tables.now frame (Ended verdict)) c.finish.result
+    ok_weaker (λ verdict. verdict ≡ down_end (code_of c.unpack-head.new.loaded.code) told tables arrived) (λ verdict. EndsDown code c.args.tables.now frame (Ended verdict)) c.finish.result
     (λ verdict is number port values packet frame_is.
     let same = c.unpack-head.ensures.read_back number port values packet frame_is in
     is
+    ∙ ap (λ (x : Code). down_end x told tables arrived) c.unpack-head.ensures.code
     ∙ down_same code told values tables arrived same.same_values
     ∙ ap (λ p. down_end code values tables (record { port = p; bytes = rest })) same.same_port
     ∙ ap (λ bytes. down_end code values tables (record { port = port; bytes = bytes })) (whole_rest at frame ∙ same.same_packet))

@@ -1,10 +1,13 @@
-use Rattle.std.proofs.Common.{◌≡◌, ◌∙◌, ap, sym, suc, add-one, arith}
-use Rattle.transfer_header.specs.Registers.{Registers}
+use Rattle.std.proofs.Common.{◌≡◌, ◌∙◌, ◌+◌, refl, sym, suc, add-one, arith}
+use Rattle.transfer_header.specs.Registers.{content_of}
+use Rattle.transfer_header.specs.Steps.{pairs_written}
 use Rattle.switch_ir.specs.Code.{code_of}
 use Rattle.switch_ir.specs.Staged.{pre_staging}
 use Rattle.switch_ir.specs.Tables.{view_of}
+use Rattle.switch_machine.specs.declared.flight.Flight.{Flight}
 use Rattle.switch_machine.specs.Flights.{packet_in}
-use Rattle.switch_machine.specs.Planned.{stage_done}
+use Rattle.switch_machine.specs.Numbers.{reads_by, stage_gives}
+use Rattle.switch_machine.specs.Staged.{of_stage}
 use Rattle.switch_machine.proofs.Beginnings.{has_moved}
 use Rattle.switch_machine.proofs.LoadedCode.{ready_up}
 use Rattle.switch_machine.proofs.Writing.{plan_pairs, size_pairs}
@@ -33,12 +36,14 @@ returns-clause-moved c =
     let told = c.args.tables.now in
     let f = c.args.flight.now in
     let view = view_of f.bit told.pairs in
-    let done = stage_done l.pre_numbering code.pre.steps (suc f.stage) view (packet_in f) f.registers in
+    let gives = stage_gives l.pre_numbering (of_stage (suc f.stage) code.pre.steps) (reads_by l.pre_numbering (content_of f.registers)) view (packet_in f) in
+    let done = pairs_written f.registers gives in
+    let moved : Flight = record { number = f.number; port = f.port; packet = f.packet; bit = f.bit; stage = f.stage + 1; registers = c.swap.new.y } in
     let same : c.take_stage.new.place.registers ≡ done =
     c.take_stage.ensures.written
     ∙ c.a_pass_by_place.ensures.one l.pre_numbering l.code.pre.plan code.pre.steps code.pre.highest l.pre view (packet_in f) f.registers (suc f.stage) l.pre_stages
     c.requires.flight.plan c.are_few.ensures.few (omega (arith, c.requires.left)) in
-    has_moved l.code.pre (pre_staging code) l.pre_numbering told f _ done c.requires.flight c.requires.left _ _ _ (add-one f.stage) (c.swap.ensures.y_after ∙ same)
-    (plan_pairs f.registers _ ∙ c.requires.flight.plan) (size_pairs f.registers _ ∙ c.requires.flight.count)
+    has_moved l.code.pre (pre_staging code) l.pre_numbering told f moved done c.requires.flight c.requires.left refl refl refl (add-one f.stage) (c.swap.ensures.y_after ∙ same)
+    (plan_pairs f.registers gives ∙ c.requires.flight.plan) (size_pairs f.registers gives ∙ c.requires.flight.count)
     (c.preprocessing_goes_by_stages.ensures.stage code l.pre_numbering f.registers told f.bit (packet_in f) f.stage
     (ready_up l f.registers (c.requires.flight.plan ∙ sym l.pre_plan)) c.requires.safe c.are_few.ensures.placed)
