@@ -35,12 +35,12 @@ returns-in_ok-come_out-in_default g c =
     record {
       turned = stage_down_ends_it (given_of c.args.job.now) me _ c.come_out.new.self _ _ c.args.j c.args.pass c.requires.going c.requires.there
           (c.requires.may_call.under_way c.args.j c.args.pass c.requires.there) refl refl items refl refl refl refl refl refl refl came.unapplied came.counted
-          c.packets_are_where_they_are_told.ensures law.once law.step law.fresh_down law.gone c.in_default.end came.answers.0 came.answers.1
-          (ends_down_here c.in_default.end came.answers.0 came.answers.1 c.in_default.not-Going) c.requires.kind c.in_default.ensures came.shown came.sound;
+          c.packets_are_where_they_are_told.ensures law.once law.step law.fresh_down law.gone c.stage_down.result came.answers.0 came.answers.1
+          (ends_down_here c.stage_down.result came.answers.0 came.answers.1 c.in_default.not-Going) c.requires.kind c.stage_down.ensures came.shown came.sound;
       fails = tt;
     }
 
 pub returns-in_err-come_out-in_default : goal.returns-in_err-come_out-in_default
 returns-in_err-come_out-in_default g c =
     let p = err_from_is_err_and c.from_residual.result c.from_residual.ensures.1 in
-    rw (p.1, p.2) (record { turned = tt; fails = fails_stage_down _ c.in_default.end _ _ _ c.in_err-come_out-in_default.ensures.fails c.in_default.ensures })
+    rw (p.1, p.2) (record { turned = tt; fails = fails_stage_down _ c.stage_down.result _ _ _ c.in_err-come_out-in_default.ensures.fails c.stage_down.ensures })

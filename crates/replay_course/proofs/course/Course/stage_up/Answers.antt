@@ -35,12 +35,12 @@ returns-in_ok-come_in-in_default g c =
     record {
       turned = stage_up_ends (given_of c.args.job.now) me _ c.come_in.new.self _ _ c.args.j c.args.pass c.requires.going c.requires.there
           (c.requires.may_call.under_way c.args.j c.args.pass c.requires.there) refl refl items refl refl refl refl refl refl refl came.unapplied came.counted
-          c.packets_are_where_they_are_told.ensures law.once law.fresh_up law.gone c.in_default.end came.answers.0 came.answers.1
-          (ends_up_here c.in_default.end came.answers.0 came.answers.1 c.in_default.not-Going) c.requires.kind c.in_default.ensures came.shown came.sound;
+          c.packets_are_where_they_are_told.ensures law.once law.fresh_up law.gone c.stage_up.result came.answers.0 came.answers.1
+          (ends_up_here c.stage_up.result came.answers.0 came.answers.1 c.in_default.not-Going) c.requires.kind c.stage_up.ensures came.shown came.sound;
       fails = tt;
     }
 
 pub returns-in_err-come_in-in_default : goal.returns-in_err-come_in-in_default
 returns-in_err-come_in-in_default g c =
     let p = err_from_is_err_and c.from_residual.result c.from_residual.ensures.1 in
-    rw (p.1, p.2) (record { turned = tt; fails = fails_stage_up _ c.in_default.end _ _ _ c.in_err-come_in-in_default.ensures.fails c.in_default.ensures })
+    rw (p.1, p.2) (record { turned = tt; fails = fails_stage_up _ c.stage_up.result _ _ _ c.in_err-come_in-in_default.ensures.fails c.stage_up.ensures })
