@@ -5,6 +5,7 @@ use Rattle.std.proofs.lemmas.Bool.{cases_Bool, le-leb, lt-ltb, ltb-false}
 use Rattle.std.proofs.lemmas.List.{append-nil, append_assoc}
 use Rattle.std.proofs.lemmas.Option.{none-some, same_Some}
 use Rattle.packet_fields.specs.declared.packet.Packet.{Packet}
+use Rattle.writeback_table.specs.declared.command.Command.{Command}
 use Rattle.output_commit.specs.declared.output.Output.{Output}
 use Rattle.run_model.specs.declared.event.Event.{Event}
 use Rattle.run_model.specs.declared.event.Event.TheVariants.{Admit, Stage, Serve, Send, Apply, Ack, Hold, Down}
@@ -16,8 +17,9 @@ use Rattle.replay_state.specs.Program.{IsSplitProgram, Manner, SplitProgram, set
 use Rattle.replay_state.specs.Sound.{AreFew}
 use Rattle.output_commit.specs.Batches.{commands_in, visible}
 use Rattle.output_commit.specs.Commit.{commands}
-use Rattle.replay_state.specs.State.{State, Pass, fate_of}
-use Rattle.replay_state.specs.Step.{applies, may_go, state_of, step}
+use Rattle.replay_state.specs.declared.pass.Pass.{Pass}
+use Rattle.replay_state.specs.State.{State, fate_of}
+use Rattle.replay_state.specs.Step.{applies, may_go, state_of, step, waits}
 use Rattle.replay_contracts.specs.Called.{WasCalled}
 use Rattle.replay_contracts.specs.Given.{Given, IsReady, code_for, setup_for, whole}
 use Rattle.replay_contracts.specs.Replay.{HasDrained, HasPicked, IsReplay, answered}
@@ -29,7 +31,6 @@ use Rattle.replay_course.specs.UnderWay.{IsDrained, IsDraining, IsOnItsWay, cour
 use Rattle.replay_course.proofs.Calling.{stays_all, stays_more}
 use Rattle.replay_course.proofs.Lists.{each_at, length_map, length_push, take_past}
 use Rattle.replay_course.proofs.Room.{FindsRoom, SplitLaws, is_split_program}
-use Rattle.replay_course.proofs.Showing.{none_waits}
 use Rattle.replay_course.proofs.Sounding.{Needs}
 use Rattle.replay_course.proofs.Versions.{visible_past}
 
@@ -42,6 +43,12 @@ same_if true c e r q same rest = ap (λ z. if z then e else r) same ∙ taken c 
     taken true t = refl
     taken false t = cc
 same_if false c e r q same rest = rest refl ∙ ap (λ z. if z then e else q) same
+
+-- where no pass is under way, no command waits
+none_waits : (passes : List Pass) (o : Option Command) → nat_lt 0 (length passes) ≡ false → waits passes o ≡ false
+none_waits [] None e = refl
+none_waits [] (Some command) e = refl
+none_waits (p ∷ passes) o e = let bad : true ≡ false = sym (lt-ltb 0 (suc (length passes)) (omega arith)) ∙ e in cc
 
 and_true : (b c : Bool) → c ≡ true → (b && c) ≡ b
 and_true true c h = h
@@ -69,9 +76,8 @@ module _ (x : Given) (calls : List Call) (st : State) (c : Course) (plain : IsPr
 
   pub picked_is : picked_by (length x.packets) c ≡ next_event (setup_for x) st
   picked_is =
-      let staged : nat_lt 0 (length st.passes) ≡ false = ap (λ (l : List Pass). nat_lt 0 (length l)) h.passes in
-      let waits = none_waits st.passes _ h.passes in
-      same_if false (nat_lt 0 (length st.passes)) (Some (Stage 0)) _ _ (sym staged) (λ z.
+      same_if _ _ (Some (Stage 0)) _ _ (ap (λ (l : List Pass). nat_lt 0 (length l)) h.passes) (λ staged.
+      let waits = none_waits st.passes _ (ap (λ (l : List Pass). nat_lt 0 (length l)) (sym h.passes) ∙ staged) in
       same_if _ _ (Some Ack) _ _ (λ i. nat_lt (h.acked i) (h.done i)) (λ a.
       same_if _ _ (Some Apply) _ _ ((λ i. nat_lt (h.done i) (h.sent i)) ∙ sym (and_true _ _ (ap not waits))) (λ b.
       same_if _ _ (Some Send) _ _ (λ i. nat_lt (h.sent i) (length (commands_in (h.batches i)))) (λ d.
@@ -82,9 +88,6 @@ module _ (x : Given) (calls : List Call) (st : State) (c : Course) (plain : IsPr
 
 -- ## How many events are left
 
-plus_none : (a b : ℕ) → b ≡ 0 → a + b ≡ a
-plus_none a b h = omega arith
-
 pub left_is : (x : Given) (calls : List Call) (st : State) (c : Course) → IsShown (whole x) calls st c → course_left x c ≡ events_left (setup_for x) st
 left_is x calls st c h =
     let setup = setup_for x in
@@ -92,10 +95,8 @@ left_is x calls st c h =
     let held = map_length _ c.commit.held st.held h.held in
     let down = map_length _ c.down.items st.down h.down in
     let fates : length c.fates.items ≡ length st.progress = ap length h.fates ∙ length_map fate_of st.progress in
-    let none : weight (pass_events setup) st.passes ≡ 0 = ap (weight (pass_events setup)) h.passes in
-    let first : (length x.packets - length c.fates.items) * packet_events setup ≡ (setup.total - length st.progress) * packet_events setup + weight (pass_events setup) st.passes =
-    (λ i. (length x.packets - fates i) * packet_events setup) ∙ sym (plus_none _ _ none) in
-    λ i. first i + up i * up_events setup + held i * (2 + setup.post_stages) + down i * (1 + setup.post_stages)
+    λ i. (length x.packets - fates i) * packet_events setup + weight (pass_events setup) (h.passes i)
+    + up i * up_events setup + held i * (2 + setup.post_stages) + down i * (1 + setup.post_stages)
     + 3 * (length (commands_in (h.batches i)) - h.sent i) + 2 * (h.sent i - h.done i) + (h.done i - h.acked i)
 
 -- ## One event more

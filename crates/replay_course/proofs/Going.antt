@@ -9,6 +9,7 @@ use Rattle.flat_ir.specs.Arrivals.{IsArrival}
 use Rattle.gal_io.specs.Count.{IsCountedIf, count_after}
 use Rattle.run_model.specs.declared.event.Event.{Event}
 use Rattle.server_runtime.specs.Serving.{Server}
+use Rattle.split_model.specs.Bounds.{HasFewStages}
 use Rattle.split_answers.specs.Whole.{IsSplit}
 use Rattle.switch_ir.specs.Code.{Code}
 use Rattle.switch_ir.specs.Port.{PortState, Loads, StartsTold}
@@ -18,7 +19,7 @@ use Rattle.replay_state.specs.Journal.{Call}
 use Rattle.replay_state.specs.Program.{SplitProgram, manner_of}
 use Rattle.replay_state.specs.State.{first_state}
 use Rattle.replay_contracts.specs.Called.{calls_in}
-use Rattle.replay_contracts.specs.Given.{Given, IsReady, code_for, whole}
+use Rattle.replay_contracts.specs.Given.{Given, IsReady, code_for, setup_for, whole}
 use Rattle.replay_contracts.specs.Replay.{IsLoaded, IsReplay}
 use Rattle.replay_contracts.specs.Replayer.{is_port_fault}
 use Rattle.replay_contracts.specs.declared.job.ReplayError.{ReplayError}
@@ -78,8 +79,10 @@ BeginLaw = (x : Given) (port : PortState) → IsReady x → IsLoaded x port → 
 few_packets : (n k : ℕ) → n * k < 2 ^ 32 → 2 ≤ k → n ≤ 2 ^ 32
 few_packets n k few two = let same : n ≤ n = omega arith in let twice = mul-le-mul same two in omega arith
 
-pub is_prepared : (x : Given) → IsSplit x.program x.split x.writeback → Each IsArrival x.packets → x.manner ≡ manner_of x.manner.fine → length x.packets * most_commands x < 2 ^ 32 → IsPrepared x
-is_prepared x split arrivals manner few = record {
+pub is_prepared : (x : Given) → IsSplit x.program x.split x.writeback → HasFewStages x.split → Each IsArrival x.packets → x.manner ≡ manner_of x.manner.fine
+    → length x.packets * most_commands x < 2 ^ 32 → IsPrepared x
+is_prepared x split stages arrivals manner few = record {
+  stages = stages;
   ready = record { split = split; arrivals = arrivals; few = few_packets _ (most_commands x) few (omega arith) };
   manner = manner;
   few = few;
@@ -93,11 +96,13 @@ starts_with : (code : Code) (old new : Option Told) (told : Told) → StartsTold
 starts_with code None new told starts is = absurd (none-some told (sym starts ∙ is))
 starts_with code (Some before) new told starts is = subst (IsStart code) (same_Some _ _ (sym starts.1 ∙ is)) starts.2
 
-pub started : BeginLaw → (x : Given) (c : Course) (server : Server) (old new : PortState) → IsPrepared x → Loads port.Done (code_for x) old new
+pub started : BeginLaw → (x : Given) (c : Course) (server : Server) (old new : PortState) (p q : ℕ) → IsPrepared x → Loads port.Done (code_for x) old new
+    → p ≡ (setup_for x).pre_stages → q ≡ (setup_for x).post_stages
     → server ≡ record { program = x.program; split = x.split; store = start_store x.program.objects; version = 0; evaluated = 0 }
     → ((s : SplitProgram) (calls : List Call) → IsShown s calls (first_state server.store) c)
-    → ((y : Given) → server.program ≡ y.program → server.split ≡ y.split → x.writeback ≡ y.writeback → IsSound y c) → unapplied c ≡ 0 → HasGone x [] c old new
-started begins x c server old new plain loads is shown sound none = record {
+    → ((y : Given) → server.program ≡ y.program → server.split ≡ y.split → x.writeback ≡ y.writeback → p ≡ (setup_for y).pre_stages
+    → q ≡ (setup_for y).post_stages → IsSound y c) → unapplied c ≡ 0 → HasGone x [] c old new
+started begins x c server old new p q plain loads pre post is shown sound none = record {
   under_way = record {
     calls = [];
     st = first_state (start_store x.program.objects);
@@ -109,7 +114,7 @@ started begins x c server old new plain loads is shown sound none = record {
     shown = subst (λ (z : Server). IsShown (whole x) [] (first_state z.store) c) is (shown (whole x) []);
     going = record {
       prepared = plain;
-      sound = sound x (ap (λ z. z.program) is) (ap (λ z. z.split) is) refl;
+      sound = sound x (ap (λ z. z.program) is) (ap (λ z. z.split) is) refl pre post;
       loaded = loads.state.code;
       spare = subst (λ n. n ≤ new.spare) (sym none) (omega arith);
     };

@@ -23,7 +23,7 @@ use Rattle.split_answers.specs.UnderWay.{passes_of}
 use Rattle.split_model.specs.declared.layout.Crossing.{Crossing}
 use Rattle.transfer_header.specs.Frames.{IsFrameOf}
 use Rattle.transfer_header.specs.Told.{IsToldByPlace, number_in}
-use Rattle.replay_state.specs.Carried.{Carried, Member}
+use Rattle.replay_state.specs.Carried.{Carried}
 use Rattle.replay_state.specs.Told.{HasFrames}
 use Rattle.replay_state.specs.Places.{HavePlaces}
 use Rattle.switch_ir.specs.Tables.{Told, has_room_in}
@@ -32,7 +32,8 @@ use Rattle.replay_state.specs.Journal.{Call, HasGoneUp, IsNumbered, SentUp, down
 use Rattle.replay_state.specs.Program.{IsSplitProgram, Manner, SplitProgram, plain, setup_of}
 use Rattle.replay_state.specs.Sound.{AreSound}
 use Rattle.output_commit.specs.Batches.{commands_in}
-use Rattle.replay_state.specs.State.{Pass, State, applied_commands, fate_of}
+use Rattle.replay_state.specs.declared.pass.Pass.{Pass}
+use Rattle.replay_state.specs.State.{State, applied_commands, fate_of}
 use Rattle.replay_state.specs.Step.{state_of, waits}
 use Rattle.replay_state.specs.Tables.{IsSeen}
 use Rattle.split_answers.specs.Through.{IsThrough, first_pair}
@@ -42,7 +43,8 @@ use Rattle.replay_contracts.specs.Replay.{IsReplay}
 use Rattle.replay_course.specs.declared.course.Course.{Course}
 use Rattle.replay_course.specs.Going.{IsGoing, MayCall, ready_next, unless_waits}
 use Rattle.replay_course.specs.Shown.{IsShown}
-use Rattle.replay_course.proofs.Travelling.{down_at}
+use Rattle.replay_course.proofs.Lists.{get_member}
+use Rattle.replay_course.proofs.Showing.{down_at}
 use Rattle.replay_course.proofs.Turning.{next_at, next_named}
 
 abbrev pub SplitLaws : Type 0
@@ -86,11 +88,6 @@ none_at : (test : Pass → Bool) (passes : List Pass) (j : ℕ) (p : Pass) → l
 none_at test [] j p e at = cc
 none_at test (q ∷ passes) zero p e at = subst (λ r. test r ≡ false) (same_Some _ _ at) (or_parts (test q) (list_any test passes) e).0
 none_at test (q ∷ passes) (suc j) p e at = none_at test passes j p (or_parts (test q) (list_any test passes) e).1 at
-
-get_member : {X : Type 0} (xs : List X) (j : ℕ) (x : X) → slice_get xs j ≡ Some x → Member x xs
-get_member [] j x h = cc
-get_member (y ∷ ys) zero x h = inl (same_Some _ _ h)
-get_member (y ∷ ys) (suc j) x h = inr (get_member ys j x h)
 
 get_past : {X : Type 0} (xs : List X) → slice_get xs (length xs) ≡ None
 get_past [] = refl
@@ -152,7 +149,7 @@ module _ (x : Given) (events : List Event) (calls : List Call) (st : State) (c :
         let held = places.down j n here in
         let admitted = going.sound.within.admitted in
         let count : length c.fates.items ≡ length st.progress = ap length shown.fates ∙ length-map st.progress fate_of in
-        let low = slice_get_within st.progress n held.4 in
+        let low = slice_get_within st.progress n _ held.4 in
         subst (λ o. IsNumbered (whole x) n ((whole x).serve_down (over_in (slice_get st.progress n)) (frame_in o))) (sym up.1)
         (frames.numbered n up.0 (over_in (slice_get st.progress n)) (omega arith) (numbered n up.0 up.1))
 

@@ -10,16 +10,14 @@ ghost use Rattle.replay_state.specs.Journal.{down_end as down_ended, is_down_end
 ghost use Rattle.replay_state.specs.Journal.{up_end as up_ended};
 ghost use Rattle.replay_state.specs.Program.{SplitProgram};
 ghost use Rattle.replay_state.specs.State.{State, first_state};
-ghost use Rattle.replay_state.specs.Step.{applies, came, pass_of, step, tick, waits};
+ghost use Rattle.replay_state.specs.Step.{applies, came, step, tick, waits};
 ghost use Rattle.replay_contracts.specs.Given.{Given, setup_for};
 ghost use Rattle.replay_contracts.specs.Replayer.{stepped_by};
 ghost use Rattle.output_commit.specs.Batches.{fits};
 ghost use Rattle.split_answers.specs.Through.{down_end_of, end_of};
 ghost use Rattle.server_runtime.specs.Views.{server_of};
-ghost use Rattle.split_model.specs.Layouts.{up_layout};
-ghost use Rattle.transfer_header.specs.Frames.{IsFrame};
-ghost use Rattle.replay_course.specs.Going.{FailsDown, FailsUp, HasUpFrame, IsSound, TakesOneMore, came_to};
-ghost use Rattle.replay_course.specs.Going.{ready_next, unapplied};
+ghost use Rattle.replay_course.specs.Going.{FailsDown, FailsUp, FitsDown, FitsUp, IsDownAnswer, IsSound, IsUpAnswer};
+ghost use Rattle.replay_course.specs.Going.{MayComeIn, MayComeOut, TakesOneMore, came_to, pass_for, ready_next, unapplied};
 ghost use Rattle.replay_course.specs.Shown.{IsShown, called};
 
 use crate::fates::{finish_at, release_at, send_up_at};
@@ -106,8 +104,7 @@ impl Course {
 
     /// The pass with which the packet of this number enters now.
     pub fn entering(&self, pre: bool, number: u32) -> Pass
-        ensures { (s : SplitProgram) (calls : List Call) (st : State) → IsShown s calls st self.now
-            → result ≡ pass_of st pre number (if pre then self.now.pre_stages else self.now.post_stages) }
+        ensures { result ≡ pass_for self.now pre number }
     {
         Pass {
             pre,
@@ -126,9 +123,7 @@ impl Course {
     pub fn admit_next(&mut self) -> Result<Pass, NoMemory>
         requires events { self.old.events < 2 ^ 32 - 1 }
         requires few { length self.old.fates.items < 2 ^ 32 }
-        ensures pass { IfOk result (λ pass. (s : SplitProgram) (calls : List Call) (st : State)
-            → IsShown s calls st self.old
-            → pass ≡ pass_of (tick st) true (length st.progress) self.old.pre_stages) }
+        ensures pass { IfOk result (λ pass. pass ≡ pass_for self.old true (length self.old.fates.items)) }
         ensures shown { OnOk result ((s : SplitProgram) (calls : List Call) (st : State)
             → IsShown s calls st self.old → IsShown s calls (came (tick st)) self.new) }
         ensures sound { OnOk result ((x : Given) → IsSound x self.old
@@ -146,42 +141,51 @@ impl Course {
 
     /// The call over a packet that arrived ended so: its pass has ended, or goes last among those under way.
     pub fn come_in(&mut self, pass: Pass, end: UpEnd) -> Result<(), ReplayError>
+        ensures answers { OnOk result (IsUpAnswer end) }
         ensures shown { OnOk result ((s : SplitProgram) (calls more : List Call) (st : State) (answer : UpAnswer)
-            → IsShown s calls st self.old → end ≡ end_of answer → up_answer calls pass.number ≡ None
+            → IsShown s calls st self.old → MayComeIn calls st pass → end ≡ end_of answer
             → up_answer (calls ++ more) pass.number ≡ up_ended answer
             → IsShown s (calls ++ more) (came_to (journal s (calls ++ more)) st pass (is_up_end answer)) self.new) }
-        ensures sound { OnOk result ((x : Given) → IsSound x self.old → TakesOneMore x self.old → 0 < pass.left
-            → HasUpFrame (IsFrame 1 (up_layout x.program x.split)) end → IsSound x self.new) }
+        ensures sound { OnOk result ((x : Given) → IsSound x self.old → TakesOneMore x self.old → FitsUp x pass end
+            → IsSound x self.new) }
         ensures unapplied { OnOk result (unapplied self.new ≡ unapplied self.old) }
         ensures counted { OnOk result (self.new.events ≡ self.old.events) }
         ensures fails { IfErr result (λ e. FailsUp e end) }
     {
         match end {
-            UpEnd::Finished(verdict) => finish_at(
-                &mut self.fates,
-                pass.number,
-                self.events,
-                pass.version,
-                verdict,
-            ),
+            UpEnd::Finished(verdict) => {
+                finish_at(
+                    &mut self.fates,
+                    pass.number,
+                    self.events,
+                    pass.version,
+                    verdict,
+                );
+                Ok(())
+            }
             UpEnd::Up(frame) => {
                 self.up.push_back((pass.number, frame))?;
                 send_up_at(&mut self.fates, pass.number);
+                Ok(())
             }
-            UpEnd::Going => self.passes.push_back(pass)?,
-            UpEnd::Failed => return Err(ReplayError::PortFault),
-            UpEnd::NoMemory => return Err(ReplayError::NoMemory),
+            UpEnd::Going => {
+                self.passes.push_back(pass)?;
+                Ok(())
+            }
+            UpEnd::Failed => Err(ReplayError::PortFault),
+            UpEnd::NoMemory => Err(ReplayError::NoMemory),
         }
-        Ok(())
     }
 
     /// The call over a packet that came down ended so: it is released, or its pass goes last among those under way.
     pub fn come_out(&mut self, pass: Pass, end: DownEnd) -> Result<(), ReplayError>
+        ensures answers { OnOk result (IsDownAnswer end) }
         ensures shown { OnOk result ((s : SplitProgram) (calls more : List Call) (st : State) (answer : DownAnswer)
-            → IsShown s calls st self.old → end ≡ down_end_of answer → down_answer calls pass.number ≡ None
-            → down_answer (calls ++ more) pass.number ≡ down_ended answer
+            → IsShown s calls st self.old
+            → MayComeOut calls st pass (came_to (journal s (calls ++ more)) st pass (is_down_end answer))
+            → end ≡ down_end_of answer → down_answer (calls ++ more) pass.number ≡ down_ended answer
             → IsShown s (calls ++ more) (came_to (journal s (calls ++ more)) st pass (is_down_end answer)) self.new) }
-        ensures sound { OnOk result ((x : Given) → IsSound x self.old → 0 < pass.left → pass.pre ≡ false
+        ensures sound { OnOk result ((x : Given) → IsSound x self.old → pass.pre ≡ false → FitsDown pass end
             → IsSound x self.new) }
         ensures unapplied { OnOk result (unapplied self.new ≡ unapplied self.old) }
         ensures counted { OnOk result (self.new.events ≡ self.old.events) }
@@ -189,13 +193,16 @@ impl Course {
     {
         match end {
             DownEnd::Verdict(verdict) => {
-                release_at(&mut self.fates, pass.number, self.events, verdict)
+                release_at(&mut self.fates, pass.number, self.events, verdict);
+                Ok(())
             }
-            DownEnd::Going => self.passes.push_back(pass)?,
-            DownEnd::Failed => return Err(ReplayError::PortFault),
-            DownEnd::NoMemory => return Err(ReplayError::NoMemory),
+            DownEnd::Going => {
+                self.passes.push_back(pass)?;
+                Ok(())
+            }
+            DownEnd::Failed => Err(ReplayError::PortFault),
+            DownEnd::NoMemory => Err(ReplayError::NoMemory),
         }
-        Ok(())
     }
 
     /// One more applied command is acknowledged.
@@ -279,13 +286,12 @@ impl Course {
         ensures counted { self.new.events ≡ self.old.events + 1 }
     {
         self.events += 1;
-        let command = self.ready_command();
-        if command.is_some() {
-            let _ = self.commit.next_command();
-        } else {
+        let Some(command) = self.ready_command() else {
             self.idle += 1;
-        }
-        command
+            return None;
+        };
+        let _ = self.commit.next_command();
+        Some(command)
     }
 
     /// The output at place `j` of those that wait goes, if its version is known to be visible.

@@ -1,14 +1,52 @@
 //! The events that call the switch.
-ghost use Rattle.std.specs.Prelude.{◌≡◌, ◌<◌, ◌-◌, ◌^◌, Some, true, false, slice_get, IfErr, IfOk, IfSome, OnOk};
+ghost use Rattle.std.specs.Prelude.{◌≡◌, ◌<◌, ◌≤◌, ◌-◌, ◌^◌, Some, true, false, length, slice_get, IfErr, IfOk};
+ghost use Rattle.packet_fields.specs.Sizes.{largest_packet};
 ghost use Rattle.run_model.specs.declared.event.Event.TheVariants as event;
+ghost use Rattle.switch_ir.specs.Port.{HasNoDownPassOf, HasNoUpPass, IsDownFrame, IsLoaded};
 ghost use Rattle.replay_contracts.specs.Replayer.{Fails, given_of};
-ghost use Rattle.replay_course.specs.Going.{HasTurned, IsGoing, MayCall, with_stage};
+ghost use Rattle.replay_course.specs.Going.{HasStage, HasTurned, IsGoing, MayCall, TakesDown, TakesUp};
 
 use crate::course::Course;
+use gal_io::Bytes;
+use packet_fields::Packet;
 use replay_contracts::{Job, ReplayError, Stepped};
 use replay_state::{Pass, a_run_is_answered_by_its_calls, packets_are_where_they_are_told};
 use std::alloc::Global;
 use switch_ir::{CommandEnd, DownEnd, SwitchPort, UpEnd};
+
+// The switch takes a packet that arrived: in one call, or in the first of those for the stages of its pass.
+fn arrive<S: SwitchPort>(
+    alloc: Global,
+    port: &mut S,
+    fine: bool,
+    number: u32,
+    packet: &Packet,
+) -> UpEnd
+    requires loaded { IsLoaded (S.seen port.old) }
+    requires size { length packet.now.bytes ≤ largest_packet }
+    requires none { HasNoUpPass (S.seen port.old) number }
+    ensures { TakesUp fine result number packet.now (S.seen port.old) (S.seen port.new) }
+{
+    if fine {
+        port.begin_up(alloc, number, packet.port, packet.bytes.as_slice())
+    } else {
+        port.pass_up(alloc, number, packet.port, packet.bytes.as_slice())
+    }
+}
+
+// The switch takes a frame that comes down, in the same way.
+fn come_down<S: SwitchPort>(alloc: Global, port: &mut S, fine: bool, frame: &Bytes) -> DownEnd
+    requires loaded { IsLoaded (S.seen port.old) }
+    requires frame { IsDownFrame (S.seen port.old) frame.now }
+    requires none { HasNoDownPassOf (S.seen port.old) frame.now }
+    ensures { TakesDown fine result frame.now (S.seen port.old) (S.seen port.new) }
+{
+    if fine {
+        port.begin_down(alloc, frame.as_slice())
+    } else {
+        port.pass_down(alloc, frame.as_slice())
+    }
+}
 
 impl Course {
     /// The switch takes the next packet of the trace.
@@ -31,22 +69,20 @@ impl Course {
             return Ok(self.idled());
         };
         let pass = self.admit_next()?;
-        let bytes = packet.bytes.as_slice();
-        let end = if job.fine {
-            port.begin_up(alloc, pass.number, packet.port, bytes)
-        } else {
-            port.pass_up(alloc, pass.number, packet.port, bytes)
-        };
+        let end = arrive(alloc, port, job.fine, pass.number, packet);
         self.come_in(pass, end)?;
         Ok(Stepped::Did)
     }
 
     // The pass at place `j` of those under way has one stage less left.
-    fn take_stage(&mut self, j: usize)
-        requires { IfSome (slice_get self.old.passes.items j) (λ pass. 1 < pass.left) }
-        ensures { self.new ≡ with_stage self.old j }
+    fn take_stage(&mut self, j: usize, pass: Pass)
+        requires there { slice_get self.old.passes.items j ≡ Some pass }
+        requires some { 1 < pass.left }
+        ensures { HasStage self.old j pass self.new }
     {
-        self.passes[j].left -= 1;
+        let mut less = pass;
+        less.left -= 1;
+        self.passes[j] = less;
     }
 
     // The pass at place `j`, of a packet that arrived, takes a stage.
@@ -57,25 +93,29 @@ impl Course {
         port: &mut S,
         j: u32,
         pass: Pass,
-    ) -> Result<(), ReplayError>
+    ) -> Result<Stepped, ReplayError>
         requires there { slice_get self.old.passes.items j ≡ Some pass }
         requires kind { pass.pre ≡ true }
         requires going { IsGoing (given_of job.now) self.old (S.seen port.old) }
         requires events { self.old.events < 2 ^ 32 - 1 }
         requires may_call { MayCall (given_of job.now) self.old (S.seen port.old) }
-        ensures turned { OnOk result (HasTurned (given_of job.now) (event.Stage j) Stepped.Did self.old
-            (S.seen port.old) self.new (S.seen port.new)) }
+        ensures turned { IfOk result (λ stepped.
+            HasTurned (given_of job.now) (event.Stage j) stepped self.old (S.seen port.old) self.new
+            (S.seen port.new)) }
         ensures fails { IfErr result (λ e. Fails e (S.seen port.old) (S.seen port.new)) }
     {
+        a_run_is_answered_by_its_calls();
+        packets_are_where_they_are_told();
         self.events += 1;
         match port.stage_up(alloc, pass.number) {
             UpEnd::Going => {
-                self.take_stage(j as usize);
-                Ok(())
+                self.take_stage(j as usize, pass);
+                Ok(Stepped::Did)
             }
             end => {
                 let _ = self.passes.remove(j as usize);
-                self.come_in(pass, end)
+                self.come_in(pass, end)?;
+                Ok(Stepped::Did)
             }
         }
     }
@@ -88,25 +128,29 @@ impl Course {
         port: &mut S,
         j: u32,
         pass: Pass,
-    ) -> Result<(), ReplayError>
+    ) -> Result<Stepped, ReplayError>
         requires there { slice_get self.old.passes.items j ≡ Some pass }
         requires kind { pass.pre ≡ false }
         requires going { IsGoing (given_of job.now) self.old (S.seen port.old) }
         requires events { self.old.events < 2 ^ 32 - 1 }
         requires may_call { MayCall (given_of job.now) self.old (S.seen port.old) }
-        ensures turned { OnOk result (HasTurned (given_of job.now) (event.Stage j) Stepped.Did self.old
-            (S.seen port.old) self.new (S.seen port.new)) }
+        ensures turned { IfOk result (λ stepped.
+            HasTurned (given_of job.now) (event.Stage j) stepped self.old (S.seen port.old) self.new
+            (S.seen port.new)) }
         ensures fails { IfErr result (λ e. Fails e (S.seen port.old) (S.seen port.new)) }
     {
+        a_run_is_answered_by_its_calls();
+        packets_are_where_they_are_told();
         self.events += 1;
         match port.stage_down(alloc, pass.number) {
             DownEnd::Going => {
-                self.take_stage(j as usize);
-                Ok(())
+                self.take_stage(j as usize, pass);
+                Ok(Stepped::Did)
             }
             end => {
                 let _ = self.passes.remove(j as usize);
-                self.come_out(pass, end)
+                self.come_out(pass, end)?;
+                Ok(Stepped::Did)
             }
         }
     }
@@ -127,15 +171,14 @@ impl Course {
             (S.seen port.new)) }
         ensures fails { IfErr result (λ e. Fails e (S.seen port.old) (S.seen port.new)) }
     {
-        let Some(pass) = self.passes.get(j as usize).copied() else {
+        let Some(&pass) = self.passes.get(j as usize) else {
             return Ok(self.idled());
         };
         if pass.pre {
-            self.stage_up(alloc, job, port, j, pass)?;
+            self.stage_up(alloc, job, port, j, pass)
         } else {
-            self.stage_down(alloc, job, port, j, pass)?;
+            self.stage_down(alloc, job, port, j, pass)
         }
-        Ok(Stepped::Did)
     }
 
     /// The switch applies the next command, unless it has to wait for a pass under way.
@@ -179,11 +222,7 @@ impl Course {
         };
         self.events += 1;
         let pass = self.entering(false, number);
-        let end = if job.fine {
-            port.begin_down(alloc, frame.as_slice())
-        } else {
-            port.pass_down(alloc, frame.as_slice())
-        };
+        let end = come_down(alloc, port, job.fine, &frame);
         self.come_out(pass, end)?;
         Ok(Stepped::Did)
     }

@@ -16,7 +16,7 @@ use crate::course::Course;
 use crate::fates::{copy_fates, count_decided, count_released};
 use gal_io::NoMemory;
 use replay_contracts::{Job, ReplayError, Replayed};
-use run_model::{ObjectRows, StoreRows, Run, order};
+use run_model::{ObjectRows, Run, StoreRows, order};
 use split_answers::replicated_objects_are_declared;
 use split_model::replicated;
 use state_store::Rows;
@@ -42,7 +42,11 @@ fn visible_rows<S: SwitchPort>(
 }
 
 // The rows of each replicated object that lookups on the switch see.
-fn switch_parts<S: SwitchPort>(alloc: Global, job: &Job, port: &mut S) -> Result<StoreRows, ReplayError>
+fn switch_parts<S: SwitchPort>(
+    alloc: Global,
+    job: &Job,
+    port: &mut S,
+) -> Result<StoreRows, ReplayError>
     requires split { IsSplit (program_of job.now.flat) job.now.split job.now.writeback }
     requires code { (S.seen port.old).code ≡ Some (code_for (given_of job.now)) }
     ensures shows { IfOk result (λ parts. ShowsParts (given_of job.now) (S.seen port.old) (S.seen port.new) parts) }

@@ -9,6 +9,7 @@ use Rattle.run_model.specs.declared.run.Run.{Run}
 use Rattle.switch_ir.specs.Port.{PortState}
 use Rattle.switch_ir.specs.Tables.{Told}
 use Rattle.split_answers.specs.Through.{HasTables}
+use Rattle.split_answers.specs.UnderWay.{AreOnSwitch}
 use Rattle.packet_fields.specs.declared.packet.Packet.{Packet}
 use Rattle.replay_state.specs.Answers.{Setup}
 use Rattle.replay_state.specs.Drain.{drain_bound, is_quiet, plan_events}
@@ -19,7 +20,7 @@ use Rattle.replay_state.specs.State.{State}
 use Rattle.replay_contracts.specs.Called.{KeepsCalls}
 use Rattle.replay_contracts.specs.Given.{Given, IsReady, setup_for, whole, whole_runs}
 use Rattle.replay_contracts.specs.Promise.{Promises, Reports, state_for}
-use Rattle.replay_contracts.specs.Replay.{IsReplay, answered}
+use Rattle.replay_contracts.specs.Replay.{IsReplay, IsTold, answered}
 use Rattle.replay_contracts.specs.Replayer.{IsReported, IsRunOf, is_port_fault}
 use Rattle.replay_contracts.specs.declared.job.Replayed.{Replayed}
 use Rattle.replay_contracts.specs.declared.job.ReplayError.{ReplayError}
@@ -108,7 +109,8 @@ kept_replay x events calls st old new replay kept = record {
   answered = replay.answered;
   called = record { loaded = kept.code ∙ replay.called.loaded; journal = kept.journal ∙ replay.called.journal };
   formed = replay.formed;
-  told = λ tables is. replay.told tables (sym kept.told ∙ is);
+  passes = subst (AreOnSwitch (setup_for x) x.packets st) (sym kept.passes) replay.passes;
+  told = λ tables is. subst (IsTold x events calls st tables) (sym kept.passes) (replay.told tables (sym kept.told ∙ is));
 }
 
 -- what was told behind calls for rows is told of the port as it is then

@@ -34,7 +34,7 @@ OnLaw = (x : Given) (events : List Event) (event : Event) (calls one : List Call
 
 abbrev pub OneLaw : Type 0
 OneLaw = (x : Given) (events : List Event) (calls others : List Call) (st other : State) (port : PortState)
-    → IsReady x → x.manner.fine ≡ false → IsReplay x events calls st port → IsReplay x events others other port
+    → IsReady x → IsReplay x events calls st port → IsReplay x events others other port
     → (calls ≡ others) × (st ≡ other)
 
 abbrev pub LessLaw : Type 0
