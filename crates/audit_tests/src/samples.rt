@@ -9,7 +9,7 @@ use element_text::read;
 use gal_bits::Values;
 use gal_io::Bytes;
 use packet_fields::{Packet, Packets, Verdict};
-use run_model::{Fate, Fates, Order, ObjectRows, StoreRows, Run};
+use run_model::{Fate, Fates, ObjectRows, Order, Run, StoreRows};
 use state_store::{Row, Rows};
 use std::alloc::Global;
 use std::test::Fail;

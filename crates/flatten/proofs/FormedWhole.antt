@@ -2,6 +2,7 @@
 use Rattle.std.proofs.Common.{◌≡◌, ℕ, zero, suc, ◌+◌, ◌<◌, ◌≤◌, ◌==◌, Bool, true, false, cond, List, [], ◌∷◌, ◌++◌, map, length, replicate, get_or, Option, Some, None, refl, sym, ap, ◌∙◌, subst, arith, true≢false, eqb-true, lit<}
 use Rattle.std.proofs.lemmas.List.{length-map}
 use Rattle.std.specs.List.{AllByRecursion as Each}
+use Rattle.std.proofs.lemmas.Option.{same_Some}
 use Rattle.packet_fields.specs.declared.field.Field.{Field}
 use Rattle.packet_fields.specs.declared.field.Field.TheVariants.{MetaPort}
 use Rattle.packet_fields.specs.Table.{row, all_fields, field_index}
@@ -120,9 +121,6 @@ counted_at k (f ∷ fs) c (suc i) lt =
     let e = counted_at (suc k) fs (right (field_index f == k) (counted (suc k) fs) c) i (omega (arith, lt)) in
     omega (arith, e)
 
-some_same : (x y : ValueId) → Some x ≡ Some y → x ≡ y
-some_same x y e = cc
-
 -- the fields come from this place on
 abbrev From : ℕ → List FieldValue → Type 0
 From least [] = Unit {0}
@@ -162,7 +160,7 @@ module _ (F : Program) (n : ℕ) where
   may_write : (f : Field) (a b : ValueId) (may : Bool) → (row f).writable ≡ may → same_id a b ≡ false → ((row f).writable ≡ false → Some b ≡ Some a) → (row f).writable ≡ true
   may_write f a b true e differ fixed = e
   may_write f a b false e differ fixed =
-      let same : b ≡ a = some_same b a (fixed e) in
+      let same : b ≡ a = same_Some b a (fixed e) in
       absurd (true≢false (sym (same_itself a) ∙ ap (same_id a) (sym same) ∙ differ))
 
   written_case : (c : Bool) (f : Field) (a b : ValueId) (rest : List FieldValue) → same_id a b ≡ c → Ready F 0 n (row f).width b → ((row f).writable ≡ false → Some b ≡ Some a) → Each (IsWritten F) rest

@@ -1,5 +1,6 @@
 -- The fields that leave with another value than they came with are all that are written.
 use Rattle.std.proofs.Common.{◌≡◌, ◌≢◌, ℕ, suc, ◌-◌, ◌≤◌, ◌==◌, Bool, true, false, ◌&&◌, cond, List, [], ◌∷◌, ◌++◌, map, get_or, Option, Some, None, refl, sym, ap, ◌∙◌, subst, arith, slice_index, true≢false, eqb-true, eq-eqb, if◌then◌else◌}
+use Rattle.std.proofs.lemmas.Option.{same_Some}
 use Rattle.packet_fields.specs.declared.field.Field.{Field}
 use Rattle.packet_fields.specs.Table.{row, all_fields, field_index}
 use Rattle.packet_fields.specs.Fields.{field_value, with_field}
@@ -37,9 +38,6 @@ same_ids a b e =
     let made : ℕ → ℕ → ValueId = λ i j. record { instruction = i; result = j } in
     ap (λ i. made i a.result) first ∙ ap (λ j. made b.instruction j) second
 
-some_same : (x y : ValueId) → Some x ≡ Some y → x ≡ y
-some_same x y e = cc
-
 module _ (port : ℕ) (alone : FieldsStandAlone port) (reads : ValueId → ℕ) (first : Field → ℕ) where
   -- a field that came as a and leaves as b, with this value in the source
   pub record IsPlace (f : Field) (a b : Option ValueId) (u : ℕ) : Type 0 where
@@ -61,7 +59,7 @@ module _ (port : ℕ) (alone : FieldsStandAlone port) (reads : ValueId → ℕ) 
   both_same true w f a b u bytes e is_w are is p = unwritten w f u bytes are is (sym p.now ∙ ap reads (sym (same_ids a b e)) ∙ p.came)
   both_same false true f a b u bytes e is_w are is p = ap (with_field bytes f) p.now
   both_same false false f a b u bytes e is_w are is p =
-      let one : b ≡ a = some_same b a (p.fixed is_w) in
+      let one : b ≡ a = same_Some b a (p.fixed is_w) in
       absurd (true≢false (sym (same_itself a) ∙ ap (same_id a) (sym one) ∙ e))
 
   one_field : (f : Field) (a b : Option ValueId) (u : ℕ) (bytes : List ℕ) → AreBytes bytes → field_value bytes port f ≡ first f → IsPlace f a b u → with_writes (changed f a b) reads bytes ≡ written f u bytes

@@ -10,10 +10,10 @@ use Rattle.state_store.specs.Kinds.{is_table}
 use Rattle.report_text.specs.Form.{are_apart, are_declared, are_widths, is_declared, is_plain, kept_from}
 use Rattle.report_text.specs.Machine.{next_from, shown_count, shown_from, shown_or}
 use Rattle.report_text.specs.Parse.{count_of}
-use Rattle.report_text.proofs.Pieces.{some_is}
 use Rattle.report_text.proofs.PartLines.{HasCount, count_back, count_is, part_told}
 use Rattle.run_text.specs.Trace.{largest}
 use Rattle.std.proofs.lemmas.Slice.Eq.{bytes_eq-Decides}
+use Rattle.std.proofs.lemmas.Option.{same_Some}
 
 -- the facts of one object
 pub record IsKnown (o : ObjectDecl) : Type 0 where
@@ -29,7 +29,7 @@ known o h =
 
 known_at : (declared : List ObjectDecl) (n : ℕ) (o : ObjectDecl) → list_all is_declared declared ≡ true → slice_get declared n ≡ Some o → IsKnown o
 known_at [] n o h e = cc e
-known_at (d ∷ ds) zero o h e = subst IsKnown (some_is d o e) (known d (and_parts (is_declared d) (list_all is_declared ds) h).0)
+known_at (d ∷ ds) zero o h e = subst IsKnown (same_Some d o e) (known d (and_parts (is_declared d) (list_all is_declared ds) h).0)
 known_at (d ∷ ds) (suc n) o h e = known_at ds n o (and_parts (is_declared d) (list_all is_declared ds) h).1 e
 
 pub record AreKnown (declared : List ObjectDecl) : Type 0 where
@@ -48,7 +48,7 @@ all_known declared h =
 
 pub got_drop : (declared : List ObjectDecl) (n : ℕ) (o : ObjectDecl) → slice_get declared n ≡ Some o → drop n declared ≡ o ∷ drop (suc n) declared
 got_drop [] n o e = cc e
-got_drop (d ∷ ds) zero o e = ap (λ x. x ∷ ds) (some_is d o e)
+got_drop (d ∷ ds) zero o e = ap (λ x. x ∷ ds) (same_Some d o e)
 got_drop (d ∷ ds) (suc n) o e = got_drop ds n o e
 
 pub drop_got : (declared : List ObjectDecl) (n : ℕ) (o : ObjectDecl) (rest : List ObjectDecl) → drop n declared ≡ o ∷ rest → slice_get declared n ≡ Some o
@@ -76,7 +76,7 @@ next_by true n o objects declared m t e more h =
     let x = more h in
     record { object = x.object; is = x.is; kind = x.kind; later = omega (arith, x.later); kept = rw t x.kept }
 next_by false n o objects declared m t e more h =
-    subst (IsNext n (o ∷ objects) declared) (some_is n m h) (record {
+    subst (IsNext n (o ∷ objects) declared) (same_Some n m h) (record {
       object = o;
       is = drop_got declared n o objects e;
       kind = t;
@@ -136,7 +136,7 @@ shown_by : (c : Option ℕ) (n : ℕ) (o : ObjectDecl) (objects declared : List 
     → (shown_from (suc n) objects l ≡ Some x → IsShown (suc n) declared l x.0 x.1)
     → shown_or n c (shown_from (suc n) objects l) ≡ Some x → IsShown n declared l x.0 x.1
 shown_by (Some count) n o objects declared l x c e more h =
-    subst (λ (z : ℕ × ℕ). IsShown n declared l z.0 z.1) (some_is (n, count) x h) (shown_here (is_table o.kind) n o objects declared l count refl e c)
+    subst (λ (z : ℕ × ℕ). IsShown n declared l z.0 z.1) (same_Some (n, count) x h) (shown_here (is_table o.kind) n o objects declared l count refl e c)
 shown_by None n o objects declared l x c e more h =
     let y = more h in record { object = y.object; is = y.is; kind = y.kind; later = omega (arith, y.later); line = y.line }
 
@@ -186,7 +186,7 @@ rest_not false b h = h
 differs : (name : List ℕ) (objects : List ObjectDecl) (k : ℕ) (o : ObjectDecl) → not (list_any (λ (p : ObjectDecl). bytes_eq name p.name) objects) ≡ true → slice_get objects k ≡ Some o → bytes_eq name o.name ≡ false
 differs name [] k o h e = cc e
 differs name (d ∷ ds) zero o h e =
-    let same = some_is d o e in
+    let same = same_Some d o e in
     let first : bytes_eq name d.name ≡ false = first_not (bytes_eq name d.name) (list_any (λ (p : ObjectDecl). bytes_eq name p.name) ds) h in
     subst (λ (p : ObjectDecl). bytes_eq name p.name ≡ false) same first
 differs name (d ∷ ds) (suc k) o h e = differs name ds k o (rest_not (bytes_eq name d.name) (list_any (λ (p : ObjectDecl). bytes_eq name p.name) ds) h) e
@@ -195,7 +195,7 @@ pub shown_found : (objects : List ObjectDecl) (n k : ℕ) (o : ObjectDecl) (coun
     → shown_from n objects (part_told (codes "switch ") o.name count) ≡ Some (n + k, count)
 shown_found [] n k o count h a e t small = cc e
 shown_found (d ∷ ds) n zero o count h a e t small =
-    let same = some_is d o e in
+    let same = same_Some d o e in
     let here : n ≡ n + 0 = omega arith in
     let one : shown_count o (part_told (codes "switch ") o.name count) ≡ Some count = rw t (count_back (codes "switch ") o.name count small) in
     let at : shown_count d (part_told (codes "switch ") o.name count) ≡ Some count = subst (λ (p : ObjectDecl). shown_count p (part_told (codes "switch ") o.name count) ≡ Some count) (sym same) one in

@@ -5,6 +5,7 @@ use Rattle.std.specs.Fmt.{decimal}
 use Rattle.std.specs.Str.{bytes_eq}
 use Rattle.std.proofs.lemmas.Bool.{eqb-true}
 use Rattle.std.proofs.lemmas.Bool.Decides.{nat_tests}
+use Rattle.std.proofs.lemmas.Option.{same_Some}
 use Rattle.hex.specs.Hex.{IsBytes, decode_of, encode_lower, encode_with, lower_digits}
 use Rattle.hex.specs.declared.error.FromHexError.{FromHexError}
 use Rattle.hex.proofs.HexLemmas.{decode_of-encode_lower, decode_of-ok}
@@ -17,7 +18,7 @@ use Rattle.run_text.specs.Trace.{largest}
 use Rattle.report_text.specs.declared.fate.Stamps.{Stamps}
 use Rattle.report_text.specs.Form.{IsFate, IsVerdict}
 use Rattle.report_text.specs.Parse.{◌>>=◌, admitted_at, after, body_at, encoded_by, fast_at, fate_of, labelled, or_else, pass_at, path_at, released_at, send_at, slow_at, stamps_at, up_at, verdict_at, slow_by}
-use Rattle.report_text.proofs.Pieces.{after_back, after_is, after_other, are_same, bound, is_cut, labelled_back, labelled_is, same_bytes, some_is, whole_is}
+use Rattle.report_text.proofs.Pieces.{after_back, after_is, after_other, are_same, bound, is_cut, labelled_back, labelled_is, same_bytes, whole_is}
 
 -- ---- bytes
 
@@ -45,7 +46,7 @@ encoded_is : (d : Result (List ℕ) FromHexError) (b : ℕ) (bs bytes : List ℕ
 encoded_is (Err e) b bs bytes d h = cc
 encoded_is (Ok found) b bs bytes d h =
     elim (bytes_eq (encode_lower found) (b ∷ bs)) as (λ t. bytes_eq (encode_lower found) (b ∷ bs) ≡ t → cond t (Some found) None ≡ Some bytes → HasBytes (b ∷ bs) bytes) [
-      | true ↦ λ t e. subst (HasBytes (b ∷ bs)) (some_is found bytes e) (record {
+      | true ↦ λ t e. subst (HasBytes (b ∷ bs)) (same_Some found bytes e) (record {
         are = (decode_of-ok (b ∷ bs) found d).3;
         is = body_of_some found b bs (are_same (encode_lower found) (b ∷ bs) t);
       })
@@ -59,7 +60,7 @@ pub body_is : (body bytes : List ℕ) → body_at body ≡ Some bytes → HasByt
 body_is [] bytes h = cc
 body_is (b ∷ bs) bytes h =
     elim (bytes_eq (b ∷ bs) (codes "-")) as (λ t. bytes_eq (b ∷ bs) (codes "-") ≡ t → cond t (Some []) (encoded_by (b ∷ bs) (decode_of (b ∷ bs))) ≡ Some bytes → HasBytes (b ∷ bs) bytes) [
-      | true ↦ λ t e. subst (HasBytes (b ∷ bs)) (some_is [] bytes e) (record { are = no_bytes; is = are_same (b ∷ bs) (codes "-") t })
+      | true ↦ λ t e. subst (HasBytes (b ∷ bs)) (same_Some [] bytes e) (record { are = no_bytes; is = are_same (b ∷ bs) (codes "-") t })
       | false ↦ λ t e. encoded_is (decode_of (b ∷ bs)) b bs bytes refl e
     ] refl h
 
@@ -90,13 +91,13 @@ send_is line v h =
     bound (body_at b) _ v hb (λ bytes ey hy.
     let lp = labelled_is 255 p (codes " send ") line (omega arith) ep in
     let y = body_is b bytes ey in
-    subst (HasVerdict line) (some_is (Send p.0 bytes) v hy) (record {
+    subst (HasVerdict line) (same_Some (Send p.0 bytes) v hy) (record {
       are = (lp.0, y.are);
       is = rw (lp.1, after_is (codes " ") p.1 b eb, y.is) refl;
     }))))
 
 verdict_by : (t : Bool) (line : List ℕ) (v : Verdict) → bytes_eq line (codes " drop") ≡ t → cond t (Some Drop) (send_at line) ≡ Some v → HasVerdict line v
-verdict_by true line v t h = subst (HasVerdict line) (some_is Drop v h) (record { are = tt; is = are_same line (codes " drop") t })
+verdict_by true line v t h = subst (HasVerdict line) (same_Some Drop v h) (record { are = tt; is = are_same line (codes " drop") t })
 verdict_by false line v t h = send_is line v h
 
 pub verdict_is : (line : List ℕ) (v : Verdict) → verdict_at line ≡ Some v → HasVerdict line v
@@ -128,7 +129,7 @@ released_is line x h =
     bound (verdict_at r.1) _ x hr (λ v ev hv.
     let lr = labelled_is largest r (codes " released ") line (omega arith) er in
     let y = verdict_is r.1 v ev in
-    subst (λ (z : ℕ × Verdict). HasRelease line z.0 z.1) (some_is (r.0, v) x hv) (record {
+    subst (λ (z : ℕ × Verdict). HasRelease line z.0 z.1) (same_Some (r.0, v) x hv) (record {
       small = lr.0;
       are = y.are;
       is = rw (lr.1, y.is) refl;
@@ -170,7 +171,7 @@ stamps_is line x h =
     let la = labelled_is largest a (codes " admitted ") line (omega arith) ea in
     let ld = labelled_is largest d (codes " decided ") a.1 (omega arith) ed in
     let lv = labelled_is largest v (codes " version ") d.1 (omega arith) ev in
-    subst (λ (z : Stamps × List ℕ). HasStamps line z.0 z.1) (some_is _ x hv) (record {
+    subst (λ (z : Stamps × List ℕ). HasStamps line z.0 z.1) (same_Some _ x hv) (record {
       are = record { admitted = la.0; decided = ld.0; version = lv.0 };
       is = rw (la.1, ld.1, lv.1) refl;
     }))))
@@ -267,25 +268,25 @@ pass_is : (line rest : List ℕ) (f : Fate) → line ≡ codes " pass" ++ rest �
 pass_is line rest f e h =
     bound (admitted_at rest) _ f h (λ a ea ha.
     let l = admitted_is rest a ea in
-    subst (HasPath line) (some_is _ f ha) (record { are = l.small; is = rw (e, l.is) refl }))
+    subst (HasPath line) (same_Some _ f ha) (record { are = l.small; is = rw (e, l.is) refl }))
 
 up_is : (line rest : List ℕ) (f : Fate) → line ≡ codes " up" ++ rest → up_at rest ≡ Some f → HasPath line f
 up_is line rest f e h =
     bound (admitted_at rest) _ f h (λ a ea ha.
     let l = admitted_is rest a ea in
-    subst (HasPath line) (some_is _ f ha) (record { are = l.small; is = rw (e, l.is) refl }))
+    subst (HasPath line) (same_Some _ f ha) (record { are = l.small; is = rw (e, l.is) refl }))
 
 held_by : (t : Bool) (line rest : List ℕ) (s : Stamps) (f : Fate) → AreStamps s → line ≡ codes " slow" ++ stamps_with s rest
     → bytes_eq rest (codes " held") ≡ t → cond t (Some (Held s.admitted s.decided s.version)) (released_at rest >>= (λ o. Some (slow_by s o))) ≡ Some f → HasPath line f
 held_by true line rest s f h e t k =
-    subst (HasPath line) (some_is _ f k) (record {
+    subst (HasPath line) (same_Some _ f k) (record {
       are = (omega (arith, h.admitted), omega (arith, h.decided), omega (arith, h.version));
       is = rw (e, are_same rest (codes " held") t) refl;
     })
 held_by false line rest s f h e t k =
     bound (released_at rest) _ f k (λ o eo ho.
     let l = released_is rest o eo in
-    subst (HasPath line) (some_is _ f ho) (record {
+    subst (HasPath line) (same_Some _ f ho) (record {
       are = (omega (arith, h.admitted), omega (arith, h.decided), omega (arith, h.version), omega (arith, l.small), l.are);
       is = rw (e, l.is) refl;
     }))
@@ -304,7 +305,7 @@ fast_is line rest f e h =
     bound (released_at s.1) _ f hs (λ o eo ho.
     let l = stamps_is rest s es in
     let k = released_is s.1 o eo in
-    subst (HasPath line) (some_is _ f ho) (record {
+    subst (HasPath line) (same_Some _ f ho) (record {
       are = (omega (arith, l.are.admitted), omega (arith, l.are.decided), omega (arith, l.are.version), omega (arith, k.small), k.are);
       is = rw (e, l.is, k.is) refl;
     })))

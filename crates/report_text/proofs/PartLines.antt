@@ -6,11 +6,12 @@ use Rattle.std.specs.Str.{bytes_eq}
 use Rattle.std.specs.List.{AllByRecursion}
 use Rattle.std.proofs.lemmas.List.{append-nil}
 use Rattle.std.proofs.lemmas.Bool.Decides.{nat_tests}
+use Rattle.std.proofs.lemmas.Option.{same_Some}
 use Rattle.gal_io.specs.Number.{spaced_numbers}
 use Rattle.run_text.specs.Report.{order_text}
 use Rattle.run_text.specs.Trace.{largest}
 use Rattle.report_text.specs.Parse.{after, all_numbers, below, count_of, labelled, number_below, numbers_at, order_at, order_of, whole}
-use Rattle.report_text.proofs.Pieces.{after_back, after_is, are_same, bound, is_cut, labelled_back, labelled_is, some_is, whole_is}
+use Rattle.report_text.proofs.Pieces.{after_back, after_is, are_same, bound, is_cut, labelled_back, labelled_is, whole_is}
 
 spaced_cut : (ns : List ℕ) → is_cut (spaced_numbers ns) ≡ true
 spaced_cut [] = refl
@@ -42,7 +43,7 @@ record IsBelow (bound : ℕ) (line : List ℕ) (x : ℕ × List ℕ) : Type 0 wh
   is : line ≡ codes " " ++ (decimal x.0 ++ x.1)
 
 below_by : (t : Bool) (bound : ℕ) (line : List ℕ) (y x : ℕ × List ℕ) → ltb y.0 bound ≡ t → line ≡ codes " " ++ (decimal y.0 ++ y.1) → cond t (Some y) None ≡ Some x → IsBelow bound line x
-below_by true bound line y x t e h = subst (IsBelow bound line) (some_is y x h) (record { below = grind (arith, nat_tests); is = e })
+below_by true bound line y x t e h = subst (IsBelow bound line) (same_Some y x h) (record { below = grind (arith, nat_tests); is = e })
 below_by false bound line y x t e h = cc h
 
 number_is : (limit : ℕ) (line : List ℕ) (x : ℕ × List ℕ) → number_below limit line ≡ Some x → IsBelow limit line x
@@ -54,7 +55,7 @@ number_is limit line x h =
 
 numbers_are : (before : List ℕ) (count limit : ℕ) (line : List ℕ) (x : List ℕ × List ℕ) → numbers_at before count limit line ≡ Some x → AreNumbers before count limit line x
 numbers_are before zero limit line x h =
-    subst (AreNumbers before zero limit line) (some_is (before, line) x h) (record { read = []; many = refl; below = tt; all = sym (append-nil before); is = refl })
+    subst (AreNumbers before zero limit line) (same_Some (before, line) x h) (record { read = []; many = refl; below = tt; all = sym (append-nil before); is = refl })
 numbers_are before (suc count) limit line x h =
     bound (number_below limit line) (λ y. numbers_at (before ++ y.0 ∷ []) count limit y.1) x h (λ y ey hy.
     let one = number_is limit line y ey in
@@ -102,7 +103,7 @@ order_by true count limit line rest order t e h =
     subst (HasOrder count limit line) same (record { many = l.many; below = l.below; is = e ∙ ap (λ r. codes "order" ++ r) is }))
 order_by false count limit line rest order t e h =
     elim (bytes_eq rest (codes " -")) as (λ b. bytes_eq rest (codes " -") ≡ b → cond b (Some []) None ≡ Some order → HasOrder count limit line order) [
-      | true ↦ λ b k. subst (HasOrder count limit line) (some_is [] order k) (record {
+      | true ↦ λ b k. subst (HasOrder count limit line) (same_Some [] order k) (record {
         many = grind (arith, nat_tests);
         below = tt;
         is = e ∙ ap (λ r. codes "order" ++ r) (are_same rest (codes " -") b);

@@ -7,6 +7,7 @@ use Rattle.std.proofs.Math.Seq.{take-append_seam, drop-append_seam}
 use Rattle.std.proofs.lemmas.List.{take-append-drop}
 use Rattle.std.proofs.lemmas.Slice.Eq.{bytes_eq-Decides}
 use Rattle.std.proofs.lemmas.Bool.Decides.{nat_tests}
+use Rattle.std.proofs.lemmas.Option.{same_Some}
 use Rattle.gal_io.specs.Number.{number_up_to}
 use Rattle.run_text.specs.Trace.{is_space}
 use Rattle.report_text.specs.Parse.{◌>>=◌, after, labelled, number_at, number_with, whole}
@@ -20,9 +21,6 @@ are_same xs ys h = (bytes_eq-Decides xs ys).0 h
 
 -- ---- options
 
-pub some_is : {A : Type 0} (a b : A) → Some a ≡ Some b → a ≡ b
-some_is a b h = cc
-
 -- a chain that gives something has something at its front
 pub bound : {A B P : Type 0} (o : Option A) (f : A → Option B) (b : B) → (o >>= f) ≡ Some b → ((a : A) → o ≡ Some a → f a ≡ Some b → P) → P
 bound (Some a) f b h k = k a refl h
@@ -33,7 +31,7 @@ chosen true x o h k = k refl h
 chosen false x o h k = cc
 
 pub whole_is : {A : Type 0} (a b : A) (rest : List ℕ) → whole a rest ≡ Some b → (rest ≡ []) × (a ≡ b)
-whole_is a b [] h = (refl, some_is _ _ h)
+whole_is a b [] h = (refl, same_Some _ _ h)
 whole_is a b (byte ∷ rest) h = cc
 
 -- ---- words
@@ -50,7 +48,7 @@ after_other word line h = rw h (elim (ltb (length line) (length word)) as (λ t.
 
 after_by : (shorter same : Bool) (rest found : List ℕ) → cond shorter None (cond same (Some rest) None) ≡ Some found → (same ≡ true) × (rest ≡ found)
 after_by true same rest found h = cc
-after_by false true rest found h = (refl, some_is _ _ h)
+after_by false true rest found h = (refl, same_Some _ _ h)
 after_by false false rest found h = cc
 
 pub after_is : (word line rest : List ℕ) → after word line ≡ Some rest → line ≡ word ++ rest
@@ -87,7 +85,7 @@ number_at_back most n rest small fits cut =
 
 number_by : (most : ℕ) (o : Option ℕ) (rest found : List ℕ) (n : ℕ) → number_with o rest ≡ Some (n, found) → (o ≡ Some n) × (rest ≡ found)
 number_by most None rest found n h = cc
-number_by most (Some m) rest found n h = let e = some_is _ _ h in (ap (λ x. Some x.0) e, ap (λ x. x.1) e)
+number_by most (Some m) rest found n h = let e = same_Some _ _ h in (ap (λ x. Some x.0) e, ap (λ x. x.1) e)
 
 pub record IsNumberAt (most n : ℕ) (line rest : List ℕ) : Type 0 where
   pub small : n ≤ most

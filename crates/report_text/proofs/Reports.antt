@@ -6,6 +6,7 @@ use Rattle.std.proofs.lemmas.Bool.{and_parts, cases_lt}
 use Rattle.std.proofs.lemmas.List.{append-nil, take-append-drop}
 use Rattle.std.proofs.lemmas.Bool.Decides.{nat_tests}
 use Rattle.std.proofs.Math.Pow.{pow_mono}
+use Rattle.std.proofs.lemmas.Option.{same_Some}
 use Rattle.gal_io.specs.Lines.{lines, is_skipped}
 use Rattle.state_store.specs.declared.object.ObjectDecl.{ObjectDecl}
 use Rattle.state_store.specs.declared.object.Row.{Row}
@@ -22,7 +23,7 @@ use Rattle.report_text.specs.Lines.{AreLinesOf, Begins, IsFirstWrong, IsRefused,
 use Rattle.report_text.specs.declared.error.RunTextError.TheVariants.{Line}
 use Rattle.report_text.specs.Parse.{◌>>=◌}
 use Rattle.report_text.specs.Machine.{State, at_start, ended, ended_by, line_read, resume, run_of, step, taken}
-use Rattle.report_text.proofs.Pieces.{bound, some_is}
+use Rattle.report_text.proofs.Pieces.{bound}
 use Rattle.report_text.proofs.PartLines.{order_told, part_told}
 use Rattle.report_text.proofs.RowLines.{is_width, row_told, width_small}
 use Rattle.report_text.proofs.Told.{counts_in, drained_text, events_in, fates_told, head_told, name_of, parts_told, report_both, report_told, versions_in}
@@ -118,7 +119,7 @@ start_goes : (declared : List ObjectDecl) → Goes declared [] at_start
 start_goes declared = record { stands = record { fates = refl; server = refl; switch = refl; rows = refl }; told = refl }
 
 walked_goes : (declared : List ObjectDecl) (k : AreKnown declared) (ls before : List (List ℕ)) (s t : State) → Goes declared before s → walked declared s ls ≡ Some t → Goes declared (before ++ ls) t
-walked_goes declared k [] before s t g h = subst (Goes declared (before ++ [])) (some_is s t h) (subst (λ l. Goes declared l s) (sym (append-nil before)) g)
+walked_goes declared k [] before s t g h = subst (Goes declared (before ++ [])) (same_Some s t h) (subst (λ l. Goes declared l s) (sym (append-nil before)) g)
 walked_goes declared k (l ∷ ls) before s t g h =
     bound (step declared s l) (λ u. walked declared u ls) t h (λ u e f.
     let one : Goes declared (before ++ l ∷ []) u = subst (λ b. Goes declared (b ++ l ∷ []) u) g.told (step_goes declared k s.stage s u l refl g.stands e) in
@@ -134,7 +135,7 @@ ended_is s Fates run h = cc h
 ended_is s (Server n) run h = cc h
 ended_is s (Switch n) run h = cc h
 ended_is s (Table side m behind) run h = cc h
-ended_is s Ended run h = (refl, some_is (run_of s) run h)
+ended_is s Ended run h = (refl, same_Some (run_of s) run h)
 
 pub record Tells (declared : List ObjectDecl) (ls : List (List ℕ)) (run : Run) : Type 0 where
   pub form : InForm declared run
@@ -227,7 +228,7 @@ lines_read declared k ls run h = ap (resume declared at_start) (h.told ∙ form_
 
 pub read_only : (declared : List ObjectDecl) (k : AreKnown declared) (text : List ℕ) (s : State) (run other : Run) → walked declared at_start (told_of (lines text)) ≡ Some s → ended s ≡ Some run → IsReport declared text other → other ≡ run
 read_only declared k text s run other w e h =
-    some_is other run (sym (lines_read declared k (lines text) other h) ∙ resumed_end declared at_start (told_of (lines text)) ∙ ap (λ o. o >>= ended) w ∙ e)
+    same_Some other run (sym (lines_read declared k (lines text) other h) ∙ resumed_end declared at_start (told_of (lines text)) ∙ ap (λ o. o >>= ended) w ∙ e)
 
 can_begin : (declared : List ObjectDecl) (k : AreKnown declared) (ls : List (List ℕ)) (s : State) → walked declared at_start (told_of ls) ≡ Some s → Begins declared ls
 can_begin declared k ls s w =

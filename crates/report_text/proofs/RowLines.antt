@@ -7,13 +7,14 @@ use Rattle.std.proofs.lemmas.List.{append-nil}
 use Rattle.std.proofs.lemmas.Nat.{pow_pos}
 use Rattle.std.proofs.Math.Pow.{pow_mono}
 use Rattle.std.proofs.lemmas.Bool.Decides.{nat_tests}
+use Rattle.std.proofs.lemmas.Option.{same_Some}
 use Rattle.gal_io.specs.Number.{spaced_numbers}
 use Rattle.state_store.specs.declared.object.Row.{Row}
 use Rattle.state_store.specs.Kept.{have_widths}
 use Rattle.run_text.specs.Report.{key_text}
 use Rattle.report_text.specs.Form.{are_widths}
 use Rattle.report_text.specs.Parse.{after, key_number, keys_at, labelled, most_of, number_at, row_of, values_at}
-use Rattle.report_text.proofs.Pieces.{after_back, after_is, bound, is_cut, labelled_back, labelled_is, number_at_back, number_at_is, some_is, whole_is}
+use Rattle.report_text.proofs.Pieces.{after_back, after_is, bound, is_cut, labelled_back, labelled_is, number_at_back, number_at_is, whole_is}
 
 -- ---- widths
 
@@ -73,14 +74,14 @@ key_is w line x wide h =
     bound (after (codes " ") n.1) _ x hn (λ r er hr.
     let l = number_at_is (most_of w) n.0 line n.1 (most_fits w wide) en in
     let inside : n.0 < 2 ^ w = omega (arith, l.small, most_is w wide) in
-    subst (IsKey w line) (some_is (n.0, r) x hr) (record {
+    subst (IsKey w line) (same_Some (n.0, r) x hr) (record {
       inside = grind (arith, nat_tests);
       is = l.is ∙ ap (λ t. decimal n.0 ++ t) (after_is (codes " ") n.1 r er);
     })))
 
 keys_are : (before ws line : List ℕ) (x : List ℕ × List ℕ) → are_widths ws ≡ true → keys_at before ws line ≡ Some x → AreKeys before ws line x
 keys_are before [] line x wide h =
-    subst (AreKeys before [] line) (some_is (before, line) x h) (record { read = []; fit = refl; all = sym (append-nil before); is = refl })
+    subst (AreKeys before [] line) (same_Some (before, line) x h) (record { read = []; fit = refl; all = sym (append-nil before); is = refl })
 keys_are before (w ∷ ws) line x wide h =
     let wp = and_parts (is_width w) (are_widths ws) wide in
     bound (key_number w line) (λ y. keys_at (before ++ y.0 ∷ []) ws y.1) x h (λ y ey hy.
@@ -115,7 +116,7 @@ record AreValues (before ws line : List ℕ) (x : List ℕ × List ℕ) : Type 0
 
 values_are : (before ws line : List ℕ) (x : List ℕ × List ℕ) → are_widths ws ≡ true → values_at before ws line ≡ Some x → AreValues before ws line x
 values_are before [] line x wide h =
-    subst (AreValues before [] line) (some_is (before, line) x h) (record { read = []; fit = refl; all = sym (append-nil before); is = refl })
+    subst (AreValues before [] line) (same_Some (before, line) x h) (record { read = []; fit = refl; all = sym (append-nil before); is = refl })
 values_are before (w ∷ ws) line x wide h =
     let wp = and_parts (is_width w) (are_widths ws) wide in
     let small = width_small w wp.0 in

@@ -6,6 +6,7 @@ use Rattle.std.specs.List.{AllByRecursion}
 use Rattle.std.proofs.lemmas.Bool.{and_parts, leb-true}
 use Rattle.std.proofs.lemmas.List.{append-nil}
 use Rattle.std.proofs.lemmas.Bool.Decides.{nat_tests}
+use Rattle.std.proofs.lemmas.Option.{same_Some}
 use Rattle.state_store.specs.declared.object.ObjectDecl.{ObjectDecl}
 use Rattle.state_store.specs.declared.object.Row.{Row}
 use Rattle.state_store.specs.Kinds.{is_table}
@@ -21,7 +22,7 @@ use Rattle.report_text.specs.declared.stage.Stage.TheVariants.{Title, Packets, E
 use Rattle.report_text.specs.Form.{AreRising, IsFate, IsPart, IsRowOf, kept_from}
 use Rattle.report_text.specs.Parse.{counts_of, events_of, versions_of, fate_of, order_of, row_of, count_of}
 use Rattle.report_text.specs.Machine.{State, counts_read, events_read, fate_read, has_keys, is_after, keys_above, next_from, order_read, part_opened, row_put, row_read, server_by, server_opened, shown_from, shown_opened, step_at, switch_read, then_put, title_read, versions_read, with_left}
-use Rattle.report_text.proofs.Pieces.{are_same, chosen, some_is}
+use Rattle.report_text.proofs.Pieces.{are_same, chosen}
 use Rattle.report_text.proofs.HeadLines.{AreEvents, counts_is, counts_text, events_is, events_text, versions_is, versions_text}
 use Rattle.report_text.proofs.FateLines.{fate_is, fate_told}
 use Rattle.report_text.proofs.PartLines.{count_is, order_is, part_told}
@@ -35,7 +36,7 @@ fresh s c e v d st f = record { fates = f.fates; server = f.server; switch = f.s
 
 then_is : {X : Type 0} (put : X → State) (o : Option X) (t : State) {P : Type 0} → then_put put o ≡ Some t → ((x : X) → o ≡ Some x → put x ≡ t → P) → P
 then_is put None t h k = cc h
-then_is put (Some x) t h k = k x refl (some_is (put x) t h)
+then_is put (Some x) t h k = k x refl (same_Some (put x) t h)
 
 -- a test that passed
 fits : (b : Bool) → b ≡ true → IsTrue b
@@ -46,7 +47,7 @@ fits b h = h
 title_goes : (declared : List ObjectDecl) (s t : State) (l : List ℕ) → IsFresh s → title_read s l ≡ Some t → Goes declared (l ∷ []) t
 title_goes declared s t l f h =
     chosen (bytes_eq l (codes "report 1")) t (Some (record s { stage = Packets })) h (λ same e.
-    subst (Goes declared (l ∷ [])) (some_is (record s { stage = Packets }) t e) (record {
+    subst (Goes declared (l ∷ [])) (same_Some (record s { stage = Packets }) t e) (record {
       stands = fresh s s.counts s.events s.versions s.drained Packets f;
       told = ap (λ x. x ∷ []) (sym (are_same l (codes "report 1") same));
     }))
@@ -60,7 +61,7 @@ counts_goes declared None s t l f e h = cc h
 counts_goes declared (Some c) s t l f e h =
     chosen (eqb c.decided 0 || ltb 0 c.admitted) t (Some (record s { counts = c; stage = Events })) h (λ can k.
     let r = counts_is l c e in
-    subst (Goes declared (codes "report 1" ∷ (l ∷ []))) (some_is (record s { counts = c; stage = Events }) t k) (record {
+    subst (Goes declared (codes "report 1" ∷ (l ∷ []))) (same_Some (record s { counts = c; stage = Events }) t k) (record {
       stands = record { fresh = fresh s c s.events s.versions s.drained Events f; counts = r.are; can = can_order c can };
       told = ap (λ x. codes "report 1" ∷ (x ∷ [])) (sym r.is);
     }))
@@ -100,9 +101,9 @@ drained_by : (declared : List ObjectDecl) (a b : Bool) (s t : State) (l : List �
     → cond a (Some (record s { drained = true; stage = Fates })) (cond b (Some (record s { drained = false; stage = Fates })) None) ≡ Some t
     → Goes declared (codes "report 1" ∷ (counts_text s.counts ∷ (events_text s.events ∷ (versions_text s.versions ∷ (l ∷ []))))) t
 drained_by declared true b s t l f ea eb h =
-    subst (Goes declared (codes "report 1" ∷ (counts_text s.counts ∷ (events_text s.events ∷ (versions_text s.versions ∷ (l ∷ [])))))) (some_is _ t h) (drained_to declared s true l f (are_same l (codes "drained yes") ea))
+    subst (Goes declared (codes "report 1" ∷ (counts_text s.counts ∷ (events_text s.events ∷ (versions_text s.versions ∷ (l ∷ [])))))) (same_Some _ t h) (drained_to declared s true l f (are_same l (codes "drained yes") ea))
 drained_by declared false true s t l f ea eb h =
-    subst (Goes declared (codes "report 1" ∷ (counts_text s.counts ∷ (events_text s.events ∷ (versions_text s.versions ∷ (l ∷ [])))))) (some_is _ t h) (drained_to declared s false l f (are_same l (codes "drained no") eb))
+    subst (Goes declared (codes "report 1" ∷ (counts_text s.counts ∷ (events_text s.events ∷ (versions_text s.versions ∷ (l ∷ [])))))) (same_Some _ t h) (drained_to declared s false l f (are_same l (codes "drained no") eb))
 drained_by declared false false s t l f ea eb h = cc h
 
 -- ---- packets and the order
@@ -192,12 +193,12 @@ open_goes declared side s t m count o l f r b is kind small line h =
     ∙ ap (λ name. front s (base declared s side ++ (part_told (word_of side) name count ∷ []))) (named declared m o is)
     ∙ ap (λ y. front s (base declared s side ++ (y ∷ []))) (sym line)
     ∙ front_on s (base declared s side) (l ∷ []) in
-    subst (Goes declared (front s (base declared s side) ++ l ∷ [])) (some_is (with_left side m count s) t k) (subst (λ ls. Goes declared ls (with_left side m count s)) lines g))
+    subst (Goes declared (front s (base declared s side) ++ l ∷ [])) (same_Some (with_left side m count s) t k) (subst (λ ls. Goes declared ls (with_left side m count s)) lines g))
 
 end_goes : (declared : List ObjectDecl) (s t : State) (l : List ℕ) (n : ℕ) → Stands declared s (Switch n) → l ≡ codes "end" → Some (record s { stage = Ended }) ≡ Some t
     → Goes declared (front s (base declared s OnSwitch) ++ l ∷ []) t
 end_goes declared s t l n f e h =
-    subst (Goes declared (front s (base declared s OnSwitch) ++ l ∷ [])) (some_is (record s { stage = Ended }) t h) (record {
+    subst (Goes declared (front s (base declared s OnSwitch) ++ l ∷ [])) (same_Some (record s { stage = Ended }) t h) (record {
       stands = (
         record {
           counts = f.0.counts;
@@ -310,7 +311,7 @@ row_goes declared k side s t l m behind p row f b e h =
     ∙ ap (λ y. front s (base declared s side ++ (begin ∷ (map row_told s.rows ++ y ∷ [])))) (sym r.is)
     ∙ ap (front s) (sym (append_assoc (base declared s side) (begin ∷ map row_told s.rows) (l ∷ [])))
     ∙ front_on s (base declared s side ++ (begin ∷ map row_told s.rows)) (l ∷ []) in
-    subst (Goes declared (with_part declared s side m (length s.rows + suc behind) ++ l ∷ [])) (some_is (with_left side m behind u) t q) (subst (λ ls. Goes declared ls (with_left side m behind u)) lines g))
+    subst (Goes declared (with_part declared s side m (length s.rows + suc behind) ++ l ∷ [])) (same_Some (with_left side m behind u) t q) (subst (λ ls. Goes declared ls (with_left side m behind u)) lines g))
 
 row_put_by : (declared : List ObjectDecl) (k : AreKnown declared) (side : Side) (r : Option Row) (s t : State) (l : List ℕ) (m behind : ℕ) (p : IsPartly declared s.rows m behind) → IsOrdered declared s → Before declared s m side
     → row_of p.object.keys p.object.values l ≡ r → row_put side m behind s p.object r ≡ Some t

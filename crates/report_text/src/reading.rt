@@ -17,7 +17,7 @@ use crate::row::{leaves, read_count, read_row};
 use crate::stage::{Side, Stage};
 use gal_bits::{Values, Widths};
 use gal_io::{NoMemory, is_skipped};
-use run_model::{Fate, Fates, Order, ObjectRows, StoreRows, Run};
+use run_model::{Fate, Fates, ObjectRows, Order, Run, StoreRows};
 use state_store::{ObjectDecl, Row, Rows};
 use std::alloc::Global;
 use std::marker::Model;

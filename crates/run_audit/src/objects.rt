@@ -5,7 +5,7 @@ ghost use Rattle.run_audit.specs.Told.{IsFirstUnlike};
 
 use element_lang::Middlebox;
 use gal_io::NoMemory;
-use run_model::{ObjectRows, StoreRows, Run};
+use run_model::{ObjectRows, Run, StoreRows};
 use state_store::{Row, Store};
 use std::alloc::Global;
 

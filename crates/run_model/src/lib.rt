@@ -10,5 +10,5 @@ mod serial;
 pub use event::{Event, Events};
 pub use fate::{Fate, Fates};
 pub use laws::meanings_that_agree;
-pub use run::{Order, ObjectRows, StoreRows, Run};
+pub use run::{ObjectRows, Order, Run, StoreRows};
 pub use serial::{Decided, order};

@@ -4,7 +4,7 @@ use Rattle.std.specs.List.{filter, AllByRecursion as Each}
 use Rattle.std.proofs.lemmas.Bool.{and_from, and_parts, cases_Bool, cases_eq, cases_lt, cond-true, cond-false, eq-eqb, lt-ltb, ltb-true, ne_eqb, or_left, or_right}
 use Rattle.std.proofs.lemmas.List.{get_or_append_left, get_or-append_right, get_or_push, map-append}
 use Rattle.std.proofs.lemmas.List.Folds.{list_any-append}
-use Rattle.std.proofs.lemmas.Option.{slice_get-get_or, slice_get_within}
+use Rattle.std.proofs.lemmas.Option.{slice_get-get_or, slice_get_within, none-some, same_Some}
 use Rattle.packet_fields.specs.declared.packet.Packet.{Packet}
 use Rattle.state_store.specs.Store.{Store}
 use Rattle.flat_ir.specs.declared.program.ValueId.{ValueId}
@@ -67,10 +67,7 @@ below_there f (suc k) n d le lt =
 pub there : (f : Program) (n : ℕ) (v : ValueId) → slice_get (values_of f) n ≡ Some v → IsThere f n v
 there f n v e =
     let within = slice_get_within (values_of f) n v e in
-    subst (IsThere f n) (the_some (get_or (values_of f) n v) v (sym (slice_get-get_or (values_of f) n v within) ∙ e)) (below_there f (length f.code) n v (omega arith) within)
-  where
-    the_some : (x y : ValueId) → Some x ≡ Some y → x ≡ y
-    the_some x y e = cc
+    subst (IsThere f n) (same_Some (get_or (values_of f) n v) v (sym (slice_get-get_or (values_of f) n v within) ∙ e)) (below_there f (length f.code) n v (omega arith) within)
 
 -- an instruction's value is among its values
 pub among_results : (f : Program) (i c k : ℕ) → k < c → is_among (length (values_below f i) + k) (numbers_of f (first_results i c)) ≡ true
@@ -222,11 +219,8 @@ module _ (f : Program) (numbers : (v : ValueId) → IsTrue (is_named f v) → sl
       own_among : (n : ℕ) (v : ValueId) → slice_get (values_of f) n ≡ Some v → is_among n (numbers_of f (values_at f i)) ≡ true → v.instruction ≡ i
       own_among n v e among =
           let h = found f (λ w. (is_named f w ≡ true) × (w.instruction ≡ i)) n (values_at f i) (of_results (count_at f i) (omega arith)) among in
-          ap (λ (w : ValueId). w.instruction) (the_some v h.value (sym e ∙ ap (slice_get (values_of f)) (sym h.number) ∙ numbers h.value h.holds.0)) ∙ h.holds.1
+          ap (λ (w : ValueId). w.instruction) (same_Some v h.value (sym e ∙ ap (slice_get (values_of f)) (sym h.number) ∙ numbers h.value h.holds.0)) ∙ h.holds.1
         where
-          the_some : (x y : ValueId) → Some x ≡ Some y → x ≡ y
-          the_some x y e = cc
-
           of_results : (c : ℕ) → c ≤ count_at f i → Each (λ w. (is_named f w ≡ true) × (w.instruction ≡ i)) (first_results i c)
           of_results zero le = tt
           of_results (suc c) le =
@@ -235,13 +229,10 @@ module _ (f : Program) (numbers : (v : ValueId) → IsTrue (is_named f v) → sl
 
       none_among : (n : ℕ) → slice_get (values_of f) n ≡ None → is_among n (numbers_of f (values_at f i)) ≡ false
       none_among n e = elim (cases_Bool (is_among n (numbers_of f (values_at f i)))) [
-        | inl among ↦ absurd (none_some (sym e ∙ ap (slice_get (values_of f)) (sym (in_it among).number) ∙ numbers (in_it among).value (in_it among).holds))
+        | inl among ↦ absurd (none-some _ (sym e ∙ ap (slice_get (values_of f)) (sym (in_it among).number) ∙ numbers (in_it among).value (in_it among).holds))
         | inr apart ↦ apart
       ]
         where
-          none_some : {x : ValueId} → None ≡ Some x → ⊥
-          none_some e = cc
-
           of_results : (c : ℕ) → c ≤ count_at f i → Each (λ w. is_named f w ≡ true) (first_results i c)
           of_results zero le = tt
           of_results (suc c) le =

@@ -7,6 +7,7 @@ use Rattle.std.proofs.lemmas.List.{get_or_past, map-append}
 use Rattle.std.proofs.lemmas.List.Elements.{All-append, All-map, All-nil, All-weaker, filter_passes, recursion_from_All}
 use Rattle.std.proofs.lemmas.List.Folds.{list_any_at}
 use Rattle.std.proofs.lemmas.List.Sums.{sum_by-append, sum_by-cons}
+use Rattle.std.proofs.lemmas.Option.{same_Some}
 use Rattle.flat_ir.specs.declared.program.FieldValue.{FieldValue}
 use Rattle.flat_ir.specs.declared.program.ValueId.{ValueId}
 use Rattle.flat_ir.specs.declared.spans.Span.{Span}
@@ -155,10 +156,7 @@ module _ (f : Program) (split : List Part) (well : IsWellFormed f)
   last = length f.code + 1
 
   same_number : (v w : ValueId) → is_named f v ≡ true → is_named f w ≡ true → number_of f v ≡ number_of f w → v ≡ w
-  same_number v w named named' e = the_some v w (sym (numbers v named) ∙ ap (slice_get (values_of f)) e ∙ numbers w named')
-    where
-      the_some : (x y : ValueId) → Some x ≡ Some y → x ≡ y
-      the_some x y e = cc
+  same_number v w named named' e = same_Some v w (sym (numbers v named) ∙ ap (slice_get (values_of f)) e ∙ numbers w named')
 
   -- ## How often a step writes a value
 

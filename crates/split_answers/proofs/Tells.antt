@@ -4,6 +4,7 @@ use Rattle.std.specs.Prelude.{slice_get}
 use Rattle.std.specs.List.{AllByRecursion as Each}
 use Rattle.std.proofs.lemmas.Bool.{eq-eqb, false≢true}
 use Rattle.std.proofs.lemmas.List.{take_all}
+use Rattle.std.proofs.lemmas.Option.{same_Some}
 use Rattle.packet_fields.specs.declared.packet.Packet.{Packet}
 use Rattle.packet_fields.specs.declared.verdict.Verdict.{Verdict}
 use Rattle.state_store.specs.Store.{Store, object_at}
@@ -63,9 +64,6 @@ frame_in (AsksCommand command) = []
 frame_in (AsksDown fine n frame ends) = frame
 frame_in (AsksStageDown n ends) = []
 
-some_number : (m n : ℕ) → Some m ≡ Some n → m ≡ n
-some_number m n e = cc
-
 only_one : {X : Type 0} (n : ℕ) (x : X) → or_else (only_for n n (Some x)) None ≡ Some x
 only_one n x = let same = eq-eqb n n refl in rw same refl
 
@@ -97,7 +95,7 @@ module _ (code : Code) (tables : Told) where
   one_up [] fine ends n packet t e g h = cc
   one_up (CalledUp own m p answer ∷ []) fine ends n packet t e g h =
       let q = first_question [] [] _ _ e in
-      let same : m ≡ n = some_number m n (ap numbered q) in
+      let same : m ≡ n = same_Some m n (ap numbered q) in
       let one_packet : p ≡ packet = ap (λ x. packet_in x packet) q in
       let ended : is_up_end answer ≡ true = ap ends_in q ∙ t in
       record {
@@ -123,7 +121,7 @@ module _ (code : Code) (tables : Told) where
   one_down [] fine ends n frame t e g h = cc
   one_down (CalledDown own m f (Released y) ∷ []) fine ends n frame t e g h =
       let q = first_question [] [] _ _ e in
-      let same : m ≡ n = some_number m n (ap numbered q) in
+      let same : m ≡ n = same_Some m n (ap numbered q) in
       let one_frame : f ≡ frame = ap frame_in q in
       record {
         verdict = y;

@@ -7,6 +7,7 @@ use Rattle.std.specs.Str.{bytes_eq}
 use Rattle.std.specs.List.{list_any, list_all, before_first, after_first}
 use Rattle.std.proofs.lemmas.Bool.{and_parts, eqb-true, eq-eqb}
 use Rattle.std.proofs.lemmas.Slice.Eq.{bytes_eq-Decides}
+use Rattle.std.proofs.lemmas.Option.{same_Some}
 use Rattle.gal_io.specs.Number.{number_up_to}
 use Rattle.split_model.specs.declared.split.Slow.{Slow}
 use Rattle.split_model.specs.declared.split.Slow.TheVariants.{Carried, Server, Post}
@@ -23,9 +24,6 @@ same_bytes xs = (bytes_eq-Decides xs xs).1 refl
 
 pub are_same : (xs ys : List ℕ) → bytes_eq xs ys ≡ true → xs ≡ ys
 are_same xs ys h = (bytes_eq-Decides xs ys).0 h
-
-pub some_is : {A : Type 0} (a b : A) → Some a ≡ Some b → a ≡ b
-some_is a b h = cc
 
 chosen : {A P : Type 0} (t : Bool) (x : A) (o : Option A) → cond t o None ≡ Some x → (t ≡ true → o ≡ Some x → P) → P
 chosen true x o h k = k refl h
@@ -100,8 +98,8 @@ part_back i part small low =
 
 pre_by : (dash : Bool) (o : Option ℕ) (pre : Option ℕ) → cond dash (Some None) (option_map (λ (s : ℕ). Some s) o) ≡ Some pre
     → ((dash ≡ true) × (None ≡ pre)) ⊎ ((s : ℕ) × (o ≡ Some s) × (Some s ≡ pre))
-pre_by true o pre h = inl (refl, some_is {A = Option ℕ} None pre h)
-pre_by false (Some s) pre h = inr (s, refl, some_is {A = Option ℕ} (Some s) pre h)
+pre_by true o pre h = inl (refl, same_Some {A = Option ℕ} None pre h)
+pre_by false (Some s) pre h = inr (s, refl, same_Some {A = Option ℕ} (Some s) pre h)
 pre_by false None pre h = cc
 
 pre_sound : (pre : Option ℕ) (word : List ℕ) → pre_of word ≡ Some pre → (word ≡ pre_text pre) × IsLowPre pre
@@ -112,12 +110,12 @@ pre_sound pre word h = elim (pre_by (bytes_eq word (codes "-")) (stage_of word) 
 
 slow_by : (carried server : Bool) (o : Option Slow) (slow : Slow) → cond carried (Some Carried) (cond server (Some Server) o) ≡ Some slow
     → ((carried ≡ true) × (Carried ≡ slow)) ⊎ (((server ≡ true) × (Server ≡ slow)) ⊎ (o ≡ Some slow))
-slow_by true server o slow h = inl (refl, some_is Carried slow h)
-slow_by false true o slow h = inr (inl (refl, some_is Server slow h))
+slow_by true server o slow h = inl (refl, same_Some Carried slow h)
+slow_by false true o slow h = inr (inl (refl, same_Some Server slow h))
 slow_by false false o slow h = inr (inr h)
 
 mapped : (o : Option ℕ) (slow : Slow) → option_map (λ (s : ℕ). Post s) o ≡ Some slow → (s : ℕ) × (o ≡ Some s) × (Post s ≡ slow)
-mapped (Some s) slow h = (s, refl, some_is (Post s) slow h)
+mapped (Some s) slow h = (s, refl, same_Some (Post s) slow h)
 mapped None slow h = cc
 
 post_sound : (slow : Slow) (words : List ℕ) → post_of words ≡ Some slow → (words ≡ slow_text slow) × IsLowSlow slow
@@ -144,7 +142,7 @@ with_both : (pre : Option (Option ℕ)) (slow : Option Slow) (part : Part) → p
 with_both None slow part h = cc
 with_both (Some pre) None part h = cc
 with_both (Some pre) (Some slow) part h =
-    let same = some_is {A = Part} (record { pre = pre; slow = slow }) part h in
+    let same = same_Some {A = Part} (record { pre = pre; slow = slow }) part h in
     (ap (λ (p : Part). Some p.pre) same, ap (λ (p : Part). Some p.slow) same)
 
 words_sound : (part : Part) (words : List ℕ) → words_of words ≡ Some part → (words ≡ pre_text part.pre ++ (32 ∷ slow_text part.slow)) × IsLow part

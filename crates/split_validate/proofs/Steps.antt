@@ -4,13 +4,14 @@ use Rattle.std.specs.Str.{bytes_eq}
 use Rattle.std.proofs.lemmas.Bool.{true≢false, ltb-true}
 use Rattle.std.proofs.lemmas.Bool.Decides.{nat_tests}
 use Rattle.std.proofs.lemmas.List.{append-nil}
+use Rattle.std.proofs.lemmas.Option.{same_Some}
 use Rattle.split_model.specs.declared.split.Slow.TheVariants.{Server}
 use Rattle.split_model.specs.declared.split.Part.{Part}
 use Rattle.split_validate.specs.SplitSteps.{is_title, part_of, step, title, with_part}
 use Rattle.split_validate.specs.declared.reading.Progress.{Progress}
 use Rattle.split_validate.specs.declared.reading.Progress.TheVariants.{Nothing, Title, All}
 use Rattle.split_validate.proofs.Gone.{AreLow, Fits, IsLow, at, last, part_told, parts_told, so_far, split_told}
-use Rattle.split_validate.proofs.PartLines.{are_same, part_back, part_sound, same_bytes, some_is, title_back, title_sound}
+use Rattle.split_validate.proofs.PartLines.{are_same, part_back, part_sound, same_bytes, title_back, title_sound}
 
 -- ## Lists
 
@@ -41,12 +42,12 @@ pub record GoesTo (count : ℕ) (line : List ℕ) (progress : Progress) (parts :
   pub told : so_far count after.0 after.1 ≡ so_far count progress parts ++ line ∷ []
 
 taken_one : {A : Type 0} (t : Bool) (x y : A) → cond t (Some x) None ≡ Some y → (t ≡ true) × (x ≡ y)
-taken_one true x y h = (refl, some_is x y h)
+taken_one true x y h = (refl, same_Some x y h)
 taken_one false x y h = cc
 
 with_one : (parts : List Part) (o : Option Part) (after : Progress × List Part) → with_part parts o ≡ Some after → (part : Part) × (o ≡ Some part) × (at Title (parts ++ part ∷ []) ≡ after)
 with_one parts None after h = cc
-with_one parts (Some part) after h = (part, refl, some_is (at Title (parts ++ part ∷ [])) after h)
+with_one parts (Some part) after h = (part, refl, same_Some (at Title (parts ++ part ∷ [])) after h)
 
 part_goes : (count : ℕ) (line : List ℕ) (parts : List Part) (part : Part) → count < 2 ^ 64 → Fits count Title parts → length parts < count → part_of (length parts) line ≡ Some part → GoesTo count line Title parts (at Title (parts ++ part ∷ []))
 part_goes count line parts part small f less e =
@@ -257,7 +258,7 @@ one_split i [] (y ∷ ys) us vs small low low' same e = absurd (omega (arith, sa
 one_split i (x ∷ xs) [] us vs small low low' same e = absurd (omega (arith, same))
 one_split i (x ∷ xs) (y ∷ ys) us vs small low low' same e =
     let lines_are = head_is (part_told i x) (part_told i y) (parts_told (suc i) xs ++ us) (parts_told (suc i) ys ++ vs) e in
-    let first : x ≡ y = some_is x y (sym (part_back i x (omega (arith, small)) low.0) ∙ ap (part_of i) lines_are ∙ part_back i y (omega (arith, small)) low'.0) in
+    let first : x ≡ y = same_Some x y (sym (part_back i x (omega (arith, small)) low.0) ∙ ap (part_of i) lines_are ∙ part_back i y (omega (arith, small)) low'.0) in
     let behind : xs ≡ ys =
     one_split (suc i) xs ys us vs (omega (arith, small)) low.1 low'.1 (omega (arith, same)) (tail_is (part_told i x) (part_told i y) (parts_told (suc i) xs ++ us) (parts_told (suc i) ys ++ vs) e) in
     cc

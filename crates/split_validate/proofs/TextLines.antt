@@ -3,6 +3,7 @@ use Rattle.std.proofs.Common.{◌≡◌, ℕ, zero, suc, ◌+◌, ◌≤◌, ◌
 use Rattle.std.specs.List.{AllByRecursion}
 use Rattle.std.proofs.lemmas.Bool.{cases_lt}
 use Rattle.std.proofs.lemmas.List.{append-nil, take-append-drop}
+use Rattle.std.proofs.lemmas.Option.{same_Some}
 use Rattle.gal_io.specs.Lines.{lines, is_skipped}
 use Rattle.split_model.specs.declared.split.Part.{Part}
 use Rattle.split_model.specs.Bounds.{HasFewStages}
@@ -13,7 +14,6 @@ use Rattle.split_validate.specs.SplitSteps.{ended, line_read, step, taken, title
 use Rattle.split_validate.specs.declared.reading.Progress.{Progress}
 use Rattle.split_validate.specs.declared.reading.Progress.TheVariants.{Nothing, Title, All}
 use Rattle.split_validate.proofs.Gone.{Fits, at, last, parts_told, so_far, split_told}
-use Rattle.split_validate.proofs.PartLines.{some_is}
 use Rattle.split_validate.proofs.Plain.{IsTold, all_told}
 use Rattle.split_validate.proofs.Told.{all_plain, few_of, low_of, text_lines}
 use Rattle.split_validate.proofs.Steps.{IsEarly, can_go, early_stops, one_split, step_goes, step_stops, tail_is}
@@ -100,7 +100,7 @@ pub record TurnsTo (count n : ℕ) (ls : List (List ℕ)) (after : Progress × L
 line_by : (b : Bool) (count n : ℕ) (ls rest : List (List ℕ)) (l : List ℕ) (progress : Progress) (parts : List Part) (after : Progress × List Part) → count < 2 ^ 64 → is_skipped l ≡ b → drop n ls ≡ l ∷ rest → Fits count progress parts
     → told_of (take n ls) ≡ so_far count progress parts → cond b (Some (at progress parts)) (step count l progress parts) ≡ Some after → TurnsTo count n ls after
 line_by true count n ls rest l progress parts after small b e f t h =
-    subst (TurnsTo count n ls) (some_is (at progress parts) after h) (record { fits = f; told = turn_skipped n ls rest (so_far count progress parts) l e b t })
+    subst (TurnsTo count n ls) (same_Some (at progress parts) after h) (record { fits = f; told = turn_skipped n ls rest (so_far count progress parts) l e b t })
 line_by false count n ls rest l progress parts after small b e f t h =
     let goes = step_goes count l progress parts after small f h in
     record { fits = goes.fits; told = turn_taken n ls rest (so_far count progress parts) l e b t ∙ sym goes.told }
@@ -190,7 +190,7 @@ line_stop count n text rest l progress parts small e f t stops =
 pub ended_all : (progress : Progress) (parts found : List Part) → ended progress parts ≡ Some found → (progress ≡ All) × (parts ≡ found)
 ended_all Nothing parts found h = cc h
 ended_all Title parts found h = cc h
-ended_all All parts found h = (refl, some_is parts found h)
+ended_all All parts found h = (refl, same_Some parts found h)
 
 pub ended_early : (progress : Progress) (parts : List Part) → ended progress parts ≡ None → IsEarly progress
 ended_early Nothing parts h = tt

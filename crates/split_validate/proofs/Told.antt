@@ -3,6 +3,7 @@ use Rattle.std.proofs.Common.{◌≡◌, ℕ, zero, suc, ◌+◌, ◌≤◌, ◌
 use Rattle.std.specs.Fmt.{decimal}
 use Rattle.std.specs.List.{AllByRecursion, list_all}
 use Rattle.std.proofs.lemmas.Fmt.{decimal_nonempty}
+use Rattle.std.proofs.lemmas.Option.{same_Some}
 use Rattle.gal_io.specs.Lines.{lines}
 use Rattle.split_model.specs.declared.split.Slow.{Slow}
 use Rattle.split_model.specs.declared.split.Slow.TheVariants.{Carried, Server, Post}
@@ -13,7 +14,6 @@ use Rattle.split_validate.specs.SplitText.{first_line, line_end, part_line, part
 use Rattle.split_validate.specs.SplitSteps.{title}
 use Rattle.split_validate.proofs.Gone.{AreLow, IsLow, IsLowPre, IsLowSlow, last, part_told, parts_told, split_told}
 use Rattle.split_validate.proofs.Numbers.{decimal_digits}
-use Rattle.split_validate.proofs.PartLines.{some_is}
 use Rattle.split_validate.proofs.Plain.{IsTold, both, digits_plain, digits_told, lined, lines_lined, plain, told_both}
 
 -- ## Stages
@@ -34,12 +34,12 @@ low_of (part ∷ parts) h =
 
 pre_low : (pre : Option ℕ) (stage : ℕ) → IsLowPre pre → pre ≡ Some stage → stage ≤ 4096
 pre_low None stage low e = cc
-pre_low (Some own) stage low e = subst (λ n. n ≤ 4096) (some_is own stage e) low
+pre_low (Some own) stage low e = subst (λ n. n ≤ 4096) (same_Some own stage e) low
 
 slow_low : (slow : Slow) (stage : ℕ) → IsLowSlow slow → stage_after slow ≡ Some stage → stage ≤ 4096
 slow_low Carried stage low e = cc
 slow_low Server stage low e = cc
-slow_low (Post own) stage low e = subst (λ n. n ≤ 4096) (some_is own stage e) low
+slow_low (Post own) stage low e = subst (λ n. n ≤ 4096) (same_Some own stage e) low
 
 pre_few : (split : List Part) → AreLow split → (i stage : ℕ) → pre_stage split i ≡ Some stage → stage ≤ 4096
 pre_few [] low i stage e = cc

@@ -3,6 +3,7 @@ use Rattle.std.proofs.Common.{◌≡◌, ℕ, zero, suc, ◌==◌, ◌<◌, ◌�
 use Rattle.std.proofs.lemmas.Bool.{cases_Bool, cases_lt, cond-true, cond-false, and_from, or_left, or_right, or_parts, or_cases, eq-eqb, eqb-true, ltb-true, false≢true, true≢false}
 use Rattle.std.proofs.Math.Nat.{eq-or-lt_of_le}
 use Rattle.std.specs.List.{AllByRecursion as Each, filter, list_any}
+use Rattle.std.proofs.lemmas.Option.{none-some}
 use Rattle.packet_fields.specs.declared.packet.Packet.{Packet}
 use Rattle.packet_fields.specs.Fields.{with_field}
 use Rattle.state_store.specs.Store.{Store}
@@ -94,10 +95,7 @@ module _ (agree : Agreements) (f : Program) (split : List Part) (legal : IsLegal
       (and_from (is_post split i) (is_among v (operands (step_at f i).work)) (ap is_some is) e))
 
   there : (i own : ℕ) → stage i ≡ Some own → i < length f.code
-  there i own is = ⊎_elim (λ lt. lt) (λ le. absurd (none_some own (sym (within i le) ∙ is))) (cases_lt i (length f.code))
-    where
-      none_some : (own : ℕ) → None ≡ Some own → ⊥
-      none_some own e = cc
+  there i own is = ⊎_elim (λ lt. lt) (λ le. absurd (none-some own (sym (within i le) ∙ is))) (cases_lt i (length f.code))
 
   module _ (tables : Store) (packet : Packet) (g h : Reading) (given : (v : ValueId) → is_post split v.instruction ≡ false → is_read_after f split v ≡ true → g v ≡ h v) where
     abbrev G : ℕ → Reading

@@ -5,7 +5,7 @@ use Rattle.std.specs.Prelude.{nat_lt}
 use Rattle.std.proofs.lemmas.Bool.{cases_lt, and_parts, ltb-true, false≢true}
 use Rattle.std.proofs.lemmas.List.Elements.{All-map}
 use Rattle.std.proofs.lemmas.List.Kept.{AllPairs-cons}
-use Rattle.std.proofs.lemmas.Option.{slice_get_past}
+use Rattle.std.proofs.lemmas.Option.{slice_get_past, same_Some, none-some}
 use Rattle.flat_ir.specs.declared.program.ValueId.{ValueId}
 use Rattle.flat_ir.specs.Program.{Program, Work, step_at, operands, result_count, is_named}
 use Rattle.flat_ir.specs.Program.Work.{const, field, apply, shift, select, byte, look, put, del}
@@ -36,9 +36,6 @@ each_both Q (s ∷ ss) xs ys h k = (each_append (Q s) xs ys h.0 k.0, each_both Q
 clash : (b : Bool) → not b ≡ true → b ≡ true → ⊥
 clash b other is = false≢true (sym (ap not is) ∙ other)
 
-same_some : {X : Type 0} (x y : X) → Some x ≡ Some y → x ≡ y
-same_some x y e = cc
-
 handed_apart : (layout : List Crossing) → IsRising layout → AreApart (handed_in layout)
 handed_apart [] rising = λ i j d lt within. absurd (omega (arith, within))
 handed_apart (c ∷ cs) rising =
@@ -58,16 +55,13 @@ module _ (numbers : HasNumbers) (f : Program) (split : List Part) where
   by_value : (a b : Written) → IsNumbered a → IsNumbered b → (a.value ≡ b.value → ⊥) → a.number ≢ b.number
   by_value a b na nb differ e =
       let same : number_of f a.value ≡ number_of f b.value = sym na.1 ∙ e ∙ nb.1 in
-      differ (same_some a.value b.value (sym (numbers f a.value na.0) ∙ ap (slice_get (values_of f)) same ∙ numbers f b.value nb.0))
+      differ (same_Some a.value b.value (sym (numbers f a.value na.0) ∙ ap (slice_get (values_of f)) same ∙ numbers f b.value nb.0))
 
   in_values : (w : Written) → IsNumbered w → w.number < length (values_of f)
   in_values w is = elim (cases_lt w.number (length (values_of f))) [
     | inl lt ↦ lt
-    | inr past ↦ absurd (none_some (sym (slice_get_past (values_of f) w.number past) ∙ ap (slice_get (values_of f)) is.1 ∙ numbers f w.value is.0))
+    | inr past ↦ absurd (none-some _ (sym (slice_get_past (values_of f) w.number past) ∙ ap (slice_get (values_of f)) is.1 ∙ numbers f w.value is.0))
   ]
-    where
-      none_some : None ≡ Some w.value → ⊥
-      none_some e = cc
 
   numbered : (stage : ℕ → Option ℕ) (w : Written) → IsValueOf f split stage w → IsNumbered w
   numbered stage w is = (named f split stage w is, is.3)
@@ -120,7 +114,7 @@ module _ (numbers : HasNumbers) (f : Program) (split : List Part) where
   given = written_by tables (steps_of f (given_stage f split))
 
   is_first : (b : Bool) (t : ℕ) → (if b then Some 0 else None) ≡ Some t → (b ≡ true) × (t ≡ 0)
-  is_first true t e = (refl, sym (same_some 0 t e))
+  is_first true t e = (refl, sym (same_Some 0 t e))
   is_first false t e = cc
 
   record IsGivenAt (i : ℕ) : Type 0 where

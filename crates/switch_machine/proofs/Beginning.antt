@@ -3,6 +3,7 @@ use Rattle.std.proofs.Common.{◌≡◌, ◌≢◌, ℕ, ◌==◌, Bool, true, f
 use Rattle.std.specs.List.{AllByRecursion as Each}
 use Rattle.std.proofs.lemmas.Bool.{cases_Bool, cond-true, cond-false, eq-eqb, eqb-true, and_from, and_parts, or_left, or_right, or_cases, true≢false}
 use Rattle.std.proofs.lemmas.List.Folds.{list_any-append}
+use Rattle.std.proofs.lemmas.Option.{same_Some, none-some}
 use Rattle.packet_fields.specs.declared.packet.Packet.{Packet}
 use Rattle.flat_ir.specs.declared.program.ValueId.{ValueId}
 use Rattle.flat_ir.specs.Blocks.{Reading, nothing}
@@ -17,7 +18,6 @@ use Rattle.switch_machine.specs.Keeping.{numbers_in}
 use Rattle.switch_machine.specs.Numbers.{number_in, range_at, stage_gives, stage_number, stage_writes, AreOnce}
 use Rattle.switch_machine.specs.Planned.{AreNumberedApart, BeginsWith, FitRanges}
 use Rattle.switch_machine.specs.Staged.{of_stage}
-use Rattle.switch_machine.proofs.KeptRows.{the_some, none_some}
 use Rattle.switch_machine.proofs.Numbered.{all_given, each_of_stage, known, number_is, once_of_stage, own_is, unknown_stays, writes_are, IsGiven}
 use Rattle.switch_machine.proofs.Writing.{written_one}
 
@@ -49,7 +49,7 @@ module _ (ranges : List ValueRange) (apart : AreNumberedApart ranges) (registers
   handed_one (c ∷ cs) all v n is there = elim (cases_Bool (is_value c.value v)) [
     | inl same ↦ (
         let number : c.number ≡ n =
-        the_some c.number n (sym all.0 ∙ ap (number_in ranges) (value_same c.value v same) ∙ is) in (
+        same_Some c.number n (sym all.0 ∙ ap (number_in ranges) (value_same c.value v same) ∙ is) in (
           or_left (is_value c.value v) (crosses cs v) same,
           cond-true (is_value c.value v) (content_of registers c.number) (handed cs (value_in registers) v) same ∙ ap (content_of registers) number,
         )
@@ -73,8 +73,8 @@ module _ (ranges : List ValueRange) (apart : AreNumberedApart ranges) (registers
   crossing_known (c ∷ cs) all v there o is = elim (or_cases (is_value c.value v) (crosses cs v) there) [
     | inl same ↦ (
         let number : o ≡ Some c.number = sym is ∙ ap (number_in ranges) (sym (value_same c.value v same)) ∙ all.0 in (
-          λ none. none_some c.number (sym none ∙ number),
-          λ n e. or_left (c.number == n) (is_among n (numbers_in cs)) (eq-eqb c.number n (the_some c.number n (sym number ∙ e))),
+          λ none. none-some c.number (sym none ∙ number),
+          λ n e. or_left (c.number == n) (is_among n (numbers_in cs)) (eq-eqb c.number n (same_Some c.number n (sym number ∙ e))),
         )
         )
     | inr later ↦ (

@@ -5,6 +5,7 @@ use Rattle.std.specs.List.{filter, AllByRecursion as Each}
 use Rattle.std.specs.Option.{option_map}
 use Rattle.std.proofs.lemmas.Bool.{cases_eq, cases_lt, and_parts, eqb-true, ltb-true, true≢false}
 use Rattle.std.proofs.lemmas.List.{length-append}
+use Rattle.std.proofs.lemmas.Option.{same_Some, none-some}
 use Rattle.state_store.specs.declared.object.ObjectDecl.{ObjectDecl}
 use Rattle.flat_ir.specs.declared.program.ValueId.{ValueId}
 use Rattle.flat_ir.specs.Program.{Program, Work, is_named, result_count, step_at, value_widths}
@@ -21,7 +22,6 @@ use Rattle.switch_ir.specs.Spans.{handed_in, results_in, written_by, written_in,
 use Rattle.switch_ir.specs.Tables.{declared_at}
 use Rattle.switch_machine.specs.Ranges.{AreInOrder, AreOrdered}
 use Rattle.switch_machine.proofs.Beginning.{same_value, value_same}
-use Rattle.switch_machine.proofs.KeptRows.{the_some, none_some}
 use Rattle.switch_machine.proofs.Members.{filter_has, has_each, has_made, has_parts, of_contains, Has}
 use Rattle.switch_machine.proofs.PassValues.{written_of}
 
@@ -87,13 +87,13 @@ module _ (f : Program) where
     one_table true k d rest o e is = go (k == o) refl is
       where
         go : (c : Bool) → (k == o) ≡ c → cond c (Some d) (declared_at rest o) ≡ Some e → ((k ≡ o) × (d ≡ e)) ⊎ (declared_at rest o ≡ Some e)
-        go true same at = inl (eqb-true k o same, the_some d e at)
+        go true same at = inl (eqb-true k o same, same_Some d e at)
         go false other at = inr at
     one_table false k d rest o e is = inr is
 
     declared_by : (k : ℕ) (ds : List ObjectDecl) (o : ℕ) (e : ObjectDecl) → declared_at (tables_from f split k ds) o ≡ Some e
         → (k ≤ o) × (slice_get ds (o - k) ≡ Some e)
-    declared_by k [] o e is = absurd (none_some e is)
+    declared_by k [] o e is = absurd (none-some e is)
     declared_by k (d ∷ ds) o e is =
         go (λ rest. declared_by (suc k) ds o e rest) (one_table (is_looked_up f split k) k d (tables_from f split (suc k) ds) o e is)
       where
@@ -238,7 +238,7 @@ module _ (f : Program) where
 
     given_is : (b : Bool) (t : ℕ) → cond b (Some 0) None ≡ Some t → b ≡ true
     given_is true t e = refl
-    given_is false t e = absurd (none_some t e)
+    given_is false t e = absurd (none-some t e)
 
     not_post : (o : Option ℕ) (t : ℕ) → o ≡ Some t → is_some o ≡ true
     not_post o t e = ap is_some e

@@ -3,6 +3,7 @@ use Rattle.std.proofs.Common.{◌≡◌, ◌≤◌, ℕ, zero, suc, Bool, true, 
 use Rattle.std.specs.FinMap as finmap
 use Rattle.std.specs.Option.{option_map}
 use Rattle.std.proofs.lemmas.Bool.{and_parts, true≢false}
+use Rattle.std.proofs.lemmas.Option.{none-some}
 use Rattle.packet_fields.specs.declared.packet.Packet.{Packet}
 use Rattle.state_store.specs.declared.object.ObjectDecl.{ObjectDecl}
 use Rattle.state_store.specs.Kept.{have_widths}
@@ -17,7 +18,6 @@ use Rattle.switch_ir.specs.Passes.{Code}
 use Rattle.switch_ir.specs.Spans.{results_in}
 use Rattle.switch_ir.specs.Tables.{Told, declared_at, no_pair, pair_at, seen_object, seen_tables}
 use Rattle.switch_machine.specs.Kept.{KeepsTables}
-use Rattle.switch_machine.proofs.KeptRows.{none_some}
 use Rattle.switch_machine.proofs.TableRows.{nothing_found}
 use Rattle.switch_machine.proofs.VisibleRows.{fits}
 
@@ -43,7 +43,7 @@ seen_at P bit (p ∷ ps) zero none some = some
 seen_at P bit (p ∷ ps) (suc o) none some = seen_at P bit ps o none some
 
 none_there : (values : List ℕ) (key : List ℕ) → look no_object key ≡ Some values → ⊥
-none_there values key e = none_some values (sym (nothing_found key) ∙ e)
+none_there values key e = none-some values (sym (nothing_found key) ∙ e)
 
 module _ (main : (pair : Pair) (key : List ℕ) → seen false pair key ≡ look pair.main key)
     (staged : (pair : Pair) (key : List ℕ) (row : Option (List ℕ)) → finmap.get pair.staged key ≡ Some row → seen true pair key ≡ row)
@@ -60,7 +60,7 @@ module _ (main : (pair : Pair) (key : List ℕ) → seen false pair key ≡ look
       seen_at (λ (x : Object). length (looked_up x key) ≡ 0) told.bit told.pairs o
       (λ e. looked_long (look no_object key) no_object.count 0 refl (λ values there. absurd (none_there values key there)))
       (subst (λ (p : Pair). length (looked_up (seen_object told.bit p) key) ≡ 0) (sym nothing)
-      (looked_long (seen told.bit no_pair key) no_object.count 0 refl (λ values there. absurd (none_some values (sym (nothing_seen told.bit key) ∙ there)))))
+      (looked_long (seen told.bit no_pair key) no_object.count 0 refl (λ values there. absurd (none-some values (sym (nothing_seen told.bit key) ∙ there)))))
   row_long o key (Some d) is =
       let pair = pair_at told.pairs o in
       let kept = safe.rows o d is in

@@ -8,6 +8,7 @@ use Rattle.std.proofs.lemmas.Bool.{and_parts}
 use Rattle.std.proofs.lemmas.Bool.Decides.{nat_tests}
 use Rattle.std.proofs.lemmas.Cmp.{nat_list_cmp_total}
 use Rattle.std.proofs.lemmas.Map.Lookups.{exact_bytes}
+use Rattle.std.proofs.lemmas.Option.{same_Some, none-some}
 use Rattle.state_store.specs.declared.object.ObjectDecl.{ObjectDecl}
 use Rattle.state_store.specs.Keeping.{put_keeps, del_keeps}
 use Rattle.state_store.specs.Kept.{have_widths, IsKeptObject}
@@ -20,12 +21,6 @@ use Rattle.writeback_table.specs.declared.command.Command.TheVariants.{Stage, Ma
 use Rattle.writeback_table.specs.Pair.{Pair, applied, can_stage, change_to, values_of}
 use Rattle.writeback_table.specs.Widths.{fits_update, has_value_widths}
 use Rattle.switch_machine.specs.Kept.{staged_fits, KeepsRows}
-
-pub the_some : {X : Type 0} (a b : X) → Some a ≡ Some b → a ≡ b
-the_some a b e = cc
-
-pub none_some : {X : Type 0} (a : X) → None ≡ Some a → ⊥
-none_some a e = cc
 
 is_equal : (o : Ordering) → is_eq o ≡ true → o ≡ Equal
 is_equal Less e = absurd (true≢false (sym e))
@@ -41,7 +36,7 @@ module _ {X : Type 0} (P : List ℕ → X → Type 0) where
   one_row : (key found : List ℕ) (row there : X) (before : Option X) (same : Bool) → eq_by_cmp key_cmp found key ≡ same → P key row
       → (before ≡ Some there → P found there) → cond same (Some row) before ≡ Some there → P found there
   one_row key found row there before true e fits old is =
-      subst (λ k. P k there) (sym (exact_bytes found key (is_equal (key_cmp found key) e))) (subst (P key) (the_some row there is) fits)
+      subst (λ k. P k there) (sym (exact_bytes found key (is_equal (key_cmp found key) e))) (subst (P key) (same_Some row there is) fits)
   one_row key found row there before false e fits old is = old is
 
   pub row_more : (rows : FinMap key_cmp X) (key : List ℕ) (row : X) → P key row → AllRows rows → AllRows (insert rows key row)
@@ -51,7 +46,7 @@ module _ {X : Type 0} (P : List ℕ → X → Type 0) where
 
   row_stays : (found : List ℕ) (there : X) (before : Option X) (same : Bool) → (before ≡ Some there → P found there)
       → cond same None before ≡ Some there → P found there
-  row_stays found there before true old is = absurd (none_some there is)
+  row_stays found there before true old is = absurd (none-some there is)
   row_stays found there before false old is = old is
 
   pub row_less : (rows : FinMap key_cmp X) (key : List ℕ) → AllRows rows → AllRows (remove rows key)
@@ -142,7 +137,7 @@ pub starting : (d : ObjectDecl) (room : ℕ) → IsKeptObject d (start_object d)
     → KeepsRows d (record { main = start_object d; staged = empty; room = room })
 starting d room kept le = record {
   main = kept;
-  staged = λ key row is. absurd (none_some row (sym (get-empty key_cmp key) ∙ is));
+  staged = λ key row is. absurd (none-some row (sym (get-empty key_cmp key) ∙ is));
   few = omega (arith, len-empty key_cmp (Option (List ℕ)));
   room = le;
 }

@@ -1,5 +1,6 @@
 -- The tables of code keep what it declares, from their start on and under each of its commands.
 use Rattle.std.proofs.Common.{◌≡◌, ◌≤◌, ℕ, zero, suc, Bool, true, false, List, [], ◌∷◌, Option, Some, None, refl, sym, ap, ◌∙◌, subst, arith, slice_set, if◌then◌else◌}
+use Rattle.std.proofs.lemmas.Option.{same_Some, none-some}
 use Rattle.state_store.specs.declared.object.ObjectDecl.{ObjectDecl}
 use Rattle.state_store.specs.Kinds.{is_table}
 use Rattle.writeback_table.specs.declared.command.Command.{Command}
@@ -10,7 +11,7 @@ use Rattle.switch_ir.specs.Port.{IsCommandOf}
 use Rattle.switch_ir.specs.Sound.{CanBeRun}
 use Rattle.switch_ir.specs.Tables.{Told, IsStart, declared_at, no_pair, pair_at, staging_room, start_pair, told_after, with_command}
 use Rattle.switch_machine.specs.Kept.{KeepsRows, KeepsTables, AreSafe}
-use Rattle.switch_machine.proofs.KeptRows.{the_some, none_some, staging, changing, clearing, starting}
+use Rattle.switch_machine.proofs.KeptRows.{staging, changing, clearing, starting}
 
 -- a pair of a list in which one was set
 at_pair : (P : Pair → Type 0) (pairs : List Pair) (k o : ℕ) (p : Pair) → P (pair_at pairs o) → (k ≡ o → P p) → P (pair_at (slice_set pairs k p) o)
@@ -28,14 +29,14 @@ module _ (code : Code) (told : Told) (safe : KeepsTables code told) where
   named k e c here keeps o d there =
       at_pair (KeepsRows d) told.pairs k o (applied (pair_at told.pairs k) c) (safe.rows o d there)
       (λ same.
-      let one : e ≡ d = the_some e d (sym here ∙ ap (declared_at code.tables) same ∙ there) in
+      let one : e ≡ d = same_Some e d (sym here ∙ ap (declared_at code.tables) same ∙ there) in
       subst (λ (x : ObjectDecl). KeepsRows x (applied (pair_at told.pairs k) c)) one (keeps (safe.rows k e here)))
 
   others : (k : ℕ) (e : ObjectDecl) (c : Command) → declared_at code.tables k ≡ Some e → (o : ℕ) → declared_at code.tables o ≡ None
       → pair_at (with_command told.pairs k c) o ≡ no_pair
   others k e c here o none =
       at_pair (λ p. p ≡ no_pair) told.pairs k o (applied (pair_at told.pairs k) c) (safe.none o none)
-      (λ same. absurd (none_some e (sym none ∙ ap (declared_at code.tables) (sym same) ∙ here)))
+      (λ same. absurd (none-some e (sym none ∙ ap (declared_at code.tables) (sym same) ∙ here)))
 
   pub command_keeps : (c : Command) → IsCommandOf code c → KeepsTables code (told_after c told)
   command_keeps (Stage u) h = record {
@@ -55,7 +56,7 @@ module _ (code : Code) (told : Told) (safe : KeepsTables code told) where
 
 -- the code that is loaded is one, so what holds of it holds of each
 pub safe_of : (code : Code) (told : Told) → KeepsTables code told → AreSafe (Some code) told
-safe_of code told safe other is = subst (λ (c : Code). KeepsTables c told) (the_some code other is) safe
+safe_of code told safe other is = subst (λ (c : Code). KeepsTables c told) (same_Some code other is) safe
 
 room_low : (b : Bool) (room : ℕ) → room ≤ 65536 → (if b then 0 else room) ≤ 65536
 room_low true room le = omega arith
@@ -72,7 +73,7 @@ start_safe code told can start =
     })
 
 pub nothing_safe : (told : Told) → AreSafe None told
-nothing_safe told code is = absurd (none_some code is)
+nothing_safe told code is = absurd (none-some code is)
 
 -- after a command of the code that is loaded
 pub safe_after : (loaded : Option Code) (told : Told) (c : Command) → ((code : Code) → loaded ≡ Some code → IsCommandOf code c)

@@ -1,5 +1,6 @@
 -- What holds of the code that is loaded.
 use Rattle.std.proofs.Common.{◌≡◌, ◌∙◌, [], Option, Some, None, IfSome, subst}
+use Rattle.std.proofs.lemmas.Option.{same_Some, none-some}
 use Rattle.transfer_header.specs.Registers.{Registers}
 use Rattle.writeback_table.specs.declared.command.Command.{Command}
 use Rattle.switch_ir.specs.Code.{Code}
@@ -8,18 +9,17 @@ use Rattle.switch_ir.specs.Sound.{CanBeRun}
 use Rattle.switch_machine.specs.declared.loaded.Loaded.{Loaded}
 use Rattle.switch_machine.specs.Loading.{code_in, loaded_code}
 use Rattle.switch_machine.specs.Workplaces.{IsReadyFor}
-use Rattle.switch_machine.proofs.KeptRows.{the_some, none_some}
 
 -- it can be run
 pub can_of : (loaded : Option Loaded) (code : Code) → code_in loaded ≡ Some code → CanBeRun code
-can_of (Some l) code is = subst CanBeRun (the_some (loaded_code l) code is) l.can
-can_of None code is = absurd (none_some code is)
+can_of (Some l) code is = subst CanBeRun (same_Some (loaded_code l) code is) l.can
+can_of None code is = absurd (none-some code is)
 
 -- a command is one of its
 pub command_of : (loaded : Option Code) (c : Command) → IfSome loaded (λ code. IsCommandOf code c) → (code : Code) → loaded ≡ Some code
     → IsCommandOf code c
-command_of (Some one) c h code is = subst (λ (x : Code). IsCommandOf x c) (the_some one code is) h
-command_of None c h code is = absurd (none_some code is)
+command_of (Some one) c h code is = subst (λ (x : Code). IsCommandOf x c) (same_Some one code is) h
+command_of None c h code is = absurd (none-some code is)
 
 -- registers by its plans
 pub ready_up : (l : Loaded) (registers : Registers) → registers.plan ≡ l.up.registers.plan

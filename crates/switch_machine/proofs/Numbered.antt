@@ -4,6 +4,7 @@ use Rattle.std.specs.Prelude.{nat_lt}
 use Rattle.std.specs.List.{AllByRecursion as Each}
 use Rattle.std.proofs.lemmas.Bool.{cases_Bool, cases_eq, cond-true, cond-false, eq-eqb, ne_eqb, eqb-true, ltb-true, ltb-false, lt-ltb, or_left, or_right, or_cases, true≢false}
 use Rattle.std.proofs.lemmas.List.Folds.{list_any-append}
+use Rattle.std.proofs.lemmas.Option.{same_Some, none-some}
 use Rattle.packet_fields.specs.declared.packet.Packet.{Packet}
 use Rattle.state_store.specs.Store.{Store}
 use Rattle.flat_ir.specs.declared.program.ValueId.{ValueId}
@@ -16,7 +17,6 @@ use Rattle.switch_machine.specs.declared.numbering.ValueRange.{ValueRange}
 use Rattle.switch_machine.specs.Numbers.{first_gives, first_values, gives, number_in, range_at, stage_gives, stage_number, stage_writes, values, AreOnce}
 use Rattle.switch_machine.specs.Planned.{AreNumberedApart}
 use Rattle.switch_machine.specs.Staged.{of_stage}
-use Rattle.switch_machine.proofs.KeptRows.{the_some, none_some}
 
 -- ## The values of an instruction
 
@@ -55,8 +55,8 @@ values_among range (suc k) place lt =
 -- a value that is known is among those of its instruction
 some_at : (b : Bool) (range : ValueRange) (place n : ℕ) → nat_lt place range.count ≡ b → cond b (Some (range.first + place)) None ≡ Some n
     → (place < range.count) × (n ≡ range.first + place)
-some_at true range place n is e = (ltb-true place range.count is, sym (the_some (range.first + place) n e))
-some_at false range place n is e = absurd (none_some n e)
+some_at true range place n is e = (ltb-true place range.count is, sym (same_Some (range.first + place) n e))
+some_at false range place n is e = absurd (none-some n e)
 
 pub known : (ranges : List ValueRange) (v : ValueId) (n : ℕ) → number_in ranges v ≡ Some n
     → (v.result < (range_at ranges v.instruction).count) × (n ≡ (range_at ranges v.instruction).first + v.result)
@@ -69,7 +69,7 @@ numbered ranges i place lt =
 
 none_at : (b : Bool) (range : ValueRange) (place : ℕ) → nat_lt place range.count ≡ b → cond b (Some (range.first + place)) None ≡ None
     → range.count ≤ place
-none_at true range place is e = absurd (none_some (range.first + place) (sym e))
+none_at true range place is e = absurd (none-some (range.first + place) (sym e))
 none_at false range place is e = ltb-false place range.count is
 
 pub not_known : (ranges : List ValueRange) (v : ValueId) → number_in ranges v ≡ None → (range_at ranges v.instruction).count ≤ v.result

@@ -1,5 +1,6 @@
 -- What a call of a switch in memory leaves, step by step.
 use Rattle.std.proofs.Common.{◌≡◌, ℕ, Bool, List, [], ◌∷◌, ◌++◌, Some, refl, sym, ap, ◌∙◌, subst, arith}
+use Rattle.std.proofs.lemmas.Option.{same_Some}
 use Rattle.gal_io.specs.Count.{IsCountedIf, count_after}
 use Rattle.switch_ir.specs.declared.journal.Entry.{Entry}
 use Rattle.switch_ir.specs.declared.journal.Entry.TheVariants as entry
@@ -15,7 +16,6 @@ use Rattle.switch_machine.specs.Calls.{ended}
 use Rattle.switch_machine.specs.Counts.{CallCounts as Calls}
 use Rattle.switch_machine.specs.Ends.{DownPasses, UpPasses}
 use Rattle.switch_machine.specs.Machine.{MachineState, seen_of}
-use Rattle.switch_machine.proofs.KeptRows.{the_some}
 
 -- an end that came about has its entry, and failed where it was to fail
 pub up_is : (fails : Bool) (end : UpEnd) (number port : ℕ) (packet : List ℕ) → UpPasses fails end
@@ -101,7 +101,7 @@ passes_up old counted new calls end number port packet is_called ends rises at_o
       frame = λ code is. frame code (ap (λ (m : MachineState). m.code) is_called ∙ is);
       told = λ code tables is are.
           subst (λ (t : Told). EndsUp code t number (record { port = port; bytes = packet }) end)
-          (ap (λ (m : MachineState). m.tables) is_called ∙ the_some old.tables tables are)
+          (ap (λ (m : MachineState). m.tables) is_called ∙ same_Some old.tables tables are)
           (told code (ap (λ (m : MachineState). m.code) is_called ∙ is));
     }
 
@@ -119,6 +119,6 @@ passes_down old counted new calls end frame is_called ends rises at_once told =
       ends = at_once;
       told = λ code tables is are.
           subst (λ (t : Told). EndsDown code t frame end)
-          (ap (λ (m : MachineState). m.tables) is_called ∙ the_some old.tables tables are)
+          (ap (λ (m : MachineState). m.tables) is_called ∙ same_Some old.tables tables are)
           (told code (ap (λ (m : MachineState). m.code) is_called ∙ is));
     }

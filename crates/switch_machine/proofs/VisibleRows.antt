@@ -10,6 +10,7 @@ use Rattle.std.specs.FinMap.Entries.{below_all}
 use Rattle.std.specs.List.{AllByRecursion as Each}
 use Rattle.std.proofs.lemmas.Cmp.{nat_list_cmp_total}
 use Rattle.std.proofs.lemmas.Map.Lookups.{exact_bytes}
+use Rattle.std.proofs.lemmas.Option.{none-some}
 use Rattle.state_store.specs.declared.object.ObjectDecl.{ObjectDecl}
 use Rattle.state_store.specs.declared.object.Row.{Row}
 use Rattle.state_store.specs.Kept.{have_widths}
@@ -18,7 +19,6 @@ use Rattle.state_store.specs.Store.{Contents, key_cmp, look, rows_from}
 use Rattle.writeback_table.specs.Pair.{Pair, seen, visible, visible_rows, with_row, with_staged}
 use Rattle.switch_ir.specs.Port.{entry_of, AreRowsOf}
 use Rattle.switch_machine.specs.Kept.{staged_fits, KeepsRows}
-use Rattle.switch_machine.proofs.KeptRows.{none_some}
 
 -- ## Entries of a map
 
@@ -55,7 +55,7 @@ found_too : (key values : List ℕ) (e : List ℕ × List ℕ) (es : Rows) (same
     → T (below_all key_cmp e.0 es) → find key_cmp key es ≡ Some values → cond same (Some e.1) (find key_cmp key es) ≡ Some values
 found_too key values e es true is below found =
     let one : key ≡ e.0 = exact_bytes key e.0 (is_equal (key_cmp key e.0) is) in
-    absurd (none_some values (sym (none_above e.0 es below) ∙ ap (λ k. find key_cmp k es) (sym one) ∙ found))
+    absurd (none-some values (sym (none_above e.0 es below) ∙ ap (λ k. find key_cmp k es) (sym one) ∙ found))
 found_too key values e es false is below found = found
 
 -- what holds of each key with its values holds of each entry

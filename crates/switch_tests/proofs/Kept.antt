@@ -1,6 +1,7 @@
 -- What a store keeps that has just begun.
 use Rattle.std.proofs.Common.{◌≡◌, ℕ, zero, suc, List, [], ◌∷◌, length, slice_get, Option, None, Some, ap, arith, refl, sym, ◌∙◌, subst}
 use Rattle.std.specs.FinMap.{get-empty, len-empty}
+use Rattle.std.proofs.lemmas.Option.{same_Some, none-some}
 use Rattle.state_store.specs.declared.object.Kind.TheVariants.{Map, Table}
 use Rattle.state_store.specs.declared.object.ObjectDecl.{ObjectDecl}
 use Rattle.state_store.specs.Keeping.{start_whole}
@@ -8,15 +9,12 @@ use Rattle.state_store.specs.Kept.{IsKept, IsKeptObject, IsWhole}
 use Rattle.state_store.specs.Store.{Store, key_cmp, start_object, start_store}
 use Rattle.state_store.specs.Store as store
 
-none_some : {X : Type 0} → (x : X) → None ≡ Some x → ⊥
-none_some x e = cc
-
 -- where nothing is declared there is nothing to keep
 pub nothing_to_keep : (os : List ObjectDecl) (store : Store) → os ≡ [] → store ≡ start_store os → IsKept os store
 nothing_to_keep [] store e is = record {
   count = ap length is;
-  each = λ number d got. absurd (none_some d got);
-  whole = λ number d got. absurd (none_some d got);
+  each = λ number d got. absurd (none-some d got);
+  whole = λ number d got. absurd (none-some d got);
 }
 nothing_to_keep (o ∷ os) store e is = absurd (omega (arith, ap length e))
 
@@ -30,19 +28,16 @@ mark name = record { name = name; kind = Map; keys = 8 ∷ []; values = 8 ∷ []
 map_table : Map ≡ Table → ⊥
 map_table e = cc
 
-the_some : (x y : ObjectDecl) → Some x ≡ Some y → x ≡ y
-the_some x y e = cc
-
 mark_whole : (name : List ℕ) (d : ObjectDecl) → Some (mark name) ≡ Some d → IsWhole d (start_object (mark name))
-mark_whole name d e = subst (λ o. IsWhole o (start_object (mark name))) (the_some (mark name) d e) (start_whole (mark name))
+mark_whole name d e = subst (λ o. IsWhole o (start_object (mark name))) (same_Some (mark name) d e) (start_whole (mark name))
 
 mark_kept : (name : List ℕ) (d : ObjectDecl) → Some (mark name) ≡ Some d → IsKeptObject d (start_object (mark name))
-mark_kept name d e = subst (λ o. IsKeptObject o (start_object (mark name))) (the_some (mark name) d e) (record {
+mark_kept name d e = subst (λ o. IsKeptObject o (start_object (mark name))) (same_Some (mark name) d e) (record {
   kind = refl;
   size = refl;
   count = refl;
   few = omega (arith, len-empty key_cmp (List ℕ));
-  rows = λ key values is. absurd (none_some values (sym (get-empty key_cmp key) ∙ is));
+  rows = λ key values is. absurd (none-some values (sym (get-empty key_cmp key) ∙ is));
   table = λ is. absurd (map_table is);
 })
 
@@ -53,9 +48,9 @@ marks_kept first second = record { count = refl; each = each; whole = whole }
     each : (number : ℕ) (d : ObjectDecl) → slice_get (mark first ∷ mark second ∷ []) number ≡ Some d → IsKeptObject d (store.object_at (start_store (mark first ∷ mark second ∷ [])) number)
     each zero d e = mark_kept first d e
     each (suc zero) d e = mark_kept second d e
-    each (suc (suc number)) d e = absurd (none_some d e)
+    each (suc (suc number)) d e = absurd (none-some d e)
 
     whole : (number : ℕ) (d : ObjectDecl) → slice_get (mark first ∷ mark second ∷ []) number ≡ Some d → IsWhole d (store.object_at (start_store (mark first ∷ mark second ∷ [])) number)
     whole zero d e = mark_whole first d e
     whole (suc zero) d e = mark_whole second d e
-    whole (suc (suc number)) d e = absurd (none_some d e)
+    whole (suc (suc number)) d e = absurd (none-some d e)

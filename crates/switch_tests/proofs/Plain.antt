@@ -4,6 +4,7 @@ use Rattle.std.specs.Prelude.{All, IsSome}
 use Rattle.std.specs.List.{AllPairs}
 use Rattle.std.proofs.lemmas.Bool.{lt-ltb}
 use Rattle.std.proofs.lemmas.List.Kept.{AllPairs-cons}
+use Rattle.std.proofs.lemmas.Option.{same_Some}
 use Rattle.split_model.specs.declared.layout.Crossing.{Crossing}
 use Rattle.transfer_header.specs.Registers.{Registers, place_by, place_of, HasRegister, IsRising, FitsLayout}
 
@@ -15,9 +16,6 @@ own registers none value lt =
 pub has_own : (registers : Registers) (value : ℕ) → registers.plan ≡ None → value < length registers.numbers → HasRegister registers value
 has_own registers value none lt = subst (λ place. IsSome place) (sym (own registers none value lt)) refl
 
-the_some : (x y : ℕ) → Some x ≡ Some y → x ≡ y
-the_some x y e = cc
-
 pub fits : (layout : List Crossing) (registers : Registers) → registers.plan ≡ None → IsRising layout
     → All (λ (c : Crossing). c.number < length registers.numbers) layout → FitsLayout layout registers
 fits layout registers none rising inside = record {
@@ -28,7 +26,7 @@ fits layout registers none rising inside = record {
       let b = get_or layout j d in
       let at = own registers none a.number (inside i d (omega (arith, low, lt))) in
       let bt = own registers none b.number (inside j d lt) in
-      absurd (omega (arith, rising i j d low lt, the_some a.number b.number (sym at ∙ same ∙ bt)));
+      absurd (omega (arith, rising i j d low lt, same_Some a.number b.number (sym at ∙ same ∙ bt)));
 }
 
 all_of_none : {X : Type 0} (P : X → Type 0) → All P []

@@ -4,7 +4,7 @@ use crate::samples::object;
 use gal_bits::{Values, Widths};
 use gal_io::{Bytes, NoMemory, Text};
 use packet_fields::{Packets, Verdict};
-use run_model::{Event, Events, Fate, Fates, Order, ObjectRows, StoreRows, Run, order};
+use run_model::{Event, Events, Fate, Fates, ObjectRows, Order, Run, StoreRows, order};
 use run_text::{
     LineKind, LinesError, Plan, print_run, print_schedule, print_trace, read_schedule, read_trace,
 };

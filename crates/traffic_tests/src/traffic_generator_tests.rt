@@ -2,7 +2,7 @@
 
 use gal_io::{Bytes, NoMemory};
 use packet_fields::Verdict;
-use run_model::{Event, Fate, Fates, Order, StoreRows, Run};
+use run_model::{Event, Fate, Fates, Order, Run, StoreRows};
 use std::alloc::Global;
 use traffic_generator::{Count, events_of, packets_of, print_summary};
 
