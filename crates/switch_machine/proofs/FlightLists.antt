@@ -10,7 +10,7 @@ use Rattle.switch_machine.specs.declared.flight.Flight.{Flight}
 use Rattle.switch_machine.specs.declared.numbering.ValueRange.{ValueRange}
 use Rattle.switch_machine.specs.Flights.{flight_at, passes_in, shown}
 use Rattle.switch_machine.specs.Staging.{with_pass, IsPlaceOf}
-use Rattle.switch_machine.proofs.KeptRows.{the_some, none_some}
+use Rattle.std.proofs.lemmas.Option.{same_Some, none-some}
 
 abbrev pub is_of : ℕ → Flight → Bool
 is_of n f = f.number == n
@@ -22,8 +22,8 @@ record IsChosenPlace (b : Bool) (x i : ℕ) : Type 0 where
   pub is : x ≡ i
 
 place_by : (b : Bool) (x i : ℕ) → cond b (Some x) None ≡ Some i → IsChosenPlace b x i
-place_by true x i e = record { made = refl; is = the_some x i e }
-place_by false x i e = absurd (none_some i e)
+place_by true x i e = record { made = refl; is = same_Some x i e }
+place_by false x i e = absurd (none-some i e)
 
 place_parts : (fs : List Flight) (n i : ℕ) → IsPlaceOf fs n i → (i < length fs) × (position_or_len (is_of n) fs ≡ i)
 place_parts fs n i e =
@@ -87,7 +87,7 @@ absent_at (f ∷ fs) n le = elim (cases_Bool (f.number == n)) [
 ]
 
 no_place : (b : Bool) (x : ℕ) → cond b (Some x) None ≡ None → b ≡ false
-no_place true x e = absurd (none_some x (sym e))
+no_place true x e = absurd (none-some x (sym e))
 no_place false x e = refl
 
 pub none_placed : (fs : List Flight) (n : ℕ) → position (is_of n) fs ≡ None → flight_at fs n ≡ None
@@ -134,7 +134,7 @@ set_is fs n i g m same e =
     sym (ap (λ k. flight_at (slice_set fs k g) m) h.1) ∙ set_at fs n g m same (subst (λ k. k < length fs) (sym h.1) h.0)
 
 none_parts : (b : Bool) (f : Flight) (o : Option Flight) → cond b (Some f) o ≡ None → (b ≡ false) × (o ≡ None)
-none_parts true f o e = absurd (none_some f (sym e))
+none_parts true f o e = absurd (none-some f (sym e))
 none_parts false f o e = (refl, e)
 
 pub push_is : (fs : List Flight) (g : Flight) (n m : ℕ) → g.number ≡ n → flight_at fs n ≡ None
@@ -205,10 +205,10 @@ module _ (p : Staging) (ranges : List ValueRange) where
     where
       go : (o : Option Flight) → option_map (shown p ranges) o ≡ None → o ≡ None
       go None e = refl
-      go (Some f) e = absurd (none_some (shown p ranges f) (sym e))
+      go (Some f) e = absurd (none-some (shown p ranges f) (sym e))
 
   -- the pass at a place is shown
   pub shown_at : (fs : List Flight) (n i : ℕ) (d : Flight) (pass : PassState) → IsPlaceOf fs n i → passes_in p ranges fs n ≡ Some pass
       → shown p ranges (get_or fs i d) ≡ pass
   shown_at fs n i d pass e is =
-      the_some (shown p ranges (get_or fs i d)) pass (sym (ap (option_map (shown p ranges)) (at_place_is fs n i d e).1) ∙ is)
+      same_Some (shown p ranges (get_or fs i d)) pass (sym (ap (option_map (shown p ranges)) (at_place_is fs n i d e).1) ∙ is)

@@ -33,7 +33,7 @@ use Rattle.switch_machine.specs.Staged.{of_stage}
 use Rattle.switch_machine.proofs.Beginning.{same_value, value_same}
 use Rattle.switch_machine.proofs.Each.{each_at}
 use Rattle.switch_machine.proofs.InRegisters.{has_span}
-use Rattle.switch_machine.proofs.KeptRows.{the_some, none_some}
+use Rattle.std.proofs.lemmas.Option.{same_Some, none-some}
 use Rattle.switch_machine.proofs.Members.{any_has, each_has, has_any, has_each, has_left, has_made, has_parts, has_right, made_has, of_contains, to_contains, Has}
 use Rattle.switch_machine.proofs.Numbered.{all_given, each_of_stage, number_is, once_of_stage, own_is, unknown_stays, writes_are, IsGiven}
 use Rattle.switch_machine.proofs.PassValues.{apart, begins, has_its_number, has_of_stage, once, same_by_number, spans_mine, written_of}
@@ -98,8 +98,8 @@ record IsChosen (b : Bool) (x n : ℕ) : Type 0 where
   pub is : x ≡ n
 
 chosen_by : (b : Bool) (x n : ℕ) → cond b (Some x) None ≡ Some n → IsChosen b x n
-chosen_by true x n e = record { made = refl; is = the_some x n e }
-chosen_by false x n e = absurd (none_some n e)
+chosen_by true x n e = record { made = refl; is = same_Some x n e }
+chosen_by false x n e = absurd (none-some n e)
 
 chosen_some : (b : Bool) (x : ℕ) → IsSome (cond b (Some x) None) → b ≡ true
 chosen_some true x h = refl

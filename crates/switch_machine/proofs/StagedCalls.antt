@@ -21,7 +21,7 @@ use Rattle.switch_machine.specs.Counts.{counted, CallCounts}
 use Rattle.switch_machine.specs.Ends.{DownPasses, UpPasses}
 use Rattle.switch_machine.specs.Machine.{MachineState, seen_of}
 use Rattle.switch_machine.specs.Staging.{went, with_pass, DownIsPlanned, EntersByFrame, EntersUp, GoesOnDown, GoesOnUp, IsLastDown, IsLastUp, IsLeft, UpIsPlanned}
-use Rattle.switch_machine.proofs.KeptRows.{none_some, the_some}
+use Rattle.std.proofs.lemmas.Option.{same_Some, none-some}
 
 module _ (old new : MachineState) (entries : List Entry) (passes : UnderWay) (is : new ≡ went old entries passes) where
   pub kept_there : KeepsTables (seen_of old) (seen_of new)
@@ -65,8 +65,8 @@ counted_as old counted_state new kind failed is left faults = record {
 
 -- what holds of a value that is there
 if_some : {X : Type 0} (o : Option X) (x : X) (P : X → Type 0) → IfSome o P → o ≡ Some x → P x
-if_some (Some y) x P h e = subst P (the_some y x e) h
-if_some None x P h e = absurd (none_some x e)
+if_some (Some y) x P h e = subst P (same_Some y x e) h
+if_some None x P h e = absurd (none-some x e)
 
 -- ## Packets that arrive
 
@@ -231,7 +231,7 @@ begins_whole_up fails number port packet old new end passes is none low frame to
   pass = λ code loaded. begun_whole_up (HasEntered (pre_staging code) IsNothing (record { port = port; bytes = packet }) (Some old.tables)) fails end (new.passes.pre number) passes (ap (λ (m : MachineState). m.passes.pre number) is ∙ none);
   frame = frame;
   told = λ code tables loaded are.
-      subst (λ (t : Told). EndsUp code t number (record { port = port; bytes = packet }) end) (the_some old.tables tables are) (told code loaded);
+      subst (λ (t : Told). EndsUp code t number (record { port = port; bytes = packet }) end) (same_Some old.tables tables are) (told code loaded);
 }
 
 -- one without memory
@@ -412,7 +412,7 @@ begins_whole_down fails frame old new end passes is none low told = record {
       begun_whole_down (HasEntered (post_staging code) (IsHandedDown code values (record { port = port; bytes = packet })) (record { port = port; bytes = packet }) (Some old.tables)) fails end (new.passes.post number) passes
       (ap (λ (m : MachineState). m.passes.post number) is ∙ at_code old.code code none loaded number port values packet framed);
   told = λ code tables loaded are.
-      subst (λ (t : Told). EndsDown code t frame end) (the_some old.tables tables are) (told code loaded);
+      subst (λ (t : Told). EndsDown code t frame end) (same_Some old.tables tables are) (told code loaded);
 }
   where
     at_code : (o : Option Code) (code : Code) → IfSome o (λ x. OfItsParts x frame (λ number packet values. old.passes.post number ≡ None)) → o ≡ Some code

@@ -35,7 +35,7 @@ use Rattle.switch_machine.specs.Machine.{seen_of, MachineState}
 use Rattle.switch_machine.specs.Staging.{EntersByFrame, EntersUp, GoesOnDown, GoesOnUp, IsLastDown, IsLastUp, IsPlaceOf}
 use Rattle.switch_machine.proofs.Each.{each_append, each_at}
 use Rattle.switch_machine.proofs.FlightLists.{at_place_is, is_of, is_other, none_placed, number_is, place_within, shown_at}
-use Rattle.switch_machine.proofs.KeptRows.{none_some, the_some}
+use Rattle.std.proofs.lemmas.Option.{same_Some, none-some}
 use Rattle.switch_machine.proofs.StagedCalls.{begins_whole_down, begins_whole_up}
 use Rattle.switch_machine.proofs.StagedMachine.{has_entered, has_gone_on, pushed_down, pushed_up, removed_down, removed_up, set_down, set_up, stays_under}
 
@@ -43,7 +43,7 @@ use Rattle.switch_machine.proofs.StagedMachine.{has_entered, has_gone_on, pushed
 
 none_shown : (p : Staging) (ranges : List ValueRange) (o : Option Flight) → o ≡ None → IsSome (option_map (shown p ranges) o) → ⊥
 none_shown p ranges None e h = false≢true h
-none_shown p ranges (Some f) e h = none_some f (sym e)
+none_shown p ranges (Some f) e h = none-some f (sym e)
 
 pub loaded_up : (loaded : Option Loaded) (xs ys : List Flight) (n : ℕ) → IsSome ((under_way loaded xs ys).pre n) → IsSome (code_in loaded)
 loaded_up None xs ys n h = h
@@ -106,7 +106,7 @@ module _ (tables : Told) (faults : ℕ) (planned : List (CallKind × ℕ)) (call
         has = λ code before code_is there.
             let show = shown (pre_staging (code_of l.code)) l.pre_numbering in
             let before_is = ap show here ∙ shown_at (pre_staging (code_of l.code)) l.pre_numbering xs n i f before place there in
-            subst (λ (x : Code). HasGoneOn (pre_staging x) (Some tables) before (show g)) (the_some (code_of l.code) code code_is)
+            subst (λ (x : Code). HasGoneOn (pre_staging x) (Some tables) before (show g)) (same_Some (code_of l.code) code code_is)
             (subst (λ (b : PassState). HasGoneOn (pre_staging (code_of l.code)) (Some tables) b (show g)) before_is
             (has_gone_on l.code.pre (pre_staging (code_of l.code)) l.pre_numbering tables f g moved));
         is =
@@ -137,13 +137,13 @@ module _ (tables : Told) (faults : ℕ) (planned : List (CallKind × ℕ)) (call
         frame = λ code before code_is there.
             let before_is = before_at code before there in
             let Framed : Code × ℕ × PassState → Type 0 = λ (x, m, b). IsUpFrame x m b.packet.port b.packet.bytes end in
-            subst Framed (λ k. (the_some (code_of l.code) code code_is k, numbered k, before_is k)) frame;
+            subst Framed (λ k. (same_Some (code_of l.code) code code_is k, numbered k, before_is k)) frame;
         told = λ code before code_is there told own told_is own_is.
             let before_is = before_at code before there in
-            let own_eq = the_some (told_of (pre_staging (code_of l.code)) l.pre_numbering f) own (ap (λ (b : PassState). b.told) before_is ∙ own_is) in
+            let own_eq = same_Some (told_of (pre_staging (code_of l.code)) l.pre_numbering f) own (ap (λ (b : PassState). b.told) before_is ∙ own_is) in
             let Ended : Code × ℕ × PassState × ToldPass × Told → Type 0 =
             λ (x, m, b, o, t). EndsBy x (last_numbers (pre_staging x) (suc b.stage) o.numbers (view_of o.bit t.pairs) b.packet) m b.packet end in
-            subst Ended (λ k. (the_some (code_of l.code) code code_is k, numbered k, before_is k, own_eq k, the_some tables told told_is k)) ends;
+            subst Ended (λ k. (same_Some (code_of l.code) code code_is k, numbered k, before_is k, own_eq k, same_Some tables told told_is k)) ends;
         is =
             let all = stays_under l after zs ys same ∙ ap (λ (fs : List Flight). under_way (Some l) fs ys) zs_is ∙ removed_up l xs ys n in
             λ k. record {
@@ -175,7 +175,7 @@ module _ (tables : Told) (faults : ℕ) (planned : List (CallKind × ℕ)) (call
       (record {
         pass = shown (pre_staging (code_of l.code)) l.pre_numbering f;
         has = λ code code_is.
-            subst (λ (x : Code). HasEntered (pre_staging x) IsNothing (record { port = port; bytes = packet }) (Some tables) (shown (pre_staging (code_of l.code)) l.pre_numbering f)) (the_some (code_of l.code) code code_is)
+            subst (λ (x : Code). HasEntered (pre_staging x) IsNothing (record { port = port; bytes = packet }) (Some tables) (shown (pre_staging (code_of l.code)) l.pre_numbering f)) (same_Some (code_of l.code) code code_is)
             (has_entered l.code.pre (pre_staging (code_of l.code)) l.pre_numbering nothing n (record { port = port; bytes = packet }) tables f IsNothing (λ other e. e) begun);
         is =
             let none_there = subst (λ (o : Option Loaded). (under_way o xs ys).pre n ≡ None) is none in
@@ -203,7 +203,7 @@ module _ (tables : Told) (faults : ℕ) (planned : List (CallKind × ℕ)) (call
         has = λ code before code_is there.
             let show = shown (post_staging (code_of l.code)) l.post_numbering in
             let before_is = ap show here ∙ shown_at (post_staging (code_of l.code)) l.post_numbering ys n i f before place there in
-            subst (λ (x : Code). HasGoneOn (post_staging x) (Some tables) before (show g)) (the_some (code_of l.code) code code_is)
+            subst (λ (x : Code). HasGoneOn (post_staging x) (Some tables) before (show g)) (same_Some (code_of l.code) code code_is)
             (subst (λ (b : PassState). HasGoneOn (post_staging (code_of l.code)) (Some tables) b (show g)) before_is
             (has_gone_on l.code.post (post_staging (code_of l.code)) l.post_numbering tables f g moved));
         is =
@@ -232,10 +232,10 @@ module _ (tables : Told) (faults : ℕ) (planned : List (CallKind × ℕ)) (call
         passes = passes;
         told = λ code before code_is there told own told_is own_is.
             let before_is = before_at code before there in
-            let own_eq = the_some (told_of (post_staging (code_of l.code)) l.post_numbering f) own (ap (λ (b : PassState). b.told) before_is ∙ own_is) in
+            let own_eq = same_Some (told_of (post_staging (code_of l.code)) l.post_numbering f) own (ap (λ (b : PassState). b.told) before_is ∙ own_is) in
             let Ended : Code × PassState × ToldPass × Told → Type 0 =
             λ (x, b, o, t). EndsDownBy x (last_numbers (post_staging x) (suc b.stage) o.numbers (view_of o.bit t.pairs) b.packet) b.packet end in
-            subst Ended (λ k. (the_some (code_of l.code) code code_is k, before_is k, own_eq k, the_some tables told told_is k)) ends;
+            subst Ended (λ k. (same_Some (code_of l.code) code code_is k, before_is k, own_eq k, same_Some tables told told_is k)) ends;
         is =
             let all = stays_under l after xs zs same ∙ ap (λ (fs : List Flight). under_way (Some l) xs fs) zs_is ∙ removed_down l xs ys n in
             λ k. record {
@@ -272,7 +272,7 @@ module _ (tables : Told) (faults : ℕ) (planned : List (CallKind × ℕ)) (call
             λ x. (m port : ℕ) (values : Crossing → ℕ) (packet : List ℕ) → IsFrameOf 2 x.down m port values packet frame
             → (m ≡ n) × HasEntered (post_staging x) (IsHandedDown x values (record { port = port; bytes = packet })) (record { port = port; bytes = packet }) (Some tables)
             (shown (post_staging (code_of l.code)) l.post_numbering f) in
-            subst Entered (the_some (code_of l.code) code code_is) (λ m port values packet framed.
+            subst Entered (same_Some (code_of l.code) code code_is) (λ m port values packet framed.
             let b = begun m port values packet framed in (
               sym b.number_is ∙ number,
               has_entered l.code.post (post_staging (code_of l.code)) l.post_numbering (down_given (code_of l.code) values (record { port = port; bytes = packet })) m
@@ -297,7 +297,7 @@ module _ (tables : Told) (faults : ℕ) (planned : List (CallKind × ℕ)) (call
 stays_flight : (a b : Loaded) → StaysLoaded a b → (xs ys : List Flight) → AreReadyIn (Some a) xs ys → AreReadyIn (Some b) xs ys
 stays_flight a b same xs ys ready l is =
     let h = ready a refl in
-    let to = the_some b l is in
+    let to = same_Some b l is in
     record {
       arriving = subst (λ (x : Pass). Each (IsFlightOf x) xs) (sym same.0 ∙ ap (λ (x : Loaded). x.code.pre) to) h.arriving;
       leaving = subst (λ (x : Pass). Each (IsFlightOf x) ys) (sym same.1 ∙ ap (λ (x : Loaded). x.code.post) to) h.leaving;
@@ -325,7 +325,7 @@ each_kept P test [] h = tt
 each_kept P test (x ∷ xs) h = chosen P (test x) x (filter test xs) h.0 (each_kept P test xs h.1)
 
 of_parts : (a : Loaded) (xs ys : List Flight) → AreFlightsOf a xs ys → AreReadyIn (Some a) xs ys
-of_parts a xs ys h l is = subst (λ (x : Loaded). AreFlightsOf x xs ys) (the_some a l is) h
+of_parts a xs ys h l is = subst (λ (x : Loaded). AreFlightsOf x xs ys) (same_Some a l is) h
 
 -- ## Packets that arrive
 
@@ -370,16 +370,16 @@ asked_up Holds loaded l xs ys n i f is place here asked =
 -- its stage, which is below the highest one
 pub stage_up : (loaded : Option Loaded) (xs ys : List Flight) (n i : ℕ) (f : Flight) (pass : PassState) → IsPlaceOf xs n i → f ≡ get_or xs i f
     → (under_way loaded xs ys).pre n ≡ Some pass → pass.stage ≡ f.stage
-stage_up None xs ys n i f pass place here there = absurd (none_some pass there)
+stage_up None xs ys n i f pass place here there = absurd (none-some pass there)
 stage_up (Some l) xs ys n i f pass place here there =
     let show = shown (pre_staging (code_of l.code)) l.pre_numbering in
     sym (ap (λ (s : PassState). s.stage) (ap show here ∙ shown_at (pre_staging (code_of l.code)) l.pre_numbering xs n i f pass place there))
 
 pub below_up : (loaded : Option Loaded) (xs ys : List Flight) (n i : ℕ) (f : Flight) (code : Code) → AreReadyIn loaded xs ys → code_in loaded ≡ Some code → IsPlaceOf xs n i
     → f ≡ get_or xs i f → f.stage < code.pre.highest
-below_up None xs ys n i f code ready is place here = absurd (none_some code is)
+below_up None xs ys n i f code ready is place here = absurd (none-some code is)
 below_up (Some l) xs ys n i f code ready is place here =
-    subst (λ (x : Code). f.stage < x.pre.highest) (the_some (code_of l.code) code is) (flight_up (Some l) l xs ys n i f refl ready place here).below
+    subst (λ (x : Code). f.stage < x.pre.highest) (same_Some (code_of l.code) code is) (flight_up (Some l) l xs ys n i f refl ready place here).below
 
 -- ## Packets that come down
 
@@ -424,16 +424,16 @@ asked_down Holds loaded l xs ys n i f is place here asked =
 -- its stage, which is below the highest one
 pub stage_down : (loaded : Option Loaded) (xs ys : List Flight) (n i : ℕ) (f : Flight) (pass : PassState) → IsPlaceOf ys n i → f ≡ get_or ys i f
     → (under_way loaded xs ys).post n ≡ Some pass → pass.stage ≡ f.stage
-stage_down None xs ys n i f pass place here there = absurd (none_some pass there)
+stage_down None xs ys n i f pass place here there = absurd (none-some pass there)
 stage_down (Some l) xs ys n i f pass place here there =
     let show = shown (post_staging (code_of l.code)) l.post_numbering in
     sym (ap (λ (s : PassState). s.stage) (ap show here ∙ shown_at (post_staging (code_of l.code)) l.post_numbering ys n i f pass place there))
 
 pub below_down : (loaded : Option Loaded) (xs ys : List Flight) (n i : ℕ) (f : Flight) (code : Code) → AreReadyIn loaded xs ys → code_in loaded ≡ Some code → IsPlaceOf ys n i
     → f ≡ get_or ys i f → f.stage < code.post.highest
-below_down None xs ys n i f code ready is place here = absurd (none_some code is)
+below_down None xs ys n i f code ready is place here = absurd (none-some code is)
 below_down (Some l) xs ys n i f code ready is place here =
-    subst (λ (x : Code). f.stage < x.post.highest) (the_some (code_of l.code) code is) (flight_down (Some l) l xs ys n i f refl ready place here).below
+    subst (λ (x : Code). f.stage < x.post.highest) (same_Some (code_of l.code) code is) (flight_down (Some l) l xs ys n i f refl ready place here).below
 
 -- ## Where a pass ends at once
 
@@ -443,16 +443,16 @@ pub none_entered : (loaded : Option Loaded) (l : Loaded) (xs ys : List Flight) (
     → IfSome (code_in loaded) (λ code. OfItsParts code frame (λ number packet values. (under_way loaded xs ys).post number ≡ None))
     → ((number port : ℕ) (values : Crossing → ℕ) (packet : List ℕ) → IsFrameOf 2 l.code.down number port values packet frame → f.number ≡ number)
     → (under_way loaded xs ys).post f.number ≡ None
-none_entered None l xs ys frame f is framed none number = absurd (none_some l is)
+none_entered None l xs ys frame f is framed none number = absurd (none-some l is)
 none_entered (Some k) l xs ys frame f is framed none number =
-    let told = subst (λ (x : Loaded). (n port : ℕ) (values : Crossing → ℕ) (packet : List ℕ) → IsFrameOf 2 x.code.down n port values packet frame → f.number ≡ n) (sym (the_some k l is)) number in
+    let told = subst (λ (x : Loaded). (n port : ℕ) (values : Crossing → ℕ) (packet : List ℕ) → IsFrameOf 2 x.code.down n port values packet frame → f.number ≡ n) (sym (same_Some k l is)) number in
     subst (λ n. (under_way (Some k) xs ys).post n ≡ None) (sym (told framed.number framed.port framed.values framed.packet framed.is))
     (none framed.number framed.port framed.values framed.packet framed.is)
 
 -- the frame is one of the code that is loaded
 pub framed_of : (loaded : Option Loaded) (l : Loaded) (frame : List ℕ) → loaded ≡ Some l → IfSome (code_in loaded) (λ code. IsFrame 2 code.down frame) → IsFrame 2 l.code.down frame
-framed_of None l frame is framed = absurd (none_some l is)
-framed_of (Some k) l frame is framed = subst (λ (x : Loaded). IsFrame 2 x.code.down frame) (the_some k l is) framed
+framed_of None l frame is framed = absurd (none-some l is)
+framed_of (Some k) l frame is framed = subst (λ (x : Loaded). IsFrame 2 x.code.down frame) (same_Some k l is) framed
 
 -- what is there
 pub some_of : {X : Type 0} (o : Option X) → IsSome o → (x : X) × (o ≡ Some x)
