@@ -68,20 +68,18 @@ fn put_update(bytes: &mut Bytes, update: &Update) -> Result<(), NoMemory>
 }
 
 // Numbers of 64 bits are below 2^64.
-fn are_words(numbers: &Values)
+fn are_words(numbers: &[u64])
     ensures { AreWords numbers.now }
-{
-    let _ = numbers.as_slice();
-}
+{}
 
 // So are those of a change.
 #[tactic(auto, using(crate::proofs::Spelled::both_words))]
 fn have_words(update: &Update)
     ensures { AreWords (update.now.key ++ numbers_to update.now.to) }
 {
-    are_words(&update.key);
+    are_words(update.key.as_slice());
     if let To::Value(values) = &update.to {
-        are_words(values);
+        are_words(values.as_slice());
     }
 }
 
@@ -91,7 +89,7 @@ fn has_words(command: &Command)
 {
     match command {
         Command::Stage(update) | Command::Main(update) => have_words(update),
-        Command::Clear(_, key) => are_words(key),
+        Command::Clear(_, key) => are_words(key.as_slice()),
         Command::On | Command::Off => {}
     }
 }
