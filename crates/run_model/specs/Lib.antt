@@ -3,5 +3,6 @@ pub mod Order
 pub mod Parts
 pub mod Sizes
 pub mod Stages
+pub mod LinkEvents
 pub mod Meaning
 pub mod Serialises

@@ -5,3 +5,4 @@ pub mod WholePasses
 pub mod Numbers
 pub mod PrintedLines
 pub mod PrintedBack
+pub mod LinkSchedules

@@ -2,6 +2,8 @@
 #![tactic(auto)]
 
 #[cfg(test)]
+mod link_schedule_tests;
+#[cfg(test)]
 mod report_text_tests;
 #[cfg(test)]
 mod run_text_tests;
