@@ -1,10 +1,11 @@
 -- Schedules over links: what is read takes no stages, and what is printed reads back.
-use Rattle.std.proofs.Common.{◌≡◌, ℕ, ◌≤◌, Bool, true, false, List, [], ◌++◌, length, map, refl, sym, ap, ◌∙◌, arith}
-use Rattle.std.specs.Prelude.{All, IfOk, Option, Some, None, Result, Ok, Err, codes, if◌then◌else◌}
+use Rattle.std.proofs.Common.{◌≡◌, ℕ, ◌≤◌, Bool, true, false, inl, inr, List, [], ◌++◌, length, map, refl, sym, ap, ◌∙◌, arith}
+use Rattle.std.specs.Prelude.{All, IfOk, OnOk, Option, Some, None, Result, Ok, Err, codes, nat_le, if◌then◌else◌}
 use Rattle.std.specs.Fmt.{decimal}
 use Rattle.std.specs.List.{after_first, before_first, list_all, list_any}
 use Rattle.std.specs.Str.{bytes_eq}
-use Rattle.std.proofs.lemmas.Bool.{true≢false}
+use Rattle.std.proofs.lemmas.Bool.{cases_Bool, true≢false}
+use Rattle.std.proofs.lemmas.Bool.Decides.{nat_tests}
 use Rattle.std.proofs.lemmas.List.{append-nil}
 use Rattle.gal_io.specs.Lines.{lines}
 use Rattle.gal_io.specs.Number.{number_up_to}
@@ -14,10 +15,12 @@ use Rattle.run_model.specs.declared.link_event.Link.{Link}
 use Rattle.run_model.specs.declared.link_event.Link.TheVariants.{Up, Down, Ctl, Ack}
 use Rattle.run_model.specs.declared.link_event.LinkEvent.{LinkEvent}
 use Rattle.run_model.specs.declared.link_event.LinkEvent.TheVariants.{World, Transmit, Deliver, Confirm}
-use Rattle.run_model.specs.LinkEvents.{takes_stage}
+use Rattle.run_model.specs.LinkEvents.{IsLinkSchedule, takes_stage}
 use Rattle.run_model.specs.Sizes.{most_events}
+use Rattle.run_model.specs.Stages.{is_stage}
 use Rattle.run_text.specs.declared.refusal.LineKind.{LineKind}
 use Rattle.run_text.specs.declared.refusal.LineKind.TheVariants.{Form}
+use Rattle.run_text.specs.declared.refusal.LinesError.{LinesError}
 use Rattle.run_text.specs.LinkSchedule.{at_place, in_world, letter_event, link_event_by, link_event_line, link_event_text, link_schedule_of, link_schedule_text, place_line, place_text, place_with}
 use Rattle.run_text.specs.Printed.{IsLineOf, event_text}
 use Rattle.run_text.specs.Trace.{at_most, event_line, is_space, largest, line_values, numbered, values_until}
@@ -79,10 +82,39 @@ whole_line line =
     (word_either (bytes_eq line (codes "w")) (Some world.Apply) _ (λ l. refl)
     (word_either (bytes_eq line (codes "k")) (Some world.Ack) None (λ l. refl) whole_behind))) line
 
-pub whole_links : (text : List ℕ) → IfOk (link_schedule_of text) (All IsWhole)
+whole_links : (text : List ℕ) → IfOk (link_schedule_of text) (All IsWhole)
 whole_links text = all_of_most IsWhole most_events (line_values link_event_line 1 (lines text)) (all_lines IsWhole link_event_line whole_line 1 (lines text))
 
+few_links : (given : Result (List LinkEvent) LinesError) → IfOk (at_most most_events given) (λ events. length events ≤ most_events)
+few_links (Err e) = tt
+few_links (Ok events) = elim (cases_Bool (nat_le (length events) most_events)) [
+  | inl short ↦ rw short (grind (arith, nat_tests))
+  | inr long ↦ rw long tt
+]
+
+both_fit : (given : Result (List LinkEvent) LinesError) → IfOk given (λ events. length events ≤ most_events) → IfOk given (All IsWhole) → IfOk given IsLinkSchedule
+both_fit (Ok events) few whole = record { few = few; whole = whole }
+both_fit (Err e) few whole = tt
+
+pub links_fit : (text : List ℕ) → IfOk (link_schedule_of text) IsLinkSchedule
+links_fit text = both_fit (link_schedule_of text) (few_links (line_values link_event_line 1 (lines text))) (whole_links text)
+
 -- ---- what is printed reads back
+
+-- it takes no stage in a schedule either
+pub no_stage : (event : Event) → takes_stage (World event) ≡ false → is_stage event ≡ false
+no_stage world.Admit h = h
+no_stage (world.Stage j) h = h
+no_stage (world.Serve j) h = h
+no_stage world.Send h = h
+no_stage world.Apply h = h
+no_stage world.Ack h = h
+no_stage (world.Hold j) h = h
+no_stage (world.Down j) h = h
+
+pub on_ok : {A E : Type 0} {P Q : Type 0} (given : Result A E) → (P → Q) → OnOk given P → OnOk given Q
+on_ok (Ok a) goes h = goes h
+on_ok (Err e) goes h = tt
 
 -- an event of the world is told as in a schedule
 pub world_back : (event : Event) → IsLineOf event_line (event_text event) event → takes_stage (World event) ≡ false

@@ -1,9 +1,12 @@
 use Rattle.std.proofs.Common.{rules}
-use Rattle.run_text.proofs.LinkSchedules.{world_back, transmit_back, deliver_back, confirm_back}
+use Rattle.run_text.proofs.LinkSchedules.{confirm_back, deliver_back, no_stage, on_ok, transmit_back, world_back}
 use Rattle.run_text.proofs.link_schedule.put_link_event.Goals as goal
 
 pub returns-in-World-clause-back : goal.returns-in-World-clause-back
-returns-in-World-clause-back c whole = ?
+returns-in-World-clause-back c whole =
+    let told = rw c.in-World.is at whole in
+    let back = c.put_event.ensures.back (no_stage c.in-World.event told) in
+    rw c.in-World.is (on_ok c.put_event.result (λ h. world_back c.in-World.event h told) back)
 
 pub returns-in-Transmit-clause-back : goal.returns-in-Transmit-clause-back
 returns-in-Transmit-clause-back c whole =
