@@ -1,15 +1,15 @@
 -- Links stay faithful.
-use Rattle.std.proofs.Common.{◌≡◌, ◌≢◌, ◌<◌, ◌≤◌, ◌+◌, ℕ, zero, suc, Bool, true, false, not, ◌||◌, ◌&&◌, cond, List, [], ◌∷◌, ◌++◌, length, get_or, refl, sym, ap, ◌∙◌, subst, inl, inr, Some, None, arith, append-nil, append_assoc, true≢false}
+use Rattle.std.proofs.Common.{◌≡◌, ◌≢◌, ◌<◌, ℕ, Bool, true, false, not, ◌||◌, cond, List, [], ◌∷◌, ◌++◌, length, refl, sym, ap, ◌∙◌, subst, inl, inr, Some, None, arith, append-nil, append_assoc, true≢false}
 use Rattle.std.specs.Prelude.{◌==◌, Option, slice_get}
 use Rattle.std.specs.FinSet as set
 use Rattle.std.specs.Cmp.{nat_cmp_total, unsigned_tied}
-use Rattle.std.specs.List.{All, AllPairs, Contains, filter, range_with_len}
-use Rattle.std.specs.Ordering.{eq_by_cmp, nat_cmp}
+use Rattle.std.specs.List.{All, AllPairs, Contains, range_with_len}
+use Rattle.std.specs.Ordering.{nat_cmp}
 use Rattle.std.proofs.lemmas.Bool.{and_parts, eqb-true, not-true, or_cases}
 use Rattle.std.proofs.lemmas.List.{length_push}
-use Rattle.std.proofs.lemmas.List.Elements.{All-nil, All-push, All-weaker, All-filter, All-contains, All-contains_itself, Contains-append_left, Contains-push}
+use Rattle.std.proofs.lemmas.List.Elements.{All-nil, All-push, All-weaker, All-filter, Contains-append_left}
 use Rattle.std.proofs.lemmas.List.Quantifiers.{all_pairs_push}
-use Rattle.lossy_link.specs.Link.{Link, LinkStep, give, send, arrive, confirm, first_link, with_given, with_sent, after_send, is_among, is_due, got_after, back_after, with_arrived, after_arrival, with_confirmed, after_confirmation, link_step, link_through}
+use Rattle.lossy_link.specs.Link.{Link, LinkStep, give, send, arrive, confirm, first_link, with_given, with_sent, after_send, is_among, is_due, got_after, with_arrived, after_arrival, with_confirmed, after_confirmation, link_step, link_through}
 use Rattle.lossy_link.specs.Laws.{IsFaithful, IsLinkOf, given_in}
 use Rattle.lossy_link.specs.Sender.{unknown}
 use Rattle.lossy_link.proofs.Among.{at_place, apart, contained, range_below, pushed_range}

@@ -1,10 +1,9 @@
 -- What the ends of a link do is what the link does.
-use Rattle.std.proofs.Common.{◌≡◌, ◌≢◌, ◌<◌, ◌≤◌, ◌+◌, ◌^◌, ℕ, zero, suc, Bool, true, false, not, ◌||◌, ◌&&◌, cond, List, [], ◌∷◌, ◌++◌, length, map, take, drop, refl, sym, ap, ◌∙◌, subst, inl, inr, Some, None, arith, append-nil, length-append, true≢false}
+use Rattle.std.proofs.Common.{◌≡◌, ◌<◌, ◌≤◌, ◌^◌, ℕ, zero, suc, Bool, true, false, not, ◌||◌, ◌&&◌, cond, List, [], ◌∷◌, ◌++◌, length, map, refl, sym, ap, ◌∙◌, subst, inl, inr, Some, None, arith, append-nil, length-append, true≢false}
 use Rattle.std.specs.Prelude.{◌==◌, Option, nat_lt, slice_get}
 use Rattle.std.specs.Option.{option_map}
-use Rattle.std.specs.FinSet as set
 use Rattle.std.specs.Int.{w32, to_be_bytes, from_be_bytes}
-use Rattle.std.specs.List.{All, Contains, range_with_len}
+use Rattle.std.specs.List.{All, Contains}
 use Rattle.std.proofs.lemmas.Bool.{and_from, and_right, cases_eq, cases_lt, cond-false, cond-true, eq-eqb, le-ltb, lt-ltb, ne_eqb, not_from_false, or_right}
 use Rattle.std.proofs.lemmas.List.{length-map, map_push, take_at, drop_at}
 use Rattle.std.proofs.lemmas.List.Elements.{All-contains, All-map, All-weaker}
@@ -14,13 +13,13 @@ use Rattle.lossy_link.specs.declared.answers.Took.{Took}
 use Rattle.lossy_link.specs.declared.answers.Took.TheVariants.{New, Again, Early, Malformed}
 use Rattle.lossy_link.specs.declared.receiver.Delivered.{Delivered}
 use Rattle.lossy_link.specs.Datagrams.{datagram, number_bytes, number_in, item_in}
-use Rattle.lossy_link.specs.Sender.{Sender, confirmed, given, item_at, unknown, datagram_of, with_known, after_confirm}
-use Rattle.lossy_link.specs.Receiver.{Receiver, is_delivered, took_number, take_answer, with_item, after_take}
-use Rattle.lossy_link.specs.Link.{Link, LinkStep, give, send, arrive, confirm, first_link, with_given, with_sent, after_send, is_among, is_due, got_after, back_after, with_arrived, after_arrival, with_confirmed, after_confirmation, link_step, link_through}
-use Rattle.lossy_link.specs.Ends.{Ends, first_ends, ends_sent, confirmations_of, ends_arrived, ends_confirmed, ends_step, ends_through, sender_of, pair_of, receiver_of, ends_of}
+use Rattle.lossy_link.specs.Sender.{Sender, confirmed, item_at, unknown, with_known}
+use Rattle.lossy_link.specs.Receiver.{Receiver, is_delivered, took_number, take_answer, with_item}
+use Rattle.lossy_link.specs.Link.{Link, LinkStep, give, send, arrive, confirm, first_link, with_given, with_sent, is_among, is_due, got_after, back_after, with_arrived, with_confirmed, link_step, link_through}
+use Rattle.lossy_link.specs.Ends.{Ends, ends_sent, confirmations_of, ends_arrived, ends_confirmed, ends_step, ends_through, sender_of, pair_of, receiver_of, ends_of}
 use Rattle.lossy_link.specs.Laws.{IsFaithful, AreEndsOf, IsOneStep, given_in}
 use Rattle.lossy_link.proofs.Among.{among_pushed, among_range, at_place, map_same}
-use Rattle.lossy_link.proofs.Faithful.{due_parts, faithful_through, first_faithful, given_through, step_faithful, unknown_below}
+use Rattle.lossy_link.proofs.Faithful.{faithful_through, first_faithful, given_through, step_faithful}
 
 -- ---- bytes
 

@@ -1,8 +1,7 @@
 -- Commands and their bytes.
-use Rattle.std.proofs.Common.{◌≡◌, ◌≢◌, ◌<◌, ◌≤◌, ◌+◌, ◌-◌, ◌*◌, ◌/◌, ◌^◌, ℕ, zero, suc, Bool, true, false, ◌&&◌, List, [], ◌∷◌, ◌++◌, length, get_or, take, drop, refl, sym, ap, ◌∙◌, subst, Some, None, arith, append-nil, add-zero, lit<, pow_mono, true≢false}
-use Rattle.std.specs.Prelude.{IsTrue, nat_eq, nat_lt, slice_get}
-use Rattle.std.specs.Int.{w64, to_be_bytes, from_be_bytes}
-use Rattle.std.specs.List.{All, flat_map}
+use Rattle.std.proofs.Common.{◌≡◌, ◌≢◌, ◌<◌, ◌≤◌, ◌+◌, ◌-◌, ◌*◌, ◌/◌, ◌^◌, ℕ, zero, suc, true, false, List, [], ◌∷◌, ◌++◌, length, get_or, take, drop, refl, sym, ap, ◌∙◌, subst, Some, arith, append-nil, add-zero, lit<, pow_mono, true≢false}
+use Rattle.std.specs.Prelude.{nat_eq, nat_lt, slice_get}
+use Rattle.std.specs.Int.{w64, from_be_bytes}
 use Rattle.std.proofs.Math.Seq.{take-add}
 use Rattle.std.proofs.Math.Nat.{div-lt_iff_lt-mul}
 use Rattle.std.proofs.lemmas.Bool.{and_from, and_parts, eq-eqb, eqb-true, lt-ltb, ltb_from_iff}
@@ -18,7 +17,7 @@ use Rattle.writeback_table.specs.declared.command.To.{To}
 use Rattle.writeback_table.specs.declared.command.To.TheVariants.{Value, Gone}
 use Rattle.writeback_table.specs.declared.command.Update.{Update}
 use Rattle.writeback_table.specs.Widths.{fits_update, has_value_widths}
-use Rattle.lossy_link.specs.CommandBytes.{AreBytesOf, AreWords, bytes_of, eight_bytes, key_bytes, numbers_of, numbers_to, to_bytes, update_bytes, word_bytes}
+use Rattle.lossy_link.specs.CommandBytes.{AreBytesOf, AreWords, eight_bytes, numbers_to, to_bytes, update_bytes, word_bytes}
 use Rattle.lossy_link.specs.Spelling.{SpellTo, SpellUpdate, SpellWords}
 
 -- ---- numbers

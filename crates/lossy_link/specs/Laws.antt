@@ -1,9 +1,9 @@
 -- What holds over every list of link steps.
-use Rattle.std.specs.Prelude.{◌≡◌, ◌≢◌, ◌<◌, ◌≤◌, ◌^◌, ℕ, Bool, true, List, [], ◌∷◌, length, Some, slice_get, All}
+use Rattle.std.specs.Prelude.{◌≡◌, ◌≢◌, ◌<◌, ℕ, Bool, true, List, [], ◌∷◌, length, Some, slice_get, All}
 use Rattle.std.specs.FinSet as set
 use Rattle.std.specs.List.{AllPairs, Contains, range_with_len}
 use Rattle.lossy_link.specs.Link.{Link, LinkStep, give, send, arrive, confirm, first_link, link_step, link_through}
-use Rattle.lossy_link.specs.Ends.{Ends, first_ends, ends_step, ends_through, ends_of}
+use Rattle.lossy_link.specs.Ends.{first_ends, ends_step, ends_through, ends_of}
 
 -- the items that steps give, in order
 abbrev pub given_in : List LinkStep → List (List ℕ)

@@ -87,21 +87,3 @@ fn events_of_a_schedule_over_links(rt: HostRuntime) -> Result<(), Fail> {
     assert_eq!(rt; printed_again(alloc, b"y ctl 7\nz ack 0\nk\n"), Ok(true));
     Ok(())
 }
-
-#[test]
-fn sizes_of_a_schedule_over_links(rt: HostRuntime) -> Result<(), Fail> {
-    let alloc = rt.alloc();
-    let mut text = b"a\n".to_vec(alloc)?;
-    for _ in 0..20 {
-        let half = text.as_slice().to_vec(alloc)?;
-        text.extend_from_slice(&half)?;
-    }
-    assert_eq!(rt; count(read_link_schedule(alloc, &text)), Ok(1_048_576));
-    text.extend_from_slice(b"# k\nk\n")?;
-    let many = LinesError::TooMany {
-        have: 1_048_577,
-        allowed: 1_048_576,
-    };
-    assert_eq!(rt; count(read_link_schedule(alloc, &text)), Err(many));
-    Ok(())
-}

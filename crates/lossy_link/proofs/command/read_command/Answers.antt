@@ -1,4 +1,4 @@
-use Rattle.std.proofs.Common.{◌≡◌, ℕ, get_or, arith}
+use Rattle.std.proofs.Common.{◌≡◌, get_or, arith}
 use Rattle.lossy_link.proofs.Spelled.{main_back, stage_back}
 use Rattle.lossy_link.proofs.command.read_command.Goals.{then-bytes-lt2+in-1-1, else-bytes-lt2+in-1-1, then-bytes-lt2+in-3-1, else-bytes-lt2+in-3-1}
 use Rattle.lossy_link.proofs.command.read_command.Goals as goal

@@ -1,4 +1,4 @@
-use Rattle.std.proofs.Common.{◌≡◌, ◌<◌, ◌^◌, ◌+◌, ℕ, List, true, get_or, length, sym, ap, subst, ◌∙◌, arith}
+use Rattle.std.proofs.Common.{◌≡◌, ◌^◌, ◌+◌, ℕ, List, true, get_or, sym, subst, arith}
 use Rattle.std.specs.Prelude.{nat_lt}
 use Rattle.lossy_link.proofs.Spelled.{IsRead, read_all, read_length, read_more, read_once}
 use Rattle.lossy_link.proofs.command.read_words.Goals as goal

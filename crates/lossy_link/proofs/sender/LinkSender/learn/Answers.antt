@@ -1,4 +1,4 @@
-use Rattle.std.proofs.Common.{◌≡◌, ◌<◌, ℕ, List, Some, length, sym, ap, subst, ◌∙◌, arith}
+use Rattle.std.proofs.Common.{ℕ, List, Some, length, sym, ap, subst, ◌∙◌}
 use Rattle.lossy_link.specs.Sender.{answer_to, with_known}
 use Rattle.lossy_link.specs.Unknown.{AreRising, sender_with}
 use Rattle.lossy_link.proofs.Confirms.{found_at, found_none, of_an_item}
