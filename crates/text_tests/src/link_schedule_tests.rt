@@ -7,7 +7,8 @@ use std::alloc::Global;
 use std::test::Fail;
 
 // One packet goes to the server and back; one of its datagrams is sent twice and delivered twice.
-const REPEATED: &[u8] = b"a\nx up 0\nx up 0\nu 0\ny up 1\ny up 0\nu 0\nz up 0\nh 0\nx down 0\ny down 0\nd 0\n";
+const REPEATED: &[u8] =
+    b"a\nx up 0\nx up 0\nu 0\ny up 1\ny up 0\nu 0\nz up 0\nh 0\nx down 0\ny down 0\nd 0\n";
 
 const EVENTS: [LinkEvent; 12] = [
     LinkEvent::World(Event::Admit),
