@@ -1,10 +1,8 @@
 -- The events that a schedule over links may have.
 use Rattle.std.specs.Prelude.{◌≡◌, ◌≤◌, Bool, true, false, List, length, All}
-use Rattle.run_model.specs.declared.event.Event.{Event}
 use Rattle.run_model.specs.declared.event.Event.TheVariants as world
-use Rattle.run_model.specs.declared.link_event.Link.{Link}
 use Rattle.run_model.specs.declared.link_event.LinkEvent.{LinkEvent}
-use Rattle.run_model.specs.declared.link_event.LinkEvent.TheVariants.{World, Transmit, Deliver, Confirm}
+use Rattle.run_model.specs.declared.link_event.LinkEvent.TheVariants.{World}
 use Rattle.run_model.specs.Sizes.{most_events}
 
 -- it is one stage of a pass
