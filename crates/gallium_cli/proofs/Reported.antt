@@ -1,5 +1,5 @@
 -- What the report of a replay says of the source.
-use Rattle.std.proofs.Common.{◌≡◌, ◌∙◌, ℕ, zero, suc, List, [], ◌∷◌, ◌++◌, false, true, sym, ap, subst, refl, arith}
+use Rattle.std.proofs.Common.{◌≡◌, ◌∙◌, ℕ, zero, suc, List, [], ◌∷◌, ◌++◌, Bool, false, true, cond, sym, ap, subst, refl, arith}
 use Rattle.std.proofs.Common.{Option, Some}
 use Rattle.std.specs.Prelude.{IsTrue, IsSome, IsSomeAnd, length, slice_get}
 use Rattle.std.specs.List.{AllByRecursion as Each}
@@ -24,15 +24,15 @@ use Rattle.run_text.specs.declared.plan.Plan.{Plan}
 use Rattle.switch_ir.specs.Port.{PortState}
 use Rattle.switch_ir.specs.Tables.{Told}
 use Rattle.replay_state.specs.Answers.{Answers, Setup}
-use Rattle.replay_state.specs.Program.{packet_at, plain_manner}
+use Rattle.replay_state.specs.Program.{packet_at, manner_of}
 use Rattle.replay_state.specs.Run.{job_run}
 use Rattle.replay_state.specs.Step.{applies, state_of}
 use Rattle.replay_contracts.specs.declared.job.Replayed.{Replayed}
-use Rattle.replay_contracts.specs.Given.{Given, meaning_for, setup_for, whole_runs}
+use Rattle.replay_contracts.specs.Given.{Given, meaning_for, setup_for, whole, whole_runs}
 use Rattle.replay_contracts.specs.Promise.{Promises, state_for}
 use Rattle.replay_contracts.specs.Replayer.{IsReported, IsRunOf}
 use Rattle.run_audit.specs.Source.{source_of}
-use Rattle.gallium_cli.specs.Answers.{given, events_of, IsFastAsSeen, IsSerialRun, IsReplayed}
+use Rattle.gallium_cli.specs.Answers.{given, events_of, HasPassed, IsSerialRun, IsReplayed}
 
 -- ## The laws of sources and of flat programs
 
@@ -82,10 +82,10 @@ arrives_there packet h = record { port = h.port; bytes = h.bytes; size = h.size 
 -- ## Reports
 
 -- the split program means what the source means
-pub split_is_source : (m : Tree) (split : List Part) (writeback total : ℕ) (packets : List Packet) → KeepsStores
-    → MeansTheSame → IsTrue (is_good m) → Each IsArrival packets
-    → AreAlike (meaning_for (given m split writeback packets)) (source_of m packets) total
-split_is_source m split writeback total packets keeps same good all = record {
+pub split_is_source : (m : Tree) (split : List Part) (writeback total : ℕ) (packets : List Packet) (fine : Bool)
+    → KeepsStores → MeansTheSame → IsTrue (is_good m) → Each IsArrival packets
+    → AreAlike (meaning_for (given m split writeback packets fine)) (source_of m packets) total
+split_is_source m split writeback total packets fine keeps same good all = record {
   objects = refl;
   start = keeps.start m good;
   after = λ store n kept low. same.store m store (packet_at packets n) good kept (arrives packets n all);
@@ -97,20 +97,19 @@ split_is_source m split writeback total packets keeps same good all = record {
   verdict = λ store n kept low. same.verdict m store (packet_at packets n) good kept (arrives packets n all);
 }
 
--- each packet of the run is fast as lookups saw it, since its pass has ended
-fast_as_seen : (m : Tree) (split : List Part) (writeback : ℕ) (packets : List Packet) (events : List Event) (run : Run)
-    → EndsAtOnce
-    → (let x = given m split writeback packets in
+-- where the run isn't fine, each pass before the server has ended
+has_passed : (m : Tree) (split : List Part) (writeback : ℕ) (packets : List Packet) (fine : Bool) (events : List Event)
+    (run : Run) → EndsAtOnce → fine ≡ false
+    → (let x = given m split writeback packets fine in
     Promises x events run → (before behind : List Event) → events ≡ before ++ Admit ∷ behind
-    → applies (setup_for x) (state_for x before) Admit ≡ true → IsFastAsSeen x before run)
-fast_as_seen m split writeback packets events run at_once promises before behind is there =
-    let x = given m split writeback packets in
+    → applies (setup_for x) (state_for x before) Admit ≡ true → HasPassed x before run)
+has_passed m split writeback packets fine events run at_once coarse promises before behind is there =
+    let x = given m split writeback packets fine in
     let n = length (state_for x before).progress in
     let same : run ≡ job_run (setup_for x) (whole_runs x) (before ++ Admit ∷ behind) =
     promises.is ∙ ap (job_run (setup_for x) (whole_runs x)) is in
-    promises.fast before behind is there
-    (ap (λ (r : Run). is_passing (slice_get r.fates n)) same
-    ∙ at_once (setup_for x) (whole_runs x) before behind refl there)
+    let none : (setup_for x).pre_stages ≡ 0 = ap (λ b. cond b (whole x).pre_stages 0) coarse in
+    ap (λ (r : Run). is_passing (slice_get r.fates n)) same ∙ at_once (setup_for x) (whole_runs x) before behind none there
 
 -- a port that tells the tables of which something holds
 told_there : (P : Told → Type 0) (told : Option Told) → ((tables : Told) × (told ≡ Some tables) × P tables)
@@ -119,18 +118,19 @@ told_there P told found = subst (λ (x : Option Told). IsSomeAnd x P) (sym found
 
 serial_run : (m : Tree) (split : List Part) (writeback : ℕ) (packets : List Packet) (plan : Plan) (replayed : Replayed)
     (port : PortState) → CarriesOver → EndsAtOnce
-    → (let x = given m split writeback packets in
+    → (let x = given m split writeback packets plan.fine in
     AreAlike (meaning_for x) (source_of m packets) replayed.run.total
     → IsRunOf x plan.events plan.drain replayed port → IsSerialRun m x plan replayed.run port)
 serial_run m split writeback packets plan replayed port over at_once alike told =
-    let x = given m split writeback packets in
+    let x = given m split writeback packets plan.fine in
     let run = replayed.run in
     let promises = told.promises in
     let flat = promises.serialises in
     record {
       run_is = promises.is;
       serialises = over.serialises (meaning_for x) (source_of m packets) run alike flat;
-      fast = fast_as_seen m split writeback packets (events_of x plan) run at_once promises;
+      fast = promises.fast;
+      passed = λ coarse. has_passed m split writeback packets plan.fine (events_of x plan) run at_once coarse promises;
       quiet = λ ends.
           over.released (meaning_for x) (source_of m packets) run alike flat (promises.released ends);
       tables = λ ends. told_there _ port.told (told.tables ends);
@@ -141,14 +141,14 @@ pub source_replayed : (m : Tree) (f : Program) (split : List Part) (writeback : 
     (replayed : Replayed) (p p' : PortState) → KeepsStores → MeansTheSame → CarriesOver → EndsAtOnce
     → IsTrue (is_good m) → Each IsArrival packets → f ≡ flat_of m
     → (let x : Given =
-    record { program = f; split = split; writeback = writeback; packets = packets; manner = plain_manner } in
+    record { program = f; split = split; writeback = writeback; packets = packets; manner = manner_of plan.fine } in
     IsReported x plan.events plan.drain replayed p'
     → (IsSome p.told → IsRunOf x plan.events plan.drain replayed p')
-    → IsReplayed m (given m split writeback packets) plan replayed p p')
+    → IsReplayed m (given m split writeback packets plan.fine) plan replayed p p')
 source_replayed m f split writeback packets plan replayed p p' keeps same over at_once good all is answered told =
     let at : Program → Given =
-    λ g. record { program = g; split = split; writeback = writeback; packets = packets; manner = plain_manner } in
-    let alike = split_is_source m split writeback replayed.run.total packets keeps same good all in
+    λ g. record { program = g; split = split; writeback = writeback; packets = packets; manner = manner_of plan.fine } in
+    let alike = split_is_source m split writeback replayed.run.total packets plan.fine keeps same good all in
     record {
       reported = subst (λ (g : Program). IsReported (at g) plan.events plan.drain replayed p') is answered;
       serial = λ tells.

@@ -253,7 +253,7 @@ traffic_refused refusal s t c by m split writeback f g h p o found goes one firs
 pub replay_answer : (s t c : List ℕ) (by : Splitting) (m : Tree) (split : List Part) (writeback : ℕ)
     (packets : List Packet) (plan : Plan) (text sent : List ℕ) (f g : FilesState) (p p' : PortState)
     → GoesOn statuses.Done f g → IsSplitBy by f.told s m split writeback → IsTraffic g.told t c packets plan
-    → ((replayed : Replayed) × IsReport text m (given m split writeback packets) plan replayed p p') → sent ≡ text
+    → ((replayed : Replayed) × IsReport text m (given m split writeback packets plan.fine) plan replayed p p') → sent ≡ text
     → IsAnswer sent (Replay s t c by) f.told p p'
 replay_answer s t c by m split writeback packets plan text sent f g p p' goes found traffic report put = (
   m,
@@ -264,7 +264,7 @@ replay_answer s t c by m split writeback packets plan text sent f g p p' goes fo
   report.0,
   found,
   traffic_before t c f g packets plan goes traffic,
-  subst (λ x. IsReport x m (given m split writeback packets) plan report.0 p p') (sym put) report.1,
+  subst (λ x. IsReport x m (given m split writeback packets plan.fine) plan report.0 p p') (sym put) report.1,
 )
 
 -- ## Made work
@@ -294,7 +294,7 @@ pub made_summary : (text : List ℕ) (seed count : ℕ) (m : Tree) (split : List
     (plan : Plan) (replayed : Replayed) (p p' : PortState) → IsMadeSplit m split writeback
     → packets ≡ made_packets seed count → plan ≡ made_plan count
     → text ≡ summary_of seed count replayed.run replayed.commands
-    → IsReplayed m (given m split writeback packets) plan replayed p p' → IsSummary text seed count p p'
+    → IsReplayed m (given m split writeback packets plan.fine) plan replayed p p' → IsSummary text seed count p p'
 made_summary text seed count m split writeback packets plan replayed p p' made packets_are plan_is told replay =
     record {
       m = m;
@@ -304,8 +304,8 @@ made_summary text seed count m split writeback packets plan replayed p p' made p
       made = made;
       told = told;
       replay =
-          subst (λ (made : Plan). IsReplayed m (given m split writeback (made_packets seed count)) made replayed p p') plan_is
-          (subst (λ (ps : List Packet). IsReplayed m (given m split writeback ps) plan replayed p p') packets_are replay);
+          subst (λ (made : Plan). IsReplayed m (given m split writeback (made_packets seed count) made.fine) made replayed p p') plan_is
+          (subst (λ (ps : List Packet). IsReplayed m (given m split writeback ps plan.fine) plan replayed p p') packets_are replay);
     }
 
 -- the text that was put on out is that summary

@@ -39,7 +39,7 @@ use Rattle.run_model.specs.Sizes.{most_events, most_packets}
 use Rattle.run_model.specs.Serialises.{Serialises, AllReleased, IsDrained, is_fast}
 use Rattle.switch_ir.specs.Port.{PortState}
 use Rattle.replay_state.specs.Drain.{is_quiet, plan_events}
-use Rattle.replay_state.specs.Program.{packet_at, plain_manner}
+use Rattle.replay_state.specs.Program.{packet_at, manner_of}
 use Rattle.replay_state.specs.Run.{job_run, seen_store}
 use Rattle.replay_state.specs.State.{State}
 use Rattle.replay_state.specs.Step.{applies}
@@ -142,15 +142,14 @@ IsSplitBy (Spelled l p) told s m split writeback =
 
 -- ## Replays
 
--- a split middlebox and the packets of a trace, as a replay takes them: each pass is one event, and each batch goes by
--- itself
-abbrev pub given : Tree → List Part → ℕ → List Packet → Given
-given m split writeback packets = record {
+-- a split middlebox and the packets of a trace, as a replay takes them, in a fine run or a plain one
+abbrev pub given : Tree → List Part → ℕ → List Packet → Bool → Given
+given m split writeback packets fine = record {
   program = flat_of m;
   split = split;
   writeback = writeback;
   packets = packets;
-  manner = plain_manner;
+  manner = manner_of fine;
 }
 
 -- the events of a plan, with those that drain picks where whole packets run over whole stores, and the state that they
@@ -172,15 +171,22 @@ IsFastAsSeen x before run =
     let n = length st.progress in
     is_fast (slice_get run.fates n) ≡ (whole x).is_fast (seen_store st) (packet_at x.packets n)
 
+-- its pass before the server has ended
+abbrev pub HasPassed : Given → List Event → RunTold → Type 0
+HasPassed x before run = is_passing (slice_get run.fates (length (state_for x before).progress)) ≡ false
+
 -- What a switch that tells its tables makes of a plan: a serial run of the source.
 pub record IsSerialRun (m : Tree) (x : Given) (plan : Plan) (run : RunTold) (port : PortState) : Type 0 where
   -- it is the run of whole packets by these events
   pub run_is : run ≡ job_run (setup_for x) (whole_runs x) (events_of x plan)
   -- what it releases, and what it leaves, is what the source does to the decided packets in the reported order
   pub serialises : Serialises (source_of m x.packets) run
-  -- each packet that an event of the plan admits, or one of drain, is fast just where lookups saw it so
+  -- each packet that an event of the plan admits, or one of drain, and whose pass before the server has ended, is fast
+  -- just where lookups saw it so; where the plan isn't fine, each of these passes has ended
   pub fast : (before behind : List Event) → events_of x plan ≡ before ++ Admit ∷ behind
-      → applies (setup_for x) (state_for x before) Admit ≡ true → IsFastAsSeen x before run
+      → applies (setup_for x) (state_for x before) Admit ≡ true → HasPassed x before run → IsFastAsSeen x before run
+  pub passed : plan.fine ≡ false → (before behind : List Event) → events_of x plan ≡ before ++ Admit ∷ behind
+      → applies (setup_for x) (state_for x before) Admit ≡ true → HasPassed x before run
   -- where nothing is left on its way, every admitted packet was released with its verdict, and the switch has the
   -- server's tables
   pub quiet : EndsQuiet x plan → AllReleased (source_of m x.packets) run
@@ -235,7 +241,7 @@ pub record IsMadeSplit (m : Tree) (split : List Part) (writeback : ℕ) : Type 0
 
 -- the events that are made for so many packets, with no drain behind them
 abbrev pub made_plan : ℕ → Plan
-made_plan count = record { events = made_events count; drain = false }
+made_plan count = record { fine = false; events = made_events count; drain = false }
 
 -- a text that sums up the replay of so many packets that are made from a seed
 pub record IsSummary (text : List ℕ) (seed count : ℕ) (port port_after : PortState) : Type 0 where
@@ -245,7 +251,7 @@ pub record IsSummary (text : List ℕ) (seed count : ℕ) (port port_after : Por
   pub replayed : Replayed
   pub made : IsMadeSplit m split writeback
   pub told : text ≡ summary_of seed count replayed.run replayed.commands
-  pub replay : IsReplayed m (given m split writeback (made_packets seed count)) (made_plan count) replayed port port_after
+  pub replay : IsReplayed m (given m split writeback (made_packets seed count) false) (made_plan count) replayed port port_after
 
 -- ## Audits
 
@@ -294,7 +300,7 @@ IsAnswer text (Compile s l shrink) told port port_after =
 IsAnswer text (Replay s t c by) told port port_after =
     (m : Tree) × (split : List Part) × (writeback : ℕ) × (packets : List Packet) × (plan : Plan) × (replayed : Replayed)
     × IsSplitBy by told s m split writeback × IsTraffic told t c packets plan
-    × IsReport text m (given m split writeback packets) plan replayed port port_after
+    × IsReport text m (given m split writeback packets plan.fine) plan replayed port port_after
 IsAnswer text (Check s l p) told port port_after =
     (m : Tree) × (split : List Part) × (writeback : ℕ)
     × IsSplitBy (Spelled l p) told s m split writeback × (text ≡ checked_text (flat_of m) split writeback)

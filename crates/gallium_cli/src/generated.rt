@@ -99,6 +99,7 @@ fn made_traffic(alloc: Global, seed: u64, count: Count) -> Result<(Packets, Plan
     Ok((
         packets,
         Plan {
+            fine: false,
             events,
             drain: false,
         },

@@ -73,7 +73,7 @@ pub fn replayed<S: SwitchPort>(
     requires few_events { length plan.events ≤ most_events }
     ensures same { IfOk result (λ x. x.0 ≡ split_middlebox.program.middlebox) }
     ensures ok { IfOk result (λ x. let m = tree split_middlebox.program.middlebox in
-        IsReplayed m (given m split_middlebox.split split_middlebox.writeback packets) plan x.1
+        IsReplayed m (given m split_middlebox.split split_middlebox.writeback packets plan.fine) plan x.1
         (S.seen port.old) (S.seen port.new)) }
     ensures stays { is_some (S.seen port.new).told ≡ is_some (S.seen port.old).told }
     ensures no_fault { OnOk result ((S.seen port.new).faults ≡ (S.seen port.old).faults) }
@@ -92,12 +92,17 @@ pub fn replayed<S: SwitchPort>(
         writeback,
     } = split_middlebox;
     let Flattened { middlebox, flat } = program;
-    let Plan { events, drain } = plan;
+    let Plan {
+        fine,
+        events,
+        drain,
+    } = plan;
     let job = Job {
         flat,
         split,
         writeback,
         packets,
+        fine,
         events,
         drain,
     };
@@ -121,8 +126,8 @@ fn report<S: SwitchPort>(
     requires few_packets { length packets ≤ most_packets }
     requires few_events { length plan.events ≤ most_events }
     ensures ok { IfOk result (λ text. let m = tree split_middlebox.program.middlebox in
-        (replayed : Replayed) × IsReport text m (given m split_middlebox.split split_middlebox.writeback packets)
-        plan replayed (S.seen port.old) (S.seen port.new)) }
+        (replayed : Replayed) × IsReport text m
+        (given m split_middlebox.split split_middlebox.writeback packets plan.fine) plan replayed (S.seen port.old) (S.seen port.new)) }
     ensures stays { is_some (S.seen port.new).told ≡ is_some (S.seen port.old).told }
     ensures no_fault { OnOk result ((S.seen port.new).faults ≡ (S.seen port.old).faults) }
     ensures err { IfErr result (λ refusal.

@@ -107,8 +107,12 @@ fn an_output_waits_for_its_batch(rt: HostRuntime) -> Result<(), Fail> {
     }
     assert!(rt; !commit.send_command());
     assert!(rt; !commit.acknowledge());
+    assert!(rt; matches!(commit.peek(), Some(Command::Stage(_))));
     assert!(rt; matches!(commit.next_command(), Some(Command::Stage(_))));
+    assert!(rt; matches!(commit.peek(), Some(Command::On)));
+    assert!(rt; !commit.bit());
     assert!(rt; matches!(commit.next_command(), Some(Command::On)));
+    assert!(rt; commit.bit());
     assert_eq!(rt; (commit.visible(), commit.acknowledged()), (1, 0));
     waits(&rt, commit.release(0), (1, 0));
     assert!(rt; commit.acknowledge());
@@ -119,10 +123,12 @@ fn an_output_waits_for_its_batch(rt: HostRuntime) -> Result<(), Fail> {
     goes(&rt, commit.release(0), 5);
     lacks(&rt, commit.release(0), 0);
     assert!(rt; !commit.is_quiet());
-    for _ in 0..3 {
+    for bit in [true, false, false] {
         assert!(rt; commit.next_command().is_some());
+        assert_eq!(rt; commit.bit(), bit);
         assert!(rt; commit.acknowledge());
     }
+    assert!(rt; commit.peek().is_none());
     assert!(rt; commit.next_command().is_none());
     assert!(rt; commit.is_quiet());
     Ok(())

@@ -145,6 +145,21 @@ fn a_full_table_has_no_room(rt: HostRuntime) -> Result<(), Fail> {
 }
 
 #[test]
+fn two_commands_disturb_passes(rt: HostRuntime) {
+    let commands = [
+        (Command::Stage(put(&[1], 2)), false, true),
+        (Command::On, false, false),
+        (Command::Main(put(&[1], 2)), true, false),
+        (Command::Off, false, false),
+        (clear(&[1]), false, false),
+    ];
+    for (command, clear_bit, set_bit) in commands {
+        assert_eq!(rt; command.disturbs(false), clear_bit);
+        assert_eq!(rt; command.disturbs(true), set_bit);
+    }
+}
+
+#[test]
 fn vectors_and_numbers_have_tables(rt: HostRuntime) -> Result<(), Fail> {
     let alloc = rt.alloc();
     let mut vector = Pair::new(alloc, &of_bytes(alloc, Kind::Vector, 1, 2)?, 1)?;

@@ -1,9 +1,10 @@
 -- Held outputs, all batches of changes, and how far their commands have come.
-use Rattle.std.specs.Prelude.{◌≡◌, ◌≤◌, ◌<◌, ◌^◌, ℕ, zero, suc, ◌+◌, ◌*◌, ◌==◌, Bool, true, ◌&&◌, List, [], ◌∷◌, ◌++◌}
-use Rattle.std.specs.Prelude.{Option, Some, None, nat_lt, length, slice_get, remove, if◌then◌else◌}
+use Rattle.std.specs.Prelude.{◌≡◌, ◌≤◌, ◌<◌, ◌^◌, ℕ, zero, suc, ◌+◌, ◌*◌, ◌==◌, Bool, true, false, ◌&&◌, List, [], ◌∷◌, ◌++◌}
+use Rattle.std.specs.Prelude.{Option, Some, None, nat_lt, length, slice_get, remove, take, if◌then◌else◌}
 use Rattle.std.specs.List.{AllByRecursion as Each}
 use Rattle.writeback_table.specs.declared.command.Update.{Update}
 use Rattle.writeback_table.specs.declared.command.Command.{Command}
+use Rattle.writeback_table.specs.Commands.{bit_through}
 use Rattle.output_commit.specs.Batches.{Batch, commands_in, fits, merged}
 use Rattle.output_commit.specs.Batches as batches
 use Rattle.output_commit.specs.declared.output.Output.{Output}
@@ -43,6 +44,10 @@ visible c = batches.visible c.batches c.done
 
 abbrev pub acknowledged : Commit → ℕ
 acknowledged c = batches.visible c.batches c.acked
+
+-- the bit of the switch, behind the commands that it applied
+abbrev pub bit : Commit → Bool
+bit c = bit_through false (take c.done (commands c))
 
 -- one more output waits, and the batch of its changes goes behind all others
 abbrev pub with_output : Commit → Output → List Update → Commit

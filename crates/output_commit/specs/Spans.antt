@@ -1,5 +1,6 @@
 -- Batches by where their changes stand among all changes, and commands by their place.
-use Rattle.std.specs.Prelude.{◌≡◌, ◌≤◌, ◌<◌, ℕ, zero, suc, ◌+◌, ◌-◌, ◌*◌, ◌^◌, List, [], ◌∷◌, ◌++◌, Option, Some, None, true}
+use Rattle.std.specs.Prelude.{◌≡◌, ◌≤◌, ◌<◌, ℕ, zero, suc, ◌+◌, ◌-◌, ◌*◌, ◌^◌, List, [], ◌∷◌, ◌++◌, Option, Some, None}
+use Rattle.std.specs.Prelude.{Bool, true, false, ◌&&◌, slice_get}
 use Rattle.std.specs.Prelude.{drop, get_or, if◌then◌else◌, length, map, nat_lt, take, ◌==◌}
 use Rattle.std.specs.List.{AllByRecursion as Each}
 use Rattle.writeback_table.specs.declared.command.Update.{Update}
@@ -53,6 +54,19 @@ pub record IsIn (spans : List Span) (place : Place) : Type 0 where
 abbrev pub stands : List Span → ℕ → Option (Span × ℕ)
 stands [] n = None
 stands (span ∷ spans) n = if nat_lt n (span_len span) then Some (span, n) else stands spans (n - span_len span)
+
+-- the bit stands behind the first commands of a batch: the one that sets it is among them, and the one that clears it
+-- isn't
+abbrev pub has_bit : Span → ℕ → Bool
+has_bit span step = nat_lt span.changes step && nat_lt step (2 * span.changes + 2)
+
+-- so it does at a place
+abbrev pub bit_of : Option Span → ℕ → Bool
+bit_of None step = false
+bit_of (Some span) step = has_bit span step
+
+abbrev pub bit_at : List Span → Place → Bool
+bit_at spans place = bit_of (slice_get spans place.batch) place.step
 
 -- how many versions a command of a batch makes visible: all of them, where it sets the bit
 abbrev pub shown_by : Span → ℕ → ℕ

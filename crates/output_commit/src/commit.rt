@@ -162,6 +162,19 @@ impl Commit {
         Some(command_at(span.of(self.batches.updates.as_slice()), step as usize))
     }
 
+    /// The next command that the switch is to apply, which isn't applied by this. It is `None` exactly where all sent
+    /// ones are applied.
+    pub fn peek(&self) -> Option<Command>
+        ensures { result ≡ spec.next self.now }
+    {
+        if self.done == self.sent {
+            return None;
+        }
+        let mut place = self.applied;
+        let (span, step) = place.pass(self.batches.begun());
+        Some(command_at(span.of(self.batches.updates.as_slice()), step as usize))
+    }
+
     /// One more applied command is acknowledged. It is false exactly where all applied ones are.
     pub fn acknowledge(&mut self) -> bool
         ensures did { result ≡ nat_lt self.old.acked self.old.done }
@@ -189,6 +202,13 @@ impl Commit {
         ensures { result ≡ spec.acknowledged self.now }
     {
         self.acknowledged
+    }
+
+    /// The bit of the switch: whether the commands that were applied set it, and didn't clear it since.
+    pub fn bit(&self) -> bool
+        ensures { result ≡ spec.bit self.now }
+    {
+        self.applied.bit(self.batches.begun())
     }
 
     /// How many commands there are in all, sent or not. It falls by 2 for each batch that another takes up.

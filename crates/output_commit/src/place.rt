@@ -1,6 +1,6 @@
 //! Places among the commands of batches.
 ghost use Rattle.std.specs.Prelude.{◌≡◌, ◌<◌, ◌+◌, ◌^◌, Some};
-ghost use Rattle.output_commit.specs.Spans.{IsIn, passed, stands, total};
+ghost use Rattle.output_commit.specs.Spans.{IsIn, bit_at, passed, stands, total};
 
 use crate::span::Span;
 
@@ -18,6 +18,19 @@ impl Place {
         ensures { result ≡ record { batch = 0; step = 0 } }
     {
         Place { batch: 0, step: 0 }
+    }
+
+    /// The bit here: whether the command that sets it stands before this place, and the one that clears it doesn't, in
+    /// the same batch.
+    pub fn bit(&self, spans: &[Span]) -> bool
+        requires at { IsIn spans.now self.now }
+        requires few { total spans.now < 2 ^ 32 }
+        ensures { result ≡ bit_at spans.now self.now }
+    {
+        match spans.get(self.batch) {
+            Some(span) => span.has_bit(self.step),
+            None => false,
+        }
     }
 
     /// Goes on by a command. The answer is the batch of this command, and its place there.

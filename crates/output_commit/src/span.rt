@@ -1,7 +1,7 @@
 //! Where a batch stands among all changes, and its commands by their place.
 ghost use Rattle.std.specs.Prelude.{◌≡◌, ◌≤◌, ◌<◌, ◌+◌, ◌*◌, ◌^◌, Some, length, slice_get};
 ghost use Rattle.writeback_table.specs.Commands.{commands_of};
-ghost use Rattle.output_commit.specs.Spans.{batch_in, joined, span_len};
+ghost use Rattle.output_commit.specs.Spans.{batch_in, has_bit, joined, span_len};
 
 use writeback_table::{Command, Update};
 
@@ -20,6 +20,14 @@ impl Span {
         ensures { result ≡ span_len self.now }
     {
         3 * self.changes + 2
+    }
+
+    /// Whether the bit stands behind so many of its commands.
+    pub fn has_bit(&self, step: u32) -> bool
+        requires { span_len self.now < 2 ^ 32 }
+        ensures { result ≡ has_bit self.now step }
+    {
+        self.changes < step && step < 2 * self.changes + 2
     }
 
     /// Its changes, of all.

@@ -2,4 +2,6 @@
 #![tactic(auto)]
 
 #[cfg(test)]
+mod drain_tests;
+#[cfg(test)]
 mod fault_tests;

@@ -3,3 +3,10 @@ mod Picking
 mod Reporting
 mod Determined
 mod Formed
+mod Calls
+mod Asked
+mod OnSwitch
+mod Passing
+mod PassingOn
+mod Turns
+mod KnowingOn

@@ -1,38 +1,35 @@
 -- What calls of a switch leave in its journal and in the tables that it tells.
-use Rattle.std.specs.Prelude.{◌≡◌, ◌≤◌, ⊤, ℕ, Bool, true, false, List, [], ◌∷◌, ◌++◌, Some}
+use Rattle.std.specs.Prelude.{◌≡◌, ◌≤◌, ⊤, Bool, true, false, List, [], ◌∷◌, ◌++◌, Some, map}
 use Rattle.std.specs.List.{filter}
-use Rattle.std.specs.List.{AllByRecursion as Each}
-use Rattle.std.specs.Option.{option_map}
+use Rattle.packet_fields.specs.declared.packet.Packet.{Packet}
 use Rattle.writeback_table.specs.declared.command.Command.{Command}
 use Rattle.switch_ir.specs.Code.{Code}
-use Rattle.switch_ir.specs.Port.{PortState, IsUpFrame}
+use Rattle.switch_ir.specs.Port.{PortState, IsUpFrame, PassesUp, PassesDown, Commands}
+use Rattle.switch_ir.specs.Port.{BeginsUp, StagesUp, BeginsDown, StagesDown}
+use Rattle.switch_ir.specs.Port.{HasNoUpPass, HasUpPass, HasNoDownPassOf, HasDownPass}
 use Rattle.switch_ir.specs.Tables.{Told, told_after}
 use Rattle.switch_ir.specs.declared.journal.Entry.{Entry}
 use Rattle.switch_ir.specs.declared.journal.Entry.TheVariants as entry
-use Rattle.switch_ir.specs.declared.port.UpEnd.TheVariants as up
-use Rattle.switch_ir.specs.declared.port.DownEnd.TheVariants as down
 use Rattle.switch_ir.specs.declared.port.CommandEnd.TheVariants as command
 use Rattle.replay_state.specs.Journal.{Call, CalledUp, CalledStageUp, CalledCommand, CalledDown, CalledStageDown}
-use Rattle.replay_state.specs.Journal.{Finished, SentUp, GoingUp, Released, GoingDown}
-use Rattle.split_answers.specs.Over.{AreAnswersOver}
+use Rattle.replay_state.specs.Program.{packet_at}
+use Rattle.split_answers.specs.Over.{IsGiven}
+use Rattle.split_answers.specs.Through.{down_end_of, end_of}
 
 -- ## The journal
 
--- the entries of a call; those of passes that go on stage by stage have none until a switch has calls for them
-abbrev pub entries_of : Call → List Entry
-entries_of (CalledUp fine n packet (Finished verdict)) =
-    entry.Up n packet.port packet.bytes (up.Finished verdict) ∷ []
-entries_of (CalledUp fine n packet (SentUp frame)) = entry.Up n packet.port packet.bytes (up.Up frame) ∷ []
-entries_of (CalledUp fine n packet GoingUp) = []
-entries_of (CalledStageUp n answer) = []
-entries_of (CalledCommand c) = entry.Command c command.Done ∷ []
-entries_of (CalledDown fine n frame (Released verdict)) = entry.Down frame (down.Verdict verdict) ∷ []
-entries_of (CalledDown fine n frame GoingDown) = []
-entries_of (CalledStageDown n answer) = []
+-- the entry of a call
+abbrev pub entry_of : Call → Entry
+entry_of (CalledUp false n packet answer) = entry.Up n packet.port packet.bytes (end_of answer)
+entry_of (CalledUp true n packet answer) = entry.BeginUp n packet.port packet.bytes (end_of answer)
+entry_of (CalledStageUp n answer) = entry.StageUp n (end_of answer)
+entry_of (CalledCommand c) = entry.Command c command.Done
+entry_of (CalledDown false n frame answer) = entry.Down frame (down_end_of answer)
+entry_of (CalledDown true n frame answer) = entry.BeginDown frame (down_end_of answer)
+entry_of (CalledStageDown n answer) = entry.StageDown n (down_end_of answer)
 
 abbrev pub journal_of : List Call → List Entry
-journal_of [] = []
-journal_of (call ∷ calls) = entries_of call ++ journal_of calls
+journal_of calls = map entry_of calls
 
 -- it is no call for room or for rows
 abbrev pub is_of_replay : Entry → Bool
@@ -40,6 +37,10 @@ is_of_replay entry.Load = true
 is_of_replay (entry.Room commands) = false
 is_of_replay (entry.Up number port packet answer) = true
 is_of_replay (entry.Down frame answer) = true
+is_of_replay (entry.BeginUp number port packet answer) = true
+is_of_replay (entry.StageUp number answer) = true
+is_of_replay (entry.BeginDown frame answer) = true
+is_of_replay (entry.StageDown number answer) = true
 is_of_replay (entry.Command c end) = true
 is_of_replay (entry.Visible object) = false
 
@@ -80,18 +81,14 @@ commands_among (call ∷ calls) = command_in call ++ commands_among calls
 
 -- ## Frames
 
--- a frame that went up has the code's layout, and the number, the port and the packet of its call, whatever its values
-abbrev pub IsFormed : Code → Call → Type 0
-IsFormed code (CalledUp fine n packet (Finished verdict)) = ⊤
-IsFormed code (CalledUp fine n packet (SentUp frame)) = IsUpFrame code n packet.port packet.bytes (up.Up frame)
-IsFormed code (CalledUp fine n packet GoingUp) = ⊤
-IsFormed code (CalledStageUp n (Finished verdict)) = ⊤
-IsFormed code (CalledStageUp n (SentUp frame)) =
-    (port : ℕ) × (packet : List ℕ) × IsUpFrame code n port packet (up.Up frame)
-IsFormed code (CalledStageUp n GoingUp) = ⊤
-IsFormed code (CalledCommand c) = ⊤
-IsFormed code (CalledDown fine n frame answer) = ⊤
-IsFormed code (CalledStageDown n answer) = ⊤
+-- a frame that went up has the code's layout, and the number, the port and the packet of its pass, whatever its values
+abbrev pub IsFormed : Code → List Packet → Call → Type 0
+IsFormed code packets (CalledUp fine n packet answer) = IsUpFrame code n packet.port packet.bytes (end_of answer)
+IsFormed code packets (CalledStageUp n answer) =
+    let packet = packet_at packets n in IsUpFrame code n packet.port packet.bytes (end_of answer)
+IsFormed code packets (CalledCommand c) = ⊤
+IsFormed code packets (CalledDown fine n frame answer) = ⊤
+IsFormed code packets (CalledStageDown n answer) = ⊤
 
 -- ## Calls
 
@@ -99,15 +96,25 @@ IsFormed code (CalledStageDown n answer) = ⊤
 pub record KeepsCalls (old new : PortState) : Type 0 where
   pub code : new.code ≡ old.code
   pub told : new.told ≡ old.told
+  pub passes : new.passes ≡ old.passes
   pub journal : calls_in new.journal ≡ calls_in old.journal
   pub spare : old.spare ≤ new.spare
   pub faults : new.faults ≡ old.faults
 
--- the port was called so, and for nothing else but room and rows, and no call of it failed
-pub record WasCalled (code : Code) (calls : List Call) (old new : PortState) : Type 0 where
-  pub loaded : new.code ≡ old.code
-  pub told : new.told ≡ option_map (told_through calls) old.told
-  pub journal : calls_in new.journal ≡ calls_in old.journal ++ journal_of calls
-  pub faults : new.faults ≡ old.faults
-  pub formed : Each (IsFormed code) calls
-  pub answers : (told : Told) → old.told ≡ Some told → AreAnswersOver code told calls
+-- the port was called so, and the call didn't fail
+abbrev pub WasMade : Call → PortState → PortState → Type 0
+WasMade (CalledUp false n packet answer) old new = PassesUp (end_of answer) n packet.port packet.bytes old new
+WasMade (CalledUp true n packet answer) old new =
+    HasNoUpPass old n × BeginsUp (end_of answer) n packet.port packet.bytes old new
+WasMade (CalledStageUp n answer) old new = HasUpPass old n × StagesUp (end_of answer) n old new
+WasMade (CalledCommand c) old new = Commands command.Done c old new
+WasMade (CalledDown false n frame answer) old new = PassesDown (down_end_of answer) frame old new
+WasMade (CalledDown true n frame answer) old new =
+    HasNoDownPassOf old frame × BeginsDown (down_end_of answer) frame old new
+WasMade (CalledStageDown n answer) old new = HasDownPass old n × StagesDown (down_end_of answer) n old new
+
+-- the port was called so, one after the other, and for nothing else but room and rows
+abbrev pub WasCalled : Code → List Call → PortState → PortState → Type 0
+WasCalled code [] old new = KeepsCalls old new
+WasCalled code (call ∷ calls) old new =
+    (between : PortState) × IsGiven code call × WasMade call old between × WasCalled code calls between new

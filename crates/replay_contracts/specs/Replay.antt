@@ -4,6 +4,7 @@ use Rattle.std.specs.List.{AllByRecursion as Each}
 use Rattle.run_model.specs.declared.event.Event.{Event}
 use Rattle.switch_ir.specs.Port.{PortState}
 use Rattle.switch_ir.specs.Tables.{Told, IsStart}
+use Rattle.switch_ir.specs.UnderWay.{UnderWay, none_under_way}
 use Rattle.replay_state.specs.Answers.{Answers}
 use Rattle.replay_state.specs.Drain.{Picks, drain_bound, is_drained, plan_events}
 use Rattle.replay_state.specs.Journal.{Call, IsAnswered, journal}
@@ -11,6 +12,7 @@ use Rattle.replay_state.specs.State.{State, applied_commands}
 use Rattle.replay_state.specs.Step.{state_of}
 use Rattle.replay_state.specs.Told.{IsTied}
 use Rattle.split_answers.specs.Through.{IsThrough}
+use Rattle.split_answers.specs.UnderWay.{AreOnSwitch, KnowTheirOwn, SeeTheirOwn}
 use Rattle.replay_contracts.specs.Called.{HasCalls, IsFormed}
 use Rattle.replay_contracts.specs.Given.{Given, whole, setup_for, whole_runs, code_for}
 
@@ -18,22 +20,29 @@ use Rattle.replay_contracts.specs.Given.{Given, whole, setup_for, whole_runs, co
 abbrev pub answered : Given → List Call → Answers
 answered x calls = journal (whole x) calls
 
--- over a port that tells its tables: the state is that of whole packets, and the tables are those that the applied
--- commands make
-pub record IsTold (x : Given) (events : List Event) (calls : List Call) (st : State) (tables : Told) : Type 0 where
+-- Over a port that tells its tables: the state is that of whole packets, and the tables are those that the applied
+-- commands make. Each pass under way sees the replicated objects of the version with which it entered, and knows what it
+-- computes over the store of that version.
+pub record IsTold (x : Given) (events : List Event) (calls : List Call) (st : State) (tables : Told) (passes : UnderWay)
+    : Type 0 where
   pub tied : IsTied (setup_for x) (whole x) x.packets calls events st
   pub through : IsThrough (code_for x) (applied_commands st) tables
+  pub views : SeeTheirOwn x.program x.split st tables
+  pub knows : KnowTheirOwn x.program x.split x.writeback x.packets calls st passes
 
 -- A replay of these events, by these calls of its port, which has made no others.
 pub record IsReplay (x : Given) (events : List Event) (calls : List Call) (st : State) (port : PortState) : Type 0 where
   pub answered : IsAnswered (setup_for x) (whole x) x.packets events calls st
   pub called : HasCalls (code_for x) calls port
-  pub formed : Each (IsFormed (code_for x)) calls
-  pub told : (tables : Told) → port.told ≡ Some tables → IsTold x events calls st tables
+  pub formed : Each (IsFormed (code_for x) x.packets) calls
+  -- its passes under way are those of the state
+  pub passes : AreOnSwitch (setup_for x) x.packets st port.passes
+  pub told : (tables : Told) → port.told ≡ Some tables → IsTold x events calls st tables port.passes
 
 -- the port was loaded, and has made no other call
 pub record IsLoaded (x : Given) (port : PortState) : Type 0 where
   pub called : HasCalls (code_for x) [] port
+  pub passes : port.passes ≡ none_under_way
   pub start : (tables : Told) → port.told ≡ Some tables → IsStart (code_for x) tables
 
 -- ## Drain

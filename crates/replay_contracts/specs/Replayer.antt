@@ -11,7 +11,7 @@ use Rattle.switch_ir.specs.Tables.{Told}
 use Rattle.switch_ir.specs.declared.journal.Entry.{Entry}
 use Rattle.replay_state.specs.Drain.{drain_bound, is_quiet, plan_events}
 use Rattle.replay_state.specs.Journal.{Call, EndOnce}
-use Rattle.replay_state.specs.Program.{plain_manner}
+use Rattle.replay_state.specs.Program.{manner_of}
 use Rattle.replay_state.specs.State.{State, first_state}
 use Rattle.replay_state.specs.Step.{applies, step}
 use Rattle.split_answers.specs.Through.{HasTables}
@@ -34,14 +34,14 @@ pub record Replayer : Type 0 where
   pub port : PortState
   pub failed : Option ReplayError
 
--- a job's passes take one event each, and its batches go by themselves
+-- a job's passes take one event each, or one for each stage in a fine run, and batches take up those behind them
 abbrev pub given_of : Job → Given
 given_of job = record {
   program = program_of job.flat;
   split = job.split;
   writeback = job.writeback;
   packets = job.packets;
-  manner = plain_manner;
+  manner = manner_of job.fine;
 }
 
 -- these calls made this state

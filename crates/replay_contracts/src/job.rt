@@ -15,6 +15,8 @@ pub struct Job {
     /// How many rows may be staged for each object of the switch.
     pub writeback: u32,
     pub packets: Packets,
+    /// Whether each pass takes an event for each of its stages, and not one in all.
+    pub fine: bool,
     pub events: Events,
     /// Whether events follow until every packet is released and nothing is on its way.
     pub drain: bool,

@@ -1,6 +1,6 @@
 //! How a replay over a switch begins, goes on and ends, whatever the switch answers, and what it promises where the
 //! switch tells its tables. These functions do nothing: their contracts are the laws.
-ghost use Rattle.std.specs.Prelude.{◌≡◌, ◌++◌, ◌∷◌, [], ℕ, false, IsTrue, List, None, Some, is_some, map};
+ghost use Rattle.std.specs.Prelude.{◌≡◌, ◌++◌, ◌∷◌, [], ℕ, IsTrue, List, None, Some, is_some, map};
 ghost use Rattle.state_store.specs.Store.{start_store};
 ghost use Rattle.run_model.specs.declared.event.Event.{Event};
 ghost use Rattle.run_model.specs.declared.run.Run.{Run};
@@ -15,19 +15,20 @@ ghost use Rattle.replay_state.specs.Step.{step};
 ghost use Rattle.split_answers.specs.Through.{HasTables};
 ghost use Rattle.replay_contracts.specs.Called.{WasCalled};
 ghost use Rattle.replay_contracts.specs.Given.{Given, IsReady, code_for, setup_for, whole, whole_runs};
-ghost use Rattle.replay_contracts.specs.Promise.{Promises, Reports, state_for};
+ghost use Rattle.replay_contracts.specs.Promise.{Promises, Reports};
 ghost use Rattle.replay_contracts.specs.Replay.{HasDrained, HasPicked, IsLoaded, IsReplay, answered};
 
 use replay_state::{
     a_packet_is_fast_by_what_is_seen, a_quiet_switch_has_the_newest_tables,
     a_run_is_answered_by_its_calls, a_told_step_keeps_the_tie, commands_are_applied_in_order,
-    drain_ends, every_run_serialises, lookups_see_one_version, passes_with_no_stages_end_at_once,
-    whole_runs_are_sound,
+    drain_ends, every_run_serialises, lookups_see_one_version, packets_are_where_they_are_told,
+    passes_keep_their_views, stores_keep_what_was_declared, whole_runs_are_sound,
 };
 use split_answers::{
     a_switch_that_tells_its_tables_tells_right, a_told_command_goes_through,
-    frames_do_what_packets_do, quiet_tables_are_the_stores, split_programs_have_their_laws,
-    told_rows_are_the_visible_stores, told_tables_start,
+    a_told_pass_in_stages_is_right, frames_do_what_packets_do, quiet_tables_are_the_stores,
+    split_programs_have_their_laws, told_rows_are_the_visible_stores,
+    told_tables_are_those_of_the_commands, told_tables_start,
 };
 use transfer_header::frames_are_told_by_place;
 
@@ -60,6 +61,14 @@ pub fn a_replay_goes_on()
     a_told_command_goes_through();
     frames_do_what_packets_do();
     split_programs_have_their_laws();
+    frames_are_told_by_place();
+    packets_are_where_they_are_told();
+    passes_keep_their_views();
+    a_told_pass_in_stages_is_right();
+    told_tables_are_those_of_the_commands();
+    lookups_see_one_version();
+    stores_keep_what_was_declared();
+    whole_runs_are_sound();
 }
 
 /// What drain picks one after the other, over any port.
@@ -135,16 +144,14 @@ pub fn frames_have_their_forms()
     frames_are_told_by_place();
 }
 
-/// Where each pass takes one event, the journal of a port determines the calls of a replay, and so its state: the
-/// clauses of a replayer speak of one state.
+/// The journal of a port determines the calls of a replay, and so its state: the clauses of a replayer speak of one
+/// state.
 pub fn a_journal_determines_its_replay()
     ensures { (x : Given) (events : List Event) (calls others : List Call) (st other : State) (port : PortState)
-        → IsReady x → x.manner.fine ≡ false
-        → IsReplay x events calls st port → IsReplay x events others other port
+        → IsReady x → IsReplay x events calls st port → IsReplay x events others other port
         → (calls ≡ others) × (st ≡ other) }
 {
     a_run_is_answered_by_its_calls();
     frames_are_told_by_place();
     frames_do_what_packets_do();
-    passes_with_no_stages_end_at_once();
 }

@@ -1,41 +1,53 @@
 -- What the calls in each event come to.
-use Rattle.std.proofs.Common.{◌≡◌, ◌<◌, ◌≤◌, ◌+◌, ℕ, true, false, List, Some, None, inl, inr, refl, sym, ap, subst, ◌∙◌, arith, length, get_or, map}
-use Rattle.std.specs.Prelude.{slice_get, slice_set, remove, nat_lt, IfSome}
-use Rattle.std.proofs.lemmas.Bool.{cases_lt}
+use Rattle.std.proofs.Common.{◌≡◌, ◌<◌, ◌≤◌, ◌+◌, ◌-◌, ℕ, zero, suc, Bool, true, false, eqb, leb, List, [], ◌∷◌, ◌++◌, Option, Some, None, inl, inr, refl, sym, ap, subst, ◌∙◌, arith, length, get_or, map}
+use Rattle.std.specs.Prelude.{slice_get, slice_set, remove, nat_lt, not, IfSome, IsSome, OnSome, if◌then◌else◌}
+use Rattle.std.specs.List.{AllByRecursion as Each}
+use Rattle.std.proofs.lemmas.Bool.{cases_Bool, cases_lt, eqb-true, le-ltb, leb-false, leb-true, lt-ltb}
 use Rattle.std.proofs.lemmas.Bool.Decides.{nat_tests}
-use Rattle.std.proofs.lemmas.Option.{slice_get-get_or}
+use Rattle.std.proofs.lemmas.Option.{same_Some, slice_get-get_or, slice_get_within}
 use Rattle.packet_fields.specs.declared.packet.Packet.{Packet}
-use Rattle.packet_fields.specs.declared.verdict.Verdict.{Verdict}
 use Rattle.flat_ir.specs.Arrivals.{IsArrival}
-use Rattle.split_model.specs.Layouts.{up_layout}
 use Rattle.transfer_header.specs.Frames.{IsFrame}
-use Rattle.writeback_table.specs.declared.command.Update.{Update}
+use Rattle.transfer_header.specs.Told.{number_in}
+use Rattle.output_commit.specs.Batches.{fits}
+use Rattle.output_commit.specs.Commit.{Commit, commands}
 use Rattle.run_model.specs.declared.event.Event.{Event}
 use Rattle.run_model.specs.declared.event.Event.TheVariants as event
-use Rattle.switch_ir.specs.Port.{PortState, PassesUp, PassesDown, IsDownFrame}
-use Rattle.switch_ir.specs.declared.port.UpEnd.TheVariants as up
+use Rattle.switch_ir.specs.Port.{PortState, HasDownPass, HasUpPass, IsDownFrame, IsUpFrame, StagesDown, StagesUp}
+use Rattle.switch_ir.specs.UnderWay.{EndsDownAtOnce, EndsUpAtOnce, GoesDown, GoesUp}
+use Rattle.switch_ir.specs.declared.port.DownEnd.{DownEnd}
 use Rattle.switch_ir.specs.declared.port.DownEnd.TheVariants as down
+use Rattle.switch_ir.specs.declared.port.UpEnd.{UpEnd}
+use Rattle.switch_ir.specs.declared.port.UpEnd.TheVariants as up
 use Rattle.replay_state.specs.Answers.{Answers, Setup}
-use Rattle.replay_state.specs.Journal.{Call, Finished, SentUp, journal, up_answer}
-use Rattle.replay_state.specs.Places.{HavePlaces}
-use Rattle.replay_state.specs.Program.{SplitProgram}
-use Rattle.replay_state.specs.State.{State}
-use Rattle.replay_state.specs.Step.{applies, step}
+use Rattle.replay_state.specs.Carried.{Carried}
+use Rattle.replay_state.specs.Journal.{AsksDown, AsksStageDown, AsksStageUp, AsksUp, Call, CalledDown, CalledStageDown, CalledStageUp, CalledUp, DownAnswer, Finished, GoingDown, GoingUp, HasGoneUp, Released, SentUp, UpAnswer}
+use Rattle.replay_state.specs.Journal.{asks, asks_down, asks_stage, down_answer, down_end, down_frame, frame_in, is_down_end, is_up_end, journal, over_in, question_of, up_answer, up_end}
+use Rattle.replay_state.specs.Places.{HavePlaces, IsHeld}
+use Rattle.replay_state.specs.Program.{SplitProgram, packet_at}
+use Rattle.replay_state.specs.declared.pass.Pass.{Pass}
+use Rattle.replay_state.specs.State.{Entered, State, seen}
+use Rattle.replay_state.specs.Step.{applies, came, came_down, ended, happens, pass_of, staged, step, tick}
+use Rattle.split_answers.specs.Over.{IsGiven}
+use Rattle.split_answers.specs.Through.{down_end_of, end_of}
+use Rattle.split_answers.specs.UnderWay.{IsOnSwitch, highest_of, passes_of}
+use Rattle.replay_contracts.specs.Called.{WasMade}
 use Rattle.replay_contracts.specs.Given.{Given, code_for, setup_for, whole}
 use Rattle.replay_contracts.specs.Replay.{answered}
 use Rattle.replay_contracts.specs.Replayer.{stepped_by}
 use Rattle.replay_contracts.specs.declared.job.Stepped.{Stepped}
 use Rattle.replay_contracts.specs.declared.job.Stepped.TheVariants.{Did, Idle}
-use Rattle.replay_course.specs.Fates as fates_of
 use Rattle.replay_course.specs.declared.course.Course.{Course}
-use Rattle.replay_course.specs.Going.{HasTurned, IsGoing, IsSound, unapplied}
-use Rattle.replay_course.specs.Shown.{IsShown, taken}
+use Rattle.replay_course.specs.Going.{FitsDown, FitsUp, HasStage, HasTurned, IsGoing, IsSound, MayComeIn, MayComeOut, TakesDown, TakesOneMore, TakesUp, came_to, less_one, pass_for, unapplied}
+use Rattle.replay_course.specs.Shown.{IsShown}
+use Rattle.replay_course.proofs.Calling.{keeps_all}
 use Rattle.replay_course.proofs.Costs.{enough}
-use Rattle.output_commit.specs.Batches.{fits}
-use Rattle.replay_course.proofs.Calling.{came_down, finished, keeps_all, went_up}
-use Rattle.replay_course.proofs.Lists.{each_at, length_map}
-use Rattle.replay_course.proofs.Sounding.{FramedDown}
-use Rattle.replay_course.proofs.Turning.{FreshDownLaw, FreshUpLaw, OnceLaw, PlaceLaw, StepLaw, admit_turned, down_turned, fates_count, idle_turned, fits_same, quiet_turned}
+use Rattle.replay_course.proofs.Counting.{before_server, each_set, remove_at_most, remove_before, set_count}
+use Rattle.replay_course.proofs.Lists.{each_at, each_remove, get_last, get_member, get_removed, length_map, map_remove, none_at_end}
+use Rattle.replay_course.proofs.Showing.{down_at, number_of, still_up}
+use Rattle.replay_course.proofs.Sounding.{FramedDown, HasLeft, taken_room, taken_sound}
+use Rattle.replay_course.proofs.Travelling.{pass_is, staged_shown, taken_out}
+use Rattle.replay_course.proofs.Turning.{FreshDownLaw, FreshUpLaw, GoneLaw, OnceLaw, PlaceLaw, StepLaw, answers_down, answers_up, call_turned, came_is, carried_down, carried_passes, down_call, fates_count, fits_same, have_places, idle_turned, placed_after, quiet_turned, stage_down_call, stage_up_call, up_call}
 
 -- ## Events that can't apply
 
@@ -57,11 +69,11 @@ idles x ev stepped c after port going idle sound same counted shows never =
     idle_turned x ev stepped c after port going idle (sound x going.sound) same counted never
     (λ calls st off h. shows (whole x) (setup_for x) (answered x calls) calls st ev off h)
 
-pub stage_idles : (x : Given) (stepped : Stepped) (c after : Course) (port : PortState) (j : ℕ) → IsGoing x c port → stepped ≡ Idle
+pub stage_idles : (x : Given) (stepped : Stepped) (c after : Course) (port : PortState) (j : ℕ) → IsGoing x c port → length c.passes.items ≤ j → stepped ≡ Idle
     → ((y : Given) → IsSound y c → IsSound y after) → unapplied after ≡ unapplied c → after.events ≡ c.events + 1 → ShowsIdle c after → HasTurned x (event.Stage j) stepped c port after port
-stage_idles x stepped c after port j going idle sound same counted shows =
+stage_idles x stepped c after port j going past idle sound same counted shows =
     idles x (event.Stage j) stepped c after port going idle sound same counted shows
-    (λ calls st h. ap (λ l. nat_lt j (length l)) h.passes ∙ past_is j 0 (omega arith))
+    (λ calls st h. past_is _ _ (subst (λ (l : List Pass). length l ≤ j) h.passes past))
 
 pub admit_idles : (x : Given) (stepped : Stepped) (c after : Course) (port : PortState) (number : ℕ) (list : List Packet) → IsGoing x c port
     → number ≡ length c.fates.items → list ≡ x.packets → length list ≤ number → stepped ≡ Idle
@@ -126,7 +138,83 @@ pub sent_turned : (x : Given) (stepped : Stepped) (c after : Course) (port : Por
 sent_turned x stepped c after port going so shows sound fewer counted =
     quiet_turned x event.Send stepped c after port port going (keeps_all port) (sound x going.sound) (enough _ _ _ fewer going.spare) counted
     (λ calls st h may. refl)
-    (λ events calls st replay h. (so (whole x) (setup_for x) calls st h, shows (whole x) (setup_for x) (answered x calls) calls st (fits_same x c going.plain going.sound) h))
+    (λ events calls st replay h. (so (whole x) (setup_for x) calls st h, shows (whole x) (setup_for x) (answered x calls) calls st (fits_same x c going.prepared going.sound) h))
+
+-- ## How calls end
+
+-- a call over a packet that arrived ends its pass just where that has no stages
+ends_at_once : (answer : UpAnswer) → EndsUpAtOnce (end_of answer) → is_up_end answer ≡ true
+ends_at_once (Finished verdict) h = refl
+ends_at_once (SentUp frame) h = refl
+ends_at_once GoingUp h = absurd h
+
+ends_so : (left : Bool) (answer : UpAnswer) → GoesUp left (end_of answer) → is_up_end answer ≡ not left
+ends_so left (Finished verdict) h = ap not (sym h)
+ends_so left (SentUp frame) h = ap not (sym h)
+ends_so left GoingUp h = ap not (sym h)
+
+not_zero : (n : ℕ) → eqb (suc n) 0 ≡ false
+not_zero n = elim (cases_Bool (eqb (suc n) 0)) [ inl t ↦ let bad = eqb-true (suc n) 0 t in absurd (omega arith) | inr f ↦ f ]
+
+none_left : (highest : ℕ) → not (nat_lt 0 highest) ≡ eqb highest 0
+none_left zero = refl
+none_left (suc n) = ap not (lt-ltb 0 (suc n) (omega arith)) ∙ sym (not_zero n)
+
+module _ (x : Given) (answer : UpAnswer) (n : ℕ) (packet : Packet) (old new : PortState) (loaded : old.code ≡ Some (code_for x)) where
+  pub up_ends_so : (fine : Bool) → TakesUp fine (end_of answer) n packet old new
+      → is_up_end answer ≡ eqb (if fine then (whole x).pre_stages else 0) 0
+  up_ends_so false takes = ends_at_once answer takes.ends
+  up_ends_so true takes = ends_so _ answer (takes.1.goes (code_for x) loaded) ∙ none_left (whole x).pre_stages
+
+  pub up_made : (fine : Bool) → TakesUp fine (end_of answer) n packet old new → WasMade (CalledUp fine n packet answer) old new
+  up_made false takes = takes
+  up_made true takes = takes
+
+  pub up_spare : (fine : Bool) → TakesUp fine (end_of answer) n packet old new → old.spare ≤ new.spare
+  up_spare false takes = takes.kept.spare
+  up_spare true takes = takes.1.kept.spare
+
+  framed : (fine : Bool) → TakesUp fine (end_of answer) n packet old new → IsUpFrame (code_for x) n packet.port packet.bytes (end_of answer)
+  framed false takes = takes.frame (code_for x) loaded
+  framed true takes = takes.1.frame (code_for x) loaded
+
+-- a frame that goes up has the layout of its way
+pub up_fits : (x : Given) (pass : Pass) (n arrival : ℕ) (bytes : List ℕ) (answer : UpAnswer) → IsUpFrame (code_for x) n arrival bytes (end_of answer)
+    → (is_up_end answer ≡ false → 0 < pass.left) → FitsUp x pass (end_of answer)
+up_fits x pass n arrival bytes (Finished verdict) shape left = tt
+up_fits x pass n arrival bytes (SentUp frame) shape left = record { number = n; port = arrival; values = shape.0; packet = bytes; is = shape.1 }
+up_fits x pass n arrival bytes GoingUp shape left = left refl
+
+-- so do calls over packets that come down
+down_ends_at_once : (answer : DownAnswer) → EndsDownAtOnce (down_end_of answer) → is_down_end answer ≡ true
+down_ends_at_once (Released verdict) h = refl
+down_ends_at_once GoingDown h = absurd h
+
+down_ends_by : (left : Bool) (answer : DownAnswer) → GoesDown left (down_end_of answer) → is_down_end answer ≡ not left
+down_ends_by left (Released verdict) h = ap not (sym h)
+down_ends_by left GoingDown h = ap not (sym h)
+
+module _ (x : Given) (answer : DownAnswer) (n : ℕ) (frame : List ℕ) (old new : PortState) (loaded : old.code ≡ Some (code_for x)) where
+  pub down_ends_so : (fine : Bool) → TakesDown fine (down_end_of answer) frame old new
+      → is_down_end answer ≡ eqb (if fine then (whole x).post_stages else 0) 0
+  down_ends_so false takes = down_ends_at_once answer takes.ends
+  down_ends_so true takes = down_ends_by _ answer (takes.1.goes (code_for x) loaded) ∙ none_left (whole x).post_stages
+
+  pub down_made : (fine : Bool) → TakesDown fine (down_end_of answer) frame old new → WasMade (CalledDown fine n frame answer) old new
+  down_made false takes = takes
+  down_made true takes = takes
+
+  pub down_spare : (fine : Bool) → TakesDown fine (down_end_of answer) frame old new → old.spare ≤ new.spare
+  down_spare false takes = takes.kept.spare
+  down_spare true takes = takes.1.kept.spare
+
+pub down_fits : (pass : Pass) (answer : DownAnswer) → (is_down_end answer ≡ false → 0 < pass.left) → FitsDown pass (down_end_of answer)
+down_fits pass (Released verdict) left = tt
+down_fits pass GoingDown left = left refl
+
+has_some : (n : ℕ) (b : Bool) → b ≡ eqb n 0 → b ≡ false → 0 < n
+has_some zero b is off = let bad : false ≡ true = sym off ∙ is in cc
+has_some (suc n) b is off = omega arith
 
 -- ## A packet that arrives
 
@@ -136,54 +224,326 @@ here_at list packets number count p same is less at =
     subst (λ l. slice_get l count ≡ Some p) same (subst (λ n. slice_get list n ≡ Some p) is
     (slice_get-get_or list number p less ∙ ap (λ q. Some q) (sym at)))
 
-module _ (x : Given) (c after : Course) (old new : PortState) (packet : Packet) (number : ℕ) (list : List Packet) (bytes : List ℕ)
-    (places : PlaceLaw) (once : OnceLaw) (fresh : FreshUpLaw)
-    (going : IsGoing x c old) (is : number ≡ length c.fates.items) (same_list : list ≡ x.packets) (whole_bytes : bytes ≡ packet.bytes)
-    (less : number < length list) (at : packet ≡ get_or list number packet) (same : unapplied after ≡ unapplied c) (counted : after.events ≡ c.events + 1) where
-  arriving : slice_get x.packets (length c.fates.items) ≡ Some packet
-  arriving = here_at list x.packets number _ packet same_list is less at
+pub arriving : (x : Given) (c : Course) (packet : Packet) (number : ℕ) (list : List Packet) → number ≡ length c.fates.items → list ≡ x.packets
+    → number < length list → packet ≡ get_or list number packet → slice_get x.packets (length c.fates.items) ≡ Some packet
+arriving x c packet number list is same less at = here_at list x.packets number _ packet same is less at
 
-  arrives : IsArrival packet
-  arrives = each_at IsArrival x.packets _ packet going.plain.ready.arrivals arriving
+-- what is shown where the call over a packet that arrived has ended so
+abbrev pub ShowsUp : Course → Pass → UpEnd → Course → Type 0
+ShowsUp mid pass end after = (s : SplitProgram) (calls more : List Call) (st : State) (answer : UpAnswer) → IsShown s calls st mid
+    → MayComeIn calls st pass → end ≡ end_of answer → up_answer (calls ++ more) pass.number ≡ up_end answer
+    → IsShown s (calls ++ more) (came_to (journal s (calls ++ more)) st pass (is_up_end answer)) after
 
-  in_trace : length c.fates.items < length x.packets
-  in_trace = subst (λ n. n < length x.packets) is (subst (λ l. number < length l) same_list less)
+abbrev pub ShowsDown : Course → Pass → DownEnd → Course → Type 0
+ShowsDown mid pass end after = (s : SplitProgram) (calls more : List Call) (st : State) (answer : DownAnswer) → IsShown s calls st mid
+    → MayComeOut calls st pass (came_to (journal s (calls ++ more)) st pass (is_down_end answer)) → end ≡ down_end_of answer
+    → down_answer (calls ++ more) pass.number ≡ down_end answer
+    → IsShown s (calls ++ more) (came_to (journal s (calls ++ more)) st pass (is_down_end answer)) after
 
-  pub admit_finishes : (verdict : Verdict) → PassesUp (up.Finished verdict) number packet.port bytes old new
-      → ((y : Given) → IsSound y c → length c.fates.items < length y.packets → IsSound y after)
-      → ((s : SplitProgram) (setup : Setup) (calls : List Call) (packet : Packet) (st : State) → IsShown s calls st c → setup.pre_stages ≡ 0
-      → applies setup st event.Admit ≡ true → up_answer calls (length st.progress) ≡ None
-      → IsShown s (taken calls st packet (Finished verdict)) (step setup (journal s (taken calls st packet (Finished verdict))) st event.Admit) after)
-      → HasTurned x event.Admit Did c old after new
-  admit_finishes verdict passes sound shows =
-      let passed : PassesUp (up.Finished verdict) (length c.fates.items) packet.port packet.bytes old new =
-      subst (λ n. PassesUp (up.Finished verdict) n packet.port packet.bytes old new) is
-      (subst (λ b. PassesUp (up.Finished verdict) number packet.port b old new) whole_bytes passes) in
-      admit_turned places once fresh x c after old new packet (Finished verdict) going arriving refl
-      (finished (code_for x) (length c.fates.items) packet verdict old new arrives going.loaded passed) passes.kept.spare
-      (sound x going.sound in_trace) same counted (λ s setup calls p st h stand stages may none. shows s setup calls p st h stages may none)
+-- the state in which a packet came may let it in
+may_come_in : (calls : List Call) (st : State) (stages : ℕ) → Carried (HasGoneUp calls) st → MayComeIn calls (came (tick st)) (pass_of (tick st) true (length st.progress) stages)
+may_come_in calls st stages gone = record {
+  gone = record { up = gone.up; held = gone.held; down = gone.down; passes = gone.passes };
+  pre = refl;
+  entered = (st.events + 1, get_last st.progress (Entered (st.events + 1) (seen st)));
+}
 
-  pub admit_sends_up : (frame : List ℕ) → PassesUp (up.Up frame) number packet.port bytes old new
-      → ((y : Given) → IsSound y c → length c.fates.items < length y.packets → IsFrame 1 (up_layout y.program y.split) frame → IsSound y after)
-      → ((s : SplitProgram) (setup : Setup) (calls : List Call) (packet : Packet) (st : State) → IsShown s calls st c → HavePlaces st → setup.pre_stages ≡ 0
-      → applies setup st event.Admit ≡ true → up_answer calls (length st.progress) ≡ None
-      → IsShown s (taken calls st packet (SentUp frame)) (step setup (journal s (taken calls st packet (SentUp frame))) st event.Admit) after)
-      → HasTurned x event.Admit Did c old after new
-  admit_sends_up frame passes sound shows =
-      let passed : PassesUp (up.Up frame) (length c.fates.items) packet.port packet.bytes old new =
-      subst (λ n. PassesUp (up.Up frame) n packet.port packet.bytes old new) is
-      (subst (λ b. PassesUp (up.Up frame) number packet.port b old new) whole_bytes passes) in
-      let shape = passed.frame (code_for x) going.loaded in
-      let framed : IsFrame 1 (up_layout x.program x.split) frame = record {
-        number = length c.fates.items;
-        port = packet.port;
-        values = shape.0;
-        packet = packet.bytes;
-        is = shape.1;
-      } in
-      admit_turned places once fresh x c after old new packet (SentUp frame) going arriving refl
-      (went_up (code_for x) (length c.fates.items) packet frame old new arrives going.loaded passed) passes.kept.spare
-      (sound x going.sound in_trace framed) same counted shows
+pub admit_turned : OnceLaw → FreshUpLaw → GoneLaw → (x : Given) (c mid after : Course) (old new : PortState) (packet : Packet) (pass : Pass) (end : UpEnd) (answer : UpAnswer)
+    → end ≡ end_of answer → IsGoing x c old → slice_get x.packets (length c.fates.items) ≡ Some packet → pass ≡ pass_for c true (length c.fates.items)
+    → TakesUp x.manner.fine end pass.number packet old new
+    → ((s : SplitProgram) (calls : List Call) (st : State) → IsShown s calls st c → IsShown s calls (came (tick st)) mid)
+    → ((y : Given) → IsSound y c → length c.fates.items < length y.packets → IsSound y mid × TakesOneMore y mid)
+    → ShowsUp mid pass end after → ((y : Given) → IsSound y mid → TakesOneMore y mid → FitsUp y pass end → IsSound y after)
+    → unapplied after ≡ unapplied c → after.events ≡ c.events + 1 → HasTurned x event.Admit Did c old after new
+admit_turned once fresh gone x c mid after old new packet pass end answer end_is going here pass_so takes_so mid_shown mid_sound shows sound same counted =
+    let setup = setup_for x in
+    let n = length c.fates.items in
+    let fine = x.manner.fine in
+    let stages : c.pre_stages ≡ setup.pre_stages = going.sound.pre_stages in
+    let number : pass.number ≡ n = ap (λ (p : Pass). p.number) pass_so in
+    let left : pass.left ≡ setup.pre_stages = ap (λ (p : Pass). p.left) pass_so ∙ stages in
+    let takes : TakesUp fine (end_of answer) n packet old new = subst (λ k. TakesUp fine (end_of answer) k packet old new) number (subst (λ e. TakesUp fine e pass.number packet old new) end_is takes_so) in
+    let loaded = going.loaded in
+    let ends : is_up_end answer ≡ eqb setup.pre_stages 0 = up_ends_so x answer n packet old new loaded fine takes in
+    let less = slice_get_within x.packets n packet here in
+    let first = mid_sound x going.sound less in
+    let fits : FitsUp x pass (end_of answer) = up_fits x pass n packet.port packet.bytes answer (framed x answer n packet old new loaded fine takes)
+    (λ off. subst (λ k. 0 < k) (sym left) (has_some setup.pre_stages (is_up_end answer) ends off)) in
+    let spare : unapplied after ≤ new.spare = let more = up_spare x answer n packet old new loaded fine takes in let before = going.spare in subst (λ k. k ≤ new.spare) (sym same) (omega arith) in
+    let arrival : IsArrival packet = each_at IsArrival x.packets n packet going.prepared.ready.arrivals here in
+    call_turned x event.Admit c after old new (CalledUp fine n packet answer) going arrival (up_made x answer n packet old new loaded fine takes)
+    (sound x first.0 first.1 (subst (FitsUp x pass) (sym end_is) fits)) spare counted
+    (λ events calls st replay h.
+    let count = fates_count (whole x) calls st c h in
+    let at : slice_get x.packets (length st.progress) ≡ Some packet = subst (λ k. slice_get x.packets k ≡ Some packet) count here in
+    let packet_is : packet_at x.packets (length st.progress) ≡ packet = same_Some _ _ (sym (slice_get-get_or x.packets (length st.progress) _ (slice_get_within x.packets (length st.progress) packet at)) ∙ at) in
+    let may : applies setup st event.Admit ≡ true = lt-ltb _ _ (slice_get_within x.packets (length st.progress) packet at) in
+    let call = CalledUp fine n packet answer in
+    let all = calls ++ call ∷ [] in
+    let now : pass ≡ pass_of (tick st) true (length st.progress) setup.pre_stages =
+    pass_so ∙ pass_is (whole x) calls st c true n h ∙ (λ i. pass_of (tick st) true (count i) (stages i)) in
+    let told : up_answer all pass.number ≡ up_end answer = subst (λ k. up_answer all k ≡ up_end answer) (sym number)
+    (answers_up once fresh x events calls st n answer call None replay.answered (ap (slice_get st.progress) count ∙ none_at_end st.progress) refl (up_call fine n packet answer)) in
+    let came_shown = shows (whole x) calls (call ∷ []) (came (tick st)) answer (mid_shown (whole x) calls st h)
+    (subst (MayComeIn calls (came (tick st))) (sym now) (may_come_in calls st setup.pre_stages (gone setup (whole x) x.packets events calls st replay.answered))) end_is told in
+    let a = answered x all in
+    record {
+      may = may;
+      asks_so = λ i. AsksUp fine (count i) (sym packet_is i) (ends i) ∷ [];
+      shown = subst (λ w. IsShown (whole x) all w after)
+          ((λ i. came_to a (came (tick st)) (now i) (ends i)) ∙ came_is a (came (tick st)) (pass_of (tick st) true (length st.progress) setup.pre_stages) (eqb setup.pre_stages 0)) came_shown;
+    })
+
+-- ## A pass takes a stage
+
+last_by : (stage left highest : ℕ) → stage + left ≡ highest → 0 < left → not (nat_lt (suc stage) highest) ≡ leb left 1
+last_by stage left highest is some = elim (cases_Bool (leb left 1)) [
+  | inl t ↦ let low = leb-true left 1 t in ap not (le-ltb (suc stage) highest (omega arith)) ∙ sym t
+  | inr f ↦ let high = leb-false left 1 f in ap not (lt-ltb (suc stage) highest (omega arith)) ∙ sym f
+]
+
+all_stages : (fine : Bool) (highest stage left : ℕ) → stage + left ≡ (if fine then highest else 0) → 0 < left → stage + left ≡ highest
+all_stages true highest stage left is some = is
+all_stages false highest stage left is some = absurd (omega arith)
+
+module _ (x : Given) (c : Course) (old new : PortState) (j : ℕ) (pass : Pass) (going : IsGoing x c old) (here : slice_get c.passes.items j ≡ Some pass)
+    (on : IsOnSwitch (setup_for x) x.packets old.passes pass) where
+  module _ (pre : pass.pre ≡ true) where
+    pub up_there : old.passes.pre pass.number ≡ Some on.own
+    up_there = ap (λ b. passes_of b old.passes pass.number) (sym pre) ∙ on.there
+
+    pub has_up_pass : HasUpPass old pass.number
+    has_up_pass = subst IsSome (sym up_there) refl
+
+    up_left : on.own.stage + pass.left ≡ (whole x).pre_stages
+    up_left = all_stages x.manner.fine _ _ _ (on.left ∙ ap (λ b. highest_of b (setup_for x)) pre) on.some
+
+    pub stage_ends : (answer : UpAnswer) → StagesUp (end_of answer) pass.number old new → is_up_end answer ≡ leb pass.left 1
+    stage_ends answer stages =
+        ends_so _ answer (stages.goes (code_for x) on.own going.loaded up_there) ∙ last_by on.own.stage pass.left (whole x).pre_stages up_left on.some
+
+    stage_frame : (answer : UpAnswer) → StagesUp (end_of answer) pass.number old new → IsUpFrame (code_for x) pass.number on.own.packet.port on.own.packet.bytes (end_of answer)
+    stage_frame answer stages = stages.frame (code_for x) on.own going.loaded up_there
+
+  module _ (post : pass.pre ≡ false) where
+    pub down_there : old.passes.post pass.number ≡ Some on.own
+    down_there = ap (λ b. passes_of b old.passes pass.number) (sym post) ∙ on.there
+
+    pub has_down_pass : HasDownPass old pass.number
+    has_down_pass = subst IsSome (sym down_there) refl
+
+    down_left : on.own.stage + pass.left ≡ (whole x).post_stages
+    down_left = all_stages x.manner.fine _ _ _ (on.left ∙ ap (λ b. highest_of b (setup_for x)) post) on.some
+
+    pub stage_down_ends : (answer : DownAnswer) → StagesDown (down_end_of answer) pass.number old new → is_down_end answer ≡ leb pass.left 1
+    stage_down_ends answer stages =
+        down_ends_by _ answer (stages.goes (code_for x) on.own going.loaded down_there) ∙ last_by on.own.stage pass.left (whole x).post_stages down_left on.some
+
+staged_at : (x : Given) (calls : List Call) (st : State) (c : Course) (j : ℕ) (pass : Pass) → IsShown (whole x) calls st c → slice_get c.passes.items j ≡ Some pass
+    → slice_get st.passes j ≡ Some pass
+staged_at x calls st c j pass h here = ap (λ l. slice_get l j) (sym h.passes) ∙ here
+
+stage_applies : (x : Given) (st : State) (j : ℕ) (pass : Pass) → slice_get st.passes j ≡ Some pass → applies (setup_for x) st (event.Stage j) ≡ true
+stage_applies x st j pass at = lt-ltb _ _ (slice_get_within st.passes j pass at)
+
+-- what a stage does, by whether it is the last
+staged_is : (a : Answers) (st : State) (j : ℕ) (pass : Pass) → slice_get st.passes j ≡ Some pass
+    → staged a (tick st) j (slice_get st.passes j)
+    ≡ (if leb pass.left 1 then ended a (record (tick st) { passes = remove st.passes j }) pass
+    else record (tick st) { passes = slice_set st.passes j (record pass { left = pass.left - 1 }) })
+staged_is a st j pass at = ap (staged a (tick st) j) at
+
+asks_up : (x : Given) (calls : List Call) (st : State) (j : ℕ) (pass : Pass) (ends : Bool) → slice_get st.passes j ≡ Some pass → pass.pre ≡ true → ends ≡ leb pass.left 1
+    → AsksStageUp pass.number ends ∷ [] ≡ asks (setup_for x) (whole x) x.packets calls st (event.Stage j)
+asks_up x calls st j pass ends at pre is =
+    ap (λ b. AsksStageUp pass.number b ∷ []) is
+    ∙ sym (ap asks_stage at ∙ ap (λ (b : Bool). if b then AsksStageUp pass.number (leb pass.left 1) ∷ [] else AsksStageDown pass.number (leb pass.left 1) ∷ []) pre)
+
+asks_behind : (x : Given) (calls : List Call) (st : State) (j : ℕ) (pass : Pass) (ends : Bool) → slice_get st.passes j ≡ Some pass → pass.pre ≡ false → ends ≡ leb pass.left 1
+    → AsksStageDown pass.number ends ∷ [] ≡ asks (setup_for x) (whole x) x.packets calls st (event.Stage j)
+asks_behind x calls st j pass ends at post is =
+    ap (λ b. AsksStageDown pass.number b ∷ []) is
+    ∙ sym (ap asks_stage at ∙ ap (λ (b : Bool). if b then AsksStageUp pass.number (leb pass.left 1) ∷ [] else AsksStageDown pass.number (leb pass.left 1) ∷ []) post)
+
+one_left : (left : ℕ) → 1 < left → 0 < left - 1
+one_left left h = omega arith
+
+-- a course whose pass has a stage less
+module _ (x : Given) (c after : Course) (j : ℕ) (pass : Pass) (here : slice_get c.passes.items j ≡ Some pass)
+    (is : HasStage (record c { events = c.events + 1 }) j pass after) where
+  abbrev less : Pass
+  less = less_one pass
+
+  with_less : after.passes.items ≡ slice_set c.passes.items j less
+  with_less = is.passes
+
+  with_less_sound : IsSound x c → 1 < pass.left → IsSound x after
+  with_less_sound h more =
+      taken_sound x c after h (subst (Each HasLeft) (sym with_less) (each_set HasLeft c.passes.items j less h.left (one_left pass.left more)))
+      (let same : before_server after.passes.items ≡ before_server c.passes.items = ap before_server with_less ∙ set_count c.passes.items j pass less here refl in omega arith)
+      is.pre_stages is.post_stages (ap (λ q. q.items) is.up) is.server is.commit
+      (subst (Each (FramedDown x)) (sym (ap (λ q. q.items) is.down)) h.down) (ap (λ q. q.items) is.fates)
+      (let i = h.within.idle in let e = is.events in let f = is.idle in omega arith)
+
+  with_less_shown : (calls more : List Call) (st : State) → IsShown (whole x) calls st c → Carried (HasGoneUp calls) st
+      → IsShown (whole x) (calls ++ more) (record (tick st) { passes = slice_set st.passes j less }) after
+  with_less_shown calls more st h gone =
+      staged_shown (whole x) calls more st c after pass h gone (slice_set st.passes j less) (with_less ∙ ap (λ l. slice_set l j less) h.passes)
+      is.up is.server is.commit is.down is.fates is.events is.idle
+
+-- the pass goes on
+pub stage_goes_on : GoneLaw → (x : Given) (c after : Course) (old new : PortState) (j : ℕ) (pass : Pass) (call : Call)
+    → IsGoing x c old → slice_get c.passes.items j ≡ Some pass → IsGiven (code_for x) call → WasMade call old new → old.spare ≤ new.spare → leb pass.left 1 ≡ false
+    → ((calls : List Call) (st : State) → slice_get st.passes j ≡ Some pass → question_of call ∷ [] ≡ asks (setup_for x) (whole x) x.packets (calls ++ call ∷ []) st (event.Stage j))
+    → HasStage (record c { events = c.events + 1 }) j pass after → HasTurned x (event.Stage j) Did c old after new
+stage_goes_on gone x c after old new j pass call going here given was more some asks_so is =
+    let same : unapplied after ≡ unapplied c = ap (λ (k : Commit). length (commands k) - k.done) is.commit in
+    call_turned x (event.Stage j) c after old new call going given was (with_less_sound x c after j pass here is going.sound (leb-false pass.left 1 some))
+    (let before = going.spare in subst (λ k. k ≤ new.spare) (sym same) (omega arith)) is.events
+    (λ events calls st replay h.
+    let at = staged_at x calls st c j pass h here in
+    let a = answered x (calls ++ call ∷ []) in
+    record {
+      may = stage_applies x st j pass at;
+      asks_so = asks_so calls st at;
+      shown = subst (λ w. IsShown (whole x) (calls ++ call ∷ []) w after)
+          (sym (staged_is a st j pass at
+          ∙ ap (λ (b : Bool). if b then ended a (record (tick st) { passes = remove st.passes j }) pass else record (tick st) { passes = slice_set st.passes j (record pass { left = pass.left - 1 }) }) some))
+          (with_less_shown x c after j pass here is calls (call ∷ []) st h (gone (setup_for x) (whole x) x.packets events calls st replay.answered));
+    })
+
+pub stage_up_goes_on : GoneLaw → (x : Given) (c after : Course) (old new : PortState) (j : ℕ) (pass : Pass) → IsGoing x c old
+    → slice_get c.passes.items j ≡ Some pass → IsOnSwitch (setup_for x) x.packets old.passes pass → pass.pre ≡ true → StagesUp up.Going pass.number old new
+    → HasStage (record c { events = c.events + 1 }) j pass after → HasTurned x (event.Stage j) Did c old after new
+stage_up_goes_on gone x c after old new j pass going here on pre stages is =
+    let call = CalledStageUp pass.number GoingUp in
+    let more : false ≡ leb pass.left 1 = stage_ends x c old new j pass going here on pre GoingUp stages in
+    stage_goes_on gone x c after old new j pass call going here tt (has_up_pass x c old new j pass going here on pre, stages) stages.kept.spare (sym more)
+    (λ calls st at. asks_up x (calls ++ call ∷ []) st j pass false at pre more) is
+
+pub more_stages_up : (x : Given) (c : Course) (old new : PortState) (j : ℕ) (pass : Pass) → IsGoing x c old → slice_get c.passes.items j ≡ Some pass
+    → IsOnSwitch (setup_for x) x.packets old.passes pass → pass.pre ≡ true → StagesUp up.Going pass.number old new → 1 < pass.left
+more_stages_up x c old new j pass going here on pre stages = leb-false pass.left 1 (sym (stage_ends x c old new j pass going here on pre GoingUp stages))
+
+pub more_stages_down : (x : Given) (c : Course) (old new : PortState) (j : ℕ) (pass : Pass) → IsGoing x c old → slice_get c.passes.items j ≡ Some pass
+    → IsOnSwitch (setup_for x) x.packets old.passes pass → pass.pre ≡ false → StagesDown down.Going pass.number old new → 1 < pass.left
+more_stages_down x c old new j pass going here on post stages = leb-false pass.left 1 (sym (stage_down_ends x c old new j pass going here on post GoingDown stages))
+
+pub stage_down_goes_on : GoneLaw → (x : Given) (c after : Course) (old new : PortState) (j : ℕ) (pass : Pass) → IsGoing x c old
+    → slice_get c.passes.items j ≡ Some pass → IsOnSwitch (setup_for x) x.packets old.passes pass → pass.pre ≡ false → StagesDown down.Going pass.number old new
+    → HasStage (record c { events = c.events + 1 }) j pass after → HasTurned x (event.Stage j) Did c old after new
+stage_down_goes_on gone x c after old new j pass going here on post stages is =
+    let call = CalledStageDown pass.number GoingDown in
+    let more : false ≡ leb pass.left 1 = stage_down_ends x c old new j pass going here on post GoingDown stages in
+    stage_goes_on gone x c after old new j pass call going here tt (has_down_pass x c old new j pass going here on post, stages) stages.kept.spare (sym more)
+    (λ calls st at. asks_behind x (calls ++ call ∷ []) st j pass false at post more) is
+
+-- a stage call that isn't going on has ended the pass
+pub ends_up_here : (end : UpEnd) (answer : UpAnswer) → end ≡ end_of answer → (end ≡ up.Going → ⊥) → is_up_end answer ≡ true
+ends_up_here end (Finished verdict) is not_going = refl
+ends_up_here end (SentUp frame) is not_going = refl
+ends_up_here end GoingUp is not_going = absurd (not_going is)
+
+pub ends_down_here : (end : DownEnd) (answer : DownAnswer) → end ≡ down_end_of answer → (end ≡ down.Going → ⊥) → is_down_end answer ≡ true
+ends_down_here end (Released verdict) is not_going = refl
+ends_down_here end GoingDown is not_going = absurd (not_going is)
+
+pub was_there : {X : Type 0} (o : Option X) (P : Type 0) → OnSome o P → IsSome o → P
+was_there None P h s = cc
+was_there (Some x) P h s = h
+
+-- its last stage has ended it
+ended_is : (a : Answers) (st : State) (j : ℕ) (pass : Pass) → slice_get st.passes j ≡ Some pass → leb pass.left 1 ≡ true
+    → came_to a (record (tick st) { passes = remove st.passes j }) pass true ≡ staged a (tick st) j (slice_get st.passes j)
+ended_is a st j pass at last =
+    sym (staged_is a st j pass at
+    ∙ ap (λ (b : Bool). if b then ended a (record (tick st) { passes = remove st.passes j }) pass else record (tick st) { passes = slice_set st.passes j (record pass { left = pass.left - 1 }) }) last)
+
+without_shown : (x : Given) (calls : List Call) (st : State) (c mid : Course) (j : ℕ) → IsShown (whole x) calls st c
+    → mid.passes.items ≡ remove c.passes.items j → mid.up ≡ c.up → mid.server ≡ c.server → mid.commit ≡ c.commit → mid.down ≡ c.down → mid.fates ≡ c.fates
+    → mid.events ≡ c.events + 1 → mid.idle ≡ c.idle → IsShown (whole x) calls (record (tick st) { passes = remove st.passes j }) mid
+without_shown x calls st c mid j h passes up server commit down fates events idle =
+    taken_out (whole x) calls st c mid (remove st.passes j) st.down h (passes ∙ ap (λ l. remove l j) h.passes) (ap (λ q. q.items) up) server commit
+    (ap (λ q. map number_of q.items) down ∙ h.down) (λ k item e. (k, sym (ap (λ q. slice_get q.items k) down) ∙ e)) (ap (λ q. q.items) fates) events idle
+
+module _ (x : Given) (c mid after : Course) (old new : PortState) (j : ℕ) (pass : Pass) (going : IsGoing x c old) (here : slice_get c.passes.items j ≡ Some pass)
+    (on : IsOnSwitch (setup_for x) x.packets old.passes pass) (pre_stages : mid.pre_stages ≡ c.pre_stages) (post_stages : mid.post_stages ≡ c.post_stages)
+    (passes : mid.passes.items ≡ remove c.passes.items j) (up : mid.up ≡ c.up) (server : mid.server ≡ c.server) (commit : mid.commit ≡ c.commit) (down : mid.down ≡ c.down)
+    (fates : mid.fates ≡ c.fates) (events_are : mid.events ≡ c.events + 1) (idle : mid.idle ≡ c.idle)
+    (same : unapplied after ≡ unapplied mid) (counted : after.events ≡ mid.events) where
+  mid_sound : IsSound x mid
+  mid_sound =
+      let less = remove_at_most c.passes.items j pass here in
+      taken_sound x c mid going.sound (subst (Each HasLeft) (sym passes) (each_remove HasLeft c.passes.items j going.sound.left))
+      (let p = ap before_server passes in omega arith) pre_stages post_stages (ap (λ q. q.items) up) server commit
+      (subst (Each (FramedDown x)) (sym (ap (λ q. q.items) down)) going.sound.down) (ap (λ q. q.items) fates)
+      (let i = going.sound.within.idle in omega arith)
+
+  same_left : unapplied after ≡ unapplied c
+  same_left = same ∙ ap (λ (k : Commit). length (commands k) - k.done) commit
+
+  enough_spare : old.spare ≤ new.spare → unapplied after ≤ new.spare
+  enough_spare more = let before = going.spare in subst (λ k. k ≤ new.spare) (sym same_left) (omega arith)
+
+  -- a packet that arrived
+  pub stage_up_ends : PlaceLaw → OnceLaw → FreshUpLaw → GoneLaw → (end : UpEnd) (answer : UpAnswer) → end ≡ end_of answer → is_up_end answer ≡ true → pass.pre ≡ true
+      → StagesUp end pass.number old new → ShowsUp mid pass end after → ((y : Given) → IsSound y mid → TakesOneMore y mid → FitsUp y pass end → IsSound y after)
+      → HasTurned x (event.Stage j) Did c old after new
+  stage_up_ends places once fresh gone end answer end_is ends pre stages_so shows sound =
+      let stages = subst (λ e. StagesUp e pass.number old new) end_is stages_so in
+      let call = CalledStageUp pass.number answer in
+      let last : is_up_end answer ≡ leb pass.left 1 = stage_ends x c old new j pass going here on pre answer stages in
+      let fits = up_fits x pass pass.number on.own.packet.port on.own.packet.bytes answer (stage_frame x c old new j pass going here on pre answer stages) (λ off. let bad = sym ends ∙ off in cc) in
+      let room : TakesOneMore x mid = taken_room x c mid going.sound (let p = ap before_server passes in let r = remove_before c.passes.items j pass here pre in omega arith) (ap (λ q. q.items) up) server commit (ap (λ q. q.items) fates) in
+      call_turned x (event.Stage j) c after old new call going tt (has_up_pass x c old new j pass going here on pre, stages)
+      (sound x mid_sound room (subst (FitsUp x pass) (sym end_is) fits)) (enough_spare stages.kept.spare) (counted ∙ events_are)
+      (λ events calls st replay h.
+      let at = staged_at x calls st c j pass h here in
+      let may = stage_applies x st j pass at in
+      let stand = have_places places (setup_for x) (whole x) x.packets events calls st replay.answered in
+      let entered = stand.entered j pass at pre in
+      let carried = gone (setup_for x) (whole x) x.packets events calls st replay.answered in
+      let told = answers_up once fresh x events calls st pass.number answer call _ replay.answered entered.1 refl (stage_up_call pass.number answer) in
+      let came_shown = shows (whole x) calls (call ∷ []) (record (tick st) { passes = remove st.passes j }) answer (without_shown x calls st c mid j h passes up server commit down fates events_are idle)
+      (record { gone = carried_passes (HasGoneUp calls) st j carried; pre = pre; entered = entered }) end_is told in
+      let a = answered x (calls ++ call ∷ []) in
+      record {
+        may = may;
+        asks_so = asks_up x (calls ++ call ∷ []) st j pass (is_up_end answer) at pre last;
+        shown = subst (λ w. IsShown (whole x) (calls ++ call ∷ []) w after)
+            (ap (came_to a (record (tick st) { passes = remove st.passes j }) pass) ends ∙ ended_is a st j pass at (sym last ∙ ends)) came_shown;
+      })
+
+  -- one that came down
+  pub stage_down_ends_it : PlaceLaw → OnceLaw → StepLaw → FreshDownLaw → GoneLaw → (end : DownEnd) (answer : DownAnswer) → end ≡ down_end_of answer → is_down_end answer ≡ true → pass.pre ≡ false
+      → StagesDown end pass.number old new → ShowsDown mid pass end after → ((y : Given) → IsSound y mid → pass.pre ≡ false → FitsDown pass end → IsSound y after)
+      → HasTurned x (event.Stage j) Did c old after new
+  stage_down_ends_it places once steps fresh gone end answer end_is ends post stages_so shows sound =
+      let stages = subst (λ e. StagesDown e pass.number old new) end_is stages_so in
+      let call = CalledStageDown pass.number answer in
+      let last : is_down_end answer ≡ leb pass.left 1 = stage_down_ends x c old new j pass going here on post answer stages in
+      let fits = down_fits pass answer (λ off. let bad = sym ends ∙ off in cc) in
+      call_turned x (event.Stage j) c after old new call going tt (has_down_pass x c old new j pass going here on post, stages)
+      (sound x mid_sound post (subst (FitsDown pass) (sym end_is) fits)) (enough_spare stages.kept.spare) (counted ∙ events_are)
+      (λ events calls st replay h.
+      let at = staged_at x calls st c j pass h here in
+      let may = stage_applies x st j pass at in
+      let stand = have_places places (setup_for x) (whole x) x.packets events calls st replay.answered in
+      let held = stand.behind j pass at post in
+      let carried = gone (setup_for x) (whole x) x.packets events calls st replay.answered in
+      let told = answers_down once fresh x events calls st pass.number answer call _ replay.answered held.4 refl (stage_down_call pass.number answer) in
+      let asks_so = asks_behind x (calls ++ call ∷ []) st j pass (is_down_end answer) at post last in
+      let a = answered x (calls ++ call ∷ []) in
+      let is : came_to a (record (tick st) { passes = remove st.passes j }) pass (is_down_end answer) ≡ staged a (tick st) j (slice_get st.passes j) =
+      ap (came_to a (record (tick st) { passes = remove st.passes j }) pass) ends ∙ ended_is a st j pass at (sym last ∙ ends) in
+      let places_then = subst HavePlaces (sym is) (placed_after places steps x (event.Stage j) events calls call st may asks_so replay.answered) in
+      let came_shown = shows (whole x) calls (call ∷ []) (record (tick st) { passes = remove st.passes j }) answer (without_shown x calls st c mid j h passes up server commit down fates events_are idle)
+      (record { gone = carried_passes (HasGoneUp calls) st j carried; post = post; held = held; places = places_then }) end_is told in
+      record {
+        may = may;
+        asks_so = asks_so;
+        shown = subst (λ w. IsShown (whole x) (calls ++ call ∷ []) w after) is came_shown;
+      })
 
 -- ## A frame that comes down
 
@@ -199,12 +559,62 @@ framed_down x c port j n frame going here =
     subst (λ o. IfSome o (λ code. IsFrame 2 code.down frame)) (sym going.loaded)
     (each_at (FramedDown x) c.down.items j (n, frame) going.sound.down here)
 
-pub down_releases : PlaceLaw → OnceLaw → StepLaw → FreshDownLaw → (x : Given) (c after : Course) (old new : PortState) (j n : ℕ) (frame : List ℕ) (verdict : Verdict)
-    → IsGoing x c old → slice_get c.down.items j ≡ Some (n, frame) → PassesDown (down.Verdict verdict) frame old new
-    → after.up.items ≡ c.up.items → after.server ≡ c.server → after.commit ≡ c.commit → after.down.items ≡ remove c.down.items j
-    → after.fates.items ≡ slice_set c.fates.items n (fates_of.released (c.events + 1) verdict (slice_get c.fates.items n))
-    → after.events ≡ c.events + 1 → after.idle ≡ c.idle → HasTurned x (event.Down j) Did c old after new
-down_releases places once step_law fresh x c after old new j n frame verdict going here passes up server commit down fates events idle =
-    down_turned places once step_law fresh x c after old new j n frame verdict going here
-    (came_down (code_for x) n frame verdict old new going.loaded (each_at (FramedDown x) c.down.items j (n, frame) going.sound.down here) passes)
-    passes.kept.spare up server commit down fates events idle
+pub down_turned : PlaceLaw → OnceLaw → StepLaw → FreshDownLaw → GoneLaw → (x : Given) (c mid after : Course) (old new : PortState) (j n : ℕ) (frame : List ℕ) (pass : Pass) (end : DownEnd) (answer : DownAnswer)
+    → end ≡ down_end_of answer → IsGoing x c old → slice_get c.down.items j ≡ Some (n, frame) → number_in frame ≡ n → pass ≡ pass_for mid false n
+    → TakesDown x.manner.fine end frame old new
+    → mid.pre_stages ≡ c.pre_stages → mid.post_stages ≡ c.post_stages → mid.passes ≡ c.passes → mid.up ≡ c.up → mid.server ≡ c.server → mid.commit ≡ c.commit
+    → mid.down.items ≡ remove c.down.items j → mid.fates ≡ c.fates → mid.events ≡ c.events + 1 → mid.idle ≡ c.idle
+    → ShowsDown mid pass end after → ((y : Given) → IsSound y mid → pass.pre ≡ false → FitsDown pass end → IsSound y after)
+    → unapplied after ≡ unapplied mid → after.events ≡ mid.events → HasTurned x (event.Down j) Did c old after new
+down_turned places once steps fresh gone x c mid after old new j n frame pass end answer end_is going here numbered pass_so takes_so pre_stages post_stages passes up server commit down fates events_are idle shows sound same counted =
+    let setup = setup_for x in
+    let fine = x.manner.fine in
+    let takes : TakesDown fine (down_end_of answer) frame old new = subst (λ e. TakesDown fine e frame old new) end_is takes_so in
+    let stages : mid.post_stages ≡ setup.post_stages = post_stages ∙ going.sound.post_stages in
+    let post : pass.pre ≡ false = ap (λ (p : Pass). p.pre) pass_so in
+    let number : pass.number ≡ n = ap (λ (p : Pass). p.number) pass_so in
+    let left : pass.left ≡ setup.post_stages = ap (λ (p : Pass). p.left) pass_so ∙ stages in
+    let ends : is_down_end answer ≡ eqb setup.post_stages 0 = down_ends_so x answer n frame old new going.loaded fine takes in
+    let fits : FitsDown pass (down_end_of answer) = down_fits pass answer (λ off. subst (λ k. 0 < k) (sym left) (has_some setup.post_stages (is_down_end answer) ends off)) in
+    let framed = each_at (FramedDown x) c.down.items j (n, frame) going.sound.down here in
+    let mid_sound : IsSound x mid = taken_sound x c mid going.sound (subst (Each HasLeft) (sym (ap (λ q. q.items) passes)) going.sound.left)
+    (let p = ap (λ q. before_server q.items) passes in omega arith) pre_stages post_stages (ap (λ q. q.items) up) server commit
+    (subst (Each (FramedDown x)) (sym down) (each_remove (FramedDown x) c.down.items j going.sound.down)) (ap (λ q. q.items) fates)
+    (let i = going.sound.within.idle in omega arith) in
+    let same_left : unapplied after ≡ unapplied c = same ∙ ap (λ (k : Commit). length (commands k) - k.done) commit in
+    let spare : unapplied after ≤ new.spare = let more = down_spare x answer n frame old new going.loaded fine takes in let before = going.spare in subst (λ k. k ≤ new.spare) (sym same_left) (omega arith) in
+    let call = CalledDown fine n frame answer in
+    call_turned x (event.Down j) c after old new call going (framed, numbered) (down_made x answer n frame old new going.loaded fine takes)
+    (sound x mid_sound post (subst (FitsDown pass) (sym end_is) fits)) spare (counted ∙ events_are)
+    (λ events calls st replay h.
+    let s = whole x in
+    let all = calls ++ call ∷ [] in
+    let a = answered x all in
+    let at = down_at s calls st c h j (n, frame) here in
+    let may : applies setup st (event.Down j) ≡ true = lt-ltb _ _ (slice_get_within st.down j n at) in
+    let stand = have_places places setup s x.packets events calls st replay.answered in
+    let held = stand.down j n at in
+    let carried = gone setup s x.packets events calls st replay.answered in
+    let out : State = record (tick st) { down = remove st.down j } in
+    let mid_shown : IsShown s calls out mid = taken_out s calls st c mid st.passes (remove st.down j) h (ap (λ q. q.items) passes ∙ h.passes) (ap (λ q. q.items) up) server commit
+    (ap (map number_of) down ∙ map_remove number_of c.down.items j ∙ ap (λ l. remove l j) h.down)
+    (λ k item e. get_removed c.down.items j k item (sym (ap (λ l. slice_get l k) down) ∙ e)) (ap (λ q. q.items) fates) events_are idle in
+    let now : pass ≡ pass_of (tick st) false n setup.post_stages = pass_so ∙ pass_is s calls out mid false n mid_shown ∙ ap (pass_of (tick st) false n) stages in
+    let went = carried.down n (get_member st.down j n at) in
+    let frame_is : frame ≡ down_frame s all st n = h.down_frames j (n, frame) here
+    ∙ ap (λ u. s.serve_down (over_in (slice_get st.progress n)) (frame_in u)) (went.1 ∙ sym (still_up calls (call ∷ []) n (SentUp went.0) went.1)) in
+    let asks_so : question_of call ∷ [] ≡ asks setup s x.packets all st (event.Down j) =
+    (λ i. AsksDown fine n (frame_is i) (ends i) ∷ []) ∙ ap (asks_down setup s all st) (sym at) in
+    let is : came_to a out pass (is_down_end answer) ≡ happens setup a (tick st) (event.Down j) =
+    (λ i. came_to a out (now i) (ends i)) ∙ came_is a out (pass_of (tick st) false n setup.post_stages) (eqb setup.post_stages 0) ∙ ap (came_down setup a (tick st) j) (sym at) in
+    let told : down_answer all pass.number ≡ down_end answer = subst (λ k. down_answer all k ≡ down_end answer) (sym number)
+    (answers_down once fresh x events calls st n answer call _ replay.answered held.4 refl (down_call fine n frame answer)) in
+    let places_then = subst HavePlaces (sym is) (placed_after places steps x (event.Down j) events calls call st may asks_so replay.answered) in
+    let held_so : IsHeld out pass.number = subst (IsHeld out) (sym number) held in
+    let came_shown = shows s calls (call ∷ []) out answer mid_shown
+    (record { gone = carried_down (HasGoneUp calls) st j carried; post = post; held = held_so; places = places_then }) end_is told in
+    record {
+      may = may;
+      asks_so = asks_so;
+      shown = subst (λ w. IsShown s all w after) is came_shown;
+    })

@@ -3,49 +3,24 @@ use Rattle.std.proofs.Common.{◌≡◌, ℕ, true, false, List, [], ◌∷◌, 
 use Rattle.std.specs.Prelude.{is_some}
 use Rattle.std.specs.List.{filter}
 use Rattle.std.specs.Option.{option_map}
-use Rattle.std.proofs.lemmas.List.{append-nil}
 use Rattle.std.proofs.lemmas.List.Elements.{filter-append}
-use Rattle.packet_fields.specs.declared.packet.Packet.{Packet}
-use Rattle.packet_fields.specs.declared.verdict.Verdict.{Verdict}
-use Rattle.flat_ir.specs.Arrivals.{IsArrival}
-use Rattle.transfer_header.specs.Frames.{IsFrame}
-use Rattle.writeback_table.specs.declared.command.Command.{Command}
+use Rattle.gal_io.specs.Count.{IsCountedIf}
 use Rattle.switch_ir.specs.Code.{Code}
-use Rattle.switch_ir.specs.Port.{PortState, PassesUp, PassesDown, Commands, IsCommandOf}
-use Rattle.switch_ir.specs.Tables.{Told}
+use Rattle.switch_ir.specs.Port.{PortState, down_failed, noted_down, noted_up, up_failed}
+use Rattle.switch_ir.specs.Tables.{Told, told_after}
 use Rattle.switch_ir.specs.declared.journal.Entry.{Entry}
-use Rattle.switch_ir.specs.declared.port.UpEnd.TheVariants as up
-use Rattle.switch_ir.specs.declared.port.DownEnd.TheVariants as down
-use Rattle.switch_ir.specs.declared.port.CommandEnd.TheVariants as command
-use Rattle.replay_state.specs.Journal.{Call, CalledUp, CalledCommand, CalledDown, Finished, SentUp, Released}
+use Rattle.switch_ir.specs.declared.journal.Entry.TheVariants as entry
+use Rattle.switch_ir.specs.declared.port.DownEnd.{DownEnd}
+use Rattle.switch_ir.specs.declared.port.UpEnd.{UpEnd}
+use Rattle.replay_state.specs.Journal.{Call, CalledUp, CalledStageUp, CalledCommand, CalledDown, CalledStageDown}
+use Rattle.replay_state.specs.Journal.{UpAnswer, Finished, SentUp, GoingUp, DownAnswer, Released, GoingDown}
+use Rattle.split_answers.specs.Over.{IsGiven}
+use Rattle.split_answers.specs.Through.{down_end_of, end_of}
 use Rattle.replay_contracts.specs.Replayer.{StaysTold}
-use Rattle.replay_contracts.specs.Called.{KeepsCalls, WasCalled, calls_in, is_of_replay, told_through}
+use Rattle.replay_contracts.specs.Called.{KeepsCalls, WasCalled, WasMade, calls_in, entry_of, is_of_replay}
 
--- the tables stay where no command is called
-same_told : (o : Option Told) → o ≡ option_map (told_through []) o
-same_told None = refl
-same_told (Some told) = refl
-
-pub kept_calls : (code : Code) (old new : PortState) → KeepsCalls old new → WasCalled code [] old new
-kept_calls code old new kept = record {
-  loaded = kept.code;
-  told = kept.told ∙ same_told old.told;
-  journal = kept.journal ∙ sym (append-nil (calls_in old.journal));
-  faults = kept.faults;
-  formed = tt;
-  answers = λ told is. tt;
-}
-
-some_map : (f : Told → Told) (o : Option Told) → is_some (option_map f o) ≡ is_some o
-some_map f None = refl
-some_map f (Some told) = refl
-
--- a port that tells goes on telling
-pub called_stays : (code : Code) (calls : List Call) (old new : PortState) → WasCalled code calls old new → StaysTold old new
-called_stays code calls old new called = record {
-  told = ap is_some called.told ∙ some_map (told_through calls) old.told;
-  faults = called.faults;
-}
+pub keeps_all : (port : PortState) → KeepsCalls port port
+keeps_all port = record { code = refl; told = refl; passes = refl; journal = refl; spare = omega arith; faults = refl }
 
 pub kept_stays : (old new : PortState) → KeepsCalls old new → StaysTold old new
 kept_stays old new kept = record { told = ap is_some kept.told; faults = kept.faults }
@@ -59,8 +34,16 @@ stays_more a b c one two = record {
   faults = two.faults ∙ one.faults;
 }
 
-pub keeps_all : (port : PortState) → KeepsCalls port port
-keeps_all port = record { code = refl; told = refl; journal = refl; spare = omega arith; faults = refl }
+-- what a call leaves that was made and didn't fail
+pub record Made (call : Call) (old new : PortState) : Type 0 where
+  pub code : new.code ≡ old.code
+  pub told : is_some new.told ≡ is_some old.told
+  pub journal : calls_in new.journal ≡ calls_in old.journal ++ entry_of call ∷ []
+  pub faults : new.faults ≡ old.faults
+
+some_map : (f : Told → Told) (o : Option Told) → is_some (option_map f o) ≡ is_some o
+some_map f None = refl
+some_map f (Some told) = refl
 
 one_entry : (journal more : List Entry) (entry : Entry) → is_of_replay entry ≡ true → more ≡ journal ++ entry ∷ []
     → calls_in more ≡ calls_in journal ++ entry ∷ []
@@ -70,53 +53,62 @@ one_entry journal more entry counts is =
     alone : (e : Entry) → is_of_replay e ≡ true → filter is_of_replay (e ∷ []) ≡ e ∷ []
     alone e h = rw h refl
 
-same_told_one : (o : Option Told) (call : Call) → ((told : Told) → told_through (call ∷ []) told ≡ told) → o ≡ option_map (told_through (call ∷ [])) o
-same_told_one None call same = refl
-same_told_one (Some told) call same = ap (λ t. Some t) (sym (same told))
-
-pub finished : (code : Code) (number : ℕ) (packet : Packet) (verdict : Verdict) (old new : PortState)
-    → IsArrival packet → old.code ≡ Some code → PassesUp (up.Finished verdict) number packet.port packet.bytes old new
-    → WasCalled code (CalledUp false number packet (Finished verdict) ∷ []) old new
-finished code number packet verdict old new arrives loaded passes = record {
-  loaded = passes.kept.code;
-  told = passes.kept.told ∙ same_told_one old.told (CalledUp false number packet (Finished verdict)) (λ told. refl);
-  journal = one_entry _ _ _ refl passes.journal;
-  faults = passes.faults;
-  formed = (tt, tt);
-  answers = λ told is. ((arrives, (up.Finished verdict, refl, passes.told code told loaded is)), tt);
+made_by : (call : Call) (old new : PortState) → new.code ≡ old.code → new.told ≡ old.told → is_of_replay (entry_of call) ≡ true
+    → new.journal ≡ old.journal ++ entry_of call ∷ [] → new.faults ≡ old.faults → Made call old new
+made_by call old new code told counts journal faults = record {
+  code = code;
+  told = ap is_some told;
+  journal = one_entry _ _ _ counts journal;
+  faults = faults;
 }
 
-pub went_up : (code : Code) (number : ℕ) (packet : Packet) (frame : List ℕ) (old new : PortState)
-    → IsArrival packet → old.code ≡ Some code → PassesUp (up.Up frame) number packet.port packet.bytes old new
-    → WasCalled code (CalledUp false number packet (SentUp frame) ∷ []) old new
-went_up code number packet frame old new arrives loaded passes = record {
-  loaded = passes.kept.code;
-  told = passes.kept.told ∙ same_told_one old.told (CalledUp false number packet (SentUp frame)) (λ told. refl);
-  journal = one_entry _ _ _ refl passes.journal;
-  faults = passes.faults;
-  formed = (passes.frame code loaded, tt);
-  answers = λ told is. ((arrives, (up.Up frame, refl, passes.told code told loaded is)), tt);
-}
+up_noted : (call : UpEnd → Entry) (answer : UpAnswer) → noted_up call (end_of answer) ≡ call (end_of answer) ∷ []
+up_noted call (Finished verdict) = refl
+up_noted call (SentUp frame) = refl
+up_noted call GoingUp = refl
 
-pub came_down : (code : Code) (number : ℕ) (frame : List ℕ) (verdict : Verdict) (old new : PortState)
-    → old.code ≡ Some code → IsFrame 2 code.down frame
-    → PassesDown (down.Verdict verdict) frame old new → WasCalled code (CalledDown false number frame (Released verdict) ∷ []) old new
-came_down code number frame verdict old new loaded framed passes = record {
-  loaded = passes.kept.code;
-  told = passes.kept.told ∙ same_told_one old.told (CalledDown false number frame (Released verdict)) (λ told. refl);
-  journal = one_entry _ _ _ refl passes.journal;
-  faults = passes.faults;
-  formed = (tt, tt);
-  answers = λ told is. ((framed, passes.told code told loaded is), tt);
-}
+up_stands : (answer : UpAnswer) (old new : ℕ) → IsCountedIf (up_failed (end_of answer)) old new → new ≡ old
+up_stands (Finished verdict) old new h = h
+up_stands (SentUp frame) old new h = h
+up_stands GoingUp old new h = h
 
-pub commanded : (code : Code) (c : Command) (old new : PortState) → IsCommandOf code c
-    → Commands command.Done c old new → WasCalled code (CalledCommand c ∷ []) old new
-commanded code c old new named commands = record {
-  loaded = commands.code;
-  told = commands.told;
-  journal = one_entry _ _ _ refl commands.journal;
-  faults = commands.faults;
-  formed = (tt, tt);
-  answers = λ told is. (named, tt);
+down_noted : (call : DownEnd → Entry) (answer : DownAnswer) → noted_down call (down_end_of answer) ≡ call (down_end_of answer) ∷ []
+down_noted call (Released verdict) = refl
+down_noted call GoingDown = refl
+
+down_stands : (answer : DownAnswer) (old new : ℕ) → IsCountedIf (down_failed (down_end_of answer)) old new → new ≡ old
+down_stands (Released verdict) old new h = h
+down_stands GoingDown old new h = h
+
+pub made : (call : Call) (old new : PortState) → WasMade call old new → Made call old new
+made (CalledUp false n packet answer) old new was =
+    made_by (CalledUp false n packet answer) old new was.kept.code was.kept.told refl
+    (was.journal ∙ ap (λ l. old.journal ++ l) (up_noted (λ end. entry.Up n packet.port packet.bytes end) answer)) (up_stands answer old.faults new.faults was.faults)
+made (CalledUp true n packet answer) old new was =
+    made_by (CalledUp true n packet answer) old new was.1.kept.code was.1.kept.told refl
+    (was.1.journal ∙ ap (λ l. old.journal ++ l) (up_noted (λ end. entry.BeginUp n packet.port packet.bytes end) answer)) (up_stands answer old.faults new.faults was.1.faults)
+made (CalledStageUp n answer) old new was =
+    made_by (CalledStageUp n answer) old new was.1.kept.code was.1.kept.told refl
+    (was.1.journal ∙ ap (λ l. old.journal ++ l) (up_noted (λ end. entry.StageUp n end) answer)) (up_stands answer old.faults new.faults was.1.faults)
+made (CalledCommand c) old new was = record {
+  code = was.code;
+  told = ap is_some was.told ∙ some_map (told_after c) old.told;
+  journal = one_entry _ _ _ refl was.journal;
+  faults = was.faults;
 }
+made (CalledDown false n frame answer) old new was =
+    made_by (CalledDown false n frame answer) old new was.kept.code was.kept.told refl
+    (was.journal ∙ ap (λ l. old.journal ++ l) (down_noted (λ end. entry.Down frame end) answer)) (down_stands answer old.faults new.faults was.faults)
+made (CalledDown true n frame answer) old new was =
+    made_by (CalledDown true n frame answer) old new was.1.kept.code was.1.kept.told refl
+    (was.1.journal ∙ ap (λ l. old.journal ++ l) (down_noted (λ end. entry.BeginDown frame end) answer)) (down_stands answer old.faults new.faults was.1.faults)
+made (CalledStageDown n answer) old new was =
+    made_by (CalledStageDown n answer) old new was.1.kept.code was.1.kept.told refl
+    (was.1.journal ∙ ap (λ l. old.journal ++ l) (down_noted (λ end. entry.StageDown n end) answer)) (down_stands answer old.faults new.faults was.1.faults)
+
+pub made_stays : (call : Call) (old new : PortState) → WasMade call old new → StaysTold old new
+made_stays call old new was = let is = made call old new was in record { told = is.told; faults = is.faults }
+
+-- one call, and nothing behind it
+pub called_once : (code : Code) (call : Call) (old new : PortState) → IsGiven code call → WasMade call old new → WasCalled code (call ∷ []) old new
+called_once code call old new given was = (new, given, was, keeps_all new)

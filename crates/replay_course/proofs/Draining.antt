@@ -5,6 +5,7 @@ use Rattle.std.proofs.lemmas.Bool.{cases_Bool, le-leb, lt-ltb, ltb-false}
 use Rattle.std.proofs.lemmas.List.{append-nil, append_assoc}
 use Rattle.std.proofs.lemmas.Option.{none-some, same_Some}
 use Rattle.packet_fields.specs.declared.packet.Packet.{Packet}
+use Rattle.writeback_table.specs.declared.command.Command.{Command}
 use Rattle.output_commit.specs.declared.output.Output.{Output}
 use Rattle.run_model.specs.declared.event.Event.{Event}
 use Rattle.run_model.specs.declared.event.Event.TheVariants.{Admit, Stage, Serve, Send, Apply, Ack, Hold, Down}
@@ -16,20 +17,20 @@ use Rattle.replay_state.specs.Program.{IsSplitProgram, Manner, SplitProgram, set
 use Rattle.replay_state.specs.Sound.{AreFew}
 use Rattle.output_commit.specs.Batches.{commands_in, visible}
 use Rattle.output_commit.specs.Commit.{commands}
-use Rattle.replay_state.specs.State.{State, Pass, fate_of}
-use Rattle.replay_state.specs.Step.{applies, may_go, state_of, step}
+use Rattle.replay_state.specs.declared.pass.Pass.{Pass}
+use Rattle.replay_state.specs.State.{State, fate_of}
+use Rattle.replay_state.specs.Step.{applies, may_go, state_of, step, waits}
 use Rattle.replay_contracts.specs.Called.{WasCalled}
 use Rattle.replay_contracts.specs.Given.{Given, IsReady, code_for, setup_for, whole}
 use Rattle.replay_contracts.specs.Replay.{HasDrained, HasPicked, IsReplay, answered}
 use Rattle.replay_contracts.specs.declared.job.Stepped.{Stepped}
 use Rattle.replay_course.specs.declared.course.Course.{Course}
-use Rattle.replay_course.specs.Going.{HasRoomNext, HasTurned, IsGoing, IsPlain, IsSound}
+use Rattle.replay_course.specs.Going.{HasTurned, IsGoing, IsPrepared, IsSound, MayCall}
 use Rattle.replay_course.specs.Shown.{IsShown}
 use Rattle.replay_course.specs.UnderWay.{IsDrained, IsDraining, IsOnItsWay, course_left, picked_by}
 use Rattle.replay_course.proofs.Calling.{stays_all, stays_more}
 use Rattle.replay_course.proofs.Lists.{each_at, length_map, length_push, take_past}
 use Rattle.replay_course.proofs.Room.{FindsRoom, SplitLaws, is_split_program}
-use Rattle.replay_course.proofs.Showing.{none_waits}
 use Rattle.replay_course.proofs.Sounding.{Needs}
 use Rattle.replay_course.proofs.Versions.{visible_past}
 
@@ -43,6 +44,12 @@ same_if true c e r q same rest = ap (λ z. if z then e else r) same ∙ taken c 
     taken false t = cc
 same_if false c e r q same rest = rest refl ∙ ap (λ z. if z then e else q) same
 
+-- where no pass is under way, no command waits
+none_waits : (passes : List Pass) (o : Option Command) → nat_lt 0 (length passes) ≡ false → waits passes o ≡ false
+none_waits [] None e = refl
+none_waits [] (Some command) e = refl
+none_waits (p ∷ passes) o e = let bad : true ≡ false = sym (lt-ltb 0 (suc (length passes)) (omega arith)) ∙ e in cc
+
 and_true : (b c : Bool) → c ≡ true → (b && c) ≡ b
 and_true true c h = h
 and_true false c h = refl
@@ -50,7 +57,7 @@ and_true false c h = refl
 map_length : {X Y : Type 0} (f : X → Y) (xs : List X) (ys : List Y) → map f xs ≡ ys → length xs ≡ length ys
 map_length f xs ys e = sym (length_map f xs) ∙ ap length e
 
-module _ (x : Given) (calls : List Call) (st : State) (c : Course) (plain : IsPlain x) (sound : IsSound x c) (h : IsShown (whole x) calls st c) where
+module _ (x : Given) (calls : List Call) (st : State) (c : Course) (plain : IsPrepared x) (sound : IsSound x c) (h : IsShown (whole x) calls st c) where
   -- the first held output may go, where every command is acknowledged
   known_is : nat_lt c.commit.acked c.commit.done ≡ false → nat_lt c.commit.done c.commit.sent ≡ false → nat_lt c.commit.sent (length (commands c.commit)) ≡ false
       → c.server.version ≡ visible st.batches st.acked
@@ -69,9 +76,8 @@ module _ (x : Given) (calls : List Call) (st : State) (c : Course) (plain : IsPl
 
   pub picked_is : picked_by (length x.packets) c ≡ next_event (setup_for x) st
   picked_is =
-      let staged : nat_lt 0 (length st.passes) ≡ false = ap (λ (l : List Pass). nat_lt 0 (length l)) h.passes in
-      let waits = none_waits st.passes _ h.passes in
-      same_if false (nat_lt 0 (length st.passes)) (Some (Stage 0)) _ _ (sym staged) (λ z.
+      same_if _ _ (Some (Stage 0)) _ _ (ap (λ (l : List Pass). nat_lt 0 (length l)) h.passes) (λ staged.
+      let waits = none_waits st.passes _ (ap (λ (l : List Pass). nat_lt 0 (length l)) (sym h.passes) ∙ staged) in
       same_if _ _ (Some Ack) _ _ (λ i. nat_lt (h.acked i) (h.done i)) (λ a.
       same_if _ _ (Some Apply) _ _ ((λ i. nat_lt (h.done i) (h.sent i)) ∙ sym (and_true _ _ (ap not waits))) (λ b.
       same_if _ _ (Some Send) _ _ (λ i. nat_lt (h.sent i) (length (commands_in (h.batches i)))) (λ d.
@@ -82,9 +88,6 @@ module _ (x : Given) (calls : List Call) (st : State) (c : Course) (plain : IsPl
 
 -- ## How many events are left
 
-plus_none : (a b : ℕ) → b ≡ 0 → a + b ≡ a
-plus_none a b h = omega arith
-
 pub left_is : (x : Given) (calls : List Call) (st : State) (c : Course) → IsShown (whole x) calls st c → course_left x c ≡ events_left (setup_for x) st
 left_is x calls st c h =
     let setup = setup_for x in
@@ -92,10 +95,8 @@ left_is x calls st c h =
     let held = map_length _ c.commit.held st.held h.held in
     let down = map_length _ c.down.items st.down h.down in
     let fates : length c.fates.items ≡ length st.progress = ap length h.fates ∙ length_map fate_of st.progress in
-    let none : weight (pass_events setup) st.passes ≡ 0 = ap (weight (pass_events setup)) h.passes in
-    let first : (length x.packets - length c.fates.items) * packet_events setup ≡ (setup.total - length st.progress) * packet_events setup + weight (pass_events setup) st.passes =
-    (λ i. (length x.packets - fates i) * packet_events setup) ∙ sym (plus_none _ _ none) in
-    λ i. first i + up i * up_events setup + held i * (2 + setup.post_stages) + down i * (1 + setup.post_stages)
+    λ i. (length x.packets - fates i) * packet_events setup + weight (pass_events setup) (h.passes i)
+    + up i * up_events setup + held i * (2 + setup.post_stages) + down i * (1 + setup.post_stages)
     + 3 * (length (commands_in (h.batches i)) - h.sent i) + 2 * (h.sent i - h.done i) + (h.done i - h.acked i)
 
 -- ## One event more
@@ -138,7 +139,7 @@ FewLaw = (s : SplitProgram) (packets : List Packet) (manner : Manner) (calls : L
 
 -- what a course picks
 abbrev pub PickLaw : Given → Course → Option Event → Type 0
-PickLaw x c o = (calls : List Call) (st : State) → IsPlain x → IsSound x c → IsShown (whole x) calls st c → o ≡ next_event (setup_for x) st
+PickLaw x c o = (calls : List Call) (st : State) → IsPrepared x → IsSound x c → IsShown (whole x) calls st c → o ≡ next_event (setup_for x) st
 
 pub none_drained : FirstLaw → (x : Given) (c : Course) (port : PortState) → IsGoing x c port → IsDraining x 0 c port c port
 none_drained first x c port going = record {
@@ -165,8 +166,8 @@ drains_more on_law more_law x count event stepped c mid after old port new drain
       let on = draining.turns events calls st replay shown in
       let now = on.picked.replay in
       let t = turned.turns (events ++ on.more) (calls ++ on.others) on.last now on.shown in
-      let picked_so = sym (picks (calls ++ on.others) on.last draining.going.plain draining.going.sound on.shown) in
-      let after_one = on_law x (events ++ on.more) event (calls ++ on.others) t.one on.last port new draining.going.plain.ready now t.asks t.called in
+      let picked_so = sym (picks (calls ++ on.others) on.last draining.going.prepared draining.going.sound on.shown) in
+      let after_one = on_law x (events ++ on.more) event (calls ++ on.others) t.one on.last port new draining.going.prepared.ready now t.asks t.called in
       let all = more_law x events on.more event (calls ++ on.others) t.one on.last _ port new on.picked picked_so turned.stays.told after_one in
       let same = append_assoc calls on.others t.one in
       let next = step (setup_for x) (answered x ((calls ++ on.others) ++ t.one)) on.last event in
@@ -190,8 +191,8 @@ has_drained law x count c after old new draining picks = record {
       let on = draining.turns events calls st replay shown in
       record {
         on = on;
-        drained = law x events on.more (calls ++ on.others) on.last new draining.going.plain.ready on.picked
-            (sym (picks (calls ++ on.others) on.last draining.going.plain draining.going.sound on.shown));
+        drained = law x events on.more (calls ++ on.others) on.last new draining.going.prepared.ready on.picked
+            (sym (picks (calls ++ on.others) on.last draining.going.prepared draining.going.sound on.shown));
       };
 }
 
@@ -215,7 +216,7 @@ left_falls split stays few falls x count event stepped c mid after old port new 
     let t = turned.turns events calls on.last now on.shown in
     let setup = setup_for x in
     let a = answered x (calls ++ t.one) in
-    let picked_so : next_event setup on.last ≡ Some event = sym (picks calls on.last draining.going.plain draining.going.sound on.shown) in
+    let picked_so : next_event setup on.last ≡ Some event = sym (picks calls on.last draining.going.prepared draining.going.sound on.shown) in
     let may = first_applies (applies setup on.last) drain_order event picked_so in
     let is : on.last ≡ state_of setup a events = stays setup (whole x) x.packets events calls t.one on.last now.answered in
     let less : events_left setup (step setup a on.last event) < events_left setup on.last =
@@ -224,7 +225,7 @@ left_falls split stays few falls x count event stepped c mid after old port new 
     subst (λ n. n < course_left x mid) (sym (left_is x (calls ++ t.one) _ after t.shown))
     (subst (λ n. events_left setup (step setup a on.last event) < n) (sym (left_is x calls on.last mid on.shown)) less)
 
-pub drain_room : FindsRoom → (x : Given) (count : ℕ) (c mid : Course) (old port : PortState) → IsOnItsWay x c old → IsDraining x count c old mid port → HasRoomNext mid port
+pub drain_room : FindsRoom → (x : Given) (count : ℕ) (c mid : Course) (old port : PortState) → IsOnItsWay x c old → IsDraining x count c old mid port → MayCall x mid port
 drain_room room x count c mid old port way draining =
     let on = draining.turns way.events way.under_way.calls way.under_way.st way.under_way.replay way.under_way.shown in
     room x (way.events ++ on.more) (way.under_way.calls ++ on.others) on.last mid port on.picked.replay on.shown draining.going

@@ -4,11 +4,12 @@ use Rattle.std.specs.Prelude.{is_some}
 use Rattle.std.proofs.lemmas.List.{append_assoc, append-nil}
 use Rattle.std.proofs.lemmas.List.Elements.{filter-append}
 use Rattle.gal_io.specs.Count.{IsCountedIf, count_after}
+use Rattle.packet_fields.specs.declared.packet.Packet.{Packet}
 use Rattle.writeback_table.specs.declared.command.Command.{Command}
 use Rattle.run_model.specs.declared.event.Event.{Event}
 use Rattle.switch_ir.specs.Code.{Code}
-use Rattle.switch_ir.specs.Port.{PortState, Commands, Keeps, Loads, MakesRoom, PassesDown, PassesUp, ShowsRows}
-use Rattle.switch_ir.specs.Port.{down_entry, down_failed, rows_entry, rows_failed, up_entry, up_failed}
+use Rattle.switch_ir.specs.Port.{PortState, Commands, Keeps, Loads, MakesRoom, ShowsRows, StagesDown, StagesUp}
+use Rattle.switch_ir.specs.Port.{down_entry, down_failed, noted_down, noted_up, rows_entry, rows_failed, up_entry, up_failed}
 use Rattle.switch_ir.specs.declared.journal.Entry.{Entry}
 use Rattle.switch_ir.specs.declared.journal.Entry.TheVariants as entry
 use Rattle.switch_ir.specs.declared.port.CommandEnd.TheVariants as command
@@ -17,19 +18,21 @@ use Rattle.switch_ir.specs.declared.port.PortEnd.TheVariants as port
 use Rattle.switch_ir.specs.declared.port.RowsEnd.{RowsEnd}
 use Rattle.switch_ir.specs.declared.port.UpEnd.{UpEnd}
 use Rattle.replay_state.specs.Journal.{Call, question_of}
-use Rattle.replay_contracts.specs.Called.{HasCalls, KeepsCalls, WasCalled, calls_in, entries_of, is_of_replay, journal_of}
+use Rattle.replay_contracts.specs.Called.{HasCalls, KeepsCalls, WasMade, calls_in, entry_of, is_of_replay, journal_of}
 use Rattle.replay_contracts.specs.Given.{Given, code_for}
 use Rattle.replay_contracts.specs.Replayer.{Fails, StaysTold, is_port_fault}
 use Rattle.replay_contracts.specs.declared.job.ReplayError.{ReplayError}
 use Rattle.replay_contracts.specs.declared.job.ReplayError.TheVariants as errors
 use Rattle.replay_course.specs.declared.course.Course.{Course}
+use Rattle.replay_course.specs.Going.{TakesDown, TakesUp}
 use Rattle.replay_course.specs.UnderWay.{HasGone, IsDraining, IsOnItsWay, IsUnderWay}
-use Rattle.replay_course.proofs.Calling.{called_stays, kept_stays}
+use Rattle.replay_course.proofs.Calling.{kept_stays, made, made_stays}
 
 pub keeps_more : (old mid new : PortState) → KeepsCalls old mid → KeepsCalls mid new → KeepsCalls old new
 keeps_more old mid new one two = record {
   code = two.code ∙ one.code;
   told = two.told ∙ one.told;
+  passes = two.passes ∙ one.passes;
   journal = two.journal ∙ one.journal;
   spare = let a = one.spare in let b = two.spare in omega arith;
   faults = two.faults ∙ one.faults;
@@ -50,17 +53,17 @@ goes_kept old new kept = record {
   stays = kept_stays old new kept;
 }
 
-pub goes_called : (code : Code) (calls : List Call) (old new : PortState) → WasCalled code calls old new → GoesOn old new
-goes_called code calls old new called = record {
-  code = called.loaded;
-  journal = (journal_of calls, called.journal);
-  stays = called_stays code calls old new called;
-}
+pub goes_made : (call : Call) (old new : PortState) → WasMade call old new → GoesOn old new
+goes_made call old new was =
+    let is = made call old new was in record {
+      code = is.code;
+      journal = (entry_of call ∷ [], is.journal);
+      stays = made_stays call old new was;
+    }
 
 journal_more : (calls more : List Call) → journal_of (calls ++ more) ≡ journal_of calls ++ journal_of more
 journal_more [] more = refl
-journal_more (call ∷ calls) more =
-    ap (λ l. entries_of call ++ l) (journal_more calls more) ∙ sym (append_assoc (entries_of call) (journal_of calls) (journal_of more))
+journal_more (call ∷ calls) more = ap (λ l. entry_of call ∷ l) (journal_more calls more)
 
 -- so it is from the calls of one moment to those of a later one
 pub goes_by : (code : Code) (calls more : List Call) (old new : PortState) → HasCalls code calls old → HasCalls code (calls ++ more) new
@@ -115,24 +118,44 @@ fails_behind e first old new goes fails = record {
 }
 
 -- a call that keeps code and tables, and adds these entries
-fails_by : (e : ReplayError) (failed : Bool) (entries : List Entry) (old new : PortState) → is_port_fault e ≡ failed → Keeps old new
-    → new.journal ≡ old.journal ++ entries → IsCountedIf failed old.faults new.faults → Fails e old new
-fails_by e failed entries old new same kept journal counted = record {
-  code = kept.code;
-  told = ap is_some kept.told;
+fails_with : (e : ReplayError) (failed : Bool) (entries : List Entry) (old new : PortState) → is_port_fault e ≡ failed → new.code ≡ old.code
+    → new.told ≡ old.told → new.journal ≡ old.journal ++ entries → IsCountedIf failed old.faults new.faults → Fails e old new
+fails_with e failed entries old new same code told journal counted = record {
+  code = code;
+  told = ap is_some told;
   journal = (calls_in entries, ap calls_in journal ∙ filter-append is_of_replay old.journal entries);
   fault = subst (λ b. IsCountedIf b old.faults new.faults) (sym same) counted;
 }
 
-pub fails_up : (e : ReplayError) (end : UpEnd) (number arrival : ℕ) (packet : List ℕ) (old new : PortState) → is_port_fault e ≡ up_failed end
-    → PassesUp end number arrival packet old new → Fails e old new
-fails_up e end number arrival packet old new same passes =
-    fails_by e (up_failed end) (up_entry number arrival packet end) old new same passes.kept passes.journal passes.faults
+fails_by : (e : ReplayError) (failed : Bool) (entries : List Entry) (old new : PortState) → is_port_fault e ≡ failed → Keeps old new
+    → new.journal ≡ old.journal ++ entries → IsCountedIf failed old.faults new.faults → Fails e old new
+fails_by e failed entries old new same kept journal counted = fails_with e failed entries old new same kept.code kept.told journal counted
 
-pub fails_down : (e : ReplayError) (end : DownEnd) (frame : List ℕ) (old new : PortState) → is_port_fault e ≡ down_failed end
-    → PassesDown end frame old new → Fails e old new
-fails_down e end frame old new same passes =
+pub fails_up : (e : ReplayError) (fine : Bool) (end : UpEnd) (number : ℕ) (packet : Packet) (old new : PortState) → is_port_fault e ≡ up_failed end
+    → TakesUp fine end number packet old new → Fails e old new
+fails_up e false end number packet old new same passes =
+    fails_by e (up_failed end) (up_entry number packet.port packet.bytes end) old new same passes.kept passes.journal passes.faults
+fails_up e true end number packet old new same begins =
+    fails_with e (up_failed end) (noted_up (λ answer. entry.BeginUp number packet.port packet.bytes answer) end) old new same
+    begins.1.kept.code begins.1.kept.told begins.1.journal begins.1.faults
+
+pub fails_stage_up : (e : ReplayError) (end : UpEnd) (number : ℕ) (old new : PortState) → is_port_fault e ≡ up_failed end
+    → StagesUp end number old new → Fails e old new
+fails_stage_up e end number old new same stages =
+    fails_with e (up_failed end) (noted_up (λ answer. entry.StageUp number answer) end) old new same stages.kept.code stages.kept.told stages.journal stages.faults
+
+pub fails_down : (e : ReplayError) (fine : Bool) (end : DownEnd) (frame : List ℕ) (old new : PortState) → is_port_fault e ≡ down_failed end
+    → TakesDown fine end frame old new → Fails e old new
+fails_down e false end frame old new same passes =
     fails_by e (down_failed end) (down_entry frame end) old new same passes.kept passes.journal passes.faults
+fails_down e true end frame old new same begins =
+    fails_with e (down_failed end) (noted_down (λ answer. entry.BeginDown frame answer) end) old new same
+    begins.1.kept.code begins.1.kept.told begins.1.journal begins.1.faults
+
+pub fails_stage_down : (e : ReplayError) (end : DownEnd) (number : ℕ) (old new : PortState) → is_port_fault e ≡ down_failed end
+    → StagesDown end number old new → Fails e old new
+fails_stage_down e end number old new same stages =
+    fails_with e (down_failed end) (noted_down (λ answer. entry.StageDown number answer) end) old new same stages.kept.code stages.kept.told stages.journal stages.faults
 
 pub fails_rows : (e : ReplayError) (end : RowsEnd) (o : ℕ) (old new : PortState) → is_port_fault e ≡ rows_failed end
     → ShowsRows end o old new → Fails e old new

@@ -1,8 +1,12 @@
 -- How many commands and events there are at most.
-use Rattle.std.proofs.Common.{◌≡◌, ◌<◌, ◌≤◌, ◌+◌, ◌*◌, ◌^◌, ℕ, List, ◌++◌, sym, subst, arith, length}
+use Rattle.std.proofs.Common.{◌≡◌, ◌<◌, ◌≤◌, ◌+◌, ◌*◌, ◌^◌, ℕ, zero, suc, Bool, true, false, Option, Some, None, List, ◌++◌, refl, sym, subst, arith, length}
+use Rattle.std.specs.Prelude.{if◌then◌else◌}
 use Rattle.std.proofs.Math.Nat.{mul-le-mul}
 use Rattle.run_model.specs.Sizes.{most_packets}
 use Rattle.run_model.specs.declared.event.Event.{Event}
+use Rattle.split_model.specs.Counts.{stage_or_zero}
+use Rattle.split_model.specs.Split.{post_stage, pre_stage}
+use Rattle.switch_ir.specs.Emitted.{highest_of}
 use Rattle.switch_ir.specs.Port.{PortState}
 use Rattle.split_answers.specs.Whole.{IsSplit}
 use Rattle.replay_state.specs.Answers.{Answers, Setup}
@@ -15,13 +19,12 @@ use Rattle.replay_contracts.specs.Given.{Given, setup_for, whole}
 use Rattle.replay_contracts.specs.Replay.{IsReplay, answered}
 use Rattle.replay_contracts.specs.declared.job.Stepped.{Stepped}
 use Rattle.replay_course.specs.declared.course.Course.{Course}
-use Rattle.replay_course.specs.Going.{HasTurned, IsGoing, IsPlain, most_commands}
+use Rattle.replay_course.specs.Going.{HasTurned, IsGoing, IsPrepared, most_commands}
 use Rattle.replay_course.specs.Shown.{IsShown}
 use Rattle.replay_course.specs.UnderWay.{course_left}
 use Rattle.replay_course.proofs.Draining.{FewLaw, StaysLaw, left_is}
 use Rattle.replay_course.proofs.Room.{SplitLaws, is_split_program}
 use Rattle.replay_course.proofs.Serves.{few_writes}
-use Rattle.replay_course.proofs.Turning.{plain_setup}
 
 commands_by : (n w : ℕ) → n ≤ 16384 → w ≤ 4096 → n * (3 * w + 2) < 2 ^ 32
 commands_by n w packets writes =
@@ -29,19 +32,37 @@ commands_by n w packets writes =
     let all = mul-le-mul packets each in
     omega arith
 
-events_by : (n w : ℕ) → n ≤ 16384 → w ≤ 4096 → n * (4 + 0 + 0 + 3 * (3 * w + 2)) < 2 ^ 30
-events_by n w packets writes =
-    let each : 4 + 0 + 0 + 3 * (3 * w + 2) ≤ 36874 = omega arith in
+events_by : (n w p q : ℕ) → n ≤ 16384 → w ≤ 4096 → p ≤ 4096 → q ≤ 4096 → n * (4 + p + q + 3 * (3 * w + 2)) < 2 ^ 30
+events_by n w p q packets writes pre post =
+    let each : 4 + p + q + 3 * (3 * w + 2) ≤ 45066 = omega arith in
     let all = mul-le-mul packets each in
     omega arith
+
+-- no stage is above the highest that there may be
+highest_below : (stage : ℕ → Option ℕ) (most : ℕ) → ((i t : ℕ) → stage i ≡ Some t → t ≤ most) → (n : ℕ) → highest_of stage n ≤ most
+highest_below stage most few zero = omega arith
+highest_below stage most few (suc n) = let h = highest_below stage most few n in let one = by_stage (stage n) refl in omega arith
+  where
+    by_stage : (o : Option ℕ) → stage n ≡ o → stage_or_zero (stage n) ≤ most
+    by_stage None is = subst (λ o. stage_or_zero o ≤ most) (sym is) (omega arith)
+    by_stage (Some t) is = subst (λ o. stage_or_zero o ≤ most) (sym is) (few n t is)
+
+either_few : (fine : Bool) (n most : ℕ) → n ≤ most → (if fine then n else 0) ≤ most
+either_few true n most h = h
+either_few false n most h = omega arith
+
+pub few_pre : (x : Given) → IsPrepared x → (setup_for x).pre_stages ≤ 4096
+few_pre x prepared = either_few x.manner.fine _ 4096 (highest_below (pre_stage x.split) 4096 prepared.stages.pre (length x.program.code))
+
+pub few_post : (x : Given) → IsPrepared x → (setup_for x).post_stages ≤ 4096
+few_post x prepared = either_few x.manner.fine _ 4096 (highest_below (post_stage x.split) 4096 prepared.stages.post (length x.program.code))
 
 pub few_commands_in : (x : Given) → IsSplit x.program x.split x.writeback → length x.packets ≤ most_packets
     → length x.packets * most_commands x < 2 ^ 32
 few_commands_in x split few = commands_by _ _ few (few_writes x split)
 
-pub few_events_in : (x : Given) → IsPlain x → length x.packets ≤ most_packets → drain_bound (setup_for x) < 2 ^ 30
-few_events_in x plain few =
-    subst (λ n. n < 2 ^ 30) (sym (plain_setup x drain_bound plain)) (events_by _ _ few (few_writes x plain.ready.split))
+pub few_events_in : (x : Given) → IsPrepared x → length x.packets ≤ most_packets → drain_bound (setup_for x) < 2 ^ 30
+few_events_in x prepared few = events_by _ _ _ _ few (few_writes x prepared.ready.split) (few_pre x prepared) (few_post x prepared)
 
 abbrev LeftLaw : Type 0
 LeftLaw = (setup : Setup) (a : Answers) (events : List Event) → AreFew setup a

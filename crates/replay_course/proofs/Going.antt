@@ -9,22 +9,23 @@ use Rattle.flat_ir.specs.Arrivals.{IsArrival}
 use Rattle.gal_io.specs.Count.{IsCountedIf, count_after}
 use Rattle.run_model.specs.declared.event.Event.{Event}
 use Rattle.server_runtime.specs.Serving.{Server}
+use Rattle.split_model.specs.Bounds.{HasFewStages}
 use Rattle.split_answers.specs.Whole.{IsSplit}
 use Rattle.switch_ir.specs.Code.{Code}
 use Rattle.switch_ir.specs.Port.{PortState, Loads, StartsTold}
 use Rattle.switch_ir.specs.Tables.{IsStart, Told}
 use Rattle.switch_ir.specs.declared.port.PortEnd.TheVariants as port
 use Rattle.replay_state.specs.Journal.{Call}
-use Rattle.replay_state.specs.Program.{SplitProgram, plain_manner}
+use Rattle.replay_state.specs.Program.{SplitProgram, manner_of}
 use Rattle.replay_state.specs.State.{first_state}
 use Rattle.replay_contracts.specs.Called.{calls_in}
-use Rattle.replay_contracts.specs.Given.{Given, IsReady, code_for, whole}
+use Rattle.replay_contracts.specs.Given.{Given, IsReady, code_for, setup_for, whole}
 use Rattle.replay_contracts.specs.Replay.{IsLoaded, IsReplay}
 use Rattle.replay_contracts.specs.Replayer.{is_port_fault}
 use Rattle.replay_contracts.specs.declared.job.ReplayError.{ReplayError}
 use Rattle.replay_contracts.specs.declared.job.Stepped.{Stepped}
 use Rattle.replay_course.specs.declared.course.Course.{Course}
-use Rattle.replay_course.specs.Going.{HasRoomNext, HasTurned, IsPlain, IsSound, most_commands, unapplied}
+use Rattle.replay_course.specs.Going.{HasTurned, IsPrepared, IsSound, MayCall, most_commands, unapplied}
 use Rattle.replay_course.specs.Shown.{IsShown}
 use Rattle.replay_course.specs.UnderWay.{HasGone, IsUnderWay}
 use Rattle.replay_course.proofs.Calling.{stays_all, stays_more}
@@ -42,7 +43,7 @@ gone_on law x events event stepped c after first old new gone turned =
       under_way = record {
         calls = u.calls ++ t.one;
         st = _;
-        replay = law x events event u.calls t.one u.st old new u.going.plain.ready u.replay t.asks t.called;
+        replay = law x events event u.calls t.one u.st old new u.going.prepared.ready u.replay t.asks t.called;
         shown = t.shown;
         going = turned.going;
         counted = turned.counted ∙ ap (λ n. n + 1) u.counted ∙ sym (length_push events event);
@@ -53,7 +54,7 @@ gone_on law x events event stepped c after first old new gone turned =
 pub not_gone : (x : Given) (c : Course) (port : PortState) → IsUnderWay x [] c port → HasGone x [] c port port
 not_gone x c port under_way = record { under_way = under_way; stays = stays_all port }
 
-pub room_by : FindsRoom → (x : Given) (events : List Event) (c : Course) (first port : PortState) → HasGone x events c first port → HasRoomNext c port
+pub room_by : FindsRoom → (x : Given) (events : List Event) (c : Course) (first port : PortState) → HasGone x events c first port → MayCall x c port
 room_by law x events c first port gone = let u = gone.under_way in law x events u.calls u.st c port u.replay u.shown u.going
 
 length_take : {X : Type 0} (n : ℕ) (xs : List X) → length (take n xs) ≤ n
@@ -78,8 +79,10 @@ BeginLaw = (x : Given) (port : PortState) → IsReady x → IsLoaded x port → 
 few_packets : (n k : ℕ) → n * k < 2 ^ 32 → 2 ≤ k → n ≤ 2 ^ 32
 few_packets n k few two = let same : n ≤ n = omega arith in let twice = mul-le-mul same two in omega arith
 
-pub is_plain : (x : Given) → IsSplit x.program x.split x.writeback → Each IsArrival x.packets → x.manner ≡ plain_manner → length x.packets * most_commands x < 2 ^ 32 → IsPlain x
-is_plain x split arrivals manner few = record {
+pub is_prepared : (x : Given) → IsSplit x.program x.split x.writeback → HasFewStages x.split → Each IsArrival x.packets → x.manner ≡ manner_of x.manner.fine
+    → length x.packets * most_commands x < 2 ^ 32 → IsPrepared x
+is_prepared x split stages arrivals manner few = record {
+  stages = stages;
   ready = record { split = split; arrivals = arrivals; few = few_packets _ (most_commands x) few (omega arith) };
   manner = manner;
   few = few;
@@ -93,22 +96,25 @@ starts_with : (code : Code) (old new : Option Told) (told : Told) → StartsTold
 starts_with code None new told starts is = absurd (none-some told (sym starts ∙ is))
 starts_with code (Some before) new told starts is = subst (IsStart code) (same_Some _ _ (sym starts.1 ∙ is)) starts.2
 
-pub started : BeginLaw → (x : Given) (c : Course) (server : Server) (old new : PortState) → IsPlain x → Loads port.Done (code_for x) old new
+pub started : BeginLaw → (x : Given) (c : Course) (server : Server) (old new : PortState) (p q : ℕ) → IsPrepared x → Loads port.Done (code_for x) old new
+    → p ≡ (setup_for x).pre_stages → q ≡ (setup_for x).post_stages
     → server ≡ record { program = x.program; split = x.split; store = start_store x.program.objects; version = 0; evaluated = 0 }
     → ((s : SplitProgram) (calls : List Call) → IsShown s calls (first_state server.store) c)
-    → ((y : Given) → server.program ≡ y.program → server.split ≡ y.split → x.writeback ≡ y.writeback → IsSound y c) → unapplied c ≡ 0 → HasGone x [] c old new
-started begins x c server old new plain loads is shown sound none = record {
+    → ((y : Given) → server.program ≡ y.program → server.split ≡ y.split → x.writeback ≡ y.writeback → p ≡ (setup_for y).pre_stages
+    → q ≡ (setup_for y).post_stages → IsSound y c) → unapplied c ≡ 0 → HasGone x [] c old new
+started begins x c server old new p q plain loads pre post is shown sound none = record {
   under_way = record {
     calls = [];
     st = first_state (start_store x.program.objects);
     replay = begins x new plain.ready (record {
       called = record { loaded = loads.state.code; journal = ap calls_in loads.state.journal };
+      passes = loads.state.passes;
       start = λ told told_is. starts_with (code_for x) old.told new.told told loads.state.told told_is;
     });
     shown = subst (λ (z : Server). IsShown (whole x) [] (first_state z.store) c) is (shown (whole x) []);
     going = record {
-      plain = plain;
-      sound = sound x (ap (λ z. z.program) is) (ap (λ z. z.split) is) refl;
+      prepared = plain;
+      sound = sound x (ap (λ z. z.program) is) (ap (λ z. z.split) is) refl pre post;
       loaded = loads.state.code;
       spare = subst (λ n. n ≤ new.spare) (sym none) (omega arith);
     };

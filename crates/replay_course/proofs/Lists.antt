@@ -3,6 +3,7 @@ use Rattle.std.proofs.Common.{◌≡◌, ◌<◌, ◌≤◌, ◌+◌, ◌⊎◌,
 use Rattle.std.specs.Prelude.{slice_get, slice_set, remove}
 use Rattle.std.specs.List.{AllByRecursion as Each}
 use Rattle.std.proofs.lemmas.Option.{same_Some, none-some}
+use Rattle.replay_state.specs.Carried.{Member}
 
 pub each_at : {X : Type 0} (P : X → Type 0) (xs : List X) (j : ℕ) (x : X) → Each P xs → slice_get xs j ≡ Some x → P x
 each_at P [] j x e h = absurd (none-some x h)
@@ -133,3 +134,14 @@ set_last (y ∷ xs) x z = ap (λ l. y ∷ l) (set_last xs x z)
 pub none_at_end : {X : Type 0} (xs : List X) → slice_get xs (length xs) ≡ None
 none_at_end [] = refl
 none_at_end (x ∷ xs) = none_at_end xs
+
+pub get_member : {X : Type 0} (xs : List X) (j : ℕ) (x : X) → slice_get xs j ≡ Some x → Member x xs
+get_member [] j x h = absurd (none-some x h)
+get_member (y ∷ ys) zero x h = inl (same_Some _ _ h)
+get_member (y ∷ ys) (suc j) x h = inr (get_member ys j x h)
+
+pub member_kept : {X : Type 0} (xs : List X) (j : ℕ) (x : X) → Member x (remove xs j) → Member x xs
+member_kept [] zero x h = h
+member_kept [] (suc j) x h = h
+member_kept (y ∷ ys) zero x h = inr h
+member_kept (y ∷ ys) (suc j) x h = elim h [ inl e ↦ inl e | inr r ↦ inr (member_kept ys j x r) ]

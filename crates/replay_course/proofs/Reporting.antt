@@ -13,12 +13,12 @@ use Rattle.output_commit.specs.Commit.{commands, visible as seen_by}
 use Rattle.replay_state.specs.Drain.{is_drained}
 use Rattle.replay_state.specs.Journal.{Call}
 use Rattle.replay_state.specs.Run.{run_of}
-use Rattle.replay_state.specs.State.{State, Pass, fate_of, seen}
+use Rattle.replay_state.specs.State.{State, fate_of, seen}
 use Rattle.replay_contracts.specs.Given.{Given, setup_for, whole}
 use Rattle.replay_contracts.specs.Promise.{Reports}
 use Rattle.replay_course.specs.declared.course.Course.{Course}
 use Rattle.replay_course.specs.Shown.{IsShown}
-use Rattle.replay_course.specs.Going.{IsPlain, IsSound}
+use Rattle.replay_course.specs.Going.{IsPrepared, IsSound}
 use Rattle.replay_course.specs.Telling.{ShowsParts, is_done, told_run}
 use Rattle.replay_course.proofs.Lists.{length_map}
 
@@ -32,16 +32,16 @@ module _ (x : Given) (calls : List Call) (st : State) (c : Course) (h : IsShown 
       let held = map_length _ c.commit.held st.held h.held in
       let down = map_length _ c.down.items st.down h.down in
       let fates : length c.fates.items ≡ length st.progress = ap length h.fates ∙ length_map fate_of st.progress in
-      (λ i. eqb (fates i) (length x.packets) && (eqb (up i) 0 && (eqb (held i) 0 && (eqb (down i) 0 && eqb (h.acked i) (length (commands_in (h.batches i)))))))
+      (λ i. eqb (fates i) (length x.packets) && (eqb (length (h.passes i)) 0 && (eqb (up i) 0 && (eqb (held i) 0 && (eqb (down i) 0
+      && eqb (h.acked i) (length (commands_in (h.batches i))))))))
       ∙ grouped (eqb (length st.progress) (length x.packets)) (eqb (length st.passes) 0) (eqb (length st.up) 0) (eqb (length st.held) 0) (eqb (length st.down) 0) _
-      (ap (λ (l : List Pass). eqb (length l) 0) h.passes)
     where
-      grouped : (n p u k d a : Bool) → p ≡ true → (n && (u && (k && (d && a)))) ≡ (n && ((((p && u) && k) && d) && a))
-      grouped n true true true true a e = refl
-      grouped n true true true false a e = refl
-      grouped n true true false d a e = refl
-      grouped n true false k d a e = refl
-      grouped n false u k d a e = cc
+      grouped : (n p u k d a : Bool) → (n && (p && (u && (k && (d && a))))) ≡ (n && ((((p && u) && k) && d) && a))
+      grouped n true true true true a = refl
+      grouped n true true true false a = refl
+      grouped n true true false d a = refl
+      grouped n true false k d a = refl
+      grouped n false u k d a = refl
 
   pub tells_run : (parts : List ObjectRows) → told_run x c parts ≡ record (run_of (setup_for x) st) { switch = parts }
   tells_run parts =
@@ -80,8 +80,8 @@ reported x calls st c old new parts run number h shows is count =
 less_by : (n k : ℕ) → n * k < 2 ^ 32 → 2 ≤ k → n < 2 ^ 32
 less_by n k few two = let same : n ≤ n = omega arith in let twice = mul-le-mul same two in omega arith
 
-pub few_packets : (x : Given) → IsPlain x → length x.packets < 2 ^ 32
+pub few_packets : (x : Given) → IsPrepared x → length x.packets < 2 ^ 32
 few_packets x plain = less_by _ _ plain.few (omega arith)
 
-pub few_fates : (x : Given) (c : Course) → IsPlain x → IsSound x c → length c.fates.items < 2 ^ 32
+pub few_fates : (x : Given) (c : Course) → IsPrepared x → IsSound x c → length c.fates.items < 2 ^ 32
 few_fates x c plain sound = let few = few_packets x plain in let within = sound.within.admitted in omega arith

@@ -45,6 +45,7 @@ pub rows_kept : (o : ℕ) (list : List Row) (old new : PortState) → ShowsRows 
 rows_kept o list old new shows = record {
   code = shows.kept.code;
   told = shows.kept.told;
+  passes = shows.kept.passes;
   journal = ap calls_in shows.journal ∙ filter-append is_of_replay old.journal (Visible o ∷ []) ∙ append-nil (calls_in old.journal);
   spare = shows.kept.spare;
   faults = shows.faults;

@@ -29,7 +29,8 @@ use Rattle.replay_course.specs.declared.course.Course.{Course}
 use Rattle.replay_course.specs.Going.{HasTurned, IsGoing, IsSound, MadeRoom, most_commands, unapplied}
 use Rattle.replay_course.proofs.Lists.{each_at, each_join, each_more, each_push, each_remove, length_join, length_remove, length_set}
 use Rattle.replay_course.proofs.Costs.{commands_served, enough, one_more_times, spare_served, still_within, undecided_served}
-use Rattle.replay_course.proofs.Sounding.{FramedDown, FramedHeld, FramedUp, Needs}
+use Rattle.replay_course.proofs.Counting.{before_server}
+use Rattle.replay_course.proofs.Sounding.{FramedDown, FramedHeld, FramedUp, HasLeft, Needs}
 use Rattle.replay_course.proofs.Travelling.{serve_shown}
 use Rattle.replay_course.proofs.Turning.{PlaceLaw, have_places, quiet_turned}
 use Rattle.replay_course.proofs.Versions.{batch_count, before_next, changes_more, length_more, version_more, version_next}
@@ -71,10 +72,11 @@ served_by x c server frame s sound is = of_program x (server_of c.server) (serve
 
 serve_sound : (x : Given) (c after : Course) (j n : ℕ) (frame : List ℕ) (s : Served) (server : Runtime) (fate : Fate) → ToldOf x → IsSound x c
     → slice_get c.up.items j ≡ Some (n, frame) → IsServed (server_of c.server) frame s (server_of server)
+    → after.pre_stages ≡ c.pre_stages → after.post_stages ≡ c.post_stages → after.passes.items ≡ c.passes.items
     → after.up.items ≡ remove c.up.items j → after.server ≡ server
     → after.commit ≡ with_output c.commit (record { number = n; need = s.version; frame = s.down }) s.updates
     → after.down.items ≡ c.down.items → after.fates.items ≡ slice_set c.fates.items n fate → after.idle ≤ after.events → IsSound x after
-serve_sound x c after j n frame s server fate told h here is up server_is commit down fates idle =
+serve_sound x c after j n frame s server fate told h here is pre post passes up server_is commit down fates idle =
     let done = served_by x c server frame s h is in
     let output : Output = record { number = n; need = s.version; frame = s.down } in
     let version : after.server.version ≡ version_after c.server.version s.updates = ap (λ z. z.version) server_is ∙ done.version in
@@ -86,6 +88,9 @@ serve_sound x c after j n frame s server fate told h here is up server_is commit
     record {
       program = ap (λ z. (server_of z).program) server_is ∙ is.program ∙ h.program;
       split = ap (λ z. (server_of z).split) server_is ∙ is.split ∙ h.split;
+      pre_stages = pre ∙ h.pre_stages;
+      post_stages = post ∙ h.post_stages;
+      left = subst (Each HasLeft) (sym passes) h.left;
       up = subst (Each (FramedUp x)) (sym up) (each_remove (FramedUp x) c.up.items j h.up);
       held = subst (Each (FramedHeld x)) (sym held) (each_push (FramedHeld x) c.commit.held output h.held done.is_frame);
       down = subst (Each (FramedDown x)) (sym down) h.down;
@@ -105,8 +110,8 @@ serve_sound x c after j n frame s server fate told h here is up server_is commit
       within = record {
         idle = idle;
         admitted = subst (λ k. k ≤ length x.packets) (sym as_many) h.within.admitted;
-        versions = undecided_served _ _ _ _ _ _ _ less as_many (let next = version_next c.server.version s.updates in omega (arith, version)) h.within.versions;
-        commands = commands_served _ _ _ _ _ _ _ _ _ (ap (λ bs. length (commands_in bs)) batches ∙ more) less (ap (λ k. length x.packets - k) as_many)
+        versions = undecided_served _ _ _ _ _ _ _ _ _ (ap before_server passes) less as_many (let next = version_next c.server.version s.updates in omega (arith, version)) h.within.versions;
+        commands = commands_served _ _ _ _ _ _ _ _ _ _ _ (ap (λ bs. length (commands_in bs)) batches ∙ more) (ap before_server passes) less (ap (λ k. length x.packets - k) as_many)
             (batch_count s.updates (whole x).writes done.few) h.within.commands;
       };
     }
@@ -114,21 +119,22 @@ serve_sound x c after j n frame s server fate told h here is up server_is commit
 pub serve_turned : PlaceLaw → (x : Given) (c after : Course) (old new : PortState) (j n : ℕ) (frame : List ℕ) (s : Served) (server : Runtime) → ToldOf x → IsGoing x c old
     → slice_get c.up.items j ≡ Some (n, frame) → IsServed (server_of c.server) frame s (server_of server)
     → MadeRoom (unapplied c + length (commands_in (batch_of s.updates))) old new
+    → after.pre_stages ≡ c.pre_stages → after.post_stages ≡ c.post_stages → after.passes.items ≡ c.passes.items
     → after.up.items ≡ remove c.up.items j → after.server ≡ server
     → after.commit ≡ with_output c.commit (record { number = n; need = s.version; frame = s.down }) s.updates
     → after.down.items ≡ c.down.items
     → after.fates.items ≡ slice_set c.fates.items n (fates_of.decided (c.events + 1) s.version (slice_get c.fates.items n))
     → after.events ≡ c.events + 1 → after.idle ≡ c.idle → HasTurned x (event.Serve j) Did c old after new
-serve_turned places x c after old new j n frame s server told going here is made up server_is commit down fates events idle =
+serve_turned places x c after old new j n frame s server told going here is made pre post passes up server_is commit down fates events idle =
     let h = going.sound in
     let done = served_by x c server frame s h is in
-    let sound = serve_sound x c after j n frame s server _ told h here is up server_is commit down fates (let i = h.within.idle in omega (arith, events, idle)) in
+    let sound = serve_sound x c after j n frame s server _ told h here is pre post passes up server_is commit down fates (let i = h.within.idle in omega (arith, events, idle)) in
     let need : s.version ≡ after.server.version = done.told ∙ sym (ap (λ z. z.version) server_is) in
     let spare : unapplied after ≤ new.spare = subst (λ (k : Commit). length (commands k) - k.done ≤ new.spare) (sym commit)
     (spare_served _ _ _ _ _ (length_more c.commit.batches (batch_of s.updates)) (enough _ _ _ h.order.done_within h.order.sent_within) made.spare) in
     quiet_turned x (event.Serve j) Did c after old new going made.kept sound spare events (λ calls st shown may. refl) (λ events_so calls st replay shown.
     let was = serve_shown (whole x) (setup_for x) calls st c after j n frame s.updates shown
-    (have_places places (setup_for x) (whole x) x.packets events_so calls st replay.answered) here up
+    (have_places places (setup_for x) (whole x) x.packets events_so calls st replay.answered) here passes up
     (ap (λ z. z.store) server_is ∙ done.store) (ap (λ z. z.version) server_is ∙ done.version) (sym done.updates)
     (commit ∙ (λ i. with_output c.commit (record { number = n; need = need i; frame = done.down i }) s.updates))
     down (fates ∙ ap (λ v. slice_set c.fates.items n (fates_of.decided (c.events + 1) v (slice_get c.fates.items n))) need) events idle in
@@ -152,7 +158,7 @@ few_writes x is =
 
 pub few_updates : (x : Given) (c : Course) (port : PortState) (frame : List ℕ) (s : Served) (server : Runtime) → IsGoing x c port
     → IsServed (server_of c.server) frame s (server_of server) → length s.updates ≤ 4096
-few_updates x c port frame s server going is = enough _ _ _ (served_by x c server frame s going.sound is).few (few_writes x going.plain.ready.split)
+few_updates x c port frame s server going is = enough _ _ _ (served_by x c server frame s going.sound is).few (few_writes x going.prepared.ready.split)
 
 -- the frame is one of those that went up
 pub framed_up : (x : Given) (c : Course) (port : PortState) (j n : ℕ) (frame : List ℕ) → IsGoing x c port
@@ -168,13 +174,13 @@ few_versions version u n k h few two =
 
 -- there are versions left
 pub versions_left : (x : Given) (c : Course) (port : PortState) → IsGoing x c port → c.server.version < 2 ^ 32 - 1
-versions_left x c port going = few_versions _ _ _ (most_commands x) going.sound.within.versions going.plain.few (omega arith)
+versions_left x c port going = few_versions _ _ _ (most_commands x) going.sound.within.versions going.prepared.few (omega arith)
 
-few_commands : (n b up rest k total : ℕ) → n + (up + rest) * k ≤ total → 0 < up → b ≤ k → total < 2 ^ 32 → n + b < 2 ^ 32
-few_commands n b up rest k total h some few all =
-    let one : up + rest ≡ (up + rest - 1) + 1 = omega arith in
-    let m = one_more_times (up + rest - 1) k in
-    let g : n + (up + rest - 1) * k + k ≤ total = omega (arith, rw one at h) in
+few_commands : (n b p up rest k total : ℕ) → n + (p + up + rest) * k ≤ total → 0 < up → b ≤ k → total < 2 ^ 32 → n + b < 2 ^ 32
+few_commands n b p up rest k total h some few all =
+    let one : p + up + rest ≡ (p + up + rest - 1) + 1 = omega arith in
+    let m = one_more_times (p + up + rest - 1) k in
+    let g : n + (p + up + rest - 1) * k + k ≤ total = omega (arith, rw one at h) in
     omega arith
 
 -- and room for the commands of a batch
@@ -183,5 +189,5 @@ pub commands_left : (x : Given) (c : Course) (port : PortState) (j n : ℕ) (fra
     → length (commands c.commit) + length (commands_in (batch_of s.updates)) < 2 ^ 32
 commands_left x c port j n frame s server going here is =
     let less = slice_get_within c.up.items j (n, frame) here in
-    few_commands _ _ (length c.up.items) _ (most_commands x) _ going.sound.within.commands
-    (omega arith) (batch_count s.updates (whole x).writes (served_by x c server frame s going.sound is).few) going.plain.few
+    few_commands _ _ _ (length c.up.items) _ (most_commands x) _ going.sound.within.commands
+    (omega arith) (batch_count s.updates (whole x).writes (served_by x c server frame s going.sound is).few) going.prepared.few

@@ -1,10 +1,8 @@
 -- What a course shows after an event.
 use Rattle.std.proofs.Common.{◌≡◌, ℕ, ◌+◌, ◌-◌, ◌≤◌, Bool, true, false, eqb, leb, ltb, List, [], ◌∷◌, ◌++◌, Option, Some, None, inl, inr, refl, sym, ◌∙◌, ap, subst, arith, zero, suc, map, length, take}
-use Rattle.std.specs.Prelude.{slice_get, slice_set, remove}
-use Rattle.std.specs.List.{list_any}
-use Rattle.std.specs.List.{AllByRecursion as Each}
+use Rattle.std.specs.Prelude.{slice_get, remove, is_some, not, ◌&&◌, if◌then◌else◌}
 use Rattle.std.specs.Option.{option_map}
-use Rattle.std.proofs.lemmas.Bool.{cases_Bool, eq-eqb, le-leb, lt-leb, ltb-true, ltb-false}
+use Rattle.std.proofs.lemmas.Bool.{and_left, and_right, cases_Bool, le-leb, lt-leb, ltb-true, ltb-false}
 use Rattle.std.proofs.lemmas.Option.{none-some, slice_get-map}
 use Rattle.writeback_table.specs.declared.command.Update.{Update}
 use Rattle.writeback_table.specs.declared.command.Command.{Command}
@@ -14,18 +12,79 @@ use Rattle.output_commit.specs.Laws.{IsMerged}
 use Rattle.output_commit.specs.declared.output.Output.{Output}
 use Rattle.output_commit.specs.declared.output.Release.TheVariants as release
 use Rattle.run_model.specs.declared.event.Event.TheVariants as event
-use Rattle.run_model.specs.declared.fate.Fate.TheVariants as fate
 use Rattle.packet_fields.specs.declared.packet.Packet.{Packet}
-use Rattle.packet_fields.specs.declared.verdict.Verdict.{Verdict}
 use Rattle.replay_state.specs.Answers.{Answers, Setup}
-use Rattle.replay_state.specs.Journal.{Call, CalledUp, Finished, SentUp, UpAnswer, down_frame, ends_up, frame_in, journal, only_for, or_else, over_in, up_answer, verdict_in}
+use Rattle.replay_state.specs.Journal.{Call, SentUp, Question, UpAnswer, asked, asks_command, down_frame, ends_up, frame_in, or_else, over_in, up_answer}
 use Rattle.replay_state.specs.Program.{SplitProgram}
 use Rattle.output_commit.specs.Batches.{Batch, commands_in, fits, merged, visible}
-use Rattle.replay_state.specs.State.{State, Entered, Fast, Pass, Progress, fate_of, seen}
-use Rattle.replay_state.specs.Step.{applies, came_in, disturbs, finished, idled, let_go, may_go, step, tick, waits}
+use Rattle.replay_state.specs.declared.pass.Pass.{Pass}
+use Rattle.replay_state.specs.State.{State, Progress, fate_of}
+use Rattle.replay_state.specs.Step.{applies, happens, idled, let_go, may_go, step, tick, waits}
 use Rattle.replay_course.specs.declared.course.Course.{Course}
-use Rattle.replay_course.specs.Shown.{IsShown, called, taken}
-use Rattle.replay_course.proofs.Lists.{get_last, get_pushed, get_removed, get_there, map_push, map_remove, set_last}
+use Rattle.replay_course.specs.Going.{ready_next, unless_waits}
+use Rattle.replay_course.specs.Shown.{IsShown, called}
+use Rattle.replay_course.proofs.Lists.{get_pushed, get_removed, get_there, map_push, map_remove}
+
+-- ---- the server and the outputs that wait stay
+
+abbrev pub number_of : ℕ × List ℕ → ℕ
+number_of item = item.0
+
+abbrev pub waiting : Output → ℕ × ℕ
+waiting o = (o.number, o.need)
+
+module _ (s : SplitProgram) (calls : List Call) (st : State) (c : Course) (h : IsShown s calls st c) where
+  pub up_at : (j : ℕ) (item : ℕ × List ℕ) → slice_get c.up.items j ≡ Some item → slice_get st.up j ≡ Some item.0
+  up_at j item here = sym (ap (λ l. slice_get l j) h.up) ∙ slice_get-map number_of c.up.items j ∙ ap (option_map number_of) here
+
+  pub down_at : (j : ℕ) (item : ℕ × List ℕ) → slice_get c.down.items j ≡ Some item → slice_get st.down j ≡ Some item.0
+  down_at j item here = sym (ap (λ l. slice_get l j) h.down) ∙ slice_get-map number_of c.down.items j ∙ ap (option_map number_of) here
+
+  pub output_at : (j : ℕ) (o : Output) → slice_get c.commit.held j ≡ Some o → slice_get st.held j ≡ Some (waiting o)
+  output_at j o here = sym (ap (λ l. slice_get l j) h.held) ∙ slice_get-map waiting c.commit.held j ∙ ap (option_map waiting) here
+
+-- a state whose server and commands are those of another
+abbrev pub moved : State → List Pass → List ℕ → List ℕ → List Progress → ℕ → ℕ → State
+moved st passes up down progress events idle = record st {
+  passes = passes;
+  up = up;
+  down = down;
+  events = events;
+  idle = idle;
+  progress = progress;
+}
+
+pub moved_shown : (s : SplitProgram) (calls all : List Call) (st : State) (c after : Course) (passes : List Pass) (up down : List ℕ) (progress : List Progress) (events idle : ℕ)
+    → (let now = moved st passes up down progress events idle in
+    IsShown s calls st c → after.server ≡ c.server → after.commit ≡ c.commit
+    → after.passes.items ≡ passes → map number_of after.up.items ≡ up
+    → ((k : ℕ) (item : ℕ × List ℕ) → slice_get after.up.items k ≡ Some item → up_answer all item.0 ≡ Some (SentUp item.1))
+    → ((j n need : ℕ) → slice_get st.held j ≡ Some (n, need) → down_frame s calls st n ≡ down_frame s all now n)
+    → map number_of after.down.items ≡ down
+    → ((k : ℕ) (item : ℕ × List ℕ) → slice_get after.down.items k ≡ Some item → item.1 ≡ down_frame s all now item.0)
+    → after.fates.items ≡ map fate_of progress → after.events ≡ events → after.idle ≡ idle
+    → IsShown s all now after)
+moved_shown s calls all st c after passes up down progress events idle h server commit passes_are up_is frames_up frames down_is frames_down fates events_are idle_is = record {
+  passes = passes_are;
+  up = up_is;
+  up_frames = frames_up;
+  store = ap (λ z. z.store) server ∙ h.store;
+  version = ap (λ z. z.version) server ∙ h.version;
+  batches = ap (λ (k : Commit). k.batches) commit ∙ h.batches;
+  sent = ap (λ (k : Commit). k.sent) commit ∙ h.sent;
+  done = ap (λ (k : Commit). k.done) commit ∙ h.done;
+  acked = ap (λ (k : Commit). k.acked) commit ∙ h.acked;
+  sent_within = subst (λ (k : Commit). k.sent ≤ length (commands k)) (sym commit) h.sent_within;
+  held = ap (λ (k : Commit). map waiting k.held) commit ∙ h.held;
+  held_frames = λ k o e.
+      let was = sym (ap (λ (z : Commit). slice_get z.held k) commit) ∙ e in
+      h.held_frames k o was ∙ frames k o.number o.need (output_at s calls st c h k o was);
+  down = down_is;
+  down_frames = frames_down;
+  fates = fates;
+  events = events_are;
+  idle = idle_is;
+}
 
 -- ---- a command is sent
 
@@ -33,7 +92,7 @@ abbrev pub MergeLaw : Type 0
 MergeLaw = (f : List Update → Bool) (n : ℕ) (bs : List Batch) → IsMerged n bs (merged f n bs)
 
 abbrev pub with_commit : Course → Commit → Course
-with_commit c commit = record { up = c.up; server = c.server; commit = commit; down = c.down; fates = c.fates; events = c.events + 1; idle = c.idle }
+with_commit c commit = record c { commit = commit; events = c.events + 1 }
 
 pub sent_shown : (s : SplitProgram) (setup : Setup) (a : Answers) (calls : List Call) (st : State) (c : Course) (commit : Commit) → setup.fits ≡ fits c.commit.writeback
     → MergeLaw → commit ≡ after_send c.commit → ltb c.commit.sent (length (commands c.commit)) ≡ true → IsShown s calls st c → IsShown s calls (step setup a st event.Send) (with_commit c commit)
@@ -88,10 +147,10 @@ hold_applies s setup calls st c j n f ans h =
     ap (may_go (visible st.batches st.acked)) st_there ∙ le-leb g.0.need (visible st.batches st.acked) (omega arith)
 
 pub hold_goes : (s : SplitProgram) (setup : Setup) (a : Answers) (calls : List Call) (st : State) (c after : Course) (j n : ℕ) (f : List ℕ)
-    → after.up ≡ c.up → after.server ≡ c.server → after.commit ≡ after_release c.commit j (slice_get c.commit.held j) → release.Frame n f ≡ answer c.commit (slice_get c.commit.held j)
+    → after.passes ≡ c.passes → after.up ≡ c.up → after.server ≡ c.server → after.commit ≡ after_release c.commit j (slice_get c.commit.held j) → release.Frame n f ≡ answer c.commit (slice_get c.commit.held j)
     → after.down.items ≡ c.down.items ++ (n, f) ∷ [] → after.fates ≡ c.fates → after.events ≡ c.events + 1 → after.idle ≡ c.idle
     → IsShown s calls st c → (applies setup st (event.Hold j) ≡ true) × IsShown s calls (step setup a st (event.Hold j)) after
-hold_goes s setup a calls st c after j n f up server commit ans down fates events idle h =
+hold_goes s setup a calls st c after j n f passes up server commit ans down fates events idle h =
     let g = goes c.commit (slice_get c.commit.held j) n f ans in
     let out = g.0 in
     let now : after.commit ≡ record c.commit { held = remove c.commit.held j } = commit ∙ ap (after_release c.commit j) g.1 ∙ (rw g.2 refl) in
@@ -101,7 +160,7 @@ hold_goes s setup a calls st c after j n f up server commit ans down fates event
     let next = first ∙ ap (let_go (tick st) j) st_there in (
       may,
       subst (λ w. IsShown s calls w after) (sym next) (record {
-        passes = h.passes;
+        passes = ap (λ q. q.items) passes ∙ h.passes;
         up = ap (λ q. map (λ (item : ℕ × List ℕ). item.0) q.items) up ∙ h.up;
         up_frames = λ k item e. h.up_frames k item (sym (ap (λ q. slice_get q.items k) up) ∙ e);
         store = ap (λ z. z.store) server ∙ h.store;
@@ -132,12 +191,20 @@ stays c j (Some out) h = elim (cases_Bool (ltb (acknowledged c) out.need)) [
   | inr t ↦ absurd (h out.number out.frame (rw t refl))
 ]
 
+pub hold_idles : (s : SplitProgram) (setup : Setup) (calls : List Call) (st : State) (c : Course) (j : ℕ)
+    → ((n : ℕ) (f : List ℕ) → release.Frame n f ≡ answer c.commit (slice_get c.commit.held j) → ⊥)
+    → IsShown s calls st c → applies setup st (event.Hold j) ≡ false
+hold_idles s setup calls st c j never h =
+    let st_there = held_at s calls st c j (slice_get c.commit.held j) h refl in
+    let known = known_is s calls st c h in
+    (λ i. may_go (known i) (st_there i)) ∙ (stays c.commit j (slice_get c.commit.held j) never).1
+
 pub hold_stays : (s : SplitProgram) (setup : Setup) (a : Answers) (calls : List Call) (st : State) (c after : Course) (j : ℕ)
-    → after.up ≡ c.up → after.server ≡ c.server → after.commit ≡ after_release c.commit j (slice_get c.commit.held j)
+    → after.passes ≡ c.passes → after.up ≡ c.up → after.server ≡ c.server → after.commit ≡ after_release c.commit j (slice_get c.commit.held j)
     → ((n : ℕ) (f : List ℕ) → release.Frame n f ≡ answer c.commit (slice_get c.commit.held j) → ⊥)
     → after.down ≡ c.down → after.fates ≡ c.fates → after.events ≡ c.events + 1 → after.idle ≡ c.idle + 1
     → IsShown s calls st c → (applies setup st (event.Hold j) ≡ false) × IsShown s calls (step setup a st (event.Hold j)) after
-hold_stays s setup a calls st c after j up server commit never down fates events idle h =
+hold_stays s setup a calls st c after j passes up server commit never down fates events idle h =
     let g = stays c.commit j (slice_get c.commit.held j) never in
     let now : after.commit ≡ c.commit = commit ∙ g.0 in
     let st_there = held_at s calls st c j (slice_get c.commit.held j) h refl in
@@ -146,7 +213,7 @@ hold_stays s setup a calls st c after j up server commit never down fates events
     let next : step setup a st (event.Hold j) ≡ idled (tick st) = rw may refl in (
       may,
       subst (λ w. IsShown s calls w after) (sym next) (record {
-        passes = h.passes;
+        passes = ap (λ q. q.items) passes ∙ h.passes;
         up = ap (λ q. map (λ (item : ℕ × List ℕ). item.0) q.items) up ∙ h.up;
         up_frames = λ k item e. h.up_frames k item (sym (ap (λ q. slice_get q.items k) up) ∙ e);
         store = ap (λ z. z.store) server ∙ h.store;
@@ -184,11 +251,6 @@ next_some c command e = elim (cases_Bool (ltb c.done c.sent)) [
   | inr f ↦ let none : next c ≡ None = (rw f refl) in absurd (none-some _ (sym none ∙ sym e))
 ]
 
--- where no pass is under way, no command waits
-pub none_waits : (passes : List Pass) (o : Option Command) → passes ≡ [] → waits passes o ≡ false
-none_waits passes None e = refl
-none_waits passes (Some command) e = ap (list_any (λ (pass : Pass). disturbs pass.bit command)) e
-
 up_behind : (calls : List Call) (o : Option Command) (n : ℕ) → up_answer (calls ++ called o) n ≡ up_answer calls n
 up_behind [] None n = refl
 up_behind [] (Some command) n = refl
@@ -197,74 +259,107 @@ up_behind (call ∷ calls) o n = ap (or_else (ends_up n call)) (up_behind calls 
 frame_behind : (s : SplitProgram) (calls : List Call) (o : Option Command) (st : State) (n : ℕ) → down_frame s (calls ++ called o) st n ≡ down_frame s calls st n
 frame_behind s calls o st n = ap (λ u. s.serve_down (over_in (slice_get st.progress n)) (frame_in u)) (up_behind calls o n)
 
+-- what is ready is the next command, where it need not wait
+pub ready_is : (passes : List Pass) (k : Commit) (o : Option Command) → k.sent ≤ length (commands k) → o ≡ unless_waits passes (next k)
+    → (is_some o ≡ (ltb k.done k.sent && not (waits passes (slice_get (commands k) k.done)))) × (o ≡ (if is_some o then slice_get (commands k) k.done else None))
+ready_is passes k o within is = elim (cases_Bool (ltb k.done k.sent)) [
+  | inl t ↦
+      let there = get_there (commands k) k.done (let l = ltb-true k.done k.sent t in omega arith) in
+      by_wait there.0 there.1 t (is ∙ (rw t refl))
+  | inr f ↦ let none : o ≡ None = is ∙ (rw f refl) in rw none (sym (and_left _ _ f), refl)
+]
+  where
+    by_wait : (command : Command) → slice_get (commands k) k.done ≡ Some command → ltb k.done k.sent ≡ true → o ≡ unless_waits passes (slice_get (commands k) k.done)
+        → (is_some o ≡ (ltb k.done k.sent && not (waits passes (slice_get (commands k) k.done)))) × (o ≡ (if is_some o then slice_get (commands k) k.done else None))
+    by_wait command at t is = elim (cases_Bool (waits passes (Some command))) [
+      | inl w ↦ let none : o ≡ None = is ∙ ap (unless_waits passes) at ∙ (rw w refl) in rw (none, at, t, w) (refl, refl)
+      | inr n ↦ let some : o ≡ Some command = is ∙ ap (unless_waits passes) at ∙ (rw n refl) in rw (some, at, t, n) (refl, refl)
+    ]
+
+module _ (s : SplitProgram) (setup : Setup) (calls : List Call) (st : State) (c : Course) (o : Option Command) (h : IsShown s calls st c) (is : o ≡ ready_next c) where
+  ready : (is_some o ≡ (ltb c.commit.done c.commit.sent && not (waits c.passes.items (slice_get (commands c.commit) c.commit.done))))
+      × (o ≡ (if is_some o then slice_get (commands c.commit) c.commit.done else None))
+  ready = ready_is c.passes.items c.commit o h.sent_within is
+
+  pub ready_applies : is_some o ≡ applies setup st event.Apply
+  ready_applies = ready.0 ∙ (λ i. ltb (h.done i) (h.sent i) && not (waits (h.passes i) (slice_get (commands_in (h.batches i)) (h.done i))))
+
+  ready_at : o ≡ (if is_some o then slice_get (commands_in st.batches) st.done else None)
+  ready_at = ready.1 ∙ (λ i. if is_some o then slice_get (commands_in (h.batches i)) (h.done i) else None)
+
+  pub ready_asked : (packets : List Packet) → asks_command o ≡ asked setup s packets calls st event.Apply
+  ready_asked packets = by_case (is_some o) refl
+    where
+      by_case : (b : Bool) → is_some o ≡ b → asks_command o ≡ asked setup s packets calls st event.Apply
+      by_case true e =
+          let at : o ≡ slice_get (commands_in st.batches) st.done = ready_at ∙ (rw e refl) in
+          let may : applies setup st event.Apply ≡ true = sym ready_applies ∙ e in
+          ap asks_command at ∙ (rw may refl)
+      by_case false e =
+          let none : o ≡ None = ready_at ∙ (rw e refl) in
+          let may : applies setup st event.Apply ≡ false = sym ready_applies ∙ e in
+          ap asks_command none ∙ (rw may refl)
+
+-- the commit goes on where a command is ready
+pub next_goes : (passes : List Pass) (k : Commit) (command : Command) → Some command ≡ unless_waits passes (next k)
+    → (ltb k.done k.sent ≡ true) × (Some command ≡ next k) × (after_next k ≡ record k { done = k.done + 1 })
+next_goes passes k command e = elim (cases_Bool (ltb k.done k.sent)) [
+  | inl t ↦ (t, is_next (next k) e, rw t refl)
+  | inr f ↦ let none : unless_waits passes (next k) ≡ None = (rw f refl) in absurd (none-some _ (sym none ∙ sym e))
+]
+  where
+    is_next : (o : Option Command) → Some command ≡ unless_waits passes o → Some command ≡ o
+    is_next None e = e
+    is_next (Some d) e = elim (cases_Bool (waits passes (Some d))) [ inl t ↦ let bad = rw t at e in cc | inr f ↦ rw f at e ]
+
 pub command_goes : (s : SplitProgram) (setup : Setup) (a : Answers) (calls : List Call) (st : State) (c after : Course) (command : Command)
-    → after.up ≡ c.up → after.server ≡ c.server → Some command ≡ next c.commit → after.commit ≡ after_next c.commit
+    → after.passes ≡ c.passes → after.up ≡ c.up → after.server ≡ c.server → Some command ≡ ready_next c → after.commit ≡ after_next c.commit
     → after.down ≡ c.down → after.fates ≡ c.fates → after.events ≡ c.events + 1 → after.idle ≡ c.idle
-    → IsShown s calls st c → (applies setup st event.Apply ≡ true) × (Some command ≡ slice_get (commands_in st.batches) st.done)
-    × IsShown s (calls ++ called (Some command)) (step setup a st event.Apply) after
-command_goes s setup a calls st c after command up server is commit down fates events idle h =
-    let g = next_some c.commit command is in
+    → IsShown s calls st c → IsShown s (calls ++ called (Some command)) (step setup a st event.Apply) after
+command_goes s setup a calls st c after command passes up server is commit down fates events idle h =
+    let g = next_goes c.passes.items c.commit command is in
     let now : after.commit ≡ record c.commit { done = c.commit.done + 1 } = commit ∙ g.2 in
-    let test : ltb st.done st.sent ≡ true = (λ i. ltb (sym h.done i) (sym h.sent i)) ∙ g.0 in
-    let still = none_waits st.passes (slice_get (commands_in st.batches) st.done) h.passes in
-    let may : applies setup st event.Apply ≡ true = rw (test, still) refl in
-    let next : step setup a st event.Apply ≡ record (tick st) { done = st.done + 1 } = rw may refl in (
-      may,
-      g.1 ∙ (λ i. slice_get (commands_in (h.batches i)) (h.done i)),
-      subst (λ w. IsShown s (calls ++ called (Some command)) w after) (sym next) (record {
-        passes = h.passes;
-        up = ap (λ q. map (λ (item : ℕ × List ℕ). item.0) q.items) up ∙ h.up;
-        up_frames = λ k item e. up_behind calls (Some command) item.0 ∙ h.up_frames k item (sym (ap (λ q. slice_get q.items k) up) ∙ e);
-        store = ap (λ z. z.store) server ∙ h.store;
-        version = ap (λ z. z.version) server ∙ h.version;
-        batches = ap (λ k. k.batches) now ∙ h.batches;
-        sent = ap (λ k. k.sent) now ∙ h.sent;
-        done = ap (λ k. k.done) now ∙ ap (λ n. n + 1) h.done;
-        acked = ap (λ k. k.acked) now ∙ h.acked;
-        sent_within = subst (λ (k : Commit). k.sent ≤ length (commands k)) (sym now) h.sent_within;
-        held = ap (λ (k : Commit). map (λ (o : Output). (o.number, o.need)) k.held) now ∙ h.held;
-        held_frames = λ k o e. h.held_frames k o (sym (ap (λ (z : Commit). slice_get z.held k) now) ∙ e) ∙ sym (frame_behind s calls (Some command) st o.number);
-        down = ap (λ q. map (λ (item : ℕ × List ℕ). item.0) q.items) down ∙ h.down;
-        down_frames = λ k item e. h.down_frames k item (sym (ap (λ q. slice_get q.items k) down) ∙ e) ∙ sym (frame_behind s calls (Some command) st item.0);
-        fates = ap (λ z. z.items) fates ∙ h.fates;
-        events = events ∙ ap (λ z. z + 1) h.events;
-        idle = idle ∙ h.idle;
-      }),
-    )
+    let may : applies setup st event.Apply ≡ true = sym (ready_applies s setup calls st c (Some command) h is) in
+    let next : step setup a st event.Apply ≡ record (tick st) { done = st.done + 1 } = stepped may in
+    subst (λ w. IsShown s (calls ++ called (Some command)) w after) (sym next) (record {
+      passes = ap (λ q. q.items) passes ∙ h.passes;
+      up = ap (λ q. map number_of q.items) up ∙ h.up;
+      up_frames = λ k item e. up_behind calls (Some command) item.0 ∙ h.up_frames k item (sym (ap (λ q. slice_get q.items k) up) ∙ e);
+      store = ap (λ z. z.store) server ∙ h.store;
+      version = ap (λ z. z.version) server ∙ h.version;
+      batches = ap (λ (k : Commit). k.batches) now ∙ h.batches;
+      sent = ap (λ (k : Commit). k.sent) now ∙ h.sent;
+      done = ap (λ (k : Commit). k.done) now ∙ ap (λ n. n + 1) h.done;
+      acked = ap (λ (k : Commit). k.acked) now ∙ h.acked;
+      sent_within = subst (λ (k : Commit). k.sent ≤ length (commands k)) (sym now) h.sent_within;
+      held = ap (λ (k : Commit). map waiting k.held) now ∙ h.held;
+      held_frames = λ k o e. h.held_frames k o (sym (ap (λ (z : Commit). slice_get z.held k) now) ∙ e) ∙ sym (frame_behind s calls (Some command) st o.number);
+      down = ap (λ q. map number_of q.items) down ∙ h.down;
+      down_frames = λ k item e. h.down_frames k item (sym (ap (λ q. slice_get q.items k) down) ∙ e) ∙ sym (frame_behind s calls (Some command) st item.0);
+      fates = ap (λ z. z.items) fates ∙ h.fates;
+      events = events ∙ ap (λ z. z + 1) h.events;
+      idle = idle ∙ h.idle;
+    })
+  where
+    stepped : applies setup st event.Apply ≡ true → step setup a st event.Apply ≡ record (tick st) { done = st.done + 1 }
+    stepped may = ap (λ (b : Bool). if b then happens setup a (tick st) event.Apply else idled (tick st)) may
 
 pub no_command : (s : SplitProgram) (setup : Setup) (a : Answers) (calls : List Call) (st : State) (c after : Course)
-    → after.up ≡ c.up → after.server ≡ c.server → None ≡ next c.commit → after.commit ≡ after_next c.commit
+    → after.passes ≡ c.passes → after.up ≡ c.up → after.server ≡ c.server → None ≡ ready_next c → after.commit ≡ c.commit
     → after.down ≡ c.down → after.fates ≡ c.fates → after.events ≡ c.events + 1 → after.idle ≡ c.idle + 1
-    → IsShown s calls st c → (applies setup st event.Apply ≡ false) × IsShown s (calls ++ called None) (step setup a st event.Apply) after
-no_command s setup a calls st c after up server is commit down fates events idle h =
-    let g = next_none c.commit h.sent_within is in
-    let now : after.commit ≡ c.commit = commit ∙ g.1 in
-    let test : ltb st.done st.sent ≡ false = (λ i. ltb (sym h.done i) (sym h.sent i)) ∙ g.0 in
-    let may : applies setup st event.Apply ≡ false = rw test refl in
-    let next : step setup a st event.Apply ≡ idled (tick st) = rw may refl in (
-      may,
-      subst (λ w. IsShown s (calls ++ called None) w after) (sym next) (record {
-        passes = h.passes;
-        up = ap (λ q. map (λ (item : ℕ × List ℕ). item.0) q.items) up ∙ h.up;
-        up_frames = λ k item e. up_behind calls None item.0 ∙ h.up_frames k item (sym (ap (λ q. slice_get q.items k) up) ∙ e);
-        store = ap (λ z. z.store) server ∙ h.store;
-        version = ap (λ z. z.version) server ∙ h.version;
-        batches = ap (λ k. k.batches) now ∙ h.batches;
-        sent = ap (λ k. k.sent) now ∙ h.sent;
-        done = ap (λ k. k.done) now ∙ h.done;
-        acked = ap (λ k. k.acked) now ∙ h.acked;
-        sent_within = subst (λ (k : Commit). k.sent ≤ length (commands k)) (sym now) h.sent_within;
-        held = ap (λ (k : Commit). map (λ (o : Output). (o.number, o.need)) k.held) now ∙ h.held;
-        held_frames = λ k o e. h.held_frames k o (sym (ap (λ (z : Commit). slice_get z.held k) now) ∙ e) ∙ sym (frame_behind s calls None st o.number);
-        down = ap (λ q. map (λ (item : ℕ × List ℕ). item.0) q.items) down ∙ h.down;
-        down_frames = λ k item e. h.down_frames k item (sym (ap (λ q. slice_get q.items k) down) ∙ e) ∙ sym (frame_behind s calls None st item.0);
-        fates = ap (λ z. z.items) fates ∙ h.fates;
-        events = events ∙ ap (λ z. z + 1) h.events;
-        idle = idle ∙ ap (λ z. z + 1) h.idle;
-      }),
-    )
+    → IsShown s calls st c → IsShown s (calls ++ called None) (step setup a st event.Apply) after
+no_command s setup a calls st c after passes up server is commit down fates events idle h =
+    let may : applies setup st event.Apply ≡ false = sym (ready_applies s setup calls st c None h is) in
+    let next : step setup a st event.Apply ≡ idled (tick st) = ap (λ (b : Bool). if b then happens setup a (tick st) event.Apply else idled (tick st)) may in
+    subst (λ w. IsShown s (calls ++ called None) w after) (sym next)
+    (moved_shown s calls (calls ++ called None) st c after st.passes st.up st.down st.progress (st.events + 1) (st.idle + 1) h server commit
+    (ap (λ q. q.items) passes ∙ h.passes) (ap (λ q. map number_of q.items) up ∙ h.up)
+    (λ k item e. up_behind calls None item.0 ∙ h.up_frames k item (sym (ap (λ q. slice_get q.items k) up) ∙ e))
+    (λ j n need at. sym (frame_behind s calls None st n)) (ap (λ q. map number_of q.items) down ∙ h.down)
+    (λ k item e. h.down_frames k item (sym (ap (λ q. slice_get q.items k) down) ∙ e) ∙ sym (frame_behind s calls None st item.0))
+    (ap (λ z. z.items) fates ∙ h.fates) (events ∙ ap (λ z. z + 1) h.events) (idle ∙ ap (λ z. z + 1) h.idle))
 
--- ---- the switch finishes a packet by itself
+-- ---- answers behind others
 
 or_assoc : {X : Type 0} (a b c : Option X) → or_else a (or_else b c) ≡ or_else (or_else a b) c
 or_assoc None b c = refl
@@ -274,61 +369,5 @@ pub up_append : (calls more : List Call) (n : ℕ) → up_answer (calls ++ more)
 up_append [] more n = refl
 up_append (call ∷ calls) more n = ap (or_else (ends_up n call)) (up_append calls more n) ∙ or_assoc (ends_up n call) (up_answer calls n) (up_answer more n)
 
-frame_taken : (calls : List Call) (st : State) (packet : Packet) (verdict : Verdict) (m : ℕ) → frame_in (up_answer (taken calls st packet (Finished verdict)) m) ≡ frame_in (up_answer calls m)
-frame_taken calls st packet verdict m = ap frame_in (up_append calls (CalledUp false (length st.progress) packet (Finished verdict) ∷ []) m) ∙ quiet (up_answer calls m)
-  where
-    quiet : (o : Option UpAnswer) → frame_in (or_else o (or_else (only_for (length st.progress) m (Some (Finished verdict))) None)) ≡ frame_in o
-    quiet (Some u) = refl
-    quiet None = elim (cases_Bool (eqb (length st.progress) m)) [ inl t ↦ rw t refl | inr f ↦ rw f refl ]
-
-pub over_taken : (ps : List Progress) (p : Progress) (m : ℕ) → over_in (Some p) ≡ [] → over_in (slice_get (ps ++ p ∷ []) m) ≡ over_in (slice_get ps m)
-over_taken [] p zero e = e
-over_taken [] p (suc m) e = refl
-over_taken (q ∷ ps) p zero e = refl
-over_taken (q ∷ ps) p (suc m) e = over_taken ps p m e
-
 pub still_up : (calls more : List Call) (n : ℕ) (u : UpAnswer) → up_answer calls n ≡ Some u → up_answer (calls ++ more) n ≡ Some u
 still_up calls more n u e = up_append calls more n ∙ ap (λ o. or_else o (up_answer more n)) e
-
-pub finish_shown : (s : SplitProgram) (setup : Setup) (calls : List Call) (packet : Packet) (verdict : Verdict) (st : State) (c after : Course)
-    → after.up ≡ c.up → after.server ≡ c.server → after.commit ≡ c.commit → after.down ≡ c.down
-    → after.fates.items ≡ c.fates.items ++ fate.Fast (c.events + 1) (c.events + 1) (seen_by c.commit) (c.events + 1) verdict ∷ []
-    → after.events ≡ c.events + 1 → after.idle ≡ c.idle
-    → IsShown s calls st c → setup.pre_stages ≡ 0 → applies setup st event.Admit ≡ true → up_answer calls (length st.progress) ≡ None
-    → IsShown s (taken calls st packet (Finished verdict)) (step setup (journal s (taken calls st packet (Finished verdict))) st event.Admit) after
-finish_shown s setup calls packet verdict st c after up server commit down fates events idle h stages may fresh =
-    let n = length st.progress in
-    let all = taken calls st packet (Finished verdict) in
-    let a = journal s all in
-    let ev = st.events + 1 in
-    let answer : up_answer all n ≡ Some (Finished verdict) =
-    up_append calls (CalledUp false n packet (Finished verdict) ∷ []) n ∙ (λ i. or_else (fresh i) (or_else (only_for n n (Some (Finished verdict))) None)) ∙ (let t = eq-eqb n n refl in rw t refl) in
-    let entry : State = record (tick st) { progress = st.progress ++ Entered ev (seen st) ∷ [] } in
-    let first : step setup a st event.Admit ≡ came_in entry n (verdict_in (up_answer all n)) = rw (may, stages) refl in
-    let then : came_in entry n (verdict_in (up_answer all n)) ≡ came_in entry n (Some verdict) = ap (λ u. came_in entry n (verdict_in u)) answer in
-    let last : came_in entry n (Some verdict) ≡ record (tick st) { progress = st.progress ++ Fast ev ev (seen st) verdict ∷ [] } =
-    ap (λ (l : List Progress). record (tick st) { progress = l })
-    (ap (λ p. slice_set entry.progress n (finished ev verdict p)) (get_last st.progress (Entered ev (seen st))) ∙ set_last st.progress (Entered ev (seen st)) (Fast ev ev (seen st) verdict)) in
-    let next = first ∙ then ∙ last in
-    let vis : seen_by c.commit ≡ seen st = λ i. visible (h.batches i) (h.done i) in
-    let frames : (m : ℕ) → down_frame s calls st m ≡ down_frame s all (record (tick st) { progress = st.progress ++ Fast ev ev (seen st) verdict ∷ [] }) m =
-    λ m i. s.serve_down (sym (over_taken st.progress (Fast ev ev (seen st) verdict) m refl) i) (sym (frame_taken calls st packet verdict m) i) in
-    subst (λ w. IsShown s all w after) (sym next) (record {
-      passes = h.passes;
-      up = ap (λ q. map (λ (item : ℕ × List ℕ). item.0) q.items) up ∙ h.up;
-      up_frames = λ k item e. still_up calls (CalledUp false n packet (Finished verdict) ∷ []) item.0 (SentUp item.1) (h.up_frames k item (sym (ap (λ q. slice_get q.items k) up) ∙ e));
-      store = ap (λ z. z.store) server ∙ h.store;
-      version = ap (λ z. z.version) server ∙ h.version;
-      batches = ap (λ k. k.batches) commit ∙ h.batches;
-      sent = ap (λ k. k.sent) commit ∙ h.sent;
-      done = ap (λ k. k.done) commit ∙ h.done;
-      acked = ap (λ k. k.acked) commit ∙ h.acked;
-      sent_within = subst (λ (k : Commit). k.sent ≤ length (commands k)) (sym commit) h.sent_within;
-      held = ap (λ (k : Commit). map (λ (o : Output). (o.number, o.need)) k.held) commit ∙ h.held;
-      held_frames = λ k o e. h.held_frames k o (sym (ap (λ (z : Commit). slice_get z.held k) commit) ∙ e) ∙ frames o.number;
-      down = ap (λ q. map (λ (item : ℕ × List ℕ). item.0) q.items) down ∙ h.down;
-      down_frames = λ k item e. h.down_frames k item (sym (ap (λ q. slice_get q.items k) down) ∙ e) ∙ frames item.0;
-      fates = fates ∙ (λ i. h.fates i ++ fate.Fast (h.events i + 1) (h.events i + 1) (vis i) (h.events i + 1) verdict ∷ []) ∙ sym (map_push fate_of st.progress (Fast ev ev (seen st) verdict));
-      events = events ∙ ap (λ z. z + 1) h.events;
-      idle = idle ∙ h.idle;
-    })

@@ -1,78 +1,63 @@
--- What a course shows after an event that is idle, and after packets go up, are served and come down.
-use Rattle.std.proofs.Common.{◌≡◌, ℕ, ◌+◌, ◌≤◌, true, false, eqb, List, [], ◌∷◌, ◌++◌, Option, Some, None, inl, inr, refl, sym, ◌∙◌, ap, subst, arith, zero, suc, map, length}
-use Rattle.std.specs.Prelude.{slice_get, slice_set, remove}
+-- What a course shows after an event that is idle, after a packet was served, and where a pass enters, goes on or ends.
+use Rattle.std.proofs.Common.{◌≡◌, ℕ, ◌+◌, ◌-◌, ◌≤◌, Bool, true, false, eqb, leb, List, [], ◌∷◌, ◌++◌, Option, Some, None, inl, inr, refl, sym, ◌∙◌, ap, subst, arith, zero, suc, map, length}
+use Rattle.std.specs.Prelude.{slice_get, slice_set, remove, if◌then◌else◌}
 use Rattle.std.specs.Option.{option_map}
-use Rattle.std.proofs.lemmas.Bool.{cases_Bool, eq-eqb, eqb-true, lt-ltb}
+use Rattle.std.proofs.lemmas.Bool.{lt-ltb}
 use Rattle.std.proofs.lemmas.List.{append-nil}
 use Rattle.std.proofs.lemmas.Option.{none-some, same_Some, slice_get-map, slice_get_within}
-use Rattle.packet_fields.specs.declared.packet.Packet.{Packet}
 use Rattle.packet_fields.specs.declared.verdict.Verdict.{Verdict}
 use Rattle.state_store.specs.Store.{Store}
 use Rattle.writeback_table.specs.declared.command.Update.{Update}
-use Rattle.output_commit.specs.Commit.{Commit, batch_of, commands, with_output}
+use Rattle.output_commit.specs.Commit.{Commit, batch_of, bit, commands, with_output}
+use Rattle.output_commit.specs.Commit.{visible as seen_by}
 use Rattle.output_commit.specs.declared.output.Output.{Output}
 use Rattle.run_model.specs.declared.event.Event.{Event}
 use Rattle.run_model.specs.declared.event.Event.TheVariants as event
 use Rattle.run_model.specs.declared.fate.Fate.TheVariants as fate
 use Rattle.server_runtime.specs.Serving.{version_after}
 use Rattle.replay_state.specs.Answers.{Answers, Setup}
-use Rattle.replay_state.specs.Journal.{Call, CalledDown, CalledUp, Released, SentUp, UpAnswer, down_answer, down_frame, frame_in, journal, only_for, or_else, over_in, told, up_answer, verdict_in}
+use Rattle.replay_state.specs.Carried.{Carried, Member}
+use Rattle.replay_state.specs.Journal.{Call, Finished, GoingUp, HasGoneUp, Released, GoingDown, SentUp, UpAnswer, DownAnswer, down_answer, down_frame, frame_in, is_down_end, is_up_end, journal, over_in, told, up_answer, verdict_in}
+use Rattle.replay_state.specs.Journal.{down_end as down_ended, up_end as up_ended}
 use Rattle.replay_state.specs.Places.{HavePlaces, IsHeld}
 use Rattle.replay_state.specs.Program.{SplitProgram}
-use Rattle.output_commit.specs.Batches.{Batch, commands_in}
-use Rattle.replay_state.specs.State.{State, Entered, Held, Progress, Slow, Up, fate_of, seen}
-use Rattle.replay_state.specs.Step.{applies, came_down, came_in, came_out, decided, idled, ran, released, served, step, tick, went_up, with_changes}
+use Rattle.output_commit.specs.Batches.{Batch, commands_in, visible}
+use Rattle.replay_state.specs.declared.pass.Pass.{Pass}
+use Rattle.replay_state.specs.State.{State, Entered, Fast, Held, Progress, Slow, Up, bit_behind, fate_of, seen, store_at}
+use Rattle.replay_state.specs.Step.{applies, came, came_in, came_out, decided, finished, happens, idled, pass_of, ran, released, served, step, tick, went_up, with_changes}
 use Rattle.replay_course.specs.Fates as fates_of
 use Rattle.replay_course.specs.declared.course.Course.{Course}
-use Rattle.replay_course.specs.Shown.{IsShown, taken}
-use Rattle.replay_course.proofs.Lists.{get_last, get_pushed, get_removed, get_set_other, get_set_same, length_map, map_push, map_remove, map_set, none_at_end, set_last}
-use Rattle.replay_course.proofs.Showing.{over_taken, still_up, up_append}
+use Rattle.replay_course.specs.Going.{MayComeIn, MayComeOut, came_to, pass_for}
+use Rattle.replay_course.specs.Shown.{IsShown}
+use Rattle.replay_course.proofs.Lists.{get_last, get_member, get_pushed, get_removed, get_set_other, get_set_same, length_map, map_push, map_remove, map_set}
+use Rattle.replay_course.proofs.Showing.{down_at, moved, moved_shown, number_of, output_at, still_up, up_append, up_at, waiting}
 use Rattle.replay_course.proofs.Versions.{length_more}
 
 -- ---- an event that can't apply
 
 pub idle_shown : (s : SplitProgram) (setup : Setup) (a : Answers) (calls : List Call) (st : State) (ev : Event) (c after : Course) → applies setup st ev ≡ false
-    → after.up.items ≡ c.up.items → after.server ≡ c.server → after.commit ≡ c.commit → after.down.items ≡ c.down.items → after.fates.items ≡ c.fates.items
-    → after.events ≡ c.events + 1 → after.idle ≡ c.idle + 1 → IsShown s calls st c → IsShown s calls (step setup a st ev) after
-idle_shown s setup a calls st ev c after may up server commit down fates events idle h =
-    let next : step setup a st ev ≡ idled (tick st) = rw may refl in
-    subst (λ w. IsShown s calls w after) (sym next) (record {
-      passes = h.passes;
-      up = ap (map (λ (item : ℕ × List ℕ). item.0)) up ∙ h.up;
-      up_frames = λ k item e. h.up_frames k item (sym (ap (λ l. slice_get l k) up) ∙ e);
-      store = ap (λ z. z.store) server ∙ h.store;
-      version = ap (λ z. z.version) server ∙ h.version;
-      batches = ap (λ k. k.batches) commit ∙ h.batches;
-      sent = ap (λ k. k.sent) commit ∙ h.sent;
-      done = ap (λ k. k.done) commit ∙ h.done;
-      acked = ap (λ k. k.acked) commit ∙ h.acked;
-      sent_within = subst (λ (k : Commit). k.sent ≤ length (commands k)) (sym commit) h.sent_within;
-      held = ap (λ (k : Commit). map (λ (o : Output). (o.number, o.need)) k.held) commit ∙ h.held;
-      held_frames = λ k o e. h.held_frames k o (sym (ap (λ (z : Commit). slice_get z.held k) commit) ∙ e);
-      down = ap (map (λ (item : ℕ × List ℕ). item.0)) down ∙ h.down;
-      down_frames = λ k item e. h.down_frames k item (sym (ap (λ l. slice_get l k) down) ∙ e);
-      fates = fates ∙ h.fates;
-      events = events ∙ ap (λ z. z + 1) h.events;
-      idle = idle ∙ ap (λ z. z + 1) h.idle;
-    })
+    → after.passes.items ≡ c.passes.items → after.up.items ≡ c.up.items → after.server ≡ c.server → after.commit ≡ c.commit → after.down.items ≡ c.down.items
+    → after.fates.items ≡ c.fates.items → after.events ≡ c.events + 1 → after.idle ≡ c.idle + 1 → IsShown s calls st c → IsShown s calls (step setup a st ev) after
+idle_shown s setup a calls st ev c after may passes up server commit down fates events idle h =
+    let next : step setup a st ev ≡ idled (tick st) = ap (λ (b : Bool). if b then happens setup a (tick st) ev else idled (tick st)) may in
+    subst (λ w. IsShown s calls w after) (sym next)
+    (moved_shown s calls calls st c after st.passes st.up st.down st.progress (st.events + 1) (st.idle + 1) h server commit
+    (passes ∙ h.passes) (ap (map number_of) up ∙ h.up) (λ k item e. h.up_frames k item (sym (ap (λ l. slice_get l k) up) ∙ e)) (λ j n need at. refl)
+    (ap (map number_of) down ∙ h.down) (λ k item e. h.down_frames k item (sym (ap (λ l. slice_get l k) down) ∙ e))
+    (fates ∙ h.fates) (events ∙ ap (λ z. z + 1) h.events) (idle ∙ ap (λ z. z + 1) h.idle))
 
--- ---- where packets stand
+-- ---- an event begins that takes a pass or a packet out of its list
 
-abbrev number_in : ℕ × List ℕ → ℕ
-number_in item = item.0
-
-abbrev waiting : Output → ℕ × ℕ
-waiting o = (o.number, o.need)
-
-module _ (s : SplitProgram) (calls : List Call) (st : State) (c : Course) (h : IsShown s calls st c) where
-  pub up_at : (j : ℕ) (item : ℕ × List ℕ) → slice_get c.up.items j ≡ Some item → slice_get st.up j ≡ Some item.0
-  up_at j item here = sym (ap (λ l. slice_get l j) h.up) ∙ slice_get-map number_in c.up.items j ∙ ap (option_map number_in) here
-
-  pub down_at : (j : ℕ) (item : ℕ × List ℕ) → slice_get c.down.items j ≡ Some item → slice_get st.down j ≡ Some item.0
-  down_at j item here = sym (ap (λ l. slice_get l j) h.down) ∙ slice_get-map number_in c.down.items j ∙ ap (option_map number_in) here
-
-  pub output_at : (j : ℕ) (o : Output) → slice_get c.commit.held j ≡ Some o → slice_get st.held j ≡ Some (waiting o)
-  output_at j o here = sym (ap (λ l. slice_get l j) h.held) ∙ slice_get-map waiting c.commit.held j ∙ ap (option_map waiting) here
+pub taken_out : (s : SplitProgram) (calls : List Call) (st : State) (c after : Course) (passes : List Pass) (down : List ℕ)
+    → IsShown s calls st c → after.passes.items ≡ passes → after.up.items ≡ c.up.items → after.server ≡ c.server → after.commit ≡ c.commit
+    → map number_of after.down.items ≡ down
+    → ((k : ℕ) (item : ℕ × List ℕ) → slice_get after.down.items k ≡ Some item → (i : ℕ) × (slice_get c.down.items i ≡ Some item))
+    → after.fates.items ≡ c.fates.items → after.events ≡ c.events + 1 → after.idle ≡ c.idle
+    → IsShown s calls (record (tick st) { passes = passes; down = down }) after
+taken_out s calls st c after passes down h passes_are up server commit down_is among fates events idle =
+    moved_shown s calls calls st c after passes st.up down st.progress (st.events + 1) st.idle h server commit
+    passes_are (ap (map number_of) up ∙ h.up) (λ k item e. h.up_frames k item (sym (ap (λ l. slice_get l k) up) ∙ e)) (λ j n need at. refl)
+    down_is (λ k item e. let r = among k item e in h.down_frames r.0 item r.1) (fates ∙ h.fates) (events ∙ ap (λ z. z + 1) h.events) (idle ∙ h.idle)
 
 -- a packet that the server ran isn't one whose progress is another
 not_held : (st : State) (m n : ℕ) (p : Progress) → IsHeld st m → slice_get st.progress n ≡ Some p → ((a d v : ℕ) (over : Store) → p ≡ Held a d v over → ⊥) → m ≡ n → ⊥
@@ -82,7 +67,7 @@ not_held st m n p held at other same =
 -- ---- a packet is served
 
 module _ (s : SplitProgram) (calls : List Call) (st : State) (c after : Course) (j n : ℕ) (frame : List ℕ) (updates : List Update)
-    (h : IsShown s calls st c) (places : HavePlaces st) (here : slice_get c.up.items j ≡ Some (n, frame))
+    (h : IsShown s calls st c) (places : HavePlaces st) (here : slice_get c.up.items j ≡ Some (n, frame)) (passes : after.passes.items ≡ c.passes.items)
     (up : after.up.items ≡ remove c.up.items j)
     (store : after.server.store ≡ s.serve_after c.server.store frame)
     (commit : after.commit ≡ with_output c.commit (record { number = n; need = after.server.version; frame = s.serve_down c.server.store frame }) updates)
@@ -141,8 +126,8 @@ module _ (s : SplitProgram) (calls : List Call) (st : State) (c after : Course) 
       }) place.1 in
       let output : Output = record { number = n; need = after.server.version; frame = s.serve_down c.server.store frame } in
       subst (λ w. IsShown s calls w after) (sym next) (record {
-        passes = h.passes;
-        up = ap (map number_in) up ∙ map_remove number_in c.up.items j ∙ ap (λ l. remove l j) h.up;
+        passes = passes ∙ h.passes;
+        up = ap (map number_of) up ∙ map_remove number_of c.up.items j ∙ ap (λ l. remove l j) h.up;
         up_frames = λ k item e. let r = get_removed c.up.items j k item (sym (ap (λ l. slice_get l k) up) ∙ e) in h.up_frames r.0 item r.1;
         store = store ∙ (λ i. s.serve_after (h.store i) (sym (ap frame_in went) i));
         version = refl;
@@ -156,7 +141,7 @@ module _ (s : SplitProgram) (calls : List Call) (st : State) (c after : Course) 
           | inl p ↦ subst (λ (z : Output). z.frame ≡ s.serve_down (over_in (slice_get served_progress z.number)) (frame_in (up_answer calls z.number))) p own_frame
           | inr r ↦ h.held_frames r.0 o r.1 ∙ other_frame o.number (no_output o.number (places.held r.0 o.number o.need (output_at s calls st c h r.0 o r.1)))
         ];
-        down = ap (map number_in) down ∙ h.down;
+        down = ap (map number_of) down ∙ h.down;
         down_frames = λ k item e.
             let was = sym (ap (λ l. slice_get l k) down) ∙ e in
             h.down_frames k item was ∙ other_frame item.0 (no_output item.0 (places.down k item.0 (down_at s calls st c h k item was)));
@@ -170,24 +155,24 @@ module _ (s : SplitProgram) (calls : List Call) (st : State) (c after : Course) 
 
 -- a batch for the changes, if there are any
 changes_shown : (s : SplitProgram) (calls : List Call) (st : State) (c after : Course) (j n : ℕ) (frame : List ℕ) (updates : List Update)
-    → IsShown s calls st c → HavePlaces st → slice_get c.up.items j ≡ Some (n, frame) → after.up.items ≡ remove c.up.items j
+    → IsShown s calls st c → HavePlaces st → slice_get c.up.items j ≡ Some (n, frame) → after.passes.items ≡ c.passes.items → after.up.items ≡ remove c.up.items j
     → after.server.store ≡ s.serve_after c.server.store frame → after.server.version ≡ version_after c.server.version updates
     → after.commit ≡ with_output c.commit (record { number = n; need = after.server.version; frame = s.serve_down c.server.store frame }) updates
     → after.down.items ≡ c.down.items
     → after.fates.items ≡ slice_set c.fates.items n (fates_of.decided (c.events + 1) after.server.version (slice_get c.fates.items n))
     → after.events ≡ c.events + 1 → after.idle ≡ c.idle → (left : Store)
     → IsShown s calls (ran (journal s calls) (tick st) (with_changes left updates (tick st)) j n) after
-changes_shown s calls st c after j n frame [] h places here up store version commit down fates events idle left =
-    let base = ran_shown s calls st c after j n frame [] h places here up store commit down fates events idle st.stores st.batches (sym (append-nil st.batches)) in
+changes_shown s calls st c after j n frame [] h places here passes up store version commit down fates events idle left =
+    let base = ran_shown s calls st c after j n frame [] h places here passes up store commit down fates events idle st.stores st.batches (sym (append-nil st.batches)) in
     subst (λ v. IsShown s calls (ran (journal s calls) (tick st) (record (tick st) { version = v }) j n) after) (version ∙ h.version) base
-changes_shown s calls st c after j n frame (u ∷ us) h places here up store version commit down fates events idle left =
+changes_shown s calls st c after j n frame (u ∷ us) h places here passes up store version commit down fates events idle left =
     let batch : Batch = record { updates = u ∷ us; versions = 1 } in
-    let base = ran_shown s calls st c after j n frame (u ∷ us) h places here up store commit down fates events idle (st.stores ++ left ∷ []) (st.batches ++ batch ∷ []) refl in
+    let base = ran_shown s calls st c after j n frame (u ∷ us) h places here passes up store commit down fates events idle (st.stores ++ left ∷ []) (st.batches ++ batch ∷ []) refl in
     subst (λ v. IsShown s calls (ran (journal s calls) (tick st) (record (tick st) { version = v; stores = st.stores ++ left ∷ []; batches = st.batches ++ batch ∷ [] }) j n) after)
     (version ∙ ap (λ v. v + 1) h.version) base
 
 pub serve_shown : (s : SplitProgram) (setup : Setup) (calls : List Call) (st : State) (c after : Course) (j n : ℕ) (frame : List ℕ) (updates : List Update)
-    → IsShown s calls st c → HavePlaces st → slice_get c.up.items j ≡ Some (n, frame) → after.up.items ≡ remove c.up.items j
+    → IsShown s calls st c → HavePlaces st → slice_get c.up.items j ≡ Some (n, frame) → after.passes.items ≡ c.passes.items → after.up.items ≡ remove c.up.items j
     → after.server.store ≡ s.serve_after c.server.store frame → after.server.version ≡ version_after c.server.version updates
     → s.serve_changes c.server.store frame ≡ updates
     → after.commit ≡ with_output c.commit (record { number = n; need = after.server.version; frame = s.serve_down c.server.store frame }) updates
@@ -195,149 +180,208 @@ pub serve_shown : (s : SplitProgram) (setup : Setup) (calls : List Call) (st : S
     → after.fates.items ≡ slice_set c.fates.items n (fates_of.decided (c.events + 1) after.server.version (slice_get c.fates.items n))
     → after.events ≡ c.events + 1 → after.idle ≡ c.idle
     → (applies setup st (event.Serve j) ≡ true) × IsShown s calls (step setup (journal s calls) st (event.Serve j)) after
-serve_shown s setup calls st c after j n frame updates h places here up store version changes commit down fates events idle =
+serve_shown s setup calls st c after j n frame updates h places here passes up store version changes commit down fates events idle =
     let a = journal s calls in
     let at = up_at s calls st c h j (n, frame) here in
     let may : applies setup st (event.Serve j) ≡ true = lt-ltb _ _ (slice_get_within st.up j n at) in
     let first : step setup a st (event.Serve j) ≡ served a (tick st) j (slice_get st.up j) = rw may refl in
-    let then : served a (tick st) j (slice_get st.up j) ≡ served a (tick st) j (Some n) = ap (served a (tick st) j) at in
+    let second : served a (tick st) j (slice_get st.up j) ≡ served a (tick st) j (Some n) = ap (served a (tick st) j) at in
     let told_so : a.changes st.store n ≡ updates = (λ i. s.serve_changes (sym h.store i) (frame_in (h.up_frames j (n, frame) here i))) ∙ changes in
     let last : served a (tick st) j (Some n) ≡ ran a (tick st) (with_changes (a.after st.store n) updates (tick st)) j n =
     ap (λ us. ran a (tick st) (with_changes (a.after st.store n) us (tick st)) j n) told_so in (
       may,
-      subst (λ w. IsShown s calls w after) (sym (first ∙ then ∙ last))
-          (changes_shown s calls st c after j n frame updates h places here up store version commit down fates events idle (a.after st.store n)),
+      subst (λ w. IsShown s calls w after) (sym (first ∙ second ∙ last))
+          (changes_shown s calls st c after j n frame updates h places here passes up store version commit down fates events idle (a.after st.store n)),
     )
 
--- ---- a packet comes down
+-- ---- a packet is admitted
 
-or_none : {X : Type 0} (o : Option X) → or_else o None ≡ o
-or_none None = refl
-or_none (Some x) = refl
+pub over_pushed : (ps : List Progress) (p : Progress) (m : ℕ) → over_in (Some p) ≡ [] → over_in (slice_get (ps ++ p ∷ []) m) ≡ over_in (slice_get ps m)
+over_pushed [] p zero e = e
+over_pushed [] p (suc m) e = refl
+over_pushed (q ∷ ps) p zero e = refl
+over_pushed (q ∷ ps) p (suc m) e = over_pushed ps p m e
 
-abbrev pub brought_down : List Call → ℕ → List ℕ → Verdict → List Call
-brought_down calls n frame y = calls ++ CalledDown false n frame (Released y) ∷ []
+pub pass_is : (s : SplitProgram) (calls : List Call) (st : State) (c : Course) (pre : Bool) (number : ℕ) → IsShown s calls st c
+    → pass_for c pre number ≡ pass_of (tick st) pre number (if pre then c.pre_stages else c.post_stages)
+pass_is s calls st c pre number h = λ i. record {
+  pre = pre;
+  number = number;
+  version = visible (h.batches i) (h.done i);
+  bit = bit_behind (h.batches i) (h.done i);
+  left = if pre then c.pre_stages else c.post_stages;
+}
 
-pub up_beside : (calls : List Call) (n : ℕ) (frame : List ℕ) (y : Verdict) (m : ℕ) → up_answer (brought_down calls n frame y) m ≡ up_answer calls m
-up_beside calls n frame y m = up_append calls (CalledDown false n frame (Released y) ∷ []) m ∙ or_none (up_answer calls m)
+pub admit_shown : (s : SplitProgram) (calls : List Call) (st : State) (c after : Course)
+    → after.passes ≡ c.passes → after.up ≡ c.up → after.server ≡ c.server → after.commit ≡ c.commit → after.down ≡ c.down
+    → after.fates.items ≡ c.fates.items ++ fate.Pass (c.events + 1) ∷ [] → after.events ≡ c.events + 1 → after.idle ≡ c.idle
+    → IsShown s calls st c → IsShown s calls (came (tick st)) after
+admit_shown s calls st c after passes up server commit down fates events idle h =
+    let new : Progress = Entered (st.events + 1) (seen st) in
+    let frames : (m : ℕ) → down_frame s calls st m ≡ down_frame s calls (came (tick st)) m =
+    λ m i. s.serve_down (sym (over_pushed st.progress new m refl) i) (frame_in (up_answer calls m)) in
+    moved_shown s calls calls st c after st.passes st.up st.down (st.progress ++ new ∷ []) (st.events + 1) st.idle h server commit
+    (ap (λ q. q.items) passes ∙ h.passes) (ap (λ q. map number_of q.items) up ∙ h.up)
+    (λ k item e. h.up_frames k item (sym (ap (λ q. slice_get q.items k) up) ∙ e)) (λ j n need at. frames n)
+    (ap (λ q. map number_of q.items) down ∙ h.down)
+    (λ k item e. h.down_frames k item (sym (ap (λ q. slice_get q.items k) down) ∙ e) ∙ frames item.0)
+    (fates ∙ (λ i. h.fates i ++ fate.Pass (h.events i + 1) ∷ []) ∙ sym (map_push fate_of st.progress new)) (events ∙ ap (λ z. z + 1) h.events) (idle ∙ h.idle)
 
-pub down_shown : (s : SplitProgram) (setup : Setup) (calls : List Call) (st : State) (c after : Course) (j n : ℕ) (frame : List ℕ) (y : Verdict)
-    → IsShown s calls st c → HavePlaces st → HavePlaces (step setup (journal s (brought_down calls n frame y)) st (event.Down j)) → setup.post_stages ≡ 0
-    → down_answer (brought_down calls n frame y) n ≡ Some y
-    → slice_get c.down.items j ≡ Some (n, frame) → after.up.items ≡ c.up.items → after.server ≡ c.server → after.commit ≡ c.commit
-    → after.down.items ≡ remove c.down.items j
-    → after.fates.items ≡ slice_set c.fates.items n (fates_of.released (c.events + 1) y (slice_get c.fates.items n))
-    → after.events ≡ c.events + 1 → after.idle ≡ c.idle
-    → IsShown s (brought_down calls n frame y) (step setup (journal s (brought_down calls n frame y)) st (event.Down j)) after
-down_shown s setup calls st c after j n frame y h places after_places stages answer here up server commit down fates events idle =
-    let all = brought_down calls n frame y in
-    let a = journal s all in
-    let ev = st.events + 1 in
-    let at = down_at s calls st c h j (n, frame) here in
-    let may : applies setup st (event.Down j) ≡ true = lt-ltb _ _ (slice_get_within st.down j n at) in
-    let place = places.down j n at in
-    let gone : Progress = Slow place.0 place.1 place.2 y ev in
-    let out : State = record (tick st) { down = remove st.down j } in
-    let first : step setup a st (event.Down j) ≡ came_down setup a (tick st) j (slice_get st.down j) = rw may refl in
-    let second : came_down setup a (tick st) j (slice_get st.down j) ≡ came_down setup a (tick st) j (Some n) = ap (came_down setup a (tick st) j) at in
-    let third : came_down setup a (tick st) j (Some n) ≡ came_out out n (λ over. a.post over n) = rw stages refl in
-    let fourth : came_out out n (λ over. a.post over n) ≡ record out { progress = slice_set st.progress n (Slow place.0 place.1 place.2 (a.post place.3 n) ev) } =
-    ap (λ p. record out { progress = slice_set st.progress n (released (λ over. a.post over n) ev p) }) place.4 in
-    let fifth : record out { progress = slice_set st.progress n (Slow place.0 place.1 place.2 (a.post place.3 n) ev) } ≡ record out { progress = slice_set st.progress n gone } =
-    ap (λ v. record out { progress = slice_set st.progress n (Slow place.0 place.1 place.2 (told v) ev) }) answer in
-    let next = first ∙ second ∙ third ∙ fourth ∙ fifth in
-    let now : HavePlaces (record out { progress = slice_set st.progress n gone }) = subst HavePlaces next after_places in
-    let set : slice_get (slice_set st.progress n gone) n ≡ Some gone = get_set_same st.progress n gone _ place.4 in
-    let frames : (m : ℕ) → IsHeld (record out { progress = slice_set st.progress n gone }) m
-    → down_frame s calls st m ≡ down_frame s all (record out { progress = slice_set st.progress n gone }) m = λ m held.
-    let other = not_held (record out { progress = slice_set st.progress n gone }) m n gone held set (λ b d v over e. cc) in
-    λ i. s.serve_down (over_in (sym (get_set_other st.progress n m gone other) i)) (frame_in (sym (up_beside calls n frame y m) i)) in
-    let was : slice_get c.fates.items n ≡ Some (fate.Held place.0 place.1 place.2) = ap (λ l. slice_get l n) h.fates ∙ slice_get-map fate_of st.progress n ∙ ap (option_map fate_of) place.4 in
-    subst (λ w. IsShown s all w after) (sym next) (record {
-      passes = h.passes;
-      up = ap (map number_in) up ∙ h.up;
-      up_frames = λ k item e. up_beside calls n frame y item.0 ∙ h.up_frames k item (sym (ap (λ l. slice_get l k) up) ∙ e);
-      store = ap (λ z. z.store) server ∙ h.store;
-      version = ap (λ z. z.version) server ∙ h.version;
-      batches = ap (λ k. k.batches) commit ∙ h.batches;
-      sent = ap (λ k. k.sent) commit ∙ h.sent;
-      done = ap (λ k. k.done) commit ∙ h.done;
-      acked = ap (λ k. k.acked) commit ∙ h.acked;
-      sent_within = subst (λ (k : Commit). k.sent ≤ length (commands k)) (sym commit) h.sent_within;
-      held = ap (λ (k : Commit). map waiting k.held) commit ∙ h.held;
-      held_frames = λ k o e.
-          let then = sym (ap (λ (z : Commit). slice_get z.held k) commit) ∙ e in
-          h.held_frames k o then ∙ frames o.number (now.held k o.number o.need (output_at s calls st c h k o then));
-      down = ap (map number_in) down ∙ map_remove number_in c.down.items j ∙ ap (λ l. remove l j) h.down;
-      down_frames = λ k item e.
-          let then = sym (ap (λ l. slice_get l k) down) ∙ e in
-          let r = get_removed c.down.items j k item then in
-          let stays : slice_get (remove st.down j) k ≡ Some item.0 =
-          sym (ap (λ l. slice_get l k) (map_remove number_in c.down.items j ∙ ap (λ l. remove l j) h.down)) ∙ slice_get-map number_in (remove c.down.items j) k ∙ ap (option_map number_in) then in
-          h.down_frames r.0 item r.1 ∙ frames item.0 (now.down k item.0 stays);
-      fates = fates ∙ (λ i. slice_set (h.fates i) n (fates_of.released (h.events i + 1) y (was i))) ∙ sym (map_set fate_of st.progress n gone);
-      events = events ∙ ap (λ z. z + 1) h.events;
-      idle = idle ∙ h.idle;
-    })
+-- ---- a pass ends or goes on
 
--- ---- a packet goes up
+-- what a packet went up in stays
+kept_frame : (calls more : List Call) (n : ℕ) → HasGoneUp calls n → frame_in (up_answer calls n) ≡ frame_in (up_answer (calls ++ more) n)
+kept_frame calls more n gone = ap frame_in (gone.1 ∙ sym (still_up calls more n (SentUp gone.0) gone.1))
 
-other_up : (calls : List Call) (st : State) (packet : Packet) (frame : List ℕ) (m : ℕ) → (m ≡ length st.progress → ⊥)
-    → frame_in (up_answer (taken calls st packet (SentUp frame)) m) ≡ frame_in (up_answer calls m)
-other_up calls st packet frame m other = ap frame_in (up_append calls (CalledUp false (length st.progress) packet (SentUp frame) ∷ []) m) ∙ quiet (up_answer calls m)
-  where
-    quiet : (o : Option UpAnswer) → frame_in (or_else o (or_else (only_for (length st.progress) m (Some (SentUp frame))) None)) ≡ frame_in o
-    quiet (Some u) = refl
-    quiet None = elim (cases_Bool (eqb (length st.progress) m)) [ inl t ↦ absurd (other (sym (eqb-true _ _ t))) | inr f ↦ rw f refl ]
+-- the store over which the server ran a packet, where one that it didn't run has another progress
+over_set : (ps : List Progress) (n : ℕ) (p q : Progress) (m : ℕ) → slice_get ps n ≡ Some p → over_in (Some p) ≡ [] → over_in (Some q) ≡ []
+    → over_in (slice_get ps m) ≡ over_in (slice_get (slice_set ps n q) m)
+over_set [] n p q m h e d = refl
+over_set (x ∷ ps) zero p q zero h e d = ap over_in h ∙ e ∙ sym d
+over_set (x ∷ ps) zero p q (suc m) h e d = refl
+over_set (x ∷ ps) (suc n) p q zero h e d = refl
+over_set (x ∷ ps) (suc n) p q (suc m) h e d = over_set ps n p q m h e d
 
-pub send_up_shown : (s : SplitProgram) (setup : Setup) (calls : List Call) (packet : Packet) (frame : List ℕ) (st : State) (c after : Course)
-    → after.up.items ≡ c.up.items ++ (length c.fates.items, frame) ∷ [] → after.server ≡ c.server → after.commit ≡ c.commit → after.down.items ≡ c.down.items
-    → after.fates.items ≡ c.fates.items ++ fate.Up (c.events + 1) ∷ []
-    → after.events ≡ c.events + 1 → after.idle ≡ c.idle
-    → IsShown s calls st c → HavePlaces st → setup.pre_stages ≡ 0 → applies setup st event.Admit ≡ true → up_answer calls (length st.progress) ≡ None
-    → IsShown s (taken calls st packet (SentUp frame)) (step setup (journal s (taken calls st packet (SentUp frame))) st event.Admit) after
-send_up_shown s setup calls packet frame st c after up server commit down fates events idle h places stages may fresh =
-    let n = length st.progress in
-    let all = taken calls st packet (SentUp frame) in
-    let a = journal s all in
-    let ev = st.events + 1 in
-    let answer : up_answer all n ≡ Some (SentUp frame) =
-    up_append calls (CalledUp false n packet (SentUp frame) ∷ []) n ∙ (λ i. or_else (fresh i) (or_else (only_for n n (Some (SentUp frame))) None)) ∙ (let t = eq-eqb n n refl in rw t refl) in
-    let entry : State = record (tick st) { progress = st.progress ++ Entered ev (seen st) ∷ [] } in
-    let first : step setup a st event.Admit ≡ came_in entry n (verdict_in (up_answer all n)) = rw (may, stages) refl in
-    let then : came_in entry n (verdict_in (up_answer all n)) ≡ came_in entry n None = ap (λ u. came_in entry n (verdict_in u)) answer in
-    let goes : State = record (tick st) { up = st.up ++ n ∷ []; progress = st.progress ++ Up ev ∷ [] } in
-    let last : came_in entry n None ≡ goes =
-    ap (λ (l : List Progress). record (tick st) { up = st.up ++ n ∷ []; progress = l })
-    (ap (λ p. slice_set entry.progress n (went_up p)) (get_last st.progress (Entered ev (seen st))) ∙ set_last st.progress (Entered ev (seen st)) (Up ev)) in
-    let next = first ∙ then ∙ last in
-    let count : length c.fates.items ≡ n = ap length h.fates ∙ length_map fate_of st.progress in
-    let frames : (m : ℕ) → IsHeld st m → down_frame s calls st m ≡ down_frame s all goes m = λ m held.
-    let other : m ≡ n → ⊥ = λ e. none-some _ (sym (none_at_end st.progress) ∙ ap (slice_get st.progress) (sym e) ∙ held.4) in
-    λ i. s.serve_down (sym (over_taken st.progress (Up ev) m refl) i) (sym (other_up calls st packet frame m other) i) in
-    subst (λ w. IsShown s all w after) (sym next) (record {
-      passes = h.passes;
-      up = ap (map number_in) up ∙ map_push number_in c.up.items (length c.fates.items, frame) ∙ (λ i. h.up i ++ count i ∷ []);
-      up_frames = λ k item e. elim (get_pushed c.up.items (length c.fates.items, frame) k item (sym (ap (λ l. slice_get l k) up) ∙ e)) [
-        | inl p ↦ subst (λ (z : ℕ × List ℕ). up_answer all z.0 ≡ Some (SentUp z.1)) p (ap (up_answer all) count ∙ answer)
-        | inr r ↦ still_up calls (CalledUp false n packet (SentUp frame) ∷ []) item.0 (SentUp item.1) (h.up_frames r.0 item r.1)
-      ];
-      store = ap (λ z. z.store) server ∙ h.store;
-      version = ap (λ z. z.version) server ∙ h.version;
-      batches = ap (λ k. k.batches) commit ∙ h.batches;
-      sent = ap (λ k. k.sent) commit ∙ h.sent;
-      done = ap (λ k. k.done) commit ∙ h.done;
-      acked = ap (λ k. k.acked) commit ∙ h.acked;
-      sent_within = subst (λ (k : Commit). k.sent ≤ length (commands k)) (sym commit) h.sent_within;
-      held = ap (λ (k : Commit). map waiting k.held) commit ∙ h.held;
-      held_frames = λ k o e.
-          let was = sym (ap (λ (z : Commit). slice_get z.held k) commit) ∙ e in
-          h.held_frames k o was ∙ frames o.number (places.held k o.number o.need (output_at s calls st c h k o was));
-      down = ap (map number_in) down ∙ h.down;
-      down_frames = λ k item e.
-          let was = sym (ap (λ l. slice_get l k) down) ∙ e in
-          h.down_frames k item was ∙ frames item.0 (places.down k item.0 (down_at s calls st c h k item was));
-      fates = fates ∙ (λ i. h.fates i ++ fate.Up (h.events i + 1) ∷ []) ∙ sym (map_push fate_of st.progress (Up ev));
-      events = events ∙ ap (λ z. z + 1) h.events;
-      idle = idle ∙ h.idle;
-    })
+module _ (s : SplitProgram) (calls more : List Call) (st : State) (c after : Course) (pass : Pass) (h : IsShown s calls st c) (gone : Carried (HasGoneUp calls) st) where
+  held_gone : (j n need : ℕ) → slice_get st.held j ≡ Some (n, need) → HasGoneUp calls n
+  held_gone j n need at = gone.held n need (get_member st.held j (n, need) at)
+
+  down_gone : (j n : ℕ) → slice_get st.down j ≡ Some n → HasGoneUp calls n
+  down_gone j n at = gone.down n (get_member st.down j n at)
+
+  -- a pass with stages left goes last among those under way
+  pub going_shown : after.passes.items ≡ c.passes.items ++ pass ∷ [] → after.up ≡ c.up → after.server ≡ c.server → after.commit ≡ c.commit
+      → after.down ≡ c.down → after.fates ≡ c.fates → after.events ≡ c.events → after.idle ≡ c.idle
+      → IsShown s (calls ++ more) (record st { passes = st.passes ++ pass ∷ [] }) after
+  going_shown passes up server commit down fates events idle =
+      moved_shown s calls (calls ++ more) st c after (st.passes ++ pass ∷ []) st.up st.down st.progress st.events st.idle h server commit
+      (passes ∙ ap (λ l. l ++ pass ∷ []) h.passes) (ap (λ q. map number_of q.items) up ∙ h.up)
+      (λ k item e. still_up calls more item.0 (SentUp item.1) (h.up_frames k item (sym (ap (λ q. slice_get q.items k) up) ∙ e)))
+      (λ j n need at. ap (s.serve_down (over_in (slice_get st.progress n))) (kept_frame calls more n (held_gone j n need at)))
+      (ap (λ q. map number_of q.items) down ∙ h.down)
+      (λ k item e.
+      let was = sym (ap (λ q. slice_get q.items k) down) ∙ e in
+      h.down_frames k item was ∙ ap (s.serve_down (over_in (slice_get st.progress item.0))) (kept_frame calls more item.0 (down_gone k item.0 (down_at s calls st c h k item was))))
+      (ap (λ z. z.items) fates ∙ h.fates) (events ∙ h.events) (idle ∙ h.idle)
+
+  -- one that takes a stage and has more of them left
+  pub staged_shown : (passes : List Pass) → after.passes.items ≡ passes → after.up ≡ c.up → after.server ≡ c.server → after.commit ≡ c.commit
+      → after.down ≡ c.down → after.fates ≡ c.fates → after.events ≡ c.events + 1 → after.idle ≡ c.idle
+      → IsShown s (calls ++ more) (record (tick st) { passes = passes }) after
+  staged_shown passes passes_are up server commit down fates events idle =
+      moved_shown s calls (calls ++ more) st c after passes st.up st.down st.progress (st.events + 1) st.idle h server commit
+      passes_are (ap (λ q. map number_of q.items) up ∙ h.up)
+      (λ k item e. still_up calls more item.0 (SentUp item.1) (h.up_frames k item (sym (ap (λ q. slice_get q.items k) up) ∙ e)))
+      (λ j n need at. ap (s.serve_down (over_in (slice_get st.progress n))) (kept_frame calls more n (held_gone j n need at)))
+      (ap (λ q. map number_of q.items) down ∙ h.down)
+      (λ k item e.
+      let was = sym (ap (λ q. slice_get q.items k) down) ∙ e in
+      h.down_frames k item was ∙ ap (s.serve_down (over_in (slice_get st.progress item.0))) (kept_frame calls more item.0 (down_gone k item.0 (down_at s calls st c h k item was))))
+      (ap (λ z. z.items) fates ∙ h.fates) (events ∙ ap (λ z. z + 1) h.events) (idle ∙ h.idle)
+
+  module _ (admitted : ℕ) (entered : slice_get st.progress pass.number ≡ Some (Entered admitted pass.version)) where
+    was_pass : slice_get c.fates.items pass.number ≡ Some (fate.Pass admitted)
+    was_pass = ap (λ l. slice_get l pass.number) h.fates ∙ slice_get-map fate_of st.progress pass.number ∙ ap (option_map fate_of) entered
+
+    -- a packet that isn't at the server has another progress now
+    put_shown : (up : List ℕ) (new : Progress) → over_in (Some new) ≡ []
+        → after.passes ≡ c.passes → map number_of after.up.items ≡ up
+        → ((k : ℕ) (item : ℕ × List ℕ) → slice_get after.up.items k ≡ Some item → up_answer (calls ++ more) item.0 ≡ Some (SentUp item.1))
+        → after.server ≡ c.server → after.commit ≡ c.commit → after.down ≡ c.down
+        → after.fates.items ≡ slice_set c.fates.items pass.number (fate_of new) → after.events ≡ c.events → after.idle ≡ c.idle
+        → IsShown s (calls ++ more) (record st { up = up; progress = slice_set st.progress pass.number new }) after
+    put_shown up new over passes up_is up_frames server commit down fates events idle =
+        let set = slice_set st.progress pass.number new in
+        let frames : (m : ℕ) → HasGoneUp calls m → down_frame s calls st m ≡ s.serve_down (over_in (slice_get set m)) (frame_in (up_answer (calls ++ more) m)) =
+        λ m went i. s.serve_down (over_set st.progress pass.number (Entered admitted pass.version) new m entered refl over i) (kept_frame calls more m went i) in
+        moved_shown s calls (calls ++ more) st c after st.passes up st.down set st.events st.idle h server commit
+        (ap (λ q. q.items) passes ∙ h.passes) up_is up_frames
+        (λ j n need at. frames n (held_gone j n need at)) (ap (λ q. map number_of q.items) down ∙ h.down)
+        (λ k item e.
+        let was = sym (ap (λ q. slice_get q.items k) down) ∙ e in
+        h.down_frames k item was ∙ frames item.0 (down_gone k item.0 (down_at s calls st c h k item was)))
+        (fates ∙ ap (λ l. slice_set l pass.number (fate_of new)) h.fates ∙ sym (map_set fate_of st.progress pass.number new)) (events ∙ h.events) (idle ∙ h.idle)
+
+    -- the switch finishes its packet
+    pub finish_shown : (verdict : Verdict) → pass.pre ≡ true → up_answer (calls ++ more) pass.number ≡ Some (Finished verdict)
+        → after.passes ≡ c.passes → after.up ≡ c.up → after.server ≡ c.server → after.commit ≡ c.commit → after.down ≡ c.down
+        → after.fates.items ≡ slice_set c.fates.items pass.number (fates_of.finished c.events pass.version verdict (slice_get c.fates.items pass.number))
+        → after.events ≡ c.events → after.idle ≡ c.idle
+        → IsShown s (calls ++ more) (came_to (journal s (calls ++ more)) st pass true) after
+    finish_shown verdict pre answer passes up server commit down fates events idle =
+        let n = pass.number in
+        let a = journal s (calls ++ more) in
+        let new : Progress = Fast admitted st.events pass.version verdict in
+        let first : came_to a st pass true ≡ came_in st n (verdict_in (up_answer (calls ++ more) n)) = rw pre refl in
+        let second : came_in st n (verdict_in (up_answer (calls ++ more) n)) ≡ came_in st n (Some verdict) = ap (λ u. came_in st n (verdict_in u)) answer in
+        let last : came_in st n (Some verdict) ≡ record st { progress = slice_set st.progress n new } =
+        ap (λ p. record st { progress = slice_set st.progress n (finished st.events verdict p) }) entered in
+        let made : fates_of.finished c.events pass.version verdict (slice_get c.fates.items n) ≡ fate_of new =
+        ap (fates_of.finished c.events pass.version verdict) was_pass ∙ ap (λ e. fate.Fast admitted e pass.version e verdict) h.events in
+        subst (λ w. IsShown s (calls ++ more) w after) (sym (first ∙ second ∙ last))
+        (put_shown st.up new refl passes (ap (λ q. map number_of q.items) up ∙ h.up)
+        (λ k item e. still_up calls more item.0 (SentUp item.1) (h.up_frames k item (sym (ap (λ q. slice_get q.items k) up) ∙ e)))
+        server commit down (fates ∙ ap (slice_set c.fates.items n) made) events idle)
+
+    -- it goes up
+    pub send_up_shown : (frame : List ℕ) → pass.pre ≡ true → up_answer (calls ++ more) pass.number ≡ Some (SentUp frame)
+        → after.passes ≡ c.passes → after.up.items ≡ c.up.items ++ (pass.number, frame) ∷ [] → after.server ≡ c.server → after.commit ≡ c.commit
+        → after.down ≡ c.down
+        → after.fates.items ≡ slice_set c.fates.items pass.number (fates_of.went_up (slice_get c.fates.items pass.number))
+        → after.events ≡ c.events → after.idle ≡ c.idle
+        → IsShown s (calls ++ more) (came_to (journal s (calls ++ more)) st pass true) after
+    send_up_shown frame pre answer passes up server commit down fates events idle =
+        let n = pass.number in
+        let a = journal s (calls ++ more) in
+        let new : Progress = Up admitted in
+        let first : came_to a st pass true ≡ came_in st n (verdict_in (up_answer (calls ++ more) n)) = rw pre refl in
+        let second : came_in st n (verdict_in (up_answer (calls ++ more) n)) ≡ came_in st n None = ap (λ u. came_in st n (verdict_in u)) answer in
+        let last : came_in st n None ≡ record st { up = st.up ++ n ∷ []; progress = slice_set st.progress n new } =
+        ap (λ p. record st { up = st.up ++ n ∷ []; progress = slice_set st.progress n (went_up p) }) entered in
+        let made : fates_of.went_up (slice_get c.fates.items n) ≡ fate_of new = ap fates_of.went_up was_pass in
+        subst (λ w. IsShown s (calls ++ more) w after) (sym (first ∙ second ∙ last))
+        (put_shown (st.up ++ n ∷ []) new refl passes
+        (ap (map number_of) up ∙ map_push number_of c.up.items (n, frame) ∙ ap (λ l. l ++ n ∷ []) h.up)
+        (λ k item e. elim (get_pushed c.up.items (n, frame) k item (sym (ap (λ l. slice_get l k) up) ∙ e)) [
+          | inl p ↦ subst (λ (z : ℕ × List ℕ). up_answer (calls ++ more) z.0 ≡ Some (SentUp z.1)) p answer
+          | inr r ↦ still_up calls more item.0 (SentUp item.1) (h.up_frames r.0 item r.1)
+        ]) server commit down (fates ∙ ap (slice_set c.fates.items n) made) events idle)
+
+  -- a packet that came down is released
+  pub release_shown : (verdict : Verdict) → pass.pre ≡ false → IsHeld st pass.number → HavePlaces (came_to (journal s (calls ++ more)) st pass true)
+      → down_answer (calls ++ more) pass.number ≡ Some verdict
+      → after.passes ≡ c.passes → after.up ≡ c.up → after.server ≡ c.server → after.commit ≡ c.commit → after.down ≡ c.down
+      → after.fates.items ≡ slice_set c.fates.items pass.number (fates_of.released c.events verdict (slice_get c.fates.items pass.number))
+      → after.events ≡ c.events → after.idle ≡ c.idle
+      → IsShown s (calls ++ more) (came_to (journal s (calls ++ more)) st pass true) after
+  release_shown verdict post held places answer passes up server commit down fates events idle =
+      let n = pass.number in
+      let all = calls ++ more in
+      let a = journal s all in
+      let new : Progress = Slow held.0 held.1 held.2 verdict st.events in
+      let set = slice_set st.progress n new in
+      let first : came_to a st pass true ≡ came_out st n (λ over. a.post over n) = rw post refl in
+      let second : came_out st n (λ over. a.post over n) ≡ record st { progress = slice_set st.progress n (Slow held.0 held.1 held.2 (told (down_answer all n)) st.events) } =
+      ap (λ p. record st { progress = slice_set st.progress n (released (λ over. a.post over n) st.events p) }) held.4 in
+      let last : record st { progress = slice_set st.progress n (Slow held.0 held.1 held.2 (told (down_answer all n)) st.events) } ≡ record st { progress = set } =
+      ap (λ v. record st { progress = slice_set st.progress n (Slow held.0 held.1 held.2 (told v) st.events) }) answer in
+      let next = first ∙ second ∙ last in
+      let now : HavePlaces (record st { progress = set }) = subst HavePlaces next places in
+      let there : slice_get set n ≡ Some new = get_set_same st.progress n new _ held.4 in
+      let frames : (m : ℕ) → HasGoneUp calls m → IsHeld (record st { progress = set }) m
+      → down_frame s calls st m ≡ s.serve_down (over_in (slice_get set m)) (frame_in (up_answer all m)) = λ m went holds.
+      let other = not_held (record st { progress = set }) m n new holds there (λ x d v over e. cc) in
+      λ i. s.serve_down (over_in (sym (get_set_other st.progress n m new other) i)) (kept_frame calls more m went i) in
+      let was : slice_get c.fates.items n ≡ Some (fate.Held held.0 held.1 held.2) = ap (λ l. slice_get l n) h.fates ∙ slice_get-map fate_of st.progress n ∙ ap (option_map fate_of) held.4 in
+      let made : fates_of.released c.events verdict (slice_get c.fates.items n) ≡ fate_of new =
+      ap (fates_of.released c.events verdict) was ∙ ap (λ e. fate.Slow held.0 held.1 held.2 e verdict) h.events in
+      subst (λ w. IsShown s all w after) (sym next)
+      (moved_shown s calls all st c after st.passes st.up st.down set st.events st.idle h server commit
+      (ap (λ q. q.items) passes ∙ h.passes) (ap (λ q. map number_of q.items) up ∙ h.up)
+      (λ k item e. still_up calls more item.0 (SentUp item.1) (h.up_frames k item (sym (ap (λ q. slice_get q.items k) up) ∙ e)))
+      (λ j m need at. frames m (held_gone j m need at) (now.held j m need at)) (ap (λ q. map number_of q.items) down ∙ h.down)
+      (λ k item e.
+      let was = sym (ap (λ q. slice_get q.items k) down) ∙ e in
+      let at = down_at s calls st c h k item was in
+      h.down_frames k item was ∙ frames item.0 (down_gone k item.0 at) (now.down k item.0 at))
+      (fates ∙ ap (slice_set c.fates.items n) made ∙ ap (λ l. slice_set l n (fate_of new)) h.fates ∙ sym (map_set fate_of st.progress n new)) (events ∙ h.events) (idle ∙ h.idle))

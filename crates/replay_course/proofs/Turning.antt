@@ -1,39 +1,38 @@
 -- An event leads from one replay that a course shows to the next.
-use Rattle.std.proofs.Common.{◌≡◌, ◌≤◌, ◌+◌, ◌-◌, ℕ, suc, true, false, List, [], ◌∷◌, ◌++◌, Some, None, inl, inr, refl, sym, ap, subst, ◌∙◌, arith, length, map, ltb, eqb}
-use Rattle.std.specs.Prelude.{slice_get, slice_set, remove}
+use Rattle.std.proofs.Common.{◌≡◌, ◌≤◌, ◌+◌, ◌-◌, ℕ, suc, Bool, true, false, List, [], ◌∷◌, ◌++◌, Option, Some, None, inl, inr, refl, sym, ap, subst, ◌∙◌, arith, length, map, ltb, eqb}
+use Rattle.std.specs.Prelude.{slice_get, slice_set, remove, if◌then◌else◌}
 use Rattle.std.proofs.lemmas.Bool.{cases_Bool, eq-eqb, lt-ltb}
 use Rattle.std.proofs.lemmas.List.{append-nil}
-use Rattle.std.proofs.lemmas.Option.{none-some, same_Some, slice_get-get_or, slice_get_within}
+use Rattle.std.proofs.lemmas.Option.{none-some, same_Some}
 use Rattle.packet_fields.specs.declared.packet.Packet.{Packet}
 use Rattle.packet_fields.specs.declared.verdict.Verdict.{Verdict}
 use Rattle.writeback_table.specs.declared.command.Command.{Command}
-use Rattle.writeback_table.specs.declared.command.Update.{Update}
 use Rattle.run_model.specs.declared.event.Event.{Event}
 use Rattle.run_model.specs.declared.event.Event.TheVariants as event
 use Rattle.switch_ir.specs.Port.{PortState, IsCommandOf}
 use Rattle.output_commit.specs.Batches.{fits}
 use Rattle.output_commit.specs.Commit.{Commit, commands, next}
 use Rattle.replay_state.specs.Answers.{Answers, Setup}
-use Rattle.replay_state.specs.Journal.{AsksDown, AsksUp, Call, CalledCommand, CalledDown, CalledUp, EndOnce, IsAnswered, Released, UpAnswer, asked, asks, asks_command, asks_down, down_answer, down_ends, down_frame, frame_in, has_come_down, has_passed, is_up_end, journal, one_if, over_in, question_of, up_answer, up_ends}
+use Rattle.replay_state.specs.Carried.{Carried}
+use Rattle.replay_state.specs.Journal.{Call, CalledCommand, CalledDown, CalledStageDown, CalledStageUp, CalledUp, DownAnswer, EndOnce, HasGoneUp, IsAnswered, UpAnswer, asked, asks, asks_command, down_answer, down_end, down_ends, has_come_down, has_passed, journal, one_if, only_for, or_else, question_of, up_answer, up_end, up_ends}
 use Rattle.replay_state.specs.Places.{HavePlaces}
-use Rattle.replay_state.specs.Program.{SplitProgram, packet_at, setup_of}
-use Rattle.replay_state.specs.State.{State, fate_of}
-use Rattle.replay_state.specs.Step.{applies, state_of, step}
-use Rattle.replay_contracts.specs.Called.{KeepsCalls, WasCalled}
+use Rattle.replay_state.specs.Program.{SplitProgram, setup_of}
+use Rattle.replay_state.specs.declared.pass.Pass.{Pass}
+use Rattle.replay_state.specs.State.{Progress, State, fate_of}
+use Rattle.replay_state.specs.Step.{applies, ended, happens, idled, state_of, step, tick}
+use Rattle.split_answers.specs.Over.{IsGiven}
+use Rattle.replay_contracts.specs.Called.{KeepsCalls, WasCalled, WasMade}
 use Rattle.replay_contracts.specs.Given.{Given, code_for, setup_for, whole}
 use Rattle.replay_contracts.specs.Replay.{IsReplay, answered}
 use Rattle.replay_contracts.specs.Replayer.{stepped_by}
 use Rattle.replay_contracts.specs.declared.job.Stepped.{Stepped}
 use Rattle.replay_contracts.specs.declared.job.Stepped.TheVariants.{Did, Idle}
-use Rattle.replay_course.specs.Fates as fates_of
 use Rattle.replay_course.specs.declared.course.Course.{Course}
-use Rattle.replay_course.specs.Going.{HasTurned, IsGoing, IsPlain, IsSound, unapplied}
-use Rattle.replay_course.specs.Shown.{IsShown, taken}
-use Rattle.replay_course.proofs.Calling.{called_stays, keeps_all, kept_calls, kept_stays}
-use Rattle.replay_course.proofs.Lists.{each_at, length_map, none_at_end}
+use Rattle.replay_course.specs.Going.{HasTurned, IsGoing, IsPrepared, IsSound, came_to, unapplied}
+use Rattle.replay_course.specs.Shown.{IsShown}
+use Rattle.replay_course.proofs.Calling.{called_once, keeps_all, kept_stays, made, made_stays}
+use Rattle.replay_course.proofs.Lists.{each_at, length_map, member_kept, none_at_end}
 use Rattle.replay_course.proofs.Named.{commands_named}
-use Rattle.replay_course.proofs.Sounding.{down_sound}
-use Rattle.replay_course.proofs.Travelling.{brought_down, down_at, down_shown, up_beside}
 
 -- ## The laws that are used
 
@@ -60,14 +59,13 @@ pub have_places : PlaceLaw → (setup : Setup) (s : SplitProgram) (packets : Lis
     → IsAnswered setup s packets events calls st → HavePlaces st
 have_places law setup s packets events calls st h = subst HavePlaces (sym h.run) (law setup (journal s calls) events)
 
--- ## Plain runs
-
-pub plain_setup : {X : Type 0} (x : Given) (f : Setup → X) → IsPlain x → f (setup_for x) ≡ f (setup_of (whole x) x.packets (record { fine = false; merges = true }))
-plain_setup x f plain = ap (λ m. f (setup_of (whole x) x.packets m)) plain.manner
+abbrev pub GoneLaw : Type 0
+GoneLaw = (setup : Setup) (s : SplitProgram) (packets : List Packet) (events : List Event)
+    (calls : List Call) (st : State) → IsAnswered setup s packets events calls st → Carried (HasGoneUp calls) st
 
 -- what fits is what the commit holds to
-pub fits_same : (x : Given) (c : Course) → IsPlain x → IsSound x c → (setup_for x).fits ≡ fits c.commit.writeback
-fits_same x c plain sound = plain_setup x (λ setup. setup.fits) plain ∙ ap fits (sym sound.writeback)
+pub fits_same : (x : Given) (c : Course) → IsPrepared x → IsSound x c → (setup_for x).fits ≡ fits c.commit.writeback
+fits_same x c prepared sound = ap (λ m. (setup_of (whole x) x.packets m).fits) prepared.manner ∙ ap fits (sym sound.writeback)
 
 -- ## Events that call for no packet and no command
 
@@ -80,14 +78,14 @@ pub quiet_turned : (x : Given) (ev : Event) (stepped : Stepped) (c after : Cours
 quiet_turned x ev stepped c after old new going kept sound spare counted asks_none shows = record {
   stays = kept_stays old new kept;
   counted = counted;
-  going = record { plain = going.plain; sound = sound; loaded = kept.code ∙ going.loaded; spare = spare };
+  going = record { prepared = going.prepared; sound = sound; loaded = kept.code ∙ going.loaded; spare = spare };
   turns = λ events calls st replay shown.
       let was = shows events calls st replay shown in
       let same = sym (append-nil calls) in
       record {
         one = [];
         asks = subst (λ cs. [] ≡ asked (setup_for x) (whole x) x.packets cs st ev) same (sym (nothing calls st (asks_none calls st shown)));
-        called = kept_calls (code_for x) old new kept;
+        called = kept;
         stepped_so = was.0;
         shown = subst (λ cs. IsShown (whole x) cs (step (setup_for x) (answered x cs) st ev) after) same was.1;
       };
@@ -112,103 +110,128 @@ idle_turned x ev stepped c after port going idle sound same counted never shows 
     (λ calls st h. no_ask x ev calls st (never calls st h))
     (λ events calls st replay h. (idle ∙ ap stepped_by (sym (never calls st h)), shows calls st (never calls st h) h))
 
--- ## Packets that arrive
-
 pub fates_count : (s : SplitProgram) (calls : List Call) (st : State) (c : Course) → IsShown s calls st c → length c.fates.items ≡ length st.progress
 fates_count s calls st c h = ap length h.fates ∙ length_map fate_of st.progress
 
-pub admit_turned : PlaceLaw → OnceLaw → FreshUpLaw → (x : Given) (c after : Course) (old new : PortState) (packet : Packet) (answer : UpAnswer) → IsGoing x c old
-    → slice_get x.packets (length c.fates.items) ≡ Some packet → is_up_end answer ≡ true
-    → WasCalled (code_for x) (CalledUp false (length c.fates.items) packet answer ∷ []) old new → old.spare ≤ new.spare
-    → IsSound x after → unapplied after ≡ unapplied c → after.events ≡ c.events + 1
-    → ((s : SplitProgram) (setup : Setup) (calls : List Call) (packet : Packet) (st : State) → IsShown s calls st c → HavePlaces st → setup.pre_stages ≡ 0
-    → applies setup st event.Admit ≡ true → up_answer calls (length st.progress) ≡ None
-    → IsShown s (taken calls st packet answer) (step setup (journal s (taken calls st packet answer)) st event.Admit) after)
-    → HasTurned x event.Admit Did c old after new
-admit_turned places once fresh x c after old new packet answer going here ends called more sound same counted shows = record {
-  stays = called_stays (code_for x) _ old new called;
+-- ## Events that call the switch once
+
+-- what the state does by the call, and what the course shows then
+pub record Leads (x : Given) (ev : Event) (calls : List Call) (call : Call) (st : State) (after : Course) : Type 0 where
+  pub may : applies (setup_for x) st ev ≡ true
+  pub asks_so : question_of call ∷ [] ≡ asks (setup_for x) (whole x) x.packets (calls ++ call ∷ []) st ev
+  pub shown : IsShown (whole x) (calls ++ call ∷ []) (happens (setup_for x) (answered x (calls ++ call ∷ [])) (tick st) ev) after
+
+asked_once : (x : Given) (ev : Event) (calls : List Call) (call : Call) (st : State) (after : Course) → Leads x ev calls call st after
+    → map question_of (call ∷ []) ≡ asked (setup_for x) (whole x) x.packets (calls ++ call ∷ []) st ev
+asked_once x ev calls call st after leads =
+    leads.asks_so ∙ ap (λ (b : Bool). if b then asks (setup_for x) (whole x) x.packets (calls ++ call ∷ []) st ev else []) (sym leads.may)
+
+pub stepped_once : (x : Given) (ev : Event) (calls : List Call) (st : State) → applies (setup_for x) st ev ≡ true
+    → step (setup_for x) (answered x calls) st ev ≡ happens (setup_for x) (answered x calls) (tick st) ev
+stepped_once x ev calls st may = ap (λ (b : Bool). if b then happens (setup_for x) (answered x calls) (tick st) ev else idled (tick st)) may
+
+pub call_turned : (x : Given) (ev : Event) (c after : Course) (old new : PortState) (call : Call) → IsGoing x c old
+    → IsGiven (code_for x) call → WasMade call old new → IsSound x after → unapplied after ≤ new.spare → after.events ≡ c.events + 1
+    → ((events : List Event) (calls : List Call) (st : State) → IsReplay x events calls st old → IsShown (whole x) calls st c → Leads x ev calls call st after)
+    → HasTurned x ev Did c old after new
+call_turned x ev c after old new call going given was sound spare counted leads = record {
+  stays = made_stays call old new was;
   counted = counted;
   going = record {
-    plain = going.plain;
+    prepared = going.prepared;
     sound = sound;
-    loaded = called.loaded ∙ going.loaded;
-    spare = let before = going.spare in subst (λ n. n ≤ new.spare) (sym same) (omega arith);
+    loaded = (made call old new was).code ∙ going.loaded;
+    spare = spare;
   };
   turns = λ events calls st replay h.
-      let n = length st.progress in
-      let count = fates_count (whole x) calls st c h in
-      let at : slice_get x.packets n ≡ Some packet = subst (λ k. slice_get x.packets k ≡ Some packet) count here in
-      let may : applies (setup_for x) st event.Admit ≡ true = lt-ltb _ _ (slice_get_within x.packets n packet at) in
-      let stages : (setup_for x).pre_stages ≡ 0 = plain_setup x (λ setup. setup.pre_stages) going.plain in
-      let coarse : (setup_for x).fine ≡ false = plain_setup x (λ setup. setup.fine) going.plain in
-      let none : up_answer calls n ≡ None =
-      subst (λ cs. up_answer cs n ≡ None) (append-nil calls)
-      (fresh calls [] n ((once (setup_for x) (whole x) x.packets events calls st replay.answered).up n ∙ ap (λ p. one_if (has_passed p)) (none_at_end st.progress))) in
-      let packet_is : packet_at x.packets n ≡ packet = same_Some _ _ (sym (slice_get-get_or x.packets n _ (slice_get_within x.packets n packet at)) ∙ at) in
-      let all = taken calls st packet answer in
-      let ending : is_up_end answer ≡ eqb (setup_for x).pre_stages 0 = ends ∙ sym (ap (λ k. eqb k 0) stages) in
-      let asked_so : asked (setup_for x) (whole x) x.packets all st event.Admit ≡ AsksUp (setup_for x).fine n (packet_at x.packets n) (eqb (setup_for x).pre_stages 0) ∷ [] = rw may refl in
+      let l = leads events calls st replay h in
       record {
-        one = CalledUp false n packet answer ∷ [];
-        asks = (λ i. AsksUp (sym coarse i) n (sym packet_is i) (ending i) ∷ []) ∙ sym asked_so;
-        called = subst (λ k. WasCalled (code_for x) (CalledUp false k packet answer ∷ []) old new) count called;
-        stepped_so = ap stepped_by (sym may);
-        shown = shows (whole x) (setup_for x) calls packet st h (have_places places (setup_for x) (whole x) x.packets events calls st replay.answered) stages may none;
+        one = call ∷ [];
+        asks = asked_once x ev calls call st after l;
+        called = called_once (code_for x) call old new given was;
+        stepped_so = ap stepped_by (sym l.may);
+        shown = subst (λ w. IsShown (whole x) (calls ++ call ∷ []) w after) (sym (stepped_once x ev (calls ++ call ∷ []) st l.may)) l.shown;
       };
 }
 
--- ## Packets that come down
+-- where the state has places behind an event, which its law says
+pub placed_after : PlaceLaw → StepLaw → (x : Given) (ev : Event) (events : List Event) (calls : List Call) (call : Call) (st : State) → applies (setup_for x) st ev ≡ true
+    → question_of call ∷ [] ≡ asks (setup_for x) (whole x) x.packets (calls ++ call ∷ []) st ev
+    → IsAnswered (setup_for x) (whole x) x.packets events calls st
+    → HavePlaces (happens (setup_for x) (answered x (calls ++ call ∷ [])) (tick st) ev)
+placed_after places steps x ev events calls call st may asks_so answered_so =
+    subst HavePlaces (stepped_once x ev (calls ++ call ∷ []) st may)
+    (have_places places (setup_for x) (whole x) x.packets (events ++ ev ∷ []) (calls ++ call ∷ []) _
+    (steps (setup_for x) (whole x) x.packets events ev calls (call ∷ []) st answered_so
+    (asks_so ∙ ap (λ (b : Bool). if b then asks (setup_for x) (whole x) x.packets (calls ++ call ∷ []) st ev else []) (sym may))))
 
-pub down_turned : PlaceLaw → OnceLaw → StepLaw → FreshDownLaw → (x : Given) (c after : Course) (old new : PortState) (j n : ℕ) (frame : List ℕ) (y : Verdict) → IsGoing x c old
-    → slice_get c.down.items j ≡ Some (n, frame)
-    → WasCalled (code_for x) (CalledDown false n frame (Released y) ∷ []) old new → old.spare ≤ new.spare
-    → after.up.items ≡ c.up.items → after.server ≡ c.server → after.commit ≡ c.commit → after.down.items ≡ remove c.down.items j
-    → after.fates.items ≡ slice_set c.fates.items n (fates_of.released (c.events + 1) y (slice_get c.fates.items n))
-    → after.events ≡ c.events + 1 → after.idle ≡ c.idle
-    → HasTurned x (event.Down j) Did c old after new
-down_turned places once step_law fresh x c after old new j n frame y going here called more up server commit down fates events idle = record {
-  stays = called_stays (code_for x) _ old new called;
-  counted = events;
-  going = record {
-    plain = going.plain;
-    sound = down_sound x c after j n _ going.sound up server commit down fates (let i = going.sound.within.idle in omega (arith, events, idle));
-    loaded = called.loaded ∙ going.loaded;
-    spare = let before = going.spare in subst (λ (k : Commit). length (commands k) - k.done ≤ new.spare) (sym commit) (omega arith);
-  };
-  turns = λ events_so calls st replay h.
-      let s = whole x in
-      let setup = setup_for x in
-      let one = CalledDown false n frame (Released y) ∷ [] in
-      let all = brought_down calls n frame y in
-      let at = down_at s calls st c h j (n, frame) here in
-      let may : applies setup st (event.Down j) ≡ true = lt-ltb _ _ (slice_get_within st.down j n at) in
-      let stages : setup.post_stages ≡ 0 = plain_setup x (λ z. z.post_stages) going.plain in
-      let coarse : setup.fine ≡ false = plain_setup x (λ z. z.fine) going.plain in
-      let stand = have_places places setup s x.packets events_so calls st replay.answered in
-      let held = stand.down j n at in
-      let none_yet : down_ends n calls ≡ 0 = (once setup s x.packets events_so calls st replay.answered).down n ∙ ap (λ p. one_if (has_come_down p)) held.4 in
-      let answer : down_answer all n ≡ Some y = fresh calls one n none_yet ∙ own_answer n frame y in
-      let frame_is : frame ≡ down_frame s all st n = h.down_frames j (n, frame) here ∙ ap (λ u. s.serve_down (over_in (slice_get st.progress n)) (frame_in u)) (sym (up_beside calls n frame y n)) in
-      let asked_so : asked setup s x.packets all st (event.Down j) ≡ asks_down setup s all st (slice_get st.down j) = rw may refl in
-      let asks_so : map question_of one ≡ asked setup s x.packets all st (event.Down j) =
-      (λ i. AsksDown (sym coarse i) n (frame_is i) (eqb (sym stages i) 0) ∷ []) ∙ ap (asks_down setup s all st) (sym at) ∙ sym asked_so in
-      let after_places = have_places places setup s x.packets (events_so ++ event.Down j ∷ []) all _ (step_law setup s x.packets events_so (event.Down j) calls one st replay.answered asks_so) in
-      record {
-        one = one;
-        asks = asks_so;
-        called = called;
-        stepped_so = ap stepped_by (sym may);
-        shown = down_shown s setup calls st c after j n frame y h stand after_places stages answer here up server commit down fates events idle;
-      };
+-- ## Answers of a call
+
+or_none : {X : Type 0} (o : Option X) → or_else o None ≡ o
+or_none None = refl
+or_none (Some x) = refl
+
+for_own : {X : Type 0} (n : ℕ) (o : Option X) → or_else (only_for n n o) None ≡ o
+for_own n o = let t = eq-eqb n n refl in (rw t refl) ∙ or_none o
+
+-- the call is over the packet of number n, on its way up, and answers so
+abbrev pub IsUpCall : ℕ → UpAnswer → Call → Type 0
+IsUpCall n answer call = up_answer (call ∷ []) n ≡ up_end answer
+
+pub up_call : (fine : Bool) (n : ℕ) (packet : Packet) (answer : UpAnswer) → IsUpCall n answer (CalledUp fine n packet answer)
+up_call fine n packet answer = for_own n (up_end answer)
+
+pub stage_up_call : (n : ℕ) (answer : UpAnswer) → IsUpCall n answer (CalledStageUp n answer)
+stage_up_call n answer = for_own n (up_end answer)
+
+abbrev pub IsDownCall : ℕ → DownAnswer → Call → Type 0
+IsDownCall n answer call = down_answer (call ∷ []) n ≡ down_end answer
+
+pub down_call : (fine : Bool) (n : ℕ) (frame : List ℕ) (answer : DownAnswer) → IsDownCall n answer (CalledDown fine n frame answer)
+down_call fine n frame answer = for_own n (down_end answer)
+
+pub stage_down_call : (n : ℕ) (answer : DownAnswer) → IsDownCall n answer (CalledStageDown n answer)
+stage_down_call n answer = for_own n (down_end answer)
+
+-- no call before it ended that pass
+pub answers_up : OnceLaw → FreshUpLaw → (x : Given) (events : List Event) (calls : List Call) (st : State) (n : ℕ) (answer : UpAnswer) (call : Call) (o : Option Progress)
+    → IsAnswered (setup_for x) (whole x) x.packets events calls st → slice_get st.progress n ≡ o → has_passed o ≡ false → IsUpCall n answer call
+    → up_answer (calls ++ call ∷ []) n ≡ up_end answer
+answers_up once fresh x events calls st n answer call o answered_so at none is =
+    fresh calls (call ∷ []) n ((once (setup_for x) (whole x) x.packets events calls st answered_so).up n ∙ ap (λ p. one_if (has_passed p)) at ∙ ap one_if none) ∙ is
+
+pub answers_down : OnceLaw → FreshDownLaw → (x : Given) (events : List Event) (calls : List Call) (st : State) (n : ℕ) (answer : DownAnswer) (call : Call) (o : Option Progress)
+    → IsAnswered (setup_for x) (whole x) x.packets events calls st → slice_get st.progress n ≡ o → has_come_down o ≡ false → IsDownCall n answer call
+    → down_answer (calls ++ call ∷ []) n ≡ down_end answer
+answers_down once fresh x events calls st n answer call o answered_so at none is =
+    fresh calls (call ∷ []) n ((once (setup_for x) (whole x) x.packets events calls st answered_so).down n ∙ ap (λ p. one_if (has_come_down p)) at ∙ ap one_if none) ∙ is
+
+-- a pass that ends, or goes on
+pub came_is : (a : Answers) (st : State) (pass : Pass) (b : Bool) → came_to a st pass b ≡ (if b then ended a st pass else record st { passes = st.passes ++ pass ∷ [] })
+came_is a st pass true = refl
+came_is a st pass false = refl
+
+-- what went up stays so where a pass or a packet is taken out of its list
+pub carried_passes : (P : ℕ → Type 0) (st : State) (j : ℕ) → Carried P st → Carried P (record (tick st) { passes = remove st.passes j })
+carried_passes P st j h = record {
+  up = h.up;
+  held = h.held;
+  down = h.down;
+  passes = λ pass member post. h.passes pass (member_kept st.passes j pass member) post;
 }
-  where
-    own_answer : (n : ℕ) (frame : List ℕ) (y : Verdict) → down_answer (CalledDown false n frame (Released y) ∷ []) n ≡ Some y
-    own_answer n frame y = let t = eq-eqb n n refl in rw t refl
+
+pub carried_down : (P : ℕ → Type 0) (st : State) (j : ℕ) → Carried P st → Carried P (record (tick st) { down = remove st.down j })
+carried_down P st j h = record {
+  up = h.up;
+  held = h.held;
+  down = λ n member. h.down n (member_kept st.down j n member);
+  passes = h.passes;
+}
 
 -- ## Commands
 
 pub apply_turned : (x : Given) (c after : Course) (old new : PortState) (command : Command) → IsGoing x c old
-    → WasCalled (code_for x) (CalledCommand command ∷ []) old new → suc new.spare ≡ old.spare
+    → IsCommandOf (code_for x) command → WasMade (CalledCommand command) old new → suc new.spare ≡ old.spare
     → IsSound x after → unapplied c ≡ 1 + unapplied after → after.events ≡ c.events + 1
     → ((s : SplitProgram) (setup : Setup) (calls : List Call) (st : State) → IsShown s calls st c → true ≡ applies setup st event.Apply)
     → ((s : SplitProgram) (setup : Setup) (packets : List Packet) (calls : List Call) (st : State) → IsShown s calls st c
@@ -216,23 +239,17 @@ pub apply_turned : (x : Given) (c after : Course) (old new : PortState) (command
     → ((s : SplitProgram) (setup : Setup) (a : Answers) (calls : List Call) (st : State) → IsShown s calls st c
     → IsShown s (calls ++ CalledCommand command ∷ []) (step setup a st event.Apply) after)
     → HasTurned x event.Apply Did c old after new
-apply_turned x c after old new command going called spare sound one_less counted applied asks_so shows = record {
-  stays = called_stays (code_for x) _ old new called;
-  counted = counted;
-  going = record {
-    plain = going.plain;
-    sound = sound;
-    loaded = called.loaded ∙ going.loaded;
-    spare = let before = going.spare in omega arith;
-  };
-  turns = λ events calls st replay h. record {
-    one = CalledCommand command ∷ [];
-    asks = asks_so (whole x) (setup_for x) x.packets calls st h;
-    called = called;
-    stepped_so = ap stepped_by (applied (whole x) (setup_for x) calls st h);
-    shown = shows (whole x) (setup_for x) (answered x (calls ++ CalledCommand command ∷ [])) calls st h;
-  };
-}
+apply_turned x c after old new command going named was spare sound one_less counted applied asks_so shows =
+    call_turned x event.Apply c after old new (CalledCommand command) going named was sound (let before = going.spare in omega arith) counted
+    (λ events calls st replay h.
+    let may : applies (setup_for x) st event.Apply ≡ true = sym (applied (whole x) (setup_for x) calls st h) in
+    record {
+      may = may;
+      asks_so = asks_so (whole x) (setup_for x) x.packets calls st h
+          ∙ ap (λ (b : Bool). if b then asks (setup_for x) (whole x) x.packets calls st event.Apply else []) may;
+      shown = subst (λ w. IsShown (whole x) (calls ++ CalledCommand command ∷ []) w after) (stepped_once x event.Apply (calls ++ CalledCommand command ∷ []) st may)
+          (shows (whole x) (setup_for x) (answered x (calls ++ CalledCommand command ∷ [])) calls st h);
+    })
 
 -- the next command is one of the code, behind those that were applied
 pub next_at : (k : Commit) (command : Command) → Some command ≡ next k → slice_get (commands k) k.done ≡ Some command

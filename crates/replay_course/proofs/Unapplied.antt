@@ -9,8 +9,9 @@ use Rattle.output_commit.specs.declared.output.Output.{Output}
 use Rattle.output_commit.specs.declared.output.Release.TheVariants as release
 use Rattle.replay_contracts.specs.Given.{Given}
 use Rattle.replay_course.specs.declared.course.Course.{Course}
-use Rattle.replay_course.specs.Going.{IsSound}
-use Rattle.replay_course.proofs.Showing.{MergeLaw, goes, next_none, next_some, stays}
+use Rattle.replay_state.specs.declared.pass.Pass.{Pass}
+use Rattle.replay_course.specs.Going.{IsSound, unless_waits}
+use Rattle.replay_course.proofs.Showing.{MergeLaw, goes, next_goes, stays}
 use Rattle.replay_course.proofs.Sounding.{hold_sound, idle_sound}
 
 abbrev pub left_of : Commit → ℕ
@@ -33,27 +34,27 @@ acknowledge_same k = elim (cases_Bool (ltb k.acked k.done)) [ inl t ↦ rw t ref
 one_less : (total sent done : ℕ) → done < sent → sent ≤ total → total - done ≡ 1 + (total - (done + 1))
 one_less total sent done a b = omega arith
 
-pub next_left : (k : Commit) (command : Command) → IsInOrder k → Some command ≡ next k → left_of k ≡ 1 + left_of (after_next k)
-next_left k command h e =
-    let g = next_some k command e in
+pub next_left : (k : Commit) (command : Command) (passes : List Pass) → IsInOrder k → Some command ≡ unless_waits passes (next k) → left_of k ≡ 1 + left_of (after_next k)
+next_left k command passes h e =
+    let g = next_goes passes k command e in
     one_less (length (commands k)) k.sent k.done (ltb-true k.done k.sent g.0) h.sent_within ∙ ap (λ z. 1 + left_of z) (sym g.2)
 
-pub none_left : (k : Commit) → IsInOrder k → None ≡ next k → left_of k ≡ 0 + left_of (after_next k)
-none_left k h e = let same = ap left_of (next_none k h.sent_within e).1 in omega arith
+pub none_left : (k : Commit) → left_of k ≡ 0 + left_of k
+none_left k = omega arith
 
 -- ## Outputs that go, or wait
 
-pub goes_sound : (x : Given) (c after : Course) (j n : ℕ) (f : List ℕ) → IsSound x c → after.up.items ≡ c.up.items → after.server ≡ c.server
+pub goes_sound : (x : Given) (c after : Course) (j n : ℕ) (f : List ℕ) → IsSound x c → after.pre_stages ≡ c.pre_stages → after.post_stages ≡ c.post_stages → after.passes.items ≡ c.passes.items → after.up.items ≡ c.up.items → after.server ≡ c.server
     → after.commit ≡ after_release c.commit j (slice_get c.commit.held j) → release.Frame n f ≡ answer c.commit (slice_get c.commit.held j)
     → after.down.items ≡ c.down.items ++ (n, f) ∷ [] → after.fates.items ≡ c.fates.items → after.idle ≤ after.events → IsSound x after
-goes_sound x c after j n f h up server commit ans down fates idle =
+goes_sound x c after j n f h pre post passes up server commit ans down fates idle =
     let g = goes c.commit (slice_get c.commit.held j) n f ans in
     let now : after.commit ≡ record c.commit { held = remove c.commit.held j } = commit ∙ ap (after_release c.commit j) g.1 ∙ (rw g.2 refl) in
-    hold_sound x c after j g.0 h g.1 up server now (down ∙ (λ i. c.down.items ++ (sym g.3 i, sym g.4 i) ∷ [])) fates idle
+    hold_sound x c after j g.0 h g.1 pre post passes up server now (down ∙ (λ i. c.down.items ++ (sym g.3 i, sym g.4 i) ∷ [])) fates idle
 
-pub waits_sound : (x : Given) (c after : Course) (j : ℕ) → IsSound x c → after.up.items ≡ c.up.items → after.server ≡ c.server
+pub waits_sound : (x : Given) (c after : Course) (j : ℕ) → IsSound x c → after.pre_stages ≡ c.pre_stages → after.post_stages ≡ c.post_stages → after.passes.items ≡ c.passes.items → after.up.items ≡ c.up.items → after.server ≡ c.server
     → after.commit ≡ after_release c.commit j (slice_get c.commit.held j)
     → ((n : ℕ) (f : List ℕ) → release.Frame n f ≡ answer c.commit (slice_get c.commit.held j) → ⊥)
     → after.down.items ≡ c.down.items → after.fates.items ≡ c.fates.items → after.idle ≤ after.events → IsSound x after
-waits_sound x c after j h up server commit never down fates idle =
-    idle_sound x c after h up server (commit ∙ (stays c.commit j (slice_get c.commit.held j) never).0) down fates idle
+waits_sound x c after j h pre post passes up server commit never down fates idle =
+    idle_sound x c after h pre post passes up server (commit ∙ (stays c.commit j (slice_get c.commit.held j) never).0) down fates idle

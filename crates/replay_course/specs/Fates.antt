@@ -4,6 +4,24 @@ use Rattle.packet_fields.specs.declared.verdict.Verdict.{Verdict}
 use Rattle.run_model.specs.declared.fate.Fate.{Fate}
 use Rattle.run_model.specs.declared.fate.Fate.TheVariants.{Pass, Up, Held, Slow, Fast}
 
+-- the switch finished it, over this version
+abbrev pub finished : ℕ → ℕ → Verdict → Option Fate → Fate
+finished event version verdict (Some (Pass a)) = Fast a event version event verdict
+finished event version verdict (Some (Up a)) = Up a
+finished event version verdict (Some (Held a d v)) = Held a d v
+finished event version verdict (Some (Slow a d v r y)) = Slow a d v r y
+finished event version verdict (Some (Fast a d v r y)) = Fast a d v r y
+finished event version verdict None = Up 0
+
+-- it goes up to the server
+abbrev pub went_up : Option Fate → Fate
+went_up (Some (Pass a)) = Up a
+went_up (Some (Up a)) = Up a
+went_up (Some (Held a d v)) = Held a d v
+went_up (Some (Slow a d v r y)) = Slow a d v r y
+went_up (Some (Fast a d v r y)) = Fast a d v r y
+went_up None = Up 0
+
 -- the server ran it
 abbrev pub decided : ℕ → ℕ → Option Fate → Fate
 decided event version (Some (Up a)) = Held a event version

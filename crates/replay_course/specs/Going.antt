@@ -1,23 +1,39 @@
 -- What stands in a course between its events, whatever its switch answered, and what an event does to it and to its port.
-use Rattle.std.specs.Prelude.{◌≡◌, ◌≤◌, ◌<◌, ◌+◌, ◌-◌, ◌*◌, ◌^◌, ℕ, List, ◌++◌, Some, length, map}
+use Rattle.std.specs.Prelude.{◌≡◌, ◌≤◌, ◌<◌, ◌+◌, ◌-◌, ◌*◌, ◌^◌, ℕ, List, ◌++◌, Option, Some, None, length, map}
+use Rattle.std.specs.Prelude.{Bool, true, false, ⊤, [], ◌∷◌, suc, count_by, slice_get, slice_set, if◌then◌else◌}
 use Rattle.std.specs.List.{AllByRecursion as Each}
+use Rattle.packet_fields.specs.declared.packet.Packet.{Packet}
+use Rattle.split_model.specs.Bounds.{HasFewStages}
 use Rattle.split_model.specs.Layouts.{down_layout, up_layout}
 use Rattle.transfer_header.specs.Frames.{IsFrame}
-use Rattle.output_commit.specs.Commit.{IsInOrder, commands, next as next_command}
+use Rattle.output_commit.specs.Commit.{IsInOrder, bit, commands, visible, next as next_command}
 use Rattle.output_commit.specs.Laws.{changes_in, versions_in}
 use Rattle.output_commit.specs.declared.output.Output.{Output}
 use Rattle.run_model.specs.declared.event.Event.{Event}
 use Rattle.server_runtime.specs.Views.{server_of}
-use Rattle.switch_ir.specs.Port.{PortState, HasRoomFor, IsUpdateOf}
+use Rattle.switch_ir.specs.declared.port.UpEnd.{UpEnd}
+use Rattle.switch_ir.specs.declared.port.UpEnd.TheVariants as up
+use Rattle.switch_ir.specs.declared.port.DownEnd.{DownEnd}
+use Rattle.switch_ir.specs.declared.port.DownEnd.TheVariants as down
+use Rattle.switch_ir.specs.Port.{BeginsDown, BeginsUp, PassesDown, PassesUp, down_failed, up_failed}
+use Rattle.switch_ir.specs.Port.{PortState, HasNoDownPassOf, HasNoUpPass, HasRoomFor, IsUpdateOf, WaitsForNone}
+use Rattle.split_answers.specs.Through.{down_end_of, end_of}
+use Rattle.split_answers.specs.UnderWay.{IsOnSwitch}
+use Rattle.transfer_header.specs.Told.{number_in}
 use Rattle.writeback_table.specs.declared.command.Command.{Command}
-use Rattle.replay_state.specs.Journal.{Call, asked, question_of}
-use Rattle.replay_state.specs.Program.{plain_manner}
-use Rattle.replay_state.specs.State.{State}
-use Rattle.replay_state.specs.Step.{applies, step}
+use Rattle.replay_state.specs.Carried.{Carried}
+use Rattle.replay_state.specs.Journal.{Call, DownAnswer, HasGoneUp, UpAnswer, asked, question_of}
+use Rattle.replay_state.specs.Places.{HavePlaces, IsHeld}
+use Rattle.replay_state.specs.Program.{manner_of}
+use Rattle.replay_state.specs.declared.pass.Pass.{Pass}
+use Rattle.replay_state.specs.State.{Entered, State}
+use Rattle.replay_state.specs.Answers.{Answers}
+use Rattle.replay_state.specs.Step.{applies, ended, step, waits}
 use Rattle.replay_contracts.specs.Called.{KeepsCalls, WasCalled}
 use Rattle.replay_contracts.specs.Given.{Given, IsReady, code_for, setup_for, whole}
 use Rattle.replay_contracts.specs.Replay.{IsReplay, answered}
-use Rattle.replay_contracts.specs.Replayer.{StaysTold, stepped_by}
+use Rattle.replay_contracts.specs.Replayer.{StaysTold, is_port_fault, stepped_by}
+use Rattle.replay_contracts.specs.declared.job.ReplayError.{ReplayError}
 use Rattle.replay_contracts.specs.declared.job.Stepped.{Stepped}
 use Rattle.replay_course.specs.declared.course.Course.{Course}
 use Rattle.replay_course.specs.Shown.{IsShown}
@@ -28,9 +44,10 @@ use Rattle.replay_course.specs.Shown.{IsShown}
 abbrev pub most_commands : Given → ℕ
 most_commands x = 3 * (whole x).writes + 2
 
--- the packets that aren't decided
+-- the packets that aren't decided: those of passes before the server, those that went up, and those that are to come
 abbrev pub undecided : Given → Course → ℕ
-undecided x c = length c.up.items + (length x.packets - length c.fates.items)
+undecided x c =
+    count_by (λ (pass : Pass). pass.pre) c.passes.items + length c.up.items + (length x.packets - length c.fates.items)
 
 -- the commands that aren't applied
 abbrev pub unapplied : Course → ℕ
@@ -45,16 +62,21 @@ pub record IsWithin (x : Given) (c : Course) : Type 0 where
 
 -- ## What stands
 
--- each pass takes one event and each batch takes up those behind it that fit, and all commands of all packets can be counted
-pub record IsPlain (x : Given) : Type 0 where
+-- each batch takes up those behind it that fit, and all commands of all packets can be counted
+pub record IsPrepared (x : Given) : Type 0 where
   pub ready : IsReady x
-  pub manner : x.manner ≡ plain_manner
+  pub stages : HasFewStages x.split
+  pub manner : x.manner ≡ manner_of x.manner.fine
   pub few : length x.packets * most_commands x < 2 ^ 32
 
 pub record IsSound (x : Given) (c : Course) : Type 0 where
   -- the server has the program and its split
   pub program : (server_of c.server).program ≡ x.program
   pub split : (server_of c.server).split ≡ x.split
+  -- passes enter with all stages left above 0, and those under way have some left
+  pub pre_stages : c.pre_stages ≡ (setup_for x).pre_stages
+  pub post_stages : c.post_stages ≡ (setup_for x).post_stages
+  pub left : Each (λ (pass : Pass). 0 < pass.left) c.passes.items
   -- frames have the layouts of their ways
   pub up : Each (λ item. IsFrame 1 (up_layout x.program x.split) item.1) c.up.items
   pub held : Each (λ (o : Output). IsFrame 2 (down_layout x.program x.split) o.frame) c.commit.held
@@ -70,19 +92,127 @@ pub record IsSound (x : Given) (c : Course) : Type 0 where
 
 -- the port has the code, and memory for the commands that aren't applied
 pub record IsGoing (x : Given) (c : Course) (port : PortState) : Type 0 where
-  pub plain : IsPlain x
+  pub prepared : IsPrepared x
   pub sound : IsSound x c
   pub loaded : port.code ≡ Some (code_for x)
   pub spare : unapplied c ≤ port.spare
 
--- where the tables are told, the next command finds room in them
-abbrev pub HasRoomNext : Course → PortState → Type 0
-HasRoomNext c port = (command : Command) → next_command c.commit ≡ Some command → HasRoomFor port command
+-- the first command that was sent and isn't applied, unless it has to wait for a pass under way
+abbrev pub unless_waits : List Pass → Option Command → Option Command
+unless_waits passes None = None
+unless_waits passes (Some command) = if waits passes (Some command) then None else Some command
+
+abbrev pub ready_next : Course → Option Command
+ready_next c = unless_waits c.passes.items (next_command c.commit)
+
+-- What the next calls of the port ask for.
+pub record MayCall (x : Given) (c : Course) (port : PortState) : Type 0 where
+  -- the next command finds room where the tables are told, and disturbs no pass
+  pub room : (command : Command) → ready_next c ≡ Some command → HasRoomFor port command
+  pub waits : (command : Command) → ready_next c ≡ Some command → WaitsForNone port command
+  -- no pass is under way over the packet that comes in next, or over one that comes down
+  pub arrives : HasNoUpPass port (length c.fates.items)
+  pub comes_down : (j : ℕ) (item : ℕ × List ℕ) → slice_get c.down.items j ≡ Some item
+      → HasNoDownPassOf port item.1 × (number_in item.1 ≡ item.0)
+  -- the passes of the course are under way there
+  pub under_way : (j : ℕ) (pass : Pass) → slice_get c.passes.items j ≡ Some pass
+      → IsOnSwitch (setup_for x) x.packets port.passes pass
 
 -- the port made room for so many commands, and was called for nothing else
 pub record MadeRoom (commands : ℕ) (old new : PortState) : Type 0 where
   pub kept : KeepsCalls old new
   pub spare : commands ≤ new.spare
+
+-- ## Calls for passes
+
+-- a packet arrives, in a pass of one call or in the first call of one that goes on stage by stage
+abbrev pub TakesUp : Bool → UpEnd → ℕ → Packet → PortState → PortState → Type 0
+TakesUp false end number packet old new = PassesUp end number packet.port packet.bytes old new
+TakesUp true end number packet old new = HasNoUpPass old number × BeginsUp end number packet.port packet.bytes old new
+
+-- a frame comes down so
+abbrev pub TakesDown : Bool → DownEnd → List ℕ → PortState → PortState → Type 0
+TakesDown false end frame old new = PassesDown end frame old new
+TakesDown true end frame old new = HasNoDownPassOf old frame × BeginsDown end frame old new
+
+-- a packet more may be undecided, though it is among no others yet
+pub record TakesOneMore (x : Given) (c : Course) : Type 0 where
+  pub versions : c.server.version + suc (undecided x c) ≤ length x.packets
+  pub commands : length (commands c.commit) + suc (undecided x c) * most_commands x ≤ length x.packets * most_commands x
+
+-- A pass that goes on has stages left, and a packet that goes up has a frame of its layout.
+abbrev pub FitsUp : Given → Pass → UpEnd → Type 0
+FitsUp x pass (up.Finished verdict) = ⊤
+FitsUp x pass (up.Up frame) = IsFrame 1 (up_layout x.program x.split) frame
+FitsUp x pass up.Going = 0 < pass.left
+FitsUp x pass up.Failed = ⊤
+FitsUp x pass up.NoMemory = ⊤
+
+abbrev pub FitsDown : Pass → DownEnd → Type 0
+FitsDown pass (down.Verdict verdict) = ⊤
+FitsDown pass down.Going = 0 < pass.left
+FitsDown pass down.Failed = ⊤
+FitsDown pass down.NoMemory = ⊤
+
+-- a call that failed is told as a fault, and any other error is want of memory
+abbrev pub FailsUp : ReplayError → UpEnd → Type 0
+FailsUp e end = is_port_fault e ≡ up_failed end
+
+abbrev pub FailsDown : ReplayError → DownEnd → Type 0
+FailsDown e end = is_port_fault e ≡ down_failed end
+
+-- a call that failed and one without memory are errors, and no other is
+abbrev pub IsUpAnswer : UpEnd → Type 0
+IsUpAnswer end = (answer : UpAnswer) × (end ≡ end_of answer)
+
+abbrev pub IsDownAnswer : DownEnd → Type 0
+IsDownAnswer end = (answer : DownAnswer) × (end ≡ down_end_of answer)
+
+-- the pass with which the packet of this number enters now
+abbrev pub pass_for : Course → Bool → ℕ → Pass
+pass_for c pre number = record {
+  pre = pre;
+  number = number;
+  version = visible c.commit;
+  bit = bit c.commit;
+  left = if pre then c.pre_stages else c.post_stages;
+}
+
+-- a pass that isn't among those under way has ended, or goes last among them
+abbrev pub came_to : Answers → State → Pass → Bool → State
+came_to a st pass true = ended a st pass
+came_to a st pass false = record st { passes = st.passes ++ pass ∷ [] }
+
+-- The packet of a pass before the server came in with the version of the pass, and each packet that is at the server,
+-- or comes down, went up by these calls.
+pub record MayComeIn (calls : List Call) (st : State) (pass : Pass) : Type 0 where
+  pub gone : Carried (HasGoneUp calls) st
+  pub pre : pass.pre ≡ true
+  pub entered : (admitted : ℕ) × (slice_get st.progress pass.number ≡ Some (Entered admitted pass.version))
+
+-- The packet of a pass behind the server was run by it, and is none of those that are at the server then, or come down.
+pub record MayComeOut (calls : List Call) (st : State) (pass : Pass) (after : State) : Type 0 where
+  pub gone : Carried (HasGoneUp calls) st
+  pub post : pass.pre ≡ false
+  pub held : IsHeld st pass.number
+  pub places : HavePlaces after
+
+-- a pass with one stage less left
+abbrev pub less_one : Pass → Pass
+less_one pass = record pass { left = pass.left - 1 }
+
+-- the pass at place j is so, and all else stays
+pub record HasStage (c : Course) (j : ℕ) (pass : Pass) (after : Course) : Type 0 where
+  pub passes : after.passes.items ≡ slice_set c.passes.items j (less_one pass)
+  pub pre_stages : after.pre_stages ≡ c.pre_stages
+  pub post_stages : after.post_stages ≡ c.post_stages
+  pub up : after.up ≡ c.up
+  pub server : after.server ≡ c.server
+  pub commit : after.commit ≡ c.commit
+  pub down : after.down ≡ c.down
+  pub fates : after.fates ≡ c.fates
+  pub events : after.events ≡ c.events
+  pub idle : after.idle ≡ c.idle
 
 -- ## One event
 

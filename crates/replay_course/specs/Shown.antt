@@ -1,17 +1,16 @@
--- What a course shows of a state, by calls of the switch and where each pass takes one event. The stores of versions,
--- and those over which packets were run, stand in no code.
-use Rattle.std.specs.Prelude.{◌≡◌, ◌≤◌, ℕ, List, [], ◌∷◌, ◌++◌, false, map, length, Option, Some, None, slice_get}
-use Rattle.packet_fields.specs.declared.packet.Packet.{Packet}
+-- What a course shows of a state, by calls of the switch. The stores of versions, and those over which packets were run,
+-- stand in no code.
+use Rattle.std.specs.Prelude.{◌≡◌, ◌≤◌, ℕ, List, [], ◌∷◌, map, length, Option, Some, None, slice_get}
 use Rattle.writeback_table.specs.declared.command.Command.{Command}
 use Rattle.output_commit.specs.Commit.{commands}
 use Rattle.output_commit.specs.declared.output.Output.{Output}
-use Rattle.replay_state.specs.Journal.{Call, CalledCommand, CalledUp, SentUp, UpAnswer, down_frame, up_answer}
+use Rattle.replay_state.specs.Journal.{Call, CalledCommand, SentUp, down_frame, up_answer}
 use Rattle.replay_state.specs.Program.{SplitProgram}
 use Rattle.replay_state.specs.State.{State, fate_of}
 use Rattle.replay_course.specs.declared.course.Course.{Course}
 
 pub record IsShown (s : SplitProgram) (calls : List Call) (st : State) (c : Course) : Type 0 where
-  pub passes : st.passes ≡ []
+  pub passes : c.passes.items ≡ st.passes
   -- the packets on their way up, each in the frame which its pass answered
   pub up : map (λ item. item.0) c.up.items ≡ st.up
   pub up_frames : (j : ℕ) (item : ℕ × List ℕ) → slice_get c.up.items j ≡ Some item
@@ -39,7 +38,3 @@ pub record IsShown (s : SplitProgram) (calls : List Call) (st : State) (c : Cour
 abbrev pub called : Option Command → List Call
 called None = []
 called (Some command) = CalledCommand command ∷ []
-
--- the calls behind one that took the next packet, whose pass ends at once
-abbrev pub taken : List Call → State → Packet → UpAnswer → List Call
-taken calls st packet answer = calls ++ CalledUp false (length st.progress) packet answer ∷ []

@@ -1,10 +1,10 @@
 -- A course on its way through the events of a schedule, and through those that end a run.
 use Rattle.std.specs.Prelude.{◌≡◌, ℕ, ◌+◌, ◌-◌, ◌*◌, List, ◌++◌, length, Option, Some, None, nat_lt, if◌then◌else◌}
 use Rattle.run_model.specs.declared.event.Event.{Event}
-use Rattle.run_model.specs.declared.event.Event.TheVariants.{Admit, Serve, Send, Apply, Ack, Hold, Down}
+use Rattle.run_model.specs.declared.event.Event.TheVariants.{Admit, Stage, Serve, Send, Apply, Ack, Hold, Down}
 use Rattle.output_commit.specs.Commit.{commands}
 use Rattle.switch_ir.specs.Port.{PortState}
-use Rattle.replay_state.specs.Drain.{packet_events, up_events}
+use Rattle.replay_state.specs.Drain.{packet_events, pass_events, up_events, weight}
 use Rattle.replay_state.specs.Journal.{Call}
 use Rattle.replay_state.specs.State.{State}
 use Rattle.replay_contracts.specs.Given.{Given, setup_for, whole}
@@ -40,7 +40,8 @@ pub record IsOnItsWay (x : Given) (c : Course) (port : PortState) : Type 0 where
 -- how many events are left at most, by what the course has
 abbrev pub course_left : Given → Course → ℕ
 course_left x c =
-    (length x.packets - length c.fates.items) * packet_events (setup_for x) + length c.up.items * up_events (setup_for x)
+    (length x.packets - length c.fates.items) * packet_events (setup_for x)
+    + weight (pass_events (setup_for x)) c.passes.items + length c.up.items * up_events (setup_for x)
     + length c.commit.held * (2 + (setup_for x).post_stages) + length c.down.items * (1 + (setup_for x).post_stages)
     + 3 * (length (commands c.commit) - c.commit.sent) + 2 * (c.commit.sent - c.commit.done)
     + (c.commit.done - c.commit.acked)
@@ -48,13 +49,14 @@ course_left x c =
 -- the event that comes next, of a trace with so many packets
 abbrev pub picked_by : ℕ → Course → Option Event
 picked_by packets c =
-    if nat_lt c.commit.acked c.commit.done then Some Ack
+    if nat_lt 0 (length c.passes.items) then Some (Stage 0)
+    else (if nat_lt c.commit.acked c.commit.done then Some Ack
     else (if nat_lt c.commit.done c.commit.sent then Some Apply
     else (if nat_lt c.commit.sent (length (commands c.commit)) then Some Send
     else (if nat_lt 0 (length c.down.items) then Some (Down 0)
     else (if nat_lt 0 (length c.commit.held) then Some (Hold 0)
     else (if nat_lt 0 (length c.up.items) then Some (Serve 0)
-    else (if nat_lt (length c.fates.items) packets then Some Admit else None))))))
+    else (if nat_lt (length c.fates.items) packets then Some Admit else None)))))))
 
 -- so many events behind others, each the one that drain picks, and the calls that they made
 pub record HasPickedOn (x : Given) (events : List Event) (calls : List Call) (count : ℕ) (after : Course)

@@ -1,38 +1,46 @@
 //! What a replay keeps from event to event: a first part of its calls.
-ghost use Rattle.std.specs.Prelude.{◌≡◌, ◌<◌, ◌≤◌, ◌-◌, ◌^◌, ◌++◌, List, true, false, length, None, is_some};
-ghost use Rattle.std.specs.Prelude.{IfOk, OnOk, ◌+◌, if◌then◌else◌};
+ghost use Rattle.std.specs.Prelude.{◌≡◌, ◌<◌, ◌≤◌, ◌-◌, ◌^◌, ◌++◌, List, true, false, length, Some, None, is_some};
+ghost use Rattle.std.specs.Prelude.{IfErr, IfOk, OnOk, ◌+◌, if◌then◌else◌};
 ghost use Rattle.packet_fields.specs.declared.packet.Packet.{Packet};
 ghost use Rattle.run_model.specs.declared.event.Event.{Event};
 ghost use Rattle.run_model.specs.declared.event.Event.TheVariants as event;
 ghost use Rattle.replay_state.specs.Answers.{Answers, Setup};
-ghost use Rattle.replay_state.specs.Journal.{Call, Finished, SentUp, asked, asks_command, journal, up_answer};
-ghost use Rattle.replay_state.specs.Places.{HavePlaces};
+ghost use Rattle.replay_state.specs.Journal.{Call, DownAnswer, UpAnswer, asked, asks_command, down_answer, journal};
+ghost use Rattle.replay_state.specs.Journal.{down_end as down_ended, is_down_end, is_up_end, up_answer};
+ghost use Rattle.replay_state.specs.Journal.{up_end as up_ended};
 ghost use Rattle.replay_state.specs.Program.{SplitProgram};
 ghost use Rattle.replay_state.specs.State.{State, first_state};
-ghost use Rattle.replay_state.specs.Step.{applies, step};
-ghost use Rattle.replay_contracts.specs.Given.{Given};
+ghost use Rattle.replay_state.specs.Step.{applies, came, step, tick, waits};
+ghost use Rattle.replay_contracts.specs.Given.{Given, setup_for};
 ghost use Rattle.replay_contracts.specs.Replayer.{stepped_by};
 ghost use Rattle.output_commit.specs.Batches.{fits};
-ghost use Rattle.output_commit.specs.Commit.{next as next_command};
+ghost use Rattle.split_answers.specs.Through.{down_end_of, end_of};
 ghost use Rattle.server_runtime.specs.Views.{server_of};
-ghost use Rattle.split_model.specs.Layouts.{up_layout};
-ghost use Rattle.transfer_header.specs.Frames.{IsFrame};
-ghost use Rattle.replay_course.specs.Going.{IsSound, unapplied};
-ghost use Rattle.replay_course.specs.Shown.{IsShown, called, taken};
+ghost use Rattle.replay_course.specs.Going.{FailsDown, FailsUp, FitsDown, FitsUp, IsDownAnswer, IsSound, IsUpAnswer};
+ghost use Rattle.replay_course.specs.Going.{MayComeIn, MayComeOut, TakesOneMore, came_to, pass_for, ready_next, unapplied};
+ghost use Rattle.replay_course.specs.Shown.{IsShown, called};
 
+use crate::fates::{finish_at, release_at, send_up_at};
 use gal_io::{Bytes, NoMemory};
 use output_commit::{Commit, Release, a_batch_takes_up_others};
-use packet_fields::Verdict;
-use replay_contracts::Stepped;
+use replay_contracts::{ReplayError, Stepped};
+use replay_state::Pass;
 use run_model::Fate;
 use server_runtime::Server;
 use std::alloc::Global;
 use std::collections::VecDeque;
+use switch_ir::{DownEnd, UpEnd};
 use writeback_table::Command;
 
-/// The server, the frames on their way, the held outputs with the commands, and how far each packet has come.
+/// The passes under way, the server, the frames on their way, the held outputs with the commands, and how far each
+/// packet has come.
 #[derive(Debug, Drop)]
 pub struct Course {
+    /// How many stages a pass has left where it enters before the server, and behind it.
+    pub pre_stages: u32,
+    pub post_stages: u32,
+    /// The passes under way on the switch, in the order in which they entered.
+    pub passes: VecDeque<Pass>,
     /// The frames on their way up to the server, each with the number of its packet.
     pub up: VecDeque<(u32, Bytes)>,
     pub server: Server,
@@ -46,17 +54,27 @@ pub struct Course {
 }
 
 impl Course {
-    /// Before any event.
-    pub fn new(alloc: Global, server: Server, writeback: u32) -> Course
+    /// Before any event, where passes enter with so many stages left before the server, and behind it.
+    pub fn new(
+        alloc: Global,
+        server: Server,
+        writeback: u32,
+        pre_stages: u32,
+        post_stages: u32,
+    ) -> Course
         requires { server.version ≡ 0 }
         ensures shown { (s : SplitProgram) (calls : List Call)
             → IsShown s calls (first_state server.store) result }
         ensures server { result.server ≡ server }
         ensures sound { (x : Given) → (server_of server).program ≡ x.program → (server_of server).split ≡ x.split
-            → writeback ≡ x.writeback → IsSound x result }
+            → writeback ≡ x.writeback → pre_stages ≡ (setup_for x).pre_stages
+            → post_stages ≡ (setup_for x).post_stages → IsSound x result }
         ensures unapplied { unapplied result ≡ 0 }
     {
         Course {
+            pre_stages,
+            post_stages,
+            passes: VecDeque::new(alloc),
             up: VecDeque::new(alloc),
             server,
             commit: Commit::new(alloc, writeback),
@@ -84,54 +102,107 @@ impl Course {
         Stepped::Idle
     }
 
-    /// The next packet was admitted, and the switch finished it by itself.
-    pub fn finish(&mut self, verdict: Verdict) -> Result<(), NoMemory>
-        requires events { self.old.events < 2 ^ 32 - 1 }
-        ensures shown { OnOk result ((s : SplitProgram) (setup : Setup) (calls : List Call) (packet : Packet)
-            (st : State)
-            → IsShown s calls st self.old → setup.pre_stages ≡ 0 → applies setup st event.Admit ≡ true
-            → up_answer calls (length st.progress) ≡ None
-            → IsShown s (taken calls st packet (Finished verdict))
-            (step setup (journal s (taken calls st packet (Finished verdict))) st event.Admit) self.new) }
-        ensures sound { OnOk result ((x : Given) → IsSound x self.old
-            → length self.old.fates.items < length x.packets → IsSound x self.new) }
-        ensures unapplied { OnOk result (unapplied self.new ≡ unapplied self.old) }
-        ensures counted { OnOk result (self.new.events ≡ self.old.events + 1) }
+    /// The pass with which the packet of this number enters now.
+    pub fn entering(&self, pre: bool, number: u32) -> Pass
+        ensures { result ≡ pass_for self.now pre number }
     {
-        self.events += 1;
-        self.fates.push(Fate::Fast {
-            admitted: self.events,
-            decided: self.events,
+        Pass {
+            pre,
+            number,
             version: self.commit.visible(),
-            released: self.events,
-            verdict,
-        })?;
-        Ok(())
+            bit: self.commit.bit(),
+            left: if pre {
+                self.pre_stages
+            } else {
+                self.post_stages
+            },
+        }
     }
 
-    /// The next packet was admitted, and goes up to the server in this frame.
-    pub fn send_up(&mut self, frame: Bytes) -> Result<(), NoMemory>
+    /// The next packet is admitted. The answer is the pass with which it enters.
+    pub fn admit_next(&mut self) -> Result<Pass, NoMemory>
         requires events { self.old.events < 2 ^ 32 - 1 }
         requires few { length self.old.fates.items < 2 ^ 32 }
-        ensures shown { OnOk result ((s : SplitProgram) (setup : Setup) (calls : List Call) (packet : Packet)
-            (st : State)
-            → IsShown s calls st self.old → HavePlaces st → setup.pre_stages ≡ 0
-            → applies setup st event.Admit ≡ true → up_answer calls (length st.progress) ≡ None
-            → IsShown s (taken calls st packet (SentUp frame))
-            (step setup (journal s (taken calls st packet (SentUp frame))) st event.Admit) self.new) }
+        ensures pass { IfOk result (λ pass. pass ≡ pass_for self.old true (length self.old.fates.items)) }
+        ensures shown { OnOk result ((s : SplitProgram) (calls : List Call) (st : State)
+            → IsShown s calls st self.old → IsShown s calls (came (tick st)) self.new) }
         ensures sound { OnOk result ((x : Given) → IsSound x self.old
-            → length self.old.fates.items < length x.packets
-            → IsFrame 1 (up_layout x.program x.split) frame → IsSound x self.new) }
+            → length self.old.fates.items < length x.packets → IsSound x self.new × TakesOneMore x self.new) }
         ensures unapplied { OnOk result (unapplied self.new ≡ unapplied self.old) }
         ensures counted { OnOk result (self.new.events ≡ self.old.events + 1) }
     {
+        let pass = self.entering(true, self.fates.len() as u32);
         self.events += 1;
-        let number = self.fates.len() as u32;
-        self.up.push_back((number, frame))?;
-        self.fates.push(Fate::Up {
+        self.fates.push(Fate::Pass {
             admitted: self.events,
         })?;
-        Ok(())
+        Ok(pass)
+    }
+
+    /// The call over a packet that arrived ended so: its pass has ended, or goes last among those under way.
+    pub fn come_in(&mut self, pass: Pass, end: UpEnd) -> Result<(), ReplayError>
+        ensures answers { OnOk result (IsUpAnswer end) }
+        ensures shown { OnOk result ((s : SplitProgram) (calls more : List Call) (st : State) (answer : UpAnswer)
+            → IsShown s calls st self.old → MayComeIn calls st pass → end ≡ end_of answer
+            → up_answer (calls ++ more) pass.number ≡ up_ended answer
+            → IsShown s (calls ++ more) (came_to (journal s (calls ++ more)) st pass (is_up_end answer)) self.new) }
+        ensures sound { OnOk result ((x : Given) → IsSound x self.old → TakesOneMore x self.old → FitsUp x pass end
+            → IsSound x self.new) }
+        ensures unapplied { OnOk result (unapplied self.new ≡ unapplied self.old) }
+        ensures counted { OnOk result (self.new.events ≡ self.old.events) }
+        ensures fails { IfErr result (λ e. FailsUp e end) }
+    {
+        match end {
+            UpEnd::Finished(verdict) => {
+                finish_at(
+                    &mut self.fates,
+                    pass.number,
+                    self.events,
+                    pass.version,
+                    verdict,
+                );
+                Ok(())
+            }
+            UpEnd::Up(frame) => {
+                self.up.push_back((pass.number, frame))?;
+                send_up_at(&mut self.fates, pass.number);
+                Ok(())
+            }
+            UpEnd::Going => {
+                self.passes.push_back(pass)?;
+                Ok(())
+            }
+            UpEnd::Failed => Err(ReplayError::PortFault),
+            UpEnd::NoMemory => Err(ReplayError::NoMemory),
+        }
+    }
+
+    /// The call over a packet that came down ended so: it is released, or its pass goes last among those under way.
+    pub fn come_out(&mut self, pass: Pass, end: DownEnd) -> Result<(), ReplayError>
+        ensures answers { OnOk result (IsDownAnswer end) }
+        ensures shown { OnOk result ((s : SplitProgram) (calls more : List Call) (st : State) (answer : DownAnswer)
+            → IsShown s calls st self.old
+            → MayComeOut calls st pass (came_to (journal s (calls ++ more)) st pass (is_down_end answer))
+            → end ≡ down_end_of answer → down_answer (calls ++ more) pass.number ≡ down_ended answer
+            → IsShown s (calls ++ more) (came_to (journal s (calls ++ more)) st pass (is_down_end answer)) self.new) }
+        ensures sound { OnOk result ((x : Given) → IsSound x self.old → pass.pre ≡ false → FitsDown pass end
+            → IsSound x self.new) }
+        ensures unapplied { OnOk result (unapplied self.new ≡ unapplied self.old) }
+        ensures counted { OnOk result (self.new.events ≡ self.old.events) }
+        ensures fails { IfErr result (λ e. FailsDown e end) }
+    {
+        match end {
+            DownEnd::Verdict(verdict) => {
+                release_at(&mut self.fates, pass.number, self.events, verdict);
+                Ok(())
+            }
+            DownEnd::Going => {
+                self.passes.push_back(pass)?;
+                Ok(())
+            }
+            DownEnd::Failed => Err(ReplayError::PortFault),
+            DownEnd::NoMemory => Err(ReplayError::NoMemory),
+        }
     }
 
     /// One more applied command is acknowledged.
@@ -178,7 +249,26 @@ impl Course {
         }
     }
 
-    /// The next command that was sent goes to the switch, and counts as applied from then on.
+    // Whether a command has to wait for a pass under way.
+    fn waits(&self, command: &Command) -> bool
+        ensures { result ≡ waits self.now.passes.items (Some command.now) }
+    {
+        self.passes.iter().any(|pass| command.disturbs(pass.bit))
+    }
+
+    // The next command that was sent, where it need not wait for a pass under way.
+    fn ready_command(&self) -> Option<Command>
+        ensures { result ≡ ready_next self.now }
+    {
+        let command = self.commit.peek()?;
+        if self.waits(&command) {
+            return None;
+        }
+        Some(command)
+    }
+
+    /// The next command that was sent goes to the switch, and counts as applied from then on. It may have to wait for a
+    /// pass under way.
     pub fn next_command(&mut self) -> Option<Command>
         requires events { self.old.events < 2 ^ 32 - 1 }
         requires idle { self.old.idle ≤ self.old.events }
@@ -189,20 +279,19 @@ impl Course {
         ensures shown { (s : SplitProgram) (setup : Setup) (a : Answers) (calls : List Call) (st : State)
             → IsShown s calls st self.old
             → IsShown s (calls ++ called result) (step setup a st event.Apply) self.new }
-        ensures next { result ≡ next_command self.old.commit }
+        ensures next { result ≡ ready_next self.old }
         ensures sound { (x : Given) → IsSound x self.old → IsSound x self.new }
         ensures unapplied { (x : Given) → IsSound x self.old
             → unapplied self.old ≡ (if is_some result then 1 else 0) + unapplied self.new }
         ensures counted { self.new.events ≡ self.old.events + 1 }
     {
         self.events += 1;
-        match self.commit.next_command() {
-            Some(command) => Some(command),
-            None => {
-                self.idle += 1;
-                None
-            }
-        }
+        let Some(command) = self.ready_command() else {
+            self.idle += 1;
+            return None;
+        };
+        let _ = self.commit.next_command();
+        Some(command)
     }
 
     /// The output at place `j` of those that wait goes, if its version is known to be visible.

@@ -5,12 +5,12 @@ ghost use Rattle.replay_state.specs.Journal.{Call};
 ghost use Rattle.replay_state.specs.State.{State};
 ghost use Rattle.replay_contracts.specs.Given.{Given, setup_for, whole};
 ghost use Rattle.replay_contracts.specs.Replayer.{Fails, given_of};
-ghost use Rattle.replay_course.specs.Going.{IsPlain, IsSound};
+ghost use Rattle.replay_course.specs.Going.{IsPrepared, IsSound};
 ghost use Rattle.replay_course.specs.Shown.{IsShown};
 ghost use Rattle.replay_course.specs.UnderWay.{HasGone, IsDrained, IsOnItsWay, IsUnderWay, course_left, picked_by};
 
 use crate::course::Course;
-use crate::laws::the_next_command_finds_room;
+use crate::laws::the_next_calls_may_be_made;
 use replay_contracts::{Job, ReplayError, a_drain_ends, a_drain_goes_on, a_replay_goes_on};
 use replay_state::{a_run_is_answered_by_its_calls, drain_ends, whole_runs_are_sound};
 use run_model::Event;
@@ -24,7 +24,9 @@ impl Course {
         ensures { result ≡ picked_by packets self.now }
     {
         let commit = &self.commit;
-        if commit.acked() < commit.applied() {
+        if !self.passes.is_empty() {
+            Some(Event::Stage(0))
+        } else if commit.acked() < commit.applied() {
             Some(Event::Ack)
         } else if commit.applied() < commit.sent() {
             Some(Event::Apply)
@@ -43,10 +45,11 @@ impl Course {
         }
     }
 
-    /// The event that ends a run next: the first that applies of those that let the switch's answers come back, then of
-    /// those that bring commands and outputs down, and last those that let packets in.
+    /// The event that ends a run next: the first that applies of those that end the passes under way, then of those that
+    /// let the switch's answers come back, of those that bring commands and outputs down, and last of those that let
+    /// packets in.
     pub fn next_event(&self, job: &Job) -> Option<Event>
-        ensures { (calls : List Call) (st : State) → IsPlain (given_of job.now) → IsSound (given_of job.now) self.now
+        ensures { (calls : List Call) (st : State) → IsPrepared (given_of job.now) → IsSound (given_of job.now) self.now
             → IsShown (whole (given_of job.now)) calls st self.now → result ≡ next_event (setup_for (given_of job.now)) st }
     {
         self.picked(job.packets.len())
@@ -66,7 +69,7 @@ impl Course {
         ensures fails { IfErr result (λ e. Fails e (S.seen port.old) (S.seen port.new)) }
     {
         a_replay_goes_on();
-        the_next_command_finds_room();
+        the_next_calls_may_be_made();
         for event in job.events.as_slice() {
             self.step(alloc, job, port, *event)?;
         }
@@ -95,7 +98,7 @@ impl Course {
         a_run_is_answered_by_its_calls();
         drain_ends();
         split_programs_have_their_laws();
-        the_next_command_finds_room();
+        the_next_calls_may_be_made();
         whole_runs_are_sound();
         let mut count = 0;
         while let Some(event) = self.next_event(job) {

@@ -1,13 +1,66 @@
 //! What becomes of packets, by number.
 ghost use Rattle.std.specs.Prelude.{◌≡◌, ◌<◌, ◌^◌, count_by, length, slice_get, slice_set, IfOk, Some};
 ghost use Rattle.run_model.specs.Fate.{is_decided, is_released};
-ghost use Rattle.replay_course.specs.Fates.{decided, released};
+ghost use Rattle.replay_course.specs.Fates.{decided, finished, released, went_up};
 
 use gal_io::NoMemory;
 use packet_fields::Verdict;
 use run_model::{Fate, Fates};
 use std::alloc::Global;
 use std::mem;
+
+/// The switch finished the packet of this number at an event, over this version.
+#[tactic(auto, using(std::proofs::lemmas::List::set_past))]
+pub(crate) fn finish_at(
+    fates: &mut Vec<Fate>,
+    number: u32,
+    event: u32,
+    version: u32,
+    verdict: Verdict,
+)
+    ensures { fates.new.items
+        ≡ slice_set fates.old.items number (finished event version verdict (slice_get fates.old.items number)) }
+{
+    if (number as usize) < fates.len() {
+        finish(&mut fates[number as usize], event, version, verdict);
+    }
+}
+
+fn finish(fate: &mut Fate, event: u32, version: u32, verdict: Verdict)
+    ensures { fate.new ≡ finished event version verdict (Some fate.old) }
+{
+    let before = mem::replace(fate, Fate::Up { admitted: 0 });
+    *fate = match before {
+        Fate::Pass { admitted } => Fate::Fast {
+            admitted,
+            decided: event,
+            version,
+            released: event,
+            verdict,
+        },
+        other => other,
+    };
+}
+
+/// The packet of this number goes up.
+#[tactic(auto, using(std::proofs::lemmas::List::set_past))]
+pub(crate) fn send_up_at(fates: &mut Vec<Fate>, number: u32)
+    ensures { fates.new.items ≡ slice_set fates.old.items number (went_up (slice_get fates.old.items number)) }
+{
+    if (number as usize) < fates.len() {
+        send_up(&mut fates[number as usize]);
+    }
+}
+
+fn send_up(fate: &mut Fate)
+    ensures { fate.new ≡ went_up (Some fate.old) }
+{
+    let before = mem::replace(fate, Fate::Up { admitted: 0 });
+    *fate = match before {
+        Fate::Pass { admitted } => Fate::Up { admitted },
+        other => other,
+    };
+}
 
 /// The packet of this number is decided at an event, with this version.
 #[tactic(auto, using(std::proofs::lemmas::List::set_past))]

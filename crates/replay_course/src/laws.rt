@@ -11,24 +11,35 @@ ghost use Rattle.replay_contracts.specs.declared.job.Stepped.{Stepped};
 ghost use Rattle.replay_contracts.specs.Given.{Given, setup_for, whole};
 ghost use Rattle.replay_contracts.specs.Replay.{IsReplay};
 ghost use Rattle.replay_course.specs.declared.course.Course.{Course};
-ghost use Rattle.replay_course.specs.Going.{HasRoomNext, HasTurned, IsGoing, IsPlain, most_commands};
+ghost use Rattle.replay_course.specs.Going.{HasTurned, IsGoing, IsPrepared, MayCall, most_commands};
 ghost use Rattle.replay_course.specs.Shown.{IsShown};
 ghost use Rattle.replay_course.specs.UnderWay.{course_left};
 
+use replay_contracts::frames_have_their_forms;
 use replay_state::{
-    a_run_is_answered_by_its_calls, drain_ends, lookups_see_one_version, whole_runs_are_sound,
+    a_run_is_answered_by_its_calls, drain_ends, lookups_see_one_version,
+    packets_are_where_they_are_told, whole_runs_are_sound,
 };
-use split_answers::{a_told_command_finds_room, split_programs_have_their_laws};
+use split_answers::{
+    a_told_command_finds_room, frames_do_what_packets_do, split_programs_have_their_laws,
+};
+use transfer_header::frames_are_told_by_place;
 
-/// Where the port tells its tables, the next command finds room in them.
-pub fn the_next_command_finds_room()
+/// The next calls of the port have what they ask for: a command finds room in the tables that are told, and disturbs no
+/// pass; and no pass is under way over a packet that comes in or down next.
+pub fn the_next_calls_may_be_made()
     ensures { (x : Given) (events : List Event) (calls : List Call) (st : State) (c : Course) (port : PortState)
-        → IsReplay x events calls st port → IsShown (whole x) calls st c → IsGoing x c port → HasRoomNext c port }
+        → IsReplay x events calls st port → IsShown (whole x) calls st c → IsGoing x c port → MayCall x c port }
 {
     split_programs_have_their_laws();
     whole_runs_are_sound();
     lookups_see_one_version();
     a_told_command_finds_room();
+    a_run_is_answered_by_its_calls();
+    packets_are_where_they_are_told();
+    frames_are_told_by_place();
+    frames_do_what_packets_do();
+    frames_have_their_forms();
 }
 
 /// A trace of at most so many packets brings few commands, and few events end its run. An event leaves no more of
@@ -36,7 +47,7 @@ pub fn the_next_command_finds_room()
 pub fn few_events_are_left()
     ensures commands { (x : Given) → IsSplit x.program x.split x.writeback → length x.packets ≤ most_packets
         → length x.packets * most_commands x < 2 ^ 32 }
-    ensures bound { (x : Given) → IsPlain x → length x.packets ≤ most_packets → drain_bound (setup_for x) < 2 ^ 30 }
+    ensures bound { (x : Given) → IsPrepared x → length x.packets ≤ most_packets → drain_bound (setup_for x) < 2 ^ 30 }
     ensures left { (x : Given) (events : List Event) (calls : List Call) (st : State) (c : Course) (port : PortState)
         → IsReplay x events calls st port → IsShown (whole x) calls st c → IsGoing x c port
         → course_left x c ≤ drain_bound (setup_for x) }

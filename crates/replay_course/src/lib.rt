@@ -12,4 +12,4 @@ mod start;
 mod step;
 
 pub use course::Course;
-pub use laws::{few_events_are_left, the_next_command_finds_room};
+pub use laws::{few_events_are_left, the_next_calls_may_be_made};

@@ -1,35 +1,50 @@
 //! The events that call the switch.
-ghost use Rattle.std.specs.Prelude.{◌≡◌, ◌<◌, ◌-◌, ◌^◌, IfErr, IfOk};
+ghost use Rattle.std.specs.Prelude.{◌≡◌, ◌<◌, ◌≤◌, ◌-◌, ◌^◌, Some, true, false, length, slice_get, IfErr, IfOk};
+ghost use Rattle.packet_fields.specs.Sizes.{largest_packet};
 ghost use Rattle.run_model.specs.declared.event.Event.TheVariants as event;
-ghost use Rattle.switch_ir.specs.Port.{IsDownFrame, IsLoaded, PassesDown};
+ghost use Rattle.switch_ir.specs.Port.{HasNoDownPassOf, HasNoUpPass, IsDownFrame, IsLoaded};
 ghost use Rattle.replay_contracts.specs.Replayer.{Fails, given_of};
-ghost use Rattle.replay_course.specs.Going.{HasRoomNext, HasTurned, IsGoing};
+ghost use Rattle.replay_course.specs.Going.{HasStage, HasTurned, IsGoing, MayCall, TakesDown, TakesUp};
 
 use crate::course::Course;
-use crate::fates::release_at;
 use gal_io::Bytes;
-use packet_fields::Verdict;
+use packet_fields::Packet;
 use replay_contracts::{Job, ReplayError, Stepped};
-use replay_state::{a_run_is_answered_by_its_calls, packets_are_where_they_are_told};
+use replay_state::{Pass, a_run_is_answered_by_its_calls, packets_are_where_they_are_told};
 use std::alloc::Global;
 use switch_ir::{CommandEnd, DownEnd, SwitchPort, UpEnd};
 
-// The verdict of the switch on a frame that comes down.
-fn pass_down<S: SwitchPort>(
+// The switch takes a packet that arrived: in one call, or in the first of those for the stages of its pass.
+fn arrive<S: SwitchPort>(
     alloc: Global,
     port: &mut S,
-    frame: &Bytes,
-) -> Result<Verdict, ReplayError>
+    fine: bool,
+    number: u32,
+    packet: &Packet,
+) -> UpEnd
+    requires loaded { IsLoaded (S.seen port.old) }
+    requires size { length packet.now.bytes ≤ largest_packet }
+    requires none { HasNoUpPass (S.seen port.old) number }
+    ensures { TakesUp fine result number packet.now (S.seen port.old) (S.seen port.new) }
+{
+    if fine {
+        port.begin_up(alloc, number, packet.port, packet.bytes.as_slice())
+    } else {
+        port.pass_up(alloc, number, packet.port, packet.bytes.as_slice())
+    }
+}
+
+// The switch takes a frame that comes down, in the same way.
+fn come_down<S: SwitchPort>(alloc: Global, port: &mut S, fine: bool, frame: &Bytes) -> DownEnd
     requires loaded { IsLoaded (S.seen port.old) }
     requires frame { IsDownFrame (S.seen port.old) frame.now }
-    ensures passes { IfOk result (λ verdict.
-        PassesDown (DownEnd.Verdict verdict) frame.now (S.seen port.old) (S.seen port.new)) }
-    ensures fails { IfErr result (λ e. Fails e (S.seen port.old) (S.seen port.new)) }
+    requires none { HasNoDownPassOf (S.seen port.old) frame.now }
+    ensures { TakesDown fine result frame.now (S.seen port.old) (S.seen port.new) }
 {
-    match port.pass_down(alloc, frame.as_slice()) {
-        DownEnd::Verdict(verdict) => Ok(verdict),
-        DownEnd::Failed => Err(ReplayError::PortFault),
-        DownEnd::NoMemory => Err(ReplayError::NoMemory),
+    if fine {
+        port.begin_down(alloc, frame.as_slice())
+    } else {
+        port.pass_down(alloc, frame.as_slice())
     }
 }
 
@@ -43,30 +58,134 @@ impl Course {
     ) -> Result<Stepped, ReplayError>
         requires going { IsGoing (given_of job.now) self.old (S.seen port.old) }
         requires events { self.old.events < 2 ^ 32 - 1 }
+        requires may_call { MayCall (given_of job.now) self.old (S.seen port.old) }
         ensures turned { IfOk result (λ stepped.
             HasTurned (given_of job.now) event.Admit stepped self.old (S.seen port.old) self.new (S.seen port.new)) }
         ensures fails { IfErr result (λ e. Fails e (S.seen port.old) (S.seen port.new)) }
     {
         a_run_is_answered_by_its_calls();
         packets_are_where_they_are_told();
-        let number = self.fates.len();
-        let Some(packet) = job.packets.as_slice().get(number) else {
+        let Some(packet) = job.packets.as_slice().get(self.fates.len()) else {
             return Ok(self.idled());
         };
-        match port.pass_up(alloc, number as u32, packet.port, packet.bytes.as_slice()) {
-            UpEnd::Finished(verdict) => self.finish(verdict)?,
-            UpEnd::Up(frame) => self.send_up(frame)?,
-            UpEnd::Failed => return Err(ReplayError::PortFault),
-            UpEnd::NoMemory => return Err(ReplayError::NoMemory),
-        }
+        let pass = self.admit_next()?;
+        let end = arrive(alloc, port, job.fine, pass.number, packet);
+        self.come_in(pass, end)?;
         Ok(Stepped::Did)
     }
 
-    /// The switch applies the next command.
+    // The pass at place `j` of those under way has one stage less left.
+    fn take_stage(&mut self, j: usize, pass: Pass)
+        requires there { slice_get self.old.passes.items j ≡ Some pass }
+        requires some { 1 < pass.left }
+        ensures { HasStage self.old j pass self.new }
+    {
+        let mut less = pass;
+        less.left -= 1;
+        self.passes[j] = less;
+    }
+
+    // The pass at place `j`, of a packet that arrived, takes a stage.
+    fn stage_up<S: SwitchPort>(
+        &mut self,
+        alloc: Global,
+        job: &Job,
+        port: &mut S,
+        j: u32,
+        pass: Pass,
+    ) -> Result<Stepped, ReplayError>
+        requires there { slice_get self.old.passes.items j ≡ Some pass }
+        requires kind { pass.pre ≡ true }
+        requires going { IsGoing (given_of job.now) self.old (S.seen port.old) }
+        requires events { self.old.events < 2 ^ 32 - 1 }
+        requires may_call { MayCall (given_of job.now) self.old (S.seen port.old) }
+        ensures turned { IfOk result (λ stepped.
+            HasTurned (given_of job.now) (event.Stage j) stepped self.old (S.seen port.old) self.new
+            (S.seen port.new)) }
+        ensures fails { IfErr result (λ e. Fails e (S.seen port.old) (S.seen port.new)) }
+    {
+        a_run_is_answered_by_its_calls();
+        packets_are_where_they_are_told();
+        self.events += 1;
+        match port.stage_up(alloc, pass.number) {
+            UpEnd::Going => {
+                self.take_stage(j as usize, pass);
+                Ok(Stepped::Did)
+            }
+            end => {
+                let _ = self.passes.remove(j as usize);
+                self.come_in(pass, end)?;
+                Ok(Stepped::Did)
+            }
+        }
+    }
+
+    // The pass at place `j`, of a packet that came down, takes a stage.
+    fn stage_down<S: SwitchPort>(
+        &mut self,
+        alloc: Global,
+        job: &Job,
+        port: &mut S,
+        j: u32,
+        pass: Pass,
+    ) -> Result<Stepped, ReplayError>
+        requires there { slice_get self.old.passes.items j ≡ Some pass }
+        requires kind { pass.pre ≡ false }
+        requires going { IsGoing (given_of job.now) self.old (S.seen port.old) }
+        requires events { self.old.events < 2 ^ 32 - 1 }
+        requires may_call { MayCall (given_of job.now) self.old (S.seen port.old) }
+        ensures turned { IfOk result (λ stepped.
+            HasTurned (given_of job.now) (event.Stage j) stepped self.old (S.seen port.old) self.new
+            (S.seen port.new)) }
+        ensures fails { IfErr result (λ e. Fails e (S.seen port.old) (S.seen port.new)) }
+    {
+        a_run_is_answered_by_its_calls();
+        packets_are_where_they_are_told();
+        self.events += 1;
+        match port.stage_down(alloc, pass.number) {
+            DownEnd::Going => {
+                self.take_stage(j as usize, pass);
+                Ok(Stepped::Did)
+            }
+            end => {
+                let _ = self.passes.remove(j as usize);
+                self.come_out(pass, end)?;
+                Ok(Stepped::Did)
+            }
+        }
+    }
+
+    /// The pass at place `j` of those under way takes a stage.
+    pub fn stage<S: SwitchPort>(
+        &mut self,
+        alloc: Global,
+        job: &Job,
+        port: &mut S,
+        j: u32,
+    ) -> Result<Stepped, ReplayError>
+        requires going { IsGoing (given_of job.now) self.old (S.seen port.old) }
+        requires events { self.old.events < 2 ^ 32 - 1 }
+        requires may_call { MayCall (given_of job.now) self.old (S.seen port.old) }
+        ensures turned { IfOk result (λ stepped.
+            HasTurned (given_of job.now) (event.Stage j) stepped self.old (S.seen port.old) self.new
+            (S.seen port.new)) }
+        ensures fails { IfErr result (λ e. Fails e (S.seen port.old) (S.seen port.new)) }
+    {
+        let Some(&pass) = self.passes.get(j as usize) else {
+            return Ok(self.idled());
+        };
+        if pass.pre {
+            self.stage_up(alloc, job, port, j, pass)
+        } else {
+            self.stage_down(alloc, job, port, j, pass)
+        }
+    }
+
+    /// The switch applies the next command, unless it has to wait for a pass under way.
     pub fn apply<S: SwitchPort>(&mut self, job: &Job, port: &mut S) -> Result<Stepped, ReplayError>
         requires going { IsGoing (given_of job.now) self.old (S.seen port.old) }
         requires events { self.old.events < 2 ^ 32 - 1 }
-        requires room { HasRoomNext self.old (S.seen port.old) }
+        requires may_call { MayCall (given_of job.now) self.old (S.seen port.old) }
         ensures turned { IfOk result (λ stepped.
             HasTurned (given_of job.now) event.Apply stepped self.old (S.seen port.old) self.new (S.seen port.new)) }
         ensures fails { IfErr result (λ e. Fails e (S.seen port.old) (S.seen port.new)) }
@@ -90,6 +209,7 @@ impl Course {
     ) -> Result<Stepped, ReplayError>
         requires going { IsGoing (given_of job.now) self.old (S.seen port.old) }
         requires events { self.old.events < 2 ^ 32 - 1 }
+        requires may_call { MayCall (given_of job.now) self.old (S.seen port.old) }
         ensures turned { IfOk result (λ stepped.
             HasTurned (given_of job.now) (event.Down j) stepped self.old (S.seen port.old) self.new
             (S.seen port.new)) }
@@ -101,8 +221,9 @@ impl Course {
             return Ok(self.idled());
         };
         self.events += 1;
-        let verdict = pass_down(alloc, port, &frame)?;
-        release_at(&mut self.fates, number, self.events, verdict);
+        let pass = self.entering(false, number);
+        let end = come_down(alloc, port, job.fine, &frame);
+        self.come_out(pass, end)?;
         Ok(Stepped::Did)
     }
 }

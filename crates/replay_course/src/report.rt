@@ -71,6 +71,7 @@ impl Course {
         ensures { result ≡ is_done packets self.now }
     {
         self.fates.len() == packets
+            && self.passes.is_empty()
             && self.up.is_empty()
             && self.commit.held() == 0
             && self.down.is_empty()

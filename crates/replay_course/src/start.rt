@@ -1,5 +1,5 @@
 //! The start of a replay.
-ghost use Rattle.std.specs.Prelude.{◌≡◌, ◌≤◌, ◌<◌, ◌*◌, ◌^◌, [], length, is_some, IfErr, IfOk, OnOk};
+ghost use Rattle.std.specs.Prelude.{◌≡◌, ◌≤◌, ◌<◌, ◌*◌, ◌^◌, [], length, is_some, if◌then◌else◌, IfErr, IfOk, OnOk};
 ghost use Rattle.std.specs.List.{AllByRecursion as Each};
 ghost use Rattle.packet_fields.specs.Sizes.{AreShort, largest_packet};
 ghost use Rattle.flat_ir.specs.Arrivals.{IsArrival};
@@ -34,6 +34,19 @@ fn all_arrive(packets: &[Packet])
 {
     for packet in packets {
         arrives(packet.port, packet.bytes.as_slice());
+    }
+}
+
+// How many stages a pass of this code has left where it enters before the server, and behind it: none where it takes
+// one event in all.
+fn stages_in(fine: bool, code: &SwitchCode) -> (u32, u32)
+    ensures pre { result.0 ≡ (if fine then code.now.pre.highest else 0) }
+    ensures post { result.1 ≡ (if fine then code.now.post.highest else 0) }
+{
+    if fine {
+        (code.pre.highest, code.post.highest)
+    } else {
+        (0, 0)
     }
 }
 
@@ -72,6 +85,7 @@ impl Course {
         load(alloc, port, &code)?;
         let store = Store::new(alloc, &job.flat.objects)?;
         let server = Server::new(alloc, &job.flat, &job.split, store)?;
-        Ok(Course::new(alloc, server, job.writeback))
+        let (pre_stages, post_stages) = stages_in(job.fine, &code);
+        Ok(Course::new(alloc, server, job.writeback, pre_stages, post_stages))
     }
 }

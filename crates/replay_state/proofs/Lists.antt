@@ -1,5 +1,5 @@
 -- lists: what is at a place, members and weights, after an edit
-use Rattle.std.proofs.Common.{◌≡◌, ℕ, ◌+◌, ◌*◌, cond, eqb, List, [], ◌∷◌, ◌++◌, ◌<◌, Option, Some, None, ◌⊎◌, inl, inr, refl, sym, ◌∙◌, ap, subst, arith, zero, suc, length, map, set}
+use Rattle.std.proofs.Common.{◌≡◌, ℕ, ◌+◌, ◌*◌, cond, eqb, List, [], ◌∷◌, ◌++◌, ◌<◌, ◌≤◌, Option, Some, None, ◌⊎◌, inl, inr, refl, sym, ◌∙◌, ap, subst, arith, zero, suc, length, map, set}
 use Rattle.std.specs.Prelude.{slice_get, remove}
 use Rattle.std.proofs.lemmas.Bool.{cases_eq, eq-eqb, ne_eqb}
 use Rattle.std.proofs.lemmas.Option.{same_Some}
@@ -84,6 +84,14 @@ pub weight_set : {X : Type 0} (f : X → ℕ) (xs : List X) (j : ℕ) (x y : X) 
 weight_set f [] j x y g e = cc
 weight_set f (z ∷ xs) zero x y g e = let d = ap f (same_Some _ _ g) in omega arith
 weight_set f (z ∷ xs) (suc j) x y g e = let r = weight_set f xs j x y g e in omega arith
+
+-- two places weigh what both have
+pub weight_two : {X : Type 0} (f : X → ℕ) (xs : List X) (i j : ℕ) (x y : X) → slice_get xs i ≡ Some x → slice_get xs j ≡ Some y → (i ≡ j → ⊥) → f x + f y ≤ weight f xs
+weight_two f [] i j x y g h d = cc
+weight_two f (z ∷ xs) zero zero x y g h d = absurd (d refl)
+weight_two f (z ∷ xs) zero (suc j) x y g h d = let e = ap f (same_Some _ _ g) in let r = weight_remove f xs j y h in omega arith
+weight_two f (z ∷ xs) (suc i) zero x y g h d = let e = ap f (same_Some _ _ h) in let r = weight_remove f xs i x g in omega arith
+weight_two f (z ∷ xs) (suc i) (suc j) x y g h d = let r = weight_two f xs i j x y g h (λ e. d (ap suc e)) in omega arith
 
 -- 1 where the numbers are equal
 abbrev pub is : ℕ → ℕ → ℕ

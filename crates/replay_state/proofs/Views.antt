@@ -190,4 +190,5 @@ module _ (tables : Law) (looks : Looks) (setup : Setup) (a : Answers) (law : Are
       record {
         each = λ j o x g rep. v.views x (get_member w.passes j x g) o rep;
         kept = λ j x g. k.in_order.kept x.version (v.low x (get_member w.passes j x g));
+        begun = λ j x g. let low = v.low x (get_member w.passes j x g) in let all = k.fine.counts.stores in omega arith;
       }

@@ -7,6 +7,7 @@ use Rattle.replay_state.specs.Answers.{Answers, Setup}
 use Rattle.replay_state.specs.State.{State, first_state}
 use Rattle.run_model.specs.declared.event.Event.TheVariants.{Admit, Stage, Serve, Send, Apply, Ack, Hold, Down}
 use Rattle.replay_state.specs.Step.{steps}
+use Rattle.replay_state.specs.Drain.{drain_events}
 
 abbrev pub one : Update
 one = record { object = 0; key = []; to = Gone }
@@ -64,3 +65,14 @@ abbrev pub half_sent : State
 half_sent = steps (record (toy_setup 0 0 true) { total = 3 }) (toy 2 1) (first_state [])
     (Admit ∷ (Admit ∷ (Admit ∷ (Serve 0 ∷ (Send ∷ (Serve 0 ∷ (Serve 0 ∷ (Send ∷ (Send ∷ (Send ∷ (Send ∷ (Send ∷ (Send
     ∷ (Send ∷ (Send ∷ [])))))))))))))))
+
+-- Drain from the start, each pass in its stages: one packet that makes no change; and two, of which the second comes in
+-- when nothing of the first is left to do.
+abbrev pub drained : Setup → Answers → State
+drained setup a = let first = first_state [] in steps setup a first (drain_events setup a first)
+
+abbrev pub one_drained : State
+one_drained = drained (record (toy_setup 3 1 false) { total = 1 }) (toy 0 0)
+
+abbrev pub two_drained : State
+two_drained = drained (toy_setup 3 1 false) (toy 1 0)

@@ -1,6 +1,6 @@
 -- A split program: what it does to whole packets, and what its parts on the switch and on the server do.
 use Rattle.std.specs.Prelude.{◌≡◌, ◌≤◌, ◌<◌, ℕ, Bool, true}
-use Rattle.std.specs.Prelude.{false, ◌&&◌, if◌then◌else◌, List, [], length, Some, None}
+use Rattle.std.specs.Prelude.{◌&&◌, if◌then◌else◌, List, [], length, Some, None}
 use Rattle.std.specs.Prelude.{slice_get, get_or}
 use Rattle.packet_fields.specs.declared.packet.Packet.{Packet}
 use Rattle.packet_fields.specs.declared.verdict.Verdict.{Verdict}
@@ -92,9 +92,9 @@ pub record Manner : Type 0 where
   pub fine : Bool
   pub merges : Bool
 
--- each pass takes one event, and each batch takes up those behind it that fit
-abbrev pub plain_manner : Manner
-plain_manner = record { fine = false; merges = true }
+-- a fine run or a plain one, in which each batch takes up those behind it that fit
+abbrev pub manner_of : Bool → Manner
+manner_of fine = record { fine = fine; merges = true }
 
 abbrev pub setup_of : SplitProgram → List Packet → Manner → Setup
 setup_of s packets manner = record {

@@ -6,23 +6,15 @@ use Rattle.packet_fields.specs.declared.verdict.Verdict.{Verdict}
 use Rattle.state_store.specs.Store.{Store, start_store}
 use Rattle.writeback_table.specs.declared.command.Update.{Update}
 use Rattle.writeback_table.specs.declared.command.Command.{Command}
-use Rattle.writeback_table.specs.declared.command.Command.TheVariants as command
+pub use Rattle.writeback_table.specs.Views.{disturbs}
 use Rattle.run_model.specs.declared.event.Event.{Event}
 use Rattle.run_model.specs.declared.event.Event.TheVariants.{Admit, Stage, Serve, Send, Apply, Ack, Hold, Down}
 use Rattle.replay_state.specs.Answers.{Answers, Setup}
-use Rattle.output_commit.specs.Batches.{Batch, commands_in, merged, visible}
+use Rattle.output_commit.specs.Batches.{commands_in, merged, visible}
 use Rattle.replay_state.specs.State.{State, Pass, Progress, Entered, Up, Held, Slow, Fast, first_state}
 use Rattle.replay_state.specs.State.{bit_behind, store_at, seen}
 
 -- ## Where an event applies
-
--- the command changes what a pass sees that entered with this bit: the main tables, or what is staged
-abbrev pub disturbs : Bool → Command → Bool
-disturbs bit (command.Stage update) = bit
-disturbs bit command.On = false
-disturbs bit (command.Main update) = not bit
-disturbs bit command.Off = false
-disturbs bit (command.Clear object key) = false
 
 -- it waits for a pass under way that it disturbs
 abbrev pub waits : List Pass → Option Command → Bool
@@ -135,10 +127,12 @@ came_down setup a st j None = st
 came_down setup a st j (Some n) =
     entered a (record st { down = remove st.down j }) (pass_of st false n setup.post_stages)
 
+-- the next packet has come, and its pass enters
+abbrev pub came : State → State
+came st = record st { progress = st.progress ++ Entered st.events (seen st) ∷ [] }
+
 abbrev pub admitted : Setup → Answers → State → State
-admitted setup a st =
-    entered a (record st { progress = st.progress ++ Entered st.events (seen st) ∷ [] })
-    (pass_of st true (length st.progress) setup.pre_stages)
+admitted setup a st = entered a (came st) (pass_of st true (length st.progress) setup.pre_stages)
 
 abbrev pub happens : Setup → Answers → State → Event → State
 happens setup a st Admit = admitted setup a st

@@ -1,5 +1,5 @@
 -- What a pass under way sees of the objects that the switch keeps.
-use Rattle.std.specs.Prelude.{◌≡◌, ℕ, true, Some, slice_get}
+use Rattle.std.specs.Prelude.{◌≡◌, ◌<◌, ℕ, true, Some, length, slice_get}
 use Rattle.state_store.specs.Kept.{IsKept}
 use Rattle.state_store.specs.Store.{Contents, Store, object_at}
 use Rattle.writeback_table.specs.Pair.{visible}
@@ -17,6 +17,8 @@ pub record KeepViews (setup : Setup) (st : State) : Type 0 where
       → view_of setup st pass o ≡ (object_at (store_at st.stores pass.version) o).contents
   pub kept : (j : ℕ) (pass : Pass) → slice_get st.passes j ≡ Some pass
       → IsKept setup.objects (store_at st.stores pass.version)
+  -- which is one of those so far
+  pub begun : (j : ℕ) (pass : Pass) → slice_get st.passes j ≡ Some pass → pass.version < length st.stores
 
 -- the pass that a packet would enter with now, or one that is under way, sees the objects of this store
 abbrev pub Sees : Setup → State → Pass → Store → Type 0

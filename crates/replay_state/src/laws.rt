@@ -17,7 +17,8 @@ ghost use Rattle.replay_state.specs.Answers.{Answers, Setup, meaning_of};
 ghost use Rattle.replay_state.specs.Commands.{applied_by, offs};
 ghost use Rattle.replay_state.specs.Drain.{Drains, IsFirstOf, Picks, drain_bound, drain_events, drain_order};
 ghost use Rattle.replay_state.specs.Drain.{events_left, is_drained, is_quiet, next_event};
-ghost use Rattle.replay_state.specs.Examples.{half_sent, main_waits, some_updates, stage_waits, two_batches};
+ghost use Rattle.replay_state.specs.Examples.{half_sent, main_waits, one_drained, some_updates, stage_waits};
+ghost use Rattle.replay_state.specs.Examples.{two_batches, two_drained};
 ghost use Rattle.replay_state.specs.Places.{HavePlaces};
 ghost use Rattle.replay_state.specs.Run.{job_run, seen_store};
 ghost use Rattle.replay_state.specs.Sound.{AreFew, AreSound};
@@ -210,4 +211,7 @@ pub fn worked_runs()
         × (map (λ (b : Batch). b.versions) half_sent.batches ≡ 1 ∷ (2 ∷ []))
         × (length (commands_in half_sent.batches) ≡ 16) }
     ensures doubles { count_of 0 (some_updates 2) ≡ 2 }
+    ensures drained { (one_drained.events ≡ 8) × (one_drained.progress ≡ Slow 1 5 0 verdict.Drop 8 ∷ []) }
+    ensures in_turn { (two_drained.events ≡ 31) × (two_drained.idle ≡ 0) × (two_drained.version ≡ 1)
+        × (two_drained.progress ≡ Slow 1 5 1 verdict.Drop 23 ∷ (Slow 24 28 1 verdict.Drop 31 ∷ [])) }
 {}

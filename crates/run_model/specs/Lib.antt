@@ -2,6 +2,5 @@ pub mod Fate
 pub mod Order
 pub mod Parts
 pub mod Sizes
-pub mod Stages
 pub mod Meaning
 pub mod Serialises

@@ -1,10 +1,9 @@
 -- What holds of the value of each line holds of all values of a text.
-use Rattle.std.proofs.Common.{ℕ, suc, ◌+◌, Bool, true, false, List, [], ◌∷◌, length}
+use Rattle.std.proofs.Common.{ℕ, suc, Bool, true, false, List, [], ◌∷◌, length}
 use Rattle.std.specs.Prelude.{All, IfOk, Result, Ok, Err, nat_le, if◌then◌else◌}
-use Rattle.std.specs.List.{after_first, before_first}
-use Rattle.std.proofs.lemmas.List.Elements.{All-nil, All-cons, All-append}
+use Rattle.std.proofs.lemmas.List.Elements.{All-nil, All-cons}
 use Rattle.gal_io.specs.Lines.{is_skipped}
-use Rattle.run_text.specs.Trace.{after_drain, at_most, followed_by, line_values, values_until, with_line}
+use Rattle.run_text.specs.Trace.{at_most, line_values, with_line}
 use Rattle.run_text.specs.declared.refusal.LineKind.{LineKind}
 use Rattle.run_text.specs.declared.refusal.LinesError.{LinesError}
 use Rattle.run_text.specs.declared.refusal.LinesError.TheVariants.{TooMany}
@@ -26,15 +25,3 @@ all_lines P value each n (l ∷ ls) =
 pub all_of_most : {X : Type 0} (P : X → Type 0) (most : ℕ) (given : Result (List X) LinesError) → IfOk given (All P) → IfOk (at_most most given) (All P)
 all_of_most P most (Ok xs) h = elim (nat_le (length xs) most) as (λ b. IfOk (if b then Ok xs else Err (TooMany (length xs) most)) (All P)) [ true ↦ h | false ↦ tt ]
 all_of_most P most (Err e) h = tt
-
-both : {X : Type 0} (P : X → Type 0) (first behind : Result (List X) LinesError) → IfOk first (All P) → IfOk behind (All P) → IfOk (followed_by first behind) (All P)
-both P (Ok xs) (Ok ys) h k = All-append P xs ys h k
-both P (Ok xs) (Err e) h k = tt
-both P (Err e) behind h k = tt
-
--- also where a line ends them, since none is read behind it
-pub all_until : {X : Type 0} (P : X → Type 0) (ends : List ℕ → Bool) (value : List ℕ → Result X LineKind) → ((line : List ℕ) → IfOk (value line) P) → (ls : List (List ℕ)) → IfOk (values_until ends value ls) (All P)
-all_until P ends value each ls =
-    let before = before_first ends ls in
-    both P (line_values value 1 before) (line_values after_drain (length before + 2) (after_first ends ls))
-    (all_lines P value each 1 before) (all_lines P after_drain (λ line. tt) (length before + 2) (after_first ends ls))

@@ -1,7 +1,6 @@
 pub mod LineSteps
 pub mod AllValues
 pub mod ShortPackets
-pub mod WholePasses
 pub mod Numbers
 pub mod PrintedLines
 pub mod PrintedBack

@@ -71,14 +71,11 @@ followed_with_line : {X : Type 0} (n : ℕ) (given : Result X LineKind) (first b
 followed_with_line n (Ok x) first behind = followed_in_front x first behind
 followed_with_line n (Err kind) first behind = refl
 
--- the lines before the one that ends the values, and then those behind it
-abbrev Parted : {X : Type 0} → (List ℕ → Bool) → (List ℕ → Result X LineKind) → ℕ → List (List ℕ) → Result (List X) LinesError
-Parted ends value n ls = followed_by (line_values value n (before_first ends ls)) (line_values after_drain (length (before_first ends ls) + suc n) (after_first ends ls))
-
-parted : {X : Type 0} (ends : List ℕ → Bool) (value : List ℕ → Result X LineKind) (n : ℕ) (ls : List (List ℕ)) → ahead_values ends value false n ls ≡ Parted ends value n ls
-parted ends value n [] = refl
-parted ends value n (l ∷ ls) =
-    let rest = parted ends value (suc n) ls in
+-- the lines before the one that ends the values, and then those behind it, are all lines
+pub all_lines : {X : Type 0} (ends : List ℕ → Bool) (value : List ℕ → Result X LineKind) (n : ℕ) (ls : List (List ℕ)) → ahead_values ends value false n ls ≡ values_until ends value n ls
+all_lines ends value n [] = refl
+all_lines ends value n (l ∷ ls) =
+    let rest = all_lines ends value (suc n) ls in
     let next : n + 1 ≡ suc n = omega arith in
     let first : 0 + suc n ≡ suc n = omega arith in
     let at : 1 + position_or_len ends ls ≡ suc (position_or_len ends ls) = omega arith in
@@ -92,10 +89,6 @@ parted ends value n (l ∷ ls) =
       ])))))
     ]
 
--- all lines, from the first
-pub all_lines : {X : Type 0} (ends : List ℕ → Bool) (value : List ℕ → Result X LineKind) (ls : List (List ℕ)) → ahead_values ends value false 1 ls ≡ values_until ends value ls
-all_lines ends value ls = parted ends value 1 ls
-
 -- before any line is read, none is kept
 pub first_stands : {X : Type 0} (given whole : Result (List X) LinesError) (kept : List X) (most : ℕ) → given ≡ whole → kept ≡ [] → Stands given whole kept 0 most
 first_stands (Ok xs) whole kept most same none = (xs, sym same, omega arith, λ few. rw none refl)
@@ -108,5 +101,5 @@ not_ended value n (l ∷ ls) =
     rw next (rw (not_ended value (suc n) ls) refl)
 
 -- where no line ends the values, all lines have one
-pub none_ends : {X : Type 0} (value : List ℕ → Result X LineKind) (ls : List (List ℕ)) → values_until (λ _. false) value ls ≡ line_values value 1 ls
-none_ends value ls = sym (all_lines (λ _. false) value ls) ∙ not_ended value 1 ls
+pub none_ends : {X : Type 0} (value : List ℕ → Result X LineKind) (ls : List (List ℕ)) → values_until (λ _. false) value 1 ls ≡ line_values value 1 ls
+none_ends value ls = sym (all_lines (λ _. false) value 1 ls) ∙ not_ended value 1 ls

@@ -1,5 +1,5 @@
 -- Traces and schedules that are printed read back.
-use Rattle.std.proofs.Common.{◌≡◌, ℕ, suc, inl, inr, ◌<◌, ◌≤◌, ◌/◌, ◌%◌, Bool, true, false, ◌&&◌, leb, eqb, List, [], ◌∷◌, ◌++◌, length, map, Some, refl, sym, ap, ◌∙◌, arith}
+use Rattle.std.proofs.Common.{◌≡◌, ℕ, suc, inl, inr, ◌<◌, ◌≤◌, ◌+◌, ◌/◌, ◌%◌, Bool, true, false, ◌&&◌, leb, eqb, List, [], ◌∷◌, ◌++◌, length, map, Some, None, refl, sym, ap, ◌∙◌, arith}
 use Rattle.std.specs.Prelude.{Ok, codes, slice_index}
 use Rattle.std.specs.Fmt.{decimal}
 use Rattle.std.specs.Str.{all_ascii_digits, bytes_eq}
@@ -18,9 +18,9 @@ use Rattle.run_model.specs.declared.event.Event.{Event}
 use Rattle.run_model.specs.declared.event.Event.TheVariants.{Admit, Stage, Serve, Send, Apply, Ack, Hold, Down}
 use Rattle.run_text.specs.declared.plan.Plan.{Plan}
 use Rattle.run_text.specs.Report.{body_text}
-use Rattle.run_text.specs.Printed.{IsLineOf, drain_lines, event_text, lined, packet_text, schedule_text, trace_text}
+use Rattle.run_text.specs.Printed.{IsLineOf, drain_lines, event_text, fine_lines, lined, packet_text, schedule_text, trace_text}
 use Rattle.run_model.specs.Sizes.{most_packets, most_events}
-use Rattle.run_text.specs.Trace.{at_most, body_of, event_line, is_drain, largest, numbered, packet_line, schedule_of, trace_of, values_until}
+use Rattle.run_text.specs.Trace.{at_most, behind_fine, body_of, event_line, is_drain, largest, numbered, packet_line, plan_behind, plan_by, schedule_of, trace_of, values_until}
 use Rattle.run_text.proofs.LineSteps.{ahead_values, all_lines}
 use Rattle.run_text.proofs.ShortPackets.{trace_values}
 use Rattle.run_text.proofs.Numbers.{decimal_digits, read_again}
@@ -106,8 +106,8 @@ pub trace_back : (packets : List Packet) → AreLines packet_line packet_text pa
 trace_back packets h few =
     let text = trace_text packets in
     let read : lines text ≡ map packet_text packets ++ [] = ap lines (sym (append-nil text)) ∙ lines_lined packet_line packet_text packets [] h in
-    let values : values_until (λ _. false) packet_line (lines text) ≡ Ok packets =
-    sym (all_lines (λ _. false) packet_line (lines text)) ∙ ap (ahead_values (λ _. false) packet_line false 1) read
+    let values : values_until (λ _. false) packet_line 1 (lines text) ≡ Ok packets =
+    sym (all_lines (λ _. false) packet_line 1 (lines text)) ∙ ap (ahead_values (λ _. false) packet_line false 1) read
     ∙ values_lined (λ _. false) packet_line packet_text packets 1 [] h (λ x. refl) (λ m. refl) in
     sym (trace_values text) ∙ ap (at_most most_packets) values ∙ within most_packets packets few
 
@@ -134,6 +134,13 @@ down_back j fits = record {
   says = ap (numbered Down) (read_again largest j fits (omega arith));
 }
 
+pub stage_back : (j : ℕ) → j ≤ largest → IsLineOf event_line (event_text (Stage j)) (Stage j)
+stage_back j fits = record {
+  whole = digits_plain (decimal j) (decimal_digits j (omega arith));
+  told = refl;
+  says = ap (numbered Stage) (read_again largest j fits (omega arith));
+}
+
 no_drain : (event : Event) → is_drain (event_text event) ≡ false
 no_drain Admit = refl
 no_drain (Stage j) = refl
@@ -156,16 +163,49 @@ drain_alone : (drain : Bool) (m : ℕ) → ahead_values is_drain event_line fals
 drain_alone true m = refl
 drain_alone false m = refl
 
-pub schedule_back : (plan : Plan) → AreLines event_line event_text plan.events → length plan.events ≤ most_events → schedule_of (schedule_text plan) ≡ Ok plan
-schedule_back plan h few =
-    let text = schedule_text plan in
+-- the lines of events, with `drain` behind them where it is asked for
+abbrev Lined : Plan → List (List ℕ)
+Lined plan = map event_text plan.events ++ drain_lines plan.drain
+
+lines_read : (plan : Plan) → AreLines event_line event_text plan.events → lines (lined (map event_text plan.events) ++ lined (drain_lines plan.drain)) ≡ Lined plan
+lines_read plan h =
+    lines_lined event_line event_text plan.events (lined (drain_lines plan.drain)) h ∙ ap (λ ls. map event_text plan.events ++ ls) (drain_read plan.drain)
+
+-- they spell the plan, whatever stands in front of them
+lines_planned : (plan : Plan) (n : ℕ) → AreLines event_line event_text plan.events → length plan.events ≤ most_events → plan_behind plan.fine n (Lined plan) ≡ Ok plan
+lines_planned plan n h few =
     let events = plan.events in
     let behind = drain_lines plan.drain in
-    let read : lines text ≡ map event_text events ++ behind =
-    lines_lined event_line event_text events (lined behind) h ∙ ap (λ ls. map event_text events ++ ls) (drain_read plan.drain) in
-    let drain : list_any is_drain (lines text) ≡ plan.drain =
-    ap (list_any is_drain) read ∙ none_lined is_drain event_text events behind no_drain ∙ drain_there plan.drain in
-    let values : values_until is_drain event_line (lines text) ≡ Ok events =
-    sym (all_lines is_drain event_line (lines text)) ∙ ap (ahead_values is_drain event_line false 1) read
-    ∙ values_lined is_drain event_line event_text events 1 behind h no_drain (drain_alone plan.drain) in
+    let drain : list_any is_drain (Lined plan) ≡ plan.drain = none_lined is_drain event_text events behind no_drain ∙ drain_there plan.drain in
+    let values : values_until is_drain event_line (n + 1) (Lined plan) ≡ Ok events =
+    sym (all_lines is_drain event_line (n + 1) (Lined plan)) ∙ values_lined is_drain event_line event_text events (n + 1) behind h no_drain (drain_alone plan.drain) in
     rw (drain, values, within most_events events few) refl
+
+no_fine_drain : (drain : Bool) → behind_fine 0 (drain_lines drain) ≡ None
+no_fine_drain true = refl
+no_fine_drain false = refl
+
+-- no event is the word `fine`
+no_fine : (events : List Event) (drain : Bool) → behind_fine 0 (map event_text events ++ drain_lines drain) ≡ None
+no_fine [] drain = no_fine_drain drain
+no_fine (Admit ∷ events) drain = refl
+no_fine (Stage j ∷ events) drain = refl
+no_fine (Serve j ∷ events) drain = refl
+no_fine (Send ∷ events) drain = refl
+no_fine (Apply ∷ events) drain = refl
+no_fine (Ack ∷ events) drain = refl
+no_fine (Hold j ∷ events) drain = refl
+no_fine (Down j ∷ events) drain = refl
+
+fine_read : (text : List ℕ) → lines (lined (fine_lines true) ++ text) ≡ codes "fine" ∷ lines text
+fine_read text = refl
+
+planned_by : (plan : Plan) (fine : Bool) (text : List ℕ) → plan.fine ≡ fine → lines text ≡ Lined plan
+    → ((n : ℕ) → plan_behind fine n (Lined plan) ≡ Ok plan) → schedule_of (lined (fine_lines fine) ++ text) ≡ Ok plan
+planned_by plan true text is read told =
+    ap (λ ls. plan_by ls (behind_fine 0 ls)) (fine_read text) ∙ ap (plan_behind true 1) read ∙ told 1
+planned_by plan false text is read told =
+    ap (λ ls. plan_by ls (behind_fine 0 ls)) read ∙ ap (plan_by (Lined plan)) (no_fine plan.events plan.drain) ∙ told 0
+
+pub schedule_back : (plan : Plan) → AreLines event_line event_text plan.events → length plan.events ≤ most_events → schedule_of (schedule_text plan) ≡ Ok plan
+schedule_back plan h few = planned_by plan plan.fine _ refl (lines_read plan h) (λ n. lines_planned plan n h few)

@@ -58,5 +58,5 @@ pub short_trace : (text : List ℕ) → IfOk (trace_of text) (All IsShortPacket)
 short_trace text = all_of_most IsShortPacket most_packets (line_values packet_line 1 (lines text)) (all_lines IsShortPacket packet_line short_line 1 (lines text))
 
 -- a trace has no last line, so its packets are those of all lines
-pub trace_values : (text : List ℕ) → at_most most_packets (values_until (λ _. false) packet_line (lines text)) ≡ trace_of text
+pub trace_values : (text : List ℕ) → at_most most_packets (values_until (λ _. false) packet_line 1 (lines text)) ≡ trace_of text
 trace_values text = ap (at_most most_packets) (none_ends packet_line (lines text))

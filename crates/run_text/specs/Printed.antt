@@ -41,6 +41,11 @@ abbrev pub drain_lines : Bool → List (List ℕ)
 drain_lines true = codes "drain" ∷ []
 drain_lines false = []
 
--- a line for each event, and `drain` behind them where it is asked for
+abbrev pub fine_lines : Bool → List (List ℕ)
+fine_lines true = codes "fine" ∷ []
+fine_lines false = []
+
+-- a line for each event, with `fine` before them and `drain` behind them where these are asked for
 abbrev pub schedule_text : Plan → List ℕ
-schedule_text plan = lined (map event_text plan.events) ++ lined (drain_lines plan.drain)
+schedule_text plan =
+    lined (fine_lines plan.fine) ++ (lined (map event_text plan.events) ++ lined (drain_lines plan.drain))

@@ -1,5 +1,5 @@
 -- The text of a trace, and of a schedule: which values a text spells, or why it is refused.
-use Rattle.std.specs.Prelude.{ℕ, suc, ◌+◌, ◌-◌, ◌^◌, Bool, List, [], ◌∷◌, ◌++◌, length, nat_le, ◌==◌}
+use Rattle.std.specs.Prelude.{ℕ, suc, ◌+◌, ◌-◌, ◌^◌, Bool, true, false, List, [], ◌∷◌, ◌++◌, length, nat_le, ◌==◌}
 use Rattle.std.specs.Prelude.{if◌then◌else◌, Option, Some, None, Result, Ok, Err, codes}
 use Rattle.std.specs.Str.{bytes_eq}
 use Rattle.std.specs.List.{before_first, after_first, list_any}
@@ -9,7 +9,7 @@ use Rattle.gal_io.specs.Lines.{lines, is_skipped}
 use Rattle.gal_io.specs.Number.{number_up_to}
 use Rattle.packet_fields.specs.declared.packet.Packet.{Packet}
 use Rattle.run_model.specs.declared.event.Event.{Event}
-use Rattle.run_model.specs.declared.event.Event.TheVariants.{Admit, Serve, Send, Apply, Ack, Hold, Down}
+use Rattle.run_model.specs.declared.event.Event.TheVariants.{Admit, Stage, Serve, Send, Apply, Ack, Hold, Down}
 use Rattle.run_text.specs.declared.plan.Plan.{Plan}
 use Rattle.run_text.specs.declared.refusal.LineKind.{LineKind}
 use Rattle.run_text.specs.declared.refusal.LineKind.TheVariants.{Form, Number, Hex, Long, AfterDrain}
@@ -45,12 +45,13 @@ followed_by (Err e) behind = Err e
 abbrev pub after_drain : {X : Type 0} → List ℕ → Result X LineKind
 after_drain line = Err AfterDrain
 
--- the values of the lines before the first one that ends them; behind that one, none may stand
-abbrev pub values_until : {X : Type 0} → (List ℕ → Bool) → (List ℕ → Result X LineKind) → List (List ℕ)
+-- the values of the lines before the first one that ends them, which are numbered from n on; behind that one, none may
+-- stand
+abbrev pub values_until : {X : Type 0} → (List ℕ → Bool) → (List ℕ → Result X LineKind) → ℕ → List (List ℕ)
     → Result (List X) LinesError
-values_until ends value ls =
+values_until ends value n ls =
     let before = before_first ends ls in
-    followed_by (line_values value 1 before) (line_values after_drain (length before + 2) (after_first ends ls))
+    followed_by (line_values value n before) (line_values after_drain (length before + suc n) (after_first ends ls))
 
 -- at most so many values; their number is tested where no line is refused
 abbrev pub at_most : {X : Type 0} → ℕ → Result (List X) LinesError → Result (List X) LinesError
@@ -116,9 +117,11 @@ event_by None line =
     if bytes_eq letter (codes "u") then item_line Serve line
     else (if bytes_eq letter (codes "h") then item_line Hold line
     else (if bytes_eq letter (codes "d") then item_line Down line
-    else Err Form))
+    else (if bytes_eq letter (codes "s") then item_line Stage line
+    else Err Form)))
 
--- A line of a schedule is one of `a`, `c`, `w` and `k`, or one of `u`, `h` and `d`, a space and a number below 2 ^ 32.
+-- A line of a schedule is one of `a`, `c`, `w` and `k`, or one of `u`, `h`, `d` and `s`, a space and a number below
+-- 2 ^ 32.
 abbrev pub event_line : List ℕ → Result Event LineKind
 event_line line = event_by (word_event line) line
 
@@ -126,11 +129,30 @@ event_line line = event_by (word_event line) line
 abbrev pub is_drain : List ℕ → Bool
 is_drain line = bytes_eq line (codes "drain")
 
-abbrev pub plan_of : Bool → Result (List Event) LinesError → Result Plan LinesError
-plan_of drain (Ok events) = Ok (record { events = events; drain = drain })
-plan_of drain (Err e) = Err e
+-- the word that begins a schedule whose passes take an event for each stage
+abbrev pub is_fine : List ℕ → Bool
+is_fine line = bytes_eq line (codes "fine")
 
--- the plan that the text of a schedule spells: its events, and whether `drain` stands behind them
+-- How many lines there are up to the word `fine`, and those behind it, where it is the first line that isn't skipped.
+-- In front of these stand n others.
+abbrev pub behind_fine : ℕ → List (List ℕ) → Option (ℕ × List (List ℕ))
+behind_fine n [] = None
+behind_fine n (l ∷ ls) =
+    if is_skipped l then behind_fine (n + 1) ls else (if is_fine l then Some (n + 1, ls) else None)
+
+abbrev pub plan_of : Bool → Bool → Result (List Event) LinesError → Result Plan LinesError
+plan_of fine drain (Ok events) = Ok (record { fine = fine; events = events; drain = drain })
+plan_of fine drain (Err e) = Err e
+
+-- the plan that lines spell in front of which n others stand: their events, and whether `drain` stands behind them
+abbrev pub plan_behind : Bool → ℕ → List (List ℕ) → Result Plan LinesError
+plan_behind fine n ls =
+    plan_of fine (list_any is_drain ls) (at_most most_events (values_until is_drain event_line (n + 1) ls))
+
+abbrev pub plan_by : List (List ℕ) → Option (ℕ × List (List ℕ)) → Result Plan LinesError
+plan_by ls None = plan_behind false 0 ls
+plan_by ls (Some (n, behind)) = plan_behind true n behind
+
+-- the plan that the text of a schedule spells; it is fine where its first line says so
 abbrev pub schedule_of : List ℕ → Result Plan LinesError
-schedule_of text =
-    plan_of (list_any is_drain (lines text)) (at_most most_events (values_until is_drain event_line (lines text)))
+schedule_of text = plan_by (lines text) (behind_fine 0 (lines text))

@@ -1,5 +1,5 @@
 //! Values of which each stands on a line of a text.
-ghost use Rattle.std.specs.Prelude.{◌≡◌, ◌≤◌, ◌⊎◌, length, IfOk, IfErr, MatchOption, true, false, Ok, Err};
+ghost use Rattle.std.specs.Prelude.{◌≡◌, ◌≤◌, ◌<◌, ◌⊎◌, ◌+◌, ◌^◌, length, IfOk, IfErr, MatchOption, true, false, Ok, Err};
 ghost use Rattle.std.specs.Prelude.{not, ◌&&◌, if◌then◌else◌};
 ghost use Rattle.std.specs.List.{after_first, before_first, list_any, position_or_len};
 ghost use Rattle.gal_io.specs.Lines.{lines};
@@ -78,21 +78,24 @@ fn read_line<V: LineValue>(
     V::from_line(alloc, line)
 }
 
-/// The values of the lines of a text. Those past the first `most` are counted and not kept.
+/// The values of the lines of a text, in front of which so many lines stand. Those past the first `most` are counted
+/// and not kept.
 pub(crate) fn read_values<V: LineValue>(
     alloc: Global,
     text: &[u8],
+    before: usize,
     most: usize,
 ) -> Result<LineValues<V>, LinesError>
+    requires few { before + length text.now < 2 ^ 64 }
     ensures ok { IfOk result (λ values.
-        at_most most (values_until V.line_ends V.line_gives (lines text.now)) ≡ Ok values.items.items) }
+        at_most most (values_until V.line_ends V.line_gives (before + 1) (lines text.now)) ≡ Ok values.items.items) }
     ensures ended { IfOk result (λ values. values.ended ≡ list_any V.line_ends (lines text.now)) }
     ensures err { IfErr result (λ e. (e ≡ LinesError.NoMemory)
-        ⊎ (at_most most (values_until V.line_ends V.line_gives (lines text.now)) ≡ Err e)) }
+        ⊎ (at_most most (values_until V.line_ends V.line_gives (before + 1) (lines text.now)) ≡ Err e)) }
 {
     let mut items = Vec::new(alloc);
-    let mut have = 0;
-    let mut number: usize = 0;
+    let mut have: usize = 0;
+    let mut number = before;
     let mut ended = false;
     let mut ahead = text;
     while let Some((line, behind)) = split_line(ahead) {

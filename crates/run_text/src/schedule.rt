@@ -1,17 +1,17 @@
 //! The text of a schedule.
-ghost use Rattle.std.specs.Prelude.{◌≡◌, ◌≤◌, ◌⊎◌, ◌++◌, ◌∷◌, length, decimal, map, All, OnOk, IfOk, IfErr};
-ghost use Rattle.std.specs.Prelude.{MatchResult, Some, None, Ok, Err, false};
+ghost use Rattle.std.specs.Prelude.{◌≡◌, ◌≤◌, ◌<◌, ◌+◌, ◌^◌, ◌⊎◌, ◌++◌, ◌∷◌, length, decimal, map, All, OnOk, IfOk, IfErr};
+ghost use Rattle.std.specs.Prelude.{IfSome, MatchOption, MatchResult, Some, None, Ok, Err};
+ghost use Rattle.gal_io.specs.Lines.{lines};
 ghost use Rattle.gal_io.specs.Number.{number_up_to};
 ghost use Rattle.run_model.specs.Sizes.{most_events};
-ghost use Rattle.run_model.specs.Stages.{NoStages, is_stage};
 ghost use Rattle.run_text.specs.Printed.{IsLineOf, event_text, lined, schedule_text};
 ghost use Rattle.run_text.specs.Report.{line_end};
-ghost use Rattle.run_text.specs.Trace.{event_line, is_drain, largest, schedule_of, word_event};
+ghost use Rattle.run_text.specs.Trace.{behind_fine, event_line, is_drain, largest, plan_behind, schedule_of, word_event};
 
 use crate::line_value::{LineValue, read_values, split_at_space};
 use crate::plan::Plan;
 use crate::refusal::{LineKind, LinesError, MAX_EVENTS};
-use gal_io::{NoMemory, Text, number_up_to};
+use gal_io::{NoMemory, Text, is_skipped, number_up_to, split_line};
 use run_model::{Event, Events};
 use std::alloc::Global;
 
@@ -51,6 +51,7 @@ fn read_event(line: &[u8]) -> Result<Event, LineKind>
         [b'u'] => Ok(Event::Serve(read_item(item)?)),
         [b'h'] => Ok(Event::Hold(read_item(item)?)),
         [b'd'] => Ok(Event::Down(read_item(item)?)),
+        [b's'] => Ok(Event::Stage(read_item(item)?)),
         _ => Err(LineKind::Form),
     }
 }
@@ -69,19 +70,56 @@ impl LineValue for Event {
     }
 }
 
+// How many lines there are up to the word `fine`, and what stands behind it, where it is the first line that isn't
+// skipped.
+fn split_fine(text: &[u8]) -> Option<(usize, &[u8])>
+    ensures parts { MatchOption result (behind_fine 0 (lines text.now) ≡ None)
+        (λ parts. behind_fine 0 (lines text.now) ≡ Some (parts.0, lines parts.1.now)) }
+    ensures few { IfSome result (λ parts. parts.0 + length parts.1.now ≤ length text.now) }
+{
+    let mut number: usize = 0;
+    let mut ahead = text;
+    while let Some((line, behind)) = split_line(ahead) {
+        number += 1;
+        ahead = behind;
+        if is_skipped(line) {
+            continue;
+        }
+        if line == b"fine".as_slice() {
+            return Some((number, ahead));
+        }
+        return None;
+    }
+    None
+}
+
+// The plan that a text spells in front of which so many lines stand.
+fn read_plan(alloc: Global, fine: bool, before: usize, text: &[u8]) -> Result<Plan, LinesError>
+    requires few { before + length text.now < 2 ^ 64 }
+    ensures ok { IfOk result (λ plan. plan_behind fine before (lines text.now) ≡ Ok plan) }
+    ensures err { IfErr result (λ e. (e ≡ LinesError.NoMemory) ⊎ (plan_behind fine before (lines text.now) ≡ Err e)) }
+    ensures few { IfOk result (λ plan. length plan.events ≤ most_events) }
+{
+    let lines = read_values(alloc, text, before, MAX_EVENTS)?;
+    Ok(Plan {
+        fine,
+        events: Events::from(lines.items),
+        drain: lines.ended,
+    })
+}
+
 /// The plan of a schedule. A line is `a` for the next packet of the trace, `c`, `w` or `k` for the next command to be
-/// sent, applied or acknowledged, or `u`, `h` or `d`, a space and the number of an item in decimal; `drain` may end it.
+/// sent, applied or acknowledged, or `u`, `h`, `d` or `s`, a space and the number of an item in decimal. The line `fine`
+/// may come before them, and `drain` may end it.
 pub fn read_schedule(alloc: Global, text: &[u8]) -> Result<Plan, LinesError>
     ensures ok { IfOk result (λ plan. schedule_of text.now ≡ Ok plan) }
     ensures err { IfErr result (λ e. (e ≡ LinesError.NoMemory) ⊎ (schedule_of text.now ≡ Err e)) }
     ensures few { IfOk result (λ plan. length plan.events ≤ most_events) }
-    ensures whole { IfOk result (λ plan. NoStages plan.events) }
 {
-    let lines = read_values(alloc, text, MAX_EVENTS)?;
-    Ok(Plan {
-        events: Events::from(lines.items),
-        drain: lines.ended,
-    })
+    match split_fine(text) {
+        Some((before, behind)) => read_plan(alloc, true, before, behind),
+        None => read_plan(alloc, false, 0, text),
+    }
 }
 
 // An item behind the letter of its event.
@@ -96,7 +134,7 @@ fn put_item(letter: u8, item: u32, text: &mut Text) -> Result<(), NoMemory>
 
 fn put_event(event: &Event, text: &mut Text) -> Result<(), NoMemory>
     ensures text { OnOk result (text.new ≡ text.old ++ event_text event.now) }
-    ensures back { is_stage event.now ≡ false → OnOk result (IsLineOf event_line (event_text event.now) event.now) }
+    ensures back { OnOk result (IsLineOf event_line (event_text event.now) event.now) }
 {
     match event {
         Event::Admit => text.push(b'a'),
@@ -112,8 +150,7 @@ fn put_event(event: &Event, text: &mut Text) -> Result<(), NoMemory>
 
 fn put_events(events: &[Event], text: &mut Text) -> Result<(), NoMemory>
     ensures text { OnOk result (text.new ≡ text.old ++ lined (map event_text events.now)) }
-    ensures back { OnOk result (All (λ event.
-        is_stage event ≡ false → IsLineOf event_line (event_text event) event) events.now) }
+    ensures back { OnOk result (All (λ event. IsLineOf event_line (event_text event) event) events.now) }
 {
     for event in events {
         put_event(event, text)?;
@@ -123,13 +160,15 @@ fn put_events(events: &[Event], text: &mut Text) -> Result<(), NoMemory>
 }
 
 /// The text of a schedule, with a line for each event. It reads back, where there are no more events than a schedule
-/// may have, and none is a stage of a pass.
+/// may have.
 pub fn print_schedule(alloc: Global, plan: &Plan) -> Result<Text, NoMemory>
     ensures text { IfOk result (λ text. text ≡ schedule_text plan.now) }
-    ensures back { length plan.now.events ≤ most_events → NoStages plan.now.events
-        → IfOk result (λ text. schedule_of text ≡ Ok plan.now) }
+    ensures back { length plan.now.events ≤ most_events → IfOk result (λ text. schedule_of text ≡ Ok plan.now) }
 {
     let mut text = Text::new(alloc);
+    if plan.fine {
+        text.extend(b"fine\n")?;
+    }
     put_events(plan.events.as_slice(), &mut text)?;
     if plan.drain {
         text.extend(b"drain\n")?;

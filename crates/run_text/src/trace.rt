@@ -65,7 +65,7 @@ pub fn read_trace(alloc: Global, text: &[u8]) -> Result<Packets, LinesError>
     ensures few { IfOk result (λ packets. length packets ≤ most_packets) }
     ensures short { IfOk result AreShort }
 {
-    let lines = read_values(alloc, text, MAX_PACKETS)?;
+    let lines = read_values(alloc, text, 0, MAX_PACKETS)?;
     Ok(Packets::of(lines.items))
 }
 

@@ -9,6 +9,7 @@ use Rattle.run_model.specs.declared.run.Run.{Run}
 use Rattle.switch_ir.specs.Port.{PortState}
 use Rattle.switch_ir.specs.Tables.{Told}
 use Rattle.split_answers.specs.Through.{HasTables}
+use Rattle.split_answers.specs.UnderWay.{AreOnSwitch}
 use Rattle.packet_fields.specs.declared.packet.Packet.{Packet}
 use Rattle.replay_state.specs.Answers.{Setup}
 use Rattle.replay_state.specs.Drain.{drain_bound, is_quiet, plan_events}
@@ -19,12 +20,12 @@ use Rattle.replay_state.specs.State.{State}
 use Rattle.replay_contracts.specs.Called.{KeepsCalls}
 use Rattle.replay_contracts.specs.Given.{Given, IsReady, setup_for, whole, whole_runs}
 use Rattle.replay_contracts.specs.Promise.{Promises, Reports, state_for}
-use Rattle.replay_contracts.specs.Replay.{IsReplay, answered}
+use Rattle.replay_contracts.specs.Replay.{IsReplay, IsTold, answered}
 use Rattle.replay_contracts.specs.Replayer.{IsReported, IsRunOf, is_port_fault}
 use Rattle.replay_contracts.specs.declared.job.Replayed.{Replayed}
 use Rattle.replay_contracts.specs.declared.job.ReplayError.{ReplayError}
 use Rattle.replay_course.specs.declared.course.Course.{Course}
-use Rattle.replay_course.specs.Going.{IsGoing, IsPlain}
+use Rattle.replay_course.specs.Going.{IsGoing, IsPrepared}
 use Rattle.replay_course.specs.Shown.{IsShown}
 use Rattle.replay_course.specs.UnderWay.{IsDrained, IsUnderWay, course_left}
 use Rattle.schedule_replay.specs.Ended.{HasEnded}
@@ -32,7 +33,7 @@ use Rattle.schedule_replay.specs.Ended.{HasEnded}
 -- ## The laws that are used
 
 abbrev pub BoundLaw : Type 0
-BoundLaw = (x : Given) → IsPlain x → length x.packets ≤ 16384 → drain_bound (setup_for x) < 2 ^ 30
+BoundLaw = (x : Given) → IsPrepared x → length x.packets ≤ 16384 → drain_bound (setup_for x) < 2 ^ 30
 
 abbrev pub LeftLaw : Type 0
 LeftLaw = (x : Given) (events : List Event) (calls : List Call) (st : State) (c : Course) (port : PortState)
@@ -64,7 +65,7 @@ pub few_to_drain : BoundLaw → LeftLaw → (x : Given) (events : List Event) (c
     → length x.packets ≤ 16384 → length events ≤ 1048576 → c.events + course_left x c < 2 ^ 32 - 1
 few_to_drain bound left x events c port u packets few =
     few_by c.events (length events) (course_left x c) (drain_bound (setup_for x)) u.counted few
-    (left x events u.calls u.st c port u.replay u.shown u.going) (bound x u.going.plain packets)
+    (left x events u.calls u.st c port u.replay u.shown u.going) (bound x u.going.prepared packets)
 
 pub ended_drained : (x : Given) (events : List Event) (drain : Bool) (count : ℕ) (c after : Course) (old new : PortState) → drain ≡ true
     → IsUnderWay x events c old → IsDrained x count c old after new → HasEnded x events drain after old new
@@ -100,7 +101,7 @@ ended_at_once x events drain c port is u =
 -- ## The report
 
 pub keeps_all : (port : PortState) → KeepsCalls port port
-keeps_all port = record { code = refl; told = refl; journal = refl; spare = omega arith; faults = refl }
+keeps_all port = record { code = refl; told = refl; passes = refl; journal = refl; spare = omega arith; faults = refl }
 
 pub kept_replay : (x : Given) (events : List Event) (calls : List Call) (st : State) (old new : PortState) → IsReplay x events calls st old
     → KeepsCalls old new → IsReplay x events calls st new
@@ -108,7 +109,8 @@ kept_replay x events calls st old new replay kept = record {
   answered = replay.answered;
   called = record { loaded = kept.code ∙ replay.called.loaded; journal = kept.journal ∙ replay.called.journal };
   formed = replay.formed;
-  told = λ tables is. replay.told tables (sym kept.told ∙ is);
+  passes = subst (AreOnSwitch (setup_for x) x.packets st) (sym kept.passes) replay.passes;
+  told = λ tables is. subst (IsTold x events calls st tables) (sym kept.passes) (replay.told tables (sym kept.told ∙ is));
 }
 
 -- what was told behind calls for rows is told of the port as it is then
@@ -151,7 +153,7 @@ is_run_of run_law promise_law quiet_law x events drain c first port new replayed
     let plan = plan_events setup (answered x ended.calls) events drain in
     let same_plan = plan_events setup (whole_runs x) events drain in
     let reports = says ended.calls ended.last ended.shown in
-    let ready = ended.going.plain.ready in
+    let ready = ended.going.prepared.ready in
     let told = some_of port.told tells in
     let plans : plan ≡ same_plan = ended.told told.0 told.1 in
     let run = run_law x plan ended.calls ended.last port new replayed.run replayed.commands told.0 ready ended.replay reports told.1 in

@@ -17,7 +17,7 @@ use Rattle.replay_contracts.specs.declared.job.Replayed.{Replayed}
 use Rattle.replay_contracts.specs.declared.job.ReplayError.{ReplayError}
 use Rattle.replay_contracts.specs.declared.job.Stepped.{Stepped}
 use Rattle.replay_course.specs.declared.course.Course.{Course}
-use Rattle.replay_course.specs.Going.{HasRoomNext, HasTurned, IsGoing}
+use Rattle.replay_course.specs.Going.{HasTurned, IsGoing, MayCall}
 use Rattle.replay_course.specs.Shown.{IsShown}
 use Rattle.replay_course.specs.UnderWay.{HasGone, IsDrained, IsOnItsWay, course_left}
 use Rattle.schedule_replay.specs.Replayer.{IsKept, IsPerforming, view_of}
@@ -34,7 +34,7 @@ OnLaw = (x : Given) (events : List Event) (event : Event) (calls one : List Call
 
 abbrev pub OneLaw : Type 0
 OneLaw = (x : Given) (events : List Event) (calls others : List Call) (st other : State) (port : PortState)
-    → IsReady x → x.manner.fine ≡ false → IsReplay x events calls st port → IsReplay x events others other port
+    → IsReady x → IsReplay x events calls st port → IsReplay x events others other port
     → (calls ≡ others) × (st ≡ other)
 
 abbrev pub LessLaw : Type 0
@@ -44,7 +44,7 @@ LessLaw = (x : Given) (events : List Event) (event : Event) (stepped : Stepped) 
 
 abbrev pub FindsRoom : Type 0
 FindsRoom = (x : Given) (events : List Event) (calls : List Call) (st : State) (c : Course) (port : PortState)
-    → IsReplay x events calls st port → IsShown (whole x) calls st c → IsGoing x c port → HasRoomNext c port
+    → IsReplay x events calls st port → IsShown (whole x) calls st c → IsGoing x c port → MayCall x c port
 
 -- ## Lists of events
 
@@ -63,7 +63,7 @@ shown_at : OneLaw → (x : Given) (events : List Event) (c : Course) (port : Por
     → IsPerforming x events c port steps → IsReplay x events calls st port → IsShown (whole x) calls st c
 shown_at one x events c port steps calls st now is =
     let u = now.under_way in
-    let same = one x events u.calls calls u.st st port u.going.plain.ready (ap (λ m. m.fine) u.going.plain.manner) u.replay is in
+    let same = one x events u.calls calls u.st st port u.going.prepared.ready u.replay is in
     subst (λ s. IsShown (whole x) calls s c) same.1 (subst (λ cs. IsShown (whole x) cs u.st c) same.0 u.shown)
 
 few_by : (events n left steps bound : ℕ) → events ≡ n → n + left ≤ steps + bound → steps ≤ 1048576 → bound < 2 ^ 30 → events + left < 2 ^ 32 - 1
@@ -74,14 +74,14 @@ pub few_left : BoundLaw → (x : Given) (c : Course) (port : PortState) (steps :
 few_left bound x c port steps failed stands none =
     let now = stands.performed none in
     few_by c.events (length stands.events) (course_left x c) steps (drain_bound (setup_for x)) now.under_way.counted now.left stands.within
-    (bound x now.under_way.going.plain stands.few_packets)
+    (bound x now.under_way.going.prepared stands.few_packets)
 
 pub few_events : BoundLaw → (x : Given) (c : Course) (port : PortState) (steps : ℕ) (failed : Option ReplayError) → IsKept x c port steps failed
     → failed ≡ None → c.events < 2 ^ 32 - 1
 few_events bound x c port steps failed stands none = let few = few_left bound x c port steps failed stands none in omega arith
 
 pub room_there : FindsRoom → (x : Given) (c : Course) (port : PortState) (steps : ℕ) (failed : Option ReplayError) → IsKept x c port steps failed
-    → failed ≡ None → HasRoomNext c port
+    → failed ≡ None → MayCall x c port
 room_there law x c port steps failed stands none =
     let u = (stands.performed none).under_way in
     law x stands.events u.calls u.st c port u.replay u.shown u.going
@@ -105,7 +105,7 @@ stands_by x events c port steps failed packets within now = record {
   within = within;
   events = events;
   alive = record {
-    ready = now.under_way.going.plain.ready;
+    ready = now.under_way.going.prepared.ready;
     few = few_of _ _ _ _ now.left;
     replay = λ none. (now.under_way.calls, now.under_way.st, now.under_way.replay);
   };
@@ -165,7 +165,7 @@ step_performs law less x events event stepped c after old new steps turned now =
       under_way = record {
         calls = u.calls ++ t.one;
         st = step (setup_for x) (answered x (u.calls ++ t.one)) u.st event;
-        replay = law x events event u.calls t.one u.st old new u.going.plain.ready u.replay t.asks t.called;
+        replay = law x events event u.calls t.one u.st old new u.going.prepared.ready u.replay t.asks t.called;
         shown = t.shown;
         going = turned.going;
         counted = turned.counted ∙ ap (λ n. n + 1) u.counted ∙ sym (length_push events event);
@@ -186,7 +186,7 @@ has_stepped one law x events event stepped c after old new steps failed none tur
   applied = λ calls st is. (turned.turns events calls st is (shown_at one x events c old steps calls st now is)).stepped_so;
   next = λ calls st is.
       let t = turned.turns events calls st is (shown_at one x events c old steps calls st now is) in
-      (t.one, law x events event calls t.one st old new now.under_way.going.plain.ready is t.asks t.called);
+      (t.one, law x events event calls t.one st old new now.under_way.going.prepared.ready is t.asks t.called);
 }
 
 pub step_stands : OnLaw → LessLaw → (x : Given) (event : Event) (stepped : Stepped) (c after : Course) (old new : PortState) (steps : ℕ)
@@ -246,7 +246,7 @@ has_emptied one x events count c after old new steps failed none done now =
       failed = none;
       stays = done.stays;
       next = λ calls st is.
-          let same = (one x events u.calls calls u.st st old u.going.plain.ready (ap (λ m. m.fine) u.going.plain.manner) u.replay is).0 in (
+          let same = (one x events u.calls calls u.st st old u.going.prepared.ready u.replay is).0 in (
             on.others,
             on.last,
             subst (λ cs. HasPicked x events on.more (cs ++ on.others) on.last new) same on.picked,
@@ -287,7 +287,7 @@ report_performs x events replayed c old new steps says now =
         replay = kept_replay x events u.calls u.st old new u.replay kept;
         shown = u.shown;
         going = record {
-          plain = u.going.plain;
+          prepared = u.going.prepared;
           sound = u.going.sound;
           loaded = kept.code ∙ u.going.loaded;
           spare = spare_kept _ _ _ u.going.spare kept.spare;
@@ -302,7 +302,7 @@ pub has_reported : OneLaw → RunLaw → PromiseLaw → (x : Given) (events : Li
     → HasReported (view_of x events steps old failed) replayed (view_of x events steps new failed)
 has_reported one run_law promise_law x events replayed c old new steps failed none says now =
     let u = now.under_way in
-    let ready = u.going.plain.ready in
+    let ready = u.going.prepared.ready in
     let here = says u.calls u.st u.shown in
     record {
       given = refl;

@@ -17,7 +17,7 @@ use replay_contracts::{
     Job, ReplayError, Replayed, Stepped, a_journal_determines_its_replay, a_replay_goes_on,
     a_run_keeps_its_promises, a_told_replay_reports_the_run,
 };
-use replay_course::{Course, few_events_are_left, the_next_command_finds_room};
+use replay_course::{Course, few_events_are_left, the_next_calls_may_be_made};
 use run_model::{Event, Events};
 use std::alloc::Global;
 use switch_ir::SwitchPort;
@@ -50,6 +50,7 @@ fn copy_job(alloc: Global, job: &Job) -> Result<Job, NoMemory>
         split: job.split.copy(alloc)?,
         writeback: job.writeback,
         packets: job.packets.copy(alloc)?,
+        fine: job.fine,
         events: Events::new(alloc),
         drain: false,
     })
@@ -132,7 +133,7 @@ impl<S: SwitchPort> Replayer<S> {
         a_journal_determines_its_replay();
         a_replay_goes_on();
         few_events_are_left();
-        the_next_command_finds_room();
+        the_next_calls_may_be_made();
         if let Some(error) = self.failed {
             return Err(error);
         }

@@ -95,7 +95,7 @@ keys_there : (objects : List ObjectDecl) (o : ℕ) (widths : List ℕ) (found : 
 keys_there objects o widths None is fit = absurd (false≢true fit)
 keys_there objects o widths (Some d) is fit = slice_get_within objects o d is
 
-looked_there : (f : Program) (o : ℕ) (work : Work) → looks_at o work ≡ true → fits f work ≡ true → o < length f.objects
+pub looked_there : (f : Program) (o : ℕ) (work : Work) → looks_at o work ≡ true → fits f work ≡ true → o < length f.objects
 looked_there f o (look object keys) looks fit =
     subst (λ k. k < length f.objects) (eqb-true object o looks) (keys_there f.objects object (widths_of f keys) (slice_get f.objects object) refl fit)
 looked_there f o (const width number) looks fit = absurd (false≢true looks)
@@ -120,6 +120,16 @@ pub shown_there : (f : Program) (split : List Part) (o : ℕ) → IsWellFormed f
 shown_there f split o well shown =
     let found = some_below (length f.code) (λ i. is_pre split i && looks_at o (step_at f i).work) shown in
     looked_there f o (step_at f found.0).work (and_parts (is_pre split found.0) (looks_at o (step_at f found.0).work) found.2).1 (well.fit found.0 found.1)
+
+post_there : (f : Program) (split : List Part) (o : ℕ) → IsWellFormed f → is_post_shown f split o ≡ true → o < length f.objects
+post_there f split o well shown =
+    let found = some_below (length f.code) (λ i. is_post split i && looks_at o (step_at f i).work) shown in
+    looked_there f o (step_at f found.0).work (and_parts (is_post split found.0) (looks_at o (step_at f found.0).work) found.2).1 (well.fit found.0 found.1)
+
+-- an object that is looked up is declared
+pub looked_up_declared : (f : Program) (split : List Part) (o : ℕ) → IsWellFormed f → is_looked_up f split o ≡ true → (d : ObjectDecl) × (slice_get f.objects o ≡ Some d)
+looked_up_declared f split o well looked =
+    there_at f.objects o (⊎_elim (shown_there f split o well) (post_there f split o well) (or_cases (is_shown f split o) (is_post_shown f split o) looked))
 
 -- a look of postprocessing is one of a constant table
 looks_constant : (f : Program) (o : ℕ) (work : Work) → looks_at o work ≡ true → is_mutable_look f work ≡ false → is_constant f.objects o ≡ true

@@ -8,3 +8,6 @@ mod Commanded
 mod Seen
 mod Passed
 mod Tells
+mod InStages
+mod Lacking
+mod Knowing

@@ -1,5 +1,5 @@
 -- What a pass over the tables that are told answers.
-use Rattle.std.proofs.Common.{◌≡◌, ◌<◌, ◌^◌, ℕ, Bool, true, false, not, ◌&&◌, ◌||◌, List, get_or, map, Some, None, refl, sym, ap, ◌∙◌, subst, if◌then◌else◌}
+use Rattle.std.proofs.Common.{◌≡◌, ◌<◌, ◌^◌, ℕ, Bool, true, false, not, ◌&&◌, ◌||◌, List, get_or, map, Some, None, refl, sym, ap, ◌∙◌, if◌then◌else◌}
 use Rattle.std.specs.List.{All, filter}
 use Rattle.std.proofs.lemmas.Bool.{and_parts, cond-true}
 use Rattle.std.proofs.lemmas.List.Elements.{All-map, filter_passes}
@@ -26,16 +26,14 @@ use Rattle.transfer_header.specs.Told.{reads_in, AreToldByPlace, IsToldByPlace}
 use Rattle.transfer_header.specs.Values.{value_by, Agree}
 use Rattle.writeback_table.specs.declared.command.Command.{Command}
 use Rattle.split_answers.specs.Whole.{whole_of, IsSplit}
-use Rattle.replay_state.specs.Journal.{UpAnswer, Finished, SentUp, GoingUp}
+use Rattle.replay_state.specs.Journal.{UpAnswer, Finished, SentUp, GoingUp, is_up_end}
 use Rattle.replay_state.specs.Told.{IsRight}
 use Rattle.switch_ir.specs.declared.port.DownEnd.TheVariants as down
-use Rattle.switch_ir.specs.declared.port.UpEnd.{UpEnd}
-use Rattle.switch_ir.specs.declared.port.UpEnd.TheVariants as up
 use Rattle.switch_ir.specs.Emitted.{emitted, Computes}
-use Rattle.switch_ir.specs.Meaning.{goes_up, leaves, up_values, up_verdict}
+use Rattle.switch_ir.specs.Meaning.{down_end, goes_up, leaves, up_values, up_verdict}
 use Rattle.switch_ir.specs.Port.{EndsDown, EndsUp}
 use Rattle.switch_ir.specs.Tables.{Told, seen_tables}
-use Rattle.split_answers.specs.Through.{IsEndOf, IsThrough}
+use Rattle.split_answers.specs.Through.{IsThrough, end_of}
 use Rattle.split_answers.proofs.Seen.{AreSeen, has_replicated, is_loaded}
 
 -- What holds of the code, of the passes and of frames.
@@ -107,35 +105,29 @@ module _ (laws : UpLaws) (f : Program) (split : List Part) (writeback : ℕ) (st
       ∙ laws.carried f split st tables packet is.bounded.formed is.legal has_tables ready v carried
       ∙ sym (laws.carried f split st start packet is.bounded.formed is.legal has_tables (loaded f split start (laws.tables f start is.kept)) v carried)
 
-  is_right : (answer : UpAnswer) (end : UpEnd) → IsEndOf end answer → EndsUp (emitted f split writeback) told number packet end → IsRight (whole_of f split writeback) st number packet (Some answer)
-  is_right (Finished verdict) end same ends =
-      let own : EndsUp (emitted f split writeback) told number packet (up.Finished verdict) = subst (EndsUp (emitted f split writeback) told number packet) same ends in
-      one_of (is_fast f split st packet) (flat_verdict f st packet) verdict (sym verdict_is ∙ own)
-  is_right (SentUp frame) end same ends =
+  pub passes_up : (answer : UpAnswer) → EndsUp (emitted f split writeback) told number packet (end_of answer) → is_up_end answer ≡ true → IsRight (whole_of f split writeback) st number packet (Some answer)
+  passes_up (Finished verdict) own ended = one_of (is_fast f split st packet) (flat_verdict f st packet) verdict (sym verdict_is ∙ own)
+  passes_up (SentUp frame) own ended =
       let code = emitted f split writeback in
-      let own : EndsUp code told number packet (up.Up frame) = subst (EndsUp code told number packet) same ends in
       let reads : Reading = up_values code tables packet in
       let none : up_verdict code tables packet ≡ None = cond-true (goes_up code reads) None (Some (leaves code.pre reads packet)) own.0 in (
         none_of (is_fast f split st packet) (flat_verdict f st packet) (sym verdict_is ∙ none),
         own.1 ∙ laws.alike 1 (up_layout f split) number packet.port (value_by reads) (value_by (pre_values f split (start_store f.objects) packet)) packet.bytes
             (each_crossing f (crosses_up f split) (λ (c : Crossing). value_by reads c ≡ value_by (pre_values f split (start_store f.objects) packet) c) carried_is),
       )
-  is_right GoingUp end same ends = absurd same
-
-  pub passes_up : (end : UpEnd) (answer : UpAnswer) → EndsUp (emitted f split writeback) told number packet end → IsEndOf end answer → IsRight (whole_of f split writeback) st number packet (Some answer)
-  passes_up end answer ends same = is_right answer end same ends
+  passes_up GoingUp own ended = cc
 
 -- ## Down
 
 module _ (laws : DownLaws) (f : Program) (split : List Part) (writeback : ℕ) (commands : List Command) (told : Told) (frame : List ℕ) (is : IsSplit f split writeback) (through : IsThrough (emitted f split writeback) commands told) (framed : IsFrame 2 (down_layout f split) frame) where
-  abbrev layout : List Crossing
+  abbrev pub layout : List Crossing
   layout = down_layout f split
 
-  abbrev reads : Reading
+  abbrev pub reads : Reading
   reads = reads_in layout frame
 
   -- the frame is that of the numbers that stand in it by place
-  own_frame : IsFrameOf 2 layout framed.number framed.port (value_by reads) framed.packet frame
+  pub own_frame : IsFrameOf 2 layout framed.number framed.port (value_by reads) framed.packet frame
   own_frame =
       let by_place = laws.values f split 2 framed.number framed.port framed.values framed.packet frame framed.is in
       let same : Agree layout framed.values (value_by reads) =
@@ -148,11 +140,17 @@ module _ (laws : DownLaws) (f : Program) (split : List Part) (writeback : ℕ) (
         short = framed.is.short;
       }
 
-  pub passes_down : (verdict : Verdict) → EndsDown (emitted f split writeback) told frame (down.Verdict verdict) → verdict ≡ (whole_of f split writeback).post frame
-  passes_down verdict ends =
+  abbrev pub arrived : Packet
+  arrived = record { port = framed.port; bytes = framed.packet }
+
+  -- a verdict is right that is the code's of these numbers
+  pub verdict_down : (verdict : Verdict) → verdict ≡ down_end (emitted f split writeback) (value_by reads) (seen_tables told) arrived → verdict ≡ (whole_of f split writeback).post frame
+  verdict_down verdict own =
       let start : Store = start_store f.objects in
-      let P : Packet = record { port = framed.port; bytes = framed.packet } in
-      ends framed.number framed.port (value_by reads) framed.packet own_frame
-      ∙ (laws.computes f split writeback is.legal).verdict reads (seen_tables told) P
-      ∙ (laws.posted f split start (seen_tables told) P reads is.legal (loaded f split start (laws.tables f start is.kept)) (is_loaded f split writeback is commands told through)).verdict
+      own
+      ∙ (laws.computes f split writeback is.legal).verdict reads (seen_tables told) arrived
+      ∙ (laws.posted f split start (seen_tables told) arrived reads is.legal (loaded f split start (laws.tables f start is.kept)) (is_loaded f split writeback is commands told through)).verdict
       ∙ sym (ap (down_verdict f split reads start) (laws.parts 2 layout framed.number framed.port framed.values framed.packet frame framed.is).carries)
+
+  pub passes_down : (verdict : Verdict) → EndsDown (emitted f split writeback) told frame (down.Verdict verdict) → verdict ≡ (whole_of f split writeback).post frame
+  passes_down verdict ends = verdict_down verdict (ends framed.number framed.port (value_by reads) framed.packet own_frame)

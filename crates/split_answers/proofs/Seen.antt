@@ -27,9 +27,9 @@ use Rattle.server_runtime.specs.Serving.{IsUpdateIn}
 use Rattle.split_answers.specs.Whole.{IsSplit}
 use Rattle.split_answers.specs.Through.{first_pair}
 use Rattle.switch_ir.specs.declared.port.RowsEnd.TheVariants as rows
-use Rattle.switch_ir.specs.Emitted.{emitted}
+use Rattle.switch_ir.specs.Emitted.{emitted, is_looked_up}
 use Rattle.switch_ir.specs.Port.{EndsSeen, IsCommandOf, IsReplicatedIn, IsUpdateOf}
-use Rattle.switch_ir.specs.Tables.{Told, has_room_in, no_pair, pair_at, seen_object, seen_tables, start_pair}
+use Rattle.switch_ir.specs.Tables.{Told, has_room_in, no_pair, pair_at, seen_object, seen_tables, start_pair, view_of}
 use Rattle.split_answers.specs.Through.{HasTables, IsThrough}
 use Rattle.split_answers.proofs.Declared.{can_change, constant_at, declared_parts, declared_there, replicated_parts, shown_there, started_at, there_at}
 
@@ -128,11 +128,11 @@ as_declared d object kept =
 
 -- ## The tables that lookups see
 
-object_seen : (told : Told) (o : ℕ) → o < length told.pairs → object_at (seen_tables told) o ≡ seen_object told.bit (pair_at told.pairs o)
-object_seen told o within =
-    unwrap_or-slice_get (seen_tables told) o no_object
-    ∙ get_or-map (seen_object told.bit) told.pairs o no_pair no_object within
-    ∙ ap (seen_object told.bit) (sym (unwrap_or-slice_get told.pairs o no_pair))
+object_viewed : (bit : Bool) (pairs : List Pair) (o : ℕ) → o < length pairs → object_at (view_of bit pairs) o ≡ seen_object bit (pair_at pairs o)
+object_viewed bit pairs o within =
+    unwrap_or-slice_get (view_of bit pairs) o no_object
+    ∙ get_or-map (seen_object bit) pairs o no_pair no_object within
+    ∙ ap (seen_object bit) (sym (unwrap_or-slice_get pairs o no_pair))
 
 seen_all : (o : ℕ) (pair : Pair) (commands : List Command) → seen_after o pair commands (length commands) ≡ visible (bit_through false commands) (pair_through o pair commands)
 seen_all o pair commands = ap (λ cs. visible (bit_through false cs) (pair_through o pair cs)) (take_all (length commands) commands (omega arith))
@@ -142,15 +142,17 @@ abbrev pub AreSeen : Program → List Part → ℕ → Store → List Command �
 AreSeen f split writeback st commands = (o : ℕ) → is_replicated f split o ≡ true → seen_after o (first_pair f writeback o) commands (length commands) ≡ (object_at st o).contents
 
 module _ (f : Program) (split : List Part) (writeback : ℕ) (is : IsSplit f split writeback) (commands : List Command) (told : Told) (through : IsThrough (emitted f split writeback) commands told) where
-  -- constant tables have their declared rows
+  -- constant tables have their declared rows, whatever the bit
+  pub constant_viewed : (bit : Bool) (o : ℕ) (d : ObjectDecl) → slice_get f.objects o ≡ Some d → is_table d.kind ≡ true → is_looked_up f split o ≡ true
+      → object_at (view_of bit told.pairs) o ≡ start_object d
+  constant_viewed bit o d at table looked =
+      let there = declared_there f split o d looked at in
+      object_viewed bit told.pairs o (through.there o d there)
+      ∙ ap (seen_object bit) (through.constant o d there table)
+      ∙ ap (λ contents. holding contents (start_object d)) (sees_start bit d writeback)
+
   pub is_loaded : HasDeclaredTables f split (seen_tables told)
-  is_loaded = record {
-    rows = λ o d at table looked.
-        let there = declared_there f split o d looked at in
-        object_seen told o (through.there o d there)
-        ∙ ap (seen_object told.bit) (through.constant o d there table)
-        ∙ ap (λ contents. holding contents (start_object d)) (sees_start told.bit d writeback);
-  }
+  is_loaded = record { rows = constant_viewed told.bit }
 
   -- the pair of a replicated object is the world's
   pub pair_is : (o : ℕ) → is_replicated f split o ≡ true → pair_at told.pairs o ≡ pair_through o (first_pair f writeback o) commands
@@ -158,23 +160,30 @@ module _ (f : Program) (split : List Part) (writeback : ℕ) (is : IsSplit f spl
       let d = is_declared f split writeback o is shown in
       through.pairs o d.0 d.1 ∙ ap (λ p. pair_through o p commands) (sym (same_start f split writeback o d.0 (declared_parts f split o d.0 d.1.declared).1 d.1.changes))
 
-  contents_seen : (o : ℕ) → is_replicated f split o ≡ true → visible told.bit (pair_at told.pairs o) ≡ seen_after o (first_pair f writeback o) commands (length commands)
-  contents_seen o shown =
-      ap (λ b. visible b (pair_at told.pairs o)) through.bit ∙ ap (visible (bit_through false commands)) (pair_is o shown)
+  -- by the bit that stands now, lookups see what the world says
+  pub seen_now : (o : ℕ) → visible told.bit (pair_through o (first_pair f writeback o) commands) ≡ seen_after o (first_pair f writeback o) commands (length commands)
+  seen_now o =
+      ap (λ b. visible b (pair_through o (first_pair f writeback o) commands)) through.bit
       ∙ sym (seen_all o (first_pair f writeback o) commands)
 
-  pub has_replicated : (st : Store) → AreSeen f split writeback st commands → IsKept f.objects st → ShowsReplicated f split st (seen_tables told)
-  has_replicated st seen kept o shown =
+  contents_seen : (o : ℕ) → is_replicated f split o ≡ true → visible told.bit (pair_at told.pairs o) ≡ seen_after o (first_pair f writeback o) commands (length commands)
+  contents_seen o shown = ap (visible told.bit) (pair_is o shown) ∙ seen_now o
+
+  -- where lookups by a bit see the rows of a store that is kept, they see its object
+  pub replicated_viewed : (bit : Bool) (st : Store) (o : ℕ) → is_replicated f split o ≡ true → visible bit (pair_through o (first_pair f writeback o) commands) ≡ (object_at st o).contents
+      → IsKept f.objects st → object_at (view_of bit told.pairs) o ≡ object_at st o
+  replicated_viewed bit st o shown sees kept =
       let d = is_declared f split writeback o is shown in
       let at : slice_get f.objects o ≡ Some d.0 = (declared_parts f split o d.0 d.1.declared).1 in
-      let own = kept.each o d.0 at in
       let x : Object = object_at st o in
-      let contents : visible told.bit (pair_at told.pairs o) ≡ x.contents = contents_seen o shown ∙ seen o shown in
-      object_seen told o (through.there o d.0 d.1.declared)
-      ∙ ap (λ c. holding c (pair_at told.pairs o).main) contents
+      object_viewed bit told.pairs o (through.there o d.0 d.1.declared)
+      ∙ ap (λ c. holding c (pair_at told.pairs o).main) (ap (visible bit) (pair_is o shown) ∙ sees)
       ∙ ap (λ (p : Pair). holding x.contents p.main) (through.pairs o d.0 d.1)
       ∙ holds_through o (starting d.0 writeback) commands x.contents
-      ∙ as_declared d.0 x own
+      ∙ as_declared d.0 x (kept.each o d.0 at)
+
+  pub has_replicated : (st : Store) → AreSeen f split writeback st commands → IsKept f.objects st → ShowsReplicated f split st (seen_tables told)
+  has_replicated st seen kept o shown = replicated_viewed told.bit st o shown (seen_now o ∙ seen o shown) kept
 
   pub rows_seen : (st : Store) (o : ℕ) (list : List Row) → is_replicated f split o ≡ true → seen_after o (first_pair f writeback o) commands (length commands) ≡ (object_at st o).contents
       → EndsSeen told o (rows.Rows list) → list ≡ rows_of (object_at st o)

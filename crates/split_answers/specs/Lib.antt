@@ -1,3 +1,4 @@
 pub mod Whole
 pub mod Through
 pub mod Over
+pub mod UnderWay

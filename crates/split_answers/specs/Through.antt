@@ -13,9 +13,11 @@ use Rattle.split_model.specs.Shown.{is_replicated}
 use Rattle.switch_ir.specs.Code.{Code}
 use Rattle.switch_ir.specs.Port.{IsReplicatedIn}
 use Rattle.switch_ir.specs.Tables.{Told, declared_at, pair_at, start_pair}
-use Rattle.replay_state.specs.Journal.{UpAnswer, Finished, SentUp, GoingUp}
+use Rattle.replay_state.specs.Journal.{UpAnswer, Finished, SentUp, GoingUp, DownAnswer, Released, GoingDown}
 use Rattle.switch_ir.specs.declared.port.UpEnd.{UpEnd}
 use Rattle.switch_ir.specs.declared.port.UpEnd.TheVariants as up
+use Rattle.switch_ir.specs.declared.port.DownEnd.{DownEnd}
+use Rattle.switch_ir.specs.declared.port.DownEnd.TheVariants as down
 
 -- Each object that can change has the tables that these commands make of its start tables, one after the other, and so
 -- has the bit; constant tables are as they were loaded.
@@ -32,11 +34,15 @@ abbrev pub first_pair : Program → ℕ → ℕ → Pair
 first_pair f writeback o =
     record { main = object_at (start_store f.objects) o; staged = finmap.empty; room = writeback }
 
--- what an end of a pass says of its packet; one that goes on isn't answered yet
-abbrev pub IsEndOf : UpEnd → UpAnswer → Type 0
-IsEndOf end (Finished verdict) = end ≡ up.Finished verdict
-IsEndOf end (SentUp frame) = end ≡ up.Up frame
-IsEndOf end GoingUp = ⊥
+-- how a call ends that answers so
+abbrev pub end_of : UpAnswer → UpEnd
+end_of (Finished verdict) = up.Finished verdict
+end_of (SentUp frame) = up.Up frame
+end_of GoingUp = up.Going
+
+abbrev pub down_end_of : DownAnswer → DownEnd
+down_end_of (Released verdict) = down.Verdict verdict
+down_end_of GoingDown = down.Going
 
 -- the switch's tables are the store's: each replicated object is its main table, nothing is staged, and the bit is
 -- clear

@@ -4,15 +4,16 @@ ghost use Rattle.flat_ir.specs.Arrivals.{IsArrival};
 ghost use Rattle.flat_ir.specs.Program.{Program};
 ghost use Rattle.packet_fields.specs.declared.packet.Packet.{Packet};
 ghost use Rattle.packet_fields.specs.declared.verdict.Verdict.{Verdict};
-ghost use Rattle.replay_state.specs.Journal.{Call, IsAnswered, UpAnswer, asked, question_of};
+ghost use Rattle.replay_state.specs.Journal.{Call, IsAnswered, UpAnswer, asked, is_up_end, question_of};
 ghost use Rattle.replay_state.specs.Program.{IsSplitProgram, Manner, setup_of};
 ghost use Rattle.replay_state.specs.State.{State, applied_commands};
 ghost use Rattle.replay_state.specs.Step.{applies};
 ghost use Rattle.replay_state.specs.Told.{HasFrames, IsRight, IsTied, Tells};
 ghost use Rattle.run_model.specs.declared.event.Event.{Event};
+ghost use Rattle.run_model.specs.declared.event.Event.TheVariants.{Stage};
 ghost use Rattle.server_runtime.specs.Serving.{IsUpdateIn};
-ghost use Rattle.split_answers.specs.Over.{AreAnswersOver};
-ghost use Rattle.split_answers.specs.Through.{HasTables, IsEndOf, IsThrough, first_pair};
+ghost use Rattle.split_answers.specs.Over.{AreAnswersOver, IsGiven};
+ghost use Rattle.split_answers.specs.Through.{HasTables, IsThrough, end_of, first_pair};
 ghost use Rattle.split_answers.specs.Whole.{whole_of, IsSplit};
 ghost use Rattle.split_model.specs.Layouts.{down_layout};
 ghost use Rattle.split_model.specs.Shown.{is_replicated};
@@ -31,7 +32,6 @@ ghost use Rattle.switch_ir.specs.Port.{EndsDown, EndsSeen, EndsUp, IsCommandOf, 
 ghost use Rattle.switch_ir.specs.Tables.{IsStart, Told, has_room_in, pair_at, told_after};
 ghost use Rattle.switch_ir.specs.declared.port.DownEnd.TheVariants as down;
 ghost use Rattle.switch_ir.specs.declared.port.RowsEnd.TheVariants as rows;
-ghost use Rattle.switch_ir.specs.declared.port.UpEnd.{UpEnd};
 ghost use Rattle.transfer_header.specs.Frames.{IsFrame};
 ghost use Rattle.writeback_table.specs.Batches.{seen_after};
 ghost use Rattle.writeback_table.specs.Commands.{pair_through, room_for, bit_through};
@@ -45,9 +45,8 @@ use replay_state::{
 };
 use server_runtime::{a_served_packet_is_the_whole_run, what_the_switch_is_told_fits};
 use split_model::{
-    a_split_is_the_whole, carried_values_stand, kept_stores_have_tables,
-    postprocessing_reads_constant_tables, preprocessing_is_exact, replicated_objects_show,
-    what_preprocessing_reads_is_all,
+    carried_values_stand, kept_stores_have_tables, postprocessing_reads_constant_tables,
+    preprocessing_is_exact, replicated_objects_show, what_preprocessing_reads_is_all,
 };
 use state_store::rows_change_alone;
 use switch_ir::what_is_emitted_computes_the_split;
@@ -91,6 +90,14 @@ pub fn a_told_command_goes_through()
         → IsThrough code (commands ++ command ∷ []) (told_after command told) }
 {}
 
+/// The tables of a replicated object are those that the commands make of its start tables, one after the other.
+pub fn told_tables_are_those_of_the_commands()
+    ensures { (f : Program) (split : List Part) (writeback o : ℕ) (commands : List Command) (told : Told)
+        → IsSplit f split writeback → IsThrough (emitted f split writeback) commands told
+        → is_replicated f split o ≡ true
+        → pair_at told.pairs o ≡ pair_through o (first_pair f writeback o) commands }
+{}
+
 /// The code of a split program has tables for its replicated objects, and for no other object that can change.
 pub fn replicated_objects_are_declared()
     ensures there { (f : Program) (split : List Part) (writeback o : ℕ) → IsSplit f split writeback
@@ -116,13 +123,13 @@ pub fn a_told_command_finds_room()
 /// is finished with its verdict, and any other goes up in its frame.
 pub fn a_told_pass_up_is_right()
     ensures { (f : Program) (split : List Part) (writeback : ℕ) (st : Store) (commands : List Command) (told : Told)
-        (number : ℕ) (packet : Packet) (end : UpEnd) (answer : UpAnswer)
+        (number : ℕ) (packet : Packet) (answer : UpAnswer)
         → IsSplit f split writeback → IsKept f.objects st → IsArrival packet
         → IsThrough (emitted f split writeback) commands told
         → ((o : ℕ) → is_replicated f split o ≡ true
         → seen_after o (first_pair f writeback o) commands (length commands)
         ≡ (object_at st o).contents)
-        → EndsUp (emitted f split writeback) told number packet end → IsEndOf end answer
+        → EndsUp (emitted f split writeback) told number packet (end_of answer) → is_up_end answer ≡ true
         → IsRight (whole_of f split writeback) st number packet (Some answer) }
 {
     what_is_emitted_computes_the_split();
@@ -173,7 +180,7 @@ pub fn quiet_tables_are_the_stores()
 {}
 
 /// A switch that answers over the tables that it tells answers right, so that the state of its replay is that of whole
-/// packets. What is said of passes that go on stage by stage is empty until a switch has calls for them.
+/// packets. Where a pass ends that went on stage by stage, this rests on what the pass knows.
 pub fn a_switch_that_tells_its_tables_tells_right()
     ensures { (f : Program) (split : List Part) (writeback : ℕ) (packets : List Packet) (manner : Manner)
         (events : List Event) (event : Event) (calls one : List Call) (st : State) (tables : Told)
@@ -183,7 +190,8 @@ pub fn a_switch_that_tells_its_tables_tells_right()
         IsAnswered setup s packets events calls st → IsTied setup s packets calls events st
         → IsThrough (emitted f split writeback) (applied_commands st) tables
         → prelude.map question_of one ≡ asked setup s packets (calls ++ one) st event
-        → AreAnswersOver (emitted f split writeback) tables one
+        → Each (IsGiven (emitted f split writeback)) one → AreAnswersOver (emitted f split writeback) tables one
+        → ((j : ℕ) → event ≡ Stage j → Tells setup s packets (calls ++ one) st (Stage j))
         → applies setup st event ≡ true → Tells setup s packets (calls ++ one) st event) }
 {
     split_programs_have_their_laws();

@@ -10,3 +10,5 @@ pub mod LastReads
 pub mod Port
 pub mod Sound
 pub mod Once
+pub mod Staged
+pub mod UnderWay

@@ -1,10 +1,11 @@
 -- A switch as contracts see it, and what its calls do.
-use Rattle.std.specs.Prelude.{◌≡◌, ◌≤◌, ◌<◌, ◌^◌, ℕ, suc, Bool, true, false, ◌&&◌, List, [], ◌∷◌, ◌++◌, length, ⊤}
+use Rattle.std.specs.Prelude.{◌≡◌, ◌≤◌, ◌<◌, ◌^◌, ℕ, suc, nat_lt, Bool, true, false, ◌&&◌, List, [], ◌∷◌, ◌++◌, length, ⊤}
 use Rattle.std.specs.Prelude.{Option, Some, None, map, IfSome, IsSome, IsTrue}
 use Rattle.std.specs.Option.{option_map}
 use Rattle.std.specs.List.{AllByRecursion as Each}
 use Rattle.gal_io.specs.Count.{IsCountedIf}
 use Rattle.packet_fields.specs.declared.packet.Packet.{Packet}
+use Rattle.flat_ir.specs.Blocks.{Reading, nothing}
 use Rattle.state_store.specs.declared.object.Row.{Row}
 use Rattle.state_store.specs.declared.object.ObjectDecl.{ObjectDecl}
 use Rattle.state_store.specs.Kept.{have_widths}
@@ -18,8 +19,12 @@ use Rattle.writeback_table.specs.declared.command.Update.{Update}
 use Rattle.writeback_table.specs.Widths.{fits_update}
 use Rattle.writeback_table.specs.Pair.{visible_rows}
 use Rattle.switch_ir.specs.Code.{Code}
-use Rattle.switch_ir.specs.Meaning.{up_values, goes_up, up_verdict, down_end}
+use Rattle.switch_ir.specs.Meaning.{up_values, goes_up, up_verdict, down_end, down_given}
+use Rattle.switch_ir.specs.Staged.{pre_staging, post_staging, EndsBy, EndsDownBy}
 use Rattle.switch_ir.specs.Tables.{Told, IsStart, seen_tables, pair_at, told_after, declared_at, has_room_in}
+use Rattle.switch_ir.specs.UnderWay.{UnderWay, none_under_way, PassState, HasEntered, HasGoneOn, EndsWith, OthersStay}
+use Rattle.switch_ir.specs.UnderWay.{GoesUp, GoesDown, BegunUp, BegunDown, LeavesUp, LeavesDown}
+use Rattle.switch_ir.specs.UnderWay.{EndsUpAtOnce, EndsDownAtOnce, DisturbsNone}
 use Rattle.switch_ir.specs.declared.port.PortEnd.{PortEnd}
 use Rattle.switch_ir.specs.declared.port.PortEnd.TheVariants as port
 use Rattle.switch_ir.specs.declared.port.UpEnd.{UpEnd}
@@ -38,6 +43,8 @@ pub record PortState : Type 0 where
   pub code : Option Code
   -- the tables and the bit, where they are told
   pub told : Option Told
+  -- the passes that are under way
+  pub passes : UnderWay
   -- the calls since the code was loaded, with what they were given and how they ended, in order
   pub journal : List Entry
   -- for how many commands there is memory
@@ -45,8 +52,15 @@ pub record PortState : Type 0 where
   -- how many calls failed
   pub faults : ℕ
 
--- what no answer but that of a load or a command changes
+-- what no answer but that of a load, a command or a stage changes
 pub record Keeps (old new : PortState) : Type 0 where
+  pub code : new.code ≡ old.code
+  pub told : new.told ≡ old.told
+  pub passes : new.passes ≡ old.passes
+  pub spare : old.spare ≤ new.spare
+
+-- what a stage leaves as it was: the code, the tables and the bit
+pub record KeepsTables (old new : PortState) : Type 0 where
   pub code : new.code ≡ old.code
   pub told : new.told ≡ old.told
   pub spare : old.spare ≤ new.spare
@@ -63,10 +77,11 @@ abbrev pub StartsTold : Code → Option Told → Option Told → Type 0
 StartsTold code None new = new ≡ None
 StartsTold code (Some old) new = (told : Told) × (new ≡ Some told) × IsStart code told
 
--- the state with new code
+-- the state with new code, which ends all passes
 pub record IsLoadedWith (loaded : Code) (old new : PortState) : Type 0 where
   pub code : new.code ≡ Some loaded
   pub told : StartsTold loaded old.told new.told
+  pub passes : new.passes ≡ none_under_way
   pub journal : new.journal ≡ entry.Load ∷ []
   pub spare : new.spare ≡ 0
 
@@ -102,20 +117,26 @@ abbrev pub up_failed : UpEnd → Bool
 up_failed up.Failed = true
 up_failed (up.Finished verdict) = false
 up_failed (up.Up frame) = false
+up_failed up.Going = false
 up_failed up.NoMemory = false
 
--- an end without memory leaves no entry
+-- the entry of a call with its end; one without memory leaves none
+abbrev pub noted_up : (UpEnd → Entry) → UpEnd → List Entry
+noted_up call up.NoMemory = []
+noted_up call (up.Finished verdict) = call (up.Finished verdict) ∷ []
+noted_up call (up.Up frame) = call (up.Up frame) ∷ []
+noted_up call up.Going = call up.Going ∷ []
+noted_up call up.Failed = call up.Failed ∷ []
+
 abbrev pub up_entry : ℕ → ℕ → List ℕ → UpEnd → List Entry
-up_entry number port packet up.NoMemory = []
-up_entry number port packet (up.Finished verdict) = entry.Up number port packet (up.Finished verdict) ∷ []
-up_entry number port packet (up.Up frame) = entry.Up number port packet (up.Up frame) ∷ []
-up_entry number port packet up.Failed = entry.Up number port packet up.Failed ∷ []
+up_entry number port packet end = noted_up (λ answer. entry.Up number port packet answer) end
 
 -- a frame that goes up has the code's layout, and this number, port and packet, whatever its values
 abbrev pub IsUpFrame : Code → ℕ → ℕ → List ℕ → UpEnd → Type 0
 IsUpFrame code number port packet (up.Up frame) =
     (values : Crossing → ℕ) × IsFrameOf 1 code.up number port values packet frame
 IsUpFrame code number port packet (up.Finished verdict) = ⊤
+IsUpFrame code number port packet up.Going = ⊤
 IsUpFrame code number port packet up.Failed = ⊤
 IsUpFrame code number port packet up.NoMemory = ⊤
 
@@ -126,6 +147,7 @@ EndsUp code told number packet (up.Finished verdict) = up_verdict code (seen_tab
 EndsUp code told number packet (up.Up frame) =
     (goes_up code (up_values code (seen_tables told) packet) ≡ true)
     × (frame ≡ up_frame code.up number packet.port (up_values code (seen_tables told) packet) packet.bytes)
+EndsUp code told number packet up.Going = ⊤
 EndsUp code told number packet up.Failed = ⊤
 EndsUp code told number packet up.NoMemory = ⊤
 
@@ -133,27 +155,69 @@ pub record PassesUp (end : UpEnd) (number port : ℕ) (packet : List ℕ) (old n
   pub kept : Keeps old new
   pub journal : new.journal ≡ old.journal ++ up_entry number port packet end
   pub faults : IsCountedIf (up_failed end) old.faults new.faults
+  pub ends : EndsUpAtOnce end
   pub frame : (code : Code) → old.code ≡ Some code → IsUpFrame code number port packet end
   pub told : (code : Code) (told : Told) → old.code ≡ Some code → old.told ≡ Some told
       → EndsUp code told number (record { port = port; bytes = packet }) end
+
+-- preprocessing is given nothing
+abbrev pub IsNothing : Reading → Type 0
+IsNothing given = given ≡ nothing
+
+-- A packet arrives, and its pass enters. A pass without a stage above 0 ends at once.
+pub record BeginsUp (end : UpEnd) (number port : ℕ) (packet : List ℕ) (old new : PortState) : Type 0 where
+  pub kept : KeepsTables old new
+  pub journal : new.journal ≡ old.journal ++ noted_up (λ answer. entry.BeginUp number port packet answer) end
+  pub faults : IsCountedIf (up_failed end) old.faults new.faults
+  pub post : new.passes.post ≡ old.passes.post
+  pub others : OthersStay number old.passes.pre new.passes.pre
+  pub goes : (code : Code) → old.code ≡ Some code → GoesUp (nat_lt 0 code.pre.highest) end
+  pub pass : (code : Code) → old.code ≡ Some code
+      → BegunUp (HasEntered (pre_staging code) IsNothing (record { port = port; bytes = packet }) old.told) end
+      (new.passes.pre number)
+  pub frame : (code : Code) → old.code ≡ Some code → IsUpFrame code number port packet end
+  pub told : (code : Code) (told : Told) → old.code ≡ Some code → old.told ≡ Some told
+      → EndsUp code told number (record { port = port; bytes = packet }) end
+
+-- The pass of this packet goes on by a stage, or ends with it.
+pub record StagesUp (end : UpEnd) (number : ℕ) (old new : PortState) : Type 0 where
+  pub kept : KeepsTables old new
+  pub journal : new.journal ≡ old.journal ++ noted_up (λ answer. entry.StageUp number answer) end
+  pub faults : IsCountedIf (up_failed end) old.faults new.faults
+  pub post : new.passes.post ≡ old.passes.post
+  pub others : OthersStay number old.passes.pre new.passes.pre
+  pub goes : (code : Code) (pass : PassState) → old.code ≡ Some code → old.passes.pre number ≡ Some pass
+      → GoesUp (nat_lt (suc pass.stage) code.pre.highest) end
+  pub pass : (code : Code) (pass : PassState) → old.code ≡ Some code → old.passes.pre number ≡ Some pass
+      → LeavesUp (HasGoneOn (pre_staging code) old.told pass) end pass (new.passes.pre number)
+  pub frame : (code : Code) (pass : PassState) → old.code ≡ Some code → old.passes.pre number ≡ Some pass
+      → IsUpFrame code number pass.packet.port pass.packet.bytes end
+  pub told : (code : Code) (pass : PassState) → old.code ≡ Some code → old.passes.pre number ≡ Some pass
+      → EndsWith (pre_staging code) old.told pass (λ reads. EndsBy code reads number pass.packet end)
 
 -- ## Packets that come down
 
 abbrev pub down_failed : DownEnd → Bool
 down_failed down.Failed = true
 down_failed (down.Verdict verdict) = false
+down_failed down.Going = false
 down_failed down.NoMemory = false
 
+abbrev pub noted_down : (DownEnd → Entry) → DownEnd → List Entry
+noted_down call down.NoMemory = []
+noted_down call (down.Verdict verdict) = call (down.Verdict verdict) ∷ []
+noted_down call down.Going = call down.Going ∷ []
+noted_down call down.Failed = call down.Failed ∷ []
+
 abbrev pub down_entry : List ℕ → DownEnd → List Entry
-down_entry frame down.NoMemory = []
-down_entry frame (down.Verdict verdict) = entry.Down frame (down.Verdict verdict) ∷ []
-down_entry frame down.Failed = entry.Down frame down.Failed ∷ []
+down_entry frame end = noted_down (λ answer. entry.Down frame answer) end
 
 -- the verdict is the code's, of what the frame says
 abbrev pub EndsDown : Code → Told → List ℕ → DownEnd → Type 0
 EndsDown code told frame (down.Verdict verdict) =
     (number port : ℕ) (values : Crossing → ℕ) (packet : List ℕ) → IsFrameOf 2 code.down number port values packet frame
     → verdict ≡ down_end code values (seen_tables told) (record { port = port; bytes = packet })
+EndsDown code told frame down.Going = ⊤
 EndsDown code told frame down.Failed = ⊤
 EndsDown code told frame down.NoMemory = ⊤
 
@@ -161,7 +225,48 @@ pub record PassesDown (end : DownEnd) (frame : List ℕ) (old new : PortState) :
   pub kept : Keeps old new
   pub journal : new.journal ≡ old.journal ++ down_entry frame end
   pub faults : IsCountedIf (down_failed end) old.faults new.faults
+  pub ends : EndsDownAtOnce end
   pub told : (code : Code) (told : Told) → old.code ≡ Some code → old.told ≡ Some told → EndsDown code told frame end
+
+-- postprocessing is given what a frame says, and what the code and the packet give
+abbrev pub IsHandedDown : Code → (Crossing → ℕ) → Packet → Reading → Type 0
+IsHandedDown code values packet given = given ≡ down_given code values packet
+
+-- what holds of the parts of a frame that comes down
+abbrev pub OfItsParts : Code → List ℕ → (ℕ → Packet → (Crossing → ℕ) → Type 0) → Type 0
+OfItsParts code frame Holds =
+    (number port : ℕ) (values : Crossing → ℕ) (packet : List ℕ)
+    → IsFrameOf 2 code.down number port values packet frame
+    → Holds number (record { port = port; bytes = packet }) values
+
+-- A frame comes down, and the pass of its packet enters. A pass without a stage above 0 ends at once.
+pub record BeginsDown (end : DownEnd) (frame : List ℕ) (old new : PortState) : Type 0 where
+  pub kept : KeepsTables old new
+  pub journal : new.journal ≡ old.journal ++ noted_down (λ answer. entry.BeginDown frame answer) end
+  pub faults : IsCountedIf (down_failed end) old.faults new.faults
+  pub pre : new.passes.pre ≡ old.passes.pre
+  pub others : (code : Code) → old.code ≡ Some code
+      → OfItsParts code frame (λ number packet values. OthersStay number old.passes.post new.passes.post)
+  pub goes : (code : Code) → old.code ≡ Some code → GoesDown (nat_lt 0 code.post.highest) end
+  pub pass : (code : Code) → old.code ≡ Some code
+      → OfItsParts code frame (λ number packet values.
+      BegunDown (HasEntered (post_staging code) (IsHandedDown code values packet) packet old.told) end
+      (new.passes.post number))
+  pub told : (code : Code) (told : Told) → old.code ≡ Some code → old.told ≡ Some told → EndsDown code told frame end
+
+-- The pass of this packet goes on by a stage, or ends with it.
+pub record StagesDown (end : DownEnd) (number : ℕ) (old new : PortState) : Type 0 where
+  pub kept : KeepsTables old new
+  pub journal : new.journal ≡ old.journal ++ noted_down (λ answer. entry.StageDown number answer) end
+  pub faults : IsCountedIf (down_failed end) old.faults new.faults
+  pub pre : new.passes.pre ≡ old.passes.pre
+  pub others : OthersStay number old.passes.post new.passes.post
+  pub goes : (code : Code) (pass : PassState) → old.code ≡ Some code → old.passes.post number ≡ Some pass
+      → GoesDown (nat_lt (suc pass.stage) code.post.highest) end
+  pub pass : (code : Code) (pass : PassState) → old.code ≡ Some code → old.passes.post number ≡ Some pass
+      → LeavesDown (HasGoneOn (post_staging code) old.told pass) end pass (new.passes.post number)
+  pub told : (code : Code) (pass : PassState) → old.code ≡ Some code → old.passes.post number ≡ Some pass
+      → EndsWith (post_staging code) old.told pass (λ reads. EndsDownBy code reads pass.packet end)
 
 -- the bytes are a frame that may come down to the code that is loaded
 abbrev pub IsDownFrame : PortState → List ℕ → Type 0
@@ -180,6 +285,7 @@ told_by command.Failed c told = told
 pub record Commands (end : CommandEnd) (c : Command) (old new : PortState) : Type 0 where
   pub code : new.code ≡ old.code
   pub told : new.told ≡ told_by end c old.told
+  pub passes : new.passes ≡ old.passes
   pub journal : new.journal ≡ old.journal ++ entry.Command c end ∷ []
   pub spare : suc new.spare ≡ old.spare
   pub faults : IsCountedIf (command_failed end) old.faults new.faults
@@ -263,3 +369,22 @@ CanCommand state c = IfSome state.code (λ code. IsCommandOf code c)
 -- where the tables are told, the table that the command touches has room for it
 abbrev pub HasRoomFor : PortState → Command → Type 0
 HasRoomFor state c = IfSome state.told (λ told. has_room_in told.pairs c ≡ true)
+
+-- it disturbs no pass that is under way
+abbrev pub WaitsForNone : PortState → Command → Type 0
+WaitsForNone state c = DisturbsNone state.passes c
+
+-- no preprocessing pass of this number is under way, or one is
+abbrev pub HasNoUpPass : PortState → ℕ → Type 0
+HasNoUpPass state number = state.passes.pre number ≡ None
+
+abbrev pub HasUpPass : PortState → ℕ → Type 0
+HasUpPass state number = IsSome (state.passes.pre number)
+
+-- no postprocessing pass of the frame's number is under way
+abbrev pub HasNoDownPassOf : PortState → List ℕ → Type 0
+HasNoDownPassOf state frame =
+    IfSome state.code (λ code. OfItsParts code frame (λ number packet values. state.passes.post number ≡ None))
+
+abbrev pub HasDownPass : PortState → ℕ → Type 0
+HasDownPass state number = IsSome (state.passes.post number)

@@ -30,9 +30,13 @@ pair_at pairs o = unwrap_or (slice_get pairs o) no_pair
 abbrev pub seen_object : Bool → Pair → Object
 seen_object bit pair = record pair.main { contents = visible bit pair }
 
--- the tables as lookups see them
+-- the tables as lookups see them that go by this bit
+abbrev pub view_of : Bool → List Pair → Store
+view_of bit pairs = map (seen_object bit) pairs
+
+-- the tables as lookups see them now
 abbrev pub seen_tables : Told → Store
-seen_tables told = map (seen_object told.bit) told.pairs
+seen_tables told = view_of told.bit told.pairs
 
 -- ## What they start with
 

@@ -8,7 +8,7 @@ use std::marker::Model;
 use writeback_table::Command;
 
 /// A call with what it was given and how it ended. A call that ended for want of memory has no entry; of those that
-/// failed, only packets, frames and commands have one.
+/// failed, only packets, frames, stages and commands have one.
 #[derive(Debug, Drop)]
 pub enum Entry {
     Load,
@@ -22,6 +22,26 @@ pub enum Entry {
     },
     Down {
         frame: Bytes,
+        answer: DownEnd,
+    },
+    /// A packet arrived whose pass goes stage by stage, also where it has no stages left.
+    BeginUp {
+        number: u32,
+        port: u8,
+        packet: Bytes,
+        answer: UpEnd,
+    },
+    StageUp {
+        number: u32,
+        answer: UpEnd,
+    },
+    /// A frame came down whose packet's pass goes stage by stage, also where it has no stages left.
+    BeginDown {
+        frame: Bytes,
+        answer: DownEnd,
+    },
+    StageDown {
+        number: u32,
         answer: DownEnd,
     },
     Command(Command, CommandEnd),

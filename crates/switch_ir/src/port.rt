@@ -4,7 +4,9 @@ ghost use Rattle.packet_fields.specs.Sizes.{largest_packet};
 ghost use Rattle.switch_ir.specs.Code.{code_of};
 ghost use Rattle.switch_ir.specs.Emitted.{IsEmitted};
 ghost use Rattle.switch_ir.specs.Port.{PortState, Loads, MakesRoom, PassesUp, PassesDown, Commands, ShowsRows};
-ghost use Rattle.switch_ir.specs.Port.{IsLoaded, IsDownFrame, HasReplicated, CanCommand, HasRoomFor};
+ghost use Rattle.switch_ir.specs.Port.{BeginsUp, StagesUp, BeginsDown, StagesDown};
+ghost use Rattle.switch_ir.specs.Port.{IsLoaded, IsDownFrame, HasReplicated, CanCommand, HasRoomFor, WaitsForNone};
+ghost use Rattle.switch_ir.specs.Port.{HasNoUpPass, HasUpPass, HasNoDownPassOf, HasDownPass};
 
 use crate::code::SwitchCode;
 use gal_io::{Bytes, NoMemory};
@@ -30,6 +32,8 @@ pub enum UpEnd {
     Finished(Verdict),
     /// The packet goes up to the server, in this frame.
     Up(Bytes),
+    /// The pass has stages left. A pass of one call never ends so.
+    Going,
     /// The switch failed, and its count of faults rose by one.
     Failed,
     /// There was no memory.
@@ -40,6 +44,8 @@ pub enum UpEnd {
 #[derive(Debug, Drop)]
 pub enum DownEnd {
     Verdict(Verdict),
+    /// The pass has stages left. A pass of one call never ends so.
+    Going,
     /// The switch failed, and its count of faults rose by one.
     Failed,
     /// There was no memory.
@@ -54,6 +60,7 @@ impl UpEnd {
         Ok(match self {
             UpEnd::Finished(verdict) => UpEnd::Finished(copy_verdict(alloc, verdict)?),
             UpEnd::Up(frame) => UpEnd::Up(frame.copy(alloc)?),
+            UpEnd::Going => UpEnd::Going,
             UpEnd::Failed => UpEnd::Failed,
             UpEnd::NoMemory => UpEnd::NoMemory,
         })
@@ -67,6 +74,7 @@ impl DownEnd {
     {
         Ok(match self {
             DownEnd::Verdict(verdict) => DownEnd::Verdict(copy_verdict(alloc, verdict)?),
+            DownEnd::Going => DownEnd::Going,
             DownEnd::Failed => DownEnd::Failed,
             DownEnd::NoMemory => DownEnd::NoMemory,
         })
@@ -102,13 +110,18 @@ pub enum RowsEnd {
 
 /// A switch.
 ///
-/// Contracts see the code that is loaded, the tables and the bit where the switch tells them, a journal of its calls,
-/// for how many commands there is memory, and a count of calls that failed, which each of them raises by one, and no
-/// other call changes. The count stands still at 2^64 - 1, where a further fault still counts as risen.
+/// Contracts see the code that is loaded, the tables and the bit where the switch tells them, the passes under way, a
+/// journal of its calls, for how many commands there is memory, and a count of calls that failed, which each of them
+/// raises by one, and no other call changes. The count stands still at 2^64 - 1, where a further fault still counts as
+/// risen.
+///
+/// A packet passes in one call, or stage by stage: one call begins its pass with stage 0, and one more takes each of the
+/// other stages. Such a pass sees the tables as they stand at each of its stages, but goes by the bit that stood at its
+/// entry. A stage call that fails, or finds no memory, leaves the pass as it was.
 pub trait SwitchPort {
     ghost seen: { Self → PortState };
 
-    /// Loads code: the tables have their start rows, the bit is 0, and the journal begins anew.
+    /// Loads code: the tables have their start rows, the bit is 0, no pass is under way, and the journal begins anew.
     fn load(&mut self, alloc: Global, code: &SwitchCode) -> PortEnd
         requires { IsEmitted (code_of code.now) }
         ensures { Loads result (code_of code.now) (seen self.old) (seen self.new) };
@@ -130,12 +143,41 @@ pub trait SwitchPort {
         requires frame { IsDownFrame (seen self.old) frame.now }
         ensures { PassesDown result frame.now (seen self.old) (seen self.new) };
 
-    /// Changes a table or the bit. This takes no memory.
+    /// A packet arrives, which is known by its number, and its pass enters. It ends at once where it has no stage above
+    /// 0, as `pass_up` does.
+    fn begin_up(&mut self, alloc: Global, number: u32, port: u8, packet: &[u8]) -> UpEnd
+        requires loaded { IsLoaded (seen self.old) }
+        requires size { length packet.now ≤ largest_packet }
+        requires none { HasNoUpPass (seen self.old) number }
+        ensures { BeginsUp result number port packet.now (seen self.old) (seen self.new) };
+
+    /// The pass over the packet of this number that arrived takes a stage.
+    fn stage_up(&mut self, alloc: Global, number: u32) -> UpEnd
+        requires { HasUpPass (seen self.old) number }
+        ensures { StagesUp result number (seen self.old) (seen self.new) };
+
+    /// A frame comes down from the server, and the pass of its packet enters. It ends at once where it has no stage above
+    /// 0, as `pass_down` does.
+    fn begin_down(&mut self, alloc: Global, frame: &[u8]) -> DownEnd
+        requires loaded { IsLoaded (seen self.old) }
+        requires frame { IsDownFrame (seen self.old) frame.now }
+        requires none { HasNoDownPassOf (seen self.old) frame.now }
+        ensures { BeginsDown result frame.now (seen self.old) (seen self.new) };
+
+    /// The pass over the packet of this number that came down takes a stage.
+    fn stage_down(&mut self, alloc: Global, number: u32) -> DownEnd
+        requires { HasDownPass (seen self.old) number }
+        ensures { StagesDown result number (seen self.old) (seen self.new) };
+
+    /// Changes a table or the bit. A command that would change what a pass under way sees has to wait for it: a change of
+    /// the main tables for passes that entered with bit 0, and one that is staged for those that entered with bit 1. This
+    /// takes no memory.
     fn command(&mut self, command: &Command) -> CommandEnd
         requires loaded { IsLoaded (seen self.old) }
         requires named { CanCommand (seen self.old) command.now }
         requires spare { 0 < (seen self.old).spare }
         requires room { HasRoomFor (seen self.old) command.now }
+        requires waits { WaitsForNone (seen self.old) command.now }
         ensures { Commands result command.now (seen self.old) (seen self.new) };
 
     /// The rows of an object that lookups see.

@@ -24,15 +24,18 @@ use Rattle.switch_machine.proofs.Members.{each_has, of_contains}
 use Rattle.switch_machine.proofs.PassValues.{apart, begin_apart, begin_register, given_once, handed_fresh, handed_known}
 use Rattle.switch_machine.proofs.SettingUp.{given_fit, last_left, set_up, steps_fit}
 
+pub small_down : (code : Code) → CanBeRun code → AreOrdered code → code.values < 2 ^ 32 → (ranges : List ValueRange)
+    → AreRanges (entries code.tables code.down code.post) ranges → (w : Written) → Contains (written_in code.tables code.down code.post) w → suc w.number < 2 ^ 32
+small_down code can ordered few ranges are w there =
+    let had = written_in code.tables code.down code.post in
+    omega (arith, each_has (λ (x : Written). x.number < code.values) had can.stages.post_numbers w (of_contains had w there), few)
+
 module _ (code : Code) (can : CanBeRun code) (ordered : AreOrdered code) (few : code.values < 2 ^ 32)
     (ranges : List ValueRange) (are : AreRanges (entries code.tables code.down code.post) ranges)
     (law : (number : ℕ → Contents → Contents) → AreSpansOf (steps_by_values code.tables code.down [] code.post number) (post_spans code))
     (registers : Registers) (kept_apart : AreKeptApart (post_spans code) registers) where
-  abbrev had : List Written
-  had = written_in code.tables code.down code.post
-
-  small : (w : Written) → Contains had w → suc w.number < 2 ^ 32
-  small w there = omega (arith, each_has (λ (x : Written). x.number < code.values) had can.stages.post_numbers w (of_contains had w there), few)
+  small : (w : Written) → Contains (written_in code.tables code.down code.post) w → suc w.number < 2 ^ 32
+  small = small_down code can ordered few ranges are
 
   pub down_set : (given : Reading) (seen : Store) (packet : Packet) → ArePlaced registers → BeginsWith ranges (begins_down ranges code) given registers
       → ((reads : Reading) (s : Step) → length (results reads false seen packet s.work) ≤ results_in code.tables s.work)

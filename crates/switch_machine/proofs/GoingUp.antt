@@ -14,7 +14,7 @@ use Rattle.split_model.specs.Crossing.{is_value}
 use Rattle.transfer_header.specs.Registers.{Registers, content_of, ArePlaced, Holds}
 use Rattle.transfer_header.specs.Steps.{Contents, AreKeptApart, AreSpansOf}
 use Rattle.switch_ir.specs.declared.port.UpEnd.{UpEnd}
-use Rattle.switch_ir.specs.declared.port.UpEnd.TheVariants.{Failed, Finished, NoMemory, Up}
+use Rattle.switch_ir.specs.declared.port.UpEnd.TheVariants.{Failed, Finished, Going, NoMemory, Up}
 use Rattle.switch_ir.specs.Meaning.{leaves, up_values}
 use Rattle.switch_ir.specs.Passes.{Code, Step}
 use Rattle.switch_ir.specs.Port.{EndsUp}
@@ -22,7 +22,7 @@ use Rattle.switch_ir.specs.Sound.{CanBeRun}
 use Rattle.switch_ir.specs.Spans.{last_read, pre_spans, results_in, span_of, written_in, Written}
 use Rattle.switch_ir.specs.Spans.{steps_of as steps_by_values}
 use Rattle.switch_ir.specs.Tables.{Told, seen_tables}
-use Rattle.switch_machine.specs.Ends.{EndsBy}
+use Rattle.switch_ir.specs.Staged.{EndsBy}
 use Rattle.switch_machine.specs.declared.numbering.ValueRange.{ValueRange}
 use Rattle.switch_machine.specs.Keeping.{kept_up, values_in}
 use Rattle.switch_machine.specs.Numbers.{content_at, number_in, reads_by}
@@ -39,8 +39,8 @@ module _ (code : Code) (can : CanBeRun code) (ordered : AreOrdered code) (few : 
   abbrev had : List Written
   had = written_in code.tables [] code.pre
 
-  small : (w : Written) → Contains had w → suc w.number < 2 ^ 32
-  small w there = omega (arith, each_has (λ (x : Written). x.number < code.values) had can.stages.pre_numbers w (of_contains had w there), few)
+  pub small_up : (w : Written) → Contains had w → suc w.number < 2 ^ 32
+  small_up w there = omega (arith, each_has (λ (x : Written). x.number < code.values) had can.stages.pre_numbers w (of_contains had w there), few)
 
   module _ (law : (number : ℕ → Contents → Contents) → AreSpansOf (steps_by_values code.tables [] code.up code.pre number) (pre_spans code))
       (registers : Registers) (kept_apart : AreKeptApart (pre_spans code) registers) where
@@ -48,10 +48,10 @@ module _ (code : Code) (can : CanBeRun code) (ordered : AreOrdered code) (few : 
         → ((reads : Reading) (s : Step) → length (results reads false seen packet s.work) ≤ results_in code.tables s.work)
         → IsSetUp ranges code.pre (kept_up code) nothing seen packet registers
     up_set seen packet zeros placed long =
-        set_up code.tables [] code.up code.pre ordered.pre small can.stages.pre tt ranges are law registers kept_apart (kept_up code) (last_up code.up code.pre)
+        set_up code.tables [] code.up code.pre ordered.pre small_up can.stages.pre tt ranges are law registers kept_apart (kept_up code) (last_up code.up code.pre)
         nothing seen packet placed
         (record { begun = λ v n is there. zeros n; others = λ v n is other. refl; unknown = λ v none. refl })
-        (steps_fit code.tables [] code.up code.pre ordered.pre small can.stages.pre tt ranges are law registers kept_apart seen packet long)
+        (steps_fit code.tables [] code.up code.pre ordered.pre small_up can.stages.pre tt ranges are law registers kept_apart seen packet long)
 
   span_made : (c : Crossing) (s : Span) → Has (pre_spans code) s → s.value ≡ c.number → Has code.up c → number_in ranges c.value ≡ Some c.number
   span_made c s there is h =
@@ -60,7 +60,7 @@ module _ (code : Code) (can : CanBeRun code) (ordered : AreOrdered code) (few : 
       let alike = each_has (λ (w : Written). w.number ≡ c.number → is_value w.value c.value ≡ true) had
       (each_has (λ (x : Crossing). Each (λ (w : Written). w.number ≡ x.number → is_value w.value x.value ≡ true) had) code.up ordered.up c h) m.from m.there number in
       ap (number_in ranges) (sym (value_same m.from.value c.value alike))
-      ∙ has_its_number code.tables [] code.up code.pre ordered.pre small can.stages.pre tt ranges are m.from m.there
+      ∙ has_its_number code.tables [] code.up code.pre ordered.pre small_up can.stages.pre tt ranges are m.from m.there
       ∙ ap (λ n. Some n) number
 
   -- what goes up is had under its number
@@ -89,5 +89,6 @@ ends_up code told number packet (Finished verdict) h =
     let reads = up_values code (seen_tables told) packet in
     ap (λ b. if b then None else Some (leaves code.pre reads packet)) h.0 ∙ ap (λ v. Some v) (sym h.1)
 ends_up code told number packet (Up frame) h = h
+ends_up code told number packet Going h = h
 ends_up code told number packet Failed h = h
 ends_up code told number packet NoMemory h = h

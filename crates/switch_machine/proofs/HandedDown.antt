@@ -21,13 +21,17 @@ handed_same (x ∷ xs) values others v agree =
     agreed (is_value x.value v) (values x) (others x) (handed xs values v) (handed xs others v) (agree 0 x (omega arith))
     (handed_same xs values others v (λ k d lt. agree (suc k) d (omega (arith, lt))))
 
--- what becomes of a packet that comes down is told by the numbers of the layout's values
-pub down_same : (code : Code) (values others : Crossing → ℕ) (tables : Store) (packet : Packet) → Agree code.down values others
-    → down_end code values tables packet ≡ down_end code others tables packet
-down_same code values others tables packet agree =
-    ap (λ (given : Reading). leaves code.post (pass_values code.post given tables packet) packet)
-    (λ i v. same v i)
+-- what postprocessing begins with is told by the numbers of the layout's values
+pub given_same : (code : Code) (values others : Crossing → ℕ) (packet : Packet) → Agree code.down values others
+    → down_given code values packet ≡ down_given code others packet
+given_same code values others packet agree = λ i v. same v i
   where
     same : (v : ValueId) → down_given code values packet v ≡ down_given code others packet v
     same v = agreed (crosses code.down v) (handed code.down values v) (handed code.down others v) (inputs code packet v) (inputs code packet v)
         (handed_same code.down values others v agree) refl
+
+-- and so is what becomes of a packet that comes down
+pub down_same : (code : Code) (values others : Crossing → ℕ) (tables : Store) (packet : Packet) → Agree code.down values others
+    → down_end code values tables packet ≡ down_end code others tables packet
+down_same code values others tables packet agree =
+    ap (λ (given : Reading). leaves code.post (pass_values code.post given tables packet) packet) (given_same code values others packet agree)

@@ -19,10 +19,10 @@ use Rattle.transfer_header.specs.Registers.{Registers, content_of, number_by, pl
 use Rattle.transfer_header.specs.Steps.{Contents, Steps, all_written, is_among, one_each, pairs_written, registers_after}
 use Rattle.transfer_header.specs.Steps.{AreSpansOf, IsDoneAlike, IsReady, IsSpanOf, LooksAtReadsAlone}
 use Rattle.switch_ir.specs.Code.{Step, PassCode}
-use Rattle.switch_ir.specs.Meaning.{after_stages, pass_values}
+use Rattle.switch_ir.specs.Meaning.{after_stage, after_stages, pass_values}
 use Rattle.switch_machine.specs.declared.numbering.ValueRange.{ValueRange}
 use Rattle.switch_machine.specs.Numbers.{AreHeld, content_at, gives, is_number, is_read, number_in, range_at, reads_by, stage_gives, stage_number, stage_reads, stage_writes}
-use Rattle.switch_machine.specs.Planned.{first_writes, registers_at, steps_of, IsSetUp}
+use Rattle.switch_machine.specs.Planned.{first_writes, registers_at, stage_done, steps_of, IsSetUp}
 use Rattle.switch_machine.specs.Staged.{of_stage}
 use Rattle.switch_machine.proofs.Each.{each_at}
 use Rattle.switch_machine.proofs.Numbered.{all_given, each_of_stage, number_is, once_of_stage, own_is, unknown_stays, writes_are, IsGiven}
@@ -330,3 +330,10 @@ module _ (ranges : List ValueRange) (pass : PassCode) (kept : List ValueId) (giv
         let last = suc pass.highest in
         let registers = registers_at ranges pass tables packet start last in
         kept_is registers (done last registers (stands_at last)).reads
+
+    -- once stage 0 is done what is read later has the number that the stage gives
+    pub first_is : (span : Span) → Contains set.spans span → span.from ≡ 0 → 1 ≤ span.to → (v : ValueId) → number_in ranges v ≡ Some span.value
+        → content_of (stage_done ranges pass.steps 0 tables packet start) span.value ≡ after_stage pass.steps 0 given tables packet v
+    first_is span there from to v is =
+        let at = stands_next 0 start (stage_done ranges pass.steps 0 tables packet start) stands_first refl in
+        at.ready.stands span there (omega (arith, from)) to ∙ each_own v span.value is 1 (λ none. absurd (omega (arith, none)))

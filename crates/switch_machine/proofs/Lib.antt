@@ -1,7 +1,9 @@
 mod Beginning
+mod Beginnings
 mod Each
 mod EmittedOrder
 mod Fitting
+mod FlightLists
 mod GoingDown
 mod GoingUp
 mod HandedDown
@@ -20,7 +22,11 @@ mod PlacedSteps
 mod Placing
 mod ReadyStages
 mod SettingUp
+mod StageByStage
 mod StageLists
+mod StagedCalls
+mod StagedMachine
+mod StagedSteps
 mod StageRegisters
 mod Stepping
 mod TableRows

@@ -15,7 +15,7 @@ use Rattle.switch_ir.specs.Sound.{CanStep}
 use Rattle.switch_machine.specs.declared.numbering.ValueRange.{ValueRange}
 use Rattle.switch_machine.specs.declared.ready.ReadyStep.{ReadyStep}
 use Rattle.switch_machine.specs.Numbers.{content_at, number_in, reads_by, stage_gives}
-use Rattle.switch_machine.specs.Planned.{registers_at}
+use Rattle.switch_machine.specs.Planned.{registers_at, stage_done}
 use Rattle.switch_machine.specs.Ready.{all_placed, by_place, known_place, no_place, place_in, place_name, placed_at, reads_at, ready_at, ready_gives, AreReady, CanReady}
 use Rattle.switch_machine.specs.Staged.{of_stage}
 use Rattle.switch_machine.proofs.Writing.{plan_pairs, size_by, size_pairs}
@@ -66,6 +66,15 @@ pub stage_is : (ranges : List ValueRange) (plan : RegisterPlan) (steps : List St
 stage_is ranges plan steps highest stages reads tables packet registers t are planned few le =
     ap (all_placed registers) (are.gives t le reads tables packet)
     ∙ all_is plan (stage_gives ranges (of_stage t steps) (λ v. reads (place_name ranges plan v)) tables packet) registers planned few
+
+-- from the numbers that were there before it
+pub one_is : (ranges : List ValueRange) (plan : RegisterPlan) (steps : List Step) (highest : ℕ) (stages : List (List ReadyStep))
+    (tables : Store) (packet : Packet) (registers : Registers) (t : ℕ) → AreReady ranges plan steps highest stages
+    → registers.plan ≡ Some plan → length registers.numbers < 2 ^ 32 → t ≤ highest
+    → all_placed registers (ready_gives (ready_at stages t) (reads_at registers.numbers) tables packet) ≡ stage_done ranges steps t tables packet registers
+one_is ranges plan steps highest stages tables packet registers t are planned few le =
+    stage_is ranges plan steps highest stages (reads_at registers.numbers) tables packet registers t are planned few le
+    ∙ ap (λ (reads : Reading). pairs_written registers (stage_gives ranges (of_stage t steps) reads tables packet)) (reads_same plan registers planned few ranges)
 
 module _ (ranges : List ValueRange) (plan : RegisterPlan) (pass : PassCode) (stages : List (List ReadyStep))
     (are : AreReady ranges plan pass.steps pass.highest stages) (tables : Store) (packet : Packet) where

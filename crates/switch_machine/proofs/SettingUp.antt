@@ -71,6 +71,13 @@ module _ (tables : List Table) (handed up : List Crossing) (pass : PassCode)
     fit = fit;
   }
 
+  -- by the spans of the pass
+  pub set_up_by_spans : (kept : List ValueId) → Each (λ v. is_read_last up pass v ≡ true) kept → (given : Reading) (seen : Store) (packet : Packet)
+      → ArePlaced registers → BeginsWith ranges starts given registers → FitRanges ranges pass.steps seen packet
+      → (set : IsSetUp ranges pass kept given seen packet registers) × (set.spans ≡ pass_spans tables handed up pass)
+  unfolding set_up
+  set_up_by_spans kept last given seen packet placed begin fit = (set_up kept last given seen packet placed begin fit, refl)
+
 -- ## What is kept is read last
 
 module _ (up : List Crossing) (pass : PassCode) where

@@ -23,6 +23,10 @@ pub placed_pairs : (registers : Registers) (pairs : List (ℕ × ℕ)) → ArePl
 placed_pairs registers [] placed = placed
 placed_pairs registers (p ∷ ps) placed = placed_pairs (written registers p.0 p.1) ps (placed_written registers p.0 p.1 placed)
 
+pub place_pairs : (registers : Registers) (pairs : List (ℕ × ℕ)) (n : ℕ) → place_of (pairs_written registers pairs) n ≡ place_of registers n
+place_pairs registers [] n = refl
+place_pairs registers (p ∷ ps) n = place_pairs (written registers p.0 p.1) ps n ∙ places_written registers p.0 p.1 n
+
 pub plan_pairs : (registers : Registers) (pairs : List (ℕ × ℕ)) → (pairs_written registers pairs).plan ≡ registers.plan
 plan_pairs registers [] = refl
 plan_pairs registers (p ∷ ps) = plan_pairs (written registers p.0 p.1) ps

@@ -28,11 +28,13 @@ abbrev pub UpEndsAsPlanned : Bool → UpEnd → Type 0
 UpEndsAsPlanned planned up.Failed = planned ≡ true
 UpEndsAsPlanned planned (up.Finished verdict) = planned ≡ false
 UpEndsAsPlanned planned (up.Up frame) = planned ≡ false
+UpEndsAsPlanned planned up.Going = planned ≡ false
 UpEndsAsPlanned planned up.NoMemory = ⊤
 
 abbrev pub DownEndsAsPlanned : Bool → DownEnd → Type 0
 DownEndsAsPlanned planned down.Failed = planned ≡ true
 DownEndsAsPlanned planned (down.Verdict verdict) = planned ≡ false
+DownEndsAsPlanned planned down.Going = planned ≡ false
 DownEndsAsPlanned planned down.NoMemory = ⊤
 
 abbrev pub CommandEndsAsPlanned : Bool → CommandEnd → Type 0

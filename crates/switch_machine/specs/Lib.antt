@@ -2,6 +2,7 @@ pub mod Calls
 pub mod Codes
 pub mod Counts
 pub mod Ends
+pub mod Flights
 pub mod Keeping
 pub mod Kept
 pub mod Live
@@ -12,5 +13,6 @@ pub mod Planned
 pub mod Ranges
 pub mod Ready
 pub mod Staged
+pub mod Staging
 pub mod Views
 pub mod Workplaces

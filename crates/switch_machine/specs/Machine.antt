@@ -5,8 +5,9 @@ use Rattle.switch_ir.specs.Code.{Code}
 use Rattle.switch_ir.specs.Journal.{JournalState}
 use Rattle.switch_ir.specs.Port.{PortState}
 use Rattle.switch_ir.specs.Tables.{Told}
+use Rattle.switch_ir.specs.UnderWay.{UnderWay}
 use Rattle.switch_machine.specs.declared.calls.CallKind.{CallKind}
-use Rattle.switch_machine.specs.declared.calls.CallKind.TheVariants.{Load, Room, Up, Down, Command, Visible}
+use Rattle.switch_machine.specs.declared.calls.CallKind.TheVariants.{Load, Room, Up, Down, BeginUp, StageUp, BeginDown, StageDown, Command, Visible}
 use Rattle.switch_machine.specs.Counts.{CallCounts, count_of}
 
 abbrev pub same_kind : CallKind → CallKind → Bool
@@ -14,6 +15,10 @@ same_kind Load Load = true
 same_kind Room Room = true
 same_kind Up Up = true
 same_kind Down Down = true
+same_kind BeginUp BeginUp = true
+same_kind StageUp StageUp = true
+same_kind BeginDown BeginDown = true
+same_kind StageDown StageDown = true
 same_kind Command Command = true
 same_kind Visible Visible = true
 same_kind _ _ = false
@@ -22,6 +27,8 @@ pub record MachineState : Type 0 where
   -- the code that was loaded last, if any was
   pub code : Option Code
   pub tables : Told
+  -- the passes that are under way
+  pub passes : UnderWay
   pub journal : JournalState
   pub faults : ℕ
   -- the calls that are to fail, by kind and number
@@ -43,6 +50,7 @@ abbrev pub seen_of : MachineState → PortState
 seen_of m = record {
   code = m.code;
   told = Some m.tables;
+  passes = m.passes;
   journal = m.journal.entries;
   spare = m.journal.spare;
   faults = m.faults;

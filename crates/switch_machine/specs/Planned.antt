@@ -72,3 +72,8 @@ registers_at ranges pass tables packet start (suc t) =
     pairs_written (registers_at ranges pass tables packet start t)
     (stage_gives ranges (of_stage t pass.steps) (reads_by ranges (content_of (registers_at ranges pass tables packet start t)))
     tables packet)
+
+-- the registers once a stage is done: it reads all that it reads before it writes
+abbrev pub stage_done : List ValueRange → List Step → ℕ → Store → Packet → Registers → Registers
+stage_done ranges steps t tables packet registers =
+    pairs_written registers (stage_gives ranges (of_stage t steps) (reads_by ranges (content_of registers)) tables packet)

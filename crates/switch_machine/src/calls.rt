@@ -11,6 +11,10 @@ pub enum CallKind {
     Room,
     Up,
     Down,
+    BeginUp,
+    StageUp,
+    BeginDown,
+    StageDown,
     Command,
     Visible,
 }
@@ -22,6 +26,10 @@ pub(crate) struct Calls {
     pub room: u64,
     pub up: u64,
     pub down: u64,
+    pub begin_up: u64,
+    pub stage_up: u64,
+    pub begin_down: u64,
+    pub stage_down: u64,
     pub command: u64,
     pub visible: u64,
 }
@@ -30,13 +38,28 @@ impl Calls {
     /// No calls.
     pub fn none() -> Calls
         ensures { counts_of result
-            ≡ record { load = 0; room = 0; up = 0; down = 0; command = 0; visible = 0 } }
+            ≡ record {
+              load = 0;
+              room = 0;
+              up = 0;
+              down = 0;
+              begin_up = 0;
+              stage_up = 0;
+              begin_down = 0;
+              stage_down = 0;
+              command = 0;
+              visible = 0;
+            } }
     {
         Calls {
             load: 0,
             room: 0,
             up: 0,
             down: 0,
+            begin_up: 0,
+            stage_up: 0,
+            begin_down: 0,
+            stage_down: 0,
             command: 0,
             visible: 0,
         }
@@ -52,6 +75,10 @@ impl Calls {
             CallKind::Room => count(&mut self.room),
             CallKind::Up => count(&mut self.up),
             CallKind::Down => count(&mut self.down),
+            CallKind::BeginUp => count(&mut self.begin_up),
+            CallKind::StageUp => count(&mut self.stage_up),
+            CallKind::BeginDown => count(&mut self.begin_down),
+            CallKind::StageDown => count(&mut self.stage_down),
             CallKind::Command => count(&mut self.command),
             CallKind::Visible => count(&mut self.visible),
         }
@@ -77,6 +104,10 @@ fn same_kind(kind: CallKind, other: CallKind) -> bool
         (CallKind::Room, CallKind::Room) => true,
         (CallKind::Up, CallKind::Up) => true,
         (CallKind::Down, CallKind::Down) => true,
+        (CallKind::BeginUp, CallKind::BeginUp) => true,
+        (CallKind::StageUp, CallKind::StageUp) => true,
+        (CallKind::BeginDown, CallKind::BeginDown) => true,
+        (CallKind::StageDown, CallKind::StageDown) => true,
         (CallKind::Command, CallKind::Command) => true,
         (CallKind::Visible, CallKind::Visible) => true,
         _ => false,

@@ -3,6 +3,7 @@
 
 mod calls;
 mod down;
+mod flight;
 mod laws;
 mod live;
 mod loaded;
@@ -12,6 +13,7 @@ mod passes;
 mod ready;
 mod run;
 mod stages;
+mod staging;
 mod tables;
 mod up;
 

@@ -29,6 +29,7 @@ impl Workplace {
     fn new(alloc: Global, plan: &RegPlan) -> Result<Workplace, NoMemory>
         ensures plan { IfOk result (λ made. IsPlanned plan.now made.registers) }
         ensures room { IfOk result (λ made. length made.before.items ≡ length made.registers.numbers) }
+        ensures count { IfOk result (λ made. length made.registers.numbers ≡ plan.now.count) }
     {
         let registers = Regs::planned(alloc, plan.copy(alloc)?)?;
         let before = vec![in alloc; 0u64; registers.len() as usize]?;
@@ -75,6 +76,8 @@ pub(crate) struct Loaded {
     ghost marks_room: { length marks.items ≡ suc (length (pass_of code.pre).blocks) },
     ghost up_room: { length up.before.items ≡ length up.registers.numbers },
     ghost down_room: { length down.before.items ≡ length down.registers.numbers },
+    ghost up_count: { length up.registers.numbers ≡ code.pre.plan.count },
+    ghost down_count: { length down.registers.numbers ≡ code.post.plan.count },
 }
 
 impl Loaded {
@@ -125,6 +128,7 @@ impl LoadedPass {
         ensures ranges { IfOk result (λ made. AreRanges (entries tables.now handed.now (pass_of pass.now)) made.numbering) }
         ensures plan { IfOk result (λ made. IsPlanned pass.now.plan made.place.registers) }
         ensures room { IfOk result (λ made. length made.place.before.items ≡ length made.place.registers.numbers) }
+        ensures count { IfOk result (λ made. length made.place.registers.numbers ≡ pass.now.plan.count) }
     {
         let numbering = Numbering::of(alloc, tables, handed, pass)?;
         let stages = ReadyStages::of(alloc, &pass.steps, pass.highest, &numbering, &pass.plan)?;

@@ -9,16 +9,20 @@ ghost use Rattle.switch_ir.specs.Code.{code_of, Code};
 ghost use Rattle.switch_ir.specs.Emitted.{IsEmitted};
 ghost use Rattle.switch_ir.specs.Sound.{CanBeRun};
 ghost use Rattle.switch_ir.specs.Tables.{pair_at, told_after, IsStart, Told};
+ghost use Rattle.switch_ir.specs.UnderWay.{none_under_way};
 ghost use Rattle.switch_ir.specs.Port.{has_failed, up_failed, up_entry, down_failed, down_entry, command_failed};
 ghost use Rattle.switch_ir.specs.Port.{rows_failed, AreRowsOf, EndsDown, EndsUp, IsReplicatedIn, IsUpFrame};
 ghost use Rattle.switch_ir.specs.Port.{Loads, MakesRoom, PassesUp, PassesDown, Commands, ShowsRows};
-ghost use Rattle.switch_ir.specs.Port.{IsLoaded, IsDownFrame, CanCommand, HasReplicated, HasRoomFor};
+ghost use Rattle.switch_ir.specs.Port.{BeginsUp, StagesUp, BeginsDown, StagesDown};
+ghost use Rattle.switch_ir.specs.Port.{IsLoaded, IsDownFrame, CanCommand, HasReplicated, HasRoomFor, WaitsForNone};
+ghost use Rattle.switch_ir.specs.Port.{HasNoUpPass, HasUpPass, HasNoDownPassOf, HasDownPass};
 ghost use Rattle.switch_ir.specs.declared.journal.Entry.TheVariants as entry;
 ghost use Rattle.switch_machine.specs.declared.calls.CallKind.TheVariants as call;
 ghost use Rattle.switch_machine.specs.Calls.{called, ended, IsCountedAs, PortEndsAsPlanned, UpEndsAsPlanned};
 ghost use Rattle.switch_machine.specs.Calls.{DownEndsAsPlanned, CommandEndsAsPlanned, RowsEndAsPlanned};
 ghost use Rattle.switch_machine.specs.Counts.{counted};
 ghost use Rattle.switch_machine.specs.Ends.{DownPasses, UpPasses};
+ghost use Rattle.switch_machine.specs.Flights.{flights_prop, AreReadyIn};
 ghost use Rattle.switch_machine.specs.Kept.{safe_prop, AreSafe};
 ghost use Rattle.switch_machine.specs.Loading.{code_in};
 ghost use Rattle.switch_machine.specs.Machine.{fails_next, seen_of};
@@ -26,6 +30,7 @@ ghost use Rattle.switch_machine.specs.Ranges.{AreOrdered};
 
 use crate::calls::{CallKind, Calls, count, is_planned};
 use crate::down::go_down;
+use crate::flight::Flight;
 use crate::loaded::Loaded;
 use crate::tables::SwitchTables;
 use crate::up::go_up;
@@ -41,15 +46,20 @@ use writeback_table::{Command, what_a_lookup_sees};
 /// A switch in memory. It tells its tables, and a call fails where that was planned, and in no other case.
 #[derive(Debug, Drop)]
 pub struct ModelSwitch {
-    loaded: Option<Loaded>,
-    tables: SwitchTables,
-    journal: Journal,
-    faults: u64,
-    planned: Vec<(CallKind, u64)>,
-    calls: Calls,
+    pub(crate) loaded: Option<Loaded>,
+    pub(crate) tables: SwitchTables,
+    pub(crate) journal: Journal,
+    pub(crate) faults: u64,
+    pub(crate) planned: Vec<(CallKind, u64)>,
+    pub(crate) calls: Calls,
     /// How many registers the last pass was computed in.
-    registers: u32,
+    pub(crate) registers: u32,
+    /// The passes under way over packets that arrived.
+    pub(crate) arriving: Vec<Flight>,
+    /// The passes under way over packets that came down.
+    pub(crate) leaving: Vec<Flight>,
     ghost safe: { AreSafe (code_in loaded) tables } by { safe_prop (code_in loaded) tables },
+    ghost flights: { AreReadyIn loaded arriving.items leaving.items } by { flights_prop loaded arriving.items leaving.items },
 }
 
 impl ModelSwitch {
@@ -60,10 +70,22 @@ impl ModelSwitch {
         ensures { machine_of result ≡ record {
           code = None;
           tables = record { pairs = []; bit = false };
+          passes = none_under_way;
           journal = record { entries = []; spare = 0 };
           faults = 0;
           planned = [];
-          calls = record { load = 0; room = 0; up = 0; down = 0; command = 0; visible = 0 };
+          calls = record {
+            load = 0;
+            room = 0;
+            up = 0;
+            down = 0;
+            begin_up = 0;
+            stage_up = 0;
+            begin_down = 0;
+            stage_down = 0;
+            command = 0;
+            visible = 0;
+          };
         } }
     {
         ModelSwitch {
@@ -74,6 +96,8 @@ impl ModelSwitch {
             planned: Vec::new(alloc),
             calls: Calls::none(),
             registers: 0,
+            arriving: Vec::new(alloc),
+            leaving: Vec::new(alloc),
         }
     }
 
@@ -108,7 +132,7 @@ impl ModelSwitch {
     }
 
     // Counts a call, and answers whether it is to fail.
-    fn is_to_fail(&mut self, kind: CallKind) -> bool
+    pub(crate) fn is_to_fail(&mut self, kind: CallKind) -> bool
         ensures told { result ≡ fails_next (machine_of self.old) kind }
         ensures counted { let old = machine_of self.old in
             machine_of self.new ≡ record old { calls = counted old.calls kind } }
@@ -118,7 +142,7 @@ impl ModelSwitch {
     }
 
     // Counts a fault, where there was one.
-    fn count_fault(&mut self, failed: bool)
+    pub(crate) fn count_fault(&mut self, failed: bool)
         ensures counted { let old = machine_of self.old in
             machine_of self.new ≡ record old { faults = count_after failed old.faults } }
         ensures rises { IsCountedIf failed (machine_of self.old).faults (machine_of self.new).faults }
@@ -140,7 +164,7 @@ impl ModelSwitch {
     }
 
     // Puts a call last in the journal.
-    fn note(&mut self, entry: Entry) -> Result<(), NoMemory>
+    pub(crate) fn note(&mut self, entry: Entry) -> Result<(), NoMemory>
         ensures ok { let old = machine_of self.old in
             OnOk result (machine_of self.new
             ≡ record old { journal = record old.journal { entries = old.journal.entries ++ entry ∷ [] } }) }
@@ -157,6 +181,7 @@ impl ModelSwitch {
             × (machine_of self.new ≡ record old {
               code = Some (code_of code.now);
               tables = told;
+              passes = none_under_way;
               journal = record { entries = entry.Load ∷ []; spare = 0 };
             })) }
         ensures err { OnErr result (machine_of self.new ≡ machine_of self.old) }
@@ -169,16 +194,19 @@ impl ModelSwitch {
         Ok(())
     }
 
-    // Takes code that is loaded, with the tables and the journal that it starts with.
+    // Takes code that is loaded, with the tables and the journal that it starts with. It ends all passes.
     fn begin(&mut self, loaded: Loaded, tables: SwitchTables, journal: Journal)
         requires { IsStart (code_of loaded.code) tables }
         ensures { let old = machine_of self.old in
             machine_of self.new ≡ record old {
               code = Some (code_of loaded.code);
               tables = tables;
+              passes = none_under_way;
               journal = journal;
             } }
     {
+        self.arriving.clear();
+        self.leaving.clear();
         self.loaded = Some(loaded);
         self.tables = tables;
         self.journal = journal;
@@ -201,7 +229,7 @@ impl ModelSwitch {
     }
 
     // How the pass over a packet that arrives ends, where it fails or doesn't.
-    fn up_end(
+    pub(crate) fn up_end(
         &mut self,
         alloc: Global,
         number: u32,
@@ -263,7 +291,12 @@ impl ModelSwitch {
     }
 
     // How the pass over a packet that comes down ends, where it fails or doesn't.
-    fn down_end(&mut self, alloc: Global, frame: &[u8], fails: bool) -> Result<DownEnd, NoMemory>
+    pub(crate) fn down_end(
+        &mut self,
+        alloc: Global,
+        frame: &[u8],
+        fails: bool,
+    ) -> Result<DownEnd, NoMemory>
         requires loaded { IsSome (machine_of self.old).code }
         requires frame { IsDownFrame (seen_of (machine_of self.old)) frame.now }
         ensures kept { machine_of self.new ≡ machine_of self.old }
@@ -407,11 +440,69 @@ impl SwitchPort for ModelSwitch {
         }
     }
 
+    fn begin_up(&mut self, alloc: Global, number: u32, port: u8, packet: &[u8]) -> UpEnd
+        requires loaded { IsLoaded (seen_of (machine_of self.old)) }
+        requires size { length packet.now ≤ largest_packet }
+        requires none { HasNoUpPass (seen_of (machine_of self.old)) number }
+        ensures begins { BeginsUp result number port packet.now
+            (seen_of (machine_of self.old)) (seen_of (machine_of self.new)) }
+        ensures plan { UpEndsAsPlanned (fails_next (machine_of self.old) call.BeginUp) result }
+        ensures counted { IsCountedAs call.BeginUp (up_failed result) (machine_of self.old) (machine_of self.new) }
+    {
+        let fails = self.is_to_fail(CallKind::BeginUp);
+        match self.try_begin_up(alloc, number, port, packet, fails) {
+            Ok(end) => end,
+            Err(NoMemory) => UpEnd::NoMemory,
+        }
+    }
+
+    fn stage_up(&mut self, alloc: Global, number: u32) -> UpEnd
+        requires { HasUpPass (seen_of (machine_of self.old)) number }
+        ensures stages { StagesUp result number (seen_of (machine_of self.old)) (seen_of (machine_of self.new)) }
+        ensures plan { UpEndsAsPlanned (fails_next (machine_of self.old) call.StageUp) result }
+        ensures counted { IsCountedAs call.StageUp (up_failed result) (machine_of self.old) (machine_of self.new) }
+    {
+        let fails = self.is_to_fail(CallKind::StageUp);
+        match self.try_stage_up(alloc, number, fails) {
+            Ok(end) => end,
+            Err(NoMemory) => UpEnd::NoMemory,
+        }
+    }
+
+    fn begin_down(&mut self, alloc: Global, frame: &[u8]) -> DownEnd
+        requires loaded { IsLoaded (seen_of (machine_of self.old)) }
+        requires frame { IsDownFrame (seen_of (machine_of self.old)) frame.now }
+        requires none { HasNoDownPassOf (seen_of (machine_of self.old)) frame.now }
+        ensures begins { BeginsDown result frame.now (seen_of (machine_of self.old)) (seen_of (machine_of self.new)) }
+        ensures plan { DownEndsAsPlanned (fails_next (machine_of self.old) call.BeginDown) result }
+        ensures counted { IsCountedAs call.BeginDown (down_failed result) (machine_of self.old) (machine_of self.new) }
+    {
+        let fails = self.is_to_fail(CallKind::BeginDown);
+        match self.try_begin_down(alloc, frame, fails) {
+            Ok(end) => end,
+            Err(NoMemory) => DownEnd::NoMemory,
+        }
+    }
+
+    fn stage_down(&mut self, alloc: Global, number: u32) -> DownEnd
+        requires { HasDownPass (seen_of (machine_of self.old)) number }
+        ensures stages { StagesDown result number (seen_of (machine_of self.old)) (seen_of (machine_of self.new)) }
+        ensures plan { DownEndsAsPlanned (fails_next (machine_of self.old) call.StageDown) result }
+        ensures counted { IsCountedAs call.StageDown (down_failed result) (machine_of self.old) (machine_of self.new) }
+    {
+        let fails = self.is_to_fail(CallKind::StageDown);
+        match self.try_stage_down(alloc, number, fails) {
+            Ok(end) => end,
+            Err(NoMemory) => DownEnd::NoMemory,
+        }
+    }
+
     fn command(&mut self, command: &Command) -> CommandEnd
         requires loaded { IsLoaded (seen_of (machine_of self.old)) }
         requires named { CanCommand (seen_of (machine_of self.old)) command.now }
         requires spare { 0 < (seen_of (machine_of self.old)).spare }
         requires room { HasRoomFor (seen_of (machine_of self.old)) command.now }
+        requires waits { WaitsForNone (seen_of (machine_of self.old)) command.now }
         ensures commands { Commands result command.now (seen_of (machine_of self.old)) (seen_of (machine_of self.new)) }
         ensures plan { CommandEndsAsPlanned (fails_next (machine_of self.old) call.Command) result }
         ensures counted { IsCountedAs call.Command (command_failed result) (machine_of self.old) (machine_of self.new) }

@@ -7,6 +7,7 @@ ghost use Rattle.flat_ir.specs.Operands.{CanRun};
 ghost use Rattle.flat_ir.specs.Program.{work_of};
 ghost use Rattle.flat_ir.specs.Registers.{packet_of, results_of};
 ghost use Rattle.flat_ir.specs.Run.{looked, results};
+ghost use Rattle.transfer_header.specs.Registers.{ArePlaced};
 ghost use Rattle.switch_machine.specs.Ready.{all_placed, placed_at, placed_gives, places_of, reads_at, ready_at, ready_gives, ready_of, CanReady};
 
 use crate::ready::{Places, ReadyStages, ReadyStep};
@@ -32,11 +33,13 @@ impl Numbers for Placed<'_> {
     }
 }
 
-/// There are fewer than 2^32 registers.
+/// There are fewer than 2^32 registers, and each value that has one has a number.
 pub(crate) fn are_few(registers: &Regs)
-    ensures { length registers.now.numbers < 2 ^ 32 }
+    ensures few { length registers.now.numbers < 2 ^ 32 }
+    ensures placed { ArePlaced registers.now }
 {
     let _ = registers.as_slice();
+    let _ = registers.len();
 }
 
 // The result at a place, 0 past the end.
@@ -152,8 +155,8 @@ pub(crate) fn run_steps<L: Lookup, G: Numbers>(
     }
 }
 
-// Computes a stage in registers. What it reads are the numbers that were there before it.
-fn run_stage<L: Lookup>(
+/// Computes a stage in registers. What it reads are the numbers that were there before it.
+pub(crate) fn run_stage<L: Lookup>(
     steps: &[ReadyStep],
     tables: &L,
     arrival: &Arrival<'_>,

@@ -1,8 +1,8 @@
 //! The tables of a switch.
-ghost use Rattle.std.specs.Prelude.{◌≡◌, ℕ, ◌≤◌, [], false, IfOk};
-ghost use Rattle.state_store.specs.Store.{no_object, start_object};
+ghost use Rattle.std.specs.Prelude.{◌≡◌, ℕ, ◌≤◌, [], false, is_some, IfOk};
+ghost use Rattle.state_store.specs.Store.{look, looked_up, no_object, object_at, start_object};
 ghost use Rattle.switch_ir.specs.Code.{code_of};
-ghost use Rattle.switch_ir.specs.Tables.{told_after, pair_at, staging_room, start_pair, declared_at, with_command, IsStart};
+ghost use Rattle.switch_ir.specs.Tables.{told_after, pair_at, staging_room, start_pair, declared_at, view_of, with_command, IsStart};
 ghost use Rattle.writeback_table.specs.Pair.{visible_rows};
 
 use flat_ir::Lookup;
@@ -39,15 +39,7 @@ impl Lookup for SwitchTables {
     ghost seen = { seen_tables };
 
     fn find(&self, object: u32, key: &Values) -> Found {
-        let number = object as usize;
-        if number < self.pairs.len() {
-            self.pairs[number].look(self.bit, key)
-        } else {
-            Found {
-                found: false,
-                values: Values::new(),
-            }
-        }
+        self.find_by(self.bit, object, key)
     }
 }
 
@@ -59,6 +51,29 @@ impl SwitchTables {
         SwitchTables {
             pairs: Vec::new(alloc),
             bit: false,
+        }
+    }
+
+    /// The bit.
+    pub fn bit(&self) -> bool
+        ensures { result ≡ self.now.bit }
+    {
+        self.bit
+    }
+
+    /// What a lookup finds that sees the tables by this bit.
+    pub fn find_by(&self, bit: bool, object: u32, key: &Values) -> Found
+        ensures found { result.found ≡ is_some (look (object_at (view_of bit self.now.pairs) object) key.now) }
+        ensures values { result.values ≡ looked_up (object_at (view_of bit self.now.pairs) object) key.now }
+    {
+        let number = object as usize;
+        if number < self.pairs.len() {
+            self.pairs[number].look(bit, key)
+        } else {
+            Found {
+                found: false,
+                values: Values::new(),
+            }
         }
     }
 

@@ -5,10 +5,11 @@ use Rattle.std.specs.Prelude.{IsSome, IfSome}
 use Rattle.state_store.specs.declared.object.ObjectDecl.{ObjectDecl}
 use Rattle.state_store.specs.Kinds.{is_table}
 use Rattle.transfer_header.specs.Frames.{IsFrame}
+use Rattle.writeback_table.specs.declared.command.Command.TheVariants.{On}
 use Rattle.switch_ir.specs.declared.code.Table.{Table}
 use Rattle.switch_ir.specs.Code.{Code}
 use Rattle.switch_ir.specs.Tables.{declared_at}
-use Rattle.switch_ir.specs.Port.{PortState, IsLoaded, IsReplicatedIn, HasReplicated, IsDownFrame}
+use Rattle.switch_ir.specs.Port.{PortState, IsLoaded, IsReplicatedIn, HasReplicated, IsDownFrame, WaitsForNone}
 
 pub loaded_by : (state : PortState) (code : Code) → state.code ≡ Some code → IsLoaded state
 loaded_by state code e = subst (λ c. IsSome c) (sym e) refl
@@ -20,6 +21,10 @@ shown_by state code e shown = subst (λ c. IfSome c (λ k. (d : ObjectDecl) × I
 pub down_by : (state : PortState) (code : Code) (frame : List ℕ) → state.code ≡ Some code → IsFrame 2 code.down frame
     → IsDownFrame state frame
 down_by state code frame e is = subst (λ c. IfSome c (λ k. IsFrame 2 k.down frame)) (sym e) is
+
+-- a pass under way doesn't see the bit change
+pub on_waits : (state : PortState) → WaitsForNone state On
+on_waits state = record { pre = λ number pass own there told. refl; post = λ number pass own there told. refl }
 
 -- a list of one table
 only : (tables : List Table) (t : Table) → 1 ≤ length tables → length tables < 2 → t ≡ slice_index_or tables 0 t → tables ≡ t ∷ []

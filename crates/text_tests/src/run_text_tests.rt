@@ -123,9 +123,24 @@ fn lines_of_a_schedule(rt: HostRuntime) {
         (b" drain", refused(1, LineKind::Form)),
         (b"drain 1", refused(1, LineKind::Form)),
         (b"#drain\na", Ok(1)),
-        (b"s 0", refused(1, LineKind::Form)),
-        (b"fine\na", refused(1, LineKind::Form)),
-        (b"a\ns x", refused(2, LineKind::Form)),
+        (b"s 0", Ok(1)),
+        (b"a\ns 4294967295\ns 10", Ok(3)),
+        (b"a\ns x", refused(2, LineKind::Number)),
+        (b"s 4294967296", refused(1, LineKind::Number)),
+        (b"s", refused(1, LineKind::Form)),
+        (b"s\t0", refused(1, LineKind::Form)),
+        (b"fine", Ok(0)),
+        (b"fine\r\na\ns 0", Ok(2)),
+        (b"#\n\nfine\n\na", Ok(1)),
+        (b"fine\ndrain", Ok(0)),
+        (b"a\nfine", refused(2, LineKind::Form)),
+        (b"#\nfine\nfine", refused(3, LineKind::Form)),
+        (b"#\n\nfine\n#\nx", refused(5, LineKind::Form)),
+        (b"fine\ndrain\n\nfine", refused(4, LineKind::AfterDrain)),
+        (b"fine ", refused(1, LineKind::Form)),
+        (b" fine", refused(1, LineKind::Form)),
+        (b"Fine", refused(1, LineKind::Form)),
+        (b"fine\na\nu 05", refused(3, LineKind::Number)),
     ] {
         let have = read_schedule(alloc, text).map(|plan| plan.events.len());
         assert_eq!(rt; have, want, "{text:?}");
@@ -165,6 +180,21 @@ fn schedules_that_drain(rt: HostRuntime) {
     ] {
         let have = read_schedule(alloc, text).map(|plan| plan.drain);
         assert_eq!(rt; have, want, "{text:?}");
+    }
+}
+
+#[test]
+fn schedules_that_are_fine(rt: HostRuntime) {
+    let alloc = rt.alloc();
+    for (text, want) in [
+        (b"".as_slice(), false),
+        (b"a\ns 0\n", false),
+        (b"# fine\na\n", false),
+        (b"fine", true),
+        (b"#\n\r\nfine\r\na\ndrain", true),
+    ] {
+        let have = read_schedule(alloc, text).map(|plan| plan.fine);
+        assert_eq!(rt; have, Ok(want), "{text:?}");
     }
 }
 
@@ -241,6 +271,8 @@ fn schedules_are_printed(rt: HostRuntime) -> Result<(), Fail> {
         (b"#drain", b""),
         (b"drain", b"drain\n"),
         (b"a\r\na\nu 0\n\nu 0\ndrain\n#", b"a\na\nu 0\nu 0\ndrain\n"),
+        (b"#\nfine\r\n\na\ns 7", b"fine\na\ns 7\n"),
+        (b"fine\ndrain", b"fine\ndrain\n"),
         (
             b"h 4294967295\nd 10\nu 7\nc\nw\nk\na",
             b"h 4294967295\nd 10\nu 7\nc\nw\nk\na\n",
@@ -259,13 +291,14 @@ fn stages_are_printed(rt: HostRuntime) -> Result<(), Fail> {
         events.push(event)?;
     }
     let plan = Plan {
+        fine: true,
         events,
         drain: true,
     };
     let text = print_schedule(alloc, &plan)?;
     assert_eq!(rt;
         text.as_slice(),
-        b"a\ns 0\ns 4294967295\ndrain\n".as_slice()
+        b"fine\na\ns 0\ns 4294967295\ndrain\n".as_slice()
     );
     Ok(())
 }

@@ -4,4 +4,5 @@ pub mod Commands
 pub mod Pair
 pub mod Seen
 pub mod Staging
+pub mod Views
 pub mod Widths

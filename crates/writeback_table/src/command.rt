@@ -1,4 +1,7 @@
 //! Changes that the server made, and the commands that carry them to the switch.
+ghost use Rattle.std.specs.Prelude.{◌≡◌};
+ghost use Rattle.writeback_table.specs.Views.{disturbs};
+
 use gal_bits::Values;
 
 /// What a change leaves under its key.
@@ -32,6 +35,20 @@ pub enum Command {
     Off,
     /// Removes a key from the write-back table of the object of this number.
     Clear(u32, Values),
+}
+
+impl Command {
+    /// Whether it changes what a pass under way sees that entered with this bit: the main tables, or what is staged over
+    /// them.
+    pub fn disturbs(&self, bit: bool) -> bool
+        ensures { result ≡ disturbs bit self.now }
+    {
+        match self {
+            Command::Stage(_) => bit,
+            Command::Main(_) => !bit,
+            Command::On | Command::Off | Command::Clear(..) => false,
+        }
+    }
 }
 
 /// What a command did.

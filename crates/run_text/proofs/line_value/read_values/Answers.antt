@@ -1,4 +1,4 @@
-use Rattle.std.proofs.Common.{false, arith}
+use Rattle.std.proofs.Common.{◌+◌, false, arith}
 use Rattle.gal_io.specs.Lines.{lines}
 use Rattle.run_text.specs.Trace.{values_until}
 use Rattle.run_text.proofs.LineSteps.{ahead_values, all_lines, any_ends, first_stands}
@@ -13,5 +13,5 @@ loop-line-init g c =
       ended = any_ends ends ls;
       have = omega arith;
       number = omega arith;
-      stands = first_stands (ahead_values ends value false 1 ls) (values_until ends value ls) c.new-items.result.items c.args.most (all_lines ends value ls) c.new-items.ensures.items;
+      stands = first_stands (ahead_values ends value false (c.args.before + 1) ls) (values_until ends value (c.args.before + 1) ls) c.new-items.result.items c.args.most (all_lines ends value (c.args.before + 1) ls) c.new-items.ensures.items;
     }

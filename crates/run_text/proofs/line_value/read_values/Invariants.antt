@@ -9,8 +9,8 @@ abbrev pub invariant-loop-line : goal.invariant-loop-line
 invariant-loop-line g l = record {
   ended : ahead_ended g.V.LineValue.line_ends l.ended (lines l.ahead) ≡ list_any g.V.LineValue.line_ends (lines l.text);
   have : l.have ≤ l.number;
-  number : l.number + length l.ahead ≤ length l.text;
-  stands : Stands (ahead_values g.V.LineValue.line_ends g.V.LineValue.line_gives l.ended (l.number + 1) (lines l.ahead)) (values_until g.V.LineValue.line_ends g.V.LineValue.line_gives (lines l.text)) l.items.items l.have l.most;
+  number : l.number + length l.ahead ≤ l.before + length l.text;
+  stands : Stands (ahead_values g.V.LineValue.line_ends g.V.LineValue.line_gives l.ended (l.number + 1) (lines l.ahead)) (values_until g.V.LineValue.line_ends g.V.LineValue.line_gives (l.before + 1) (lines l.text)) l.items.items l.have l.most;
 }
 
 abbrev pub decreases-loop-line : goal.decreases-loop-line

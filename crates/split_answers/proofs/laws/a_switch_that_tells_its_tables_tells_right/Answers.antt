@@ -12,7 +12,7 @@ use Rattle.split_answers.proofs.Tells.{tells, asked_where}
 use Rattle.split_answers.proofs.laws.a_switch_that_tells_its_tables_tells_right.Goals as goal
 
 pub returns : goal.returns
-returns c f split writeback packets manner events event calls one st tables is arrive answered tied through asks over applies =
+returns c f split writeback packets manner events event calls one st tables is arrive answered tied through asks given over staged applies =
     let s = whole_of f split writeback in
     let setup = setup_of s packets manner in
     let sound = c.whole_runs_are_sound.ensures.sound s packets manner (c.split_programs_have_their_laws.ensures f split writeback packets is arrive) in
@@ -25,6 +25,6 @@ returns c f split writeback packets manner events event calls one st tables is a
     (λ n none. calls_say.fresh_down calls one n none)
     (subst HavePlaces (sym answered.run) (c.packets_are_where_they_are_told.ensures setup (journal s calls) events))
     shows
-    (λ number packet end answer arrives seen_is ends ended. c.a_told_pass_up_is_right.ensures f split writeback (store_at st.stores (seen st)) (take st.done (commands_in st.batches)) tables number packet end answer is kept arrives through seen_is ends ended)
+    (λ number packet answer arrives seen_is ends ended. c.a_told_pass_up_is_right.ensures f split writeback (store_at st.stores (seen st)) (take st.done (commands_in st.batches)) tables number packet answer is kept arrives through seen_is ends ended)
     (λ frame verdict framed ends. c.a_told_pass_down_is_right.ensures f split writeback (take st.done (commands_in st.batches)) tables frame verdict is through framed ends)
-    event (asks ∙ asked_where setup s packets calls one st event applies) over
+    event (asks ∙ asked_where setup s packets calls one st event applies) given over staged

@@ -2,7 +2,7 @@ use Rattle.split_answers.proofs.Passed.{passes_up}
 use Rattle.split_answers.proofs.laws.a_told_pass_up_is_right.Goals as goal
 
 pub returns : goal.returns
-returns c f split writeback st commands told number packet end answer is kept arrives through seen =
+returns c f split writeback st commands told number packet answer is kept arrives through seen ends ended =
     passes_up
     (record {
       computes = c.what_is_emitted_computes_the_split.ensures;
@@ -12,4 +12,4 @@ returns c f split writeback st commands told number packet end answer is kept ar
       carried = c.carried_values_stand.ensures;
       alike = c.frames_of_equal_values.ensures;
     })
-    f split writeback st commands told number packet is kept through seen end answer
+    f split writeback st commands told number packet is kept through seen answer ends ended

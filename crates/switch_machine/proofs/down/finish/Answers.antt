@@ -27,3 +27,9 @@ returns-clause-end c =
     ∙ sent_same now (pass_values (code_of given_to.code).post given tables packet) (code_of given_to.code).post packet
     (c.run_down.ensures.values given begins)
     ∙ ap (λ (code : Code). leaves code.post (pass_values code.post given tables packet) packet) c.give.ensures.code
+
+pub returns-clause-stays : goal.returns-clause-stays
+returns-clause-stays c =
+    let one = c.give.ensures.stays in
+    let two = c.run_down.ensures.stays in
+    (two.0 ∙ one.0, two.1 ∙ one.1, two.2 ∙ one.2, two.3 ∙ one.3, two.4 ∙ one.4)

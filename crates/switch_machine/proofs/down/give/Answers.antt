@@ -35,7 +35,7 @@ returns-clause-begins c =
     c.run_steps.ensures.written
     ∙ ap (all_placed registers) (given_is l.given packet c.none-none.result c.none-none.ensures c.stage.result.now c.stage.ensures)
     ∙ c.a_pass_by_place.ensures.stage l.post_numbering l.code.post.plan given 0 l.given nothing [] packet registers 0 l.given_stage l.post_plan
-    c.are_few.ensures (omega arith) in
+    c.are_few.ensures.few (omega arith) in
     subst (BeginsWith l.post_numbering (begins_down l.post_numbering code) (down_given code (value_in registers) packet)) (sym same)
     (c.postprocessing_is_computed.ensures.begins code l.post_numbering registers packet (ready_down l registers refl) c.requires.placed)
 
@@ -50,5 +50,5 @@ returns-clause-placed c =
     c.run_steps.ensures.written
     ∙ ap (all_placed registers) (given_is l.given packet c.none-none.result c.none-none.ensures c.stage.result.now c.stage.ensures)
     ∙ c.a_pass_by_place.ensures.stage l.post_numbering l.code.post.plan given 0 l.given nothing [] packet registers 0 l.given_stage l.post_plan
-    c.are_few.ensures (omega arith) in
+    c.are_few.ensures.few (omega arith) in
     subst (λ (r : Registers). ArePlaced r) (sym same) (placed_pairs registers gives c.requires.placed)

@@ -27,6 +27,6 @@ returns-clause-values c given begin =
     held_by l.post_numbering last after (pass_values code.post given (seen_tables told) packet) (kept_down code)
     (c.run_pass.ensures.written
     ∙ c.a_pass_by_place.ensures.pass l.post_numbering l.code.post.plan code.post l.post (seen_tables told) packet registers l.post_stages
-    l.post_plan c.are_few.ensures)
+    l.post_plan c.are_few.ensures.few)
     (c.postprocessing_is_computed.ensures.computed code l.post_numbering registers told packet given (ready_down l registers refl)
     c.requires.safe c.requires.placed begin)

@@ -1,4 +1,4 @@
-use Rattle.switch_machine.proofs.Placing.{pass_is, stage_can, stage_is}
+use Rattle.switch_machine.proofs.Placing.{one_is, pass_is, stage_can, stage_is}
 use Rattle.switch_machine.proofs.laws.a_pass_by_place.Goals as goal
 
 pub returns-clause-can : goal.returns-clause-can
@@ -9,3 +9,6 @@ returns-clause-stage c = stage_is
 
 pub returns-clause-pass : goal.returns-clause-pass
 returns-clause-pass c = pass_is
+
+pub returns-clause-one : goal.returns-clause-one
+returns-clause-one c = one_is

@@ -1,4 +1,4 @@
-use Rattle.std.proofs.Common.{◌++◌, ◌∙◌, sym, subst}
+use Rattle.std.proofs.Common.{◌++◌, ◌∙◌, refl, sym, subst}
 use Rattle.flat_ir.specs.Registers.{packet_of}
 use Rattle.transfer_header.specs.Frames.{IsFrameOf}
 use Rattle.transfer_header.specs.Registers.{content_of, value_in}
@@ -42,3 +42,15 @@ returns-clause-ends c reads same =
           ∙ sym c.leaves_work-leaves.ensures.leaves ∙ c.if-leaves.false,
       c.leave.ensures ∙ sent_same now reads code.pre (packet_of c.args.arrival.now) (alike_right now reads lines (left_with code.pre) rest),
     )
+
+pub returns-in_err-frame-clause-stays : goal.returns-in_err-frame-clause-stays
+returns-in_err-frame-clause-stays c = (refl, refl, refl, refl, refl)
+
+pub returns-then-leaves-clause-stays : goal.returns-then-leaves-clause-stays
+returns-then-leaves-clause-stays c = (refl, refl, refl, refl, refl)
+
+pub returns-in_err-copy-clause-stays : goal.returns-in_err-copy-clause-stays
+returns-in_err-copy-clause-stays c = (refl, refl, refl, refl, refl)
+
+pub returns-clause-stays : goal.returns-clause-stays
+returns-clause-stays c = (refl, refl, refl, refl, refl)

@@ -5,7 +5,7 @@ use Rattle.switch_ir.specs.Meaning.{up_values}
 use Rattle.switch_ir.specs.Passes.{Code}
 use Rattle.switch_ir.specs.Port.{EndsUp}
 use Rattle.switch_ir.specs.Tables.{seen_tables}
-use Rattle.switch_machine.specs.Ends.{EndsBy}
+use Rattle.switch_ir.specs.Staged.{EndsBy}
 use Rattle.switch_machine.proofs.GoingUp.{ends_up}
 use Rattle.switch_machine.proofs.Lists.{ok_weaker}
 use Rattle.switch_machine.proofs.up.go_up.Goals as goal

@@ -33,6 +33,6 @@ returns-clause-values c =
     held_by l.pre_numbering last after (up_values code (seen_tables told) packet) (kept_up code)
     (c.run_pass.ensures.written
     ∙ c.a_pass_by_place.ensures.pass l.pre_numbering l.code.pre.plan code.pre l.pre (seen_tables told) packet registers l.pre_stages
-    (c.clear.ensures.plan ∙ l.pre_plan) c.are_few.ensures)
+    (c.clear.ensures.plan ∙ l.pre_plan) c.are_few.ensures.few)
     (c.preprocessing_is_computed.ensures.computed code l.pre_numbering registers told packet (ready_up l registers c.clear.ensures.plan)
     c.requires.safe c.clear.ensures.contents c.clear.ensures.placed)

@@ -13,9 +13,9 @@ returns-clause-drained g c = has_drained c.a_drain_ends.ensures _ c.loop-event.c
 pub step-requires-clause-events : goal.step-requires-clause-events
 step-requires-clause-events g c = few_drained _ c.loop-event.count c.args.self.now c.loop-event.self _ _ c.loop-event.invariant.0 c.loop-event.invariant.1 c.requires.few
 
-pub step-requires-clause-room : goal.step-requires-clause-room
-step-requires-clause-room g c =
-    drain_room c.the_next_command_finds_room.ensures _ c.loop-event.count c.args.self.now c.loop-event.self _ _ c.requires.on_its_way c.loop-event.invariant.0
+pub step-requires-clause-may_call : goal.step-requires-clause-may_call
+step-requires-clause-may_call g c =
+    drain_room c.the_next_calls_may_be_made.ensures _ c.loop-event.count c.args.self.now c.loop-event.self _ _ c.requires.on_its_way c.loop-event.invariant.0
 
 pub loop-event-smaller : goal.loop-event-smaller
 loop-event-smaller g c =

@@ -8,8 +8,8 @@ use Rattle.std.proofs.lemmas.Result.{err_from_is_err_and}
 use Rattle.replay_course.proofs.Failing.{fails_behind, goes_gone}
 use Rattle.replay_course.proofs.course.Course.perform.Goals as goal
 
-pub step-requires-clause-room : goal.step-requires-clause-room
-step-requires-clause-room g c = room_by c.the_next_command_finds_room.ensures _ _ c.loop-event.self _ _ c.loop-event.invariant
+pub step-requires-clause-may_call : goal.step-requires-clause-may_call
+step-requires-clause-may_call g c = room_by c.the_next_calls_may_be_made.ensures _ _ c.loop-event.self _ _ c.loop-event.invariant
 
 pub loop-event-preserved : goal.loop-event-preserved
 loop-event-preserved g c =

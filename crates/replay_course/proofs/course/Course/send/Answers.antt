@@ -10,14 +10,14 @@ returns-then-send_command-clause-shown c = λ s setup a calls st same h.
 
 pub returns-then-send_command-clause-sound : goal.returns-then-send_command-clause-sound
 returns-then-send_command-clause-sound c = λ x h.
-    send_sound c.a_batch_takes_up_others.ensures x c.args.self.now _ h refl refl c.if-send_command.ensures.after refl refl (let i = h.within.idle in omega arith)
+    send_sound c.a_batch_takes_up_others.ensures x c.args.self.now _ h refl refl refl refl refl c.if-send_command.ensures.after refl refl (let i = h.within.idle in omega arith)
 
 pub returns-then-send_command-clause-unapplied : goal.returns-then-send_command-clause-unapplied
 returns-then-send_command-clause-unapplied c = subst (λ k. left_of k ≤ left_of c.args.self.now.commit) (sym c.if-send_command.ensures.after) (send_less c.a_batch_takes_up_others.ensures c.args.self.now.commit)
 
 pub returns-else-send_command-clause-sound : goal.returns-else-send_command-clause-sound
 returns-else-send_command-clause-sound c = λ x h.
-    send_sound c.a_batch_takes_up_others.ensures x c.args.self.now _ h refl refl c.if-send_command.ensures.after refl refl (let i = h.within.idle in omega arith)
+    send_sound c.a_batch_takes_up_others.ensures x c.args.self.now _ h refl refl refl refl refl c.if-send_command.ensures.after refl refl (let i = h.within.idle in omega arith)
 
 pub returns-else-send_command-clause-unapplied : goal.returns-else-send_command-clause-unapplied
 returns-else-send_command-clause-unapplied c = subst (λ k. left_of k ≤ left_of c.args.self.now.commit) (sym c.if-send_command.ensures.after) (send_less c.a_batch_takes_up_others.ensures c.args.self.now.commit)

@@ -46,4 +46,4 @@ returns-clause-turned g c =
     slice_get-get_or before.items c.args.j (c.in-Some.number, c.in-Some.frame) within ∙ ap (λ x. Some x) (sym c.in-Some.ensures.value) in
     serve_turned c.packets_are_where_they_are_told.ensures _ c.args.self.now _ _ _ c.args.j c.in-Some.number c.in-Some.frame c.in_ok-served.served c.serve_frame.new.server
     (λ update. c.replicated_objects_are_declared.ensures.updates _ _ _ update) c.requires.going here c.in_ok-served.ensures c.in_ok-reserve.ensures.room
-    c.in-Some.ensures.items refl c.in_ok-hold.ensures.ok refl c.decide_at.ensures refl refl
+    refl refl refl c.in-Some.ensures.items refl c.in_ok-hold.ensures.ok refl c.decide_at.ensures refl refl

@@ -3,10 +3,12 @@ use Rattle.flat_ir.specs.Program.{program_of}
 use Rattle.server_runtime.specs.Views.{server_of}
 use Rattle.std.specs.List.{AllByRecursion as Each}
 use Rattle.flat_ir.specs.Arrivals.{IsArrival}
+use Rattle.std.specs.Prelude.{if◌then◌else◌}
+use Rattle.switch_ir.specs.Code.{Code}
 use Rattle.switch_ir.specs.Port.{Loads}
 use Rattle.switch_ir.specs.declared.port.PortEnd.TheVariants as port
 use Rattle.replay_contracts.specs.Replayer.{given_of}
-use Rattle.replay_course.proofs.Going.{is_plain, started}
+use Rattle.replay_course.proofs.Going.{is_prepared, started}
 use Rattle.replay_course.proofs.course.Course.start.Goals as goal
 
 pub returns-clause-started : goal.returns-clause-started
@@ -14,9 +16,11 @@ returns-clause-started g c =
     let x = given_of c.args.job.now in
     let loads = subst (λ code. Loads port.Done code (g.S.SwitchPort.seen c.args.port.now) (g.S.SwitchPort.seen c.load.new.port)) c.in_ok-code.ensures.code
     c.in_ok-load.ensures.loads in
-    started c.a_replay_begins.ensures x c.new-3.result (server_of c.in_ok-server.server) _ _
-    (is_plain x c.requires.split (subst (Each IsArrival) c.as_slice.ensures.value c.all_arrive.ensures) refl c.requires.few)
-    loads
+    let pre = c.stages_in-pre_stages.ensures.pre ∙ ap (λ (k : Code). if x.manner.fine then k.pre.highest else 0) c.in_ok-code.ensures.code in
+    let post = c.stages_in-pre_stages.ensures.post ∙ ap (λ (k : Code). if x.manner.fine then k.post.highest else 0) c.in_ok-code.ensures.code in
+    started c.a_replay_begins.ensures x c.new-3.result (server_of c.in_ok-server.server) _ _ c.stages_in-pre_stages.result.0 c.stages_in-pre_stages.result.1
+    (is_prepared x c.requires.split c.requires.stages (subst (Each IsArrival) c.as_slice.ensures.value c.all_arrive.ensures) refl c.requires.few)
+    loads pre post
     (c.in_ok-server.ensures ∙ ap (λ st. record {
       program = program_of c.args.job.now.flat;
       split = c.args.job.now.split;

@@ -1,11 +1,6 @@
-use Rattle.replay_course.proofs.Arms.{acknowledged_turned, held_turned, sent_turned, stage_idles}
+use Rattle.replay_course.proofs.Arms.{acknowledged_turned, held_turned, sent_turned}
 use Rattle.replay_course.proofs.Turning.{at_event}
 use Rattle.replay_course.proofs.course.Course.step.Goals as goal
-
-pub returns-in-Stage-clause-turned : goal.returns-in-Stage-clause-turned
-returns-in-Stage-clause-turned g c =
-    at_event _ _ _ _ c.args.self.now _ _ _ c.in-Stage.is (stage_idles _ _ c.args.self.now _ _ _ c.requires.going c.idled.ensures.stepped c.idled.ensures.sound
-    c.idled.ensures.unapplied c.idled.ensures.counted c.idled.ensures.shown)
 
 pub returns-in-Send-clause-turned : goal.returns-in-Send-clause-turned
 returns-in-Send-clause-turned g c =

@@ -12,10 +12,10 @@ step-requires-clause-events g c =
     let me = c.args.self.now in
     few_events c.few_events_are_left.ensures.bound (given_of me.job) me.course (g.S.SwitchPort.seen me.port) me.steps me.failed c.requires.stands c.in_default.is
 
-pub step-requires-clause-room : goal.step-requires-clause-room
-step-requires-clause-room g c =
+pub step-requires-clause-may_call : goal.step-requires-clause-may_call
+step-requires-clause-may_call g c =
     let me = c.args.self.now in
-    room_there c.the_next_command_finds_room.ensures (given_of me.job) me.course (g.S.SwitchPort.seen me.port) me.steps me.failed c.requires.stands c.in_default.is
+    room_there c.the_next_calls_may_be_made.ensures (given_of me.job) me.course (g.S.SwitchPort.seen me.port) me.steps me.failed c.requires.stands c.in_default.is
 
 pub returns-in-Ok-clause-stepped : goal.returns-in-Ok-clause-stepped
 returns-in-Ok-clause-stepped g c = λ events now.

@@ -1,0 +1,46 @@
+use Rattle.std.proofs.Common.{◌≡◌, ◌<◌, Some, length, arith, refl, sym, ap, subst, ◌∙◌}
+use Rattle.std.proofs.lemmas.Option.{slice_get_within}
+use Rattle.std.proofs.lemmas.Result.{err_from_is_err_and}
+use Rattle.replay_contracts.specs.Replayer.{given_of}
+use Rattle.replay_course.proofs.Arms.{ends_up_here, has_up_pass, more_stages_up, stage_up_goes_on, stage_up_ends, was_there}
+use Rattle.replay_course.proofs.Failing.{fails_stage_up}
+use Rattle.replay_course.proofs.course.Course.stage_up.Goals as goal
+
+pub stage_up-requires : goal.stage_up-requires
+stage_up-requires g c =
+    let me = c.args.self.now in
+    let port = g.S.SwitchPort.seen c.args.port.now in
+    has_up_pass (given_of c.args.job.now) me port port c.args.j c.args.pass c.requires.going c.requires.there
+    (c.requires.may_call.under_way c.args.j c.args.pass c.requires.there) c.requires.kind
+
+pub take_stage-requires : goal.take_stage-requires
+take_stage-requires g c = record {
+  there = c.requires.there;
+  some = more_stages_up (given_of c.args.job.now) c.args.self.now _ _ c.args.j c.args.pass c.requires.going c.requires.there
+      (c.requires.may_call.under_way c.args.j c.args.pass c.requires.there) c.requires.kind c.in-Going.ensures;
+}
+
+pub returns-in-Going-clause-turned : goal.returns-in-Going-clause-turned
+returns-in-Going-clause-turned g c =
+    stage_up_goes_on c.a_run_is_answered_by_its_calls.ensures.gone (given_of c.args.job.now) c.args.self.now c.take_stage.new.self _ _ c.args.j c.args.pass
+    c.requires.going c.requires.there (c.requires.may_call.under_way c.args.j c.args.pass c.requires.there) c.requires.kind c.in-Going.ensures c.take_stage.ensures
+
+pub returns-in_ok-come_in-in_default : goal.returns-in_ok-come_in-in_default
+returns-in_ok-come_in-in_default g c =
+    let me = c.args.self.now in
+    let law = c.a_run_is_answered_by_its_calls.ensures in
+    let came = c.in_ok-come_in-in_default.ensures in
+    let within : c.args.j < length me.passes.items = slice_get_within me.passes.items c.args.j c.args.pass c.requires.there in
+    let items = was_there c.remove.result _ c.remove.ensures.items (c.remove.ensures.variant.1 (omega (arith, within, me.passes.ok.0))) in
+    record {
+      turned = stage_up_ends (given_of c.args.job.now) me _ c.come_in.new.self _ _ c.args.j c.args.pass c.requires.going c.requires.there
+          (c.requires.may_call.under_way c.args.j c.args.pass c.requires.there) refl refl items refl refl refl refl refl refl refl came.unapplied came.counted
+          c.packets_are_where_they_are_told.ensures law.once law.fresh_up law.gone c.stage_up.result came.answers.0 came.answers.1
+          (ends_up_here c.stage_up.result came.answers.0 came.answers.1 c.in_default.not-Going) c.requires.kind c.stage_up.ensures came.shown came.sound;
+      fails = tt;
+    }
+
+pub returns-in_err-come_in-in_default : goal.returns-in_err-come_in-in_default
+returns-in_err-come_in-in_default g c =
+    let p = err_from_is_err_and c.from_residual.result c.from_residual.ensures.1 in
+    rw (p.1, p.2) (record { turned = tt; fails = fails_stage_up _ c.stage_up.result _ _ _ c.in_err-come_in-in_default.ensures.fails c.stage_up.ensures })

@@ -1,0 +1,174 @@
+//! Passes that are under way, stage by stage.
+ghost use Rattle.std.specs.Prelude.{◌≡◌, ℕ, ◌≤◌, ◌<◌, ◌==◌, suc, filter, not, position, length, IfOk};
+ghost use Rattle.packet_fields.specs.Shape.{shape_of};
+ghost use Rattle.packet_fields.specs.Sizes.{largest_packet};
+ghost use Rattle.flat_ir.specs.Registers.{packet_of};
+ghost use Rattle.transfer_header.specs.Registers.{ArePlaced};
+ghost use Rattle.switch_ir.specs.Tables.{seen_tables, view_of};
+ghost use Rattle.switch_machine.specs.Flights.{packet_in, IsBegun};
+ghost use Rattle.switch_machine.specs.Ready.{all_placed, reads_at, ready_at, ready_gives, CanReady};
+ghost use Rattle.std.specs.List.{AllByRecursion as Each};
+ghost use Rattle.switch_machine.specs.declared.flight.Flight.{Flight as PassFlight};
+
+use crate::loaded::Workplace;
+use crate::passes::run_stage;
+use crate::ready::ReadyStages;
+use crate::tables::SwitchTables;
+use flat_ir::{Arrival, Lookup, RegPlan};
+use gal_bits::Values;
+use gal_io::{Bytes, NoMemory};
+use packet_fields::Shape;
+use state_store::Found;
+use std::alloc::Global;
+use transfer_header::Regs;
+
+/// The tables as a pass sees them that entered with this bit.
+#[derive(Clone, Copy)]
+pub(crate) struct View<'a> {
+    pub tables: &'a SwitchTables,
+    pub bit: bool,
+}
+
+impl Lookup for View<'_> {
+    ghost use Rattle.switch_ir.specs.Tables.{view_of};
+
+    ghost seen = { λ view. view_of view.bit view.tables.now.pairs };
+
+    fn find(&self, object: u32, key: &Values) -> Found {
+        self.tables.find_by(self.bit, object, key)
+    }
+}
+
+/// A pass between two of its stages.
+#[derive(Debug, Drop)]
+pub(crate) struct Flight {
+    /// The number of its packet.
+    pub number: u32,
+    pub port: u8,
+    pub packet: Bytes,
+    /// The bit that stood at its entry.
+    pub bit: bool,
+    /// The stage that is done.
+    pub stage: u32,
+    pub registers: Regs,
+}
+
+/// The place of the first pass over the packet of this number.
+pub(crate) fn place_of(flights: &[Flight], number: u32) -> Option<usize>
+    ensures { result ≡ position (λ (f : PassFlight). f.number == number) flights.now }
+{
+    flights.iter().position(|flight| flight.number == number)
+}
+
+/// Takes the passes over the packet of this number out of a list. This takes no memory.
+pub(crate) fn take_out(flights: &mut Vec<Flight>, number: u32)
+    ensures { flights.new.items ≡ filter (λ (f : PassFlight). not (f.number == number)) flights.old.items }
+{
+    flights.retain(|flight| flight.number != number);
+}
+
+// Gives registers the numbers of others that go by the same plan.
+fn copy_numbers(from: &Regs, to: &mut Regs)
+    requires plan { to.old.plan ≡ from.now.plan }
+    requires count { length to.old.numbers ≡ length from.now.numbers }
+    ensures { to.new ≡ from.now }
+{
+    let numbers = from.as_slice();
+    for place in 0..from.len() {
+        to.set_at(place, numbers[place as usize]);
+    }
+}
+
+/// A pass whose stage 0 is done, in registers of its own that have these numbers.
+pub(crate) fn keep(
+    alloc: Global,
+    plan: RegPlan,
+    registers: &Regs,
+    number: u32,
+    arrival: &Arrival<'_>,
+    bit: bool,
+) -> Result<Flight, NoMemory>
+    requires plan { registers.now.plan ≡ Some plan }
+    requires count { length registers.now.numbers ≡ plan.count }
+    ensures { IfOk result (IsBegun number (packet_of arrival.now) bit registers.now) }
+{
+    let mut own = Regs::planned(alloc, plan)?;
+    copy_numbers(registers, &mut own);
+    Ok(Flight {
+        number,
+        port: arrival.port,
+        packet: Bytes::from_slice(alloc, arrival.bytes)?,
+        bit,
+        stage: 0,
+        registers: own,
+    })
+}
+
+/// Computes stage 0 of a pass at a workplace, over the tables as lookups see them.
+pub(crate) fn take_first(
+    stages: &ReadyStages,
+    place: &mut Workplace,
+    tables: &SwitchTables,
+    arrival: &Arrival<'_>,
+)
+    requires can { Each CanReady (ready_at stages.now 0) }
+    requires within { 0 < length stages.now }
+    requires size { length arrival.now.bytes.now ≤ largest_packet }
+    requires shape { arrival.now.shape ≡ shape_of arrival.now.bytes.now }
+    requires room { length place.old.before.items ≡ length place.old.registers.numbers }
+    ensures written { place.new.registers ≡ all_placed place.old.registers
+        (ready_gives (ready_at stages.now 0) (reads_at place.old.registers.numbers) (seen_tables tables.now)
+        (packet_of arrival.now)) }
+    ensures plan { place.new.registers.plan ≡ place.old.registers.plan }
+    ensures count { length place.new.registers.numbers ≡ length place.old.registers.numbers }
+    ensures room { length place.new.before.items ≡ length place.old.before.items }
+{
+    run_stage(
+        stages.stage(0),
+        tables,
+        arrival,
+        &mut place.registers,
+        &mut place.before,
+    );
+}
+
+/// Computes the next stage of a pass at a workplace, over the tables that the pass sees. The pass stays as it is.
+pub(crate) fn take_stage(
+    stages: &ReadyStages,
+    place: &mut Workplace,
+    tables: &SwitchTables,
+    flight: &Flight,
+)
+    requires can { Each CanReady (ready_at stages.now (suc flight.now.stage)) }
+    requires within { suc flight.now.stage < length stages.now }
+    requires size { length flight.now.packet ≤ largest_packet }
+    requires plan { place.old.registers.plan ≡ flight.now.registers.plan }
+    requires count { length place.old.registers.numbers ≡ length flight.now.registers.numbers }
+    requires room { length place.old.before.items ≡ length place.old.registers.numbers }
+    ensures written { place.new.registers ≡ all_placed flight.now.registers
+        (ready_gives (ready_at stages.now (suc flight.now.stage)) (reads_at flight.now.registers.numbers)
+        (view_of flight.now.bit tables.now.pairs) (packet_in flight.now)) }
+    ensures plan { place.new.registers.plan ≡ place.old.registers.plan }
+    ensures count { length place.new.registers.numbers ≡ length place.old.registers.numbers }
+    ensures room { length place.new.before.items ≡ length place.old.before.items }
+{
+    copy_numbers(&flight.registers, &mut place.registers);
+    let bytes = flight.packet.as_slice();
+    let arrival = Arrival {
+        port: flight.port,
+        bytes,
+        shape: Shape::of(bytes),
+    };
+    let view = View {
+        tables,
+        bit: flight.bit,
+    };
+    let stage = flight.stage as usize + 1;
+    run_stage(
+        stages.stage(stage),
+        &view,
+        &arrival,
+        &mut place.registers,
+        &mut place.before,
+    );
+}
