@@ -1,5 +1,5 @@
 -- Held outputs, all batches of changes, and how far their commands have come.
-use Rattle.std.specs.Prelude.{◌≡◌, ◌≤◌, ◌<◌, ◌^◌, ℕ, zero, suc, ◌+◌, ◌*◌, ◌==◌, Bool, true, false, ◌&&◌, List, [], ◌∷◌, ◌++◌}
+use Rattle.std.specs.Prelude.{◌≡◌, ◌≤◌, ◌<◌, ◌^◌, ℕ, zero, suc, ◌+◌, ◌-◌, ◌*◌, ◌==◌, Bool, true, false, ◌&&◌, List, [], ◌∷◌, ◌++◌}
 use Rattle.std.specs.Prelude.{Option, Some, None, nat_lt, length, slice_get, remove, take, if◌then◌else◌}
 use Rattle.std.specs.List.{AllByRecursion as Each}
 use Rattle.writeback_table.specs.declared.command.Update.{Update}
@@ -58,6 +58,10 @@ abbrev pub after_send : Commit → Commit
 after_send c =
     if nat_lt c.sent (length (commands c))
     then record c { batches = merged (fits c.writeback) c.sent c.batches; sent = c.sent + 1 } else c
+
+-- the last command that was sent
+abbrev pub last_sent : Commit → Option Command
+last_sent c = if c.sent == 0 then None else slice_get (commands c) (c.sent - 1)
 
 -- the first command that was sent and isn't applied
 abbrev pub next : Commit → Option Command

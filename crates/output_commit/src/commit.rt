@@ -147,6 +147,17 @@ impl Commit {
         true
     }
 
+    /// The last command that was sent. It is `None` exactly where none was sent.
+    pub fn sent_command(&self) -> Option<Command>
+        ensures { result ≡ spec.last_sent self.now }
+    {
+        let Some(span) = self.batches.begun().last() else {
+            return None;
+        };
+        let step = span.commands() - 1 - self.left;
+        Some(command_at(span.of(self.batches.updates.as_slice()), step as usize))
+    }
+
     /// The next command that the switch is to apply, which counts as applied from then on. It is `None` exactly where
     /// all sent ones are applied.
     pub fn next_command(&mut self) -> Option<Command>

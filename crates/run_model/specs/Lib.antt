@@ -2,5 +2,6 @@ pub mod Fate
 pub mod Order
 pub mod Parts
 pub mod Sizes
+pub mod LinkEvents
 pub mod Meaning
 pub mod Serialises

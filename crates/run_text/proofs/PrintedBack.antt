@@ -28,7 +28,7 @@ use Rattle.run_text.proofs.PrintedLines.{AreLines, after_space, all_both, before
 
 -- ---- digits
 
-digits_plain : (ds : List ℕ) → all_ascii_digits ds ≡ true → list_all plain ds ≡ true
+pub digits_plain : (ds : List ℕ) → all_ascii_digits ds ≡ true → list_all plain ds ≡ true
 digits_plain [] h = refl
 digits_plain (d ∷ ds) h = let rest = digits_plain ds in grind (arith, nat_tests, rest, h)
 
@@ -80,7 +80,7 @@ body_back [] h short = refl
 body_back (b ∷ bytes) h short =
     digits_back (slice_index lower_digits (b / 16)) (slice_index lower_digits (b % 16)) (encode_with lower_digits bytes) (b ∷ bytes) (decode_of-encode_lower (b ∷ bytes) h) short
 
-within : {X : Type 0} (most : ℕ) (xs : List X) → length xs ≤ most → at_most most (Ok xs) ≡ Ok xs
+pub within : {X : Type 0} (most : ℕ) (xs : List X) → length xs ≤ most → at_most most (Ok xs) ≡ Ok xs
 within most xs few = rw (le-leb (length xs) most few) refl
 
 -- ---- packets

@@ -1,0 +1,10 @@
+pub mod CommandBytes
+pub mod Datagrams
+pub mod Ends
+pub mod Laws
+pub mod Link
+pub mod Numbers
+pub mod Receiver
+pub mod Sender
+pub mod Spelling
+pub mod Unknown
