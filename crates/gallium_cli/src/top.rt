@@ -23,6 +23,7 @@ use crate::compile::perform_compile;
 use crate::generated::perform_gen;
 use crate::input::load_input;
 use crate::laws::reports_of_replays_are_true;
+use crate::lossy::perform_lossy;
 use crate::output::put;
 use crate::refusal::{Refusal, tell};
 use crate::replay::perform_replay;
@@ -116,6 +117,14 @@ fn perform<'a, F: Files, S: SwitchPort, O: Sink>(
                 split,
             },
         ) => perform_replay(alloc, source, trace, schedule, split, files, port, out),
+        Some(
+            Form::Lossy {
+                source,
+                trace,
+                schedule,
+                limits,
+            },
+        ) => perform_lossy(alloc, source, trace, schedule, limits, files, port, out),
         Some(
             Form::Check {
                 source,

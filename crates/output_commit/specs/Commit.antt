@@ -1,6 +1,6 @@
 -- Held outputs, all batches of changes, and how far their commands have come.
 use Rattle.std.specs.Prelude.{◌≡◌, ◌≤◌, ◌<◌, ◌^◌, ℕ, zero, suc, ◌+◌, ◌-◌, ◌*◌, ◌==◌, Bool, true, false, ◌&&◌, List, [], ◌∷◌, ◌++◌}
-use Rattle.std.specs.Prelude.{Option, Some, None, nat_lt, length, slice_get, remove, take, if◌then◌else◌}
+use Rattle.std.specs.Prelude.{Option, Some, None, nat_le, nat_lt, length, slice_get, remove, take, if◌then◌else◌}
 use Rattle.std.specs.List.{AllByRecursion as Each}
 use Rattle.writeback_table.specs.declared.command.Update.{Update}
 use Rattle.writeback_table.specs.declared.command.Command.{Command}
@@ -72,6 +72,11 @@ after_next c = if nat_lt c.done c.sent then record c { done = c.done + 1 } else 
 
 abbrev pub after_acknowledge : Commit → Commit
 after_acknowledge c = if nat_lt c.acked c.done then record c { acked = c.acked + 1 } else c
+
+-- whether an output may go: it need not wait
+abbrev pub may_release : Commit → Option Output → Bool
+may_release c None = false
+may_release c (Some output) = nat_le output.need (acknowledged c)
 
 -- what a release of an output answers, or of none
 abbrev pub answer : Commit → Option Output → Release

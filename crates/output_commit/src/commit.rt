@@ -271,6 +271,17 @@ impl Commit {
         self.held.is_empty() && self.acked == self.commands()
     }
 
+    /// Whether the output at place `j` may go, counted from 0 in the order in which they came: it is there, and its version
+    /// is acknowledged.
+    pub fn may_release(&self, j: usize) -> bool
+        ensures { result ≡ spec.may_release self.now (slice_get self.now.held j) }
+    {
+        match self.held.get(j) {
+            Some(output) => output.need <= self.acknowledged(),
+            None => false,
+        }
+    }
+
     /// Lets the output at place `j` go, counted from 0 in the order in which they came, where its version is
     /// acknowledged. Those behind it close up.
     #[tactic(auto, using(crate::proofs::Keeping::answer_goes, crate::proofs::Keeping::after_goes))]

@@ -1,0 +1,4 @@
+pub mod Linked
+pub mod Lines
+pub mod Ways
+pub mod Replay
