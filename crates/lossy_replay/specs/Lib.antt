@@ -2,3 +2,4 @@ pub mod Linked
 pub mod Lines
 pub mod Ways
 pub mod Replay
+pub mod Linking

@@ -1,8 +1,7 @@
 //! A link of frames, and which of them wait where it leads.
-ghost use Rattle.std.specs.Prelude.{◌≡◌, ◌≤◌, ◌<◌, ◌-◌, ◌^◌, ◌++◌, ◌∷◌, [], ℕ, List, Some, None, length, remove, slice_get};
-ghost use Rattle.std.specs.Prelude.{IfSome, MatchOption, OnOk};
+ghost use Rattle.std.specs.Prelude.{◌≡◌, ◌<◌, ◌-◌, ◌^◌, [], ℕ, List, length, slice_get, OnOk};
 ghost use Rattle.lossy_link.specs.Link.{Link, arrive, confirm, first_link, give, link_step, send};
-ghost use Rattle.lossy_replay.specs.Linked.{gone_on, place_of};
+ghost use Rattle.lossy_replay.specs.Linked.{arrived, gone_on, place_of};
 ghost use Rattle.lossy_replay.specs.Lines.{link_of};
 ghost use Rattle.lossy_replay.specs.Ways.{IsWay};
 
@@ -76,8 +75,7 @@ impl Way {
     /// The place among the frames that weren't taken of the j-th of those that were delivered. It is found by halves.
     pub fn place(&self, j: u32) -> Option<u32>
         requires way { (l : Link) × (gone : List ℕ) × IsWay l gone self.now }
-        ensures place { (l : Link) (gone : List ℕ) → IsWay l gone self.now → result ≡ place_of l gone j }
-        ensures within { IfSome result (λ place. place < length self.now.standing.items) }
+        ensures { (l : Link) (gone : List ℕ) → IsWay l gone self.now → result ≡ place_of l gone j }
     {
         let number = self.arrived.as_slice().get(j as usize)?;
         match self.standing.as_slice().binary_search(number) {
@@ -86,13 +84,17 @@ impl Way {
         }
     }
 
-    /// The j-th of the frames that were delivered is taken, which stands at this place of those that weren't taken.
-    pub fn take(&mut self, j: u32, place: u32)
-        requires way { (l : Link) × (gone : List ℕ) × IsWay l gone self.old × (place_of l gone j ≡ Some place) }
+    /// The j-th of the frames that were delivered is taken, where there are so many.
+    pub fn take(&mut self, j: u32)
         ensures { (l : Link) (gone : List ℕ) → IsWay l gone self.old
-            → IsWay l (gone_on gone (slice_get self.old.arrived.items j)) self.new }
+            → IsWay l (gone_on gone (slice_get (arrived l gone) j)) self.new }
     {
+        let Some(&number) = self.arrived.as_slice().get(j as usize) else {
+            return;
+        };
         let _ = self.arrived.remove(j as usize);
-        let _ = self.standing.remove(place as usize);
+        if let Ok(place) = self.standing.as_slice().binary_search(&number) {
+            let _ = self.standing.remove(place);
+        }
     }
 }
