@@ -1,5 +1,5 @@
 //! The end of a link that sends.
-ghost use Rattle.std.specs.Prelude.{◌≡◌, ◌-◌, ◌<◌, ◌^◌, length, slice_get, Some, IfOk, OnOk, OnErr};
+ghost use Rattle.std.specs.Prelude.{◌≡◌, ◌-◌, ◌<◌, ◌≤◌, ◌^◌, length, slice_get, Some, IfOk, OnOk, OnErr};
 ghost use Rattle.std.specs.FinSet as set;
 ghost use Rattle.lossy_link.specs.Sender as spec;
 
@@ -71,7 +71,8 @@ impl LinkSender {
     /// How many items are known to be delivered.
     #[tactic(auto, using(crate::proofs::Counted::known_count, crate::proofs::Rising::rising_short))]
     pub fn known(&self) -> usize
-        ensures { result ≡ set.len self.now.known }
+        ensures count { result ≡ set.len self.now.known }
+        ensures within { result ≤ length self.now.items }
     {
         self.items.len() - self.unknown.len()
     }

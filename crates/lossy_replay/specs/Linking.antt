@@ -24,10 +24,11 @@ use Rattle.lossy_replay.specs.Ways.{IsWay}
 use Rattle.lossy_replay.specs.declared.line.Line.{Line}
 use Rattle.lossy_replay.specs.declared.links.Links.{Links}
 
--- at most so many items were given to a link, and at most so many datagrams sent on it
+-- at most so many items were given to a link, so many datagrams sent on it, and so many items delivered
 pub record HasFew (n : ℕ) (line : Line) : Type 0 where
   pub items : length line.sender.items ≤ n
   pub sent : length line.sent.items ≤ n
+  pub got : length line.receiver.pairs ≤ n
 
 -- the links are these, with at most so many items and datagrams each
 pub record AreLinks (n : ℕ) (l : Linked) (links : Links) : Type 0 where

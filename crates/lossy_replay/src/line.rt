@@ -111,6 +111,7 @@ impl Line {
         requires at_work { IsAtWork self }
         requires few { length self.sender.items < 2 ^ 32 }
         requires few_sent { length self.sent.items < 2 ^ 32 }
+        requires few_delivered { length self.receiver.pairs < 2 ^ 32 }
         ensures { IsEnd (link_of self) result }
     {
         Ends {
