@@ -105,11 +105,11 @@ too_short back n is =
     absurd (omega (arith, ap (λ (l : List (List ℕ)). length l) is, length-map number_bytes (back ++ n ∷ []), length_push back n,
     length-append (map number_bytes back) [], length-map number_bytes back))
 
-last_there : (got : List ℕ) (n : ℕ) → slice_get (got ++ n ∷ []) (length got) ≡ Some n
-last_there [] n = refl
-last_there (x ∷ got) n = last_there got n
+pub last_there : (got : List ℕ) (n : ℕ) → slice_get (got ++ n ∷ []) (length got) ≡ Some n
+pub last_there [] n = refl
+pub last_there (x ∷ got) n = last_there got n
 
-past : (got : List ℕ) → slice_get got (length got) ≡ None
+pub past : (got : List ℕ) → slice_get got (length got) ≡ None
 past [] = refl
 past (x ∷ got) = past got
 

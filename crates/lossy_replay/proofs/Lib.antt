@@ -1,3 +1,6 @@
 mod Apart
 mod AtWork
+mod Giving
+mod OnWays
+mod Performing
 mod Standing

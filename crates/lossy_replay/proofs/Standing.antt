@@ -4,7 +4,7 @@ use Rattle.std.specs.Prelude.{◌==◌, Ok, Err, Option, Result, nat_lt, slice_g
 use Rattle.std.specs.List.{AllPairs, filter, position, position_or_len, range_with_len}
 use Rattle.std.specs.List.Sorted.{IsBinarySearchResult}
 use Rattle.std.specs.Ordering.{nat_cmp}
-use Rattle.std.proofs.lemmas.Bool.{cases_lt, cond-false, cond-true, eq-eqb, eqb-true, ltb-true, ne_eqb, or_cases, or_from}
+use Rattle.std.proofs.lemmas.Bool.{cases_lt, cond-false, cond-true, eq-eqb, eqb-true, lt-ltb, ne_eqb, or_cases, or_from}
 use Rattle.std.proofs.lemmas.List.Elements.{filter-append}
 use Rattle.std.proofs.lemmas.List.Sorted.{searched}
 use Rattle.std.proofs.lemmas.Option.{get_or_from_slice_get, slice_get-get_or, slice_get_within}
@@ -92,16 +92,16 @@ one_stands gone n fails =
 place_or_len : (xs : List ℕ) (j n : ℕ) → AreApart xs → slice_get xs j ≡ Some n → position_or_len (λ m. m == n) xs ≡ j
 place_or_len [] j n apart is = absurd cc
 place_or_len (x ∷ xs) zero n apart is =
-    let same : x ≡ n = cc in cond-true (x == n) 0 (1 + position_or_len (λ m. m == n) xs) (eq-eqb x n same)
+    let same : x ≡ n = cc in cond-false (not (x == n)) (1 + position_or_len (λ m. m == n) xs) 0 (ap not (eq-eqb x n same))
 place_or_len (x ∷ xs) (suc j) n apart is =
     let other : (x == n) ≡ false = ne_eqb x n (λ same. true≢false (sym (among_there xs j n is) ∙ (ap (is_among xs) (sym same) ∙ apart.0))) in
     let behind : 1 + j ≡ suc j = omega arith in
-    cond-false (x == n) 0 (1 + position_or_len (λ m. m == n) xs) other ∙ (ap (λ (k : ℕ). 1 + k) (place_or_len xs j n apart.1 is) ∙ behind)
+    cond-true (not (x == n)) (1 + position_or_len (λ m. m == n) xs) 0 (ap not other) ∙ (ap (λ (k : ℕ). 1 + k) (place_or_len xs j n apart.1 is) ∙ behind)
 
 pub placed : (xs : List ℕ) (j n : ℕ) → AreApart xs → slice_get xs j ≡ Some n → position (λ m. m == n) xs ≡ Some j
 placed xs j n apart is =
     ap (λ (k : ℕ). cond (nat_lt k (length xs)) (Some k) None) (place_or_len xs j n apart is)
-    ∙ cond-true (nat_lt j (length xs)) (Some j) None (ltb-true j (length xs) (slice_get_within xs j n is))
+    ∙ cond-true (nat_lt j (length xs)) (Some j) None (lt-ltb j (length xs) (slice_get_within xs j n is))
 
 -- a number that stands there is found by halves
 pub record IsFoundAt (xs : List ℕ) (n place : ℕ) : Type 0 where

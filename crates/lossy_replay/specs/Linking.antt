@@ -12,14 +12,14 @@ use Rattle.switch_ir.specs.Port.{PortState}
 use Rattle.switch_ir.specs.Tables.{Told}
 use Rattle.replay_state.specs.Journal.{Call}
 use Rattle.replay_state.specs.State.{State}
-use Rattle.replay_contracts.specs.Given.{Given, whole}
+use Rattle.replay_contracts.specs.Given.{Given, setup_for, whole}
 use Rattle.replay_contracts.specs.Replay.{IsReplay}
 use Rattle.replay_course.specs.declared.course.Course.{Course}
 use Rattle.replay_course.specs.Going.{IsGoing}
 use Rattle.replay_course.specs.Shown.{IsShown}
-use Rattle.lossy_replay.specs.Linked.{Linked, arrived, given_all, gone_on}
+use Rattle.lossy_replay.specs.Linked.{Linked, arrived, given_all, gone_on, linked_of}
 use Rattle.lossy_replay.specs.Lines.{IsAtWork, link_of}
-use Rattle.lossy_replay.specs.Replay.{HasItems, events_through, linked_by}
+use Rattle.lossy_replay.specs.Replay.{HasItems, linked_by, world_of}
 use Rattle.lossy_replay.specs.Ways.{IsWay}
 use Rattle.lossy_replay.specs.declared.line.Line.{Line}
 use Rattle.lossy_replay.specs.declared.links.Links.{Links}
@@ -44,8 +44,7 @@ pub record AreLinks (n : ℕ) (l : Linked) (links : Links) : Type 0 where
   pub few_ack : HasFew n links.ack
 
 -- Some calls made a replay of the events that came through, which the course shows, and the links are those behind this
--- schedule. Calls behind these leave that as it is; over a switch that tells its tables the events are those of whole
--- packets.
+-- schedule. Calls behind these leave that as it is; over a switch that tells its tables, whole packets lead to the same.
 pub record IsLinking (x : Given) (schedule : List LinkEvent) (links : Links) (c : Course) (port : PortState)
     : Type 0 where
   pub calls : List Call
@@ -59,7 +58,7 @@ pub record IsLinking (x : Given) (schedule : List LinkEvent) (links : Links) (c 
   pub few : length linked.events ≤ length schedule
   pub items : HasItems linked calls st
   pub links_are : AreLinks (length schedule) linked links
-  pub told : (tables : Told) → port.told ≡ Some tables → events_through x schedule ≡ linked.events
+  pub told : (tables : Told) → port.told ≡ Some tables → linked_of (setup_for x) (world_of x) schedule ≡ linked
 
 -- so it is of some schedule that is short enough to go on
 pub record IsOnItsWay (x : Given) (links : Links) (c : Course) (port : PortState) : Type 0 where
