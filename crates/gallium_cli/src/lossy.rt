@@ -30,6 +30,7 @@ use flatten::flattening_keeps_the_meaning;
 use gal_io::{Files, NoMemory, Sink, Text};
 use lossy_replay::{LossyRun, Tally4, replay_lossy};
 use packet_fields::Packets;
+use replay_state::a_packet_is_fast_by_what_is_seen;
 use run_model::{Events, LinkEvents, meanings_that_agree};
 use run_text::print_run;
 use schedule_replay::{Job, ReplayError};
@@ -83,6 +84,7 @@ fn replayed<S: SwitchPort>(
         ((refusal ≡ Refusal.NoMemory) × ((S.seen port.new).faults ≡ (S.seen port.old).faults))
         ⊎ ((refusal ≡ Refusal.SwitchFault) × Rose (S.seen port.old).faults (S.seen port.new).faults)) }
 {
+    a_packet_is_fast_by_what_is_seen();
     stores_are_kept();
     flattening_keeps_the_meaning();
     meanings_that_agree();
