@@ -106,8 +106,8 @@ too_short back n is =
     length-append (map number_bytes back) [], length-map number_bytes back))
 
 pub last_there : (got : List ℕ) (n : ℕ) → slice_get (got ++ n ∷ []) (length got) ≡ Some n
-pub last_there [] n = refl
-pub last_there (x ∷ got) n = last_there got n
+last_there [] n = refl
+last_there (x ∷ got) n = last_there got n
 
 pub past : (got : List ℕ) → slice_get got (length got) ≡ None
 past [] = refl

@@ -63,7 +63,7 @@ way_same l l' gone way new w at_work link items got stand came = record {
   taken = λ n there. ap (λ (ns : List ℕ). is_among ns n) got ∙ w.taken n there;
 }
 
-sent_items : (l : Link) (o : Option ℕ) → (with_sent l o).items ≡ l.items
+pub sent_items : (l : Link) (o : Option ℕ) → (with_sent l o).items ≡ l.items
 sent_items l None = refl
 sent_items l (Some n) = refl
 
@@ -78,7 +78,7 @@ way_sent l gone way new j w at_work link stand came =
     let o = slice_get (unknown l.items l.known) j in
     way_same l (link_step l (send j)) gone way new w at_work link (sent_items l o) (sent_got l o) stand came
 
-confirmed_items : (l : Link) (o : Option ℕ) → (with_confirmed l o).items ≡ l.items
+pub confirmed_items : (l : Link) (o : Option ℕ) → (with_confirmed l o).items ≡ l.items
 confirmed_items l None = refl
 confirmed_items l (Some n) = refl
 
@@ -95,7 +95,7 @@ way_confirmed l gone way new j w at_work link stand came =
 
 -- ---- a datagram arrives
 
-arrived_items : (l : Link) (o : Option ℕ) → (with_arrived l o).items ≡ l.items
+pub arrived_items : (l : Link) (o : Option ℕ) → (with_arrived l o).items ≡ l.items
 arrived_items l None = refl
 arrived_items l (Some n) = refl
 
