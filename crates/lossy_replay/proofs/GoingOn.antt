@@ -60,6 +60,7 @@ stays_in_world x schedule event links next c port linking l' steps events items 
     let setup = setup_for x in
     let long = one_longer schedule event in
     record {
+      plain = linking.plain;
       calls = linking.calls;
       st = linking.st;
       linked = l';

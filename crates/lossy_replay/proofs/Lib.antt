@@ -6,3 +6,4 @@ mod Noting
 mod OnWays
 mod Performing
 mod Standing
+mod WorldOn

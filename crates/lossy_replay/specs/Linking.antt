@@ -1,5 +1,5 @@
 -- A replay over links on its way, as the code keeps it.
-use Rattle.std.specs.Prelude.{◌≡◌, ◌≤◌, ◌<◌, ◌-◌, ℕ, List, [], ◌++◌, Some, drop, if◌then◌else◌, length, map, nat_lt, slice_get}
+use Rattle.std.specs.Prelude.{◌≡◌, ◌≤◌, ◌<◌, ◌-◌, ℕ, List, [], ◌++◌, false, Some, drop, if◌then◌else◌, length, map, nat_lt, slice_get}
 use Rattle.run_model.specs.Sizes.{most_events}
 use Rattle.lossy_link.specs.CommandBytes.{bytes_of}
 use Rattle.lossy_link.specs.Link.{with_given}
@@ -47,6 +47,7 @@ pub record AreLinks (n : ℕ) (l : Linked) (links : Links) : Type 0 where
 -- schedule. Calls behind these leave that as it is; over a switch that tells its tables, whole packets lead to the same.
 pub record IsLinking (x : Given) (schedule : List LinkEvent) (links : Links) (c : Course) (port : PortState)
     : Type 0 where
+  pub plain : x.manner.fine ≡ false
   pub calls : List Call
   pub st : State
   pub linked : Linked
