@@ -285,9 +285,10 @@ IsToldTrace told t packets = IfSome (told t) (λ text. (length text ≤ size_of 
 -- ## Answers
 
 -- A text that answers a request: for some middlebox, packets and events that the files spell, what the source does to
--- the packets one after the other; or the split that is asked for; or the report of a replay by that split, over links
--- too; or what a split takes that a file spells; or one source of a chain. Or the summary of a replay of made packets. Or the trace of a capture's packets by one
--- port, or the bytes of the capture of a trace's packets.
+-- the packets one after the other; or the split that is asked for; or the report of a replay by that split, which has a
+-- line for each link behind it where the replay goes over links; or what a split takes that a file spells; or one source
+-- of a chain. Or the summary of a replay of made packets. Or the trace of a capture's packets by one port, or the bytes of
+-- the capture of a trace's packets.
 abbrev pub IsAnswer : List ℕ → Request → (List ℕ → Option (List ℕ)) → PortState → PortState → Type 0
 IsAnswer text (Run s t) told port port_after =
     (m : Tree) × (packets : List Packet) × IsInput told s t m packets × (text ≡ serial_answer m packets)

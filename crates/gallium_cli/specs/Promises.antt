@@ -323,9 +323,9 @@ IsFailedOnSwitch (Some request) work = IsFailedReplay request work
 pub record Promises (status : Status) (call : Call) : Type 0 where
   pub ends : Ends status call
   -- the answer was written: of one run, which is a serial run of the source, whatever the schedule, over links that lose,
-  -- repeat and reorder too; or one split, which
-  -- is the chosen one, is legal and keeps the limits, or what a given one takes that is so; or the summary of such a run;
-  -- or the trace of a capture, or the capture of a trace; or how many packets a report tells that is true
+  -- repeat and reorder too; or one split, which is the chosen one, is legal and keeps the limits, or what a given one
+  -- takes that is so; or the summary of such a run; or the trace of a capture, or the capture of a trace; or how many
+  -- packets a report tells that is true
   pub done : status ≡ Done → IsDone (request_of call.words) call.work
   -- err is as it was, its count too
   pub silent : status ≡ Done → call.err_after ≡ call.err
