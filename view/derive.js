@@ -563,7 +563,7 @@ class Derivation {
   // The packet whose pass took a stage at the event, whether it was its first pass, which stage it was and of how many;
   // or null where the event took none, or that isn't certain.
   stageAt(event) {
-    const fact = this.facts.stage.get(event);
+    const fact = this.stateOf(event) === "done" ? this.facts.stage.get(event) : null;
     if (!fact) {
       return null;
     }
@@ -572,9 +572,9 @@ class Derivation {
     return { number: Number(number), pass, stage: stages - Number(left) + 1, stages };
   }
 
-  // What the idle `w` waited for, as waitOfCommand tells it; or null where it didn't wait, or that isn't certain.
+  // What a `w` that was idle waited for, as waitOfCommand tells it; or null where it didn't wait, or that isn't certain.
   waitAt(event) {
-    const fact = this.facts.wait.get(event);
+    const fact = this.stateOf(event) === "idle" ? this.facts.wait.get(event) : null;
     return fact && fact !== "none" ? fact : null;
   }
 

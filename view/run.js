@@ -105,7 +105,7 @@ class RunDrawing {
   // Which stage of which pass the event is, or what a command waits for that isn't applied at it.
   stageNote(event) {
     const stage = this.derived && this.derived.stageAt(event);
-    const wait = this.derived && this.derived.stateOf(event) === "idle" ? this.derived.waitAt(event) : null;
+    const wait = this.derived && this.derived.waitAt(event);
     if (wait) {
       const [does, bit] = wait === "main" ? ["changes a main table", "clear"] : ["stages a change", "set"];
       return ` The next command ${does}, so it waits for a pass that entered with the bit ${bit}.`;
