@@ -572,7 +572,7 @@ class Derivation {
     return { number: Number(number), pass, stage: stages - Number(left) + 1, stages };
   }
 
-  // What a `w` that was idle waited for, as waitOfCommand tells it; or null where it didn't wait, or that isn't certain.
+  // What an idle `w` waited for, as waitOfCommand tells it; or null where it didn't wait, or that isn't certain.
   waitAt(event) {
     const fact = this.stateOf(event) === "idle" ? this.facts.wait.get(event) : null;
     return fact && fact !== "none" ? fact : null;
