@@ -28,6 +28,18 @@ function countsOfHidden() {
     [`hidden-${place} ${hint.dataset.hidden}`, `hint-${place} ${hint.textContent}`]);
 }
 
+// Which stages of which passes were taken, and which commands waited, each with its event; or why nothing is derived.
+function countsOfStages() {
+  const { derived, failure } = shownRun || {};
+  const eventsOf = (name) => (derived ? [...derived.facts[name].keys()].sort((one, other) => one - other) : []);
+  const stages = eventsOf("stage").map((event) => ({ event, ...derived.stageAt(event) }));
+  const waits = eventsOf("wait").filter((event) => derived.waitAt(event));
+  return [
+    `taken ${stages.map(({ event, number, pass, stage }) => `${event}:${number}:${pass}:${stage}`).join(" ")}`,
+    `waiting ${waits.map((event) => `${event}:${derived.waitAt(event)}`).join(" ")}`, `not-derived ${failure || ""}`,
+  ];
+}
+
 // What is said of texts that don't belong together.
 function countsOfStrangers() {
   const strangers = [...document.querySelectorAll(".stranger")].map((stranger) => stranger.textContent);
@@ -60,7 +72,8 @@ function writeCounts(name, milliseconds) {
     rows: ".rows .row", fast: ".rows .mark.fast", admitted: ".rows .mark.admitted", decided: ".rows .mark.decided",
     sent: ".rows .mark.sent", dropped: ".rows .mark.dropped, .rows .mark.drops", open: ".rows .row.open",
     seats: ".mark.seat", slopes: ".slopes path", state: ".state-row", differs: ".differs",
-    passing: ".rows .wait.pass", serial: ".serial-row", "serial-sent": ".serial-row .sent-text", changes: ".change",
+    passing: ".rows .wait.pass", second: ".rows .wait.second", serial: ".serial-row",
+    "serial-sent": ".serial-row .sent-text", changes: ".change",
     "source-rows": ".source-row.filled", chooses: ".source-lines .chooses",
     versions: ".versions path.shown", made: ".version-row", others: ".state-row.other",
     held: ".rows .wait.held", kept: ".rows .wait.kept", free: ".rows .wait.free", down: ".rows .wait.down",
@@ -82,7 +95,9 @@ function writeCounts(name, milliseconds) {
     .map(({ style }) => `${style.getPropertyValue("--at")}-${style.getPropertyValue("--until")}`);
   const ways = (shape) => [...drawing.querySelectorAll(".rows .row")]
     .flatMap((row) => placesOf(row, shape).map((place) => `${row.querySelector(".label b").textContent}:${place}`));
-  lines.push(`waits ${ways(".wait.held").join(" ")}`, `comes-down ${ways(".wait.down").join(" ")}`);
+  lines.push(`waits ${ways(".wait.held").join(" ")}`, `comes-down ${ways(".wait.down").join(" ")}`,
+    `first-passes ${ways(".wait.pass").join(" ")}`, `second-passes ${ways(".wait.second").join(" ")}`,
+    `goes-up ${ways(".wait.up").join(" ")}`);
   const list = [...drawing.querySelectorAll(".version-row")].map((row) =>
     [...row.children].map((cell) => cell.textContent).join(","));
   lines.push(`version-list ${list.join(" ")}`);
@@ -90,7 +105,8 @@ function writeCounts(name, milliseconds) {
   lines.push(`order ${[...drawing.querySelectorAll(".seat b")].map((seat) => seat.textContent).join(" ")}`);
   lines.push(`fields ${document.querySelectorAll(".fields input[type=file]").length}`,
     `links ${document.querySelectorAll("#examples:not([open]) .examples a").length}`);
-  lines.push(...countsOfSource(), ...countsOfNumbers(), ...countsOfHidden(), ...countsOfStrangers());
+  lines.push(...countsOfStages(), ...countsOfSource(), ...countsOfNumbers(), ...countsOfHidden(),
+    ...countsOfStrangers());
   lines.push(`refusal ${document.getElementById("refusal").textContent}`, `milliseconds ${Math.round(milliseconds)}`);
   const counts = make("pre", "counts", `counts of ${name}\n${lines.join("\n")}\nend of counts\n`);
   document.body.append(counts);

@@ -1,6 +1,7 @@
 "use strict";
 
-// What a report makes certain of a run when its schedule stands beside it. What neither tells is how many changes each
+// What a report makes certain of a run when its schedule stands beside it, and, where each stage of a pass is an event
+// of its own, the split, which tells how many stages passes take. What none of them tells is how many changes each
 // version has, and how many of those that wait find room in a batch that begins to be sent. So every number that is
 // possible is tried; of the runs of the schedule that come of it, those are kept that do just what the report tells.
 // What is the same in all of them is certain.
@@ -13,7 +14,18 @@ const MOST_RUNS = 600;
 const MOST_STEPS = 3000000;
 const COST_OF_SEVERAL = 8;
 
-const EVENT_LETTERS = "aucwkhd";
+const EVENT_LETTERS = "aucwkhds";
+
+// How many stages a pass before the server and one behind it have left as they enter: the highest stage of each, by the
+// answer of compile, where each stage is an event of its own, and else none. Null where there is no answer to tell it.
+function stagesOf(schedule, answer) {
+  if (!schedule.fine) {
+    return { before: 0, after: 0 };
+  }
+  const highest = (name) =>
+    answer.instructions.reduce((most, instruction) => Math.max(most, instruction[name] || 0), 0);
+  return answer ? { before: highest("before"), after: highest("after") } : null;
+}
 
 // The greatest number of changes that one run of a packet can make to what the switch keeps, by the answer of compile;
 // or null where that can't be the split of the report.
@@ -62,15 +74,51 @@ const onOf = (changes) => changes + 1;
 // The number of commands before those of a batch.
 const startOf = ({ end, changes }) => end - lengthOf(changes);
 
+// What the command of this number, counted from 1, is in its batch; or null where there is none.
+function commandAt({ pending }, number) {
+  const batch = pending.find(({ end }) => end >= number);
+  if (!batch) {
+    return null;
+  }
+  const { changes } = batch;
+  const place = number - startOf(batch);
+  return place <= changes ? "stage" : place === onOf(changes) ? "on" : place < 2 * onOf(changes) ? "main"
+    : place === 2 * onOf(changes) ? "off" : "clear";
+}
+
+// The bit that commands have set: whether lookups see what is staged over the main tables.
+const bitOf = (run) => run.applied > 0 && ["on", "main"].includes(commandAt(run, run.applied));
+
+// What the next command would change under a pass that is under way, for which it waits: the main tables, where one
+// entered with the bit clear, or what is staged, where one entered with the bit set. Null where it needn't wait.
+function waitOfCommand(run) {
+  const command = run.passes.length > 0 ? commandAt(run, run.applied + 1) : null;
+  return run.passes.some(({ bit }) => command === (bit ? "stage" : "main")) ? command : null;
+}
+
+// A run beside this one, which goes on by itself.
+function branchOf(run, changed) {
+  return {
+    ...run, passes: [...run.passes], up: [...run.up], held: [...run.held], down: [...run.down], ...changed,
+  };
+}
+
 class Derivation {
-  // `most` is the greatest number of changes that a run can make, or null where no split tells it; `room` is what
-  // roomOf tells of batches.
-  constructor(report, schedule, most, room) {
+  // `stages` is what stagesOf tells of passes; `most` is the greatest number of changes that a run can make, or null
+  // where no split tells it; `room` is what roomOf tells of batches.
+  constructor(report, schedule, stages, most, room) {
     this.report = report;
     this.schedule = schedule;
+    this.stages = stages;
     this.room = room;
     this.told = toldEvents(report);
-    this.ranges = { changes: new Map(), shown: new Map(), known: new Map(), letGo: new Map() };
+    // The changes of each version, and the events at which it was shown and acknowledged; for each packet the event at
+    // which it was let go, and where passes take stages, those at which it went up and its second pass began.
+    this.ranges = {
+      changes: new Map(), shown: new Map(), known: new Map(), letGo: new Map(), wentUp: new Map(), cameDown: new Map(),
+    };
+    // For each event the stage that a pass took, or what a `w` that was idle waited for; null where it isn't certain.
+    this.facts = { stage: new Map(), wait: new Map() };
     // Why nothing could be derived: a text, or null.
     this.failure = null;
     if (report.events > MOST_STEPS) {
@@ -82,12 +130,11 @@ class Derivation {
     // For each event of drain: a bit for each letter that it has in some run.
     this.letters = new Uint8Array(report.events + 1);
     this.most = this.boundsOf(most);
-    this.up = [];
     this.admitted = 0;
     this.version = 0;
     this.runs = [{
-      held: [], down: [], pending: [], total: 0, sent: 0, applied: 0, acknowledged: 0, visible: 0, known: 0,
-      leastIdle: 0, mostIdle: 0, history: null,
+      passes: [], up: [], held: [], down: [], pending: [], total: 0, sent: 0, applied: 0, acknowledged: 0, visible: 0,
+      known: 0, leastIdle: 0, mostIdle: 0, done: null, history: null,
     }];
     this.follow();
   }
@@ -168,8 +215,12 @@ class Derivation {
     this.runs.forEach((run) => this.takeHistory(run));
   }
 
-  // What drain performs next: the first event that applies, or null.
-  turnOf({ held, down, total, sent, applied, acknowledged, known }) {
+  // What drain performs next: the first event that applies, or null. Behind `s 0` no pass is under way, so no command
+  // waits for one.
+  turnOf({ passes, up, held, down, total, sent, applied, acknowledged, known }) {
+    if (passes.length > 0) {
+      return { letter: "s", item: 0 };
+    }
     if (acknowledged < applied) {
       return { letter: "k", item: 0 };
     }
@@ -185,7 +236,7 @@ class Derivation {
     if (held.length > 0 && held[0].version <= known) {
       return { letter: "h", item: 0 };
     }
-    if (this.up.length > 0) {
+    if (up.length > 0) {
       return { letter: "u", item: 0 };
     }
     return this.admitted < this.report.total ? { letter: "a", item: 0 } : null;
@@ -196,33 +247,45 @@ class Derivation {
     if (event > this.schedule.events.length) {
       this.note(run, isOne, "letter", event, EVENT_LETTERS.indexOf(letter));
     }
+    run.done = null;
     const applies = this.apply(run, letter, item, event, isOne);
     run.leastIdle += applies ? 0 : 1;
     run.mostIdle += applies ? 0 : 1;
     this.note(run, isOne, "idle", event, applies ? 1 : 0);
-    if (run.leastIdle > this.report.idle || (told !== undefined) !== (applies && "aud".includes(letter))) {
+    if (run.leastIdle > this.report.idle || (told !== undefined) !== (run.done !== null)) {
       return false;
     }
     if (told === undefined) {
       return true;
     }
-    const { packet } = told;
-    const done = { a: this.report.packets[this.admitted], u: this.up[item], d: run.released }[letter];
-    return told.letter === letter && packet === done
-      && (letter !== "a" || packet.way !== "fast" || packet.version === run.visible)
-      && (letter !== "u" || packet.version === this.version || packet.version === this.version + 1);
+    const { what, packet } = told;
+    return what === run.done.what && packet === run.done.packet
+      && (what !== "admitted" || packet.way !== "fast" || packet.version === run.visible)
+      && (what !== "decided" || packet.version === this.version || packet.version === this.version + 1);
   }
 
+  // Performs the event where it applies. Answers whether it does; what the report then has to tell of it is `run.done`.
   apply(run, letter, item, event, isOne) {
     if (letter === "a") {
-      return this.admitted < this.report.total;
+      return this.admit(run, event, isOne);
+    }
+    if (letter === "s") {
+      return this.takeStage(run, item, event, isOne);
     }
     if (letter === "u") {
-      return item < this.up.length;
+      const [packet] = run.up.splice(item, 1);
+      run.done = packet ? { what: "decided", packet } : null;
+      return packet !== undefined;
     }
     if (letter === "d") {
-      [run.released] = run.down.splice(item, 1);
-      return run.released !== undefined;
+      const [packet] = run.down.splice(item, 1);
+      if (packet && this.stages.after > 0) {
+        this.note(run, isOne, "cameDown", packet.number, event);
+      }
+      if (packet) {
+        this.enter(run, { packet, isFirst: false, left: this.stages.after }, event, isOne);
+      }
+      return packet !== undefined;
     }
     if (letter === "h") {
       const isFree = item < run.held.length && run.held[item].version <= run.known;
@@ -241,10 +304,67 @@ class Derivation {
     return this.command(run, letter, event, isOne);
   }
 
+  admit(run, event, isOne) {
+    if (this.admitted === this.report.total) {
+      return false;
+    }
+    const packet = this.report.packets[this.admitted];
+    run.done = { what: "admitted", packet };
+    if (packet) {
+      this.enter(run, { packet, isFirst: true, left: this.stages.before }, event, isOne);
+    }
+    return true;
+  }
+
+  // A pass enters, with the bit of this moment. One that has no stage left ends at once.
+  enter(run, pass, event, isOne) {
+    if (pass.left > 0) {
+      run.passes.push({ ...pass, bit: bitOf(run) });
+    } else {
+      this.endPass(run, pass, event, isOne);
+    }
+  }
+
+  takeStage(run, item, event, isOne) {
+    const pass = run.passes[item];
+    if (!pass) {
+      return false;
+    }
+    const { packet, isFirst, left } = pass;
+    this.note(run, isOne, "stage", event, `${packet.number} ${isFirst ? "first" : "second"} ${left}`);
+    if (left > 1) {
+      run.passes[item] = { ...pass, left: left - 1 };
+    } else {
+      run.passes.splice(item, 1);
+      this.endPass(run, pass, event, isOne);
+    }
+    return true;
+  }
+
+  // A pass ends. Before the server a fast packet is released by it, any other goes up, and none may be told to be under
+  // way still; behind the server the packet is released.
+  endPass(run, { packet, isFirst }, event, isOne) {
+    if (!isFirst || (packet.way === "fast" && this.stages.before > 0)) {
+      run.done = { what: "released", packet };
+    } else if (packet.way === "pass") {
+      run.done = { what: "ended", packet };
+    } else if (packet.way !== "fast") {
+      run.up.push(packet);
+      if (this.stages.before > 0) {
+        this.note(run, isOne, "wentUp", packet.number, event);
+      }
+    }
+  }
+
   command(run, letter, event, isOne) {
     const [name, bound, version, fact] = letter === "w" ? ["applied", "sent", "visible", "shown"]
       : ["acknowledged", "applied", "known", "known"];
-    if (run[name] >= run[bound]) {
+    const isThere = run[name] < run[bound];
+    const wait = isThere && letter === "w" ? waitOfCommand(run) : null;
+    if (letter === "w" && this.schedule.fine && (!isThere || wait)) {
+      this.note(run, isOne, "wait", event, wait || "none");
+    }
+    if (!isThere || wait) {
       return false;
     }
     run[name] += 1;
@@ -263,7 +383,7 @@ class Derivation {
 
   // Where the server made a version, a run for each number of changes that its batch can have.
   branchesOf(run, told) {
-    if (!told || told.letter !== "u") {
+    if (!told || told.what !== "decided") {
       return [run];
     }
     run.held.push(told.packet);
@@ -276,9 +396,7 @@ class Derivation {
       const batch = {
         version, versions: 1, changes, on: run.total + onOf(changes), end: run.total + lengthOf(changes),
       };
-      const branch = {
-        ...run, held: [...run.held], down: [...run.down], pending: [...run.pending, batch], total: batch.end,
-      };
+      const branch = branchOf(run, { pending: [...run.pending, batch], total: batch.end });
       this.note(branch, this.most[version] === 1 && this.runs.length === 1, "changes", version, changes);
       runs.push(branch);
     }
@@ -309,7 +427,7 @@ class Derivation {
       const [next] = behind;
       const finds = next && this.findRoom(batch.changes + next.changes, batch.versions + next.versions);
       if (!next || finds !== true) {
-        runs.push({ ...run, held: [...run.held], down: [...run.down], pending: [...before, batch, ...behind], total });
+        runs.push(branchOf(run, { pending: [...before, batch, ...behind], total }));
       }
       if (!next || finds === false) {
         return runs;
@@ -327,13 +445,9 @@ class Derivation {
 
   // What the report tells is the same in all runs.
   takeTold(told) {
-    if (told && told.letter === "a") {
+    if (told && told.what === "admitted") {
       this.admitted += 1;
-      if (told.packet.way !== "fast") {
-        this.up.push(told.packet);
-      }
-    } else if (told && told.letter === "u") {
-      this.up.splice(this.up.indexOf(told.packet), 1);
+    } else if (told && told.what === "decided") {
       this.version = told.packet.version;
     }
   }
@@ -348,6 +462,7 @@ class Derivation {
         ...(isIdleTold ? [run.leastIdle, run.mostIdle] : []),
         ...run.pending.map(({ versions, on, end }) => `${versions} ${on - from} ${end - from}`), "down",
         ...run.down.map(({ number }) => number),
+        ...(this.schedule.fine ? this.passKey(run) : []),
       ].join(",");
       const other = kept.get(key);
       if (other) {
@@ -359,6 +474,12 @@ class Derivation {
       }
     }
     return [...kept.values()];
+  }
+
+  // Where passes take stages, they and the order of packets that went up can differ too.
+  passKey({ passes, up }) {
+    return ["passes", ...passes.map(({ packet, isFirst, left, bit }) => `${packet.number} ${isFirst} ${left} ${bit}`),
+      "up", ...up.map(({ number }) => number)];
   }
 
   // Where one run is left, all that lies behind it is settled.
@@ -397,6 +518,9 @@ class Derivation {
       this.letters[key] |= 1 << value;
     } else if (name === "idle") {
       this.idleness[key] |= 1 << value;
+    } else if (this.facts[name]) {
+      const fact = this.facts[name].get(key);
+      this.facts[name].set(key, fact === undefined || fact === value ? value : null);
     } else {
       const range = this.ranges[name].get(key);
       this.ranges[name].set(key, {
@@ -410,6 +534,7 @@ class Derivation {
     const isDrained = this.turnOf(run) === null && run.held.length === 0;
     return run.leastIdle <= report.idle && run.mostIdle >= report.idle
       && run.visible === report.visible && this.version === report.version
+      && run.passes.every(({ packet, isFirst }) => !isFirst || packet.way === "pass")
       && isDrained === report.drained && (isDrained || !schedule.drain);
   }
 
@@ -424,11 +549,33 @@ class Derivation {
     return ["done", "idle", "done", "perhaps"][this.idleness[event]];
   }
 
-  // Where the output of a packet without a release is: "held", "down", or null where that isn't certain.
+  // Where the output of a packet without a release is: "held", "down", "second" where its second pass is under way, or
+  // null where that isn't certain.
   placeOf(number) {
-    this.heldSets = this.heldSets || this.runs.map((run) => new Set(run.held.map((packet) => packet.number)));
-    const held = this.heldSets.filter((numbers) => numbers.has(number)).length;
-    return held === this.runs.length ? "held" : held === 0 ? "down" : null;
+    this.places = this.places || this.runs.map(({ held, down, passes }) => new Map([
+      ...held.map((packet) => [packet.number, "held"]), ...down.map((packet) => [packet.number, "down"]),
+      ...passes.map(({ packet }) => [packet.number, "second"]),
+    ]));
+    const [place, ...others] = new Set(this.places.map((places) => places.get(number)));
+    return others.length === 0 ? place : null;
+  }
+
+  // The packet whose pass took a stage at the event, whether it was its first pass, which stage it was and of how many;
+  // or null where the event took none, or that isn't certain.
+  stageAt(event) {
+    const fact = this.stateOf(event) === "done" ? this.facts.stage.get(event) : null;
+    if (!fact) {
+      return null;
+    }
+    const [number, pass, left] = fact.split(" ");
+    const stages = pass === "first" ? this.stages.before : this.stages.after;
+    return { number: Number(number), pass, stage: stages - Number(left) + 1, stages };
+  }
+
+  // What an idle `w` waited for, as waitOfCommand tells it; or null where it didn't wait, or that isn't certain.
+  waitAt(event) {
+    const fact = this.stateOf(event) === "idle" ? this.facts.wait.get(event) : null;
+    return fact && fact !== "none" ? fact : null;
   }
 
   // Whether the version is acknowledged in all runs at the end.

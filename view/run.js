@@ -10,6 +10,9 @@ function rangeOf({ least, most }, word) {
   return least === most ? `${word}${grouped(least)}` : `${word}${grouped(least)} to ${grouped(most)}`;
 }
 
+// How many stages passes take, in words.
+const stagesText = ({ before, after }) => `${counted(before, "stage")} before the server and ${after} behind it`;
+
 class RunDrawing {
   // Beside the report stand the texts that are there: schedule, trace and answer, and what numbers mean.
   constructor(report, { schedule, trace, answer, limits, meanings }) {
@@ -18,6 +21,8 @@ class RunDrawing {
     this.meanings = meanings;
     // What speaks against the texts belonging together, as strangersOf tells it.
     this.strangers = [];
+    // Whether each stage of a pass was an event of its own, as far as the texts tell.
+    this.isFine = schedule ? schedule.fine : isFine(report);
     this.told = toldEvents(report);
     this.derive(schedule, answer, limits);
     this.versions = versionsOf(report);
@@ -38,15 +43,16 @@ class RunDrawing {
     this.schedule = schedule;
     this.most = schedule && answer ? mostChangesOf(answer, report) : null;
     const room = this.most === null ? null : roomOf(answer, limits);
+    const stages = schedule ? stagesOf(schedule, answer) : null;
     this.derived = null;
-    this.failure = schedule && isFine(report) ? "each stage of a pass was an event of its own, and the page doesn't "
-      + "follow such runs" : null;
+    this.failure = schedule && !stages ? "each stage of a pass is an event of its own, and how many stages passes take "
+      + "is told by the split alone, so what compile prints is needed beside the report" : null;
     if (!schedule || this.failure) {
       return;
     }
-    const derivation = new Derivation(report, schedule, this.most, room);
+    const derivation = new Derivation(report, schedule, stages, this.most, room);
     if (derivation.isOther) {
-      this.tellOther(schedule, derivation);
+      this.tellOther(derivation);
     } else if (derivation.failure) {
       this.failure = derivation.failure;
     } else {
@@ -54,12 +60,16 @@ class RunDrawing {
     }
   }
 
-  // No run does what the report tells. Where without the split one does, it is another split; else another schedule.
-  tellOther(schedule, derivation) {
-    const isSplit = this.most !== null && !new Derivation(this.report, schedule, null, null).isOther;
+  // No run does what the report tells. Where without the changes of the split one does, it is another split; else
+  // another schedule, or, where each stage is an event, another split or schedule.
+  tellOther({ failure, stages }) {
+    const { report, schedule } = this;
+    const isSplit = this.most !== null && !new Derivation(report, schedule, stages, null, null).isOther;
     this.strangers.push(isSplit
-      ? { kinds: ["answer", "report"], why: `with the changes that this split can make, ${derivation.failure}` }
-      : { kinds: ["schedule", "report"], why: derivation.failure });
+      ? { kinds: ["answer", "report"], why: `with the changes that this split can make, ${failure}` }
+      : schedule.fine
+        ? { kinds: ["answer", "schedule", "report"], why: `with ${stagesText(stages)}, ${failure}` }
+        : { kinds: ["schedule", "report"], why: failure });
   }
 
   // When each version was shown, by the schedule's events.
@@ -75,23 +85,38 @@ class RunDrawing {
   // What certain events of commands and of `h` do, by event.
   get effects() {
     if (!this.foundEffects) {
-      this.foundEffects = { letGo: new Map(), notes: new Map() };
+      this.foundEffects = { moved: new Map(), notes: new Map() };
       const words = { shown: " From now on lookups see version ", known: " This acknowledges version " };
       const { ranges } = this.derived;
-      ranges.letGo.forEach(({ least, most }, number) => least === most && this.foundEffects.letGo.set(least, number));
+      [ranges.letGo, ranges.cameDown].forEach((range) => range.forEach(({ least, most }, number) =>
+        least === most && this.foundEffects.moved.set(least, number)));
       Object.entries(words).forEach(([name, word]) => ranges[name].forEach(({ least, most }, version) =>
         least === most && this.foundEffects.notes.set(least, `${word}${version}.`)));
     }
     return this.foundEffects;
   }
 
-  letGoAt(event) {
-    return this.derived ? this.effects.letGo.get(event) : undefined;
+  // The packet that is let go, or begins its second pass, or whose pass takes a stage at the event; or undefined.
+  movedAt(event) {
+    const stage = this.derived && this.derived.stageAt(event);
+    return stage ? stage.number : this.derived ? this.effects.moved.get(event) : undefined;
+  }
+
+  // Which stage of which pass the event is, or what a command waits for that isn't applied at it.
+  stageNote(event) {
+    const stage = this.derived && this.derived.stageAt(event);
+    const wait = this.derived && this.derived.waitAt(event);
+    if (wait) {
+      const [does, bit] = wait === "main" ? ["changes a main table", "clear"] : ["stages a change", "set"];
+      return ` The next command ${does}, so it waits for a pass that entered with the bit ${bit}.`;
+    }
+    return !stage ? "" : ` It was stage ${stage.stage} of ${stage.stages} of its ${stage.pass} pass${
+      stage.stage === stage.stages ? ", which ended" : ""}.`;
   }
 
   versionNote(event) {
     const maker = this.told.get(event);
-    const isMade = maker && maker.letter === "u" && this.versions.makers[maker.packet.version] === maker.packet;
+    const isMade = maker && maker.what === "decided" && this.versions.makers[maker.packet.version] === maker.packet;
     const made = isMade ? ` It made version ${maker.packet.version}.` : "";
     return made + ((this.derived && this.effects.notes.get(event)) || "");
   }
@@ -124,8 +149,7 @@ class RunDrawing {
     const { report } = this;
     const fast = report.packets.filter(({ way }) => way === "fast").length;
     const slow = report.packets.filter(({ way, released }) => way === "slow" && released);
-    const longest = (from, to) => {
-      const length = (packet) => packet[to] - packet[from];
+    const longest = (length) => {
       const most = slow.reduce((one, other) => (one && length(one) >= length(other) ? one : other), null);
       return most ? `at most ${counted(length(most), "event")} (packet ${most.number})` : "none";
     };
@@ -138,8 +162,10 @@ class RunDrawing {
       ["never visited the server", grouped(fast)],
       ["decided by the server", grouped(report.decided - fast)],
       ["released", `${grouped(report.released)}, ${grouped(report.admitted - report.released)} on their way`],
-      ["waited for the server", longest("admitted", "decided")],
-      ["then for release", longest("decided", "released")],
+      ...(this.isFine && this.derived ? [["passes take", stagesText(this.derived.stages)]] : []),
+      [this.isFine && !this.derived ? "first pass, and wait for the server" : "waited for the server",
+        longest((packet) => packet.decided - this.upOf(packet).least)],
+      ["then for release", longest(({ decided, released }) => released - decided)],
       ...(this.derived && report.version > 0 ? [["of that, for its version", versionWait]] : []),
       ["events", `${grouped(report.events)}, ${grouped(report.idle)} idle`],
       ["version", `${grouped(report.version)}, the switch shows ${grouped(report.visible)}`],
@@ -147,6 +173,12 @@ class RunDrawing {
     ];
     const pairs = facts.map(([name, value]) => makeWith("div", "", [make("dt", "", name), make("dd", "", value)]));
     return [makeWith("dl", "facts", pairs)];
+  }
+
+  // The event with which a packet went up to the server: { least, most }.
+  upOf({ number, admitted }) {
+    const up = this.derived ? this.derived.ranges.wentUp.get(number) : undefined;
+    return up || { least: admitted, most: admitted };
   }
 
   // How many events an output waited until its version was acknowledged, where that is derived: { least, most }.
@@ -176,23 +208,27 @@ class RunDrawing {
       return `${told} When outputs were let go and versions were shown isn't derived here: ${this.failure}.`;
     }
     const drains = this.report.events - this.schedule.events.length;
-    const rule = drains > 0 ? `, and the ${counted(drains, "event")} of drain, each the first of k, w, c, d 0, h 0, u 0`
-      + " and a that applies" : "";
+    const rule = drains > 0 ? `, and the ${counted(drains, "event")} of drain, each the first of ${
+      this.isFine ? "s 0, " : ""}k, w, c, d 0, h 0, u 0 and a that applies` : "";
+    const fine = this.isFine ? ` Each stage above 0 is an event of its own, and by the split passes take ${
+      stagesText(this.derived.stages)}.` : "";
+    const passes = this.isFine ? "which pass took a stage, " : "";
     const open = this.derived.openCount;
     const bound = this.most !== null ? `at most ${this.most}, by the split` : "without the split beside it, any number";
-    return `${told} Derived from the schedule: which events were idle, when commands showed and acknowledged versions, `
-      + `when outputs were let go${rule}. ${this.changesNote(bound)}${open === 0 ? ""
+    return `${told}${fine} Derived from the schedule: which events were idle, ${passes}when commands showed and `
+      + `acknowledged versions, when outputs were let go${rule}. ${this.changesNote(bound)}${open === 0 ? ""
         : ` ${counted(open, "number of these isn't", "numbers of these aren't")} certain, and drawn as stretches.`}`;
   }
 
   // What the marks that are drawn mean.
   drawLegend() {
     const samples = [
-      ["mark admitted", "admitted"], ["wait pass", "in its first pass"], ["wait up", "waits for the server"],
+      ["mark admitted", "admitted"], ["wait pass", "in its first pass"],
+      ["wait up", this.isFine && !this.derived ? "in its first pass, or waits for the server" : "waits for the server"],
       ["mark decided", "decided by the server"],
       ["wait kept", "its output isn't out yet"], ["wait held", "held until its version is acknowledged"],
       ["wait free", "held, and may go"], ["wait perhaps", "one or the other"],
-      ["wait down", "let go, on its way down"], ["mark sent", "sent"],
+      ["wait down", "let go, on its way down"], ["wait second", "in its second pass"], ["mark sent", "sent"],
       ["mark dropped", "dropped"], ["mark fast", "fast: sent by the switch alone"],
       ["mark fast drops", "fast, dropped"], ["wait open", "still on its way"],
     ].filter(([shape]) => this.timeline.querySelector(`.track > .${shape.replaceAll(" ", ".")}`));
@@ -318,17 +354,15 @@ class RunDrawing {
     const verdict = make("span", "verdict");
     const open = released ? "" : " open";
     const end = released || this.last;
-    if (way === "up" || way === "pass") {
-      track.append(this.stretch(`${way} open`, admitted, end), this.point("admitted", admitted));
-      verdict.textContent = way === "up" ? "… waits for the server" : "… in its first pass";
-    } else if (way === "fast" && admitted < released) {
-      track.append(this.stretch("pass", admitted, released), this.point("admitted", admitted));
-    } else if (way === "slow") {
-      track.append(this.stretch("up", admitted, decided));
-      const parts = this.partsOf(packet, end);
+    if (way !== "fast" || admitted < released) {
+      const parts = [...this.partsBefore(packet, decided || end), ...(way === "slow" ? this.partsOf(packet, end) : [])];
       parts.forEach(([name, from, until], place) =>
         track.append(this.stretch(`${name}${place === parts.length - 1 ? open : ""}`, from, until)));
-      track.append(this.point("admitted", admitted), this.point("decided", decided));
+      track.append(this.point("admitted", admitted));
+      verdict.textContent = way === "up" ? "… waits for the server" : "… in its first pass";
+    }
+    if (way === "slow") {
+      track.append(this.point("decided", decided));
       verdict.textContent = `… ${this.placeOf(packet)}`;
     }
     if (released) {
@@ -347,22 +381,35 @@ class RunDrawing {
     return tellOf(row, (target) => this.tellPacket(packet, undefined, Number(target.style.getPropertyValue("--at"))));
   }
 
+  // The stretches of a packet's way until its decision, each with its ends.
+  partsBefore(packet, end) {
+    const { way, admitted } = packet;
+    const { least, most } = way === "up" || way === "slow" ? this.upOf(packet) : { least: end, most: end };
+    return [["pass", admitted, least], ["perhaps", least, most], ["up", most, end]]
+      .filter(([, from, until]) => from < until);
+  }
+
   // The stretches of a packet's way from its decision on, each with its ends.
   partsOf({ number, decided, version }, end) {
     if (!this.derived) {
       return [["kept", decided, end]];
     }
-    const { known, letGo } = this.derived.ranges;
+    const { known, letGo, cameDown } = this.derived.ranges;
     const inside = (event) => Math.min(Math.max(event, decided), end);
     const never = { least: Infinity, most: Infinity };
     const seen = version === 0 ? { least: 0, most: 0 } : known.get(version) || never;
     const gone = letGo.get(number) || never;
-    const isOut = end < this.last || this.derived.placeOf(number) === "down";
+    const place = end < this.last ? "out" : this.derived.placeOf(number);
+    const isOut = place !== null && place !== "held";
     const [least, most] = [inside(gone.least), inside(isOut ? gone.most : Infinity)];
     const isSure = version === 0 || end < this.last || this.derived.isKnown(version);
     const [first, last] = [Math.min(inside(seen.least), least), Math.min(inside(isSure ? seen.most : Infinity), least)];
+    const down = cameDown.get(number) || never;
+    const entered = Math.max(most, inside(down.least));
+    const passes = Math.max(entered, inside(isOut && place !== "down" ? down.most : Infinity));
     const parts = [["held", decided, first], ["perhaps", first, last], ["free", last, least], ["perhaps", least, most],
-      ["down", most, end]].filter(([, from, until]) => from < until);
+      ["down", most, entered], ["perhaps", entered, passes], ["second", passes, end]]
+      .filter(([, from, until]) => from < until);
     return parts.length > 0 ? parts : [["down", end, end]];
   }
 
@@ -370,9 +417,9 @@ class RunDrawing {
   placeOf({ number, version }) {
     const place = this.derived ? this.derived.placeOf(number) : null;
     if (place === null) {
-      return "held, or on its way down";
+      return this.isFine ? "held, on its way down, or in its second pass" : "held, or on its way down";
     }
-    return place === "down" ? "on its way down"
+    return place === "down" ? "on its way down" : place === "second" ? "in its second pass"
       : this.derived.isKnown(version) ? "held, and may go" : `held for version ${version}`;
   }
 
@@ -434,21 +481,28 @@ class RunDrawing {
       return `Packet ${number}${start} never visited the server: the switch finished it at event ${released}, on `
         + `version ${version}`;
     }
-    const start = `Packet ${number} was admitted at event ${admitted}`;
     if (way === "pass") {
-      return `${start}, and its first pass on the switch is under way`;
+      return `Packet ${number} was admitted at event ${admitted}, and its first pass on the switch is under way`;
     }
+    const up = this.upOf(packet);
+    const isPassed = this.isFine && this.derived && up.least > admitted;
+    const start = `Packet ${number} was admitted at event ${admitted}${
+      isPassed ? `, ended its first pass at ${rangeOf(up, "event ")}` : ""}`;
     if (way === "up") {
-      return `${start} and waits for the server, ${counted(this.report.events - admitted, "event")} so far`;
+      return `${start} and waits for the server, ${counted(this.report.events - up.most, "event")} so far`;
     }
-    const decision = `${start}, ${waited(admitted, decided)} for the server, and was decided at event ${decided}, `
+    const goal = this.isFine && !this.derived ? "for its first pass and the server" : "for the server";
+    const decision = `${start}, ${waited(up.most, decided)} ${goal}, and was decided at event ${decided}, `
       + `on version ${version}`;
     if (!this.derived) {
       return `${decision}. Its output ${waited(decided, released || this.report.events)}${released ? "" : " so far"}`;
     }
     const gone = this.derived.ranges.letGo.get(number);
-    const isGone = released || this.derived.placeOf(number) === "down";
-    const end = isGone ? `it was let go at ${rangeOf(gone, "event ")}` : `it is ${this.placeOf(packet)}`;
+    const isGone = released || ["down", "second"].includes(this.derived.placeOf(number));
+    const down = this.derived.ranges.cameDown.get(number);
+    const isDown = down && (released || this.derived.placeOf(number) === "second");
+    const end = isGone ? `it was let go at ${rangeOf(gone, "event ")}${
+      isDown ? `, and began its second pass at ${rangeOf(down, "event ")}` : ""}` : `it is ${this.placeOf(packet)}`;
     const wait = this.waitOf(packet);
     const known = this.derived.ranges.known.get(version);
     const isKnown = version === 0 || (wait && wait.most === 0);

@@ -3,9 +3,15 @@
 // Draws the strips above the ways of the packets: the events of the schedule, and the versions.
 
 const LETTERS = [
-  ["a", "admit"], ["u", "run"], ["c", "send command"], ["w", "apply command"], ["k", "acknowledge"], ["h", "let go"],
-  ["d", "release"],
+  ["a", "admit"], ["s", "take a stage"], ["u", "run"], ["c", "send command"], ["w", "apply command"],
+  ["k", "acknowledge"], ["h", "let go"], ["d", "release"],
 ];
+
+// What the events of a letter do. Where a second pass takes stages, `d` only begins it.
+function titleOf(run, letter) {
+  const isBegin = letter === "d" && run.isFine && !(run.derived && run.derived.stages.after === 0);
+  return isBegin ? "bring down" : LETTERS.find(([other]) => other === letter)[1];
+}
 
 // How many marks of one letter a strip has at most.
 const DRAWN_EVENTS = 8000;
@@ -64,15 +70,16 @@ function tellEvent(run, event) {
     const lines = done ? [{ kind: "report", line: done.packet.line }] : [];
     return { note: event <= report.events ? word : "", lines };
   }
-  const packet = done ? done.packet.number : run.letGoAt(event);
+  const packet = done ? done.packet.number : run.movedAt(event);
   const { letter, item, line } = performed;
-  const title = LETTERS.find(([other]) => other === letter)[1];
-  const spelled = "uhd".includes(letter) ? `${letter} ${item}` : letter;
+  const title = titleOf(run, letter);
+  const spelled = "suhd".includes(letter) ? `${letter} ${item}` : letter;
   const ofPacket = packet === undefined ? "" : `, packet ${packet}`;
   const state = derived ? derived.stateOf(event) : "done";
   const idle = { done: "", idle: " It was idle.", perhaps: " It isn't certain whether it was idle." }[state];
   return {
-    note: `Event ${event}, ${spelled}${byDrain}: ${title}${ofPacket}.${idle}${run.versionNote(event)}`,
+    note: `Event ${event}, ${spelled}${byDrain}: ${title}${ofPacket}.${idle}${run.stageNote(event)}${
+      run.versionNote(event)}`,
     lines: [{ kind: "schedule", line }, ...(done ? [{ kind: "report", line: done.packet.line }] : [])],
     related: packet === undefined ? [] : run.relatedTo(packet),
   };
@@ -122,7 +129,7 @@ function drawScheduleStrip(run) {
     });
   };
   run.pictures.push({ picture, heightsOf: () => [0, Math.max(1, used.length)], fill });
-  const names = used.map(([letter, title]) => makeWith("span", "", [make("b", "", letter), ` ${title}`]));
+  const names = used.map(([letter]) => makeWith("span", "", [make("b", "", letter), ` ${titleOf(run, letter)}`]));
   const behind = !schedule.drain ? "" : derived && report.events > own ? "▒ by drain, derived" : "then drain";
   const band = drawBand(makeWith("span", "label letters", names), [picture], behind, Math.max(1, used.length));
   letEventsBeTold(band, run, (event) => tellEvent(run, event));

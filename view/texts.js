@@ -341,14 +341,16 @@ function readRun(text) {
   return { packets, objects, tables: [], lines: reader.lines };
 }
 
-// The schedule: the letter, item and line of each event, and whether it ends with `drain`.
+// The schedule: the letter, item and line of each event, whether it ends with `drain`, and whether it is fine, that is
+// whether each stage of a pass is an event of its own.
 function readSchedule(text) {
   const reader = new LineReader(text, isSkipped);
+  const fine = reader.match("fine") !== null;
   const events = [];
   let drain = false;
   while (!reader.ended) {
     const line = reader.number;
-    const parts = reader.take(`(?:([acwk])|([uhd]) ${NUMBER}|(drain))`, "an event");
+    const parts = reader.take(`(?:([acwk])|([uhds]) ${NUMBER}|(drain))`, "an event");
     if (drain) {
       throw new Refusal(line, "nothing may stand behind `drain`");
     }
@@ -357,7 +359,7 @@ function readSchedule(text) {
       events.push({ letter: parts[1] || parts[2], item: Number(parts[3] || 0), line });
     }
   }
-  return { events, drain, lines: reader.lines };
+  return { fine, events, drain, lines: reader.lines };
 }
 
 // The trace: the port, the number of bytes and the line of each packet.
@@ -425,7 +427,7 @@ function kindOf(text) {
   if (/^(packet |object |end$)/.test(line)) {
     return "run";
   }
-  if (/^(a|c|w|k|drain|[uhd] .*)$/.test(line)) {
+  if (/^(a|c|w|k|fine|drain|[uhds] .*)$/.test(line)) {
     return "schedule";
   }
   if (/^[0-9]+ /.test(line)) {

@@ -19,11 +19,12 @@ function versionsOf(report) {
       made[packet.version] = packet.decided;
       makers[packet.version] = packet;
     }
+    // A fast packet has the version that the switch showed as it came in.
     if (packet.way === "fast" && packet.version < greatest) {
-      notYet[packet.version + 1] = Math.max(notYet[packet.version + 1], packet.decided);
+      notYet[packet.version + 1] = Math.max(notYet[packet.version + 1], packet.admitted);
     }
     if (packet.released) {
-      least(shown, packet.version, packet.released);
+      least(shown, packet.version, packet.way === "fast" ? packet.admitted : packet.released);
     }
   }
   least(shown, Math.min(report.visible, greatest), report.events);
@@ -42,19 +43,30 @@ function versionsOf(report) {
 const isFine = (report) => report.packets.some(({ way, admitted, released }) =>
   way === "pass" || (way === "fast" && admitted < released));
 
-// What the report tells of events: the letter and the packet of each event that admits, decides or releases one.
+// What the report tells of events: of each that admits, decides or releases a packet, which of these and the packet. An
+// event that admits a fast packet and releases it at once is told as its admission.
 function toldEvents(report) {
   const told = new Map();
   for (const packet of report.packets) {
-    told.set(packet.admitted, { letter: "a", packet });
-    if (packet.way === "slow") {
-      told.set(packet.decided, { letter: "u", packet });
-      if (packet.released) {
-        told.set(packet.released, { letter: "d", packet });
-      }
+    const { way, admitted, decided, released } = packet;
+    told.set(admitted, { what: "admitted", packet });
+    if (way === "slow") {
+      told.set(decided, { what: "decided", packet });
+    }
+    if (released && admitted < released) {
+      told.set(released, { what: "released", packet });
     }
   }
   return told;
+}
+
+// The letters of the events that can admit, decide and release a packet.
+function lettersOf({ way, admitted, released }, isFineSchedule) {
+  if (way === "fast") {
+    const end = admitted === released ? "a" : "s";
+    return { admitted: "a", decided: end, released: end };
+  }
+  return { admitted: "a", decided: "u", released: isFineSchedule ? "ds" : "d" };
 }
 
 // Null where nothing speaks against the report being one of the schedule; else what does.
@@ -63,14 +75,14 @@ function strangenessOf(report, schedule) {
   if (report.events < total || (report.events > total && !schedule.drain)) {
     return `the report has ${counted(report.events, "event")}, and the schedule ${grouped(total)}`;
   }
-  if (isFine(report)) {
-    return null;
+  if (isFine(report) && !schedule.fine) {
+    return "in the report stages of passes are events of their own, and in the schedule they aren't";
   }
-  const letters = { admitted: "a", decided: "u", released: "d" };
   for (const packet of report.packets) {
+    const letters = lettersOf(packet, schedule.fine);
     const strange = Object.keys(letters).find((name) => {
       const event = packet[name] && schedule.events[packet[name] - 1];
-      return event && event.letter !== (packet.way === "fast" ? "a" : letters[name]);
+      return event && !letters[name].includes(event.letter);
     });
     if (strange) {
       return `packet ${packet.number} was ${strange} at event ${packet[strange]}, which is another one in the schedule`;

@@ -1,10 +1,10 @@
 -- The report of a replay is a report, and it is true.
 use Rattle.std.proofs.Common.{◌≡◌, ◌≤◌, ◌<◌, ◌^◌, ◌+◌, ◌*◌, ℕ, zero, suc, Bool, true, false, ◌&&◌, ◌||◌, List, [], ◌∷◌}
-use Rattle.std.proofs.Common.{length, Option, Some, None}
+use Rattle.std.proofs.Common.{length, Option, Some, None, replicate}
 use Rattle.std.proofs.Common.{IfSome, IsSomeAnd, refl, sym, ap, subst, ◌∙◌, inl, inr, arith}
-use Rattle.std.specs.Prelude.{IsTrue, slice_index_or}
+use Rattle.std.specs.Prelude.{IsTrue, is_some, slice_index_or}
 use Rattle.std.specs.List.{AllByRecursion as Each}
-use Rattle.std.proofs.lemmas.Bool.{cases_Bool, true≢false}
+use Rattle.std.proofs.lemmas.Bool.{cases_Bool, cases_lt, true≢false}
 use Rattle.std.proofs.lemmas.List.{length-append}
 use Rattle.packet_fields.specs.declared.packet.Packet.{Packet}
 use Rattle.state_store.specs.declared.object.ObjectDecl.{ObjectDecl}
@@ -18,11 +18,14 @@ use Rattle.flat_ir.specs.Program.{Program, step_at}
 use Rattle.flat_ir.specs.WellFormed.{IsWellFormed}
 use Rattle.flatten.specs.Flatten.{flat_of}
 use Rattle.split_model.specs.declared.split.Part.{Part}
-use Rattle.split_model.specs.Bounds.{IsBounded}
-use Rattle.split_model.specs.Counts.{writes}
-use Rattle.split_model.specs.Greatest.{IsGreatestSplit, pre_marks}
+use Rattle.split_model.specs.Bounds.{HasFewStages, IsBounded}
+use Rattle.split_model.specs.Counts.{highest_below, stage_or_zero, writes}
+use Rattle.split_model.specs.Greatest.{IsGreatestSplit, post_marks, pre_marks}
 use Rattle.split_model.specs.Shown.{is_shown, looks_at}
-use Rattle.split_model.specs.Split.{any_below, is_pre}
+use Rattle.split_model.specs.Split.{any_below, is_pre, part_at, post_stage, pre_stage, stage_after}
+use Rattle.resource_limits.specs.declared.limits.Limits.{Limits}
+use Rattle.resource_limits.specs.Kept.{KeepsLimits}
+use Rattle.resource_limits.specs.Limits.{AreInRange}
 use Rattle.run_model.specs.declared.event.Event.{Event}
 use Rattle.run_model.specs.declared.run.Run.{Run}
 use Rattle.run_model.specs.Serialises.{Serialises}
@@ -30,14 +33,14 @@ use Rattle.run_model.specs.Sizes.{most_events, most_packets}
 use Rattle.run_text.specs.Report.{report_of}
 use Rattle.replay_state.specs.Answers.{Answers, Setup}
 use Rattle.replay_state.specs.Drain.{drain_bound, drain_events, plan_events}
-use Rattle.replay_state.specs.Program.{Manner, plain, plain_manner, setup_of}
+use Rattle.replay_state.specs.Program.{Manner, manner_of, plain, setup_of}
 use Rattle.replay_state.specs.Run.{job_run}
 use Rattle.replay_state.specs.State.{State}
 use Rattle.replay_state.specs.Step.{state_of}
 use Rattle.split_answers.specs.Whole.{IsSplit, whole_of}
 use Rattle.replay_contracts.specs.Given.{Given, IsReady, setup_for, whole_runs}
 use Rattle.replay_contracts.specs.Promise.{Promises}
-use Rattle.replay_course.specs.Going.{IsPlain, most_commands}
+use Rattle.replay_course.specs.Going.{IsPrepared, most_commands}
 use Rattle.report_text.specs.Form.{InForm, are_declared}
 use Rattle.report_text.specs.Lines.{IsReport}
 use Rattle.run_audit.specs.Counts.{CountsAgree}
@@ -48,7 +51,7 @@ use Rattle.gallium_cli.specs.Promises.{IsReplayReport}
 use Rattle.gallium_cli.specs.Roles.{IsSpelled, true_report}
 use Rattle.gallium_cli.proofs.Bounds.{bounded_program}
 use Rattle.gallium_cli.proofs.Reported.{CarriesOver, KeepsStores, MeansTheSame, split_is_source}
-use Rattle.gallium_cli.proofs.Runnable.{few_writes, no_writes}
+use Rattle.gallium_cli.proofs.Runnable.{few_writes, no_writes, served_part}
 use Rattle.gallium_cli.proofs.Untrue.{IsSameInput}
 
 -- ## Splits
@@ -79,7 +82,7 @@ unseen f split least o =
 -- a split that a replay may go by has few writes for its write-back tables
 split_is : (m : Tree) (split : List Part) (writeback : ℕ) → IsBounded (flat_of m) → IsKept m.objects (start_store m.objects)
     → MayReplay (flat_of m) split writeback → IsSplit (flat_of m) split writeback
-split_is m split writeback bounded kept (inl (allowed, accepted, rows)) = record {
+split_is m split writeback bounded kept (inl (allowed, accepted, ranges, rows)) = record {
   bounded = bounded;
   legal = accepted.legal;
   kept = kept;
@@ -95,6 +98,98 @@ split_is m split writeback bounded kept (inr (choice, rows)) = record {
       subst (λ n. writes (flat_of m) split o ≤ n) (sym rows)
       (no_writes (flat_of m) split (unseen (flat_of m) split choice.least) o);
 }
+
+-- ## Stages
+
+-- within limits no stage is above the one that they allow
+pre_low : (split : List Part) (n i : ℕ) → i < n → stage_or_zero (pre_stage split i) ≤ highest_below split n
+pre_low split zero i low = absurd (omega arith)
+pre_low split (suc n) i low = elim (cases_lt i n) [
+  | inl less ↦ let before = pre_low split n i less in omega arith
+  | inr not_less ↦ (
+      let last : i ≡ n = omega arith in
+      let same = ap (λ j. stage_or_zero (pre_stage split j)) last in
+      omega arith
+      )
+]
+
+post_low : (split : List Part) (n i : ℕ) → i < n → stage_or_zero (post_stage split i) ≤ highest_below split n
+post_low split zero i low = absurd (omega arith)
+post_low split (suc n) i low = elim (cases_lt i n) [
+  | inl less ↦ let before = post_low split n i less in omega arith
+  | inr not_less ↦ (
+      let last : i ≡ n = omega arith in
+      let same = ap (λ j. stage_or_zero (post_stage split j)) last in
+      omega arith
+      )
+]
+
+-- behind the last part nothing is computed in either pass
+past_parts : (split : List Part) (i : ℕ) → length split ≤ i → part_at split i ≡ served_part
+past_parts [] i past = refl
+past_parts (part ∷ split) zero past = absurd (omega arith)
+past_parts (part ∷ split) (suc i) past = past_parts split i (omega arith)
+
+few_within : (f : Program) (split : List Part) (allowed : Limits) → length split ≡ length f.code → AreInRange allowed
+    → KeepsLimits f split allowed → HasFewStages split
+few_within f split allowed count ranges keeps = record {
+  pre = λ i stage is. elim (cases_lt i (length f.code)) [
+    | inl within ↦ (
+        let low = pre_low split (length f.code) i within in
+        let own = ap stage_or_zero is in
+        let all = keeps.stages in
+        let most = ranges.1 in
+        omega (arith, low, own, all, most)
+        )
+    | inr past ↦ (
+        let none : pre_stage split i ≡ None = ap (λ (p : Part). p.pre) (past_parts split i (omega arith)) in
+        let some : pre_stage split i ≡ Some stage = is in
+        cc
+        )
+  ];
+  post = λ i stage is. elim (cases_lt i (length f.code)) [
+    | inl within ↦ (
+        let low = post_low split (length f.code) i within in
+        let own = ap stage_or_zero is in
+        let all = keeps.stages in
+        let most = ranges.1 in
+        omega (arith, low, own, all, most)
+        )
+    | inr past ↦ (
+        let none : post_stage split i ≡ None =
+        ap (λ (p : Part). stage_after p.slow) (past_parts split i (omega arith)) in
+        let some : post_stage split i ≡ Some stage = is in
+        cc
+        )
+  ];
+}
+
+-- with everything left to the server there are none
+post_marked : (split : List Part) (i : ℕ) → slice_index_or (post_marks split) i false ≡ is_some (post_stage split i)
+post_marked [] i = refl
+post_marked (part ∷ split) zero = refl
+post_marked (part ∷ split) (suc i) = post_marked split i
+
+all_false : (n i : ℕ) → slice_index_or (replicate n false) i false ≡ false
+all_false zero i = refl
+all_false (suc n) zero = refl
+all_false (suc n) (suc i) = all_false n i
+
+few_served : (f : Program) (split : List Part) → IsGreatestSplit f 0 false split → HasFewStages split
+few_served f split least = record {
+  pre = λ i stage is. let low = least.pre.closed.below i (marked split i (ap is_some is)) in absurd (omega arith);
+  post = λ i stage is.
+      let none : slice_index_or (post_marks split) i false ≡ false =
+      ap (λ (marks : List Bool). slice_index_or marks i false) least.post ∙ all_false (length f.code) i in
+      absurd (true≢false (sym (ap is_some is) ∙ sym (post_marked split i) ∙ none));
+}
+
+-- so a split that a replay may go by has few
+few_stages : (f : Program) (split : List Part) (writeback : ℕ) → length split ≡ length f.code → MayReplay f split writeback
+    → HasFewStages split
+few_stages f split writeback count (inl (allowed, accepted, ranges, rows)) =
+    few_within f split allowed count ranges accepted.keeps
+few_stages f split writeback count (inr (choice, rows)) = few_served f split choice.least
 
 -- ## Events
 
@@ -120,7 +215,7 @@ pub record Laws : Type 0 where
   pub bound : (setup : Setup) (a : Answers) (st : State) → length (drain_events setup a st) ≤ drain_bound setup
   pub commands : (x : Given) → IsSplit x.program x.split x.writeback → length x.packets ≤ most_packets
       → length x.packets * most_commands x < 2 ^ 32
-  pub few : (x : Given) → IsPlain x → length x.packets ≤ most_packets → drain_bound (setup_for x) < 2 ^ 30
+  pub few : (x : Given) → IsPrepared x → length x.packets ≤ most_packets → drain_bound (setup_for x) < 2 ^ 30
   pub in_form : (f : Program) (split : List Part) (writeback : ℕ) (packets : List Packet) (manner : Manner)
       (events : List Event)
       → IsSplit f split writeback → Each IsArrival packets → length packets < 2 ^ 32 → length events < 2 ^ 32
@@ -150,26 +245,32 @@ replay_is_true laws text m packets report is declared arrivals few replay =
     let split = replay.split in
     let writeback = replay.writeback in
     let plan = replay.plan in
-    let x = given m split writeback packets in
+    let x = given m split writeback packets plan.fine in
     let events = events_of x plan in
     let run = job_run (setup_for x) (whole_runs x) events in
     let good = is.spelling.good in
     let bounded = bounded_program text m f is refl (laws.formed m good) replay.short in
     let one = split_is m split writeback bounded (laws.keeps.start m good) replay.by in
     let ready : IsReady x = record { split = one; arrivals = arrivals; few = count_within (length packets) few } in
-    let plain_run : IsPlain x = record { ready = ready; manner = refl; few = laws.commands x one few } in
+    let prepared : IsPrepared x =
+    record {
+      ready = ready;
+      stages = few_stages f split writeback one.legal.count replay.by;
+      manner = refl;
+      few = laws.commands x one few;
+    } in
     let count =
     few_in_all (length events) (length plan.events) (drain_bound (setup_for x))
     (all_events (setup_for x) (whole_runs x) plan.events plan.drain (drain_bound (setup_for x))
     (laws.bound (setup_for x) (whole_runs x)))
-    replay.few (laws.few x plain_run few) in
-    let alike = split_is_source m split writeback (length packets) packets laws.keeps laws.same good arrivals in
+    replay.few (laws.few x prepared few) in
+    let alike = split_is_source m split writeback (length packets) packets plan.fine laws.keeps laws.same good arrivals in
     let serial : Serialises (source_of m packets) run =
     laws.over.serialises _ (source_of m packets) run alike (laws.promises x events ready).serialises in
     let counts : CountsAgree packets run =
     record { total = refl; admitted = serial.admitted; decided = refl; released = refl } in
     let form : InForm m.objects run =
-    laws.in_form f split writeback packets plain_manner events one arrivals (low_count (length packets) few) count in (
+    laws.in_form f split writeback packets (manner_of plan.fine) events one arrivals (low_count (length packets) few) count in (
       run,
       subst (λ (t : List ℕ). IsReport m.objects t run) (sym replay.report) (laws.read m.objects run declared form),
       laws.true_report m packets run counts serial,

@@ -128,7 +128,7 @@ no_writes f split unseen o =
     (unseen o)
 
 -- the part of an instruction that is left to the server
-abbrev served_part : Part
+abbrev pub served_part : Part
 served_part = record { pre = None; slow = Server }
 
 all_served : (n i : ℕ) → part_at (replicate n served_part) i ≡ served_part

@@ -21,6 +21,7 @@ use Rattle.split_validate.specs.Validated.{IsAccepted}
 use Rattle.resource_limits.specs.declared.limits.Limits.{Limits}
 use Rattle.resource_limits.specs.Counts.{counts_of}
 use Rattle.resource_limits.specs.Kept.{KeepsLimits}
+use Rattle.resource_limits.specs.Limits.{AreInRange}
 use Rattle.partition.specs.Choice.{IsChosen}
 use Rattle.run_text.specs.declared.plan.Plan.{Plan}
 use Rattle.run_text.specs.Trace.{trace_of, schedule_of}
@@ -207,15 +208,15 @@ IsReport text m x plan replayed port port_after =
 
 -- ## Reports of replays
 
--- a replay may go by this split, with so many rows in each write-back table: it is legal and keeps some limits, which
--- tell the rows; or it leaves everything to the server, and there are none
+-- a replay may go by this split, with so many rows in each write-back table: it is legal and keeps some limits in their
+-- ranges, which tell the rows; or it leaves everything to the server, and there are none
 abbrev pub MayReplay : Program → List Part → ℕ → Type 0
 MayReplay f split writeback =
-    ((allowed : Limits) × IsAccepted f split allowed × (writeback ≡ allowed.writeback))
+    ((allowed : Limits) × IsAccepted f split allowed × AreInRange allowed × (writeback ≡ allowed.writeback))
     ⊎ (IsNoChoice f split × (writeback ≡ 0))
 
 -- the text is the report of a replay of this middlebox over these packets: by a split that it may go by, and the events
--- of a schedule, with those of drain behind them or without
+-- of a schedule, fine or not, with those of drain behind them or without
 pub record IsReplayOf (m : Tree) (packets : List Packet) (text : List ℕ) : Type 0 where
   pub split : List Part
   pub writeback : ℕ
@@ -223,7 +224,7 @@ pub record IsReplayOf (m : Tree) (packets : List Packet) (text : List ℕ) : Typ
   pub short : IsShort m
   pub by : MayReplay (flat_of m) split writeback
   pub few : length plan.events ≤ most_events
-  pub report : (let x = given m split writeback packets in
+  pub report : (let x = given m split writeback packets plan.fine in
       text ≡ report_of m.objects (job_run (setup_for x) (whole_runs x) (events_of x plan)))
 
 -- ## Made work

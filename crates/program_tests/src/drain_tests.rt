@@ -51,7 +51,6 @@ fn trace(alloc: Global) -> Result<Packets, Fail>
 }
 
 // A program whose split may be replayed: with so few instructions it has no more writes than rows may be staged.
-#[tactic(auto, using(crate::proofs::Writes::few_writes))]
 fn job_of(alloc: Global, flat: Flat) -> Result<Job, Fail>
     requires { IsKept (program_of flat).objects (start_store (program_of flat).objects) }
     ensures split { IfOk result (λ job. IsSplit (program_of job.flat) job.split job.writeback) }

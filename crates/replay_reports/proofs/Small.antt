@@ -9,7 +9,8 @@ use Rattle.writeback_table.specs.declared.command.Update.{Update}
 use Rattle.run_model.specs.declared.event.Event.{Event}
 use Rattle.run_model.specs.declared.event.Event.TheVariants.{Admit, Stage, Serve, Send, Apply, Ack, Hold, Down}
 use Rattle.replay_state.specs.Answers.{Answers, Setup}
-use Rattle.replay_state.specs.State.{State, Pass, Progress, Entered, Up, Held, Slow, Fast, fate_of, first_state, seen}
+use Rattle.replay_state.specs.declared.pass.Pass.{Pass}
+use Rattle.replay_state.specs.State.{State, Progress, Entered, Up, Held, Slow, Fast, fate_of, first_state, seen}
 use Rattle.replay_state.specs.State.{store_at}
 use Rattle.replay_state.specs.Step.{applies, happens, step, steps, tick, idled, finished, went_up, decided, released}
 use Rattle.replay_state.specs.Step.{came_in, came_out, ended, entered, staged, pass_of, with_changes, ran, served}

@@ -1,11 +1,11 @@
 -- Passes under way, in their list.
-use Rattle.std.proofs.Common.{◌≡◌, ◌≢◌, ◌∙◌, ℕ, zero, suc, ◌+◌, ◌<◌, ◌≤◌, ◌==◌, Bool, true, false, not, cond, List, [], ◌∷◌, ◌++◌, length, Option, Some, None, refl, sym, ap, subst, inl, inr, arith, get_or}
+use Rattle.std.proofs.Common.{◌≡◌, ◌∙◌, ℕ, suc, ◌+◌, ◌<◌, ◌≤◌, ◌==◌, Bool, true, false, not, cond, List, [], ◌∷◌, ◌++◌, length, Option, Some, None, refl, sym, ap, subst, inl, inr, arith, get_or}
 use Rattle.std.specs.Prelude.{filter, nat_lt, position, slice_set}
-use Rattle.std.specs.List.{position_or_len, AllByRecursion as Each}
+use Rattle.std.specs.List.{position_or_len}
 use Rattle.std.specs.Option.{option_map}
-use Rattle.std.proofs.lemmas.Bool.{cases_Bool, cases_eq, cond-true, cond-false, eq-eqb, eqb-true, ltb-false, ltb-true, ne_eqb, true≢false}
+use Rattle.std.proofs.lemmas.Bool.{cases_Bool, cond-true, cond-false, eqb-true, ltb-false, ltb-true}
 use Rattle.switch_ir.specs.Staged.{Staging}
-use Rattle.switch_ir.specs.UnderWay.{Passes, PassState}
+use Rattle.switch_ir.specs.UnderWay.{PassState}
 use Rattle.switch_machine.specs.declared.flight.Flight.{Flight}
 use Rattle.switch_machine.specs.declared.numbering.ValueRange.{ValueRange}
 use Rattle.switch_machine.specs.Flights.{flight_at, passes_in, shown}

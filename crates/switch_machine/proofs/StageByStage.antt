@@ -1,7 +1,7 @@
 -- A pass whose stages are taken one by one, in its registers.
-use Rattle.std.proofs.Common.{◌≡◌, ◌≢◌, ℕ, zero, suc, ◌+◌, ◌-◌, ◌==◌, ◌<◌, ◌≤◌, ◌^◌, Bool, true, false, cond, ◌||◌, ◌&&◌, ◌⊎◌, List, [], ◌∷◌, ◌++◌, length, map, max, Option, Some, None, IsSome, unwrap_or, refl, sym, ap, ◌∙◌, subst, inl, inr, arith, slice_index}
-use Rattle.std.specs.Prelude.{nat_le, nat_lt, All, Contains}
-use Rattle.std.specs.List.{list_any, AllByRecursion as Each}
+use Rattle.std.proofs.Common.{◌≡◌, ℕ, suc, ◌==◌, ◌<◌, ◌≤◌, ◌^◌, Bool, true, false, cond, ◌||◌, ◌&&◌, ◌⊎◌, List, [], ◌∷◌, ◌++◌, length, map, Option, Some, None, IsSome, unwrap_or, refl, sym, ap, ◌∙◌, subst, inl, inr, arith, slice_index}
+use Rattle.std.specs.Prelude.{nat_le, All, Contains}
+use Rattle.std.specs.List.{AllByRecursion as Each}
 use Rattle.std.proofs.lemmas.Bool.{cases_Bool, cases_eq, and_from, and_parts, cond-true, cond-false, eq-eqb, eqb-true, leb-true, le-leb, lt-ltb, ltb-true, or_left, or_right, true≢false}
 use Rattle.packet_fields.specs.declared.packet.Packet.{Packet}
 use Rattle.state_store.specs.Store.{Store}
@@ -34,7 +34,7 @@ use Rattle.switch_machine.proofs.Beginning.{same_value, value_same}
 use Rattle.switch_machine.proofs.Each.{each_at}
 use Rattle.switch_machine.proofs.InRegisters.{has_span}
 use Rattle.std.proofs.lemmas.Option.{same_Some, none-some}
-use Rattle.switch_machine.proofs.Members.{any_has, each_has, has_any, has_each, has_left, has_made, has_parts, has_right, made_has, of_contains, to_contains, Has}
+use Rattle.switch_machine.proofs.Members.{any_has, each_has, has_any, has_each, has_made, has_parts, made_has, of_contains, to_contains, Has}
 use Rattle.switch_machine.proofs.Numbered.{all_given, each_of_stage, number_is, once_of_stage, own_is, unknown_stays, writes_are, IsGiven}
 use Rattle.switch_machine.proofs.PassValues.{apart, begins, has_its_number, has_of_stage, once, same_by_number, spans_mine, written_of}
 

@@ -3,7 +3,6 @@ use Rattle.std.proofs.Common.{◌≡◌, ◌≢◌, ◌∙◌, ◌<◌, ◌++◌
 use Rattle.std.specs.Prelude.{nat_lt}
 use Rattle.std.proofs.lemmas.Bool.{cond-true, cond-false, eq-eqb, false≢true, le-ltb, lt-ltb, ne_eqb}
 use Rattle.gal_io.specs.Count.{IsCountedIf}
-use Rattle.packet_fields.specs.declared.packet.Packet.{Packet}
 use Rattle.switch_ir.specs.Code.{Code}
 use Rattle.switch_ir.specs.declared.journal.Entry.{Entry}
 use Rattle.switch_ir.specs.declared.journal.Entry.TheVariants as entry
@@ -17,7 +16,7 @@ use Rattle.switch_ir.specs.Tables.{Told}
 use Rattle.switch_ir.specs.UnderWay.{BegunDown, BegunUp, GoesDown, GoesUp, HasEntered, HasGoneOn, LeavesDown, LeavesUp, PassState, UnderWay}
 use Rattle.switch_machine.specs.declared.calls.CallKind.{CallKind}
 use Rattle.switch_machine.specs.Calls.{ended, IsCountedAs}
-use Rattle.switch_machine.specs.Counts.{counted, CallCounts}
+use Rattle.switch_machine.specs.Counts.{counted}
 use Rattle.switch_machine.specs.Ends.{DownPasses, UpPasses}
 use Rattle.switch_machine.specs.Machine.{MachineState, seen_of}
 use Rattle.switch_machine.specs.Staging.{went, with_pass, DownIsPlanned, EntersByFrame, EntersUp, GoesOnDown, GoesOnUp, IsLastDown, IsLastUp, IsLeft, UpIsPlanned}

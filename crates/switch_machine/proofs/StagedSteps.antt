@@ -4,7 +4,6 @@ use Rattle.std.specs.Prelude.{filter, position, slice_set, ◌||◌, IsSome}
 use Rattle.std.specs.List.{AllByRecursion as Each}
 use Rattle.std.specs.Option.{option_map}
 use Rattle.std.proofs.lemmas.Bool.{eqb-true, false≢true, true≢false}
-use Rattle.packet_fields.specs.declared.packet.Packet.{Packet}
 use Rattle.flat_ir.specs.Blocks.{nothing}
 use Rattle.split_model.specs.declared.layout.Crossing.{Crossing}
 use Rattle.transfer_header.specs.Frames.{IsFrame, IsFrameOf}

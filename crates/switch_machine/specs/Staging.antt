@@ -1,7 +1,6 @@
 -- What the calls of a switch in memory leave by which passes go on stage by stage.
 use Rattle.std.specs.Prelude.{◌≡◌, ◌==◌, ◌++◌, ◌∷◌, [], ℕ, Bool, true, false, List, Option, Some, None, if◌then◌else◌}
 use Rattle.std.specs.Prelude.{position}
-use Rattle.packet_fields.specs.declared.packet.Packet.{Packet}
 use Rattle.switch_ir.specs.Code.{Code}
 use Rattle.switch_ir.specs.Port.{IsHandedDown, IsNothing, IsUpFrame, OfItsParts}
 use Rattle.switch_ir.specs.Staged.{pre_staging, post_staging, EndsBy, EndsDownBy}

@@ -1,4 +1,4 @@
-use Rattle.std.proofs.Common.{◌≡◌, ◌∙◌, ap, subst, sym, suc, arith}
+use Rattle.std.proofs.Common.{◌≡◌, ◌∙◌, ap, sym, suc, arith}
 use Rattle.switch_ir.specs.Code.{code_of}
 use Rattle.transfer_header.specs.Registers.{content_of}
 use Rattle.switch_ir.specs.Meaning.{leaves}

@@ -1,4 +1,4 @@
-use Rattle.std.proofs.Common.{◌∙◌, refl}
+use Rattle.std.proofs.Common.{refl}
 use Rattle.switch_ir.specs.Code.{code_of}
 use Rattle.switch_machine.proofs.LoadedCode.{ready_down}
 use Rattle.switch_machine.proofs.down.unpack.Goals as goal

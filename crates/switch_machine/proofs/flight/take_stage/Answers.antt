@@ -1,4 +1,4 @@
-use Rattle.std.proofs.Common.{◌≡◌, ◌∙◌, ◌+◌, ap, subst, sym, suc, add-one, List, map, length, arith, slice_index_or, []}
+use Rattle.std.proofs.Common.{◌∙◌, ◌+◌, ap, subst, sym, add-one, List, map}
 use Rattle.std.specs.List.{AllByRecursion as Each}
 use Rattle.transfer_header.specs.Registers.{Registers}
 use Rattle.switch_ir.specs.Tables.{view_of}

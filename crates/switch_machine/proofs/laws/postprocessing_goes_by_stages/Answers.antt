@@ -1,4 +1,4 @@
-use Rattle.std.proofs.Common.{false, refl, []}
+use Rattle.std.proofs.Common.{false, []}
 use Rattle.switch_ir.specs.Spans.{post_spans}
 use Rattle.switch_ir.specs.Tables.{seen_tables, view_of, Told}
 use Rattle.switch_machine.specs.Keeping.{kept_down}

@@ -1,5 +1,4 @@
-use Rattle.std.proofs.Common.{◌≡◌, ◌∙◌, ap, subst, sym, suc, arith, length, IfOk}
-use Rattle.packet_fields.specs.declared.packet.Packet.{Packet}
+use Rattle.std.proofs.Common.{◌≡◌, ◌∙◌, ap, subst, sym, suc, arith, IfOk}
 use Rattle.transfer_header.specs.Registers.{content_of, Registers}
 use Rattle.transfer_header.specs.Steps.{pairs_written}
 use Rattle.switch_ir.specs.Code.{code_of}
