@@ -1,5 +1,5 @@
 -- What the answer to a replay over links leads to, and what a call that came to none.
-use Rattle.std.proofs.Common.{◌≡◌, ◌≤◌, ◌+◌, ◌++◌, ◌∷◌, ◌∙◌, ℕ, Bool, true, false, List, length, Option, Some, IsSomeAnd, ap, refl, subst, sym}
+use Rattle.std.proofs.Common.{◌≡◌, ◌≤◌, ◌+◌, ℕ, false, List, Some, refl, subst, sym}
 use Rattle.std.specs.Prelude.{IsSome, IsTrue}
 use Rattle.std.specs.List.{AllByRecursion as Each}
 use Rattle.gal_io.specs.Files.{FilesState}
@@ -11,7 +11,6 @@ use Rattle.flat_ir.specs.Arrivals.{IsArrival}
 use Rattle.flat_ir.specs.Program.{Program}
 use Rattle.flatten.specs.Flatten.{flat_of}
 use Rattle.split_model.specs.declared.split.Part.{Part}
-use Rattle.run_model.specs.declared.event.Event.TheVariants.{Admit}
 use Rattle.run_model.specs.declared.link_event.LinkEvent.{LinkEvent}
 use Rattle.run_audit.specs.Source.{source_of}
 use Rattle.switch_ir.specs.Port.{PortState}

@@ -1,5 +1,5 @@
 -- What a replay over links is told.
-use Rattle.std.specs.Prelude.{◌≡◌, ◌≤◌, ℕ, List, ◌++◌, ◌∷◌, length, slice_get, Option, IfSome, IsSome, IsSomeAnd}
+use Rattle.std.specs.Prelude.{◌≡◌, ◌≤◌, ℕ, List, ◌++◌, ◌∷◌, length, Option, IfSome, IsSome, IsSomeAnd}
 use Rattle.std.specs.Prelude.{Ok, true, IsTrue, codes, decimal}
 use Rattle.packet_fields.specs.declared.packet.Packet.{Packet}
 use Rattle.element_lang.specs.Tree.{Tree}
