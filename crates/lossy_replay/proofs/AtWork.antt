@@ -102,8 +102,14 @@ too_long xs ys x same is = absurd (omega (arith, length_push xs x, ap (λ (l : L
 
 too_short : (back : List ℕ) (n : ℕ) → map number_bytes (back ++ n ∷ []) ≡ map number_bytes back ++ [] → ⊥
 too_short back n is =
-    absurd (omega (arith, ap (λ (l : List (List ℕ)). length l) is, length-map number_bytes (back ++ n ∷ []), length_push back n,
-    length-append (map number_bytes back) [], length-map number_bytes back))
+    absurd (omega (
+      arith,
+      ap (λ (l : List (List ℕ)). length l) is,
+      length-map number_bytes (back ++ n ∷ []),
+      length_push back n,
+      length-append (map number_bytes back) [],
+      length-map number_bytes back,
+    ))
 
 pub last_there : (got : List ℕ) (n : ℕ) → slice_get (got ++ n ∷ []) (length got) ≡ Some n
 last_there [] n = refl

@@ -156,9 +156,9 @@ kept_in p [] n there = absurd cc
 kept_in p (x ∷ xs) n there =
     elim (p x) as (λ b. is_among (cond b (x ∷ filter p xs) (filter p xs)) n ≡ true → is_among (x ∷ xs) n ≡ true) [
       | true ↦ λ in_it. elim (or_cases (x == n) (is_among (filter p xs) n) in_it) [
-          | inl here ↦ ap (λ b. b || is_among xs n) here
-          | inr behind ↦ either_way (x == n) (is_among xs n) (kept_in p xs n behind)
-        ]
+        | inl here ↦ ap (λ b. b || is_among xs n) here
+        | inr behind ↦ either_way (x == n) (is_among xs n) (kept_in p xs n behind)
+      ]
       | false ↦ λ in_it. either_way (x == n) (is_among xs n) (kept_in p xs n in_it)
     ] there
   where

@@ -66,9 +66,10 @@ range_apart a n = rising_apart a (a + n) (range_with_len a n) (subst (AreRising 
 
 pub pairs_apart : (xs : List ℕ) → AllPairs (λ m n. m ≢ n) xs → AreApart xs
 pairs_apart [] all = tt
-pairs_apart (x ∷ xs) all =
-    (not_among xs x (λ k inside same. all 0 (suc k) 0 (omega arith) (omega arith) (sym same)),
-    pairs_apart xs (λ i j d before inside. all (suc i) (suc j) d (omega arith) (omega arith)))
+pairs_apart (x ∷ xs) all = (
+  not_among xs x (λ k inside same. all 0 (suc k) 0 (omega arith) (omega arith) (sym same)),
+  pairs_apart xs (λ i j d before inside. all (suc i) (suc j) d (omega arith) (omega arith)),
+)
 
 -- ---- ranges
 

@@ -58,10 +58,14 @@ impl Way {
         ensures { OnOk result ((l : Link) (gone : List ℕ) → IsWay l gone self.old
             → IsWay (link_step l (arrive j)) gone self.new) }
     {
-        if let Some(number) = self.line.deliver(alloc, j)? {
-            self.arrived.push(number)?;
+        let delivered = self.line.deliver(alloc, j)?;
+        match delivered {
+            Some(number) => {
+                self.arrived.push(number)?;
+                Ok(())
+            }
+            None => Ok(()),
         }
-        Ok(())
     }
 
     /// The j-th of all confirmations arrives, where so many were sent back.
