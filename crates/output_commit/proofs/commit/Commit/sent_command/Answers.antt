@@ -49,4 +49,14 @@ returns c =
     let command = c.command_at.ensures
         ∙ (ap (λ us. slice_get (commands_of us) (c.commands.result - 1 - c.self.inside.left)) changes
         ∙ (ap (slice_get (commands_of (batch_in c.self.inside.batches.updates.items c.in-Some.span.now).updates)) place ∙ sym there)) in
-    some_last _ c.command_at.result here.some command ∙ ap last_sent c.self.view_is
+    let me = c.self.inside in
+    some_last
+    (record {
+      writeback = me.writeback;
+      batches = batches_in me.batches;
+      sent = me.sent;
+      done = me.done;
+      acked = me.acked;
+      held = me.held.items;
+    })
+    c.command_at.result here.some command ∙ ap last_sent c.self.view_is
