@@ -87,7 +87,8 @@ impl Line {
                 self.back.push(number)?;
                 Ok(None)
             }
-            Took::Early(_) | Took::Malformed => Ok(None),
+            Took::Early(_) => Ok(None),
+            Took::Malformed => Ok(None),
         }
     }
 
