@@ -85,8 +85,8 @@ returns-in-Early-clause-at_work c =
     c.requires.at_work at (c.as_slice-2.ensures ∙ c.in_ok-bytes.ensures) (sym c.in-Early.is ∙ c.in_ok-took.ensures.answer) refl c.in_ok-took.ensures.ok refl
     (sym (append-nil c.args.self.now.back.items))).work.at_work
 
-pub returns-in-Malformed-clause-delivered : goal.returns-in-Malformed-clause-delivered
-returns-in-Malformed-clause-delivered c =
+pub returns-clause-delivered : goal.returns-clause-delivered
+returns-clause-delivered c =
     let me = c.args.self.now in
     let n = c.in-Some.field-0.now in
     let at = read_at me.sent.items c.as_slice.result.now c.args.j n c.as_slice.ensures.value c.in-Some.ensures.lookup.0 c.in-Some.ensures.lookup.1 in
@@ -94,8 +94,8 @@ returns-in-Malformed-clause-delivered c =
     c.requires.at_work at (c.as_slice-2.ensures ∙ c.in_ok-bytes.ensures) (sym c.in-Malformed.is ∙ c.in_ok-took.ensures.answer) refl c.in_ok-took.ensures.ok refl
     (sym (append-nil c.args.self.now.back.items))).delivered
 
-pub returns-in-Malformed-clause-link : goal.returns-in-Malformed-clause-link
-returns-in-Malformed-clause-link c =
+pub returns-clause-link : goal.returns-clause-link
+returns-clause-link c =
     let me = c.args.self.now in
     let n = c.in-Some.field-0.now in
     let at = read_at me.sent.items c.as_slice.result.now c.args.j n c.as_slice.ensures.value c.in-Some.ensures.lookup.0 c.in-Some.ensures.lookup.1 in
@@ -103,8 +103,8 @@ returns-in-Malformed-clause-link c =
     c.requires.at_work at (c.as_slice-2.ensures ∙ c.in_ok-bytes.ensures) (sym c.in-Malformed.is ∙ c.in_ok-took.ensures.answer) refl c.in_ok-took.ensures.ok refl
     (sym (append-nil c.args.self.now.back.items))).work.link
 
-pub returns-in-Malformed-clause-at_work : goal.returns-in-Malformed-clause-at_work
-returns-in-Malformed-clause-at_work c =
+pub returns-clause-at_work : goal.returns-clause-at_work
+returns-clause-at_work c =
     let me = c.args.self.now in
     let n = c.in-Some.field-0.now in
     let at = read_at me.sent.items c.as_slice.result.now c.args.j n c.as_slice.ensures.value c.in-Some.ensures.lookup.0 c.in-Some.ensures.lookup.1 in
