@@ -232,4 +232,3 @@ pub placed_by : (l : Link) (gone : List ℕ) (way : Way) (xs : List ℕ) (j n pl
 placed_by l gone way xs j n place w same at search =
     let number : slice_get (arrived l gone) j ≡ Some n = ap (λ (ns : List ℕ). slice_get ns j) (sym w.came) ∙ at in
     sym (ap (place_in (standing l gone)) number ∙ (search_finds l gone way xs n place w same search).position_is)
-

@@ -139,9 +139,9 @@ passes p [] n there = absurd cc
 passes p (x ∷ xs) n there =
     elim (p x) as (λ b. p x ≡ b → is_among (cond b (x ∷ filter p xs) (filter p xs)) n ≡ true → p n ≡ true) [
       | true ↦ λ holds in_it. elim (or_cases (x == n) (is_among (filter p xs) n) in_it) [
-          | inl here ↦ ap p (sym (eqb-true x n here)) ∙ holds
-          | inr behind ↦ passes p xs n behind
-        ]
+        | inl here ↦ ap p (sym (eqb-true x n here)) ∙ holds
+        | inr behind ↦ passes p xs n behind
+      ]
       | false ↦ λ fails in_it. passes p xs n in_it
     ] refl there
 
@@ -177,4 +177,3 @@ few_standing gone count =
     let p : ℕ → Bool = λ k. not (is_among gone k) in
     let short = rising_short 0 (0 + count) (filter p (range_with_len 0 count)) (kept_rises p 0 count) (omega arith) in
     omega (arith, short)
-
