@@ -1,9 +1,11 @@
 -- A link at work, call by call.
-use Rattle.std.proofs.Common.{◌≡◌, ◌<◌, ◌≤◌, ◌+◌, ◌-◌, ◌^◌, ℕ, zero, suc, Bool, true, false, List, [], ◌∷◌, ◌++◌, length, map, refl, sym, ap, ◌∙◌, subst, Some, None, arith, append-nil, length-append}
-use Rattle.std.specs.Prelude.{Option, if◌then◌else◌, slice_get}
+use Rattle.std.proofs.Common.{◌≡◌, ◌<◌, ◌≤◌, ◌+◌, ◌-◌, ◌^◌, ℕ, zero, suc, Bool, true, false, List, [], ◌∷◌, ◌++◌, get_or, length, map, refl, sym, ap, ◌∙◌, subst, Some, None, arith, append-nil, length-append}
+use Rattle.std.specs.Prelude.{Option, if◌then◌else◌, nat_lt, slice_get}
+use Rattle.std.proofs.lemmas.Bool.{ltb-true}
+use Rattle.std.specs.Int.{to_be_bytes, w32}
 use Rattle.std.specs.Option.{option_map}
 use Rattle.std.proofs.lemmas.List.{length-map, length_push}
-use Rattle.std.proofs.lemmas.Option.{slice_get-map}
+use Rattle.std.proofs.lemmas.Option.{slice_get-map, slice_get_read}
 use Rattle.lossy_link.specs.declared.answers.Took.{Took}
 use Rattle.lossy_link.specs.declared.answers.Took.TheVariants.{New, Again, Early, Malformed}
 use Rattle.lossy_link.specs.declared.receiver.Delivered.{Delivered}
@@ -18,6 +20,11 @@ use Rattle.lossy_replay.specs.declared.line.Line.{Line}
 
 abbrev pub StepLaw : Type 0
 StepLaw = (l : Link) (step : LinkStep) → IsFaithful l → length (link_step l step).items < 2 ^ 32 → IsOneStep l step
+
+-- what is read at a place
+pub read_at : (xs ys : List ℕ) (j n : ℕ) → ys ≡ xs → true ≡ nat_lt j (length ys) → n ≡ get_or ys j n → slice_get xs j ≡ Some n
+read_at xs ys j n same there at =
+    ap (λ (l : List ℕ). slice_get l j) (sym same) ∙ slice_get_read ys (length ys) j n refl (ltb-true j (length ys) (sym there)) at
 
 -- ---- the ends of a link
 
@@ -98,12 +105,18 @@ delivered_in (Early m) n = None
 delivered_in Malformed n = None
 
 too_long : {X : Type 0} (xs ys : List X) (x : X) → length xs ≡ length ys → xs ++ x ∷ [] ≡ ys → ⊥
-too_long xs ys x same is = absurd (omega (arith, length_push xs x, ap (λ (l : List X). length l) is, same))
+too_long {X = X} xs ys x same is = absurd (omega (arith, length_push xs x, ap (λ (l : List X). length l) is, same))
 
 too_short : (back : List ℕ) (n : ℕ) → map number_bytes (back ++ n ∷ []) ≡ map number_bytes back ++ [] → ⊥
 too_short back n is =
-    absurd (omega (arith, ap (λ (l : List (List ℕ)). length l) is, length-map number_bytes (back ++ n ∷ []), length_push back n,
-    length-append (map number_bytes back) [], length-map number_bytes back))
+    absurd (omega (
+      arith,
+      ap (λ (l : List (List ℕ)). length l) is,
+      length-map (back ++ n ∷ []) number_bytes,
+      length_push back n,
+      length-append (map number_bytes back) [],
+      length-map back number_bytes,
+    ))
 
 pub last_there : (got : List ℕ) (n : ℕ) → slice_get (got ++ n ∷ []) (length got) ≡ Some n
 last_there [] n = refl
@@ -165,17 +178,21 @@ after_deliver law line new j n took bytes w is made answer sender receiver sent 
     ap (λ (t : Took). map number_bytes l.back ++ confirmations_of t) told ∙ ap (λ (x : Ends). x.confirmations) ends in
     let behind : new.back.items ≡ l'.back = back ∙ back_of l.back n (is_among (got_after l n) n) took confirmed in
     let work = work_of new l' sender (receiver ∙ taken) sent behind (subst IsFaithful step one.faithful) w.few in
-    let pairs : length line.receiver.pairs ≡ length l.got = sym (length-map (λ (p : Delivered). p.number) line.receiver.pairs) in
+    let pairs : length line.receiver.pairs ≡ length l.got = sym (length-map line.receiver.pairs (λ (p : Delivered). p.number)) in
     let grown : length (with_item (receiver_of l) (item_in sends) took).pairs ≡ length l'.got =
     ap (λ (t : Took). length (with_item (receiver_of l) (item_in sends) t).pairs) told
-    ∙ (ap (λ (x : Ends). length x.receiver.pairs) ends ∙ length-map (pair_of l'.items) l'.got) in
+    ∙ (ap (λ (x : Ends). length x.receiver.pairs) ends ∙ length-map l'.got (pair_of l'.items)) in
     record {
       work = subst (IsWorkOf new) (sym step) work;
       delivered = ap (λ (m : Link). slice_get m.got (length l.got)) work.link
-          ∙ got_of l.got n (is_due l n) took (receiver_of l) (item_in sends) (length-map (pair_of l.items) l.got) grown;
+          ∙ got_of l.got n (is_due l n) took (receiver_of l) (item_in sends) (length-map l.got (pair_of l.items)) grown;
     }
 
 -- ---- a confirmation arrives
+
+pub number_told : (n : ℕ) → to_be_bytes w32 n ≡ number_bytes n
+unfolding number_bytes
+number_told n = refl
 
 pub after_known : StepLaw → (line new : Line) (j n : ℕ) → IsAtWork line → slice_get line.back.items j ≡ Some n
     → new.sender ≡ after_confirm line.sender (number_bytes n) → new.receiver ≡ line.receiver → new.sent.items ≡ line.sent.items

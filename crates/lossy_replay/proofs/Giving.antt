@@ -63,7 +63,7 @@ last_of (item ∷ other ∷ items) (x ∷ front) n is =
 pub none_newer : (w_up : ℕ → List ℕ) (items : Items) (before : List ℕ) → map (λ item. item.0) items ≡ before
     → newest (length before) items ≡ map w_up (behind before before)
 none_newer w_up items before is =
-    let long : length items ≡ length before = sym (length-map (λ (i : ℕ × List ℕ). i.0) items) ∙ ap (λ (l : List ℕ). length l) is in
+    let long : length items ≡ length before = sym (length-map items (λ (i : ℕ × List ℕ). i.0)) ∙ ap (λ (l : List ℕ). length l) is in
     let none : behind before before ≡ [] = ap (drop (length before)) (sym (append-nil before)) ∙ drop_at before [] (length before) refl in
     cond-false (nat_lt (length before) (length items)) (map (λ (i : ℕ × List ℕ). i.1) (drop (length items - 1) items)) []
     (le-ltb (length before) (length items) (omega (arith, long)))
@@ -76,7 +76,7 @@ pub one_newer : (w_up : ℕ → List ℕ) (items : Items) (before : List ℕ) (l
     → newest least items ≡ map w_up (behind before (before ++ n ∷ []))
 one_newer w_up items before least n few is frames =
     let last = last_of items before n is in
-    let long : length items ≡ length before + 1 = sym (length-map (λ (i : ℕ × List ℕ). i.0) items) ∙ (ap (λ (l : List ℕ). length l) is ∙ length_push before n) in
+    let long : length items ≡ length before + 1 = sym (length-map items (λ (i : ℕ × List ℕ). i.0)) ∙ (ap (λ (l : List ℕ). length l) is ∙ length_push before n) in
     let behind_is : behind before (before ++ n ∷ []) ≡ n ∷ [] = drop_at before (n ∷ []) (length before) refl in
     cond-true (nat_lt least (length items)) (map (λ (i : ℕ × List ℕ). i.1) (drop (length items - 1) items)) []
     (lt-ltb least (length items) (omega (arith, long, few)))

@@ -2,6 +2,8 @@
 use Rattle.std.proofs.Common.{◌≡◌, ◌≢◌, ◌<◌, ◌≤◌, ◌+◌, ◌-◌, ◌^◌, ℕ, zero, suc, Bool, true, false, not, ◌||◌, ◌&&◌, cond, List, [], ◌∷◌, ◌++◌, length, map, refl, sym, ap, ◌∙◌, subst, inl, inr, Some, None, arith, append-nil, true≢false}
 use Rattle.std.specs.Prelude.{◌==◌, ◌⊎◌, Ok, Err, Option, if◌then◌else◌, slice_get}
 use Rattle.std.specs.List.{All, filter, position, range_with_len, remove}
+use Rattle.std.specs.List.Sorted.{IsBinarySearchResult}
+use Rattle.std.specs.Ordering.{nat_cmp}
 use Rattle.std.proofs.lemmas.Bool.{and_right, cond-false, cond-true, eqb-true, not_from_true, or_cases}
 use Rattle.std.proofs.lemmas.List.{length_push}
 use Rattle.std.proofs.lemmas.List.Elements.{All-head, All-tail, filter-append}
@@ -15,7 +17,7 @@ use Rattle.lossy_replay.specs.declared.line.Line.{Line}
 use Rattle.lossy_replay.specs.declared.way.Way.{Way}
 use Rattle.lossy_replay.proofs.Apart.{AreApart, among_push, among_there, goes_at}
 use Rattle.lossy_replay.proofs.AtWork.{last_there, past}
-use Rattle.lossy_replay.proofs.Standing.{found_standing, missing_standing, one_stands, pairs_apart, placed, range_apart}
+use Rattle.lossy_replay.proofs.Standing.{IsFoundAt, among_range, found_standing, missing_standing, one_stands, pairs_apart, passed, passes, range_apart}
 
 -- ---- what is delivered
 
@@ -156,9 +158,9 @@ kept_in p [] n there = absurd cc
 kept_in p (x ∷ xs) n there =
     elim (p x) as (λ b. is_among (cond b (x ∷ filter p xs) (filter p xs)) n ≡ true → is_among (x ∷ xs) n ≡ true) [
       | true ↦ λ in_it. elim (or_cases (x == n) (is_among (filter p xs) n) in_it) [
-          | inl here ↦ ap (λ b. b || is_among xs n) here
-          | inr behind ↦ either_way (x == n) (is_among xs n) (kept_in p xs n behind)
-        ]
+        | inl here ↦ ap (λ b. b || is_among xs n) here
+        | inr behind ↦ either_way (x == n) (is_among xs n) (kept_in p xs n behind)
+      ]
       | false ↦ λ in_it. either_way (x == n) (is_among xs n) (kept_in p xs n in_it)
     ] there
   where
@@ -191,3 +193,42 @@ pub way_stays : (l : Link) (gone : List ℕ) (way : Way) (j : ℕ) → IsWay l g
     → IsWay l (gone_on gone (slice_get (arrived l gone) j)) way
 way_stays l gone way j w none =
     subst (λ (o : Option ℕ). IsWay l (gone_on gone o) way) (sym (ap (λ (ns : List ℕ). slice_get ns j) (sym w.came) ∙ none)) w
+
+-- ---- what was delivered stands there
+
+pub stands_too : (l : Link) (gone : List ℕ) (j n : ℕ) → IsFaithful l → slice_get (arrived l gone) j ≡ Some n → is_among (standing l gone) n ≡ true
+stands_too l gone j n faithful is =
+    let p : ℕ → Bool = λ k. not (is_among gone k) in
+    let there = among_there (arrived l gone) j n is in
+    let inside = below l.got n (length l.items) faithful.items (kept_in p l.got n there) in
+    passed p (range_with_len 0 (length l.items)) n (among_range 0 (length l.items) n (omega arith) (omega (arith, inside))) (passes p l.got n there)
+
+-- a search by halves finds it
+pub search_finds : (l : Link) (gone : List ℕ) (way : Way) (xs : List ℕ) (n place : ℕ) → IsWay l gone way → xs ≡ way.standing.items
+    → IsBinarySearchResult (λ y. nat_cmp y n) xs (Ok place) → IsFoundAt (standing l gone) n place
+search_finds l gone way xs n place w same search =
+    found_standing gone (length l.items) n place (subst (λ (ys : List ℕ). IsBinarySearchResult (λ y. nat_cmp y n) ys (Ok place)) (same ∙ w.stand) search)
+
+pub search_misses : (l : Link) (gone : List ℕ) (way : Way) (xs : List ℕ) (j n place : ℕ) → IsWay l gone way → xs ≡ way.standing.items
+    → slice_get way.arrived.items j ≡ Some n → IsBinarySearchResult (λ y. nat_cmp y n) xs (Err place) → ⊥
+search_misses l gone way xs j n place w same at search =
+    let faithful = subst IsFaithful w.link w.at_work.faithful in
+    let number : slice_get (arrived l gone) j ≡ Some n = ap (λ (ns : List ℕ). slice_get ns j) (sym w.came) ∙ at in
+    let none = missing_standing gone (length l.items) n place (subst (λ (ys : List ℕ). IsBinarySearchResult (λ y. nat_cmp y n) ys (Err place)) (same ∙ w.stand) search) in
+    true≢false (sym (stands_too l gone j n faithful number) ∙ none)
+
+pub way_takes : (l : Link) (gone : List ℕ) (way new : Way) (xs : List ℕ) (j n place : ℕ) → IsWay l gone way → xs ≡ way.standing.items
+    → slice_get way.arrived.items j ≡ Some n → IsBinarySearchResult (λ y. nat_cmp y n) xs (Ok place) → new.line ≡ way.line
+    → new.arrived.items ≡ remove way.arrived.items j → new.standing.items ≡ remove way.standing.items place
+    → IsWay l (gone_on gone (slice_get (arrived l gone) j)) new
+way_takes l gone way new xs j n place w same at search line came stand =
+    let found = search_finds l gone way xs n place w same search in
+    way_taken l gone way new j n place w (subst IsFaithful w.link w.at_work.faithful) at (ap (λ (ns : List ℕ). slice_get ns place) w.stand ∙ found.there)
+    line came stand
+
+-- its place
+pub placed_by : (l : Link) (gone : List ℕ) (way : Way) (xs : List ℕ) (j n place : ℕ) → IsWay l gone way → xs ≡ way.standing.items
+    → slice_get way.arrived.items j ≡ Some n → IsBinarySearchResult (λ y. nat_cmp y n) xs (Ok place) → Some place ≡ place_of l gone j
+placed_by l gone way xs j n place w same at search =
+    let number : slice_get (arrived l gone) j ≡ Some n = ap (λ (ns : List ℕ). slice_get ns j) (sym w.came) ∙ at in
+    sym (ap (place_in (standing l gone)) number ∙ (search_finds l gone way xs n place w same search).position_is)

@@ -4,7 +4,7 @@ use Rattle.std.specs.Prelude.{◌==◌, Ok, Err, Option, Result, nat_lt, slice_g
 use Rattle.std.specs.List.{AllPairs, filter, position, position_or_len, range_with_len}
 use Rattle.std.specs.List.Sorted.{IsBinarySearchResult}
 use Rattle.std.specs.Ordering.{nat_cmp}
-use Rattle.std.proofs.lemmas.Bool.{cases_lt, cond-false, cond-true, eq-eqb, eqb-true, lt-ltb, ne_eqb, or_cases, or_from}
+use Rattle.std.proofs.lemmas.Bool.{cases_eq, cases_lt, cond-false, cond-true, eq-eqb, eqb-true, lt-ltb, ne_eqb, or_cases, or_from, or_left, or_right}
 use Rattle.std.proofs.lemmas.List.Elements.{filter-append}
 use Rattle.std.proofs.lemmas.List.Sorted.{searched}
 use Rattle.std.proofs.lemmas.Option.{get_or_from_slice_get, slice_get-get_or, slice_get_within}
@@ -66,9 +66,10 @@ range_apart a n = rising_apart a (a + n) (range_with_len a n) (subst (AreRising 
 
 pub pairs_apart : (xs : List ℕ) → AllPairs (λ m n. m ≢ n) xs → AreApart xs
 pairs_apart [] all = tt
-pairs_apart (x ∷ xs) all =
-    (not_among xs x (λ k inside same. all 0 (suc k) 0 (omega arith) (omega arith) (sym same)),
-    pairs_apart xs (λ i j d before inside. all (suc i) (suc j) d (omega arith) (omega arith)))
+pairs_apart (x ∷ xs) all = (
+  not_among xs x (λ k inside same. all 0 (suc k) 0 (omega arith) (omega arith) (sym same)),
+  pairs_apart xs (λ i j d before inside. all (suc i) (suc j) d (omega arith) (omega arith)),
+)
 
 -- ---- ranges
 
@@ -130,3 +131,49 @@ missing_standing gone count n place search =
       | inl before ↦ absurd (omega (arith, same, at.1 k before))
       | inr behind ↦ absurd (omega (arith, same, at.2 k behind inside))
     ])
+
+-- ---- what passes a test, and what stands in a range
+
+pub passes : (p : ℕ → Bool) (xs : List ℕ) (n : ℕ) → is_among (filter p xs) n ≡ true → p n ≡ true
+passes p [] n there = absurd cc
+passes p (x ∷ xs) n there =
+    elim (p x) as (λ b. p x ≡ b → is_among (cond b (x ∷ filter p xs) (filter p xs)) n ≡ true → p n ≡ true) [
+      | true ↦ λ holds in_it. elim (or_cases (x == n) (is_among (filter p xs) n) in_it) [
+        | inl here ↦ ap p (sym (eqb-true x n here)) ∙ holds
+        | inr behind ↦ passes p xs n behind
+      ]
+      | false ↦ λ fails in_it. passes p xs n in_it
+    ] refl there
+
+pub passed : (p : ℕ → Bool) (xs : List ℕ) (n : ℕ) → is_among xs n ≡ true → p n ≡ true → is_among (filter p xs) n ≡ true
+passed p [] n there holds = absurd cc
+passed p (x ∷ xs) n there holds =
+    elim (or_cases (x == n) (is_among xs n) there) [
+      | inl here ↦
+          let first : p x ≡ true = ap p (eqb-true x n here) ∙ holds in
+          ap (λ (ys : List ℕ). is_among ys n) (cond-true (p x) (x ∷ filter p xs) (filter p xs) first) ∙ or_left (x == n) (is_among (filter p xs) n) here
+      | inr behind ↦
+          let rest = passed p xs n behind holds in
+          elim (p x) as (λ b. is_among (cond b (x ∷ filter p xs) (filter p xs)) n ≡ true) [
+            | true ↦ or_right (x == n) (is_among (filter p xs) n) rest
+            | false ↦ rest
+          ]
+    ]
+
+pub among_range : (a n k : ℕ) → a ≤ k → k < a + n → is_among (range_with_len a n) k ≡ true
+among_range a zero k from below = absurd (omega arith)
+among_range a (suc n) k from below =
+    elim (cases_eq a k) [
+      | inl same ↦ or_left (a == k) (is_among (range_with_len (a + 1) n) k) (eq-eqb a k same)
+      | inr other ↦ or_right (a == k) (is_among (range_with_len (a + 1) n) k) (among_range (a + 1) n k (omega (arith, other)) (omega arith))
+    ]
+
+rising_short : (a b : ℕ) (xs : List ℕ) → AreRising a b xs → a ≤ b → a + length xs ≤ b
+rising_short a b [] up le = omega arith
+rising_short a b (x ∷ xs) up le = omega (arith, up.0, rising_short (suc x) b xs up.2 (omega (arith, up.1)))
+
+pub few_standing : (gone : List ℕ) (count : ℕ) → length (without gone (range_with_len 0 count)) ≤ count
+few_standing gone count =
+    let p : ℕ → Bool = λ k. not (is_among gone k) in
+    let short = rising_short 0 (0 + count) (filter p (range_with_len 0 count)) (kept_rises p 0 count) (omega arith) in
+    omega (arith, short)

@@ -140,7 +140,7 @@ performed_on state gone fast slow x schedule event own links next c after old ne
     let leads : (w : World) → w.at l.events ≡ st → w.at events ≡ st' → HasFrames w st' after
     → linked_step setup w l (InWorld event) ≡ noted_on l c after event own =
     λ w now then frames. performs setup w l event own st st' now then is yes
-        ∙ ap (λ (g : Linked). after_event g l own) (noted_is w l after event st st' (length c.up.items) before frames given) in
+    ∙ ap (λ (g : Linked). after_event g l own) (noted_is w l after event st st' (length c.up.items) before frames given) in
     record {
       plain = linking.plain;
       calls = calls;

@@ -44,7 +44,8 @@ impl Line {
         ensures at_work { OnOk result (IsAtWork self.new) }
     {
         one_step_more();
-        self.sender.give(item)
+        let number = self.sender.give(item)?;
+        Ok(number)
     }
 
     /// The datagram of the j-th item that isn't known to be delivered, the lowest first, is sent, where there is one.
@@ -54,10 +55,13 @@ impl Line {
         ensures at_work { OnOk result (IsAtWork self.new) }
     {
         one_step_more();
-        if let Some(number) = self.sender.unknown_at(j as usize) {
-            self.sent.push(number)?;
+        match self.sender.unknown_at(j as usize) {
+            Some(number) => {
+                self.sent.push(number)?;
+                Ok(())
+            }
+            None => Ok(()),
         }
-        Ok(())
     }
 
     /// The j-th of all datagrams arrives, where so many were sent. Where it delivers its item, the answer is the item's
@@ -73,7 +77,8 @@ impl Line {
             return Ok(None);
         };
         let bytes = self.sender.datagram(alloc, number)?;
-        match self.receiver.take(bytes.as_slice())? {
+        let took = self.receiver.take(bytes.as_slice())?;
+        match took {
             Took::New(_) => {
                 self.back.push(number)?;
                 Ok(Some(number))
@@ -82,7 +87,8 @@ impl Line {
                 self.back.push(number)?;
                 Ok(None)
             }
-            Took::Early(_) | Took::Malformed => Ok(None),
+            Took::Early(_) => Ok(None),
+            Took::Malformed => Ok(None),
         }
     }
 

@@ -56,7 +56,7 @@ fn give_last(
     if frames.len() <= before {
         return Ok(());
     }
-    match frames.back() {
+    match frames.get(frames.len() - 1) {
         Some((_, frame)) => way.give(frame.copy(alloc)?),
         None => Ok(()),
     }

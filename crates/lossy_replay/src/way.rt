@@ -1,5 +1,5 @@
 //! A link of frames, and which of them wait where it leads.
-ghost use Rattle.std.specs.Prelude.{◌≡◌, ◌<◌, ◌-◌, ◌^◌, [], ℕ, List, length, slice_get, OnOk};
+ghost use Rattle.std.specs.Prelude.{◌≡◌, ◌<◌, ◌-◌, ◌^◌, false, [], ℕ, List, length, slice_get, OnOk};
 ghost use Rattle.lossy_link.specs.Link.{Link, arrive, confirm, first_link, give, link_step, send};
 ghost use Rattle.lossy_replay.specs.Linked.{arrived, gone_on, place_of};
 ghost use Rattle.lossy_replay.specs.Lines.{link_of};
@@ -58,10 +58,14 @@ impl Way {
         ensures { OnOk result ((l : Link) (gone : List ℕ) → IsWay l gone self.old
             → IsWay (link_step l (arrive j)) gone self.new) }
     {
-        if let Some(number) = self.line.deliver(alloc, j)? {
-            self.arrived.push(number)?;
+        let delivered = self.line.deliver(alloc, j)?;
+        match delivered {
+            Some(number) => {
+                self.arrived.push(number)?;
+                Ok(())
+            }
+            None => Ok(()),
         }
-        Ok(())
     }
 
     /// The j-th of all confirmations arrives, where so many were sent back.
@@ -93,8 +97,11 @@ impl Way {
             return;
         };
         let _ = self.arrived.remove(j as usize);
-        if let Ok(place) = self.standing.as_slice().binary_search(&number) {
-            let _ = self.standing.remove(place);
+        match self.standing.as_slice().binary_search(&number) {
+            Ok(place) => {
+                let _ = self.standing.remove(place);
+            }
+            Err(_) => {}
         }
     }
 }

@@ -26,7 +26,7 @@ front_of (suc k) (suc n) (x ∷ xs) h = ap (λ l. x ∷ l) (front_of k n xs (ome
 -- the last command that was sent is this one of the last batch that was begun
 pub record IsLastSent (b : Batches) (sent left : ℕ) (span : Span) : Type 0 where
   pub some : 0 < sent
-  pub left : left < span_len span
+  pub less : left < span_len span
   pub few : span_len span < 2 ^ 32
   pub stands : stands (spans_in b) (sent - 1) ≡ Some (span, span_len span - 1 - left)
 
@@ -59,7 +59,7 @@ last_stands b sent done acked left applied known v a span c last =
     let few = begun_few b c.kept in
     record {
       some = omega arith;
-      left = omega arith;
+      less = omega arith;
       few = omega arith;
       stands = stands_front l (drop b.next b.spans.items) (sent - 1) (omega arith) ∙ ap (stands l) (sym place) ∙ at
           ∙ ap (λ (s : Span). Some (s, step)) is;
