@@ -1,6 +1,6 @@
 -- A replay over links that lose, repeat and reorder: which events of the world are performed, and what goes over each
 -- link. Frames go up and down in any order, commands and their acknowledgements in order.
-use Rattle.std.specs.Prelude.{ℕ, ◌==◌, not, List, [], ◌∷◌, ◌++◌, Option, Some, None}
+use Rattle.std.specs.Prelude.{ℕ, ◌==◌, not, true, false, List, [], ◌∷◌, ◌++◌, Option, Some, None}
 use Rattle.std.specs.Prelude.{drop, if◌then◌else◌, length, map, nat_lt, position, slice_get}
 use Rattle.std.specs.List.{filter, range_with_len}
 use Rattle.output_commit.specs.Batches.{commands_in}

@@ -1,5 +1,5 @@
 -- What comes of a replay over links.
-use Rattle.std.specs.Prelude.{◌≡◌, ℕ, List, [], ◌++◌, map, slice_get, take}
+use Rattle.std.specs.Prelude.{◌≡◌, ℕ, List, [], ◌∷◌, ◌++◌, map, slice_get, take}
 use Rattle.lossy_link.specs.CommandBytes.{bytes_of}
 use Rattle.output_commit.specs.Batches.{commands_in}
 use Rattle.run_model.specs.declared.event.Event.{Event}
