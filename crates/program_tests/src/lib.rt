@@ -2,6 +2,4 @@
 #![tactic(auto)]
 
 #[cfg(test)]
-mod drain_tests;
-#[cfg(test)]
 mod fault_tests;

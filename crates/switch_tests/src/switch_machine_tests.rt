@@ -236,7 +236,7 @@ enum Turn {
 }
 
 // Packet 0 arrives, whose pass is to go on stage by stage.
-#[tactic(auto, using(crate::proofs::Loaded::loaded_by, crate::proofs::UnderWay::begun))]
+#[tactic(auto, using(crate::proofs::Loaded::loaded_by))]
 fn enters(alloc: Global, code: &SwitchCode, port: &mut ModelSwitch) -> bool
     requires code { (seen_of (machine_of port.old)).code ≡ Some (code_of code.now) }
     requires none { HasNoUpPass (seen_of (machine_of port.old)) 0 }
@@ -247,7 +247,6 @@ fn enters(alloc: Global, code: &SwitchCode, port: &mut ModelSwitch) -> bool
 }
 
 // Its pass takes a stage.
-#[tactic(auto, using(crate::proofs::UnderWay::goes_on, crate::proofs::UnderWay::fails_there, crate::proofs::UnderWay::finds_none))]
 fn takes_stage(alloc: Global, code: &SwitchCode, port: &mut ModelSwitch) -> Turn
     requires code { (seen_of (machine_of port.old)).code ≡ Some (code_of code.now) }
     requires pass { HasUpPass (seen_of (machine_of port.old)) 0 }
