@@ -1,4 +1,3 @@
 mod Kept
 mod Loaded
 mod Plain
-mod UnderWay
