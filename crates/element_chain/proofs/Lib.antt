@@ -1,7 +1,4 @@
-pub mod BitRows
-pub mod Places
-pub mod SetFields
-pub mod AnyOrder
+pub mod FieldLists
 pub mod Tests
 pub mod Ranks
 pub mod Ranked

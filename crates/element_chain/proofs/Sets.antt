@@ -17,8 +17,8 @@ use Rattle.element_chain.specs.Compose.{sets, sets_in, is_set}
 use Rattle.element_chain.proofs.Tests.{left, right}
 use Rattle.packet_fields.specs.FieldOrder.{same_index}
 use Rattle.packet_fields.specs.Fitting.{bit_of-lt, spelled-lt}
-use Rattle.element_chain.proofs.BitRows.{replaced-lt, length-bytes_of, get_or-bytes_of}
-use Rattle.element_chain.proofs.SetFields.{with_field_there, with_field_absent}
+use Rattle.packet_fields.proofs.BitRows.{replaced-lt, length-bytes_of, get_or-bytes_of}
+use Rattle.packet_fields.proofs.SetFields.{with_field_there, with_field_absent}
 
 -- ## which fields
 either : (P : Type 0) (a b : Bool) → (a || b) ≡ true → (a ≡ true → P) → (b ≡ true → P) → P

@@ -38,7 +38,7 @@ use Rattle.packet_fields.specs.FieldOrder.{same_index}
 use Rattle.packet_fields.specs.FieldOrder.{at_index, index-lt, length-all_fields}
 use Rattle.element_lang.specs.KeptRuns.{start_fits}
 use Rattle.element_chain.proofs.Numbers.{Extends, extends_self, extends_more, extends_push, IsNumbered, body_carries}
-use Rattle.element_chain.proofs.SetFields.{value_absent}
+use Rattle.packet_fields.proofs.SetFields.{value_absent}
 use Rattle.element_chain.proofs.Sent.{written_twice, sent_length}
 use Rattle.element_chain.proofs.Sets.{set_only, set_by, sent_bytes}
 use Rattle.element_chain.proofs.Stores.{joined_set, joined_at, base_right}

@@ -15,12 +15,13 @@ use Rattle.replay_state.specs.Drain.{Picks}
 use Rattle.replay_state.specs.Step.{applies, state_of, step, steps}
 use Rattle.replay_state.specs.Step.{pass_of}
 use Rattle.replay_state.specs.Agree.{EndAlike, RunAlike, AgreeOn}
-use Rattle.replay_state.specs.Program.{SplitProgram, packet_at}
+use Rattle.run_model.specs.Meaning.{packet_at}
+use Rattle.run_model.specs.Members.{Member}
+use Rattle.run_model.proofs.Members.{get_member}
+use Rattle.replay_state.specs.Program.{SplitProgram}
 use Rattle.replay_state.specs.Journal.{UpAnswer, Finished, SentUp, GoingUp, DownAnswer, Released, GoingDown, Call, CalledUp, CalledStageUp, CalledCommand, CalledDown, CalledStageDown}
 use Rattle.replay_state.specs.Journal.{or_else, only_for, up_end, down_end, ends_up, ends_down, up_answer, down_answer, verdict_in, frame_in, told, journal, over_in, down_frame, is_up_end, is_down_end, question_of}
 use Rattle.replay_state.specs.Journal.{Question, AsksUp, AsksStageUp, AsksCommand, AsksDown, AsksStageDown, asks_stage, asks_down, asks, asked, questions, IsAnswered}
-use Rattle.replay_state.proofs.Words.{Member}
-use Rattle.replay_state.proofs.Lists.{get_member}
 use Rattle.replay_state.proofs.Order.{member_left, member_right}
 use Rattle.replay_state.specs.Carried.{Carried}
 use Rattle.replay_state.proofs.Carried.{EndsWell, carried_step, carried_first}

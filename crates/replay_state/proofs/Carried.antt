@@ -10,8 +10,9 @@ use Rattle.replay_state.specs.Step.{pass_of}
 use Rattle.replay_state.specs.Carried.{Carried}
 pub use Rattle.replay_state.proofs.Walk.{EndsWell}
 use Rattle.replay_state.proofs.Walk.{Closed, closed_step}
-use Rattle.replay_state.proofs.Words.{Member}
-use Rattle.replay_state.proofs.Lists.{get_member, member_remove, member_push, member_set}
+use Rattle.run_model.specs.Members.{Member}
+use Rattle.run_model.proofs.Members.{get_member}
+use Rattle.replay_state.proofs.Lists.{member_remove, member_push, member_set}
 
 pair_number : (p v q u : ℕ) → ◌≡◌ {A = ℕ × ℕ} (p, v) (q, u) → p ≡ q
 pair_number p v q u e = ap (λ (x : ℕ × ℕ). x.0) e

@@ -12,7 +12,8 @@ use Rattle.run_model.specs.declared.event.Event.{Event}
 use Rattle.replay_state.specs.Step.{applies, waits, may_go, step, steps}
 use Rattle.replay_state.specs.Drain.{is_quiet, is_drained, first_of, drain_order, next_event, with_picked, picked_events, drain_bound, drain_events, IsFirstOf, IsNoneOf, Drains, Picks, events_left}
 use Rattle.replay_state.specs.Sound.{AreFew}
-use Rattle.replay_state.proofs.Lists.{get_within, none_within, get_member, weight_remove}
+use Rattle.run_model.proofs.Members.{get_member}
+use Rattle.replay_state.proofs.Lists.{get_within, none_within, weight_remove}
 use Rattle.replay_state.proofs.Visible.{visible_all}
 use Rattle.replay_state.proofs.Fates.{held_fate, in_held, is_at}
 use Rattle.replay_state.proofs.Effects.{Fine}

@@ -9,8 +9,9 @@ use Rattle.replay_state.specs.Answers.{Answers}
 use Rattle.output_commit.specs.Batches.{Batch, commands_in, visible}
 use Rattle.replay_state.specs.State.{State, Progress, Entered, Up, Held, Slow, Fast, Pass}
 use Rattle.replay_state.specs.Step.{tick, idled, pass_of, finished, went_up, released, decided}
-use Rattle.replay_state.proofs.Words.{Member}
-use Rattle.replay_state.proofs.Lists.{get_past, set_cases, push_cases, get_member, member_remove, member_push, member_set, weight, weight_push, weight_remove, weight_set, is, mark_set, mark_push}
+use Rattle.run_model.specs.Members.{Member}
+use Rattle.run_model.proofs.Members.{get_member}
+use Rattle.replay_state.proofs.Lists.{get_past, set_cases, push_cases, member_remove, member_push, member_set, weight, weight_push, weight_remove, weight_set, is, mark_set, mark_push}
 use Rattle.replay_state.proofs.Counts.{AreCounted, counts_same}
 use Rattle.replay_state.proofs.Visible.{visible_more, visible_merged, visible_total}
 use Rattle.replay_state.proofs.Fates.{pass_mark, up_mark, held_mark, in_first, in_last, in_up, in_held, Places, at_first, at_up, held_fate, is_at, Needs, FateOk, fate_more, EachFine, each_push, each_set, each_weaker, Pairs, pairs_push, pairs_set, fits_late, fits_now}

@@ -7,7 +7,8 @@ use Rattle.state_store.specs.Store.{Store}
 use Rattle.output_commit.specs.Batches.{visible}
 use Rattle.replay_state.specs.State.{State, Progress, Entered, Up, Held, Slow, Fast, Pass}
 use Rattle.replay_state.proofs.Words.{admitted_at, released_at}
-use Rattle.replay_state.proofs.Words.{Member, version_at}
+use Rattle.run_model.specs.Members.{Member}
+use Rattle.replay_state.proofs.Words.{version_at}
 use Rattle.replay_state.proofs.Lists.{set_cases, push_cases, weight, weight_remove, is}
 
 abbrev pub pass_mark : Option Progress → ℕ

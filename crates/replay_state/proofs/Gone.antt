@@ -19,7 +19,7 @@ use Rattle.replay_state.specs.Journal.{Question, AsksUp, AsksStageUp, AsksComman
 use Rattle.replay_state.specs.Journal.{GoesUpSo, FramesAre, DownFramesAre, HasGoneUp, IsAnswerIn, IsNumbered}
 use Rattle.replay_state.proofs.Sane.{Sane, sane_step, sane_first}
 use Rattle.replay_state.proofs.Placed.{down_there}
-use Rattle.replay_state.proofs.Lists.{get_member}
+use Rattle.run_model.proofs.Members.{get_member}
 use Rattle.replay_state.proofs.Order.{member_left, member_right}
 use Rattle.replay_state.proofs.Carried.{EndsWell, carried_step, carried_first, carried_weaker}
 use Rattle.replay_state.proofs.Answered.{up_append, down_append, KnownUp, AllThere, admit_known, stage_known, some_stage, all_asked}

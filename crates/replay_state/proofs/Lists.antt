@@ -5,7 +5,7 @@ use Rattle.std.proofs.lemmas.Bool.{cases_eq, eq-eqb, ne_eqb}
 use Rattle.std.proofs.lemmas.Option.{same_Some}
 use Rattle.replay_state.specs.State.{Progress}
 pub use Rattle.replay_state.specs.Drain.{weight}
-use Rattle.replay_state.proofs.Words.{Member}
+use Rattle.run_model.specs.Members.{Member}
 
 pub get_set_same : {X : Type 0} (xs : List X) (k : ℕ) (x y : X) → slice_get xs k ≡ Some x → slice_get (set xs k y) k ≡ Some y
 get_set_same [] k x y h = cc
@@ -45,11 +45,6 @@ push_cases xs y z p h = elim (cases_eq p (length xs)) [
   | inl e ↦ inl (e, same_Some _ _ (sym (get_push_same xs y) ∙ subst (λ n. slice_get (xs ++ y ∷ []) n ≡ Some z) e h))
   | inr d ↦ inr (sym (get_push_other xs y p d) ∙ h)
 ]
-
-pub get_member : {X : Type 0} (xs : List X) (j : ℕ) (x : X) → slice_get xs j ≡ Some x → Member x xs
-get_member [] j x h = cc
-get_member (y ∷ ys) zero x h = inl (same_Some _ _ h)
-get_member (y ∷ ys) (suc j) x h = inr (get_member ys j x h)
 
 pub member_remove : {X : Type 0} (xs : List X) (j : ℕ) (x : X) → Member x (remove xs j) → Member x xs
 member_remove [] zero x h = h

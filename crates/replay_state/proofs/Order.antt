@@ -1,10 +1,12 @@
--- Rising lists of entries: insertion, splitting, uniqueness.
+-- Rising lists of entries: insertion, splitting.
 use Rattle.std.proofs.Common.{◌≡◌, ℕ, ◌<◌, ◌≤◌, Bool, true, false, cond, List, [], ◌∷◌, ◌++◌, ◌⊎◌, inl, inr, refl, sym, ◌∙◌, ap, subst, arith}
 use Rattle.std.specs.Prelude.{filter}
 use Rattle.std.proofs.lemmas.Bool.{cases_lt}
 use Rattle.std.proofs.lemmas.Bool.Decides.{nat_tests}
 use Rattle.run_model.specs.declared.serial.Decided.{Decided}
-use Rattle.replay_state.proofs.Words.{Member, Before, Rising, upto, beyond}
+use Rattle.run_model.specs.Members.{Member}
+use Rattle.run_model.proofs.Rising.{Before, Rising}
+use Rattle.replay_state.proofs.Words.{upto, beyond}
 
 pub member_left : {X : Type 0} (x : X) (l r : List X) → Member x l → Member x (l ++ r)
 member_left x [] r h = absurd h
@@ -83,34 +85,3 @@ rising_split v (x ∷ xs) up = elim (cases_lt v x.version) [
       rw (a, b) refl
   | inr early ↦ let rest = rising_split v xs up.1 in grind (arith, nat_tests)
 ]
-
--- two rising lists with the same members are the same list
-pub before_not_back : (x y : Decided) → Before x y → Before y x → ⊥
-before_not_back x y a b =
-    let v = b.version in
-    let e = a.event b.version in
-    let f = b.event a.version in
-    let n = a.number b.version f in
-    let m = b.number a.version e in
-    omega arith
-
-pub before_self : (x : Decided) → Before x x → ⊥
-before_self x a = before_not_back x x a a
-
-pub same_rising : (xs ys : List Decided) → Rising xs → Rising ys
-    → ((e : Decided) → Member e xs → Member e ys) → ((e : Decided) → Member e ys → Member e xs) → xs ≡ ys
-same_rising [] [] up vp f g = refl
-same_rising [] (y ∷ ys) up vp f g = absurd (g y (inl refl))
-same_rising (x ∷ xs) [] up vp f g = absurd (f x (inl refl))
-same_rising (x ∷ xs) (y ∷ ys) up vp f g =
-    let heads : y ≡ x = elim (f x (inl refl)) [
-      | inl p ↦ p
-      | inr late ↦ elim (g y (inl refl)) [
-        | inl p ↦ sym p
-        | inr later ↦ absurd (before_not_back x y (up.0 y later) (vp.0 x late))
-      ]
-    ] in
-    let tails : xs ≡ ys = same_rising xs ys up.1 vp.1
-    (λ e m. elim (f e (inr m)) [ inl p ↦ absurd (before_self e (subst (λ z. Before z e) (sym heads ∙ p) (up.0 e m))) | inr b ↦ b ])
-    (λ e m. elim (g e (inr m)) [ inl p ↦ absurd (before_self e (subst (λ z. Before z e) (heads ∙ p) (vp.0 e m))) | inr b ↦ b ]) in
-    cc

@@ -8,7 +8,8 @@ use Rattle.replay_state.specs.State.{State, Pass, Progress, Entered, Up, Held, S
 use Rattle.std.proofs.lemmas.Bool.{cases_eq}
 use Rattle.replay_state.specs.Step.{state_of}
 use Rattle.replay_state.specs.Places.{HavePlaces, IsHeld}
-use Rattle.replay_state.proofs.Lists.{get_member, weight_remove, weight_two}
+use Rattle.run_model.proofs.Members.{get_member}
+use Rattle.replay_state.proofs.Lists.{weight_remove, weight_two}
 use Rattle.replay_state.proofs.Fates.{Places, held_mark, in_first, in_held, in_last, in_up, is_at, held_fate, at_first, at_last, at_up, pass_mark}
 use Rattle.replay_state.proofs.Effects.{Fine}
 use Rattle.replay_state.proofs.Sane.{sane_steps, sane_first}

@@ -10,7 +10,8 @@ use Rattle.writeback_table.specs.declared.command.Update.{Update}
 use Rattle.writeback_table.specs.Batches.{count_of}
 use Rattle.output_commit.specs.Batches.{fits}
 use Rattle.replay_state.specs.Sound.{AreFew, AreSound, IsAlike}
-use Rattle.replay_state.specs.Program.{Fits, IsSplitProgram, Manner, SplitProgram, packet_at, plain, setup_of}
+use Rattle.run_model.specs.Meaning.{packet_at}
+use Rattle.replay_state.specs.Program.{Fits, IsSplitProgram, Manner, SplitProgram, plain, setup_of}
 use Rattle.replay_state.specs.Journal.{Call, frame_in, journal, up_answer}
 
 chosen : (b : Bool) (x y : Verdict) → cond b (Some x) None ≡ Some y → (b ≡ true) × (x ≡ y)

@@ -16,8 +16,11 @@ use Rattle.replay_state.specs.Step.{finished, decided}
 use Rattle.replay_state.specs.Sound.{IsAlike, IsSoundAt, AreSound}
 use Rattle.run_model.specs.declared.serial.Decided.{Decided}
 use Rattle.replay_state.proofs.Words.{entry_of, verdict_at}
-use Rattle.replay_state.proofs.Words.{Member, Before, upto, beyond}
-use Rattle.replay_state.proofs.Lists.{get_set_same, get_set_other, get_member, map_agree}
+use Rattle.run_model.specs.Members.{Member}
+use Rattle.run_model.proofs.Rising.{Before}
+use Rattle.run_model.proofs.Members.{get_member}
+use Rattle.replay_state.proofs.Words.{upto, beyond}
+use Rattle.replay_state.proofs.Lists.{get_set_same, get_set_other, map_agree}
 use Rattle.replay_state.proofs.Order.{rising_mid, rising_split, member_mid, member_mid_is, member_mid_old, member_left, member_parts, member_filter, upto_all}
 use Rattle.replay_state.proofs.Sorting.{IsOrder}
 use Rattle.replay_state.proofs.Serial.{left_by, said_by, told_by, left_by_push, left_by_mid, said_by_mid, said_by_push, upto_mid}

@@ -7,7 +7,8 @@ use Rattle.state_store.specs.Store.{Store}
 use Rattle.replay_state.specs.Answers.{Answers}
 use Rattle.run_model.specs.declared.serial.Decided.{Decided}
 use Rattle.replay_state.proofs.Words.{serial_store, serial_verdicts}
-use Rattle.replay_state.proofs.Words.{Member, upto}
+use Rattle.run_model.specs.Members.{Member}
+use Rattle.replay_state.proofs.Words.{upto}
 use Rattle.replay_state.proofs.Order.{upto_all}
 
 abbrev pub numbers_of : List Decided → List ℕ

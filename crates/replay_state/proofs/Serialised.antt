@@ -1,9 +1,8 @@
 -- What the invariant says of the run that is told.
-use Rattle.std.proofs.Common.{◌≡◌, ℕ, ◌<◌, ◌≤◌, true, false, cond, List, [], ◌∷◌, Option, Some, None, inl, inr, refl, sym, ◌∙◌, ap, subst, arith, zero, suc, map, length}
+use Rattle.std.proofs.Common.{◌≡◌, ℕ, ◌<◌, ◌≤◌, true, false, cond, List, [], ◌∷◌, Option, Some, None, inl, inr, refl, sym, ◌∙◌, ap, subst, arith, map, length}
 use Rattle.std.specs.Prelude.{slice_get, is_some, IsTrue}
 use Rattle.std.specs.Option.{option_map}
-use Rattle.std.proofs.lemmas.Bool.{cases_lt, eq-eqb, ne_eqb, cases_Bool, eqb-true, and_parts}
-use Rattle.std.proofs.lemmas.Bool.Decides.{nat_tests}
+use Rattle.std.proofs.lemmas.Bool.{cases_lt, cases_Bool, eqb-true, and_parts}
 use Rattle.std.proofs.lemmas.List.{length-map}
 use Rattle.std.proofs.lemmas.Option.{same_Some, none-some, slice_get-map}
 use Rattle.packet_fields.specs.declared.verdict.Verdict.{Verdict}
@@ -12,7 +11,7 @@ use Rattle.run_model.specs.declared.event.Event.{Event}
 use Rattle.run_model.specs.declared.fate.Fate.{Fate}
 use Rattle.run_model.specs.declared.serial.Decided.{Decided}
 use Rattle.run_model.specs.Meaning as meaning
-use Rattle.run_model.specs.Order.{sorted, decided_from, order_of, with_decided}
+use Rattle.run_model.specs.Order.{order_of}
 use Rattle.run_model.specs.Parts.{parts_of}
 use Rattle.run_model.specs.Serialises as run
 use Rattle.run_model.specs.Serialises.{Serialises, AllReleased, IsDrained, IsEarlier, times, run_verdicts}
@@ -23,10 +22,12 @@ use Rattle.replay_state.specs.Step.{state_of}
 use Rattle.replay_state.specs.Drain.{is_quiet}
 use Rattle.replay_state.specs.Run.{run_of, job_run}
 use Rattle.replay_state.specs.Sound.{AreSound}
-use Rattle.replay_state.proofs.Words.{Member, Before, Rising, version_at, entry_of, entries_from, admitted_at, released_at, verdict_at, is_decided, serial_store, serial_verdicts}
-use Rattle.replay_state.proofs.Lists.{weight, get_within, none_within, get_member}
-use Rattle.replay_state.proofs.Order.{before_self, before_not_back}
-use Rattle.replay_state.proofs.Sorting.{IsOrder, order_unique, entry_number}
+use Rattle.run_model.proofs.Rising.{rising_places, times_none, times_once, Before, Rising, before_self, before_not_back}
+use Rattle.run_model.proofs.Members.{member_get, get_mapped, get_member}
+use Rattle.run_model.proofs.SerialSort.{order_unique}
+use Rattle.replay_state.proofs.Words.{version_at, entry_of, admitted_at, released_at, verdict_at, is_decided, serial_store, serial_verdicts}
+use Rattle.replay_state.proofs.Lists.{weight, get_within, none_within}
+use Rattle.replay_state.proofs.Sorting.{IsOrder, entry_number, of_fates}
 use Rattle.replay_state.proofs.Visible.{visible_all}
 use Rattle.replay_state.proofs.Fates.{FateOk, Pair, pass_mark, up_mark, held_mark, in_first, in_last, in_up, in_held}
 use Rattle.replay_state.proofs.Serial.{numbers_of}
@@ -41,28 +42,6 @@ entry_version n (Some (Up a)) e h = cc
 entry_version n (Some (Held a d v y)) e h = ap (λ z. Some z.version) (same_Some _ _ h)
 entry_version n (Some (Slow a d v y r)) e h = ap (λ z. Some z.version) (same_Some _ _ h)
 entry_version n (Some (Fast a d v y)) e h = ap (λ z. Some z.version) (same_Some _ _ h)
-
--- no entry has the number p, or one has
-pub times_none : (p : ℕ) (es : List Decided) → ((e : Decided) → Member e es → e.number ≡ p → ⊥) → times p (map (λ e. e.number) es) ≡ 0
-times_none p [] h = refl
-times_none p (x ∷ xs) h = let r = times_none p xs (λ e m. h e (inr m)) in let n = ne_eqb x.number p (h x (inl refl)) in grind (arith, nat_tests)
-
-pub times_once : (p : ℕ) (f : Option Progress) (es : List Decided) (e : Decided) → Rising es → ((x : Decided) → Member x es → x.number ≡ p → entry_of p f ≡ Some x) → e.number ≡ p → Member e es → times p (map (λ x. x.number) es) ≡ 1
-times_once p f [] e up one is m = absurd m
-times_once p f (x ∷ xs) e up one is m =
-    let same : (y : Decided) → Member y (x ∷ xs) → y.number ≡ p → e ≡ y = λ y n q. same_Some _ _ (sym (one e m is) ∙ one y n q) in
-    elim m [
-      | inl here ↦
-          let none = times_none p xs (λ y n q. before_self y (subst (λ z. Before z y) (here ∙ same y (inr n) q) (up.0 y n))) in
-          let head : x.number ≡ p = ap (λ z. z.number) here ∙ is in
-          let test = eq-eqb x.number p head in
-          grind (arith, nat_tests)
-      | inr later ↦
-          let rest = times_once p f xs e up.1 (λ y n. one y (inr n)) is later in
-          let head : x.number ≡ p → ⊥ = λ q. before_self e (subst (λ z. Before z e) (sym (same x (inl refl) q)) (up.0 e later)) in
-          let test = ne_eqb x.number p head in
-          grind (arith, nat_tests)
-    ]
 
 -- the entry of a decided packet
 pub decided_entry : (n : ℕ) (f : Option Progress) → is_decided f ≡ true → (e : Decided) × (entry_of n f ≡ Some e)
@@ -87,24 +66,11 @@ once_from fates es p o = elim (cases_Bool (is_decided (slice_get fates p))) [
       let found = decided_entry p (slice_get fates p) t in
       let e = found.0 in
       let is : e.number ≡ p = entry_number p (slice_get fates p) e found.1 in
-      rw t (times_once p (slice_get fates p) es e o.rising
+      rw t (times_once p (entry_of p (slice_get fates p)) es e o.rising
       (λ x m q. subst (λ z. entry_of z (slice_get fates z) ≡ Some x) q (o.sound x m)) is
       (o.complete e (subst (λ z. entry_of z (slice_get fates z) ≡ Some e) (sym is) found.1)))
   | inr n ↦ rw n (times_none p es (λ e m q. undecided_entry p (slice_get fates p) e n (subst (λ z. entry_of z (slice_get fates z) ≡ Some e) q (o.sound e m))))
 ]
-
--- places in a rising list
-pub get_mapped : {X Y : Type 0} (f : X → Y) (xs : List X) (i : ℕ) (y : Y) → slice_get (map f xs) i ≡ Some y → (x : X) × (slice_get xs i ≡ Some x) × (f x ≡ y)
-get_mapped f [] i y h = cc
-get_mapped f (x ∷ xs) zero y h = (x, refl, same_Some _ _ h)
-get_mapped f (x ∷ xs) (suc i) y h = get_mapped f xs i y h
-
-pub rising_places : (es : List Decided) (i j : ℕ) (x y : Decided) → Rising es → i < j → slice_get es i ≡ Some x → slice_get es j ≡ Some y → Before x y
-rising_places [] i j x y up lt hi hj = cc
-rising_places (z ∷ es) zero zero x y up lt hi hj = absurd (omega arith)
-rising_places (z ∷ es) zero (suc j) x y up lt hi hj = subst (λ a. Before a y) (same_Some _ _ hi) (up.0 y (get_member es j y hj))
-rising_places (z ∷ es) (suc i) zero x y up lt hi hj = absurd (omega arith)
-rising_places (z ∷ es) (suc i) (suc j) x y up lt hi hj = rising_places es i j x y up.1 (omega arith) hi hj
 
 pub place_before : (es : List Decided) (i j : ℕ) (x y : Decided) → Rising es → Before x y → slice_get es i ≡ Some x → slice_get es j ≡ Some y → i < j
 place_before es i j x y up b hi hj = elim (cases_lt i j) [
@@ -191,13 +157,8 @@ admitted_is (Some (Slow a d v y r)) = refl
 admitted_is (Some (Fast a d v y)) = refl
 
 -- the order that is told
-decided_are : (n : ℕ) (ps : List Progress) → decided_from n (map fate_of ps) ≡ entries_from n ps
-decided_are n [] = refl
-decided_are n (p ∷ ps) = ap (with_decided (entry_of n (Some p))) (decided_are (suc n) ps)
-
 order_is : (ps : List Progress) (es : List Decided) → IsOrder ps es → order_of (map fate_of ps) ≡ numbers_of es
-order_is ps es o =
-    ap (λ l. numbers_of (sorted l)) (decided_are 0 ps) ∙ ap numbers_of (sym (order_unique ps es o))
+order_is ps es o = ap numbers_of (sym (order_unique (map fate_of ps) es (of_fates ps es o)))
 
 -- serial runs, by answers and by their meaning
 store_is : (setup : Setup) (a : Answers) (store : Store) (ns : List ℕ) → meaning.serial_store (meaning_of setup a) store ns ≡ serial_store a store ns
@@ -226,11 +187,6 @@ earlier_in es i j x y up apart lt hi hj =
                 absurd (omega arith)
           ]
     ]
-
-place_of : {X : Type 0} (x : X) (xs : List X) → Member x xs → (i : ℕ) × (slice_get xs i ≡ Some x)
-place_of x [] m = absurd m
-place_of x (y ∷ ys) (inl e) = (0, ap Some e)
-place_of x (y ∷ ys) (inr m) = let r = place_of x ys m in (suc (r.0), r.1)
 
 map_get : {X Y : Type 0} (f : X → Y) (xs : List X) (i : ℕ) (x : X) → slice_get xs i ≡ Some x → slice_get (map f xs) i ≡ Some (f x)
 map_get f xs i x h = slice_get-map f xs i ∙ ap (option_map f) h
@@ -349,7 +305,7 @@ complete_from setup a w k quiet =
           let out = released_since a p (slice_get ps p) f.0 f.1 no_pass no_up (omega arith) in
           let e = out.0 in
           let is : e.number ≡ p = entry_number p (slice_get ps p) e out.3 in
-          let place = place_of e o.entries (o.order.complete e (subst (λ z. entry_of z (slice_get ps z) ≡ Some e) (sym is) out.3)) in
+          let place = member_get e o.entries (o.order.complete e (subst (λ z. entry_of z (slice_get ps z) ≡ Some e) (sym is) out.3)) in
           let here : slice_get (numbers_of o.entries) (place.0) ≡ Some p =
           subst (λ n. slice_get (numbers_of o.entries) (place.0) ≡ Some n) is (map_get (λ (d : Decided). d.number) o.entries (place.0) e place.1) in (
             place.0,

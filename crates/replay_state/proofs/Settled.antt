@@ -10,7 +10,8 @@ use Rattle.run_model.specs.declared.event.Event.{Event}
 use Rattle.run_model.specs.declared.event.Event.TheVariants.{Admit}
 use Rattle.replay_state.specs.Step.{applies, step, steps, tick}
 use Rattle.replay_state.specs.Step.{finished, went_up, decided, released, entered, pass_of}
-use Rattle.replay_state.proofs.Lists.{get_set_same, get_set_other, get_push_same, get_push_other, get_past, get_member}
+use Rattle.run_model.proofs.Members.{get_member}
+use Rattle.replay_state.proofs.Lists.{get_set_same, get_set_other, get_push_same, get_push_other, get_past}
 use Rattle.std.specs.Option.{option_map}
 use Rattle.std.proofs.lemmas.Option.{none-some, slice_get-map}
 use Rattle.std.proofs.lemmas.List.{get_or_append_left, length_push}

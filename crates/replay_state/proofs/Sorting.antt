@@ -1,152 +1,36 @@
--- The sort gives the one rising list of the decided packets.
-use Rattle.std.proofs.Common.{◌≡◌, ℕ, ◌+◌, true, false, List, [], ◌∷◌, Option, Some, None, ◌⊎◌, inl, inr, refl, sym, ap, subst, arith, zero, suc}
-use Rattle.std.specs.Prelude.{⊤, slice_get}
-use Rattle.std.proofs.lemmas.Bool.{cases_Bool}
-use Rattle.std.proofs.lemmas.Bool.Decides.{nat_tests}
-use Rattle.std.proofs.lemmas.Option.{same_Some}
-use Rattle.replay_state.specs.State.{Progress, Entered, Up, Held, Slow, Fast}
-use Rattle.run_model.specs.Order.{stands_before, put_in, sorted, with_decided}
+-- A list of entries that rises and has those of all decided packets: it is the serial order of their fates.
+use Rattle.std.proofs.Common.{◌≡◌, ℕ, List, Option, Some, None, map, refl, sym, ◌∙◌, ap}
+use Rattle.std.specs.Prelude.{slice_get}
+use Rattle.std.specs.Option.{option_map}
+use Rattle.std.proofs.lemmas.Option.{slice_get-map}
+use Rattle.replay_state.specs.State.{Progress, fate_of}
 use Rattle.run_model.specs.declared.serial.Decided.{Decided}
-use Rattle.replay_state.proofs.Words.{Member, Before, Rising, entry_of, entries_from}
-use Rattle.replay_state.proofs.Order.{same_rising}
-
-pub before_true : (x y : Decided) → stands_before x y ≡ true → Before x y
-before_true x y h = record {
-  version = grind (arith, nat_tests);
-  event = grind (arith, nat_tests);
-  number = grind (arith, nat_tests);
-}
-
-pub before_false : (x y : Decided) → stands_before x y ≡ false → (y.number ≡ x.number → ⊥) → Before y x
-before_false x y h apart = record {
-  version = grind (arith, nat_tests);
-  event = grind (arith, nat_tests);
-  number = grind (arith, nat_tests);
-}
-
-pub before_trans : (x y z : Decided) → Before x y → Before y z → Before x z
-before_trans x y z a b = record {
-  version = let v = a.version in let w = b.version in omega arith;
-  event = λ h. let v = a.version in let w = b.version in let e = a.event (omega arith) in let f = b.event (omega arith) in omega arith;
-  number = λ h k. let v = a.version in let w = b.version in
-      let e = a.event (omega arith) in let f = b.event (omega arith) in
-      let m = a.number (omega arith) (omega arith) in let n = b.number (omega arith) (omega arith) in omega arith;
-}
-
-pub member_put_in : (x e : Decided) (xs : List Decided) → Member x (put_in e xs) → (e ≡ x) ⊎ Member x xs
-member_put_in x e [] h = h
-member_put_in x e (y ∷ ys) h =
-    let rest = member_put_in x e ys in
-    elim (cases_Bool (stands_before e y)) [
-      | inl t ↦ (rw t at h)
-      | inr t ↦ elim (rw t at h) [ inl p ↦ inr (inl p) | inr m ↦ elim (rest m) [ inl q ↦ inl q | inr b ↦ inr (inr b) ] ]
-    ]
-
-pub put_in_member : (x e : Decided) (xs : List Decided) → (e ≡ x) ⊎ Member x xs → Member x (put_in e xs)
-put_in_member x e [] h = h
-put_in_member x e (y ∷ ys) h =
-    let rest = put_in_member x e ys in
-    elim (cases_Bool (stands_before e y)) [
-      | inl t ↦ rw t h
-      | inr t ↦ rw t (elim h [ inl p ↦ inr (rest (inl p)) | inr m ↦ elim m [ inl q ↦ inl q | inr b ↦ inr (rest (inr b)) ] ])
-    ]
-
-pub rising_put_in : (e : Decided) (xs : List Decided) → Rising xs → ((y : Decided) → Member y xs → y.number ≡ e.number → ⊥) → Rising (put_in e xs)
-rising_put_in e [] up apart = ((λ y m. absurd m), up)
-rising_put_in e (x ∷ xs) up apart =
-    let rest = rising_put_in e xs up.1 (λ y m. apart y (inr m)) in
-    elim (cases_Bool (stands_before e x)) [
-      | inl t ↦ rw t (
-        (λ y m. elim m [
-          | inl p ↦ subst (λ z. Before e z) p (before_true e x t)
-          | inr b ↦ before_trans e x y (before_true e x t) (up.0 y b)
-        ]),
-        up,
-      )
-      | inr t ↦ rw t (
-        (λ y m. elim (member_put_in y e xs m) [
-          | inl p ↦ subst (λ z. Before x z) p (before_false e x t (apart x (inl refl)))
-          | inr b ↦ up.0 y b
-        ]),
-        rest,
-      )
-    ]
-
-pub member_sorted : (x : Decided) (es : List Decided) → Member x (sorted es) → Member x es
-member_sorted x [] h = h
-member_sorted x (e ∷ es) h = elim (member_put_in x e (sorted es) h) [ inl p ↦ inl p | inr m ↦ inr (member_sorted x es m) ]
-
-pub sorted_member : (x : Decided) (es : List Decided) → Member x es → Member x (sorted es)
-sorted_member x [] h = h
-sorted_member x (e ∷ es) (inl p) = put_in_member x e (sorted es) (inl p)
-sorted_member x (e ∷ es) (inr m) = put_in_member x e (sorted es) (inr (sorted_member x es m))
-
--- the numbers of a list are apart
-abbrev pub Apart : List Decided → Type 0
-Apart [] = ⊤
-Apart (x ∷ xs) = ((y : Decided) → Member y xs → y.number ≡ x.number → ⊥) × Apart xs
-
-pub rising_sorted : (es : List Decided) → Apart es → Rising (sorted es)
-rising_sorted [] h = h
-rising_sorted (e ∷ es) h = rising_put_in e (sorted es) (rising_sorted es h.1) (λ y m. h.0 y (member_sorted y es m))
+use Rattle.run_model.specs.Members.{Member}
+use Rattle.run_model.proofs.Rising.{Rising}
+use Rattle.run_model.proofs.SerialSort as fates
+use Rattle.run_model.proofs.SerialSort.{decided_number}
+use Rattle.replay_state.proofs.Words.{entry_of}
 
 pub entry_number : (n : ℕ) (o : Option Progress) (e : Decided) → entry_of n o ≡ Some e → e.number ≡ n
 entry_number n None e h = cc
-entry_number n (Some (Up a)) e h = cc
-entry_number n (Some (Entered a v)) e h = cc
-entry_number n (Some (Held a d v y)) e h = sym (ap (λ x. x.number) (same_Some _ _ h))
-entry_number n (Some (Slow a d v y r)) e h = sym (ap (λ x. x.number) (same_Some _ _ h))
-entry_number n (Some (Fast a d v y)) e h = sym (ap (λ x. x.number) (same_Some _ _ h))
-
-pub member_with : (x : Decided) (o : Option Decided) (es : List Decided) → Member x (with_decided o es) → (o ≡ Some x) ⊎ Member x es
-member_with x None es h = inr h
-member_with x (Some e) es (inl p) = inl (ap Some p)
-member_with x (Some e) es (inr m) = inr m
-
-pub with_member : (x : Decided) (o : Option Decided) (es : List Decided) → (o ≡ Some x) ⊎ Member x es → Member x (with_decided o es)
-with_member x None es (inl p) = cc
-with_member x None es (inr m) = m
-with_member x (Some e) es (inl p) = inl (same_Some _ _ p)
-with_member x (Some e) es (inr m) = inr m
-
--- each entry that is made from the fates is at its number
-pub entries_sound : (n : ℕ) (fs : List Progress) (e : Decided) → Member e (entries_from n fs) → (k : ℕ) × (e.number ≡ n + k) × (entry_of e.number (slice_get fs k) ≡ Some e)
-entries_sound n [] e h = absurd h
-entries_sound n (f ∷ fs) e h = elim (member_with e (entry_of n (Some f)) (entries_from (suc n) fs) h) [
-  | inl p ↦ let m = entry_number n (Some f) e p in (0, omega arith, subst (λ z. entry_of z (Some f) ≡ Some e) (sym m) p)
-  | inr b ↦ let r = entries_sound (suc n) fs e b in (suc (r.0), omega arith, r.2)
-]
-
-pub entries_complete : (n : ℕ) (fs : List Progress) (k : ℕ) (e : Decided) → entry_of (n + k) (slice_get fs k) ≡ Some e → Member e (entries_from n fs)
-entries_complete n [] k e h = cc
-entries_complete n (f ∷ fs) zero e h = with_member e (entry_of n (Some f)) (entries_from (suc n) fs) (inl (subst (λ z. entry_of z (Some f) ≡ Some e) (omega arith) h))
-entries_complete n (f ∷ fs) (suc k) e h =
-    with_member e (entry_of n (Some f)) (entries_from (suc n) fs)
-    (inr (entries_complete (suc n) fs k e (subst (λ z. entry_of z (slice_get fs k) ≡ Some e) (omega arith) h)))
-
-pub with_apart : (o : Option Decided) (es : List Decided) → Apart es → ((e y : Decided) → o ≡ Some e → Member y es → y.number ≡ e.number → ⊥) → Apart (with_decided o es)
-with_apart None es h apart = h
-with_apart (Some e) es h apart = ((λ y m. apart e y refl m), h)
-
-pub entries_apart : (n : ℕ) (fs : List Progress) → Apart (entries_from n fs)
-entries_apart n [] = tt
-entries_apart n (f ∷ fs) = with_apart (entry_of n (Some f)) (entries_from (suc n) fs) (entries_apart (suc n) fs)
-    (λ e y p m. let low = entry_number n (Some f) e p in let high = entries_sound (suc n) fs y m in λ q. omega arith)
+entry_number n (Some p) e h = decided_number n (fate_of p) e h
 
 -- a list is the order of these fates
-pub record IsOrder (fates : List Progress) (es : List Decided) : Type 0 where
+pub record IsOrder (ps : List Progress) (es : List Decided) : Type 0 where
   pub rising : Rising es
-  pub sound : (e : Decided) → Member e es → entry_of e.number (slice_get fates e.number) ≡ Some e
-  pub complete : (e : Decided) → entry_of e.number (slice_get fates e.number) ≡ Some e → Member e es
+  pub sound : (e : Decided) → Member e es → entry_of e.number (slice_get ps e.number) ≡ Some e
+  pub complete : (e : Decided) → entry_of e.number (slice_get ps e.number) ≡ Some e → Member e es
 
-pub is_order : (fates : List Progress) → IsOrder fates (sorted (entries_from 0 fates))
-is_order fates = record {
-  rising = rising_sorted (entries_from 0 fates) (entries_apart 0 fates);
-  sound = λ e m. let r = entries_sound 0 fates e (member_sorted e (entries_from 0 fates) m) in
-      let same : r.0 ≡ e.number = omega arith in subst (λ z. entry_of e.number (slice_get fates z) ≡ Some e) same r.2;
-  complete = λ e h. sorted_member e (entries_from 0 fates) (entries_complete 0 fates e.number e (subst (λ z. entry_of z (slice_get fates e.number) ≡ Some e) (omega arith) h));
+entry_is : (n : ℕ) (o : Option Progress) → fates.entry_of n (option_map fate_of o) ≡ entry_of n o
+entry_is n None = refl
+entry_is n (Some p) = refl
+
+entry_at : (ps : List Progress) (n : ℕ) → fates.entry_of n (slice_get (map fate_of ps) n) ≡ entry_of n (slice_get ps n)
+entry_at ps n = ap (fates.entry_of n) (slice_get-map fate_of ps n) ∙ entry_is n (slice_get ps n)
+
+pub of_fates : (ps : List Progress) (es : List Decided) → IsOrder ps es → fates.IsOrder (map fate_of ps) es
+of_fates ps es o = record {
+  rising = o.rising;
+  sound = λ e m. entry_at ps e.number ∙ o.sound e m;
+  complete = λ e h. o.complete e (sym (entry_at ps e.number) ∙ h);
 }
-
-pub order_unique : (fates : List Progress) (es : List Decided) → IsOrder fates es → es ≡ sorted (entries_from 0 fates)
-order_unique fates es h = let g = is_order fates in
-    same_rising es (sorted (entries_from 0 fates)) h.rising g.rising (λ e m. g.complete e (h.sound e m)) (λ e m. h.complete e (g.sound e m))

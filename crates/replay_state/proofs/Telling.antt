@@ -8,7 +8,8 @@ use Rattle.replay_state.specs.Answers.{Setup}
 use Rattle.replay_state.specs.State.{State, Pass, seen, store_at, first_state}
 use Rattle.run_model.specs.declared.event.Event.{Event}
 use Rattle.replay_state.specs.Step.{pass_of, steps}
-use Rattle.replay_state.specs.Program.{IsSplitProgram, Manner, SplitProgram, packet_at, plain, setup_of}
+use Rattle.run_model.specs.Meaning.{packet_at}
+use Rattle.replay_state.specs.Program.{IsSplitProgram, Manner, SplitProgram, plain, setup_of}
 use Rattle.replay_state.specs.Journal.{Call, up_answer}
 use Rattle.replay_state.specs.Told.{IsRight}
 use Rattle.replay_state.specs.Views.{Sees}

@@ -11,11 +11,12 @@ use Rattle.run_model.specs.declared.event.Event.TheVariants.{Admit, Stage, Serve
 use Rattle.replay_state.specs.Step.{applies, step, steps}
 use Rattle.replay_state.specs.Step.{pass_of}
 use Rattle.replay_state.specs.Agree.{EndAlike, RunAlike, AgreeOn}
-use Rattle.replay_state.specs.Program.{IsSplitProgram, Manner, SplitProgram, packet_at, plain, setup_of}
+use Rattle.run_model.specs.Meaning.{packet_at}
+use Rattle.run_model.proofs.Members.{get_member}
+use Rattle.replay_state.specs.Program.{IsSplitProgram, Manner, SplitProgram, plain, setup_of}
 use Rattle.replay_state.specs.Journal.{UpAnswer, Finished, SentUp, GoingUp, Call, up_answer, verdict_in, frame_in, journal, over_in}
 use Rattle.replay_state.specs.Carried.{Carried}
 use Rattle.replay_state.specs.Told.{HasFrames, IsRight, EndsRight, Tells, WentUp, IsTied}
-use Rattle.replay_state.proofs.Lists.{get_member}
 use Rattle.replay_state.proofs.Plain.{plain_sound}
 use Rattle.replay_state.proofs.Runs.{store_kept, up_within}
 use Rattle.replay_state.proofs.Keeping.{Kept}

@@ -18,8 +18,9 @@ use Rattle.replay_state.specs.Step.{pass_of}
 use Rattle.replay_state.specs.Sound.{AreSound}
 use Rattle.replay_state.specs.Tables.{first_pair, pair_now}
 use Rattle.replay_state.specs.Views.{KeepViews}
-use Rattle.replay_state.proofs.Words.{Member}
-use Rattle.replay_state.proofs.Lists.{get_member, get_within, member_remove, member_push, member_set}
+use Rattle.run_model.specs.Members.{Member}
+use Rattle.run_model.proofs.Members.{get_member}
+use Rattle.replay_state.proofs.Lists.{get_within, member_remove, member_push, member_set}
 use Rattle.replay_state.proofs.Effects.{shown_le}
 use Rattle.replay_state.proofs.History.{commands_are, updates_in}
 use Rattle.replay_state.proofs.Keeping.{kept_of}

@@ -1,23 +1,11 @@
 -- The list of decided packets, and what a packet's progress says.
-use Rattle.std.specs.Prelude.{ℕ, suc, ◌<◌, ◌≤◌, Bool, List, [], ◌∷◌, ⊤, Option, Some, None, filter, is_some, nat_le, nat_lt}
+use Rattle.std.specs.Prelude.{ℕ, Bool, List, [], ◌∷◌, Option, Some, None, filter, is_some, nat_le, nat_lt}
 use Rattle.packet_fields.specs.declared.verdict.Verdict.{Verdict}
 use Rattle.state_store.specs.Store.{Store}
-use Rattle.run_model.specs.Order.{decided_of, with_decided}
+use Rattle.run_model.specs.Order.{decided_of}
 use Rattle.replay_state.specs.Answers.{Answers}
 use Rattle.replay_state.specs.State.{Progress, Entered, Up, Held, Slow, Fast, fate_of}
 use Rattle.run_model.specs.declared.serial.Decided.{Decided}
-pub use Rattle.replay_state.specs.Carried.{Member}
-
--- x stands before y: by version, then by deciding event, then by number
-pub record Before (x y : Decided) : Type 0 where
-  pub version : x.version ≤ y.version
-  pub event : y.version ≤ x.version → x.event ≤ y.event
-  pub number : y.version ≤ x.version → y.event ≤ x.event → x.number < y.number
-
--- each entry stands before all behind it
-abbrev pub Rising : List Decided → Type 0
-Rising [] = ⊤
-Rising (x ∷ xs) = ((y : Decided) → Member y xs → Before x y) × Rising xs
 
 -- the entries of versions up to v, and the later ones
 abbrev pub upto : ℕ → List Decided → List Decided
@@ -42,11 +30,6 @@ entry_of n (Some p) = decided_of n (fate_of p)
 
 abbrev pub is_decided : Option Progress → Bool
 is_decided p = is_some (entry_of 0 p)
-
--- the decided ones from number n on
-abbrev pub entries_from : ℕ → List Progress → List Decided
-entries_from n [] = []
-entries_from n (p ∷ ps) = with_decided (entry_of n (Some p)) (entries_from (suc n) ps)
 
 -- the events that admitted and released it
 abbrev pub admitted_at : Option Progress → Option ℕ

@@ -1,11 +1,7 @@
 -- A fact about each packet that went up.
-use Rattle.std.specs.Prelude.{◌≡◌, ◌⊎◌, ℕ, false, List, [], ◌∷◌}
+use Rattle.std.specs.Prelude.{◌≡◌, ℕ, false}
+pub use Rattle.run_model.specs.Members.{Member}
 use Rattle.replay_state.specs.State.{State, Pass}
-
--- x is one of the list
-abbrev pub Member : {X : Type 0} → X → List X → Type 0
-Member x [] = ⊥
-Member x (y ∷ ys) = (y ≡ x) ⊎ Member x ys
 
 -- it holds of each packet that is on its way up, at the server, on its way down or in a pass behind the server
 pub record Carried (P : ℕ → Type 0) (st : State) : Type 0 where

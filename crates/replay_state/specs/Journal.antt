@@ -13,7 +13,8 @@ use Rattle.replay_state.specs.State.{State, Pass, Progress, Entered, Up, Held, S
 use Rattle.run_model.specs.declared.event.Event.{Event}
 use Rattle.run_model.specs.declared.event.Event.TheVariants.{Admit, Stage, Serve, Send, Apply, Ack, Hold, Down}
 use Rattle.replay_state.specs.Step.{applies, step, state_of}
-use Rattle.replay_state.specs.Program.{SplitProgram, packet_at}
+use Rattle.run_model.specs.Meaning.{packet_at}
+use Rattle.replay_state.specs.Program.{SplitProgram}
 
 -- ## Calls, and what they answer
 

@@ -1,7 +1,7 @@
 -- A split program: what it does to whole packets, and what its parts on the switch and on the server do.
 use Rattle.std.specs.Prelude.{◌≡◌, ◌≤◌, ◌<◌, ℕ, Bool, true}
-use Rattle.std.specs.Prelude.{◌&&◌, if◌then◌else◌, List, [], length, Some, None}
-use Rattle.std.specs.Prelude.{slice_get, get_or}
+use Rattle.std.specs.Prelude.{◌&&◌, if◌then◌else◌, List, length, Some, None}
+use Rattle.std.specs.Prelude.{slice_get}
 use Rattle.packet_fields.specs.declared.packet.Packet.{Packet}
 use Rattle.packet_fields.specs.declared.verdict.Verdict.{Verdict}
 use Rattle.state_store.specs.declared.object.ObjectDecl.{ObjectDecl}
@@ -12,6 +12,7 @@ use Rattle.writeback_table.specs.Batches.{changed_by, count_of, TakesAll}
 use Rattle.output_commit.specs.Batches.{fits}
 use Rattle.replay_state.specs.Answers.{Answers, Setup}
 use Rattle.replay_state.specs.Sound.{IsAlike}
+pub use Rattle.run_model.specs.Meaning.{packet_at}
 
 -- frames are lists of bytes
 pub record SplitProgram : Type 0 where
@@ -71,10 +72,6 @@ pub record IsSplitProgram (s : SplitProgram) (packets : List Packet) : Type 0 wh
   pub few_served : (store : Store) (frame : List ℕ) → length (s.serve_changes store frame) ≤ s.writes
 
 -- ## Its runs over a trace
-
--- the packet of a number; where the trace has none, it doesn't matter which
-abbrev pub packet_at : List Packet → ℕ → Packet
-packet_at packets n = get_or packets n (record { port = 0; bytes = [] })
 
 -- whole packets run over whole stores
 abbrev pub plain : SplitProgram → List Packet → Answers

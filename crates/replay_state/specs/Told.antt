@@ -8,7 +8,8 @@ use Rattle.replay_state.specs.State.{State, Pass, store_at}
 use Rattle.run_model.specs.declared.event.Event.{Event}
 use Rattle.run_model.specs.declared.event.Event.TheVariants.{Admit, Stage, Serve, Send, Apply, Ack, Hold, Down}
 use Rattle.replay_state.specs.Step.{pass_of, state_of}
-use Rattle.replay_state.specs.Program.{SplitProgram, packet_at, plain}
+use Rattle.run_model.specs.Meaning.{packet_at}
+use Rattle.replay_state.specs.Program.{SplitProgram, plain}
 use Rattle.replay_state.specs.Journal.{Call, UpAnswer, Finished, SentUp, GoingUp}
 use Rattle.replay_state.specs.Journal.{IsNumbered, up_answer, down_answer, told, down_frame}
 use Rattle.replay_state.specs.Carried.{Carried}

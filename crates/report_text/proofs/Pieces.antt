@@ -1,7 +1,7 @@
 -- Pieces of lines, printed and read.
-use Rattle.std.proofs.Common.{◌≡◌, ℕ, ◌<◌, ◌≤◌, ◌^◌, Bool, true, false, not, cond, eqb, ltb, List, [], ◌∷◌, ◌++◌, length, take, drop, Option, Some, None, refl, sym, ap, ◌∙◌, arith, length-append}
+use Rattle.std.proofs.Common.{◌≡◌, ℕ, ◌<◌, ◌≤◌, ◌^◌, Bool, true, false, cond, eqb, ltb, List, [], ◌∷◌, ◌++◌, length, take, drop, Option, Some, None, refl, sym, ap, ◌∙◌, arith, length-append}
 use Rattle.std.specs.Fmt.{decimal}
-use Rattle.std.specs.Str.{all_ascii_digits, bytes_eq}
+use Rattle.std.specs.Str.{bytes_eq}
 use Rattle.std.specs.List.{list_all, position_or_len}
 use Rattle.std.proofs.Math.Seq.{take-append_seam, drop-append_seam}
 use Rattle.std.proofs.lemmas.List.{take-append-drop}
@@ -11,7 +11,10 @@ use Rattle.std.proofs.lemmas.Option.{same_Some}
 use Rattle.gal_io.specs.Number.{number_up_to}
 use Rattle.run_text.specs.Trace.{is_space}
 use Rattle.report_text.specs.Parse.{◌>>=◌, after, labelled, number_at, number_with, whole}
-use Rattle.report_text.proofs.Numbers.{decimal_digits, number_back, number_printed, number_small}
+use Rattle.run_text.proofs.Numbers.{decimal_digits, read_again}
+use Rattle.run_text.proofs.PrintedLines.{unspaced}
+use Rattle.run_text.proofs.PrintedBack.{digits_unspaced}
+use Rattle.report_text.proofs.Numbers.{number_printed, number_small}
 
 pub same_bytes : (xs : List ℕ) → bytes_eq xs xs ≡ true
 same_bytes xs = (bytes_eq-Decides xs xs).1 refl
@@ -63,13 +66,6 @@ abbrev pub is_cut : List ℕ → Bool
 is_cut [] = true
 is_cut (b ∷ bs) = eqb b 32
 
-abbrev pub unspaced : ℕ → Bool
-unspaced byte = not (eqb byte 32)
-
-digits_unspaced : (ds : List ℕ) → all_ascii_digits ds ≡ true → list_all unspaced ds ≡ true
-digits_unspaced [] h = refl
-digits_unspaced (d ∷ ds) h = let rest = digits_unspaced ds in grind (arith, nat_tests, rest, h)
-
 pub cut_at : (front rest : List ℕ) → list_all unspaced front ≡ true → is_cut rest ≡ true → position_or_len is_space (front ++ rest) ≡ length front
 cut_at [] [] h cut = refl
 cut_at [] (b ∷ rest) h cut = rw cut refl
@@ -81,7 +77,7 @@ pub number_at_back : (most n : ℕ) (rest : List ℕ) → n ≤ most → most < 
 unfolding number_at
 number_at_back most n rest small fits cut =
     let at = cut_at (decimal n) rest (digits_unspaced (decimal n) (decimal_digits n (omega arith))) cut in
-    rw (at, take-append_seam (decimal n) rest, drop-append_seam (decimal n) rest, number_back most n small fits) refl
+    rw (at, take-append_seam (decimal n) rest, drop-append_seam (decimal n) rest, read_again most n small fits) refl
 
 number_by : (most : ℕ) (o : Option ℕ) (rest found : List ℕ) (n : ℕ) → number_with o rest ≡ Some (n, found) → (o ≡ Some n) × (rest ≡ found)
 number_by most None rest found n h = cc

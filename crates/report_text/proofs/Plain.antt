@@ -1,16 +1,12 @@
 -- Each line of a printed report is one line, and isn't skipped.
-use Rattle.std.proofs.Common.{◌≡◌, ℕ, zero, suc, ◌-◌, ◌^◌, ◌≤◌, ◌<◌, Bool, true, false, eqb, leb, ltb, List, [], ◌∷◌, ◌++◌, length, map, get_or, Some, refl, ap, ◌∙◌, arith, append_assoc, inl, inr}
-use Rattle.std.specs.Prelude.{codes, slice_index, ◌/◌, ◌%◌}
+use Rattle.std.proofs.Common.{◌≡◌, ℕ, ◌^◌, ◌<◌, true, false, ltb, List, [], ◌∷◌, ◌++◌, refl, ap, ◌∙◌, arith, append_assoc}
+use Rattle.std.specs.Prelude.{codes}
 use Rattle.std.specs.Fmt.{decimal}
-use Rattle.std.specs.Str.{all_ascii_digits}
-use Rattle.std.specs.List.{AllByRecursion, list_all, onto_first}
-use Rattle.std.proofs.lemmas.Bool.{and_parts, cases_lt, le-leb, leb-true}
+use Rattle.std.specs.List.{AllByRecursion, list_all}
+use Rattle.std.proofs.lemmas.Bool.{and_parts}
 use Rattle.std.proofs.lemmas.Bool.Decides.{nat_tests}
-use Rattle.std.proofs.lemmas.Option.{none-some}
 use Rattle.std.proofs.lemmas.Fmt.{decimal_nonempty}
-use Rattle.hex.specs.Hex.{IsBytes, encode_lower, encode_with, hex_digit_value, lower_digits}
-use Rattle.hex.proofs.HexLemmas.{IsDigits-lower_digits}
-use Rattle.gal_io.specs.Lines.{fed_lines, lines, without_return, is_skipped}
+use Rattle.gal_io.specs.Lines.{lines, is_skipped}
 use Rattle.gal_io.specs.Number.{spaced_numbers}
 use Rattle.packet_fields.specs.declared.verdict.Verdict.{Verdict}
 use Rattle.packet_fields.specs.declared.verdict.Verdict.TheVariants.{Drop, Send}
@@ -24,14 +20,13 @@ use Rattle.report_text.specs.declared.head.EventCounts.{EventCounts}
 use Rattle.report_text.specs.declared.head.Versions.{Versions}
 use Rattle.report_text.specs.Form.{IsFate, IsVerdict, is_plain}
 use Rattle.report_text.specs.Lines.{told_of}
-use Rattle.report_text.proofs.Numbers.{decimal_digits}
+use Rattle.run_text.proofs.Numbers.{decimal_digits}
+use Rattle.run_text.proofs.PrintedLines.{all_both, line_plain, plain}
+use Rattle.run_text.proofs.PrintedBack.{body_plain, digits_plain, digits_told}
 use Rattle.report_text.proofs.HeadLines.{AreCounts, AreEvents, AreVersions, counts_text, events_text, versions_text}
 use Rattle.report_text.proofs.FateLines.{fate_told, path_with, released_with, stamps_of, stamps_with, verdict_with}
 use Rattle.report_text.proofs.PartLines.{order_told, part_told}
 use Rattle.report_text.proofs.RowLines.{row_told}
-
-abbrev pub plain : ℕ → Bool
-plain byte = leb 32 byte
 
 -- a line that a text can hold, and that is told
 pub record IsTold (line : List ℕ) : Type 0 where
@@ -39,28 +34,6 @@ pub record IsTold (line : List ℕ) : Type 0 where
   pub told : is_skipped line ≡ false
 
 -- ---- such lines, each with its end, are the lines of a text
-
-fed_plain : (line rest : List ℕ) → list_all plain line ≡ true → fed_lines (line ++ (10 ∷ rest)) ≡ line ∷ fed_lines rest
-fed_plain [] rest h = refl
-fed_plain (byte ∷ line) rest h =
-    let parts = and_parts (plain byte) (list_all plain line) h in
-    let other : eqb byte 10 ≡ false = grind (arith, nat_tests, parts.0) in
-    rw other (ap (onto_first byte) (fed_plain line rest parts.1))
-
-plain_at : (line : List ℕ) (k : ℕ) → k < length line → list_all plain line ≡ true → 32 ≤ get_or line k 0
-plain_at [] k inside h = absurd (omega arith)
-plain_at (byte ∷ line) zero inside h = leb-true 32 byte (and_parts (plain byte) (list_all plain line) h).0
-plain_at (byte ∷ line) (suc k) inside h = plain_at line k (omega arith) (and_parts (plain byte) (list_all plain line) h).1
-
-returns_none : (line : List ℕ) → list_all plain line ≡ true → without_return line ≡ line
-returns_none [] h = refl
-returns_none (byte ∷ line) h =
-    let last = plain_at (byte ∷ line) (length (byte ∷ line) - 1) (omega arith) h in
-    let other : eqb (get_or (byte ∷ line) (length (byte ∷ line) - 1) 0) 13 ≡ false = grind (arith, nat_tests, last) in
-    rw other refl
-
-line_plain : (line rest : List ℕ) → list_all plain line ≡ true → lines (line ++ (10 ∷ rest)) ≡ line ∷ lines rest
-line_plain line rest h = ap (map without_return) (fed_plain line rest h) ∙ ap (λ l. l ∷ lines rest) (returns_none line h)
 
 pub lines_lined : (ls : List (List ℕ)) → AllByRecursion IsTold ls → lines (lined ls) ≡ ls
 lines_lined [] h = refl
@@ -76,20 +49,8 @@ told_both (x ∷ xs) ys h k = (h.0, told_both xs ys h.1 k)
 
 -- ---- bytes of lines
 
-both : (p : ℕ → Bool) (xs ys : List ℕ) → list_all p xs ≡ true → list_all p ys ≡ true → list_all p (xs ++ ys) ≡ true
-both p [] ys h k = k
-both p (x ∷ xs) ys h k = let hp = and_parts (p x) (list_all p xs) h in rw hp.0 (both p xs ys hp.1 k)
-
-digits_plain : (ds : List ℕ) → all_ascii_digits ds ≡ true → list_all plain ds ≡ true
-digits_plain [] h = refl
-digits_plain (d ∷ ds) h = let rest = digits_plain ds in grind (arith, nat_tests, rest, h)
-
 number_plain : (n : ℕ) (rest : List ℕ) → n < 2 ^ 64 → list_all plain rest ≡ true → list_all plain (decimal n ++ rest) ≡ true
-number_plain n rest h k = both plain (decimal n) rest (digits_plain (decimal n) (decimal_digits n h)) k
-
-digits_told : (ds rest : List ℕ) → 0 < length ds → all_ascii_digits ds ≡ true → is_skipped (ds ++ rest) ≡ false
-digits_told [] rest some h = absurd (omega arith)
-digits_told (d ∷ ds) rest some h = grind (arith, nat_tests, h)
+number_plain n rest h k = all_both plain (decimal n) rest (digits_plain (decimal n) (decimal_digits n h)) k
 
 -- ---- the first lines
 
@@ -112,30 +73,6 @@ versions_plain v h = record {
 }
 
 -- ---- packets
-
-digit_plain : (c v : ℕ) → hex_digit_value c ≡ Some v → plain c ≡ true
-digit_plain c v h = elim (cases_lt c 32) [
-  | inl low ↦
-      let f : leb 65 c ≡ false = grind (arith, nat_tests, low) in
-      let g : leb 97 c ≡ false = grind (arith, nat_tests, low) in
-      let k : leb 48 c ≡ false = grind (arith, nat_tests, low) in
-      absurd (none-some v (rw (f, g, k) at h))
-  | inr high ↦ le-leb 32 c high
-]
-
-encoded_plain : (bytes : List ℕ) → IsBytes bytes → list_all plain (encode_lower bytes) ≡ true
-unfolding encode_with
-encoded_plain [] h = refl
-encoded_plain (b ∷ bytes) h =
-    let small = h 0 in
-    let first = digit_plain (slice_index lower_digits (b / 16)) (b / 16) (IsDigits-lower_digits (b / 16) (omega arith)) in
-    let second = digit_plain (slice_index lower_digits (b % 16)) (b % 16) (IsDigits-lower_digits (b % 16) (omega arith)) in
-    let rest = encoded_plain bytes (λ i. h (suc i)) in
-    rw (first, second) rest
-
-body_plain : (bytes : List ℕ) → IsBytes bytes → list_all plain (body_text bytes) ≡ true
-body_plain [] h = refl
-body_plain (b ∷ bytes) h = encoded_plain (b ∷ bytes) h
 
 verdict_plain : (v : Verdict) → IsVerdict v → list_all plain (verdict_with v) ≡ true
 verdict_plain Drop h = refl
@@ -174,13 +111,13 @@ name_plain (b ∷ bs) h = let hp = and_parts (ltb 32 b) (is_plain bs) h in let r
 
 pub object_plain : (name : List ℕ) (count : ℕ) → is_plain name ≡ true → count < 2 ^ 32 → IsTold (part_told (codes "object ") name count)
 object_plain name count h small = record {
-  whole = both plain name _ (name_plain name h) (number_plain count [] (omega arith) refl);
+  whole = all_both plain name _ (name_plain name h) (number_plain count [] (omega arith) refl);
   told = refl;
 }
 
 pub switch_plain : (name : List ℕ) (count : ℕ) → is_plain name ≡ true → count < 2 ^ 32 → IsTold (part_told (codes "switch ") name count)
 switch_plain name count h small = record {
-  whole = both plain name _ (name_plain name h) (number_plain count [] (omega arith) refl);
+  whole = all_both plain name _ (name_plain name h) (number_plain count [] (omega arith) refl);
   told = refl;
 }
 

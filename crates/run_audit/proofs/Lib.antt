@@ -1,7 +1,6 @@
 mod Lists
 mod Walks
 mod Serial
-mod Sorting
 mod Places
 mod OneOrder
 mod True

@@ -1,8 +1,7 @@
 -- Places in the serial order of fates.
-use Rattle.std.proofs.Common.{◌≡◌, ◌<◌, ◌≤◌, ℕ, zero, suc, cond, List, [], ◌∷◌, map, Option, Some, None, inl, inr, refl, sym, ◌∙◌, ap, subst, arith}
+use Rattle.std.proofs.Common.{◌≡◌, ◌<◌, ◌≤◌, ℕ, cond, List, map, Option, Some, None, inl, inr, refl, sym, ◌∙◌, ap, subst, arith}
 use Rattle.std.specs.Prelude.{slice_get, is_some}
-use Rattle.std.proofs.lemmas.Bool.{cases_lt, eq-eqb, ne_eqb}
-use Rattle.std.proofs.lemmas.Bool.Decides.{nat_tests}
+use Rattle.std.proofs.lemmas.Bool.{cases_lt}
 use Rattle.std.proofs.lemmas.Option.{same_Some}
 use Rattle.run_model.specs.declared.fate.Fate.{Fate}
 use Rattle.run_model.specs.declared.fate.Fate.TheVariants.{Pass, Up, Held, Slow, Fast}
@@ -10,7 +9,9 @@ use Rattle.run_model.specs.declared.serial.Decided.{Decided}
 use Rattle.run_model.specs.Order.{sorted, decided_from, order_of}
 use Rattle.run_model.specs.Serialises.{decided_at, times, IsEarlier}
 use Rattle.run_audit.specs.Order.{HaveOwnEvents}
-use Rattle.run_audit.proofs.Sorting.{Member, Before, Rising, before_self, IsOrder, is_order, entry_of}
+use Rattle.run_model.proofs.Members.{get_member, get_mapped}
+use Rattle.run_model.proofs.Rising.{Before, rising_places, times_none, times_once}
+use Rattle.run_model.proofs.SerialSort.{IsOrder, is_order, entry_of}
 
 -- ---- what a fate says of its decision
 
@@ -33,63 +34,10 @@ decided_entry n (Some (Held a d v)) x h = ap (λ z. Some (decision n z)) (same_S
 decided_entry n (Some (Slow a d v r y)) x h = ap (λ z. Some (decision n z)) (same_Some _ _ h)
 decided_entry n (Some (Fast a d v r y)) x h = ap (λ z. Some (decision n z)) (same_Some _ _ h)
 
--- ---- members and places
-
-pub get_member : {X : Type 0} (xs : List X) (j : ℕ) (x : X) → slice_get xs j ≡ Some x → Member x xs
-get_member [] j x h = cc
-get_member (y ∷ ys) zero x h = inl (same_Some _ _ h)
-get_member (y ∷ ys) (suc j) x h = inr (get_member ys j x h)
-
-pub member_get : {X : Type 0} (x : X) (xs : List X) → Member x xs → (i : ℕ) × (slice_get xs i ≡ Some x)
-member_get x [] m = absurd m
-member_get x (y ∷ ys) (inl e) = (0, ap Some e)
-member_get x (y ∷ ys) (inr m) = let r = member_get x ys m in (suc (r.0), r.1)
-
-pub get_mapped : {X Y : Type 0} (f : X → Y) (xs : List X) (i : ℕ) (y : Y) → slice_get (map f xs) i ≡ Some y
-    → (x : X) × (slice_get xs i ≡ Some x) × (f x ≡ y)
-get_mapped f [] i y h = cc
-get_mapped f (x ∷ xs) zero y h = (x, refl, same_Some _ _ h)
-get_mapped f (x ∷ xs) (suc i) y h = get_mapped f xs i y h
-
-pub rising_places : (es : List Decided) (i j : ℕ) (x y : Decided) → Rising es → i < j → slice_get es i ≡ Some x
-    → slice_get es j ≡ Some y → Before x y
-rising_places [] i j x y up lt hi hj = cc
-rising_places (z ∷ es) zero zero x y up lt hi hj = absurd (omega arith)
-rising_places (z ∷ es) zero (suc j) x y up lt hi hj =
-    subst (λ a. Before a y) (same_Some _ _ hi) (up.0 y (get_member es j y hj))
-rising_places (z ∷ es) (suc i) zero x y up lt hi hj = absurd (omega arith)
-rising_places (z ∷ es) (suc i) (suc j) x y up lt hi hj = rising_places es i j x y up.1 (omega arith) hi hj
-
 -- ---- how often a number stands there
 
 abbrev pub numbers : List Decided → List ℕ
 numbers es = map (λ d. d.number) es
-
-pub times_none : (p : ℕ) (es : List Decided) → ((e : Decided) → Member e es → e.number ≡ p → ⊥) → times p (numbers es) ≡ 0
-times_none p [] h = refl
-times_none p (x ∷ xs) h =
-    let r = times_none p xs (λ e m. h e (inr m)) in
-    let n = ne_eqb x.number p (h x (inl refl)) in
-    grind (arith, nat_tests)
-
-pub times_once : (p : ℕ) (o : Option Fate) (es : List Decided) (e : Decided) → Rising es
-    → ((x : Decided) → Member x es → x.number ≡ p → entry_of p o ≡ Some x) → e.number ≡ p → Member e es
-    → times p (numbers es) ≡ 1
-times_once p o [] e up one is m = absurd m
-times_once p o (x ∷ xs) e up one is m =
-    let same : (y : Decided) → Member y (x ∷ xs) → y.number ≡ p → e ≡ y = λ y n q. same_Some _ _ (sym (one e m is) ∙ one y n q) in
-    elim m [
-      | inl here ↦
-          let none = times_none p xs (λ y n q. before_self y (subst (λ z. Before z y) (here ∙ same y (inr n) q) (up.0 y n))) in
-          let head : x.number ≡ p = ap (λ z. z.number) here ∙ is in
-          let test = eq-eqb x.number p head in
-          grind (arith, nat_tests)
-      | inr later ↦
-          let rest = times_once p o xs e up.1 (λ y n. one y (inr n)) is later in
-          let head : x.number ≡ p → ⊥ = λ q. before_self e (subst (λ z. Before z e) (sym (same x (inl refl) q)) (up.0 e later)) in
-          let test = ne_eqb x.number p head in
-          grind (arith, nat_tests)
-    ]
 
 times_by : (fates : List Fate) (es : List Decided) (p : ℕ) → IsOrder fates es → (o : Option (ℕ × ℕ)) → decided_at (slice_get fates p) ≡ o
     → times p (numbers es) ≡ cond (is_some o) 1 0
@@ -100,7 +48,7 @@ times_by fates es p order None none =
 times_by fates es p order (Some x) told =
     let e = decision p x in
     let there = decided_entry p (slice_get fates p) x told in
-    times_once p (slice_get fates p) es e order.rising
+    times_once p (entry_of p (slice_get fates p)) es e order.rising
     (λ y m q. subst (λ z. entry_of z (slice_get fates z) ≡ Some y) q (order.sound y m)) refl (order.complete e there)
 
 pub once_in_order : (fates : List Fate) (p : ℕ) → times p (order_of fates) ≡ cond (is_some (decided_at (slice_get fates p))) 1 0

@@ -8,11 +8,11 @@ use Rattle.packet_fields.specs.declared.verdict.Verdict.{Verdict}
 use Rattle.state_store.specs.Store.{Store, start_store}
 use Rattle.element_lang.specs.Tree.{Tree}
 use Rattle.element_lang.specs.Meaning.{source_store, source_verdict}
-use Rattle.run_model.specs.Meaning.{Meaning, serial_store, serial_verdicts}
+use Rattle.run_model.specs.Meaning.{Meaning, packet_at, serial_store, serial_verdicts}
 use Rattle.run_model.specs.declared.fate.Fate.{Fate}
 use Rattle.run_model.specs.declared.run.Run.{Run}
 use Rattle.run_model.specs.Serialises.{released_at, run_store, run_verdicts}
-use Rattle.run_audit.specs.Source.{source_of, packet_at}
+use Rattle.run_audit.specs.Source.{source_of}
 use Rattle.run_audit.specs.Told.{HasVerdicts, IsFalse, IsFirst}
 
 -- ---- a list from a place on

@@ -1,13 +1,9 @@
 -- What a source does to the packets of a trace, which go by their numbers.
-use Rattle.std.specs.Prelude.{ℕ, List, [], get_or}
+use Rattle.std.specs.Prelude.{List}
 use Rattle.packet_fields.specs.declared.packet.Packet.{Packet}
 use Rattle.element_lang.specs.Tree.{Tree}
 use Rattle.element_lang.specs.Meaning.{source_store, source_verdict}
-use Rattle.run_model.specs.Meaning.{Meaning}
-
--- the packet of a number; where there is none, one of no bytes
-abbrev pub packet_at : List Packet → ℕ → Packet
-packet_at packets n = get_or packets n (record { port = 0; bytes = [] })
+use Rattle.run_model.specs.Meaning.{Meaning, packet_at}
 
 abbrev pub source_of : Tree → List Packet → Meaning
 source_of m packets = record {

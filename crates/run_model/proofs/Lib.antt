@@ -1,2 +1,5 @@
 mod Agreeing
 pub mod SerialOrder
+pub mod Members
+pub mod Rising
+pub mod SerialSort

@@ -1,9 +1,14 @@
 -- What a program does to packets, which go by their numbers, and serial runs of it.
-use Rattle.std.specs.Prelude.{◌≡◌, ◌<◌, ℕ, List, [], ◌∷◌}
+use Rattle.std.specs.Prelude.{◌≡◌, ◌<◌, ℕ, List, [], ◌∷◌, get_or}
+use Rattle.packet_fields.specs.declared.packet.Packet.{Packet}
 use Rattle.packet_fields.specs.declared.verdict.Verdict.{Verdict}
 use Rattle.state_store.specs.declared.object.ObjectDecl.{ObjectDecl}
 use Rattle.state_store.specs.Kept.{IsKept}
 use Rattle.state_store.specs.Store.{Store, start_store}
+
+-- the packet of a number; where there is none, one of no bytes
+abbrev pub packet_at : List Packet → ℕ → Packet
+packet_at packets n = get_or packets n (record { port = 0; bytes = [] })
 
 -- the declared objects, and the run of a packet from a store: the store that it leaves, and its verdict
 pub record Meaning : Type 0 where

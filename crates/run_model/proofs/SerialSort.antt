@@ -1,5 +1,5 @@
 -- The serial order of fates is the one rising list of the decided packets.
-use Rattle.std.proofs.Common.{◌≡◌, ◌<◌, ◌≤◌, ℕ, ◌+◌, true, false, List, [], ◌∷◌, Option, Some, None, ◌⊎◌, inl, inr, refl, sym, ◌∙◌, ap, subst, arith, zero, suc}
+use Rattle.std.proofs.Common.{◌≡◌, ℕ, ◌+◌, true, false, List, [], ◌∷◌, Option, Some, None, ◌⊎◌, inl, inr, refl, sym, ap, subst, arith, zero, suc}
 use Rattle.std.specs.Prelude.{⊤, slice_get}
 use Rattle.std.proofs.lemmas.Bool.{cases_Bool}
 use Rattle.std.proofs.lemmas.Bool.Decides.{nat_tests}
@@ -7,68 +7,25 @@ use Rattle.std.proofs.lemmas.Option.{same_Some}
 use Rattle.run_model.specs.declared.fate.Fate.{Fate}
 use Rattle.run_model.specs.declared.fate.Fate.TheVariants.{Pass, Up, Held, Slow, Fast}
 use Rattle.run_model.specs.declared.serial.Decided.{Decided}
+use Rattle.run_model.specs.Members.{Member}
 use Rattle.run_model.specs.Order.{stands_before, put_in, sorted, with_decided, decided_of, decided_from}
+use Rattle.run_model.proofs.Rising.{Before, Rising, same_rising}
 
-abbrev pub Member : {X : Type 0} → X → List X → Type 0
-Member x [] = ⊥
-Member x (y ∷ ys) = (y ≡ x) ⊎ Member x ys
-
--- x stands before y: by version, then by deciding event, then by number
-pub record Before (x y : Decided) : Type 0 where
-  pub version : x.version ≤ y.version
-  pub event : y.version ≤ x.version → x.event ≤ y.event
-  pub number : y.version ≤ x.version → y.event ≤ x.event → x.number < y.number
-
--- each entry stands before all behind it
-abbrev pub Rising : List Decided → Type 0
-Rising [] = ⊤
-Rising (x ∷ xs) = ((y : Decided) → Member y xs → Before x y) × Rising xs
-
-pub before_not_back : (x y : Decided) → Before x y → Before y x → ⊥
-before_not_back x y a b =
-    let v = b.version in
-    let e = a.event b.version in
-    let f = b.event a.version in
-    let n = a.number b.version f in
-    let m = b.number a.version e in
-    omega arith
-
-pub before_self : (x : Decided) → Before x x → ⊥
-before_self x a = before_not_back x x a a
-
-pub same_rising : (xs ys : List Decided) → Rising xs → Rising ys
-    → ((e : Decided) → Member e xs → Member e ys) → ((e : Decided) → Member e ys → Member e xs) → xs ≡ ys
-same_rising [] [] up vp f g = refl
-same_rising [] (y ∷ ys) up vp f g = absurd (g y (inl refl))
-same_rising (x ∷ xs) [] up vp f g = absurd (f x (inl refl))
-same_rising (x ∷ xs) (y ∷ ys) up vp f g =
-    let heads : y ≡ x = elim (f x (inl refl)) [
-      | inl p ↦ p
-      | inr late ↦ elim (g y (inl refl)) [
-        | inl p ↦ sym p
-        | inr later ↦ absurd (before_not_back x y (up.0 y later) (vp.0 x late))
-      ]
-    ] in
-    let tails : xs ≡ ys = same_rising xs ys up.1 vp.1
-    (λ e m. elim (f e (inr m)) [ inl p ↦ absurd (before_self e (subst (λ z. Before z e) (sym heads ∙ p) (up.0 e m))) | inr b ↦ b ])
-    (λ e m. elim (g e (inr m)) [ inl p ↦ absurd (before_self e (subst (λ z. Before z e) (heads ∙ p) (vp.0 e m))) | inr b ↦ b ]) in
-    cc
-
-pub before_true : (x y : Decided) → stands_before x y ≡ true → Before x y
+before_true : (x y : Decided) → stands_before x y ≡ true → Before x y
 before_true x y h = record {
   version = grind (arith, nat_tests);
   event = grind (arith, nat_tests);
   number = grind (arith, nat_tests);
 }
 
-pub before_false : (x y : Decided) → stands_before x y ≡ false → (y.number ≡ x.number → ⊥) → Before y x
+before_false : (x y : Decided) → stands_before x y ≡ false → (y.number ≡ x.number → ⊥) → Before y x
 before_false x y h apart = record {
   version = grind (arith, nat_tests);
   event = grind (arith, nat_tests);
   number = grind (arith, nat_tests);
 }
 
-pub before_trans : (x y z : Decided) → Before x y → Before y z → Before x z
+before_trans : (x y z : Decided) → Before x y → Before y z → Before x z
 before_trans x y z a b = record {
   version = let v = a.version in let w = b.version in omega arith;
   event = λ h. let v = a.version in let w = b.version in let e = a.event (omega arith) in let f = b.event (omega arith) in omega arith;
@@ -77,7 +34,7 @@ before_trans x y z a b = record {
       let m = a.number (omega arith) (omega arith) in let n = b.number (omega arith) (omega arith) in omega arith;
 }
 
-pub member_put_in : (x e : Decided) (xs : List Decided) → Member x (put_in e xs) → (e ≡ x) ⊎ Member x xs
+member_put_in : (x e : Decided) (xs : List Decided) → Member x (put_in e xs) → (e ≡ x) ⊎ Member x xs
 member_put_in x e [] h = h
 member_put_in x e (y ∷ ys) h =
     let rest = member_put_in x e ys in
@@ -86,7 +43,7 @@ member_put_in x e (y ∷ ys) h =
       | inr t ↦ elim (rw t at h) [ inl p ↦ inr (inl p) | inr m ↦ elim (rest m) [ inl q ↦ inl q | inr b ↦ inr (inr b) ] ]
     ]
 
-pub put_in_member : (x e : Decided) (xs : List Decided) → (e ≡ x) ⊎ Member x xs → Member x (put_in e xs)
+put_in_member : (x e : Decided) (xs : List Decided) → (e ≡ x) ⊎ Member x xs → Member x (put_in e xs)
 put_in_member x e [] h = h
 put_in_member x e (y ∷ ys) h =
     let rest = put_in_member x e ys in
@@ -95,7 +52,7 @@ put_in_member x e (y ∷ ys) h =
       | inr t ↦ rw t (elim h [ inl p ↦ inr (rest (inl p)) | inr m ↦ elim m [ inl q ↦ inl q | inr b ↦ inr (rest (inr b)) ] ])
     ]
 
-pub rising_put_in : (e : Decided) (xs : List Decided) → Rising xs → ((y : Decided) → Member y xs → y.number ≡ e.number → ⊥) → Rising (put_in e xs)
+rising_put_in : (e : Decided) (xs : List Decided) → Rising xs → ((y : Decided) → Member y xs → y.number ≡ e.number → ⊥) → Rising (put_in e xs)
 rising_put_in e [] up apart = ((λ y m. absurd m), up)
 rising_put_in e (x ∷ xs) up apart =
     let rest = rising_put_in e xs up.1 (λ y m. apart y (inr m)) in
@@ -116,21 +73,21 @@ rising_put_in e (x ∷ xs) up apart =
       )
     ]
 
-pub member_sorted : (x : Decided) (es : List Decided) → Member x (sorted es) → Member x es
+member_sorted : (x : Decided) (es : List Decided) → Member x (sorted es) → Member x es
 member_sorted x [] h = h
 member_sorted x (e ∷ es) h = elim (member_put_in x e (sorted es) h) [ inl p ↦ inl p | inr m ↦ inr (member_sorted x es m) ]
 
-pub sorted_member : (x : Decided) (es : List Decided) → Member x es → Member x (sorted es)
+sorted_member : (x : Decided) (es : List Decided) → Member x es → Member x (sorted es)
 sorted_member x [] h = h
 sorted_member x (e ∷ es) (inl p) = put_in_member x e (sorted es) (inl p)
 sorted_member x (e ∷ es) (inr m) = put_in_member x e (sorted es) (inr (sorted_member x es m))
 
 -- the numbers of a list are apart
-abbrev pub Apart : List Decided → Type 0
+abbrev Apart : List Decided → Type 0
 Apart [] = ⊤
 Apart (x ∷ xs) = ((y : Decided) → Member y xs → y.number ≡ x.number → ⊥) × Apart xs
 
-pub rising_sorted : (es : List Decided) → Apart es → Rising (sorted es)
+rising_sorted : (es : List Decided) → Apart es → Rising (sorted es)
 rising_sorted [] h = h
 rising_sorted (e ∷ es) h = rising_put_in e (sorted es) (rising_sorted es h.1) (λ y m. h.0 y (member_sorted y es m))
 
@@ -139,48 +96,47 @@ abbrev pub entry_of : ℕ → Option Fate → Option Decided
 entry_of n None = None
 entry_of n (Some f) = decided_of n f
 
-pub entry_number : (n : ℕ) (o : Option Fate) (e : Decided) → entry_of n o ≡ Some e → e.number ≡ n
-entry_number n None e h = cc
-entry_number n (Some (Pass a)) e h = cc
-entry_number n (Some (Up a)) e h = cc
-entry_number n (Some (Held a d v)) e h = sym (ap (λ x. x.number) (same_Some _ _ h))
-entry_number n (Some (Slow a d v r y)) e h = sym (ap (λ x. x.number) (same_Some _ _ h))
-entry_number n (Some (Fast a d v r y)) e h = sym (ap (λ x. x.number) (same_Some _ _ h))
+pub decided_number : (n : ℕ) (f : Fate) (e : Decided) → decided_of n f ≡ Some e → e.number ≡ n
+decided_number n (Pass a) e h = cc
+decided_number n (Up a) e h = cc
+decided_number n (Held a d v) e h = sym (ap (λ x. x.number) (same_Some _ _ h))
+decided_number n (Slow a d v r y) e h = sym (ap (λ x. x.number) (same_Some _ _ h))
+decided_number n (Fast a d v r y) e h = sym (ap (λ x. x.number) (same_Some _ _ h))
 
-pub member_with : (x : Decided) (o : Option Decided) (es : List Decided) → Member x (with_decided o es) → (o ≡ Some x) ⊎ Member x es
+member_with : (x : Decided) (o : Option Decided) (es : List Decided) → Member x (with_decided o es) → (o ≡ Some x) ⊎ Member x es
 member_with x None es h = inr h
 member_with x (Some e) es (inl p) = inl (ap Some p)
 member_with x (Some e) es (inr m) = inr m
 
-pub with_member : (x : Decided) (o : Option Decided) (es : List Decided) → (o ≡ Some x) ⊎ Member x es → Member x (with_decided o es)
+with_member : (x : Decided) (o : Option Decided) (es : List Decided) → (o ≡ Some x) ⊎ Member x es → Member x (with_decided o es)
 with_member x None es (inl p) = cc
 with_member x None es (inr m) = m
 with_member x (Some e) es (inl p) = inl (same_Some _ _ p)
 with_member x (Some e) es (inr m) = inr m
 
 -- each entry that is made from the fates is at its number
-pub entries_sound : (n : ℕ) (fs : List Fate) (e : Decided) → Member e (decided_from n fs) → (k : ℕ) × (e.number ≡ n + k) × (entry_of e.number (slice_get fs k) ≡ Some e)
+entries_sound : (n : ℕ) (fs : List Fate) (e : Decided) → Member e (decided_from n fs) → (k : ℕ) × (e.number ≡ n + k) × (entry_of e.number (slice_get fs k) ≡ Some e)
 entries_sound n [] e h = absurd h
 entries_sound n (f ∷ fs) e h = elim (member_with e (entry_of n (Some f)) (decided_from (suc n) fs) h) [
-  | inl p ↦ let m = entry_number n (Some f) e p in (0, omega arith, subst (λ z. entry_of z (Some f) ≡ Some e) (sym m) p)
+  | inl p ↦ let m = decided_number n f e p in (0, omega arith, subst (λ z. entry_of z (Some f) ≡ Some e) (sym m) p)
   | inr b ↦ let r = entries_sound (suc n) fs e b in (suc (r.0), omega arith, r.2)
 ]
 
-pub entries_complete : (n : ℕ) (fs : List Fate) (k : ℕ) (e : Decided) → entry_of (n + k) (slice_get fs k) ≡ Some e → Member e (decided_from n fs)
+entries_complete : (n : ℕ) (fs : List Fate) (k : ℕ) (e : Decided) → entry_of (n + k) (slice_get fs k) ≡ Some e → Member e (decided_from n fs)
 entries_complete n [] k e h = cc
 entries_complete n (f ∷ fs) zero e h = with_member e (entry_of n (Some f)) (decided_from (suc n) fs) (inl (subst (λ z. entry_of z (Some f) ≡ Some e) (omega arith) h))
 entries_complete n (f ∷ fs) (suc k) e h =
     with_member e (entry_of n (Some f)) (decided_from (suc n) fs)
     (inr (entries_complete (suc n) fs k e (subst (λ z. entry_of z (slice_get fs k) ≡ Some e) (omega arith) h)))
 
-pub with_apart : (o : Option Decided) (es : List Decided) → Apart es → ((e y : Decided) → o ≡ Some e → Member y es → y.number ≡ e.number → ⊥) → Apart (with_decided o es)
+with_apart : (o : Option Decided) (es : List Decided) → Apart es → ((e y : Decided) → o ≡ Some e → Member y es → y.number ≡ e.number → ⊥) → Apart (with_decided o es)
 with_apart None es h apart = h
 with_apart (Some e) es h apart = ((λ y m. apart e y refl m), h)
 
-pub entries_apart : (n : ℕ) (fs : List Fate) → Apart (decided_from n fs)
+entries_apart : (n : ℕ) (fs : List Fate) → Apart (decided_from n fs)
 entries_apart n [] = tt
 entries_apart n (f ∷ fs) = with_apart (entry_of n (Some f)) (decided_from (suc n) fs) (entries_apart (suc n) fs)
-    (λ e y p m. let low = entry_number n (Some f) e p in let high = entries_sound (suc n) fs y m in λ q. omega arith)
+    (λ e y p m. let low = decided_number n f e p in let high = entries_sound (suc n) fs y m in λ q. omega arith)
 
 -- a list is the order of these fates
 pub record IsOrder (fates : List Fate) (es : List Decided) : Type 0 where
