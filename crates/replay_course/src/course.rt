@@ -14,6 +14,7 @@ ghost use Rattle.replay_state.specs.Step.{applies, came, step, tick, waits};
 ghost use Rattle.replay_contracts.specs.Given.{Given, setup_for};
 ghost use Rattle.replay_contracts.specs.Replayer.{stepped_by};
 ghost use Rattle.output_commit.specs.Batches.{fits};
+ghost use Rattle.output_commit.specs.Commit.{next};
 ghost use Rattle.split_answers.specs.Through.{down_end_of, end_of};
 ghost use Rattle.server_runtime.specs.Views.{server_of};
 ghost use Rattle.replay_course.specs.Going.{FailsDown, FailsUp, FitsDown, FitsUp, IsDownAnswer, IsSound, IsUpAnswer};
@@ -256,15 +257,17 @@ impl Course {
         self.passes.iter().any(|pass| command.disturbs(pass.bit))
     }
 
-    // The next command that was sent, where it need not wait for a pass under way.
-    fn ready_command(&self) -> Option<Command>
-        ensures { result ≡ ready_next self.now }
+    // Whether the next command that was sent has to wait for a pass under way. Where none is under way, it isn't looked at.
+    fn has_to_wait(&self) -> bool
+        ensures { ready_next self.now ≡ (if result then None else next self.now.commit) }
     {
-        let command = self.commit.peek()?;
-        if self.waits(&command) {
-            return None;
+        if self.passes.is_empty() {
+            return false;
         }
-        Some(command)
+        match self.commit.peek() {
+            Some(command) => self.waits(&command),
+            None => false,
+        }
     }
 
     /// The next command that was sent goes to the switch, and counts as applied from then on. It may have to wait for a
@@ -286,11 +289,14 @@ impl Course {
         ensures counted { self.new.events ≡ self.old.events + 1 }
     {
         self.events += 1;
-        let Some(command) = self.ready_command() else {
+        if self.has_to_wait() {
+            self.idle += 1;
+            return None;
+        }
+        let Some(command) = self.commit.next_command() else {
             self.idle += 1;
             return None;
         };
-        let _ = self.commit.next_command();
         Some(command)
     }
 

@@ -16,7 +16,7 @@ use crate::course::Course;
 use crate::fates::{copy_fates, count_decided, count_released};
 use gal_io::NoMemory;
 use replay_contracts::{Job, ReplayError, Replayed};
-use run_model::{ObjectRows, Run, StoreRows, order};
+use run_model::{Fates, ObjectRows, Run, StoreRows, order};
 use split_answers::replicated_objects_are_declared;
 use split_model::replicated;
 use state_store::Rows;
@@ -102,6 +102,54 @@ impl Course {
             objects,
             switch,
         })
+    }
+
+    // The run of a course that ends, with these rows of the switch.
+    fn into_run(self, alloc: Global, job: &Job, switch: StoreRows) -> Result<Run, NoMemory>
+        requires split { IsSplit (program_of job.now.flat) job.now.split job.now.writeback }
+        requires few_packets { length job.now.packets < 2 ^ 32 }
+        requires few { length self.fates.items < 2 ^ 32 }
+        ensures { IfOk result (λ run. run ≡ told_run (given_of job.now) self switch) }
+    {
+        let objects = StoreRows::of(alloc, job.flat.objects.as_slice(), self.server.store())?;
+        let packets = job.packets.len();
+        let drained = self.is_drained(packets);
+        let (version, visible) = (self.server.version(), self.commit.visible());
+        let (events, idle) = (self.events, self.idle);
+        let fates = Fates::from(self.fates);
+        Ok(Run {
+            total: packets as u32,
+            decided: count_decided(fates.as_slice()),
+            released: count_released(fates.as_slice()),
+            events,
+            idle,
+            version,
+            visible,
+            drained,
+            order: order(alloc, &fates)?,
+            fates,
+            objects,
+            switch,
+        })
+    }
+
+    /// The same as `report`, of a course that ends: what became of packets isn't copied.
+    pub fn into_report<S: SwitchPort>(
+        self,
+        alloc: Global,
+        job: &Job,
+        port: &mut S,
+    ) -> Result<Replayed, ReplayError>
+        requires going { IsGoing (given_of job.now) self (S.seen port.old) }
+        ensures reports { IfOk result (λ replayed. (calls : List Call) (st : State)
+            → IsShown (whole (given_of job.now)) calls st self
+            → Reports (given_of job.now) st (S.seen port.old) (S.seen port.new) replayed.run replayed.commands) }
+        ensures fails { IfErr result (λ e. Fails e (S.seen port.old) (S.seen port.new)) }
+    {
+        let switch = switch_parts(alloc, job, port)?;
+        let commands = self.commit.commands();
+        let run = self.into_run(alloc, job, switch)?;
+        Ok(Replayed { run, commands })
     }
 
     /// What is reported of the events so far, with the rows that lookups on the switch see.

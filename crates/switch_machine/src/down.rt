@@ -152,7 +152,7 @@ fn run_down(loaded: &mut Loaded, tables: &SwitchTables, arrival: &Arrival<'_>)
     are_few(&place.registers);
     run_pass(
         &loaded.post,
-        tables,
+        &tables.as_seen(),
         arrival,
         &mut place.registers,
         &mut place.before,

@@ -13,31 +13,12 @@ ghost use Rattle.switch_machine.specs.declared.flight.Flight.{Flight as PassFlig
 use crate::loaded::Workplace;
 use crate::passes::run_stage;
 use crate::ready::ReadyStages;
-use crate::tables::SwitchTables;
-use flat_ir::{Arrival, Lookup, RegPlan};
-use gal_bits::Values;
+use crate::tables::{SwitchTables, View};
+use flat_ir::{Arrival, RegPlan};
 use gal_io::{Bytes, NoMemory};
 use packet_fields::Shape;
-use state_store::Found;
 use std::alloc::Global;
 use transfer_header::Regs;
-
-/// The tables as a pass sees them that entered with this bit.
-#[derive(Clone, Copy)]
-pub(crate) struct View<'a> {
-    pub tables: &'a SwitchTables,
-    pub bit: bool,
-}
-
-impl Lookup for View<'_> {
-    ghost use Rattle.switch_ir.specs.Tables.{view_of};
-
-    ghost seen = { λ view. view_of view.bit view.tables.now.pairs };
-
-    fn find(&self, object: u32, key: &Values) -> Found {
-        self.tables.find_by(self.bit, object, key)
-    }
-}
 
 /// A pass between two of its stages.
 #[derive(Debug, Drop)]
@@ -125,7 +106,7 @@ pub(crate) fn take_first(
 {
     run_stage(
         stages.stage(0),
-        tables,
+        &tables.as_seen(),
         arrival,
         &mut place.registers,
         &mut place.before,

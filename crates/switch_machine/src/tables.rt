@@ -2,7 +2,7 @@
 ghost use Rattle.std.specs.Prelude.{◌≡◌, ℕ, ◌≤◌, [], false, is_some, IfOk};
 ghost use Rattle.state_store.specs.Store.{look, looked_up, no_object, object_at, start_object};
 ghost use Rattle.switch_ir.specs.Code.{code_of};
-ghost use Rattle.switch_ir.specs.Tables.{told_after, pair_at, staging_room, start_pair, declared_at, view_of, with_command, IsStart};
+ghost use Rattle.switch_ir.specs.Tables.{told_after, pair_at, staging_room, seen_tables, start_pair, declared_at, view_of, with_command, IsStart};
 ghost use Rattle.writeback_table.specs.Pair.{visible_rows};
 
 use flat_ir::Lookup;
@@ -43,6 +43,23 @@ impl Lookup for SwitchTables {
     }
 }
 
+/// The tables as a pass sees them that entered with this bit.
+#[derive(Clone, Copy)]
+pub(crate) struct View<'a> {
+    pub tables: &'a SwitchTables,
+    pub bit: bool,
+}
+
+impl Lookup for View<'_> {
+    ghost use Rattle.switch_ir.specs.Tables.{view_of};
+
+    ghost seen = { λ view. view_of view.bit view.tables.now.pairs };
+
+    fn find(&self, object: u32, key: &Values) -> Found {
+        self.tables.find_by(self.bit, object, key)
+    }
+}
+
 impl SwitchTables {
     /// No tables at all.
     pub fn none(alloc: Global) -> SwitchTables
@@ -59,6 +76,16 @@ impl SwitchTables {
         ensures { result ≡ self.now.bit }
     {
         self.bit
+    }
+
+    /// The tables as lookups see them now.
+    pub fn as_seen(&self) -> View<'_>
+        ensures { view_of result.bit result.tables.now.pairs ≡ seen_tables self.now }
+    {
+        View {
+            tables: self,
+            bit: self.bit,
+        }
     }
 
     /// What a lookup finds that sees the tables by this bit.

@@ -48,7 +48,7 @@ fn run_up(loaded: &mut Loaded, tables: &SwitchTables, arrival: &Arrival<'_>)
     are_few(&loaded.up.registers);
     run_pass(
         &loaded.pre,
-        tables,
+        &tables.as_seen(),
         arrival,
         &mut loaded.up.registers,
         &mut loaded.up.before,

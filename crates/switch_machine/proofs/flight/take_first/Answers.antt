@@ -1,4 +1,5 @@
 use Rattle.std.proofs.Common.{◌∙◌, ap, List, map}
+use Rattle.state_store.specs.Store.{Store}
 use Rattle.flat_ir.specs.Registers.{packet_of}
 use Rattle.switch_ir.specs.Tables.{seen_tables}
 use Rattle.switch_machine.specs.declared.ready.ReadyStep.{ReadyStep}
@@ -13,4 +14,5 @@ pub returns-clause-written : goal.returns-clause-written
 returns-clause-written c =
     let registers = c.args.place.now.registers in
     c.run_stage.ensures.written
+    ∙ ap (λ (seen : Store). all_placed registers (ready_gives (map ready_of c.stage.result.now) (reads_at registers.numbers) seen (packet_of c.args.arrival.now))) c.as_seen.ensures
     ∙ ap (λ (own : List ReadyStep). all_placed registers (ready_gives (map ready_of own) (reads_at registers.numbers) (seen_tables c.args.tables.now) (packet_of c.args.arrival.now))) c.stage.ensures

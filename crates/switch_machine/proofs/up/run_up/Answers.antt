@@ -1,10 +1,12 @@
-use Rattle.std.proofs.Common.{◌∙◌, suc}
+use Rattle.std.proofs.Common.{◌∙◌, ap, length, suc}
+use Rattle.state_store.specs.Store.{Store}
 use Rattle.flat_ir.specs.Registers.{packet_of}
 use Rattle.switch_ir.specs.Code.{code_of}
 use Rattle.switch_ir.specs.Meaning.{up_values}
 use Rattle.switch_ir.specs.Tables.{seen_tables}
 use Rattle.switch_machine.specs.Keeping.{kept_up}
 use Rattle.switch_machine.specs.Planned.{registers_at}
+use Rattle.switch_machine.specs.Ready.{placed_at}
 use Rattle.switch_machine.proofs.LoadedCode.{ready_up}
 use Rattle.switch_machine.proofs.StageRegisters.{held_by}
 use Rattle.switch_machine.proofs.up.run_up.Goals as goal
@@ -32,6 +34,7 @@ returns-clause-values c =
     let last = registers_at l.pre_numbering code.pre (seen_tables told) packet registers (suc code.pre.highest) in
     held_by l.pre_numbering last after (up_values code (seen_tables told) packet) (kept_up code)
     (c.run_pass.ensures.written
+    ∙ ap (λ (seen : Store). placed_at l.pre seen packet registers (length l.pre)) c.as_seen.ensures
     ∙ c.a_pass_by_place.ensures.pass l.pre_numbering l.code.pre.plan code.pre l.pre (seen_tables told) packet registers l.pre_stages
     (c.clear.ensures.plan ∙ l.pre_plan) c.are_few.ensures.few)
     (c.preprocessing_is_computed.ensures.computed code l.pre_numbering registers told packet (ready_up l registers c.clear.ensures.plan)
