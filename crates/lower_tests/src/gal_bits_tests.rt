@@ -3,36 +3,48 @@ ghost use Rattle.std.specs.Prelude.{◌<◌};
 
 use gal_bits::{Op, Values, Width, Widths, adjust, arity, eval, on_switch, op_name};
 use std::process::Abort;
-use std::test::Fail;
+
+const OPERATORS: [(Op, u32, &[u64], u64); 16] = [
+    (Op::Add, 8, &[255, 2], 1),
+    (Op::Sub, 8, &[0, 1], 255),
+    (Op::Mul, 16, &[0x101, 0x101], 0x0201),
+    (Op::Div, 8, &[7, 0], 0),
+    (Op::Div, 8, &[7, 2], 3),
+    (Op::Rem, 8, &[7, 0], 7),
+    (Op::Not, 8, &[0x0f], 0xf0),
+    (Op::Shl, 8, &[1, 7], 128),
+    (Op::Shl, 8, &[1, 8], 0),
+    (Op::Shr, 64, &[0xffff_ffff_ffff_ffff, 63], 1),
+    (Op::Shr, 8, &[0x80, 8], 0),
+    (Op::Lt, 1, &[3, 3], 0),
+    (Op::Le, 1, &[3, 3], 1),
+    (Op::Cast, 8, &[0x1234], 0x34),
+    (Op::Select, 8, &[0, 4, 5], 5),
+    (Op::Adjust, 16, &[0x0694, 0x0a00, 0xc000], 0x5093),
+];
+
+fn is_value(op: Op, bits: u32, args: &[u64], value: u64) -> bool {
+    match Width::new(bits) {
+        Some(width) => args.len() == arity(op) && eval(op, width, args) == value,
+        None => false,
+    }
+}
 
 #[test]
-fn operators_have_their_values(rt: HostRuntime) -> Result<(), Fail> {
-    let rows: [(Op, u32, &[u64], u64); 16] = [
-        (Op::Add, 8, &[255, 2], 1),
-        (Op::Sub, 8, &[0, 1], 255),
-        (Op::Mul, 16, &[0x101, 0x101], 0x0201),
-        (Op::Div, 8, &[7, 0], 0),
-        (Op::Div, 8, &[7, 2], 3),
-        (Op::Rem, 8, &[7, 0], 7),
-        (Op::Not, 8, &[0x0f], 0xf0),
-        (Op::Shl, 8, &[1, 7], 128),
-        (Op::Shl, 8, &[1, 8], 0),
-        (Op::Shr, 64, &[0xffff_ffff_ffff_ffff, 63], 1),
-        (Op::Shr, 8, &[0x80, 8], 0),
-        (Op::Lt, 1, &[3, 3], 0),
-        (Op::Le, 1, &[3, 3], 1),
-        (Op::Cast, 8, &[0x1234], 0x34),
-        (Op::Select, 8, &[0, 4, 5], 5),
-        (Op::Adjust, 16, &[0x0694, 0x0a00, 0xc000], 0x5093),
-    ];
-    for (op, bits, args, value) in rows {
-        let width = Width::new(bits).ok_or("a width")?;
-        assert_eq!(rt; args.len(), arity(op));
-        assert_eq!(rt; eval(op, width, args), value, "{} on {args:?}", op_name(op));
+fn operators_have_their_values(rt: HostRuntime) {
+    for (op, bits, args, value) in OPERATORS {
+        assert!(rt;
+            is_value(op, bits, args, value),
+            "{} on {args:?}",
+            op_name(op)
+        );
     }
-    assert_eq!(rt; op_name(Op::Select), "select");
-    assert_eq!(rt; (on_switch(Op::Add), on_switch(Op::Rem)), (true, false));
-    Ok(())
+}
+
+#[test]
+fn operators_have_names_and_places(rt: HostRuntime) {
+    assert!(rt; op_name(Op::Select) == "select");
+    assert!(rt; on_switch(Op::Add) && !on_switch(Op::Rem));
 }
 
 #[test]
@@ -44,7 +56,7 @@ fn checksums_are_adjusted(rt: HostRuntime) {
         (0xffff, 0x0000, 0x0000, 0x0000),
     ];
     for (sum, old, new, value) in rows {
-        assert_eq!(rt; adjust(sum, old, new), value, "of {sum:#x}");
+        assert!(rt; adjust(sum, old, new) == value, "of {sum:#x}");
     }
 }
 
@@ -102,29 +114,40 @@ fn adjusting_is_computing_anew(rt: HostRuntime) {
     }
 }
 
-#[test]
-fn lists_keep_their_numbers(rt: HostRuntime) {
+fn are_values_listed() -> bool {
     let mut shorter = Values::new();
-    assert!(rt; shorter.is_empty());
+    let is_new = shorter.is_empty();
     shorter.push(7);
     let mut longer = shorter;
     longer.push(0);
-    assert_eq!(rt; longer.as_slice(), [7, 0].as_slice());
-    assert_eq!(rt; (longer.len(), longer.at(0)), (2, 7));
-    assert!(rt; shorter < longer);
+    is_new
+        && longer.as_slice() == [7, 0].as_slice()
+        && longer.len() == 2
+        && longer.at(0) == 7
+        && shorter < longer
+}
 
+fn are_widths_listed() -> bool {
     let mut widths = Widths::new();
-    assert!(rt; widths.is_empty());
+    let is_new = widths.is_empty();
     widths.push(48);
     widths.push(16);
-    assert_eq!(rt; widths.as_slice(), [48, 16].as_slice());
-    assert_eq!(rt; (widths.len(), widths.at(1)), (2, 16));
-    assert_ne!(rt; widths, Widths::new());
+    is_new
+        && widths.as_slice() == [48, 16].as_slice()
+        && widths.len() == 2
+        && widths.at(1) == 16
+        && widths != Widths::new()
+}
+
+#[test]
+fn lists_keep_their_numbers(rt: HostRuntime) {
+    assert!(rt; are_values_listed());
+    assert!(rt; are_widths_listed());
 }
 
 #[test]
 fn widths_are_from_1_to_64(rt: HostRuntime) {
     for (bits, width) in [(0, None), (1, Some(1)), (64, Some(64)), (65, None)] {
-        assert_eq!(rt; Width::new(bits).map(|width| width.bits()), width);
+        assert!(rt; Width::new(bits).map(|width| width.bits()) == width);
     }
 }

@@ -1,157 +1,208 @@
 //! What no clause can say: that calls succeed with ample memory, and what the system's files and writers do.
 use gal_io::{
-    Bytes, Files, HostFiles, HostSink, MemFiles, MemSink, ReadEnd, Sink, SinkEnd, Text, is_skipped,
-    number_up_to, split_line,
+    Bytes, Files, HostFiles, HostSink, MemFiles, MemSink, NoMemory, ReadEnd, Sink, SinkEnd, Text,
+    is_skipped, number_up_to, split_line,
 };
+use std::alloc::Global;
 use std::io::Write;
 use std::test::Fail;
 use std::{fs, io};
 
+const NUMBERS: [(&[u8], u64, Option<u64>); 11] = [
+    (b"0", 255, Some(0)),
+    (b"255", 255, Some(255)),
+    (b"256", 255, None),
+    (b"", 255, None),
+    (b"00", 255, None),
+    (b"01", 255, None),
+    (b"+1", 255, None),
+    (b"1 ", 255, None),
+    (b"1a", 255, None),
+    (b"18446744073709551615", u64::MAX, Some(u64::MAX)),
+    (b"18446744073709551616", u64::MAX, None),
+];
+
 #[test]
 fn numbers(rt: HostRuntime) {
-    let cases = [
-        (b"0".as_slice(), 255, Some(0)),
-        (b"255".as_slice(), 255, Some(255)),
-        (b"256".as_slice(), 255, None),
-        (b"".as_slice(), 255, None),
-        (b"00".as_slice(), 255, None),
-        (b"01".as_slice(), 255, None),
-        (b"+1".as_slice(), 255, None),
-        (b"1 ".as_slice(), 255, None),
-        (b"1a".as_slice(), 255, None),
-        (b"18446744073709551615".as_slice(), u64::MAX, Some(u64::MAX)),
-        (b"18446744073709551616".as_slice(), u64::MAX, None),
-    ];
-    for (index, (digits, most, wanted)) in cases.iter().enumerate() {
-        assert_eq!(rt; number_up_to(digits, *most), *wanted, "case {index}");
+    for (digits, most, wanted) in NUMBERS {
+        assert!(rt; number_up_to(digits, most) == wanted, "at {digits:?}");
+    }
+}
+
+// Texts with their first line and what is behind it.
+const LINES: [(&[u8], &[u8], &[u8]); 6] = [
+    (b"a", b"a", b""),
+    (b"a\n", b"a", b""),
+    (b"a\r\nb", b"a", b"b"),
+    (b"a\r\r\n\nb", b"a\r", b"\nb"),
+    (b"\nb", b"", b"b"),
+    (b"a\rb\r", b"a\rb", b""),
+];
+
+fn is_split(text: &[u8], line: &[u8], rest: &[u8]) -> bool {
+    match split_line(text) {
+        Some((first, behind)) => first == line && behind == rest,
+        None => false,
     }
 }
 
 #[test]
 fn lines(rt: HostRuntime) {
-    let cases = [
-        (b"a".as_slice(), b"a".as_slice(), b"".as_slice()),
-        (b"a\n".as_slice(), b"a".as_slice(), b"".as_slice()),
-        (b"a\r\nb".as_slice(), b"a".as_slice(), b"b".as_slice()),
-        (
-            b"a\r\r\n\nb".as_slice(),
-            b"a\r".as_slice(),
-            b"\nb".as_slice(),
-        ),
-        (b"\nb".as_slice(), b"".as_slice(), b"b".as_slice()),
-        (b"a\rb\r".as_slice(), b"a\rb".as_slice(), b"".as_slice()),
-    ];
-    for (index, (text, line, rest)) in cases.iter().enumerate() {
-        assert_eq!(rt; split_line(text), Some((*line, *rest)), "case {index}");
+    for (text, line, rest) in LINES {
+        assert!(rt; is_split(text, line, rest), "at {text:?}");
     }
-    assert_eq!(rt; split_line(b""), None);
-    for (line, skipped) in [
-        (b"".as_slice(), true),
-        (b"# a", true),
-        (b"a", false),
-        (b" ", false),
-    ] {
-        assert_eq!(rt; is_skipped(line), skipped);
+    assert!(rt; split_line(b"").is_none());
+}
+
+const SKIPPED: [(&[u8], bool); 4] = [(b"", true), (b"# a", true), (b"a", false), (b" ", false)];
+
+#[test]
+fn blank_lines_and_comments(rt: HostRuntime) {
+    for (line, skipped) in SKIPPED {
+        assert!(rt; is_skipped(line) == skipped, "at {line:?}");
     }
+}
+
+fn are_bytes_joined(alloc: Global) -> Result<bool, NoMemory> {
+    let mut bytes = Bytes::from_slice(alloc, b"12")?;
+    bytes.push(b'3')?;
+    bytes.extend(b"45")?;
+    let copy = bytes.copy(alloc)?;
+    Ok(copy.as_slice() == b"12345".as_slice())
+}
+
+fn write(text: &mut Text) -> Result<(), NoMemory> {
+    text.extend(b"1234")?;
+    text.push(b'5')
+}
+
+fn write_numbers(text: &mut Text) -> Result<(), NoMemory> {
+    text.push_number(0)?;
+    text.push_spaced(&[67, u64::MAX])
+}
+
+fn is_text_written(alloc: Global) -> Result<bool, NoMemory> {
+    let mut text = Text::new(alloc);
+    let is_new = text.is_empty();
+    write(&mut text)?;
+    let len = text.len();
+    write_numbers(&mut text)?;
+    let copy = text.copy(alloc)?;
+    let wanted = b"123450 67 18446744073709551615".as_slice();
+    Ok(is_new && len == 5 && copy.as_slice() == wanted)
+}
+
+fn is_text_of_bytes(alloc: Global) -> Result<bool, NoMemory> {
+    let text = Text::from_slice(alloc, b"5")?;
+    Ok(text.as_slice() == b"5".as_slice())
 }
 
 #[test]
 fn bytes_and_texts(rt: HostRuntime) -> Result<(), Fail> {
-    let alloc = rt.alloc();
-    let mut bytes = Bytes::from_slice(alloc, b"12")?;
-    bytes.push(b'3')?;
-    bytes.extend(b"45")?;
-    assert_eq!(rt; bytes.copy(alloc)?.as_slice(), b"12345".as_slice());
-    let mut text = Text::new(alloc);
-    assert!(rt; text.is_empty());
-    text.extend(b"1234")?;
-    text.push(b'5')?;
-    assert_eq!(rt; text.len(), 5);
-    text.push_number(0)?;
-    text.push_spaced(&[67, u64::MAX])?;
-    assert_eq!(rt;
-        text.copy(alloc)?.as_slice(),
-        b"123450 67 18446744073709551615".as_slice()
-    );
-    assert_eq!(rt; Text::from_slice(alloc, b"5")?.as_slice(), b"5".as_slice());
+    assert!(rt; are_bytes_joined(rt.alloc())?);
+    assert!(rt; is_text_written(rt.alloc())?);
+    assert!(rt; is_text_of_bytes(rt.alloc())?);
     Ok(())
 }
 
-#[test]
-fn files_in_memory(rt: HostRuntime) -> Result<(), Fail> {
-    let alloc = rt.alloc();
+// The name of a file, the most bytes that are asked for, how reading ends, and what is read.
+type Reading = (&'static str, usize, ReadEnd, &'static [u8]);
+
+// The place of the first of these that reads otherwise, or how many they are.
+fn first_missed(alloc: Global, files: &mut impl Files, readings: &[Reading]) -> usize {
+    for (place, reading) in readings.iter().enumerate() {
+        if !is_read(alloc, files, reading) {
+            return place;
+        }
+    }
+    readings.len()
+}
+
+fn is_read(alloc: Global, files: &mut impl Files, reading: &Reading) -> bool {
+    let (name, max, end, content) = *reading;
+    if max > 5000 {
+        return false;
+    }
+    let mut into = Vec::new(alloc);
+    files.read(alloc, name, max, &mut into) == end && into.as_slice() == content
+}
+
+const IN_MEMORY: [Reading; 5] = [
+    ("five", 5, ReadEnd::Done, b"12345"),
+    ("five", 4, ReadEnd::TooLong, b""),
+    ("none", 5, ReadEnd::Failed, b""),
+    ("five", 5, ReadEnd::Failed, b""),
+    ("five", 5, ReadEnd::Done, b"12345"),
+];
+
+// The first file of a name is read, and the fourth call fails.
+fn first_missed_in_memory(alloc: Global) -> Result<usize, NoMemory> {
     let mut files = MemFiles::new(alloc);
     files.add("five", b"1")?;
     files.add("five", b"12345")?;
     files.fail_at(4)?;
-    let cases = [
-        ("five", 5, ReadEnd::Done, b"12345".as_slice()),
-        ("five", 4, ReadEnd::TooLong, b"".as_slice()),
-        ("none", 5, ReadEnd::Failed, b"".as_slice()),
-        ("five", 5, ReadEnd::Failed, b"".as_slice()),
-        ("five", 5, ReadEnd::Done, b"12345".as_slice()),
-    ];
-    for (index, (name, max, end, content)) in cases.iter().enumerate() {
-        let mut into = Vec::new(alloc);
-        assert_eq!(rt;
-            files.read(alloc, name, *max, &mut into),
-            *end,
-            "case {index}"
-        );
-        assert_eq!(rt; into.as_slice(), *content, "case {index}");
-    }
+    Ok(first_missed(alloc, &mut files, &IN_MEMORY))
+}
+
+#[test]
+fn files_in_memory(rt: HostRuntime) -> Result<(), Fail> {
+    assert_eq!(rt; first_missed_in_memory(rt.alloc())?, 5);
     Ok(())
+}
+
+// Pieces that are written, how that ends, and what is taken then.
+const PIECES: [(&[u8], SinkEnd, &[u8]); 4] = [
+    (b"12", SinkEnd::Done, b"12"),
+    (b"packet", SinkEnd::Failed, b"12pac"),
+    (b"3", SinkEnd::Failed, b"12pac3"),
+    (b"4", SinkEnd::Done, b"12pac34"),
+];
+
+fn takes_all(sink: &mut MemSink) -> bool {
+    let mut all = true;
+    for (piece, end, taken) in PIECES {
+        let is_end = sink.write(piece) == end;
+        all = all && is_end && sink.bytes() == taken;
+    }
+    all
+}
+
+fn is_all_taken(alloc: Global) -> Result<bool, NoMemory> {
+    let mut sink = MemSink::new(alloc);
+    sink.fail_at(2, 3)?;
+    sink.fail_at(3, 9)?;
+    Ok(takes_all(&mut sink))
 }
 
 #[test]
 fn a_sink_in_memory(rt: HostRuntime) -> Result<(), Fail> {
-    let mut sink = MemSink::new(rt.alloc());
-    sink.fail_at(2, 3)?;
-    sink.fail_at(3, 9)?;
-    let cases = [
-        (b"12".as_slice(), SinkEnd::Done, b"12".as_slice()),
-        (b"packet".as_slice(), SinkEnd::Failed, b"12pac".as_slice()),
-        (b"3".as_slice(), SinkEnd::Failed, b"12pac3".as_slice()),
-        (b"4".as_slice(), SinkEnd::Done, b"12pac34".as_slice()),
-    ];
-    for (index, (piece, end, taken)) in cases.iter().enumerate() {
-        assert_eq!(rt; sink.write(piece), *end, "case {index}");
-        assert_eq!(rt; sink.bytes(), *taken, "case {index}");
-    }
+    assert!(rt; is_all_taken(rt.alloc())?);
     Ok(())
 }
 
 // A folder fails at its first read, a file in a file can't be opened, and /dev/zero never ends.
+const OF_THE_SYSTEM: [Reading; 7] = [
+    ("five", 5, ReadEnd::Done, b"12345"),
+    ("five", 4, ReadEnd::TooLong, b""),
+    ("none", 5, ReadEnd::Failed, b""),
+    ("five ", 5, ReadEnd::Done, b"1"),
+    (".", 5, ReadEnd::Failed, b""),
+    ("five/one", 5, ReadEnd::Failed, b""),
+    ("/dev/zero", 5000, ReadEnd::TooLong, b""),
+];
+
 #[test]
 fn files_of_the_system(rt: HostRuntime) -> Result<(), Fail> {
-    let alloc = rt.alloc();
     fs::write(&rt, "five", "12345")?;
     fs::write(&rt, "five ", "1")?;
-    let cases = [
-        ("five", 5, ReadEnd::Done, b"12345".as_slice()),
-        ("five", 4, ReadEnd::TooLong, b"".as_slice()),
-        ("none", 5, ReadEnd::Failed, b"".as_slice()),
-        ("five ", 5, ReadEnd::Done, b"1".as_slice()),
-        (".", 5, ReadEnd::Failed, b"".as_slice()),
-        ("five/one", 5, ReadEnd::Failed, b"".as_slice()),
-        ("/dev/zero", 5000, ReadEnd::TooLong, b"".as_slice()),
-    ];
-    let mut files = HostFiles::new(&rt);
-    for (index, (name, max, end, content)) in cases.iter().enumerate() {
-        let mut into = Vec::new(alloc);
-        assert_eq!(rt;
-            files.read(alloc, name, *max, &mut into),
-            *end,
-            "case {index}"
-        );
-        assert_eq!(rt; into.as_slice(), *content, "case {index}");
-    }
+    let missed = first_missed(rt.alloc(), &mut HostFiles::new(&rt), &OF_THE_SYSTEM);
+    assert_eq!(rt; missed, 7);
     fs::remove_file(&rt, "five")?;
     fs::remove_file(&rt, "five ")?;
     Ok(())
 }
 
-#[derive(Clone, Copy, Debug)]
+#[derive(Clone, Copy)]
 enum Fault {
     None,
     Nothing,
@@ -182,16 +233,15 @@ impl Write for Faulty {
     }
 }
 
+fn end_of_writing(fault: Fault) -> SinkEnd {
+    let mut sink = HostSink::new(Faulty { fault });
+    sink.write(b"12345")
+}
+
 #[test]
 fn a_sink_of_the_system(rt: HostRuntime) {
-    let cases = [
-        (Fault::None, SinkEnd::Done),
-        (Fault::Nothing, SinkEnd::Failed),
-        (Fault::Error, SinkEnd::Failed),
-        (Fault::Flush, SinkEnd::Failed),
-    ];
-    for (fault, end) in cases {
-        let mut sink = HostSink::new(Faulty { fault });
-        assert_eq!(rt; sink.write(b"12345"), end, "at {fault:?}");
-    }
+    assert!(rt; end_of_writing(Fault::None) == SinkEnd::Done);
+    assert!(rt; end_of_writing(Fault::Nothing) == SinkEnd::Failed);
+    assert!(rt; end_of_writing(Fault::Error) == SinkEnd::Failed);
+    assert!(rt; end_of_writing(Fault::Flush) == SinkEnd::Failed);
 }

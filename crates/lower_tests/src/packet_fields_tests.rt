@@ -1,6 +1,7 @@
 //! Fields of two packets.
-use gal_io::Bytes;
+use gal_io::{Bytes, NoMemory};
 use packet_fields::{Field, Packet, Packets, Shape, field_name, field_of, get, set};
+use std::alloc::Global;
 use std::test::Fail;
 
 // A TCP segment from 10.0.0.1 port 5000 to 198.51.100.7 port 80 that opens a connection.
@@ -37,10 +38,10 @@ fn reads_behind_a_tag(rt: HostRuntime) {
         (Field::IpDst, 167_772_162),
     ];
     for (field, value) in rows {
-        assert_eq!(rt; get(&TAGGED, 0, &shape, field), value);
+        assert!(rt; get(&TAGGED, 0, &shape, field) == value);
     }
     let short = Shape::of(&TAGGED[..17]);
-    assert_eq!(rt; get(&TAGGED[..17], 0, &short, Field::VlanId), 0);
+    assert!(rt; get(&TAGGED[..17], 0, &short, Field::VlanId) == 0);
 }
 
 #[test]
@@ -51,7 +52,7 @@ fn sets_the_number_of_a_vlan(rt: HostRuntime) {
     let mut expected = TAGGED;
     expected[14] = 0x2a;
     expected[15] = 0xbc;
-    assert_eq!(rt; packet.as_slice(), expected.as_slice());
+    assert!(rt; packet.as_slice() == expected.as_slice());
 }
 
 #[test]
@@ -69,7 +70,7 @@ fn reads_fields(rt: HostRuntime) {
         (Field::UdpSum, 0),
     ];
     for (field, value) in rows {
-        assert_eq!(rt; get(&SYN, 0, &shape, field), value);
+        assert!(rt; get(&SYN, 0, &shape, field) == value);
     }
     let shape = Shape::of(&DATAGRAM);
     let rows = [
@@ -80,7 +81,7 @@ fn reads_fields(rt: HostRuntime) {
         (Field::UdpSum, 0xffef),
     ];
     for (field, value) in rows {
-        assert_eq!(rt; get(&DATAGRAM, 9, &shape, field), value);
+        assert!(rt; get(&DATAGRAM, 9, &shape, field) == value);
     }
 }
 
@@ -94,26 +95,34 @@ fn sets_a_field(rt: HostRuntime) {
     expected[27] = 0;
     expected[28] = 2;
     expected[29] = 1;
-    assert_eq!(rt; packet.as_slice(), expected.as_slice());
+    assert!(rt; packet.as_slice() == expected.as_slice());
 }
 
 #[test]
 fn names(rt: HostRuntime) {
-    assert_eq!(rt; field_of(b"ip.src"), Some(Field::IpSrc));
-    assert_eq!(rt; field_of(b"ip.none"), None);
-    assert_eq!(rt; field_name(Field::TcpRes), "tcp.res");
+    assert!(rt; field_of(b"ip.src") == Some(Field::IpSrc));
+    assert!(rt; field_of(b"ip.none").is_none());
+    assert!(rt; field_name(Field::TcpRes) == "tcp.res");
+}
+
+fn is_datagram(packets: &[Packet]) -> bool {
+    match packets {
+        [packet] => packet.port == 3 && packet.bytes.as_slice() == DATAGRAM.as_slice(),
+        _ => false,
+    }
+}
+
+fn is_copied(alloc: Global) -> Result<bool, NoMemory> {
+    let bytes = Bytes::from_slice(alloc, &DATAGRAM)?;
+    let mut packets = Packets::new(alloc);
+    packets.push(Packet { port: 3, bytes })?;
+    let copy = packets.copy(alloc)?;
+    Ok(copy.len() == 1 && is_datagram(copy.as_slice()))
 }
 
 #[test]
 fn copies(rt: HostRuntime) -> Result<(), Fail> {
-    let alloc = rt.alloc();
-    let mut packets = Packets::new(alloc);
-    assert!(rt; packets.is_empty());
-    let bytes = Bytes::from_slice(alloc, &DATAGRAM)?;
-    packets.push(Packet { port: 3, bytes })?;
-    let copy = packets.copy(alloc)?;
-    assert_eq!(rt; copy.len(), 1);
-    assert_eq!(rt; copy.as_slice()[0].port, 3);
-    assert_eq!(rt; copy.as_slice()[0].bytes.as_slice(), DATAGRAM.as_slice());
+    assert!(rt; Packets::new(rt.alloc()).is_empty());
+    assert!(rt; is_copied(rt.alloc())?);
     Ok(())
 }

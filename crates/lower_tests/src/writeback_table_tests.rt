@@ -3,7 +3,6 @@ use crate::samples::{declared, values, widths};
 use gal_io::NoMemory;
 use state_store::{Kind, ObjectDecl, Row};
 use std::alloc::Global;
-use std::process::Abort;
 use std::test::Fail;
 use writeback_table::{Applied, Command, Pair, To, Update, Updates};
 
@@ -44,41 +43,43 @@ fn finds(pair: &Pair, bit: bool, row: &Row, key: &[u64], numbers: &[u64]) -> boo
     row.keys == values(key) && found.found && found.values == values(numbers)
 }
 
-// Lookups see these rows and no others where the bit is this.
-fn sees(
-    rt: &impl Abort,
-    alloc: Global,
-    pair: &Pair,
-    bit: bool,
-    wanted: Wanted,
-) -> Result<(), NoMemory> {
-    let rows = pair.rows(alloc, bit)?;
-    assert_eq!(rt; rows.len(), wanted.len());
-    for (row, (key, numbers)) in rows.as_slice().iter().zip(wanted) {
-        assert!(rt; finds(pair, bit, row, key, numbers));
-        assert!(rt; row.values == values(numbers));
+fn are_found(pair: &Pair, bit: bool, rows: &[Row], wanted: Wanted) -> bool {
+    let mut all = rows.len() == wanted.len();
+    for (row, (key, numbers)) in rows.iter().zip(wanted) {
+        all = all && finds(pair, bit, row, key, numbers) && row.values == values(numbers);
     }
-    Ok(())
+    all
 }
 
-fn lacks(rt: &impl Abort, pair: &Pair, bit: bool, key: &[u64]) {
+// Whether lookups see these rows and no others where the bit is this.
+fn sees(alloc: Global, pair: &Pair, bit: bool, wanted: Wanted) -> Result<bool, NoMemory> {
+    let rows = pair.rows(alloc, bit)?;
+    Ok(are_found(pair, bit, rows.as_slice(), wanted))
+}
+
+fn lacks(pair: &Pair, bit: bool, key: &[u64]) -> bool {
     let found = pair.look(bit, &values(key));
-    assert!(rt; !found.found);
-    assert!(rt; found.values == values(&[0]));
+    !found.found && found.values == values(&[0])
 }
 
-fn done(rt: &impl Abort, pair: &mut Pair, command: Command) {
-    assert_eq!(rt; pair.apply(&command), Applied::Done);
+fn is_done(pair: &mut Pair, command: &Command) -> bool {
+    pair.apply(command) == Applied::Done
 }
 
-fn no_room(rt: &impl Abort, pair: &mut Pair, command: Command) {
-    assert_eq!(rt; pair.apply(&command), Applied::NoRoom);
+fn has_no_room(pair: &mut Pair, command: &Command) -> bool {
+    pair.apply(command) == Applied::NoRoom
+}
+
+// A map of one row.
+fn map_of_one(alloc: Global, writeback: u32) -> Result<Pair, NoMemory> {
+    let declared = of_bytes(alloc, Kind::Map, 1, 1)?;
+    Pair::new(alloc, &declared, writeback)
 }
 
 // A map of one row, which is 1 -> 9.
-fn full_map(rt: &impl Abort, alloc: Global, writeback: u32) -> Result<Pair, NoMemory> {
-    let mut pair = Pair::new(alloc, &of_bytes(alloc, Kind::Map, 1, 1)?, writeback)?;
-    done(rt, &mut pair, Command::Main(put(&[1], 9)));
+fn full_map(alloc: Global, writeback: u32) -> Result<Pair, NoMemory> {
+    let mut pair = map_of_one(alloc, writeback)?;
+    let _ = pair.apply(&Command::Main(put(&[1], 9)));
     Ok(pair)
 }
 
@@ -100,95 +101,156 @@ fn command(i: usize) -> Command {
     }
 }
 
+// After each command the bit, the main table, and what is seen.
+const AFTER: [(bool, Wanted, Wanted); 8] = [
+    (false, ONE, ONE),
+    (false, ONE, ONE),
+    (true, ONE, TWO),
+    (true, &[], TWO),
+    (true, TWO, TWO),
+    (false, TWO, TWO),
+    (false, TWO, TWO),
+    (false, TWO, TWO),
+];
+
+// Whether the command of a row has this effect.
+fn is_seen_after(
+    alloc: Global,
+    pair: &mut Pair,
+    i: usize,
+    after: &(bool, Wanted, Wanted),
+) -> Result<bool, NoMemory> {
+    let (bit, main, seen) = *after;
+    let done = is_done(pair, &command(i));
+    Ok(done && sees(alloc, pair, false, main)? && sees(alloc, pair, bit, seen)?)
+}
+
+// The row of the first command that has another effect, or 8.
+fn first_missed(alloc: Global, pair: &mut Pair) -> Result<usize, NoMemory> {
+    for (i, after) in AFTER.iter().enumerate() {
+        if !is_seen_after(alloc, pair, i, after)? {
+            return Ok(i);
+        }
+    }
+    Ok(8)
+}
+
+// The row of the first command that has another effect, or 8; and whether nothing is staged any more.
+fn pass(alloc: Global) -> Result<(usize, bool), NoMemory> {
+    let mut pair = full_map(alloc, 2)?;
+    if !sees(alloc, &pair, false, ONE)? {
+        return Ok((0, false));
+    }
+    let missed = first_missed(alloc, &mut pair)?;
+    Ok((
+        missed,
+        sees(alloc, &pair, true, TWO)? && lacks(&pair, true, &[1]),
+    ))
+}
+
 #[test]
 fn a_batch_is_seen_at_once(rt: HostRuntime) -> Result<(), Fail> {
-    let alloc = rt.alloc();
-    let mut pair = full_map(&rt, alloc, 2)?;
-    // after each command the bit, the main table, and what is seen
-    let after: [(bool, Wanted, Wanted); 8] = [
-        (false, ONE, ONE),
-        (false, ONE, ONE),
-        (true, ONE, TWO),
-        (true, &[], TWO),
-        (true, TWO, TWO),
-        (false, TWO, TWO),
-        (false, TWO, TWO),
-        (false, TWO, TWO),
-    ];
-    sees(&rt, alloc, &pair, false, ONE)?;
-    for (i, (bit, main, seen)) in after.iter().enumerate() {
-        done(&rt, &mut pair, command(i));
-        sees(&rt, alloc, &pair, false, main)?;
-        sees(&rt, alloc, &pair, *bit, seen)?;
-    }
-    // nothing is staged any more
-    sees(&rt, alloc, &pair, true, TWO)?;
-    lacks(&rt, &pair, true, &[1]);
+    assert!(rt; pass(rt.alloc())? == (8, true));
     Ok(())
+}
+
+fn is_refused_when_full(alloc: Global, pair: &mut Pair) -> Result<bool, NoMemory> {
+    let no_room = has_no_room(pair, &Command::Main(put(&[2], 9)));
+    Ok(no_room && sees(alloc, pair, false, ONE)?)
+}
+
+fn is_staged_once(alloc: Global, pair: &mut Pair) -> Result<bool, NoMemory> {
+    let done = is_done(pair, &Command::Stage(gone(&[1])));
+    let no_room = has_no_room(pair, &Command::Stage(put(&[2], 9)));
+    Ok(done && no_room && sees(alloc, pair, true, &[])? && lacks(pair, true, &[1]))
+}
+
+// A key that is staged may be staged again.
+fn is_staged_again(alloc: Global, pair: &mut Pair) -> Result<bool, NoMemory> {
+    let done = is_done(pair, &Command::Stage(put(&[1], 7)));
+    Ok(done && sees(alloc, pair, true, &[(&[1], &[7])])? && sees(alloc, pair, false, ONE)?)
+}
+
+fn is_room_kept(alloc: Global) -> Result<bool, NoMemory> {
+    let mut pair = full_map(alloc, 1)?;
+    let refused = is_refused_when_full(alloc, &mut pair)?;
+    let once = is_staged_once(alloc, &mut pair)?;
+    let again = is_staged_again(alloc, &mut pair)?;
+    Ok(refused && once && again)
 }
 
 #[test]
 fn a_full_table_has_no_room(rt: HostRuntime) -> Result<(), Fail> {
-    let alloc = rt.alloc();
-    let mut pair = full_map(&rt, alloc, 1)?;
-    no_room(&rt, &mut pair, Command::Main(put(&[2], 9)));
-    sees(&rt, alloc, &pair, false, &[(&[1], &[9])])?;
-    done(&rt, &mut pair, Command::Stage(gone(&[1])));
-    no_room(&rt, &mut pair, Command::Stage(put(&[2], 9)));
-    sees(&rt, alloc, &pair, true, &[])?;
-    lacks(&rt, &pair, true, &[1]);
-    // a key that is staged may be staged again
-    done(&rt, &mut pair, Command::Stage(put(&[1], 7)));
-    sees(&rt, alloc, &pair, true, &[(&[1], &[7])])?;
-    sees(&rt, alloc, &pair, false, &[(&[1], &[9])])?;
+    assert!(rt; is_room_kept(rt.alloc())?);
     Ok(())
+}
+
+fn disturbs(command: &Command, clear_bit: bool, set_bit: bool) -> bool {
+    command.disturbs(false) == clear_bit && command.disturbs(true) == set_bit
 }
 
 #[test]
 fn two_commands_disturb_passes(rt: HostRuntime) {
-    let commands = [
-        (Command::Stage(put(&[1], 2)), false, true),
-        (Command::On, false, false),
-        (Command::Main(put(&[1], 2)), true, false),
-        (Command::Off, false, false),
-        (clear(&[1]), false, false),
-    ];
-    for (command, clear_bit, set_bit) in commands {
-        assert_eq!(rt; command.disturbs(false), clear_bit);
-        assert_eq!(rt; command.disturbs(true), set_bit);
-    }
+    assert!(rt; disturbs(&Command::Stage(put(&[1], 2)), false, true));
+    assert!(rt; disturbs(&Command::On, false, false));
+    assert!(rt; disturbs(&Command::Main(put(&[1], 2)), true, false));
+    assert!(rt; disturbs(&Command::Off, false, false));
+    assert!(rt; disturbs(&clear(&[1]), false, false));
+}
+
+fn is_vector_kept(alloc: Global) -> Result<bool, NoMemory> {
+    let declared = of_bytes(alloc, Kind::Vector, 1, 2)?;
+    let mut vector = Pair::new(alloc, &declared, 1)?;
+    let no_room = has_no_room(&mut vector, &Command::Main(put(&[2], 5)));
+    let done = is_done(&mut vector, &Command::Stage(put(&[1], 5)));
+    let staged = sees(alloc, &vector, true, &[(&[0], &[0]), (&[1], &[5])])?;
+    let main = sees(alloc, &vector, false, &[(&[0], &[0]), (&[1], &[0])])?;
+    Ok(no_room && done && staged && main)
+}
+
+// A number has the empty key, and a write-back table may have room for no row.
+fn is_number_kept(alloc: Global) -> Result<bool, NoMemory> {
+    let declared = of_bytes(alloc, Kind::Int, 0, 1)?;
+    let mut number = Pair::new(alloc, &declared, 0)?;
+    let no_room = has_no_room(&mut number, &Command::Stage(put(&[], 5)));
+    let done = is_done(&mut number, &Command::Main(put(&[], 6)));
+    Ok(no_room && done && sees(alloc, &number, true, &[(&[], &[6])])?)
 }
 
 #[test]
 fn vectors_and_numbers_have_tables(rt: HostRuntime) -> Result<(), Fail> {
-    let alloc = rt.alloc();
-    let mut vector = Pair::new(alloc, &of_bytes(alloc, Kind::Vector, 1, 2)?, 1)?;
-    no_room(&rt, &mut vector, Command::Main(put(&[2], 5)));
-    done(&rt, &mut vector, Command::Stage(put(&[1], 5)));
-    sees(&rt, alloc, &vector, true, &[(&[0], &[0]), (&[1], &[5])])?;
-    sees(&rt, alloc, &vector, false, &[(&[0], &[0]), (&[1], &[0])])?;
-    // a number has the empty key, and a write-back table may have room for no row
-    let mut number = Pair::new(alloc, &of_bytes(alloc, Kind::Int, 0, 1)?, 0)?;
-    no_room(&rt, &mut number, Command::Stage(put(&[], 5)));
-    done(&rt, &mut number, Command::Main(put(&[], 6)));
-    sees(&rt, alloc, &number, true, &[(&[], &[6])])?;
+    assert!(rt; is_vector_kept(rt.alloc())?);
+    assert!(rt; is_number_kept(rt.alloc())?);
     Ok(())
+}
+
+fn two_updates(alloc: Global) -> Result<Updates, NoMemory> {
+    let mut updates = Updates::new(alloc);
+    updates.push(gone(&[1]))?;
+    updates.push(put(&[2], 9))?;
+    Ok(updates)
+}
+
+fn are_done(pair: &mut Pair, updates: &[Update]) -> bool {
+    let mut all = updates.len() == 2;
+    for update in updates {
+        let done = is_done(pair, &Command::Main(*update));
+        all = all && update.object == OBJECT && done;
+    }
+    all
+}
+
+fn is_copy_done(alloc: Global) -> Result<bool, NoMemory> {
+    let updates = two_updates(alloc)?;
+    let copy = updates.copy(alloc)?;
+    let mut pair = map_of_one(alloc, 2)?;
+    let done = are_done(&mut pair, copy.as_slice());
+    Ok(copy.len() == 2 && done && sees(alloc, &pair, false, TWO)?)
 }
 
 #[test]
 fn copies_are_equal(rt: HostRuntime) -> Result<(), Fail> {
-    let alloc = rt.alloc();
-    let mut updates = Updates::new(alloc);
-    assert!(rt; updates.is_empty());
-    updates.push(gone(&[1]))?;
-    updates.push(put(&[2], 9))?;
-    let copy = updates.copy(alloc)?;
-    assert_eq!(rt; copy.len(), 2);
-    let mut pair = Pair::new(alloc, &of_bytes(alloc, Kind::Map, 1, 1)?, 2)?;
-    for update in copy.as_slice() {
-        assert_eq!(rt; update.object, OBJECT);
-        done(&rt, &mut pair, Command::Main(*update));
-    }
-    sees(&rt, alloc, &pair, false, &[(&[2], &[9])])?;
+    assert!(rt; Updates::new(rt.alloc()).is_empty());
+    assert!(rt; is_copy_done(rt.alloc())?);
     Ok(())
 }

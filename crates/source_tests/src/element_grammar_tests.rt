@@ -1,6 +1,7 @@
 //! Sources that are read, and sources that are refused.
 use crate::samples::parsed;
 use element_grammar::{At, ParseError, SurfaceStmt};
+use std::alloc::Global;
 use std::test::Fail;
 
 const ACCEPTED: [&[u8]; 14] = [
@@ -72,20 +73,46 @@ const REFUSED: [(&[u8], usize); 48] = [
     (b"map m (1) -> (1) capacity a; process { }", 5),
 ];
 
+fn is_accepted(alloc: Global, text: &[u8]) -> Result<bool, Fail> {
+    Ok(parsed(alloc, text)?.is_ok())
+}
+
+// The place of the first text that isn't accepted, or how many there are.
+fn first_not_accepted(alloc: Global) -> Result<usize, Fail> {
+    for (place, text) in ACCEPTED.iter().enumerate() {
+        if !is_accepted(alloc, text)? {
+            return Ok(place);
+        }
+    }
+    Ok(ACCEPTED.len())
+}
+
 #[test]
 fn accepted(rt: HostRuntime) -> Result<(), Fail> {
-    for text in ACCEPTED {
-        assert!(rt; parsed(rt.alloc(), text)?.is_ok(), "at {text:?}");
-    }
+    assert_eq!(rt; first_not_accepted(rt.alloc())?, 14);
     Ok(())
+}
+
+fn is_refused(alloc: Global, text: &[u8], left: usize) -> Result<bool, Fail> {
+    match parsed(alloc, text)? {
+        Ok(_) => Ok(false),
+        Err(error) => Ok(error == ParseError::Left(left)),
+    }
+}
+
+// The place of the first text that isn't refused so, or how many there are.
+fn first_not_refused(alloc: Global) -> Result<usize, Fail> {
+    for (place, (text, left)) in REFUSED.iter().enumerate() {
+        if !is_refused(alloc, text, *left)? {
+            return Ok(place);
+        }
+    }
+    Ok(REFUSED.len())
 }
 
 #[test]
 fn refused(rt: HostRuntime) -> Result<(), Fail> {
-    for (text, left) in REFUSED {
-        let error = parsed(rt.alloc(), text)?.err();
-        assert_eq!(rt; error, Some(ParseError::Left(left)), "at {text:?}");
-    }
+    assert_eq!(rt; first_not_refused(rt.alloc())?, 48);
     Ok(())
 }
 
@@ -99,26 +126,45 @@ fn blocks(body: &[At<SurfaceStmt>]) -> Option<(usize, usize, usize)> {
     }
 }
 
+const BRANCHES: [(&[u8], Option<(usize, usize, usize)>); 4] = [
+    (
+        b"process { if a { drop; send b; } drop; }",
+        Some((12, 2, 0)),
+    ),
+    (
+        b"process { if a { if b { } else { drop; } } }",
+        Some((14, 1, 0)),
+    ),
+    (
+        b"process { if a { if b { } } else { drop; drop; } }",
+        Some((16, 1, 2)),
+    ),
+    (b"process { drop; }", None),
+];
+
+fn has_blocks(
+    alloc: Global,
+    text: &[u8],
+    want: Option<(usize, usize, usize)>,
+) -> Result<bool, Fail> {
+    match parsed(alloc, text)? {
+        Ok(read) => Ok(blocks(read.body.as_slice()) == want),
+        Err(_) => Ok(false),
+    }
+}
+
+// The place of the first text that has other blocks, or how many there are.
+fn first_of_other_blocks(alloc: Global) -> Result<usize, Fail> {
+    for (place, (text, want)) in BRANCHES.iter().enumerate() {
+        if !has_blocks(alloc, text, *want)? {
+            return Ok(place);
+        }
+    }
+    Ok(BRANCHES.len())
+}
+
 #[test]
 fn branches(rt: HostRuntime) -> Result<(), Fail> {
-    let table: [(&[u8], Option<(usize, usize, usize)>); 4] = [
-        (
-            b"process { if a { drop; send b; } drop; }",
-            Some((12, 2, 0)),
-        ),
-        (
-            b"process { if a { if b { } else { drop; } } }",
-            Some((14, 1, 0)),
-        ),
-        (
-            b"process { if a { if b { } } else { drop; drop; } }",
-            Some((16, 1, 2)),
-        ),
-        (b"process { drop; }", None),
-    ];
-    for (text, want) in table {
-        let read = parsed(rt.alloc(), text)??;
-        assert_eq!(rt; blocks(read.body.as_slice()), want, "at {text:?}");
-    }
+    assert_eq!(rt; first_of_other_blocks(rt.alloc())?, 4);
     Ok(())
 }

@@ -4,11 +4,11 @@ ghost use Rattle.element_lang.specs.Rules.{is_good};
 ghost use Rattle.element_lang.specs.View.{tree};
 ghost use Rattle.packet_fields.specs.Sizes.{largest_packet};
 
-use element_interp::run_all;
+use element_interp::{SerialRun, run_all};
 use element_lang::Middlebox;
 use element_text::read;
 use gal_bits::Values;
-use gal_io::Bytes;
+use gal_io::{Bytes, NoMemory};
 use packet_fields::{Packet, Packets, Verdict};
 use state_store::Store;
 use std::alloc::Global;
@@ -39,19 +39,40 @@ fn run(alloc: Global, m: &Middlebox, packet: &[u8]) -> Result<Verdict, Fail>
     Ok(element_interp::run(alloc, m, &mut store, 0, packet)?)
 }
 
-#[test]
-fn fields_are_written(rt: HostRuntime) -> Result<(), Fail> {
-    let alloc = rt.alloc();
-    let middlebox = read(alloc, TO_PORT_53.as_bytes())?;
+// Whether a packet is sent by this port, with these bytes.
+fn is_sent(verdict: &Verdict, by: u8, wanted: &[u8]) -> bool {
+    match verdict {
+        Verdict::Send(port, bytes) => *port == by && bytes.as_slice() == wanted,
+        Verdict::Drop => false,
+    }
+}
+
+fn is_written(alloc: Global, m: &Middlebox) -> Result<bool, Fail>
+    requires { IsTrue (is_good (tree m.now)) }
+{
     let mut sent = DATAGRAM;
     sent[37] = 0x35;
     sent[41] = 0xff;
-    let Verdict::Send(port, bytes) = run(alloc, &middlebox, &DATAGRAM)? else {
-        return Err(Fail::from("dropped"));
-    };
-    assert_eq!(rt; port, 2);
-    assert_eq!(rt; bytes.as_slice(), sent.as_slice());
-    assert!(rt; matches!(run(alloc, &middlebox, &DATAGRAM[..34])?, Verdict::Drop));
+    let verdict = run(alloc, m, &DATAGRAM)?;
+    Ok(is_sent(&verdict, 2, &sent))
+}
+
+// Whether what has no UDP header is dropped.
+fn is_dropped(alloc: Global, m: &Middlebox) -> Result<bool, Fail>
+    requires { IsTrue (is_good (tree m.now)) }
+{
+    let verdict = run(alloc, m, &DATAGRAM[..34])?;
+    Ok(matches!(&verdict, Verdict::Drop))
+}
+
+fn goes_to_port_53(alloc: Global) -> Result<bool, Fail> {
+    let middlebox = read(alloc, TO_PORT_53.as_bytes())?;
+    Ok(is_written(alloc, &middlebox)? && is_dropped(alloc, &middlebox)?)
+}
+
+#[test]
+fn fields_are_written(rt: HostRuntime) -> Result<(), Fail> {
+    assert!(rt; goes_to_port_53(rt.alloc())?);
     Ok(())
 }
 
@@ -59,10 +80,8 @@ fn fields_are_written(rt: HostRuntime) -> Result<(), Fail> {
 const TWO_PORTS: &str = "map m (8) -> (1) capacity 2;
     process { put ok = m[meta.port] -> 1:1; if ok { send 1:8; } else { send 2:8; } }";
 
-#[test]
-fn packets_leave_what_the_next_one_finds(rt: HostRuntime) -> Result<(), Fail> {
-    let alloc = rt.alloc();
-    let middlebox = read(alloc, TWO_PORTS.as_bytes())?;
+// Empty packets, each from the port of its place.
+fn three_packets(alloc: Global) -> Result<Packets, NoMemory> {
     let mut packets = Packets::new(alloc);
     for port in [5, 6, 7] {
         packets.push(Packet {
@@ -70,16 +89,45 @@ fn packets_leave_what_the_next_one_finds(rt: HostRuntime) -> Result<(), Fail> {
             bytes: Bytes::new(alloc),
         })?;
     }
-    let served = run_all(alloc, &middlebox, packets.as_slice())?;
-    let sent = [1, 1, 2];
-    assert_eq!(rt; served.verdicts.len(), sent.len());
-    for (verdict, wanted) in served.verdicts.iter().zip(sent) {
-        assert!(rt; matches!(verdict, Verdict::Send(port, _) if *port == wanted));
+    Ok(packets)
+}
+
+fn are_sent(verdicts: &[Verdict], by: &[u8]) -> bool {
+    let mut all = verdicts.len() == by.len();
+    for (verdict, port) in verdicts.iter().zip(by) {
+        all = all && is_sent(verdict, *port, &[]);
     }
-    for (port, found) in [(5, true), (6, true), (7, false)] {
-        let mut key = Values::new();
-        key.push(port);
-        assert_eq!(rt; served.store.get(0, &key).found, found, "port {port}");
-    }
+    all
+}
+
+fn is_found(store: &Store, port: u64) -> bool {
+    let mut key = Values::new();
+    key.push(port);
+    store.get(0, &key).found
+}
+
+fn is_left(served: &SerialRun) -> bool {
+    are_sent(served.verdicts.as_slice(), &[1, 1, 2])
+        && is_found(&served.store, 5)
+        && is_found(&served.store, 6)
+        && !is_found(&served.store, 7)
+}
+
+fn serves_three(alloc: Global, m: &Middlebox) -> Result<bool, Fail>
+    requires { IsTrue (is_good (tree m.now)) }
+{
+    let packets = three_packets(alloc)?;
+    let served = run_all(alloc, m, packets.as_slice())?;
+    Ok(is_left(&served))
+}
+
+fn remembers_two(alloc: Global) -> Result<bool, Fail> {
+    let middlebox = read(alloc, TWO_PORTS.as_bytes())?;
+    serves_three(alloc, &middlebox)
+}
+
+#[test]
+fn packets_leave_what_the_next_one_finds(rt: HostRuntime) -> Result<(), Fail> {
+    assert!(rt; remembers_two(rt.alloc())?);
     Ok(())
 }

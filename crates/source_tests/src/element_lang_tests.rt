@@ -23,30 +23,41 @@ fn middlebox(alloc: Global) -> Result<Middlebox, Fail> {
     })
 }
 
-#[test]
-fn copied(rt: HostRuntime) -> Result<(), Fail> {
-    let alloc = rt.alloc();
-    let made = middlebox(alloc)?.copy(alloc)?;
-    assert_eq!(rt; made.objects.len(), 0);
-    assert_eq!(rt; made.locals.len(), 1);
-    assert_eq!(rt; made.locals.as_slice()[0].name.as_slice(), b"x".as_slice());
-    assert_eq!(rt; made.body.len(), 2);
-    assert!(rt;
-        matches!(
-            &made.body[0],
+fn is_body(body: &[Stmt]) -> bool {
+    matches!(
+        body,
+        [
             Stmt::Let {
                 local: 0,
                 value: Expr::Lit(7, _)
-            }
-        )
-    );
-    assert!(rt;
-        matches!(
-            &made.body[1],
+            },
             Stmt::Send {
                 port: Expr::Local(0)
             }
-        )
-    );
+        ]
+    )
+}
+
+fn are_locals(locals: &[Local]) -> bool {
+    match locals {
+        [local] => local.name.as_slice() == b"x".as_slice(),
+        _ => false,
+    }
+}
+
+fn is_copied(alloc: Global) -> Result<bool, Fail> {
+    let made = middlebox(alloc)?;
+    let copy = made.copy(alloc)?;
+    Ok(
+        copy.objects.len() == 0
+            && copy.locals.len() == 1
+            && are_locals(copy.locals.as_slice())
+            && is_body(&copy.body),
+    )
+}
+
+#[test]
+fn copied(rt: HostRuntime) -> Result<(), Fail> {
+    assert!(rt; is_copied(rt.alloc())?);
     Ok(())
 }

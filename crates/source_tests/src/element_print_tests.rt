@@ -8,7 +8,7 @@ use crate::samples::{BALANCER, TRANSLATOR};
 use element_lang::{Locals, Middlebox};
 use element_print::print;
 use element_text::read;
-use gal_io::Text;
+use gal_io::{NoMemory, Text};
 use state_store::Objects;
 use std::alloc::Global;
 use std::test::Fail;
@@ -48,28 +48,32 @@ const PRINTED_STATEMENTS: &str =
     put d = i [ ] -> cast ( 16 , c ) ; del e = m [ b ] ; if a { if d { drop ; } } else { send b ; } \
     repeat f 64 { b = b + 1 : 8 ; } ip.ttl = 64 : 8 ; }\n";
 
-#[test]
-fn each_construct(rt: HostRuntime) -> Result<(), Fail> {
-    let alloc = rt.alloc();
-    for (source, printed) in [
-        (EXPRESSIONS, PRINTED_EXPRESSIONS),
-        (STATEMENTS, PRINTED_STATEMENTS),
-    ] {
-        let middlebox = read(alloc, source.as_bytes())?;
-        assert_eq!(rt; text_of(alloc, &middlebox)?.as_slice(), printed.as_bytes());
-    }
-    Ok(())
+fn is_printed(alloc: Global, source: &str, printed: &str) -> Result<bool, Fail> {
+    let middlebox = read(alloc, source.as_bytes())?;
+    let text = text_of(alloc, &middlebox)?;
+    Ok(text.as_slice() == printed.as_bytes())
 }
 
 #[test]
-fn the_least_middlebox(rt: HostRuntime) -> Result<(), Fail> {
-    let alloc = rt.alloc();
-    let m = Middlebox {
+fn each_construct(rt: HostRuntime) -> Result<(), Fail> {
+    assert!(rt; is_printed(rt.alloc(), EXPRESSIONS, PRINTED_EXPRESSIONS)?);
+    assert!(rt; is_printed(rt.alloc(), STATEMENTS, PRINTED_STATEMENTS)?);
+    Ok(())
+}
+
+fn is_least_printed(alloc: Global) -> Result<bool, NoMemory> {
+    let least = Middlebox {
         objects: Objects::new(alloc),
         locals: Locals::new(alloc),
         body: Vec::new(alloc),
     };
-    assert_eq!(rt; print(alloc, &m)?.as_slice(), b"process { }\n".as_slice());
+    let text = print(alloc, &least)?;
+    Ok(text.as_slice() == b"process { }\n".as_slice())
+}
+
+#[test]
+fn the_least_middlebox(rt: HostRuntime) -> Result<(), Fail> {
+    assert!(rt; is_least_printed(rt.alloc())?);
     Ok(())
 }
 
@@ -84,11 +88,16 @@ fn is_read_back(alloc: Global, m: &Middlebox) -> Result<bool, Fail>
     Ok(text.len() > 0 && copy.as_slice() == text.as_slice())
 }
 
+fn is_source_read_back(alloc: Global, source: &str) -> Result<bool, Fail> {
+    let middlebox = read(alloc, source.as_bytes())?;
+    is_read_back(alloc, &middlebox)
+}
+
 #[test]
 fn read_back(rt: HostRuntime) -> Result<(), Fail> {
-    for source in [TRANSLATOR, BALANCER, EXPRESSIONS, STATEMENTS] {
-        let middlebox = read(rt.alloc(), source.as_bytes())?;
-        assert!(rt; is_read_back(rt.alloc(), &middlebox)?, "of {source}");
-    }
+    assert!(rt; is_source_read_back(rt.alloc(), TRANSLATOR)?);
+    assert!(rt; is_source_read_back(rt.alloc(), BALANCER)?);
+    assert!(rt; is_source_read_back(rt.alloc(), EXPRESSIONS)?);
+    assert!(rt; is_source_read_back(rt.alloc(), STATEMENTS)?);
     Ok(())
 }

@@ -33,7 +33,7 @@ const NUMBERS: [(&[u8], Option<u64>); 12] = [
 #[test]
 fn values(rt: HostRuntime) {
     for (bytes, want) in NUMBERS {
-        assert_eq!(rt; number(rt.alloc(), bytes), want, "at {bytes:?}");
+        assert!(rt; number(rt.alloc(), bytes) == want, "at {bytes:?}");
     }
 }
 
@@ -68,12 +68,19 @@ const PLACES: [(&[u8], &[usize]); 23] = [
     ),
 ];
 
+fn are_places(alloc: Global, text: &[u8], want: &[usize]) -> Result<bool, Fail> {
+    let found = tokens(alloc, text)?;
+    let mut all = found.len() == want.len();
+    for (placed, offset) in found.as_slice().iter().zip(want) {
+        all = all && placed.offset == *offset;
+    }
+    Ok(all)
+}
+
 #[test]
 fn places(rt: HostRuntime) -> Result<(), Fail> {
     for (text, want) in PLACES {
-        let found = tokens(rt.alloc(), text)?;
-        let offsets = found.iter().map(|placed| placed.offset);
-        assert!(rt; offsets.eq(want.iter().copied()), "at {text:?}");
+        assert!(rt; are_places(rt.alloc(), text, want)?, "at {text:?}");
     }
     Ok(())
 }
@@ -105,12 +112,16 @@ const REFUSALS: [(&[u8], usize); 24] = [
     (b"a\xc3\xa9", 1),
 ];
 
+fn is_refused(alloc: Global, text: &[u8], place: usize) -> bool {
+    match tokens(alloc, text) {
+        Ok(_) => false,
+        Err(error) => error == TokenError::NoToken(place),
+    }
+}
+
 #[test]
 fn refusals(rt: HostRuntime) {
     for (text, place) in REFUSALS {
-        match tokens(rt.alloc(), text) {
-            Ok(_) => assert!(rt; false, "tokens at {text:?}"),
-            Err(error) => assert_eq!(rt; error, TokenError::NoToken(place), "at {text:?}"),
-        }
+        assert!(rt; is_refused(rt.alloc(), text, place), "at {text:?}");
     }
 }

@@ -33,28 +33,32 @@ const GUARDED: &str = "# block 1 in 0 when 5.0 is 1
 # send 1.0 port 9.0
 ";
 
+fn flattened(alloc: Global, source: &str) -> Result<Result<Flat, FlatError>, Fail> {
+    let middlebox = read(alloc, source.as_bytes())?;
+    Ok(flatten(alloc, &middlebox))
+}
+
+fn is_listed(alloc: Global, source: &str, listing: &str) -> Result<bool, Fail> {
+    let f = flattened(alloc, source)??;
+    let text = print_flat(alloc, &f)?;
+    Ok(is_well_formed(&f) && text.as_slice() == listing.as_bytes())
+}
+
+const ADDING: &str =
+    "process { let a = meta.len + 1:16; let b = a + 1:16; let c = b + 1:16; send cast(8, c); }";
+
+const PUTTING: &str =
+    "map m (8) -> (8) capacity 4; process { if meta.port == 1:8 { put k = m[2:8] -> 3:8; } send 0:8; }";
+
 #[test]
 fn listings(rt: HostRuntime) -> Result<(), Fail> {
-    let alloc = rt.alloc();
-    for (source, listing) in [
-        (
-            "process { let a = meta.len + 1:16; let b = a + 1:16; let c = b + 1:16; send cast(8, c); }",
-            SUMS,
-        ),
-        (
-            "map m (8) -> (8) capacity 4; process { if meta.port == 1:8 { put k = m[2:8] -> 3:8; } send 0:8; }",
-            GUARDED,
-        ),
-    ] {
-        let f = flatten(alloc, &read(alloc, source.as_bytes())?)?;
-        assert!(rt; is_well_formed(&f));
-        assert_eq!(rt; print_flat(alloc, &f)?.as_slice(), listing.as_bytes());
-    }
+    assert!(rt; is_listed(rt.alloc(), ADDING, SUMS)?);
+    assert!(rt; is_listed(rt.alloc(), PUTTING, GUARDED)?);
     Ok(())
 }
 
 // Two instructions a turn: with the constants that come first these are 3 + 31 * 128 + 124 instructions.
-fn filled(alloc: Global, last: &str) -> Result<Result<Flat, FlatError>, Fail> {
+fn text_of(alloc: Global, last: &str) -> Result<String, Fail> {
     let mut text = String::from_str(alloc, "process { ")?;
     for _ in 0..31 {
         text.push_str("repeat i 64 { let a = 1:8; } ")?;
@@ -62,15 +66,20 @@ fn filled(alloc: Global, last: &str) -> Result<Result<Flat, FlatError>, Fail> {
     text.push_str("repeat i 62 { let a = 1:8; } ")?;
     text.push_str(last)?;
     text.push_str("}")?;
-    Ok(flatten(alloc, &read(alloc, text.as_bytes())?))
+    Ok(text)
+}
+
+// How many instructions such a source has.
+fn filled(alloc: Global, last: &str) -> Result<Result<usize, FlatError>, Fail> {
+    let text = text_of(alloc, last)?;
+    let flat = flattened(alloc, &text)?;
+    Ok(flat.map(|f| f.code.len()))
 }
 
 #[test]
 fn at_most_4096_instructions(rt: HostRuntime) -> Result<(), Fail> {
-    let alloc = rt.alloc();
-    let f = filled(alloc, "let z = 1:8; ")??;
-    assert_eq!(rt; f.code.len(), 4_096);
-    let refused = filled(alloc, "let z = 1:8; let y = 1:8; ")?;
-    assert_eq!(rt; refused.err(), Some(FlatError::TooLarge));
+    assert!(rt; filled(rt.alloc(), "let z = 1:8; ")? == Ok(4_096));
+    let more = filled(rt.alloc(), "let z = 1:8; let y = 1:8; ")?;
+    assert!(rt; more == Err(FlatError::TooLarge));
     Ok(())
 }

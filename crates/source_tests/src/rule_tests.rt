@@ -174,19 +174,19 @@ const ROWS: [(&str, Option<(u8, usize)>); 78] = [
     ("process { if 1:1 { drop; } else { } send 2:8; }", None),
 ];
 
-// The rule that a text breaks, and where, if it is refused for that.
-fn broken(alloc: Global, text: &str) -> Result<Option<(u8, usize)>, TextError> {
+// Whether a text breaks this rule at this place, or is read where there is none.
+fn is_broken(alloc: Global, text: &str, want: Option<(u8, usize)>) -> bool {
     match read(alloc, text.as_bytes()) {
-        Ok(_) => Ok(None),
-        Err(TextError::Rule { rule, offset }) => Ok(Some((rule, offset))),
-        Err(error) => Err(error),
+        Ok(_) => want.is_none(),
+        Err(TextError::Rule { rule, offset }) => want == Some((rule, offset)),
+        Err(_) => false,
     }
 }
 
 #[test]
 fn each_rule(rt: HostRuntime) {
     for (text, want) in ROWS {
-        assert_eq!(rt; broken(rt.alloc(), text), Ok(want), "at {text}");
+        assert!(rt; is_broken(rt.alloc(), text, want), "at {text}");
     }
 }
 
@@ -200,56 +200,82 @@ fn with_objects(alloc: Global, count: u32) -> Result<String, AllocError> {
     Ok(text)
 }
 
-// How a text is refused for a size.
-fn too_large(what: What, have: u64, allowed: u64) -> Option<TextError> {
-    Some(TextError::TooLarge {
-        what,
-        have,
-        allowed,
-    })
+fn is_refused(alloc: Global, text: &str, want: TextError) -> bool {
+    match read(alloc, text.as_bytes()) {
+        Ok(_) => false,
+        Err(error) => error == want,
+    }
+}
+
+fn are_objects_refused(alloc: Global, count: u32, want: TextError) -> Result<bool, AllocError> {
+    let text = with_objects(alloc, count)?;
+    Ok(is_refused(alloc, &text, want))
 }
 
 #[test]
-fn each_size(rt: HostRuntime) -> Result<(), Fail> {
-    let alloc = rt.alloc();
-    let objects = with_objects(alloc, 65)?;
-    let fewer = with_objects(alloc, 64)?;
-    let table: [(&str, Option<TextError>); 8] = [
-        (&objects, too_large(What::Objects, 65, 64)),
-        (
-            &fewer,
-            Some(TextError::Rule {
-                rule: 4,
-                offset: 1088,
-            }),
-        ),
-        (
-            "table t (8) -> (8) { (1:8) -> (2:8); } vector v length 1048575 -> (8); int n : 8 = 0; process { }",
-            None,
-        ),
-        (
-            "table t (8) -> (8) { (1:8) -> (2:8); } vector v length 1048576 -> (8); int n : 8 = 0; process { }",
-            too_large(What::Entries, 1_048_577, 1_048_576),
-        ),
-        (
-            "map m (8) -> (8) capacity 1; process { repeat i 31 { put a = m[1:8] -> 2:8; if 1:1 { } else { del b = m[1:8]; } } put c = m[1:8] -> 2:8; drop; }",
-            None,
-        ),
-        (
-            "map m (8) -> (8) capacity 1; process { repeat i 32 { put a = m[1:8] -> 2:8; if 1:1 { } else { del b = m[1:8]; } } put c = m[1:8] -> 2:8; drop; }",
-            too_large(What::Writes, 65, 64),
-        ),
-        (
-            "int n : 8 = 0; process { repeat i 64 { put a = n[] -> 1:8; } }",
-            None,
-        ),
-        (
-            "map m (8) -> (8) capacity 1048576; map n (8) -> (8) capacity 1; process { repeat i 64 { put a = m[1:8] -> 1:8; } put b = m[1:8] -> 1:8; }",
-            too_large(What::Entries, 1_048_577, 1_048_576),
-        ),
-    ];
-    for (text, want) in table {
-        assert_eq!(rt; read(alloc, text.as_bytes()).err(), want, "at {text}");
-    }
+fn sizes_of_objects(rt: HostRuntime) -> Result<(), Fail> {
+    let too_many = TextError::TooLarge {
+        what: What::Objects,
+        have: 65,
+        allowed: 64,
+    };
+    let too_wide = TextError::Rule {
+        rule: 4,
+        offset: 1088,
+    };
+    assert!(rt; are_objects_refused(rt.alloc(), 65, too_many)?);
+    assert!(rt; are_objects_refused(rt.alloc(), 64, too_wide)?);
     Ok(())
+}
+
+// How a text is refused for a size: what there is too much of, how much, and what is allowed.
+const SIZES: [(&str, Option<(What, u64, u64)>); 6] = [
+    (
+        "table t (8) -> (8) { (1:8) -> (2:8); } vector v length 1048575 -> (8); int n : 8 = 0; process { }",
+        None,
+    ),
+    (
+        "table t (8) -> (8) { (1:8) -> (2:8); } vector v length 1048576 -> (8); int n : 8 = 0; process { }",
+        Some((What::Entries, 1_048_577, 1_048_576)),
+    ),
+    (
+        "map m (8) -> (8) capacity 1; process { repeat i 31 { put a = m[1:8] -> 2:8; if 1:1 { } else { del b = m[1:8]; } } put c = m[1:8] -> 2:8; drop; }",
+        None,
+    ),
+    (
+        "map m (8) -> (8) capacity 1; process { repeat i 32 { put a = m[1:8] -> 2:8; if 1:1 { } else { del b = m[1:8]; } } put c = m[1:8] -> 2:8; drop; }",
+        Some((What::Writes, 65, 64)),
+    ),
+    (
+        "int n : 8 = 0; process { repeat i 64 { put a = n[] -> 1:8; } }",
+        None,
+    ),
+    (
+        "map m (8) -> (8) capacity 1048576; map n (8) -> (8) capacity 1; process { repeat i 64 { put a = m[1:8] -> 1:8; } put b = m[1:8] -> 1:8; }",
+        Some((What::Entries, 1_048_577, 1_048_576)),
+    ),
+];
+
+fn is_size(alloc: Global, text: &str, want: Option<(What, u64, u64)>) -> bool {
+    match want {
+        Some((what, have, allowed)) => {
+            is_refused(
+                alloc,
+                text,
+                TextError::TooLarge {
+                    what,
+                    have,
+                    allowed,
+                },
+            )
+        }
+        None => read(alloc, text.as_bytes()).is_ok(),
+    }
+}
+
+#[test]
+fn each_size(rt: HostRuntime) {
+    for (text, want) in SIZES {
+        assert!(rt; is_size(rt.alloc(), text, want), "at {text}");
+    }
 }

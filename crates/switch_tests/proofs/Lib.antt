@@ -1,3 +1,4 @@
 mod Kept
 mod Loaded
 mod Plain
+mod UnderWay

@@ -5,7 +5,7 @@ ghost use Rattle.state_store.specs.Kept.{IsKept};
 ghost use Rattle.state_store.specs.Store.{start_store};
 ghost use Rattle.switch_ir.specs.Code.{code_of};
 ghost use Rattle.switch_ir.specs.Emitted.{IsEmitted};
-ghost use Rattle.switch_ir.specs.Port.{IsLoaded, IsReplicatedIn};
+ghost use Rattle.switch_ir.specs.Port.{IsLoaded, IsReplicatedIn, HasNoUpPass, HasUpPass};
 ghost use Rattle.switch_ir.specs.UnderWay.{none_under_way};
 ghost use Rattle.switch_machine.specs.Machine.{seen_of};
 ghost use Rattle.switch_machine.specs.Views.{machine_of};
@@ -224,6 +224,101 @@ fn are_registers_taken(alloc: Global) -> Result<bool, Fail> {
 #[test]
 fn a_pass_takes_as_many_registers_as_it_needs_at_once(rt: HostRuntime) -> Result<(), Fail> {
     assert!(rt; are_registers_taken(rt.alloc())?);
+    Ok(())
+}
+
+// How the pass over packet 0 goes on: it is under way, or it ended, and left by port 17 or in another way.
+#[derive(Clone, Copy, Debug, PartialEq, Eq)]
+enum Turn {
+    Left,
+    By17,
+    Otherwise,
+}
+
+// Packet 0 arrives, whose pass is to go on stage by stage.
+#[tactic(auto, using(crate::proofs::Loaded::loaded_by))]
+fn enters(alloc: Global, code: &SwitchCode, port: &mut ModelSwitch) -> bool
+    requires code { (seen_of (machine_of port.old)).code ≡ Some (code_of code.now) }
+    requires none { HasNoUpPass (seen_of (machine_of port.old)) 0 }
+    ensures code { (seen_of (machine_of port.new)).code ≡ Some (code_of code.now) }
+    ensures pass { IsTrue result → HasUpPass (seen_of (machine_of port.new)) 0 }
+{
+    matches!(port.begin_up(alloc, 0, 3, &PACKET), UpEnd::Going)
+}
+
+// Its pass takes a stage.
+fn takes_stage(alloc: Global, code: &SwitchCode, port: &mut ModelSwitch) -> Turn
+    requires code { (seen_of (machine_of port.old)).code ≡ Some (code_of code.now) }
+    requires pass { HasUpPass (seen_of (machine_of port.old)) 0 }
+    ensures code { (seen_of (machine_of port.new)).code ≡ Some (code_of code.now) }
+    ensures pass { result ≡ Turn.Left → HasUpPass (seen_of (machine_of port.new)) 0 }
+{
+    match port.stage_up(alloc, 0) {
+        UpEnd::Going => Turn::Left,
+        UpEnd::Failed => Turn::Left,
+        UpEnd::NoMemory => Turn::Left,
+        UpEnd::Finished(Verdict::Send(17, bytes)) => {
+            if bytes.as_slice() == PACKET.as_slice() {
+                Turn::By17
+            } else {
+                Turn::Otherwise
+            }
+        }
+        _ => Turn::Otherwise,
+    }
+}
+
+// How many stages the pass takes until its packet leaves by port 17, counting those that failed; 9 where it doesn't.
+fn stages_taken(alloc: Global, code: &SwitchCode, port: &mut ModelSwitch) -> usize
+    requires code { (seen_of (machine_of port.old)).code ≡ Some (code_of code.now) }
+    requires pass { HasUpPass (seen_of (machine_of port.old)) 0 }
+{
+    for stage in 1..9usize {
+        match takes_stage(alloc, code, port) {
+            Turn::Left => {}
+            Turn::By17 => return stage,
+            Turn::Otherwise => return 9,
+        }
+    }
+    9
+}
+
+// The chain of sums stage by stage, where the second stage call may be planned to fail: how many stage calls there are,
+// and what the journal tells.
+fn takes_stages(
+    alloc: Global,
+    code: &SwitchCode,
+    fails: bool,
+    calls: usize,
+    told: &str,
+) -> Result<bool, Fail>
+    requires { IsEmitted (code_of code.now) }
+{
+    let mut port = ModelSwitch::new(alloc);
+    loaded(alloc, &mut port, code)?;
+    if fails {
+        port.fail_at(CallKind::StageUp, 2)?;
+    }
+    let entered = enters(alloc, code, &mut port);
+    Ok(
+        entered
+            && stages_taken(alloc, code, &mut port) == calls
+            && port.faults() == u64::from(fails)
+            && tells(port.journal(), told),
+    )
+}
+
+fn are_stages_taken(alloc: Global) -> Result<bool, Fail> {
+    let code = chain_code(alloc)?;
+    Ok(
+        takes_stages(alloc, &code, false, 4, "lbssss")?
+            && takes_stages(alloc, &code, true, 5, "lbsSsss")?,
+    )
+}
+
+#[test]
+fn a_pass_in_stages_answers_at_its_last_stage(rt: HostRuntime) -> Result<(), Fail> {
+    assert!(rt; are_stages_taken(rt.alloc())?);
     Ok(())
 }
 
