@@ -1,0 +1,188 @@
+//! An address translator that is split, and packets of its flows.
+ghost use Rattle.std.specs.Prelude.{◌≡◌, ◌≤◌, ◌<◌, length, IfOk};
+ghost use Rattle.flat_ir.specs.Kinds.{is_write};
+ghost use Rattle.flat_ir.specs.Program.{program_of, step_at};
+ghost use Rattle.run_model.specs.Sizes.{most_packets};
+ghost use Rattle.split_model.specs.Counts.{count_steps};
+ghost use Rattle.state_store.specs.Kept.{IsKept};
+ghost use Rattle.state_store.specs.Store.{start_store};
+ghost use Rattle.replayer_tests.specs.Ready.{IsReady};
+
+use element_interp::stores_are_kept;
+use element_text::read;
+use flat_ir::Flat;
+use flatten::flatten;
+use gal_io::Bytes;
+use packet_fields::{Packet, Packets};
+use partition::partition;
+use resource_limits::Limits;
+use run_model::Events;
+use schedule_replay::Job;
+use split_model::is_bounded;
+use std::alloc::Global;
+use std::test::Fail;
+
+// Port 0 is the inside, port 1 the outside, 192.0.2.1 the public address.
+const TRANSLATOR: &str = "map out (32, 16) -> (16) capacity 60000;
+map back (16) -> (32, 16) capacity 60000;
+int next : 16 = 1024;
+process {
+  if has.tcp == 0:1 { drop; }
+  if meta.port == 0:8 {
+    look f, p = out[ip.src, tcp.sport];
+    let q = p;
+    if f == 0:1 {
+      repeat i 1 {
+        look g, n = next[];
+        put a = out[ip.src, tcp.sport] -> n;
+        if a == 0:1 { drop; }
+        put b = back[n] -> ip.src, tcp.sport;
+        put c = next[] -> n + 1:16;
+        q = n;
+      }
+    }
+    ip.sum = adjust(adjust(ip.sum, cast(16, ip.src >> 16), 0xc000:16),
+                    cast(16, ip.src), 0x0201:16);
+    tcp.sum = adjust(adjust(adjust(tcp.sum, cast(16, ip.src >> 16), 0xc000:16),
+                    cast(16, ip.src), 0x0201:16), tcp.sport, q);
+    ip.src = 0xc0000201:32;
+    tcp.sport = q;
+    send 1:8;
+  }
+  if ip.dst != 0xc0000201:32 { drop; }
+  look h, da, dp = back[tcp.dport];
+  if h == 0:1 { drop; }
+  ip.sum = adjust(adjust(ip.sum, cast(16, ip.dst >> 16), cast(16, da >> 16)),
+                  cast(16, ip.dst), cast(16, da));
+  tcp.sum = adjust(adjust(adjust(tcp.sum, cast(16, ip.dst >> 16), cast(16, da >> 16)),
+                  cast(16, ip.dst), cast(16, da)), tcp.dport, dp);
+  ip.dst = da;
+  tcp.dport = dp;
+  send 0:8;
+}
+";
+
+const LIMITS: Limits = Limits {
+    table_bits: 100_000_000,
+    stages: 32,
+    writeback: 16,
+    transfer_bytes: 64,
+};
+
+// From 10.0.0.1 port 5000 to 198.51.100.7 port 80.
+const OUTGOING: [u8; 54] = [
+    0x02, 0, 0, 0, 0, 0x01, 0x02, 0, 0, 0, 0, 0x02, 0x08, 0, 0x45, 0, 0, 0x28, 0, 0x01, 0x40, 0,
+    0x40, 0x06, 0x06, 0x94, 10, 0, 0, 1, 198, 51, 100, 7, 0x13, 0x88, 0, 80, 0, 0, 0, 0, 0, 0, 0,
+    0, 0x50, 0x02, 0x20, 0, 0x47, 0xcf, 0, 0,
+];
+
+// From there to 192.0.2.1 port 1024.
+const REPLY: [u8; 54] = [
+    0x02, 0, 0, 0, 0, 0x01, 0x02, 0, 0, 0, 0, 0x02, 0x08, 0, 0x45, 0, 0, 0x28, 0, 0x02, 0x40, 0,
+    0x40, 0x06, 0x4e, 0x92, 198, 51, 100, 7, 192, 0, 2, 1, 0, 80, 0x04, 0, 0, 0, 0, 0, 0, 0, 0, 1,
+    0x50, 0x12, 0x20, 0, 0x9f, 0x45, 0, 0,
+];
+
+// The first packet of a flow from the inside.
+fn outgoing(alloc: Global, flow: u8) -> Result<Packet, Fail>
+    requires { flow < 8 }
+    ensures { IfOk result (λ packet. length packet.bytes ≡ 54) }
+{
+    let mut bytes = OUTGOING;
+    bytes[35] = 0x88 + flow;
+    bytes[51] = 0xcf - flow;
+    Ok(Packet {
+        port: 0,
+        bytes: Bytes::from_slice(alloc, &bytes)?,
+    })
+}
+
+// What answers it, to the port that the flow has outside.
+fn reply(alloc: Global, flow: u8) -> Result<Packet, Fail>
+    requires { flow < 8 }
+    ensures { IfOk result (λ packet. length packet.bytes ≡ 54) }
+{
+    let mut bytes = REPLY;
+    bytes[37] = flow;
+    bytes[51] = 0x45 - flow;
+    Ok(Packet {
+        port: 1,
+        bytes: Bytes::from_slice(alloc, &bytes)?,
+    })
+}
+
+/// So many packets of the first flow.
+pub(crate) fn one_flow(alloc: Global, count: usize) -> Result<Packets, Fail> {
+    let mut packets = Packets::new(alloc);
+    for _ in 0..count {
+        packets.push(outgoing(alloc, 0)?)?;
+    }
+    Ok(packets)
+}
+
+/// Eight flows in turn: four packets of each, and then four replies to each.
+pub(crate) fn eight_flows(alloc: Global) -> Result<Packets, Fail> {
+    let mut packets = Packets::new(alloc);
+    for number in 0..64u8 {
+        let flow = number % 8;
+        let packet = if number < 32 {
+            outgoing(alloc, flow)?
+        } else {
+            reply(alloc, flow)?
+        };
+        packets.push(packet)?;
+    }
+    Ok(packets)
+}
+
+// How many instructions change an object.
+fn changes(flat: &Flat) -> u32
+    requires { length (program_of flat.now).code ≤ 4096 }
+    ensures { result ≡ count_steps (program_of flat.now) (λ i. is_write (step_at (program_of flat.now) i).work) }
+{
+    let code = flat.code.as_slice();
+    let mut count = 0;
+    for number in 0..code.len() {
+        if code[number].kind.is_write() {
+            count += 1;
+        }
+    }
+    count
+}
+
+// A split that a replayer can begin with: with so few changes, a write-back table has a row for each.
+fn job_of(alloc: Global, flat: Flat, packets: Packets) -> Result<Job, Fail>
+    requires kept { IsKept (program_of flat).objects (start_store (program_of flat).objects) }
+    requires few { length packets ≤ most_packets }
+    ensures { IfOk result IsReady }
+{
+    if !is_bounded(&flat) {
+        return Err(Fail::from("not bounded"));
+    }
+    if changes(&flat) > LIMITS.writeback {
+        return Err(Fail::from("too many changes"));
+    }
+    let split = partition(alloc, &flat, &LIMITS, false)?;
+    Ok(Job {
+        flat,
+        split,
+        writeback: LIMITS.writeback,
+        packets,
+        fine: false,
+        events: Events::new(alloc),
+        drain: false,
+    })
+}
+
+/// The translator, with these packets, which are at most 64.
+pub(crate) fn job(alloc: Global, packets: Packets) -> Result<Job, Fail>
+    ensures { IfOk result IsReady }
+{
+    if packets.len() > 64 {
+        return Err(Fail::from("too many packets"));
+    }
+    stores_are_kept();
+    let middlebox = read(alloc, TRANSLATOR.as_bytes())?;
+    let flat = flatten(alloc, &middlebox)?;
+    job_of(alloc, flat, packets)
+}
