@@ -40,6 +40,13 @@ function countsOfStages() {
   ];
 }
 
+// The four numbers of each link.
+function countsOfLinks() {
+  return [...drawing.querySelectorAll(".facts div")].map((pair) => [...pair.children].map((part) => part.textContent))
+    .filter(([name]) => name.startsWith("link "))
+    .map(([name, told]) => `${name.replace(" ", "-")} ${told.replaceAll(",", "").match(/[0-9]+/g).join(" ")}`);
+}
+
 // What is said of texts that don't belong together.
 function countsOfStrangers() {
   const strangers = [...document.querySelectorAll(".stranger")].map((stranger) => stranger.textContent);
@@ -105,7 +112,7 @@ function writeCounts(name, milliseconds) {
   lines.push(`order ${[...drawing.querySelectorAll(".seat b")].map((seat) => seat.textContent).join(" ")}`);
   lines.push(`fields ${document.querySelectorAll(".fields input[type=file]").length}`,
     `links ${document.querySelectorAll("#examples:not([open]) .examples a").length}`);
-  lines.push(...countsOfStages(), ...countsOfSource(), ...countsOfNumbers(), ...countsOfHidden(),
+  lines.push(...countsOfStages(), ...countsOfLinks(), ...countsOfSource(), ...countsOfNumbers(), ...countsOfHidden(),
     ...countsOfStrangers());
   lines.push(`refusal ${document.getElementById("refusal").textContent}`, `milliseconds ${Math.round(milliseconds)}`);
   const counts = make("pre", "counts", `counts of ${name}\n${lines.join("\n")}\nend of counts\n`);

@@ -170,6 +170,9 @@ class RunDrawing {
       ["events", `${grouped(report.events)}, ${grouped(report.idle)} idle`],
       ["version", `${grouped(report.version)}, the switch shows ${grouped(report.visible)}`],
       ["drained", report.drained ? "yes" : "no"],
+      ...report.links.map(({ name, items, sent, delivered, known }) => [`link ${name}`,
+        `${counted(items, "item")}, ${counted(sent, "datagram")} sent, ${grouped(delivered)} delivered, ${
+          grouped(known)} known to be`]),
     ];
     const pairs = facts.map(([name, value]) => makeWith("div", "", [make("dt", "", name), make("dd", "", value)]));
     return [makeWith("dl", "facts", pairs)];
@@ -200,6 +203,10 @@ class RunDrawing {
   sourceOfDrawing() {
     const told = "The report tells when packets were admitted, decided and released, and their versions; so also when"
       + " the server made each version.";
+    if (this.report.links.length > 0) {
+      return `${told} It is that of the events which came through over links. Datagrams aren't drawn: which of them were`
+        + " lost, repeated or late is told by no line.";
+    }
     if (!this.schedule) {
       return `${told} It doesn't tell when an output was let go, nor when the switch showed a version: what packets saw`
         + " and when they left only bounds that. With the schedule beside it more can be derived.";

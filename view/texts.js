@@ -294,6 +294,21 @@ function readParts(reader, word) {
   return parts;
 }
 
+// The lines of the four links, which stand behind a report of `lossy` alone.
+function readLinks(reader) {
+  const links = [];
+  for (const name of ["up", "down", "ctl", "ack"]) {
+    const pattern = `link ${name} items ${NUMBER} sent ${NUMBER} delivered ${NUMBER} known ${NUMBER}`;
+    const told = reader.match(pattern) || (links.length > 0 ? reader.refuse(`the line of the link ${name}`) : null);
+    if (!told) {
+      break;
+    }
+    const [items, sent, delivered, known] = told.slice(1).map(Number);
+    links.push({ name, items, sent, delivered, known });
+  }
+  return links;
+}
+
 // The report of a replay.
 function readReport(text) {
   const reader = new LineReader(text, isSkipped);
@@ -314,9 +329,10 @@ function readReport(text) {
   const objects = readParts(reader, "object");
   const tables = readParts(reader, "switch");
   reader.take("end", "`end`");
+  const links = readLinks(reader);
   reader.end();
   return {
-    total, admitted, decided, released, drained, packets, objects, tables, packetsLine, versionLine, ...order,
+    total, admitted, decided, released, drained, packets, objects, tables, links, packetsLine, versionLine, ...order,
     events: Number(events[1]), idle: Number(events[2]), version: Number(versions[1]), visible: Number(versions[2]),
     lines: reader.lines,
   };
@@ -350,6 +366,9 @@ function readSchedule(text) {
   let drain = false;
   while (!reader.ended) {
     const line = reader.number;
+    if (reader.match("[xyz] .*")) {
+      throw new Refusal(line, "this is a schedule over links, and links aren't drawn: leave it out");
+    }
     const parts = reader.take(`(?:([acwk])|([uhds]) ${NUMBER}|(drain))`, "an event");
     if (drain) {
       throw new Refusal(line, "nothing may stand behind `drain`");
@@ -427,7 +446,7 @@ function kindOf(text) {
   if (/^(packet |object |end$)/.test(line)) {
     return "run";
   }
-  if (/^(a|c|w|k|fine|drain|[uhds] .*)$/.test(line)) {
+  if (/^(a|c|w|k|fine|drain|[uhdsxyz] .*)$/.test(line)) {
     return "schedule";
   }
   if (/^[0-9]+ /.test(line)) {

@@ -30,12 +30,12 @@ use Rattle.gallium_cli.specs.Call.{Call}
 use Rattle.gallium_cli.specs.Lines.{status_of, line_of}
 use Rattle.gallium_cli.specs.Words.{Request}
 use Rattle.gallium_cli.specs.Roles.{Role, source, program, limits, legal_split, true_report, wiring, trace, schedule}
-use Rattle.gallium_cli.specs.Roles.{capture, IsGood}
+use Rattle.gallium_cli.specs.Roles.{capture, link_schedule, IsGood}
 use Rattle.gallium_cli.specs.Roles.{size_of, IsBad, Gate, File, Choice, SplitFile, ReportFile, Composed}
 use Rattle.gallium_cli.specs.Roles.{gates_of}
 use Rattle.gallium_cli.specs.Splits.{IsBadSplit}
 use Rattle.gallium_cli.specs.Reports.{IsBadReport}
-use Rattle.gallium_cli.specs.Loads.{IsBadSource, IsLongProgram, AreBadLimits, IsBadTrace, IsBadSchedule, IsFileRefused}
+use Rattle.gallium_cli.specs.Loads.{IsBadSource, IsLongProgram, AreBadLimits, IsBadTrace, IsBadSchedule, IsBadLinkSchedule, IsFileRefused}
 use Rattle.gallium_cli.specs.Loads.{IsBadCapture, IsBadChain}
 use Rattle.gallium_cli.specs.Chains.{AreClasses, IsClassRefused, IsFirstClassRefused, IsUncomposed}
 use Rattle.gallium_cli.specs.Chains.{class_files, connected, uncomposed_of}
@@ -47,7 +47,7 @@ use Rattle.gallium_cli.proofs.Choices.{same_role, same_excess}
 use Rattle.gallium_cli.proofs.Unkept.{Laws, bad_split, cause_split, one_cause}
 use Rattle.gallium_cli.proofs.Untrue.{cause_report, same_report}
 use Rattle.gallium_cli.proofs.Walks.{walks, at_gates}
-use Rattle.gallium_cli.proofs.Exact.{no_limits, no_trace, no_schedule, open_refused, shut_unpassed, passed_unshut}
+use Rattle.gallium_cli.proofs.Exact.{no_limits, no_trace, no_link_schedule, no_schedule, open_refused, shut_unpassed, passed_unshut}
 use Rattle.gallium_cli.proofs.Exact.{answer_passed, failed_passed, unwritten_fault}
 use Rattle.gallium_cli.proofs.Exact.{good_class, good_classes, good_not_refused, told_good, classes_unshut}
 use Rattle.gallium_cli.proofs.Classes.{classes_good}
@@ -84,6 +84,7 @@ cause_is_bad laws (Split fault) (legal_split f allowed) text why = bad_split law
 cause_is_bad laws (Exceeded excess) (legal_split f allowed) text why = bad_split laws (Exceeded excess) f allowed text why
 cause_is_bad laws (Trace fault) trace text why = no_trace fault text why
 cause_is_bad laws (Schedule fault) schedule text why = no_schedule fault text why
+cause_is_bad laws (Schedule fault) link_schedule text why = no_link_schedule fault text why
 cause_is_bad laws (Pcap fault) capture text why = why.1
 cause_is_bad laws (Report number) (true_report m packets) text why = why.0
 cause_is_bad laws (Audit untruth) (true_report m packets) text why = why.0
@@ -137,6 +138,12 @@ same_in_schedule : (cause : Refusal) (found : LinesError) (text : List ℕ) → 
 same_in_schedule (Schedule fault) found text why bad =
     let one = why.1 in let other = bad.1 in let same : fault ≡ found = cc in ap Schedule same
 same_in_schedule _ found text why bad = absurd why
+
+same_in_link_schedule : (cause : Refusal) (found : LinesError) (text : List ℕ) → IsCause cause link_schedule text
+    → IsBadLinkSchedule found text → cause ≡ Schedule found
+same_in_link_schedule (Schedule fault) found text why bad =
+    let one = why.1 in let other = bad.1 in let same : fault ≡ found = cc in ap Schedule same
+same_in_link_schedule _ found text why bad = absurd why
 
 same_in_capture : (cause : Refusal) (found : PcapError) (text : List ℕ) → IsCause cause capture text
     → IsBadCapture found text → cause ≡ Pcap found
@@ -194,6 +201,10 @@ cause_file (Trace found) trace name cause result f f' e e' laws why refused told
 cause_file (Schedule found) schedule name cause result f f' e e' laws why refused told =
     let same = same_told (IsBadSchedule found) cause (Schedule found) schedule (same_in_schedule cause found) (f.told name) why refused.1 in
     line_of_cause (Schedule found) cause result e e' same told
+cause_file (Schedule found) link_schedule name cause result f f' e e' laws why refused told =
+    let same =
+    same_told (IsBadLinkSchedule found) cause (Schedule found) link_schedule (same_in_link_schedule cause found) (f.told name) why refused.1 in
+    line_of_cause (Schedule found) cause result e e' same told
 cause_file (Pcap found) capture name cause result f f' e e' laws why refused told =
     let same = same_told (IsBadCapture found) cause (Pcap found) capture (same_in_capture cause found) (f.told name) why refused.1 in
     line_of_cause (Pcap found) cause result e e' same told
@@ -230,6 +241,7 @@ cause_status laws (Split fault) (legal_split f allowed) text why = cause_split l
 cause_status laws (Exceeded excess) (legal_split f allowed) text why = cause_split laws (Exceeded excess) f allowed text why
 cause_status laws (Trace fault) trace text why = refl
 cause_status laws (Schedule fault) schedule text why = refl
+cause_status laws (Schedule fault) link_schedule text why = refl
 cause_status laws (Pcap fault) capture text why = refl
 cause_status laws (Report number) (true_report m packets) text why = cause_report (Report number) m packets text why.1
 cause_status laws (Audit untruth) (true_report m packets) text why = cause_report (Audit untruth) m packets text why.1

@@ -1,5 +1,5 @@
 -- What the chain of a file comes to.
-use Rattle.std.proofs.Common.{◌≡◌, ◌≢◌, ◌≤◌, ◌<◌, ◌+◌, ◌^◌, ◌⊎◌, ℕ, List, [], ◌∷◌, length, map, IsTrue, Option, Some, IfSome}
+use Rattle.std.proofs.Common.{◌≡◌, ◌≢◌, ◌≤◌, ◌<◌, ◌+◌, ◌^◌, ◌⊎◌, ℕ, List, [], ◌∷◌, length, IsTrue, Some, IfSome}
 use Rattle.std.proofs.Common.{inl, inr, refl, sym, ap, subst, ◌∙◌, arith}
 use Rattle.gal_io.specs.Files.{FilesState}
 use Rattle.gal_io.specs.Sink.{SinkState}
@@ -38,9 +38,9 @@ use Rattle.gallium_cli.specs.Words.{Chain}
 use Rattle.gallium_cli.specs.Roles.{source, wiring, size_of, gates_of}
 use Rattle.gallium_cli.specs.Loads.{GoesOn, IsFileRefused, IsUnread, raised_by}
 use Rattle.gallium_cli.specs.Chains.{AreClasses, IsFirstClassRefused, IsOneSource, IsUncomposed, IsWired}
-use Rattle.gallium_cli.specs.Chains.{AreAllNames, AreNames, class_files, class_refusal, connected, uncomposed_of}
+use Rattle.gallium_cli.specs.Chains.{class_files, class_refusal, connected, uncomposed_of}
 use Rattle.gallium_cli.specs.Answers.{IsAnswer}
-use Rattle.gallium_cli.specs.Causes.{CountsFaults, HasCause, IsFirstRefused, ReadsAll, ReadsSome, reads_after}
+use Rattle.gallium_cli.specs.Causes.{CountsFaults, HasCause, IsFirstRefused, ReadsAll, reads_after}
 use Rattle.gallium_cli.proofs.Counted.{IsNoFileFault, gate_counts, goes_further, goes_still}
 use Rattle.gallium_cli.proofs.Files.{classes_before, first_class_later, passed_wiring}
 use Rattle.gallium_cli.proofs.Written.{gate_cause}

@@ -1,9 +1,8 @@
 -- Which status told files and limits lead to.
 use Rattle.std.proofs.Common.{◌≡◌, ◌<◌, ℕ, List, [], ◌∷◌, length, Option, Some, None, IfSome, IsSomeAnd, subst, sym}
-use Rattle.std.proofs.Common.{inl, inr, arith, refl, ap, ◌∙◌, ◌≤◌, zero, suc, Bool, true, false, map, slice_get}
-use Rattle.std.specs.Prelude.{◌⊎◌, filter, not, if◌then◌else◌}
+use Rattle.std.proofs.Common.{inl, inr, arith, refl, ap, ◌∙◌, ◌≤◌, suc, false, slice_get}
+use Rattle.std.specs.Prelude.{◌⊎◌}
 use Rattle.std.specs.List.{AllByRecursion as Each}
-use Rattle.std.specs.Str.{bytes_eq}
 use Rattle.element_lang.specs.Accepted.{IsSource}
 use Rattle.element_chain.specs.declared.chain.Chain.{Chain as ChainTold}
 use Rattle.element_chain.specs.declared.chain.Element.{Element}
@@ -35,21 +34,21 @@ use Rattle.gallium_cli.specs.declared.refusal.Refusal.TheVariants.{ClassSource, 
 use Rattle.gallium_cli.specs.declared.refusal.Refusal.TheVariants as refusals
 use Rattle.gallium_cli.specs.Call.{Call, Work}
 use Rattle.gallium_cli.specs.Lines.{status_of}
-use Rattle.gallium_cli.specs.Words.{Request, Run, Compile, Replay, Check, Audit as Audited, Chain as Chained, Gen, PcapIn}
+use Rattle.gallium_cli.specs.Words.{Request, Run, Compile, Replay, Lossy, Check, Audit as Audited, Chain as Chained, Gen, PcapIn}
 use Rattle.gallium_cli.specs.Words.{PcapOut}
 use Rattle.gallium_cli.specs.Words.{Within, Spelled}
 use Rattle.gallium_cli.specs.Roles.{Role, source, program, limits, legal_split, true_report, wiring, trace, schedule}
-use Rattle.gallium_cli.specs.Roles.{capture, IsOnlySource}
+use Rattle.gallium_cli.specs.Roles.{capture, link_schedule, IsOnlySource}
 use Rattle.gallium_cli.specs.Roles.{size_of, IsGood, IsBad, Gate, File, Choice, SplitFile, ReportFile, Composed}
 use Rattle.gallium_cli.specs.Roles.{gates_of}
-use Rattle.gallium_cli.specs.Roles.{split_gates, event_gates}
+use Rattle.gallium_cli.specs.Roles.{split_gates, event_gates, link_gates}
 use Rattle.gallium_cli.specs.Splits.{IsBadSplit}
 use Rattle.gallium_cli.specs.Reports.{IsBadReport}
 use Rattle.gallium_cli.specs.Answers.{IsAnswer}
-use Rattle.gallium_cli.specs.Loads.{IsFileRefused, IsBadSource, IsLongProgram, AreBadLimits, IsBadTrace, IsBadSchedule}
+use Rattle.gallium_cli.specs.Loads.{IsFileRefused, IsBadSource, IsLongProgram, AreBadLimits, IsBadTrace, IsBadSchedule, IsBadLinkSchedule}
 use Rattle.gallium_cli.specs.Loads.{IsBadCapture, IsBadChain}
 use Rattle.gallium_cli.specs.Chains.{AreClasses, IsClassRefused, IsFirstClassRefused, IsUncomposed, IsWired}
-use Rattle.gallium_cli.specs.Chains.{class_files, connected, file_of, firsts}
+use Rattle.gallium_cli.specs.Chains.{class_files, connected, file_of}
 use Rattle.gallium_cli.specs.Causes.{IsRefusedAt, IsPassed, AllPassed, IsFirstRefused, IsSwitchFaulty, IsNotWritten, after_line}
 use Rattle.gallium_cli.specs.Causes.{IsTold, EndsFor}
 use Rattle.gallium_cli.specs.Promises.{IsWriteFault, IsEarlyFault, IsFault, IsUnlessEarlyFault, IsUnlessFault, IsStatusOf}
@@ -60,7 +59,7 @@ use Rattle.gallium_cli.proofs.Unkept.{Laws, bad_split, exact_split}
 use Rattle.gallium_cli.proofs.Untrue.{exact_report, same_report}
 use Rattle.gallium_cli.proofs.Classes.{classes_good, each_class_file, same_place}
 use Rattle.gallium_cli.proofs.Walks.{walks}
-use Rattle.gallium_cli.proofs.Files.{passed_source, passed_trace, passed_capture, split_passed, traffic_passed}
+use Rattle.gallium_cli.proofs.Files.{passed_source, passed_trace, passed_capture, split_passed, traffic_passed, link_traffic_passed}
 use Rattle.gallium_cli.proofs.Files.{passed_both, audit_passed}
 
 -- ## One file
@@ -95,6 +94,9 @@ no_trace fault text bad = (bad.0, λ spelled. let ok = spelled.1 in let err = ba
 pub no_schedule : (fault : LinesError) (text : List ℕ) → IsBadSchedule fault text → IsBad schedule text
 no_schedule fault text bad = (bad.0, λ spelled. let ok = spelled.1 in let err = bad.1 in cc)
 
+pub no_link_schedule : (fault : LinesError) (text : List ℕ) → IsBadLinkSchedule fault text → IsBad link_schedule text
+no_link_schedule fault text bad = (bad.0, λ spelled. let ok = spelled.1 in let err = bad.1 in cc)
+
 -- what holds of a content where it is told
 if_told : (P Q : List ℕ → Type 0) → ((text : List ℕ) → P text → Q text) → (told : Option (List ℕ))
     → IfSome told P → IfSome told Q
@@ -120,6 +122,10 @@ bad_trace fault told = if_told (IsBadTrace fault) (IsBad trace) (no_trace fault)
 bad_schedule : (fault : LinesError) (told : Option (List ℕ)) → IfSome told (IsBadSchedule fault)
     → IfSome told (IsBad schedule)
 bad_schedule fault told = if_told (IsBadSchedule fault) (IsBad schedule) (no_schedule fault) told
+
+bad_link_schedule : (fault : LinesError) (told : Option (List ℕ)) → IfSome told (IsBadLinkSchedule fault)
+    → IfSome told (IsBad link_schedule)
+bad_link_schedule fault told = if_told (IsBadLinkSchedule fault) (IsBad link_schedule) (no_link_schedule fault) told
 
 bad_capture : (fault : PcapError) (told : Option (List ℕ)) → IfSome told (IsBadCapture fault)
     → IfSome told (IsBad capture)
@@ -159,6 +165,8 @@ good_refused (Trace fault) trace name f f' laws good refused =
     good_not_bad trace (f.told name) good (bad_trace fault (f.told name) refused.1)
 good_refused (Schedule fault) schedule name f f' laws good refused =
     good_not_bad schedule (f.told name) good (bad_schedule fault (f.told name) refused.1)
+good_refused (Schedule fault) link_schedule name f f' laws good refused =
+    good_not_bad link_schedule (f.told name) good (bad_link_schedule fault (f.told name) refused.1)
 good_refused (Pcap fault) capture name f f' laws good refused =
     good_not_bad capture (f.told name) good (bad_capture fault (f.told name) refused.1)
 good_refused (Report number) (true_report m packets) name f f' laws good refused =
@@ -205,6 +213,8 @@ exact_file (Trace fault) trace name status f f' laws bad refused =
     inl (sym (bad_only trace status (f.told name) bad (bad_trace fault (f.told name) refused.1)).1)
 exact_file (Schedule fault) schedule name status f f' laws bad refused =
     inl (sym (bad_only schedule status (f.told name) bad (bad_schedule fault (f.told name) refused.1)).1)
+exact_file (Schedule fault) link_schedule name status f f' laws bad refused =
+    inl (sym (bad_only link_schedule status (f.told name) bad (bad_link_schedule fault (f.told name) refused.1)).1)
 exact_file (Pcap fault) capture name status f f' laws bad refused =
     inl (sym (bad_only capture status (f.told name) bad (bad_capture fault (f.told name) refused.1)).1)
 exact_file (Report number) (true_report m packets) name status f f' laws bad refused =
@@ -471,6 +481,9 @@ answer_passed text (Compile s l shrink) f p p' (m, split, writeback, found, prin
 answer_passed text (Replay s t c by) f p p' (m, split, writeback, packets, plan, replayed, found, traffic, report) =
     passed_both (split_gates s by) (event_gates t c) f (split_passed by s f m split writeback found)
     (traffic_passed f t c packets plan traffic)
+answer_passed text (Lossy s t c l) f p p' (m, split, writeback, packets, events, run, found, traffic, report) =
+    passed_both (split_gates s (Within l false)) (link_gates t c) f (split_passed (Within l false) s f m split writeback found)
+    (link_traffic_passed f t c packets events traffic)
 answer_passed text (Check s l split) f p p' (m, parts, writeback, found, printed) =
     split_passed (Spelled l split) s f m parts writeback found
 answer_passed text (Audited s t r) f p p' (m, packets, run, found, told, printed) =

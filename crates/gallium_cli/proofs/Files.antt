@@ -19,6 +19,8 @@ use Rattle.resource_limits.specs.declared.limits.Limits.{Limits as Allowed}
 use Rattle.run_model.specs.declared.run.Run.{Run as RunTold}
 use Rattle.report_text.specs.Lines.{IsReport}
 use Rattle.run_text.specs.declared.plan.Plan.{Plan}
+use Rattle.run_model.specs.declared.link_event.LinkEvent.{LinkEvent}
+use Rattle.run_text.specs.LinkSchedule.{link_schedule_of}
 use Rattle.run_text.specs.Trace.{trace_of, schedule_of}
 use Rattle.pcap_trace.specs.declared.pcap.Pcap.{Pcap as Captured}
 use Rattle.gallium_cli.specs.declared.status.Status.TheVariants as statuses
@@ -28,10 +30,11 @@ use Rattle.gallium_cli.specs.declared.refusal.Refusal.TheVariants.{TooLong, Read
 use Rattle.gallium_cli.specs.declared.refusal.Refusal.TheVariants.{Chain, ClassSource, ClassTooLong, ClassReadFault}
 use Rattle.gallium_cli.specs.Words.{Splitting, ServerAlone, Within, Spelled, Run, Audit as Audited}
 use Rattle.gallium_cli.specs.Roles.{Role, source, program, limits, legal_split, true_report, wiring, trace, schedule}
-use Rattle.gallium_cli.specs.Roles.{capture}
+use Rattle.gallium_cli.specs.Links.{IsLinkTraffic}
+use Rattle.gallium_cli.specs.Roles.{capture, link_schedule}
 use Rattle.gallium_cli.specs.Roles.{IsShort, IsGood, AreLimits, Gate, File, Choice, SplitFile, ReportFile, Composed}
 use Rattle.gallium_cli.specs.Roles.{gates_of}
-use Rattle.gallium_cli.specs.Roles.{plan_files, plan_gates, given_gates, split_gates, event_gates, size_of, IsCaptured}
+use Rattle.gallium_cli.specs.Roles.{plan_files, plan_gates, given_gates, split_gates, event_gates, link_gates, size_of, IsCaptured}
 use Rattle.gallium_cli.specs.Roles.{IsOnlySource}
 use Rattle.gallium_cli.specs.Answers.{IsInput, IsProgram, IsPlan, IsGivenSplit, IsSplitBy, IsTraffic}
 use Rattle.gallium_cli.specs.Answers.{IsAuditInput, IsTrueFile}
@@ -52,6 +55,7 @@ small_size (true_report m packets) = omega arith
 small_size wiring = omega arith
 small_size trace = omega arith
 small_size schedule = omega arith
+small_size link_schedule = omega arith
 small_size capture = omega arith
 
 -- what the bytes that were read spell, the told content spells
@@ -78,6 +82,8 @@ unread_refused (Exceeded excess) (legal_split g allowed) bytes name f f' loaded 
 unread_refused (Trace fault) trace bytes name f f' loaded unread =
     (unread.0, told_text _ bytes (f.told name) loaded.1 (loaded.0, unread.1))
 unread_refused (Schedule fault) schedule bytes name f f' loaded unread =
+    (unread.0, told_text _ bytes (f.told name) loaded.1 (loaded.0, unread.1))
+unread_refused (Schedule fault) link_schedule bytes name f f' loaded unread =
     (unread.0, told_text _ bytes (f.told name) loaded.1 (loaded.0, unread.1))
 unread_refused (Pcap fault) capture bytes name f f' loaded unread =
     (unread.0, told_text _ bytes (f.told name) loaded.1 ((loaded.0, unread.1), unread.2))
@@ -141,6 +147,13 @@ passed_schedule c f plan spelled =
     if_spelled (λ text. (length text ≤ size_of schedule) × (schedule_of text ≡ Ok plan)) (IsGood schedule) (f.told c)
     (λ text h. (h.0, (plan, h.1))) spelled
 
+pub passed_link_schedule : (c : List ℕ) (f : FilesState) (events : List LinkEvent)
+    → IfSome (f.told c) (λ text. (length text ≤ size_of link_schedule) × (link_schedule_of text ≡ Ok events))
+    → IsPassed (File c link_schedule) f
+passed_link_schedule c f events spelled =
+    if_spelled (λ text. (length text ≤ size_of link_schedule) × (link_schedule_of text ≡ Ok events)) (IsGood link_schedule) (f.told c)
+    (λ text h. (h.0, (events, h.1))) spelled
+
 pub passed_capture : (c : List ℕ) (f : FilesState) (p : Captured)
     → IfSome (f.told c) (λ bytes. (length bytes ≤ size_of capture) × IsCaptured bytes p) → IsPassed (File c capture) f
 passed_capture c f p spelled =
@@ -181,6 +194,7 @@ refused_later (Split fault) (legal_split k allowed) name f g h goes refused = to
 refused_later (Exceeded excess) (legal_split k allowed) name f g h goes refused = told_before _ f g name goes refused
 refused_later (Trace fault) trace name f g h goes refused = (refused.0, told_before _ f g name goes refused.1)
 refused_later (Schedule fault) schedule name f g h goes refused = (refused.0, told_before _ f g name goes refused.1)
+refused_later (Schedule fault) link_schedule name f g h goes refused = (refused.0, told_before _ f g name goes refused.1)
 refused_later (Pcap fault) capture name f g h goes refused = (refused.0, told_before _ f g name goes refused.1)
 refused_later (Report number) (true_report m packets) name f g h goes refused = told_before _ f g name goes refused
 refused_later (Audit untruth) (true_report m packets) name f g h goes refused = told_before _ f g name goes refused
@@ -335,6 +349,12 @@ pub schedule_refused : (refusal : Refusal) (t c : List ℕ) (f g h : FilesState)
 schedule_refused refusal t c f g h packets one goes refused =
     inr (passed_trace t f packets one, inl (refused_later refusal schedule c f g h goes refused))
 
+pub link_schedule_refused : (refusal : Refusal) (t c : List ℕ) (f g h : FilesState) (packets : List Packet)
+    → IfSome (f.told t) (λ text. (length text ≤ size_of trace) × (trace_of text ≡ Ok packets)) → GoesOn statuses.Done f g
+    → IsFileRefused refusal link_schedule c g h → IsFirstRefused refusal (link_gates t c) f h
+link_schedule_refused refusal t c f g h packets one goes refused =
+    inr (passed_trace t f packets one, inl (refused_later refusal link_schedule c f g h goes refused))
+
 -- the files of a plan are passed, and its choice
 pub plan_files_passed : (s l : List ℕ) (f : FilesState) (m : Tree) (allowed : Allowed) → IsPlan f.told s l m allowed
     → AllPassed (File s program ∷ (File l limits ∷ [])) f
@@ -467,3 +487,21 @@ pub traffic_passed : (f : FilesState) (t c : List ℕ) (packets : List Packet) (
     → IsTraffic f.told t c packets plan → AllPassed (event_gates t c) f
 traffic_passed f t c packets plan traffic =
     (passed_trace t f packets traffic.trace, (passed_schedule c f plan traffic.schedule, tt))
+
+-- so it is of a schedule over links
+pub link_traffic_told : (t c : List ℕ) (f g : FilesState) (packets : List Packet) (events : List LinkEvent)
+    → GoesOn statuses.Done f g → IfSome (f.told t) (λ text. (length text ≤ size_of trace) × (trace_of text ≡ Ok packets))
+    → IfSome (g.told c) (λ text. (length text ≤ size_of link_schedule) × (link_schedule_of text ≡ Ok events))
+    → IsLinkTraffic f.told t c packets events
+link_traffic_told t c f g packets events goes one two =
+    record { trace_is = one; schedule_is = told_before _ f g c goes two }
+
+pub link_traffic_before : (t c : List ℕ) (f g : FilesState) (packets : List Packet) (events : List LinkEvent)
+    → GoesOn statuses.Done f g → IsLinkTraffic g.told t c packets events → IsLinkTraffic f.told t c packets events
+link_traffic_before t c f g packets events goes two =
+    record { trace_is = told_before _ f g t goes two.trace_is; schedule_is = told_before _ f g c goes two.schedule_is }
+
+pub link_traffic_passed : (f : FilesState) (t c : List ℕ) (packets : List Packet) (events : List LinkEvent)
+    → IsLinkTraffic f.told t c packets events → AllPassed (link_gates t c) f
+link_traffic_passed f t c packets events traffic =
+    (passed_trace t f packets traffic.trace_is, (passed_link_schedule c f events traffic.schedule_is, tt))

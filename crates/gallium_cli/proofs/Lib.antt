@@ -1,6 +1,7 @@
 pub mod Bounds
 pub mod Declared
 pub mod Files
+pub mod OverLinks
 pub mod Counted
 pub mod Written
 pub mod Firsts

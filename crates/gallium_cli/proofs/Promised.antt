@@ -19,7 +19,7 @@ use Rattle.gallium_cli.specs.declared.refusal.Refusal.TheVariants.{Usage, Exceed
 use Rattle.gallium_cli.specs.declared.refusal.Refusal.TheVariants.{NoMemory, Report, Audit, ClassTooLong, ClassReadFault}
 use Rattle.gallium_cli.specs.Call.{Call, Work}
 use Rattle.gallium_cli.specs.Lines.{status_of}
-use Rattle.gallium_cli.specs.Words.{Request, Run, Compile, Replay, Check, Audit as Audited, Chain as Chained, Gen, PcapIn}
+use Rattle.gallium_cli.specs.Words.{Request, Run, Compile, Replay, Lossy, Check, Audit as Audited, Chain as Chained, Gen, PcapIn}
 use Rattle.gallium_cli.specs.Words.{PcapOut}
 use Rattle.gallium_cli.specs.Words.{ServerAlone, Within, Spelled, is_replay, request_of}
 use Rattle.gallium_cli.specs.Roles.{Role, source, trace, legal_split, true_report, Gate, File, Choice, SplitFile}
@@ -189,6 +189,7 @@ blames_one told (Compile s l shrink) blamed h = h
 blames_one told (Replay s t c ServerAlone) blamed h = h
 blames_one told (Replay s t c (Within l shrink)) blamed h = h
 blames_one told (Replay s t c (Spelled l p)) blamed h = h
+blames_one told (Lossy s t c l) blamed h = h
 blames_one told (Check s l p) blamed h = h
 blames_one told (Audited s t r) blamed h = h
 blames_one told (Chained w) blamed (inl is) = (w ∷ [], inl refl, inl is)
@@ -413,6 +414,7 @@ may_exceed refusal (Replay s t c (Within l false)) f f' is first = tt
 may_exceed refusal (Replay s t c (Within l true)) f f' is first =
     shrunk_unexceeded refusal (gates_of (Replay s t c (Within l true))) f f' (tt, (tt, (tt, (tt, tt)))) is first
 may_exceed refusal (Replay s t c (Spelled l p)) f f' is first = tt
+may_exceed refusal (Lossy s t c l) f f' is first = tt
 may_exceed refusal (Check s l p) f f' is first = tt
 may_exceed refusal (Audited s t r) f f' is first =
     shrunk_unexceeded refusal (gates_of (Audited s t r)) f f' (tt, (tt, tt)) is first

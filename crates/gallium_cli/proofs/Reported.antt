@@ -98,7 +98,7 @@ split_is_source m split writeback total packets fine keeps same good all = recor
 }
 
 -- where the run isn't fine, each pass before the server has ended
-has_passed : (m : Tree) (split : List Part) (writeback : ℕ) (packets : List Packet) (fine : Bool) (events : List Event)
+pub has_passed : (m : Tree) (split : List Part) (writeback : ℕ) (packets : List Packet) (fine : Bool) (events : List Event)
     (run : Run) → EndsAtOnce → fine ≡ false
     → (let x = given m split writeback packets fine in
     Promises x events run → (before behind : List Event) → events ≡ before ++ Admit ∷ behind
@@ -112,7 +112,7 @@ has_passed m split writeback packets fine events run at_once coarse promises bef
     ap (λ (r : Run). is_passing (slice_get r.fates n)) same ∙ at_once (setup_for x) (whole_runs x) before behind none there
 
 -- a port that tells the tables of which something holds
-told_there : (P : Told → Type 0) (told : Option Told) → ((tables : Told) × (told ≡ Some tables) × P tables)
+pub told_there : (P : Told → Type 0) (told : Option Told) → ((tables : Told) × (told ≡ Some tables) × P tables)
     → IsSomeAnd told P
 told_there P told found = subst (λ (x : Option Told). IsSomeAnd x P) (sym found.1) found.2
 

@@ -34,7 +34,7 @@ use Rattle.traffic_generator.specs.Summary.{summary_of}
 use Rattle.traffic_generator.specs.Translator.{translator_limits, translator_text}
 use Rattle.gallium_cli.specs.Lines.{line_end}
 use Rattle.gallium_cli.specs.Words.{Splitting, ServerAlone, Within, Spelled, is_replay}
-use Rattle.gallium_cli.specs.Words.{Request, Run, Compile, Replay, Check, Audit, Chain, Gen, PcapIn, PcapOut}
+use Rattle.gallium_cli.specs.Words.{Request, Run, Compile, Replay, Lossy, Check, Audit, Chain, Gen, PcapIn, PcapOut}
 use Rattle.gallium_cli.specs.Roles.{gates_of, split_gates, event_gates, names_of, split_reads}
 use Rattle.gallium_cli.specs.Answers.{IsAnswer, IsProgram, IsPlan, IsTraffic, IsChoice, IsNoChoice, IsGivenSplit}
 use Rattle.gallium_cli.specs.Answers.{IsSplitBy, IsReport, IsReplayed, given, heading_text, compiled_text, checked_text}
@@ -55,6 +55,7 @@ pub all_some : (request : Request) (f f' : FilesState) → ReadsAll request f f'
 all_some (Run s t) f f' read = at_most _ _ read
 all_some (Compile s l shrink) f f' read = at_most _ _ read
 all_some (Replay s t c by) f f' read = at_most _ _ read
+all_some (Lossy s t c l) f f' read = at_most _ _ read
 all_some (Check s l p) f f' read = at_most _ _ read
 all_some (Audit s t r) f f' read = at_most _ _ read
 all_some (Chain w) f f' (names, are, read) = (names, inr are, at_most _ _ read)
@@ -191,13 +192,13 @@ told_split f split writeback n counts words head list parts some all counted wor
 -- ## Replays
 
 -- files that are read after others
-reads_at_most : (a b x y z : ℕ) → y ≡ raised_by a x → z ≤ raised_by b y → z ≤ raised_by (a + b) x
+pub reads_at_most : (a b x y z : ℕ) → y ≡ raised_by a x → z ≤ raised_by b y → z ≤ raised_by (a + b) x
 reads_at_most a b x y z one two = omega arith
 
-more_reads : (a b x y : ℕ) → y ≤ raised_by a x → y ≤ raised_by (a + b) x
+pub more_reads : (a b x y : ℕ) → y ≤ raised_by a x → y ≤ raised_by (a + b) x
 more_reads a b x y few = omega arith
 
-reads_in_all : (a b x y z : ℕ) → y ≡ raised_by a x → z ≡ raised_by b y → z ≡ raised_by (a + b) x
+pub reads_in_all : (a b x y z : ℕ) → y ≡ raised_by a x → z ≡ raised_by b y → z ≡ raised_by (a + b) x
 reads_in_all a b x y z one two = omega arith
 
 -- the files of a replay are those of its split, and two more

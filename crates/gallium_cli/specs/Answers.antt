@@ -5,7 +5,6 @@ use Rattle.std.specs.List.{AllByRecursion as Each}
 use Rattle.packet_fields.specs.declared.packet.Packet.{Packet}
 use Rattle.state_store.specs.Store.{start_store}
 use Rattle.element_lang.specs.Tree.{Tree}
-use Rattle.element_lang.specs.Accepted.{IsSource}
 use Rattle.element_lang.specs.Meaning.{serial_store, serial_verdicts}
 use Rattle.flat_ir.specs.Arrivals.{IsArrival}
 use Rattle.flat_ir.specs.Program.{Program}
@@ -34,28 +33,32 @@ use Rattle.pcap_trace.specs.Packets.{packets_of, pcap_of}
 use Rattle.split_model.specs.Greatest.{IsGreatestSplit}
 use Rattle.run_model.specs.declared.event.Event.{Event}
 use Rattle.run_model.specs.declared.event.Event.TheVariants.{Admit}
+use Rattle.run_model.specs.declared.link_event.LinkEvent.{LinkEvent}
 use Rattle.run_model.specs.declared.run.Run.{Run as RunTold}
 use Rattle.run_model.specs.Parts.{parts_of}
 use Rattle.run_model.specs.Sizes.{most_events, most_packets}
-use Rattle.run_model.specs.Serialises.{Serialises, AllReleased, IsDrained, is_fast, is_passing}
+use Rattle.run_model.specs.Serialises.{Serialises, AllReleased, IsDrained, is_passing}
 use Rattle.switch_ir.specs.Port.{PortState}
 use Rattle.replay_state.specs.Drain.{is_quiet, plan_events}
-use Rattle.replay_state.specs.Program.{packet_at, manner_of}
-use Rattle.replay_state.specs.Run.{job_run, seen_store}
+use Rattle.replay_state.specs.Program.{manner_of}
+use Rattle.replay_state.specs.Run.{job_run}
 use Rattle.replay_state.specs.State.{State}
 use Rattle.replay_state.specs.Step.{applies}
 use Rattle.split_answers.specs.Through.{HasTables}
 use Rattle.replay_contracts.specs.declared.job.Replayed.{Replayed}
-use Rattle.replay_contracts.specs.Given.{Given, setup_for, whole, whole_runs}
+use Rattle.replay_contracts.specs.Given.{Given, setup_for, whole_runs}
 use Rattle.replay_contracts.specs.Promise.{state_for}
 use Rattle.replay_contracts.specs.Replayer.{IsReported}
+use Rattle.lossy_replay.specs.declared.run.LossyRun.{LossyRun}
 use Rattle.traffic_generator.specs.Packets.{packets_of as made_packets}
 use Rattle.traffic_generator.specs.Schedule.{events_of as made_events}
 use Rattle.traffic_generator.specs.Summary.{summary_of}
 use Rattle.traffic_generator.specs.Translator.{translator_limits, translator_text}
+use Rattle.gallium_cli.specs.Links.{IsLinkReport, IsLinkTraffic}
+use Rattle.gallium_cli.specs.Seen.{IsFastAsSeen}
 use Rattle.gallium_cli.specs.Words as words
 use Rattle.gallium_cli.specs.Words.{Splitting, ServerAlone, Within, Spelled}
-use Rattle.gallium_cli.specs.Words.{Request, Run, Compile, Replay, Check, Audit, Gen, PcapIn, PcapOut}
+use Rattle.gallium_cli.specs.Words.{Request, Run, Compile, Replay, Lossy, Check, Audit, Gen, PcapIn, PcapOut}
 use Rattle.gallium_cli.specs.Lines.{line_end}
 use Rattle.gallium_cli.specs.Roles.{source, program, limits, legal_split, trace, schedule, capture, size_of}
 use Rattle.gallium_cli.specs.Roles.{true_report, AreLimits, IsCaptured, IsOnlySource, IsShort}
@@ -164,13 +167,6 @@ end_of x plan = state_for x (events_of x plan)
 -- where nothing is left on its way at the end of a plan
 abbrev pub EndsQuiet : Given → Plan → Type 0
 EndsQuiet x plan = IsTrue (is_quiet (end_of x plan))
-
--- the packet that comes in behind these events is fast just where it is over the store that lookups see then
-abbrev pub IsFastAsSeen : Given → List Event → RunTold → Type 0
-IsFastAsSeen x before run =
-    let st = state_for x before in
-    let n = length st.progress in
-    is_fast (slice_get run.fates n) ≡ (whole x).is_fast (seen_store st) (packet_at x.packets n)
 
 -- its pass before the server has ended
 abbrev pub HasPassed : Given → List Event → RunTold → Type 0
@@ -289,9 +285,10 @@ IsToldTrace told t packets = IfSome (told t) (λ text. (length text ≤ size_of 
 -- ## Answers
 
 -- A text that answers a request: for some middlebox, packets and events that the files spell, what the source does to
--- the packets one after the other; or the split that is asked for; or the report of a replay by that split; or what a
--- split takes that a file spells; or one source of a chain. Or the summary of a replay of made packets. Or the trace of a capture's packets by one
--- port, or the bytes of the capture of a trace's packets.
+-- the packets one after the other; or the split that is asked for; or the report of a replay by that split, which has a
+-- line for each link behind it where the replay goes over links; or what a split takes that a file spells; or one source
+-- of a chain. Or the summary of a replay of made packets. Or the trace of a capture's packets by one port, or the bytes of
+-- the capture of a trace's packets.
 abbrev pub IsAnswer : List ℕ → Request → (List ℕ → Option (List ℕ)) → PortState → PortState → Type 0
 IsAnswer text (Run s t) told port port_after =
     (m : Tree) × (packets : List Packet) × IsInput told s t m packets × (text ≡ serial_answer m packets)
@@ -302,6 +299,11 @@ IsAnswer text (Replay s t c by) told port port_after =
     (m : Tree) × (split : List Part) × (writeback : ℕ) × (packets : List Packet) × (plan : Plan) × (replayed : Replayed)
     × IsSplitBy by told s m split writeback × IsTraffic told t c packets plan
     × IsReport text m (given m split writeback packets plan.fine) plan replayed port port_after
+IsAnswer text (Lossy s t c l) told port port_after =
+    (m : Tree) × (split : List Part) × (writeback : ℕ) × (packets : List Packet) × (events : List LinkEvent)
+    × (run : LossyRun)
+    × IsSplitBy (Within l false) told s m split writeback × IsLinkTraffic told t c packets events
+    × IsLinkReport text m (given m split writeback packets false) events run port port_after
 IsAnswer text (Check s l p) told port port_after =
     (m : Tree) × (split : List Part) × (writeback : ℕ)
     × IsSplitBy (Spelled l p) told s m split writeback × (text ≡ checked_text (flat_of m) split writeback)

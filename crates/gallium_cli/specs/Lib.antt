@@ -7,6 +7,8 @@ pub mod Reports
 pub mod Runnable
 pub mod Loads
 pub mod Chains
+pub mod Seen
+pub mod Links
 pub mod Answers
 pub mod Puts
 pub mod Call

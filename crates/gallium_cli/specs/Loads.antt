@@ -16,6 +16,7 @@ use Rattle.chain_text.specs.declared.error.ChainTextError.TheVariants as chains
 use Rattle.pcap_trace.specs.Refused as pcap
 use Rattle.pcap_trace.specs.declared.refusal.PcapError.{PcapError}
 use Rattle.pcap_trace.specs.declared.refusal.PcapError.TheVariants as pcaps
+use Rattle.run_text.specs.LinkSchedule.{link_schedule_of}
 use Rattle.run_text.specs.Trace.{trace_of, schedule_of}
 use Rattle.run_text.specs.declared.refusal.LinesError.{LinesError}
 use Rattle.run_text.specs.declared.refusal.LinesError.TheVariants as lines
@@ -25,7 +26,7 @@ use Rattle.gallium_cli.specs.declared.refusal.Refusal.{Refusal}
 use Rattle.gallium_cli.specs.declared.refusal.Refusal.TheVariants.{Source, LongProgram, Limits, Exceeded, Split, Trace, Schedule}
 use Rattle.gallium_cli.specs.declared.refusal.Refusal.TheVariants.{TooLong, ReadFault, NoMemory, Pcap, Report, Audit}
 use Rattle.gallium_cli.specs.declared.refusal.Refusal.TheVariants.{Chain}
-use Rattle.gallium_cli.specs.Roles.{Role, source, program, limits, legal_split, true_report, trace, schedule}
+use Rattle.gallium_cli.specs.Roles.{Role, source, program, limits, legal_split, true_report, trace, schedule, link_schedule}
 use Rattle.gallium_cli.specs.Roles.{wiring, capture, size_of}
 use Rattle.gallium_cli.specs.Roles.{IsSpelled, IsGood, IsBad}
 use Rattle.gallium_cli.specs.Splits.{IsUnkept, IsBadSplit}
@@ -54,6 +55,9 @@ IsBadTrace fault text = (length text ≤ size_of trace) × (trace_of text ≡ Er
 
 abbrev pub IsBadSchedule : LinesError → List ℕ → Type 0
 IsBadSchedule fault text = (length text ≤ size_of schedule) × (schedule_of text ≡ Err fault)
+
+abbrev pub IsBadLinkSchedule : LinesError → List ℕ → Type 0
+IsBadLinkSchedule fault text = (length text ≤ size_of link_schedule) × (link_schedule_of text ≡ Err fault)
 
 -- the bytes are no capture for this cause, and for no other
 pub record IsOnlyFault (fault : PcapError) (bytes : List ℕ) : Type 0 where
@@ -84,6 +88,7 @@ IsUnread (Exceeded excess) (legal_split f allowed) text =
     (length f.code ≤ 4096) × IsUnkept (Exceeded excess) f allowed text
 IsUnread (Trace fault) trace text = (fault ≢ lines.NoMemory) × (trace_of text ≡ Err fault)
 IsUnread (Schedule fault) schedule text = (fault ≢ lines.NoMemory) × (schedule_of text ≡ Err fault)
+IsUnread (Schedule fault) link_schedule text = (fault ≢ lines.NoMemory) × (link_schedule_of text ≡ Err fault)
 IsUnread (Pcap fault) capture text = (fault ≢ pcaps.NoMemory) × ¬ (IsSpelled capture text) × IsOnlyFault fault text
 IsUnread (Report number) (true_report m packets) text =
     ¬ (IsSpelled (true_report m packets) text) × IsOnlyUntrue (Report number) m packets text
@@ -115,6 +120,8 @@ IsFileRefused (Exceeded excess) (legal_split g allowed) name f f' =
 IsFileRefused (Trace fault) trace name f f' = (fault ≢ lines.NoMemory) × IfSome (f.told name) (IsBadTrace fault)
 IsFileRefused (Schedule fault) schedule name f f' =
     (fault ≢ lines.NoMemory) × IfSome (f.told name) (IsBadSchedule fault)
+IsFileRefused (Schedule fault) link_schedule name f f' =
+    (fault ≢ lines.NoMemory) × IfSome (f.told name) (IsBadLinkSchedule fault)
 IsFileRefused (Pcap fault) capture name f f' = (fault ≢ pcaps.NoMemory) × IfSome (f.told name) (IsBadCapture fault)
 IsFileRefused (Report number) (true_report m packets) name f f' =
     IfSome (f.told name) (IsBadReport (Report number) m packets)

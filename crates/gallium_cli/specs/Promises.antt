@@ -32,13 +32,13 @@ use Rattle.gallium_cli.specs.declared.status.Status.TheVariants.{Chain as BadCha
 use Rattle.gallium_cli.specs.declared.refusal.Refusal.{Refusal}
 use Rattle.gallium_cli.specs.declared.refusal.Refusal.TheVariants as refusals
 use Rattle.gallium_cli.specs.Call.{Call, Work}
-use Rattle.gallium_cli.specs.Words.{Request, Compile, Replay, Check, Audit, Chain, Within, Spelled, is_replay, request_of}
+use Rattle.gallium_cli.specs.Words.{Request, Compile, Replay, Lossy, Check, Audit, Chain, Within, Spelled, is_replay, request_of}
 use Rattle.gallium_cli.specs.Lines.{status_of, line_of}
 use Rattle.gallium_cli.specs.Roles.{Role, source, program, limits, legal_split, true_report, wiring, trace, schedule}
-use Rattle.gallium_cli.specs.Roles.{capture}
+use Rattle.gallium_cli.specs.Roles.{capture, link_schedule}
 use Rattle.gallium_cli.specs.Roles.{Gate, File, Choice, SplitFile, ReportFile, Composed, IsFirst, gates_of, names_of}
 use Rattle.gallium_cli.specs.Roles.{size_of, IsGood, IsBad, IsShort, AreLimits}
-use Rattle.gallium_cli.specs.Loads.{IsLongProgram, AreBadLimits, IsBadTrace, IsBadSchedule}
+use Rattle.gallium_cli.specs.Loads.{IsLongProgram, AreBadLimits, IsBadTrace, IsBadSchedule, IsBadLinkSchedule}
 use Rattle.gallium_cli.specs.Splits.{SpellsLegal, IsBadSplit, excess_of}
 use Rattle.gallium_cli.specs.Reports.{TellsRun, IsUntrue}
 use Rattle.gallium_cli.specs.Chains.{AreNames, class_files, file_of, connected, uncomposed_of}
@@ -148,6 +148,7 @@ IsStatusOf status (true_report m packets) text =
 IsStatusOf status wiring text = status ≡ BadChain
 IsStatusOf status trace text = status ≡ Trace
 IsStatusOf status schedule text = status ≡ Schedule
+IsStatusOf status link_schedule text = status ≡ Schedule
 IsStatusOf status capture text = status ≡ Pcap
 
 -- a text is above its size, or doesn't spell what it is to
@@ -217,6 +218,7 @@ IsCause (refusals.Split fault) (legal_split f allowed) text = IsBadSplit (refusa
 IsCause (refusals.Exceeded excess) (legal_split f allowed) text = IsBadSplit (refusals.Exceeded excess) f allowed text
 IsCause (refusals.Trace fault) trace text = IsBadTrace fault text
 IsCause (refusals.Schedule fault) schedule text = IsBadSchedule fault text
+IsCause (refusals.Schedule fault) link_schedule text = IsBadLinkSchedule fault text
 IsCause (refusals.Pcap fault) capture text = (fault ≢ pcaps.NoMemory) × IsBad capture text × pcap.IsRefused text fault
 IsCause (refusals.Report number) (true_report m packets) text =
     IsBad (true_report m packets) text × IsUntrue (refusals.Report number) m packets text
@@ -276,6 +278,7 @@ abbrev pub MayExceed : Option Request → Type 0
 MayExceed (Some (Compile s l false)) = Unit {0}
 MayExceed (Some (Replay s t c (Within l false))) = Unit {0}
 MayExceed (Some (Replay s t c (Spelled l p))) = Unit {0}
+MayExceed (Some (Lossy s t c l)) = Unit {0}
 MayExceed (Some (Check s l p)) = Unit {0}
 MayExceed _ = ⊥
 
@@ -319,9 +322,10 @@ IsFailedOnSwitch (Some request) work = IsFailedReplay request work
 -- it left on both sinks. The others are read off it.
 pub record Promises (status : Status) (call : Call) : Type 0 where
   pub ends : Ends status call
-  -- the answer was written: of one run, which is a serial run of the source, whatever the schedule; or one split, which
-  -- is the chosen one, is legal and keeps the limits, or what a given one takes that is so; or the summary of such a run;
-  -- or the trace of a capture, or the capture of a trace; or how many packets a report tells that is true
+  -- the answer was written: of one run, which is a serial run of the source, whatever the schedule, over links that lose,
+  -- repeat and reorder too; or one split, which is the chosen one, is legal and keeps the limits, or what a given one
+  -- takes that is so; or the summary of such a run; or the trace of a capture, or the capture of a trace; or how many
+  -- packets a report tells that is true
   pub done : status ≡ Done → IsDone (request_of call.words) call.work
   -- err is as it was, its count too
   pub silent : status ≡ Done → call.err_after ≡ call.err

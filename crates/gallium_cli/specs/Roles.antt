@@ -1,5 +1,5 @@
 -- What files are read as.
-use Rattle.std.specs.Prelude.{◌≡◌, ◌≤◌, ◌⊎◌, ℕ, Bool, List, [], ◌∷◌, ◌++◌, length, Ok, None}
+use Rattle.std.specs.Prelude.{◌≡◌, ◌≤◌, ◌⊎◌, ℕ, Bool, false, List, [], ◌∷◌, ◌++◌, length, Ok, None}
 use Rattle.packet_fields.specs.declared.packet.Packet.{Packet}
 use Rattle.element_lang.specs.Tree.{Tree}
 use Rattle.element_lang.specs.Accepted.{IsSource}
@@ -14,6 +14,8 @@ use Rattle.run_audit.specs.Told.{IsTrueReport}
 use Rattle.resource_limits.specs.Limits as texts
 use Rattle.resource_limits.specs.declared.limits.Limits.{Limits}
 use Rattle.run_text.specs.declared.plan.Plan.{Plan}
+use Rattle.run_model.specs.declared.link_event.LinkEvent.{LinkEvent}
+use Rattle.run_text.specs.LinkSchedule.{link_schedule_of}
 use Rattle.run_text.specs.Trace.{trace_of, schedule_of}
 use Rattle.element_chain.specs.declared.chain.Chain.{Chain}
 use Rattle.chain_text.specs.Reads.{IsChainText}
@@ -21,7 +23,7 @@ use Rattle.pcap_trace.specs.declared.pcap.Pcap.{Pcap}
 use Rattle.pcap_trace.specs.Format.{IsPcap, pcap_bytes}
 use Rattle.gallium_cli.specs.Words.{Splitting, ServerAlone, Within, Spelled}
 use Rattle.gallium_cli.specs.Words as words
-use Rattle.gallium_cli.specs.Words.{Request, Run, Compile, Replay, Check, Audit, Gen, PcapIn, PcapOut}
+use Rattle.gallium_cli.specs.Words.{Request, Run, Compile, Replay, Lossy, Check, Audit, Gen, PcapIn, PcapOut}
 
 -- what a file is read as
 pub data Role : Type 0 where
@@ -37,6 +39,8 @@ pub data Role : Type 0 where
   wiring : Role
   trace : Role
   schedule : Role
+  -- a schedule over links
+  link_schedule : Role
   capture : Role
 
 -- the most bytes of such a file: 256 KiB of a source, and 64 MiB of any other
@@ -49,6 +53,7 @@ size_of (true_report m packets) = 67108864
 size_of wiring = 67108864
 size_of trace = 67108864
 size_of schedule = 67108864
+size_of link_schedule = 67108864
 size_of capture = 67108864
 
 -- the text is a source of this middlebox, and of no other
@@ -80,6 +85,7 @@ IsSpelled (true_report m packets) text =
 IsSpelled wiring text = (chain : Chain) × IsChainText text chain
 IsSpelled trace text = (packets : List Packet) × (trace_of text ≡ Ok packets)
 IsSpelled schedule text = (plan : Plan) × (schedule_of text ≡ Ok plan)
+IsSpelled link_schedule text = (events : List LinkEvent) × (link_schedule_of text ≡ Ok events)
 IsSpelled capture text = (p : Pcap) × IsCaptured text p
 
 -- a text of this role is within its size and spells a value
@@ -121,11 +127,15 @@ split_gates s (Spelled l p) = given_gates s l p
 abbrev pub event_gates : List ℕ → List ℕ → List Gate
 event_gates t c = File t trace ∷ (File c schedule ∷ [])
 
+abbrev pub link_gates : List ℕ → List ℕ → List Gate
+link_gates t c = File t trace ∷ (File c link_schedule ∷ [])
+
 -- what a request goes through, in the order in which it is dealt with
 abbrev pub gates_of : Request → List Gate
 gates_of (Run s t) = File s source ∷ (File t trace ∷ [])
 gates_of (Compile s l shrink) = plan_gates s l shrink
 gates_of (Replay s t c by) = split_gates s by ++ event_gates t c
+gates_of (Lossy s t c l) = plan_gates s l false ++ link_gates t c
 gates_of (Check s l p) = given_gates s l p
 gates_of (Audit s t r) = File s source ∷ (File t trace ∷ (ReportFile s t r ∷ []))
 gates_of (words.Chain w) = File w wiring ∷ (Composed w ∷ [])

@@ -22,6 +22,8 @@ pub data Request : Type 0 where
   Run : (source trace : List ℕ) → Request
   Compile : (source limits : List ℕ) (shrink : Bool) → Request
   Replay : (source trace schedule : List ℕ) (by : Splitting) → Request
+  -- a replay over links that lose, repeat and reorder, by the split that is chosen within the limits of a file
+  Lossy : (source trace schedule limits : List ℕ) → Request
   Check : (source limits split : List ℕ) → Request
   -- whether a report of packets that came to a middlebox is true
   Audit : (source trace report : List ℕ) → Request
@@ -93,7 +95,8 @@ request_of (word ∷ source ∷ second ∷ third ∷ []) =
     else None))))
 request_of (word ∷ source ∷ trace ∷ schedule ∷ limits ∷ []) =
     if bytes_eq word (codes "pcap") then pcap_out source trace schedule limits
-    else (if bytes_eq word (codes "replay") then Some (Replay source trace schedule (Within limits false)) else None)
+    else (if bytes_eq word (codes "replay") then Some (Replay source trace schedule (Within limits false))
+    else (if bytes_eq word (codes "lossy") then Some (Lossy source trace schedule limits) else None))
 request_of (word ∷ source ∷ trace ∷ schedule ∷ limits ∷ last ∷ []) =
     if bytes_eq word (codes "replay") && bytes_eq last (codes "shrink")
     then Some (Replay source trace schedule (Within limits true))
@@ -113,6 +116,7 @@ abbrev pub asked_by : Form → Request
 asked_by (forms.Run source trace) = Run source.now trace.now
 asked_by (forms.Compile source limits shrink) = Compile source.now limits.now shrink
 asked_by (forms.Replay source trace schedule split) = Replay source.now trace.now schedule.now (split_asked split)
+asked_by (forms.Lossy source trace schedule limits) = Lossy source.now trace.now schedule.now limits.now
 asked_by (forms.Check source limits split) = Check source.now limits.now split.now
 asked_by (forms.Audit source trace report) = Audit source.now trace.now report.now
 asked_by (forms.Chain wiring) = Chain wiring.now
@@ -125,6 +129,7 @@ abbrev pub is_replay : Request → Bool
 is_replay (Run s t) = false
 is_replay (Compile s l shrink) = false
 is_replay (Replay s t c by) = true
+is_replay (Lossy s t c l) = true
 is_replay (Check s l p) = false
 is_replay (Audit s t r) = false
 is_replay (Chain w) = false

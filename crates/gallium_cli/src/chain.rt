@@ -1,8 +1,7 @@
 //! Chains of elements as one source.
 ghost use Rattle.std.specs.Prelude.{◌≡◌, ◌≤◌, ◌<◌, ◌+◌, ◌^◌, ◌⊎◌, ◌++◌, ◌∷◌, [], ℕ, List, IsTrue, Some, IfOk, IfErr};
-ghost use Rattle.std.specs.Prelude.{IfSome, OnOk, OnErr, MatchOption, length, take, map, string_bytes};
+ghost use Rattle.std.specs.Prelude.{IfSome, OnOk, MatchOption, length, take, map, string_bytes};
 ghost use Rattle.std.specs.List.{All};
-ghost use Rattle.gal_io.specs.Files.{FilesState};
 ghost use Rattle.element_lang.specs.Accepted.{HasNames};
 ghost use Rattle.element_lang.specs.Rules.{is_good};
 ghost use Rattle.element_lang.specs.Tree.{Tree};
@@ -15,7 +14,7 @@ ghost use Rattle.gallium_cli.specs.Words.{Chain as ChainOf};
 ghost use Rattle.gallium_cli.specs.Call.{work_of};
 ghost use Rattle.gallium_cli.specs.Lines.{status_of};
 ghost use Rattle.gallium_cli.specs.Roles.{source, wiring, size_of, IsOnlySource};
-ghost use Rattle.gallium_cli.specs.Loads.{GoesOn, IsFileRefused, IsUnread, raised_by};
+ghost use Rattle.gallium_cli.specs.Loads.{GoesOn, IsUnread, raised_by};
 ghost use Rattle.gallium_cli.specs.Chains.{AreClasses, IsPlaceOf, MayReadNext, ReadsNext, class_files, class_refusal, file_of};
 ghost use Rattle.gallium_cli.specs.Chains.{IsClassRefused, IsFirstClassRefused, IsNextRefused, IsUncomposed, IsOneSource};
 ghost use Rattle.gallium_cli.specs.Chains.{connected, element_of};

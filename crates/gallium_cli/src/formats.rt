@@ -10,8 +10,10 @@ ghost use Rattle.resource_limits.specs.Limits.{AreInRange};
 ghost use Rattle.split_model.specs.Bounds.{IsBounded};
 ghost use Rattle.run_model.specs.Sizes.{most_events, most_packets};
 ghost use Rattle.report_text.specs.Form.{are_declared};
+ghost use Rattle.run_model.specs.LinkEvents.{IsLinkSchedule};
+ghost use Rattle.run_text.specs.LinkSchedule.{link_schedule_of};
 ghost use Rattle.run_text.specs.Trace.{trace_of, schedule_of};
-ghost use Rattle.gallium_cli.specs.Roles.{source, program, limits, trace, schedule, capture, AreLimits, IsCaptured};
+ghost use Rattle.gallium_cli.specs.Roles.{source, program, limits, trace, schedule, link_schedule, capture, AreLimits, IsCaptured};
 ghost use Rattle.gallium_cli.specs.Roles.{IsOnlySource};
 ghost use Rattle.gallium_cli.specs.Loads.{refusal_of, IsUnread};
 
@@ -24,7 +26,8 @@ use flatten::{FlatError, flatten};
 use packet_fields::Packets;
 use pcap_trace::{Pcap, PcapError, read_pcap};
 use resource_limits::{Limits, LimitsError, read_limits};
-use run_text::{LinesError, Plan, read_schedule, read_trace};
+use run_model::LinkEvents;
+use run_text::{LinesError, Plan, read_link_schedule, read_schedule, read_trace};
 use std::alloc::Global;
 
 /// The most bytes of a source.
@@ -47,6 +50,9 @@ pub struct TraceFormat;
 
 /// The events of a schedule, and whether it ends with `drain`.
 pub struct ScheduleFormat;
+
+/// The events of a schedule over links.
+pub struct LinkScheduleFormat;
 
 /// The packets of a capture, with what stands beside them.
 pub struct CaptureFormat;
@@ -214,6 +220,30 @@ impl Format for ScheduleFormat {
     fn read(&self, alloc: Global, text: &[u8]) -> Result<Plan, Refusal<'static>> {
         match read_schedule(alloc, text) {
             Ok(plan) => Ok(plan),
+            Err(LinesError::NoMemory) => Err(Refusal::NoMemory),
+            Err(fault) => Err(Refusal::Schedule(fault)),
+        }
+    }
+}
+
+impl Format for LinkScheduleFormat {
+    type Value = LinkEvents;
+
+    ghost role = { λ _. link_schedule };
+
+    ghost spells = { λ _ text events. link_schedule_of text ≡ Ok events };
+
+    ghost sound = { λ _ events. IsLinkSchedule events };
+
+    ghost ready = { λ _. Unit {0} };
+
+    fn size(&self) -> usize {
+        MAX_TEXT
+    }
+
+    fn read(&self, alloc: Global, text: &[u8]) -> Result<LinkEvents, Refusal<'static>> {
+        match read_link_schedule(alloc, text) {
+            Ok(events) => Ok(events),
             Err(LinesError::NoMemory) => Err(Refusal::NoMemory),
             Err(fault) => Err(Refusal::Schedule(fault)),
         }

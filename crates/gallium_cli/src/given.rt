@@ -1,5 +1,5 @@
 //! Splits that a file spells.
-ghost use Rattle.std.specs.Prelude.{◌≡◌, ◌⊎◌, ℕ, List, length, IfOk, IfErr, OnOk};
+ghost use Rattle.std.specs.Prelude.{◌≡◌, length, IfOk, IfErr, OnOk};
 ghost use Rattle.flat_ir.specs.Program.{program_of};
 ghost use Rattle.resource_limits.specs.declared.limits.Limits.{Limits as LimitsTold};
 ghost use Rattle.split_model.specs.Bounds.{HasFewStages, IsBounded};
@@ -9,7 +9,6 @@ ghost use Rattle.gallium_cli.specs.Lines.{status_of};
 ghost use Rattle.gallium_cli.specs.Roles.{legal_split};
 ghost use Rattle.gallium_cli.specs.Answers.{IsGivenSplit};
 ghost use Rattle.gallium_cli.specs.Loads.{GoesOn, IsFileRefused, IsUnread, raised_by};
-ghost use Rattle.gallium_cli.specs.Splits.{IsUnkept};
 
 use crate::exceeding::excess;
 use crate::load::{Format, load};

@@ -18,6 +18,7 @@ mod given;
 mod input;
 mod laws;
 mod load;
+mod lossy;
 mod output;
 mod refusal;
 mod replay;

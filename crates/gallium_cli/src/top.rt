@@ -1,17 +1,14 @@
 //! The whole program.
-ghost use Rattle.std.specs.Prelude.{◌≡◌, ◌≤◌, ◌<◌, ◌^◌, Some, IsTrue, IfOk, IfErr, OnOk};
+ghost use Rattle.std.specs.Prelude.{◌≡◌, ◌<◌, ◌^◌, Some, IsTrue, IfOk, IfErr, OnOk};
 ghost use Rattle.std.specs.Prelude.{map, length, string_bytes};
 ghost use Rattle.packet_fields.specs.Sizes.{AreShort};
 ghost use Rattle.element_lang.specs.View.{tree};
 ghost use Rattle.element_lang.specs.Rules.{is_good};
-ghost use Rattle.run_model.specs.Sizes.{most_packets};
 ghost use Rattle.gallium_cli.specs.Words.{request_of, Run};
 ghost use Rattle.gallium_cli.specs.Lines.{status_of};
-ghost use Rattle.gallium_cli.specs.Roles.{gates_of};
-ghost use Rattle.gallium_cli.specs.Answers.{IsInput, serial_answer};
+ghost use Rattle.gallium_cli.specs.Answers.{serial_answer};
 ghost use Rattle.switch_ir.specs.Port.{PortState};
-ghost use Rattle.gallium_cli.specs.Loads.{GoesOn, raised_by};
-ghost use Rattle.gallium_cli.specs.Causes.{CountsFaults, HasCause, IsDone, IsFirstRefused};
+ghost use Rattle.gallium_cli.specs.Causes.{CountsFaults, HasCause, IsDone};
 ghost use Rattle.gallium_cli.specs.Call.{Call, work_of};
 ghost use Rattle.gallium_cli.specs.Promises.{Promises};
 
@@ -23,6 +20,7 @@ use crate::compile::perform_compile;
 use crate::generated::perform_gen;
 use crate::input::load_input;
 use crate::laws::reports_of_replays_are_true;
+use crate::lossy::perform_lossy;
 use crate::output::put;
 use crate::refusal::{Refusal, tell};
 use crate::replay::perform_replay;
@@ -116,6 +114,14 @@ fn perform<'a, F: Files, S: SwitchPort, O: Sink>(
                 split,
             },
         ) => perform_replay(alloc, source, trace, schedule, split, files, port, out),
+        Some(
+            Form::Lossy {
+                source,
+                trace,
+                schedule,
+                limits,
+            },
+        ) => perform_lossy(alloc, source, trace, schedule, limits, files, port, out),
         Some(
             Form::Check {
                 source,

@@ -39,6 +39,14 @@ pub enum Form<'a> {
         schedule: &'a str,
         split: SplitForm<'a>,
     },
+    /// Replays a middlebox on a trace by a schedule over links that lose, repeat and reorder, with the split that
+    /// `Compile` would print within these limits.
+    Lossy {
+        source: &'a str,
+        trace: &'a str,
+        schedule: &'a str,
+        limits: &'a str,
+    },
     /// Prints what the split takes that a file spells, where it is legal and keeps these limits.
     Check {
         source: &'a str,
@@ -240,6 +248,14 @@ pub fn form_of<'a>(words: &'a [String]) -> Option<Form<'a>>
                         limits: limits.as_str(),
                         shrink: false,
                     },
+                });
+            }
+            if word.as_str() == "lossy" {
+                return Some(Form::Lossy {
+                    source: source.as_str(),
+                    trace: trace.as_str(),
+                    schedule: schedule.as_str(),
+                    limits: limits.as_str(),
                 });
             }
             None

@@ -1,6 +1,6 @@
 -- Held outputs, all batches of changes, and how far their commands have come.
-use Rattle.std.specs.Prelude.{◌≡◌, ◌≤◌, ◌<◌, ◌^◌, ℕ, zero, suc, ◌+◌, ◌*◌, ◌==◌, Bool, true, false, ◌&&◌, List, [], ◌∷◌, ◌++◌}
-use Rattle.std.specs.Prelude.{Option, Some, None, nat_lt, length, slice_get, remove, take, if◌then◌else◌}
+use Rattle.std.specs.Prelude.{◌≡◌, ◌≤◌, ◌<◌, ◌^◌, ℕ, zero, suc, ◌+◌, ◌-◌, ◌*◌, ◌==◌, Bool, true, false, ◌&&◌, List, [], ◌∷◌, ◌++◌}
+use Rattle.std.specs.Prelude.{Option, Some, None, nat_le, nat_lt, length, slice_get, remove, take, if◌then◌else◌}
 use Rattle.std.specs.List.{AllByRecursion as Each}
 use Rattle.writeback_table.specs.declared.command.Update.{Update}
 use Rattle.writeback_table.specs.declared.command.Command.{Command}
@@ -59,6 +59,10 @@ after_send c =
     if nat_lt c.sent (length (commands c))
     then record c { batches = merged (fits c.writeback) c.sent c.batches; sent = c.sent + 1 } else c
 
+-- the last command that was sent
+abbrev pub last_sent : Commit → Option Command
+last_sent c = if c.sent == 0 then None else slice_get (commands c) (c.sent - 1)
+
 -- the first command that was sent and isn't applied
 abbrev pub next : Commit → Option Command
 next c = if nat_lt c.done c.sent then slice_get (commands c) c.done else None
@@ -68,6 +72,11 @@ after_next c = if nat_lt c.done c.sent then record c { done = c.done + 1 } else 
 
 abbrev pub after_acknowledge : Commit → Commit
 after_acknowledge c = if nat_lt c.acked c.done then record c { acked = c.acked + 1 } else c
+
+-- whether an output may go: it need not wait
+abbrev pub may_release : Commit → Option Output → Bool
+may_release c None = false
+may_release c (Some output) = nat_le output.need (acknowledged c)
 
 -- what a release of an output answers, or of none
 abbrev pub answer : Commit → Option Output → Release

@@ -147,6 +147,17 @@ impl Commit {
         true
     }
 
+    /// The last command that was sent. It is `None` exactly where none was sent.
+    pub fn sent_command(&self) -> Option<Command>
+        ensures { result ≡ spec.last_sent self.now }
+    {
+        let Some(span) = self.batches.begun().last() else {
+            return None;
+        };
+        let step = span.commands() - 1 - self.left;
+        Some(command_at(span.of(self.batches.updates.as_slice()), step as usize))
+    }
+
     /// The next command that the switch is to apply, which counts as applied from then on. It is `None` exactly where
     /// all sent ones are applied.
     pub fn next_command(&mut self) -> Option<Command>
@@ -258,6 +269,17 @@ impl Commit {
         ensures { result ≡ spec.is_quiet self.now }
     {
         self.held.is_empty() && self.acked == self.commands()
+    }
+
+    /// Whether the output at place `j` may go, counted from 0 in the order in which they came: it is there, and its version
+    /// is acknowledged.
+    pub fn may_release(&self, j: usize) -> bool
+        ensures { result ≡ spec.may_release self.now (slice_get self.now.held j) }
+    {
+        match self.held.get(j) {
+            Some(output) => output.need <= self.acknowledged(),
+            None => false,
+        }
     }
 
     /// Lets the output at place `j` go, counted from 0 in the order in which they came, where its version is

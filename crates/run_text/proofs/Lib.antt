@@ -4,3 +4,4 @@ pub mod ShortPackets
 pub mod Numbers
 pub mod PrintedLines
 pub mod PrintedBack
+pub mod LinkSchedules

@@ -94,7 +94,7 @@ pub first_stands : {X : Type 0} (given whole : Result (List X) LinesError) (kept
 first_stands (Ok xs) whole kept most same none = (xs, sym same, omega arith, λ few. rw none refl)
 first_stands (Err e) whole kept most same none = sym same
 
-not_ended : {X : Type 0} (value : List ℕ → Result X LineKind) (n : ℕ) (ls : List (List ℕ)) → ahead_values (λ _. false) value false n ls ≡ line_values value n ls
+pub not_ended : {X : Type 0} (value : List ℕ → Result X LineKind) (n : ℕ) (ls : List (List ℕ)) → ahead_values (λ _. false) value false n ls ≡ line_values value n ls
 not_ended value n [] = refl
 not_ended value n (l ∷ ls) =
     let next : n + 1 ≡ suc n = omega arith in

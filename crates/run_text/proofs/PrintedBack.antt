@@ -28,16 +28,16 @@ use Rattle.run_text.proofs.PrintedLines.{AreLines, after_space, all_both, before
 
 -- ---- digits
 
-digits_plain : (ds : List ℕ) → all_ascii_digits ds ≡ true → list_all plain ds ≡ true
+pub digits_plain : (ds : List ℕ) → all_ascii_digits ds ≡ true → list_all plain ds ≡ true
 digits_plain [] h = refl
 digits_plain (d ∷ ds) h = let rest = digits_plain ds in grind (arith, nat_tests, rest, h)
 
-digits_unspaced : (ds : List ℕ) → all_ascii_digits ds ≡ true → list_all unspaced ds ≡ true
+pub digits_unspaced : (ds : List ℕ) → all_ascii_digits ds ≡ true → list_all unspaced ds ≡ true
 digits_unspaced [] h = refl
 digits_unspaced (d ∷ ds) h = let rest = digits_unspaced ds in grind (arith, nat_tests, rest, h)
 
 -- a line that begins with a digit isn't skipped
-digits_told : (ds rest : List ℕ) → 0 < length ds → all_ascii_digits ds ≡ true → is_skipped (ds ++ rest) ≡ false
+pub digits_told : (ds rest : List ℕ) → 0 < length ds → all_ascii_digits ds ≡ true → is_skipped (ds ++ rest) ≡ false
 digits_told [] rest some h = absurd (omega arith)
 digits_told (d ∷ ds) rest some h = grind (arith, nat_tests, h)
 
@@ -63,7 +63,7 @@ encoded_plain (b ∷ bytes) h =
     let rest = encoded_plain bytes (λ i. h (suc i)) in
     rw (first, second) rest
 
-body_plain : (bytes : List ℕ) → IsBytes bytes → list_all plain (body_text bytes) ≡ true
+pub body_plain : (bytes : List ℕ) → IsBytes bytes → list_all plain (body_text bytes) ≡ true
 body_plain [] h = refl
 body_plain (b ∷ bytes) h = encoded_plain (b ∷ bytes) h
 
@@ -80,7 +80,7 @@ body_back [] h short = refl
 body_back (b ∷ bytes) h short =
     digits_back (slice_index lower_digits (b / 16)) (slice_index lower_digits (b % 16)) (encode_with lower_digits bytes) (b ∷ bytes) (decode_of-encode_lower (b ∷ bytes) h) short
 
-within : {X : Type 0} (most : ℕ) (xs : List X) → length xs ≤ most → at_most most (Ok xs) ≡ Ok xs
+pub within : {X : Type 0} (most : ℕ) (xs : List X) → length xs ≤ most → at_most most (Ok xs) ≡ Ok xs
 within most xs few = rw (le-leb (length xs) most few) refl
 
 -- ---- packets

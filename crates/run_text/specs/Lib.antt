@@ -2,3 +2,4 @@ pub mod Trace
 pub mod Report
 pub mod Answer
 pub mod Printed
+pub mod LinkSchedule

@@ -3,6 +3,7 @@
 
 mod answer;
 mod line_value;
+mod link_schedule;
 mod parts;
 mod plan;
 mod refusal;
@@ -11,6 +12,7 @@ mod schedule;
 mod trace;
 
 pub use answer::print_answer;
+pub use link_schedule::{print_link_schedule, read_link_schedule};
 pub use plan::Plan;
 pub use refusal::{LineKind, LinesError, MAX_EVENTS, MAX_PACKETS};
 pub use report::print_run;

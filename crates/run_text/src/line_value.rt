@@ -1,5 +1,5 @@
 //! Values of which each stands on a line of a text.
-ghost use Rattle.std.specs.Prelude.{◌≡◌, ◌≤◌, ◌<◌, ◌⊎◌, ◌+◌, ◌^◌, length, IfOk, IfErr, MatchOption, true, false, Ok, Err};
+ghost use Rattle.std.specs.Prelude.{◌≡◌, ◌≤◌, ◌<◌, ◌⊎◌, ◌+◌, ◌^◌, length, IfOk, IfErr, MatchOption, true, false, Ok, Err, []};
 ghost use Rattle.std.specs.Prelude.{not, ◌&&◌, if◌then◌else◌};
 ghost use Rattle.std.specs.List.{after_first, before_first, list_any, position_or_len};
 ghost use Rattle.gal_io.specs.Lines.{lines};
@@ -78,6 +78,15 @@ fn read_line<V: LineValue>(
     V::from_line(alloc, line)
 }
 
+// No values yet, with room for as many as the lines of a text can spell, but for no more than `most`: each line has a
+// byte and, but for the last one, an end.
+fn room_for<V>(alloc: Global, text: &[u8], most: usize) -> Result<Vec<V>, NoMemory>
+    ensures { IfOk result (λ items. items.items ≡ []) }
+{
+    let lines = text.len() / 2 + 1;
+    Ok(Vec::with_capacity(alloc, lines.min(most))?)
+}
+
 /// The values of the lines of a text, in front of which so many lines stand. Those past the first `most` are counted
 /// and not kept.
 pub(crate) fn read_values<V: LineValue>(
@@ -93,7 +102,7 @@ pub(crate) fn read_values<V: LineValue>(
     ensures err { IfErr result (λ e. (e ≡ LinesError.NoMemory)
         ⊎ (at_most most (values_until V.line_ends V.line_gives (before + 1) (lines text.now)) ≡ Err e)) }
 {
-    let mut items = Vec::new(alloc);
+    let mut items = room_for(alloc, text, most)?;
     let mut have: usize = 0;
     let mut number = before;
     let mut ended = false;

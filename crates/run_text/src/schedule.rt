@@ -15,7 +15,7 @@ use gal_io::{NoMemory, Text, is_skipped, number_up_to, split_line};
 use run_model::{Event, Events};
 use std::alloc::Global;
 
-fn read_item(item: &[u8]) -> Result<u32, LineKind>
+pub(crate) fn read_item(item: &[u8]) -> Result<u32, LineKind>
     ensures { MatchResult result (λ number. number_up_to largest item.now ≡ Some number)
         (λ kind. (kind ≡ LineKind.Number) × (number_up_to largest item.now ≡ None)) }
 {
@@ -26,7 +26,7 @@ fn read_item(item: &[u8]) -> Result<u32, LineKind>
 }
 
 // The event that a line without an item names.
-fn read_word(line: &[u8]) -> Option<Event>
+pub(crate) fn read_word(line: &[u8]) -> Option<Event>
     ensures { result ≡ word_event line.now }
 {
     match line {
@@ -132,7 +132,7 @@ fn put_item(letter: u8, item: u32, text: &mut Text) -> Result<(), NoMemory>
     text.push_number(u64::from(item))
 }
 
-fn put_event(event: &Event, text: &mut Text) -> Result<(), NoMemory>
+pub(crate) fn put_event(event: &Event, text: &mut Text) -> Result<(), NoMemory>
     ensures text { OnOk result (text.new ≡ text.old ++ event_text event.now) }
     ensures back { OnOk result (IsLineOf event_line (event_text event.now) event.now) }
 {

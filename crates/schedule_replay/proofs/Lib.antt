@@ -1,2 +1,3 @@
 mod Concluding
 mod Playing
+mod Framed

@@ -1,5 +1,5 @@
 -- A replayer goes on.
-use Rattle.std.proofs.Common.{◌≡◌, ◌<◌, ◌≤◌, ◌+◌, ◌-◌, ◌^◌, ℕ, false, List, [], ◌∷◌, ◌++◌, Option, Some, None, refl, sym, ap, subst, ◌∙◌, arith, length, map}
+use Rattle.std.proofs.Common.{◌≡◌, ◌<◌, ◌≤◌, ◌+◌, ◌-◌, ◌^◌, ℕ, List, [], ◌∷◌, ◌++◌, Option, Some, None, refl, sym, ap, subst, ◌∙◌, arith, length, map}
 use Rattle.std.specs.Prelude.{is_some}
 use Rattle.std.proofs.lemmas.Option.{none-some}
 use Rattle.run_model.specs.declared.event.Event.{Event}
@@ -59,7 +59,7 @@ length_join (e ∷ events) more = let h = length_join events more in omega arith
 -- ## What the course shows
 
 -- of each replay of the same events over the port
-shown_at : OneLaw → (x : Given) (events : List Event) (c : Course) (port : PortState) (steps : ℕ) (calls : List Call) (st : State)
+pub shown_at : OneLaw → (x : Given) (events : List Event) (c : Course) (port : PortState) (steps : ℕ) (calls : List Call) (st : State)
     → IsPerforming x events c port steps → IsReplay x events calls st port → IsShown (whole x) calls st c
 shown_at one x events c port steps calls st now is =
     let u = now.under_way in

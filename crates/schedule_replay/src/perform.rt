@@ -67,5 +67,5 @@ pub fn replay<S: SwitchPort>(
     let mut course = Course::start(alloc, job, port)?;
     course.perform(alloc, job, port)?;
     conclude(alloc, job, port, &mut course)?;
-    course.report(alloc, job, port)
+    course.into_report(alloc, job, port)
 }

@@ -1,18 +1,20 @@
 //! A replay that goes on call by call.
 ghost use Rattle.std.specs.Prelude.{◌≡◌, ◌≤◌, ◌<◌, ◌++◌, ◌∷◌, [], List, Some, None, Err};
-ghost use Rattle.std.specs.Prelude.{is_some, length, IfErr, IfOk, OnOk};
+ghost use Rattle.std.specs.Prelude.{is_some, length, nat_lt, IfErr, IfOk, MatchOption, OnOk};
 ghost use Rattle.flat_ir.specs.Program.{program_of};
 ghost use Rattle.run_model.specs.Sizes.{most_events, most_packets};
 ghost use Rattle.run_model.specs.declared.event.Event.{Event};
 ghost use Rattle.split_model.specs.Bounds.{HasFewStages};
 ghost use Rattle.split_answers.specs.Whole.{IsSplit};
 ghost use Rattle.replay_state.specs.Drain.{drain_bound};
-ghost use Rattle.replay_contracts.specs.Given.{setup_for};
+ghost use Rattle.replay_state.specs.Journal.{Call, down_frame, frame_in, up_answer};
+ghost use Rattle.replay_state.specs.State.{State};
+ghost use Rattle.replay_contracts.specs.Given.{setup_for, whole};
 ghost use Rattle.replay_contracts.specs.declared.job.ReplayError.{ReplayError};
 ghost use Rattle.replay_contracts.specs.Replayer.{CountsFault, given_of};
 ghost use Rattle.replay_course.specs.UnderWay.{HasGone};
 
-use gal_io::NoMemory;
+use gal_io::{Bytes, NoMemory};
 use replay_contracts::{
     Job, ReplayError, Replayed, Stepped, a_journal_determines_its_replay, a_replay_goes_on,
     a_run_keeps_its_promises, a_told_replay_reports_the_run,
@@ -21,6 +23,7 @@ use replay_course::{Course, few_events_are_left, the_next_calls_may_be_made};
 use run_model::{Event, Events};
 use std::alloc::Global;
 use switch_ir::SwitchPort;
+use writeback_table::Command;
 
 /// A replay of a split program over a switch, event by event. It performs none of the job's own events by itself. Once
 /// it has failed, it answers the same error from then on.
@@ -82,6 +85,8 @@ fn begin<S: SwitchPort>(alloc: Global, job: &Job, port: &mut S) -> Result<Begun,
 
 impl<S: SwitchPort> Replayer<S> {
     ghost use Rattle.replay_contracts.specs.Replayer.{HasEmptied, HasFailed, HasReported, HasStepped, IsNew, Repeats};
+    ghost use Rattle.replay_contracts.specs.Replayer.{IsAt};
+    ghost use Rattle.schedule_replay.specs.Frames.{IsFrameAt, last_command};
     ghost use Rattle.schedule_replay.specs.Replayer.{HasPerformed, IsStanding, seen_as};
 
     /// Loads the switch with the code of a job. After an error the switch is handed back; it tells its tables where it
@@ -212,6 +217,39 @@ impl<S: SwitchPort> Replayer<S> {
                 Err(error)
             }
         }
+    }
+
+    /// The frame at place `j` of those on their way up to the server. It is `None` exactly where there are at most `j`.
+    pub fn up_frame(&self, j: usize) -> Option<&Bytes>
+        ensures { (events : List Event) (calls : List Call) (st : State) → HasPerformed S.seen events self.now
+            → IsAt (seen_as S.seen events self.now) calls st → MatchOption result (length st.up ≤ j)
+            (λ frame. IsFrameAt (λ n. frame_in (up_answer calls n)) st.up j frame.now) }
+    {
+        a_journal_determines_its_replay();
+        let (_, frame) = self.course.up.get(j)?;
+        Some(frame)
+    }
+
+    /// The frame at place `j` of those on their way down to the switch. It is `None` exactly where there are at most `j`.
+    pub fn down_frame(&self, j: usize) -> Option<&Bytes>
+        ensures { (events : List Event) (calls : List Call) (st : State) → HasPerformed S.seen events self.now
+            → IsAt (seen_as S.seen events self.now) calls st → MatchOption result (length st.down ≤ j)
+            (λ frame. IsFrameAt (down_frame (whole (seen_as S.seen [] self.now).given) calls st) st.down j frame.now) }
+    {
+        a_journal_determines_its_replay();
+        let (_, frame) = self.course.down.get(j)?;
+        Some(frame)
+    }
+
+    /// The last command that was sent. It is `None` exactly where none was sent.
+    pub fn sent_command(&self) -> Option<Command>
+        ensures last { (events : List Event) (calls : List Call) (st : State) → HasPerformed S.seen events self.now
+            → IsAt (seen_as S.seen events self.now) calls st → result ≡ last_command st }
+        ensures none { (events : List Event) (calls : List Call) (st : State) → HasPerformed S.seen events self.now
+            → IsAt (seen_as S.seen events self.now) calls st → is_some result ≡ nat_lt 0 st.sent }
+    {
+        a_journal_determines_its_replay();
+        self.course.commit.sent_command()
     }
 
     /// The switch, as the calls so far left it.

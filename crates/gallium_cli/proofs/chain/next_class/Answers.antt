@@ -1,4 +1,4 @@
-use Rattle.std.proofs.Common.{IsTrue, length, subst, sym, ◌∙◌}
+use Rattle.std.proofs.Common.{length, subst, sym}
 use Rattle.std.proofs.lemmas.List.Elements.{All-get_or}
 use Rattle.element_lang.specs.Accepted.{HasNames}
 use Rattle.element_lang.specs.View.{tree}

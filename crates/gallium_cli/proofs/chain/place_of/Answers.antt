@@ -2,7 +2,6 @@ use Rattle.std.proofs.lemmas.Option.{slice_get_read, slice_get_within}
 use Rattle.std.proofs.Common.{refl, sym, ◌∙◌, arith, below_more}
 use Rattle.std.proofs.lemmas.Bool.Decides.{Decides-eqb}
 use Rattle.std.proofs.lemmas.Slice.Eq.{slice_eq-Decides}
-use Rattle.gallium_cli.specs.Chains.{IsPlaceOf}
 use Rattle.gallium_cli.proofs.Firsts.{other_place}
 use Rattle.gallium_cli.proofs.chain.place_of.Goals as goal
 

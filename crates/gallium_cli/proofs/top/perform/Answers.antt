@@ -1,5 +1,5 @@
 use Rattle.std.proofs.Common.{ap}
-use Rattle.gallium_cli.specs.Words.{Run, Compile, Replay, Check, Audit, Chain, Gen, PcapIn, PcapOut}
+use Rattle.gallium_cli.specs.Words.{Run, Compile, Replay, Lossy, Check, Audit, Chain, Gen, PcapIn, PcapOut}
 use Rattle.gallium_cli.specs.Words.{asked_by, split_asked}
 use Rattle.gallium_cli.proofs.Written.{asked_ok, asked_err}
 use Rattle.gallium_cli.proofs.top.perform.Goals as goal
@@ -31,6 +31,16 @@ returns-in-Some-Replay-clause-ok g c =
     (g.S.SwitchPort.seen c.args.port.now) (g.S.SwitchPort.seen c.perform_replay.new.port)
     (g.O.Sink.seen c.args.out.now) (g.O.Sink.seen c.perform_replay.new.out)
     arm.ensures (ap asked_by arm.field-0-is) c.perform_replay.ensures.ok
+
+pub returns-in-Some-Lossy-clause-ok : goal.returns-in-Some-Lossy-clause-ok
+returns-in-Some-Lossy-clause-ok g c =
+    let arm = c.in-Some-Lossy in
+    asked_ok c.perform_lossy.result _ (asked_by arm.field-0)
+    (Lossy arm.source.now arm.trace.now arm.schedule.now arm.limits.now)
+    (g.F.Files.seen c.args.files.now) (g.F.Files.seen c.perform_lossy.new.files)
+    (g.S.SwitchPort.seen c.args.port.now) (g.S.SwitchPort.seen c.perform_lossy.new.port)
+    (g.O.Sink.seen c.args.out.now) (g.O.Sink.seen c.perform_lossy.new.out)
+    arm.ensures (ap asked_by arm.field-0-is) c.perform_lossy.ensures.ok
 
 pub returns-in-Some-Check-clause-err : goal.returns-in-Some-Check-clause-err
 returns-in-Some-Check-clause-err g c =

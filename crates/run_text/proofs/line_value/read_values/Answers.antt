@@ -13,5 +13,5 @@ loop-line-init g c =
       ended = any_ends ends ls;
       have = omega arith;
       number = omega arith;
-      stands = first_stands (ahead_values ends value false (c.args.before + 1) ls) (values_until ends value (c.args.before + 1) ls) c.new-items.result.items c.args.most (all_lines ends value (c.args.before + 1) ls) c.new-items.ensures.items;
+      stands = first_stands (ahead_values ends value false (c.args.before + 1) ls) (values_until ends value (c.args.before + 1) ls) c.in_ok-items.items.items c.args.most (all_lines ends value (c.args.before + 1) ls) c.in_ok-items.ensures;
     }

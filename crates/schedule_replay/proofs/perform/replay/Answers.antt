@@ -12,49 +12,49 @@ pub returns-clause-answered : goal.returns-clause-answered
 returns-clause-answered g c =
     let x = given_of c.args.job.now in
     let port = g.S.SwitchPort.seen c.conclude.new.port in
-    let new = g.S.SwitchPort.seen c.report.new.port in
-    IfOk-weaker c.report.result (ReportsOf x c.conclude.new.course port new)
+    let new = g.S.SwitchPort.seen c.into_report.new.port in
+    IfOk-weaker c.into_report.result (ReportsOf x c.conclude.new.course port new)
     (λ replayed. IsReported x c.args.job.now.events c.args.job.now.drain replayed new)
     (λ replayed says. is_reported c.a_run_is_answered_by_its_calls.ensures.once x c.args.job.now.events c.args.job.now.drain c.conclude.new.course
-    _ port new replayed c.in_ok-conclude.ensures.ended says) c.report.ensures.reports
+    _ port new replayed c.in_ok-conclude.ensures.ended says) c.into_report.ensures.reports
 
 pub returns-clause-told : goal.returns-clause-told
 returns-clause-told g c = λ tells.
     let x = given_of c.args.job.now in
     let port = g.S.SwitchPort.seen c.conclude.new.port in
-    let new = g.S.SwitchPort.seen c.report.new.port in
+    let new = g.S.SwitchPort.seen c.into_report.new.port in
     let same = c.in_ok-conclude.ensures.ended.stays.told ∙ (c.in_ok-perform.ensures.gone.stays.told ∙ c.in_ok-course.ensures.started.stays.told) in
-    IfOk-weaker c.report.result (ReportsOf x c.conclude.new.course port new)
+    IfOk-weaker c.into_report.result (ReportsOf x c.conclude.new.course port new)
     (λ replayed. IsRunOf x c.args.job.now.events c.args.job.now.drain replayed new)
     (λ replayed says. is_run_of c.a_told_replay_reports_the_run.ensures c.a_run_keeps_its_promises.ensures
     c.a_quiet_switch_has_the_servers_tables.ensures x c.args.job.now.events c.args.job.now.drain c.conclude.new.course
-    _ port new replayed c.in_ok-conclude.ensures.ended says (same ∙ tells)) c.report.ensures.reports
+    _ port new replayed c.in_ok-conclude.ensures.ended says (same ∙ tells)) c.into_report.ensures.reports
 
 pub returns-clause-stays : goal.returns-clause-stays
 returns-clause-stays g c =
     let port = g.S.SwitchPort.seen c.conclude.new.port in
-    let new = g.S.SwitchPort.seen c.report.new.port in
+    let new = g.S.SwitchPort.seen c.into_report.new.port in
     let ended = c.in_ok-conclude.ensures.ended in
     let same = ended.stays.told ∙ (c.in_ok-perform.ensures.gone.stays.told ∙ c.in_ok-course.ensures.started.stays.told) in
-    either_way c.report.result (ReportsOf (given_of c.args.job.now) c.conclude.new.course port new) (λ e. Fails e port new)
-    (is_some new.told ≡ is_some (g.S.SwitchPort.seen c.args.port.now).told) c.report.ensures.reports c.report.ensures.fails
+    either_way c.into_report.result (ReportsOf (given_of c.args.job.now) c.conclude.new.course port new) (λ e. Fails e port new)
+    (is_some new.told ≡ is_some (g.S.SwitchPort.seen c.args.port.now).told) c.into_report.ensures.reports c.into_report.ensures.fails
     (λ replayed says. ap is_some (says ended.calls ended.last ended.shown).kept.told ∙ same) (λ e fails. fails.told ∙ same)
 
 pub returns-clause-no_fault : goal.returns-clause-no_fault
 returns-clause-no_fault g c =
     let port = g.S.SwitchPort.seen c.conclude.new.port in
-    let new = g.S.SwitchPort.seen c.report.new.port in
+    let new = g.S.SwitchPort.seen c.into_report.new.port in
     let ended = c.in_ok-conclude.ensures.ended in
-    IfOk-weaker c.report.result (ReportsOf (given_of c.args.job.now) c.conclude.new.course port new)
+    IfOk-weaker c.into_report.result (ReportsOf (given_of c.args.job.now) c.conclude.new.course port new)
     (λ replayed. new.faults ≡ (g.S.SwitchPort.seen c.args.port.now).faults)
     (λ replayed says. (says ended.calls ended.last ended.shown).kept.faults ∙ (ended.stays.faults
-    ∙ (c.in_ok-perform.ensures.gone.stays.faults ∙ c.in_ok-course.ensures.started.stays.faults))) c.report.ensures.reports
+    ∙ (c.in_ok-perform.ensures.gone.stays.faults ∙ c.in_ok-course.ensures.started.stays.faults))) c.into_report.ensures.reports
 
 pub returns-clause-fault : goal.returns-clause-fault
 returns-clause-fault g c =
-    IfErr-weaker c.report.result _ _ (λ e fails. counts_behind e _ _ _ c.in_ok-course.ensures.started.stays.faults
+    IfErr-weaker c.into_report.result _ _ (λ e fails. counts_behind e _ _ _ c.in_ok-course.ensures.started.stays.faults
     (counts_behind e _ _ _ c.in_ok-perform.ensures.gone.stays.faults
-    (counts_behind e _ _ _ c.in_ok-conclude.ensures.ended.stays.faults fails.fault))) c.report.ensures.fails
+    (counts_behind e _ _ _ c.in_ok-conclude.ensures.ended.stays.faults fails.fault))) c.into_report.ensures.fails
 
 pub returns-in_err-conclude-clause-fault : goal.returns-in_err-conclude-clause-fault
 returns-in_err-conclude-clause-fault g c =

@@ -1,0 +1,9 @@
+pub mod Among
+pub mod Confirms
+pub mod Counted
+pub mod Counts
+pub mod Faithful
+pub mod Kept
+pub mod Performed
+pub mod Rising
+pub mod Spelled

@@ -1,0 +1,11 @@
+pub mod CommandBytes
+pub mod Datagrams
+pub mod Ends
+pub mod Laws
+pub mod Link
+pub mod Marks
+pub mod Numbers
+pub mod Receiver
+pub mod Sender
+pub mod Spelling
+pub mod Unknown

@@ -1,0 +1,23 @@
+//! What holds over every list of link steps, as the definitions give it. These functions do nothing: their contracts are
+//! the laws.
+ghost use Rattle.std.specs.Prelude.{◌<◌, ◌^◌, Bool, List, length};
+ghost use Rattle.lossy_link.specs.Laws.{AreEndsOf, IsFaithful, IsLinkOf, IsOneStep, given_in};
+ghost use Rattle.lossy_link.specs.Link.{Link, LinkStep, link_step};
+
+/// A link delivers each item at most once, only items that were given, and on an ordered link in their order. What its
+/// sender knows to be delivered was delivered.
+pub fn links_are_faithful()
+    ensures { (ordered : Bool) (steps : List LinkStep) → IsLinkOf ordered steps }
+{}
+
+/// Ends that work by the datagrams that the sender made and by the confirmations that the receiver's answers give are
+/// those of the link, and what was delivered by a number is the item that was given by it.
+pub fn ends_are_those_of_the_link()
+    ensures { (ordered : Bool) (steps : List LinkStep) → length (given_in steps) < 2 ^ 32 → AreEndsOf ordered steps }
+{}
+
+/// The same one step at a time, from any faithful link.
+pub fn one_step_more()
+    ensures { (l : Link) (step : LinkStep) → IsFaithful l → length (link_step l step).items < 2 ^ 32
+        → IsOneStep l step }
+{}

@@ -1,0 +1,17 @@
+//! Links that lose, repeat and reorder what is sent on them: the end that sends, which numbers its items and keeps what
+//! is known to be delivered, the end that receives, which delivers each item once, and the bytes of commands.
+#![tactic(auto)]
+
+mod answers;
+mod command;
+mod laws;
+mod marks;
+mod number;
+mod receiver;
+mod sender;
+
+pub use answers::{Confirm, Took};
+pub use command::{read_command, write_command};
+pub use laws::{ends_are_those_of_the_link, links_are_faithful, one_step_more};
+pub use receiver::{Delivered, LinkReceiver};
+pub use sender::LinkSender;

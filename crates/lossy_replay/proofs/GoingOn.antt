@@ -1,0 +1,190 @@
+-- A replay over links goes on by one event.
+use Rattle.std.proofs.Common.{◌≡◌, ◌⊎◌, ◌≤◌, ◌+◌, ℕ, List, [], ◌∷◌, ◌++◌, length, refl, sym, ap, ◌∙◌, subst, Some, arith, append-nil, append_assoc, inl, inr}
+use Rattle.std.specs.Prelude.{slice_get}
+use Rattle.std.proofs.lemmas.List.{length_push}
+use Rattle.lossy_link.specs.Link.{Link, arrive, confirm, link_step, send}
+use Rattle.lossy_link.specs.Sender.{unknown}
+use Rattle.run_model.specs.declared.event.Event.{Event}
+use Rattle.run_model.specs.declared.link_event.Link.{Link as LinkName}
+use Rattle.run_model.specs.declared.link_event.Link.TheVariants as names
+use Rattle.run_model.specs.declared.link_event.LinkEvent.{LinkEvent}
+use Rattle.run_model.specs.declared.link_event.LinkEvent.TheVariants.{Transmit, Deliver, Confirm}
+use Rattle.switch_ir.specs.Port.{PortState}
+use Rattle.switch_ir.specs.Tables.{Told}
+use Rattle.replay_state.specs.Journal.{Call}
+use Rattle.replay_state.specs.State.{State}
+use Rattle.replay_contracts.specs.Given.{Given, setup_for}
+use Rattle.replay_contracts.specs.Replay.{IsReplay}
+use Rattle.replay_course.specs.declared.course.Course.{Course}
+use Rattle.lossy_replay.specs.Linked.{Course as World, Linked, at_link, first_linked, linked_step}
+use Rattle.lossy_replay.specs.Linking.{AreLinks, ArePlaced, HasFew, IsLinking, StayPlaced}
+use Rattle.lossy_replay.specs.Replay.{HasItems, linked_by, world_by, world_of}
+use Rattle.lossy_replay.specs.declared.line.Line.{Line}
+use Rattle.lossy_replay.specs.declared.links.Links.{Links}
+use Rattle.lossy_replay.proofs.Giving.{one_event_more}
+use Rattle.lossy_replay.proofs.Placed.{placed_still}
+use Rattle.lossy_replay.proofs.OnWays.{arrived_items, confirmed_items, sent_items}
+
+one_longer : (schedule : List LinkEvent) (event : LinkEvent) → length (schedule ++ event ∷ []) ≡ length schedule + 1
+one_longer schedule event = length_push schedule event
+
+few_more : (n : ℕ) (line : Line) → HasFew n line → HasFew (n + 1) line
+few_more n line few = record { items = omega (arith, few.items); sent = omega (arith, few.sent); got = omega (arith, few.got) }
+
+-- links that stay as they are
+pub links_stay : (n : ℕ) (l : Linked) (links : Links) → AreLinks n l links → AreLinks (n + 1) l links
+links_stay n l links are = record {
+  up = are.up;
+  down = are.down;
+  ctl = are.ctl;
+  ctl_is = are.ctl_is;
+  ack = are.ack;
+  ack_is = are.ack_is;
+  few_up = few_more n links.up.line are.few_up;
+  few_down = few_more n links.down.line are.few_down;
+  few_ctl = few_more n links.ctl are.few_ctl;
+  few_ack = few_more n links.ack are.few_ack;
+}
+
+-- ---- each event of a schedule
+
+none_behind : {X : Type 0} (xs ys : List X) → [] ≡ xs ++ ys → ys ≡ []
+none_behind [] ys is = sym is
+none_behind (x ∷ xs) ys is = absurd cc
+
+-- what stands before the last event, or all
+last_or : {X : Type 0} (schedule before behind : List X) (event : X) → schedule ++ event ∷ [] ≡ before ++ behind
+    → (behind ≡ []) ⊎ ((rest : List X) × (schedule ≡ before ++ rest))
+last_or [] [] behind event is = inr ([], refl)
+last_or [] (b ∷ before) behind event is = let rest : [] ≡ before ++ behind = cc in inl (none_behind before behind rest)
+last_or (s ∷ schedule) [] behind event is = inr (s ∷ schedule, refl)
+last_or (s ∷ schedule) (b ∷ before) behind event is =
+    let first : s ≡ b = cc in
+    let rest : schedule ++ event ∷ [] ≡ before ++ behind = cc in
+    elim (last_or schedule before behind event rest) [
+      | inl none ↦ inl none
+      | inr more ↦ inr (more.0, (λ i. first i ∷ more.1 i))
+    ]
+
+pub placed_more : (x : Given) (schedule : List LinkEvent) (event : LinkEvent) (calls : List Call) → StayPlaced x schedule calls
+    → ((more : List Call) → ArePlaced (world_by x (calls ++ more)) (linked_by x (calls ++ more) (schedule ++ event ∷ [])))
+    → StayPlaced x (schedule ++ event ∷ []) calls
+placed_more x schedule event calls before_it now = λ more before behind is.
+    elim (last_or schedule before behind event is) [
+      | inl none ↦ subst (λ (s : List LinkEvent). ArePlaced (world_by x (calls ++ more)) (linked_by x (calls ++ more) s))
+          (is ∙ (ap (λ (s : List LinkEvent). before ++ s) none ∙ append-nil before)) (now more)
+      | inr rest ↦ before_it more before rest.0 rest.1
+    ]
+
+pub placed_behind : (x : Given) (schedule : List LinkEvent) (calls one : List Call) → StayPlaced x schedule calls → StayPlaced x schedule (calls ++ one)
+placed_behind x schedule calls one placed = λ more before behind is.
+    subst (λ (cs : List Call). ArePlaced (world_by x cs) (linked_by x cs before)) (sym (append_assoc calls one more)) (placed (one ++ more) before behind is)
+
+-- the links as they are now
+pub placed_now : (x : Given) (schedule : List LinkEvent) (links : Links) (c : Course) (port : PortState)
+    (linking : IsLinking x schedule links c port) (more : List Call) → ArePlaced (world_by x (linking.calls ++ more)) linking.linked
+placed_now x schedule links c port linking more =
+    subst (λ (l : Linked). ArePlaced (world_by x (linking.calls ++ more)) l) (linking.stands more)
+    (linking.placed more schedule [] (sym (append-nil schedule)))
+
+-- an event that no event of the world comes of
+pub stays_in_world : (x : Given) (schedule : List LinkEvent) (event : LinkEvent) (links next : Links) (c : Course) (port : PortState)
+    (linking : IsLinking x schedule links c port) (l' : Linked)
+    → ((w : World) → w.at linking.linked.events ≡ linking.st → linked_step (setup_for x) w linking.linked event ≡ l')
+    → l'.events ≡ linking.linked.events → HasItems l' linking.calls linking.st → AreLinks (length schedule + 1) l' next
+    → ((more : List Call) → (world_by x (linking.calls ++ more)).at linking.linked.events ≡ linking.st)
+    → ((tables : Told) → port.told ≡ Some tables → (world_of x).at linking.linked.events ≡ linking.st)
+    → ((w : World) → ArePlaced w linking.linked → ArePlaced w l')
+    → IsLinking x (schedule ++ event ∷ []) next c port
+stays_in_world x schedule event links next c port linking l' steps events items are stays same placed =
+    let setup = setup_for x in
+    let long = one_longer schedule event in
+    let stands : (more : List Call) → linked_by x (linking.calls ++ more) (schedule ++ event ∷ []) ≡ l' = λ more.
+    one_event_more setup (world_by x (linking.calls ++ more)) first_linked schedule event
+    ∙ (ap (λ (l : Linked). linked_step setup (world_by x (linking.calls ++ more)) l event) (linking.stands more)
+    ∙ steps (world_by x (linking.calls ++ more)) (stays more)) in
+    record {
+      plain = linking.plain;
+      calls = linking.calls;
+      st = linking.st;
+      linked = l';
+      stands = stands;
+      placed = placed_more x schedule event linking.calls linking.placed
+          (λ more. subst (λ (l : Linked). ArePlaced (world_by x (linking.calls ++ more)) l) (sym (stands more))
+          (placed (world_by x (linking.calls ++ more)) (placed_now x schedule links c port linking more)));
+      replay = subst (λ (es : List Event). IsReplay x es linking.calls linking.st port) (sym events) linking.replay;
+      shown = linking.shown;
+      going = linking.going;
+      counted = linking.counted ∙ ap (λ (es : List Event). length es) (sym events);
+      few = subst (λ (es : List Event). length es ≤ length (schedule ++ event ∷ [])) (sym events) (omega (arith, linking.few, long));
+      items = items;
+      links_are = subst (λ (n : ℕ). AreLinks n l' next) (sym long) are;
+      told = λ tables is.
+          one_event_more setup (world_of x) first_linked schedule event
+          ∙ (ap (λ (l : Linked). linked_step setup (world_of x) l event) (linking.told tables is)
+          ∙ steps (world_of x) (same tables is));
+    }
+
+-- ---- an event of a link
+
+send_items : (l : Link) (j : ℕ) → (link_step l (send j)).items ≡ l.items
+send_items l j = sent_items l (slice_get (unknown l.items l.known) j)
+
+arrive_items : (l : Link) (j : ℕ) → (link_step l (arrive j)).items ≡ l.items
+arrive_items l j = arrived_items l (slice_get l.sent j)
+
+confirm_items : (l : Link) (j : ℕ) → (link_step l (confirm j)).items ≡ l.items
+confirm_items l j = confirmed_items l (slice_get l.back j)
+
+-- a change of one link that leaves its items
+items_stay : (change : Link → Link) → ((l : Link) → (change l).items ≡ l.items) → (l : Linked) (name : LinkName) (calls : List Call)
+    (st : State) → HasItems l calls st → HasItems (at_link change l name) calls st
+items_stay change stays l names.Up calls st items = record { up = stays l.up ∙ items.up; ctl = items.ctl; ack = items.ack }
+items_stay change stays l names.Down calls st items = record { up = items.up; ctl = items.ctl; ack = items.ack }
+items_stay change stays l names.Ctl calls st items = record { up = items.up; ctl = stays l.ctl ∙ items.ctl; ack = items.ack }
+items_stay change stays l names.Ack calls st items = record { up = items.up; ctl = items.ctl; ack = stays l.ack ∙ items.ack }
+
+events_stay : (change : Link → Link) (l : Linked) (name : LinkName) → (at_link change l name).events ≡ l.events
+events_stay change l names.Up = refl
+events_stay change l names.Down = refl
+events_stay change l names.Ctl = refl
+events_stay change l names.Ack = refl
+
+abbrev pub Stays : (x : Given) (calls : List Call) (events : List Event) (st : State) → Type 0
+Stays x calls events st = (more : List Call) → (world_by x (calls ++ more)).at events ≡ st
+
+pub transmitted : (x : Given) (schedule : List LinkEvent) (name : LinkName) (j : ℕ) (links next : Links) (c : Course)
+    (port : PortState) (linking : IsLinking x schedule links c port) → Stays x linking.calls linking.linked.events linking.st
+    → ((tables : Told) → port.told ≡ Some tables → (world_of x).at linking.linked.events ≡ linking.st)
+    → AreLinks (length schedule + 1) (at_link (λ one. link_step one (send j)) linking.linked name) next
+    → IsLinking x (schedule ++ Transmit name j ∷ []) next c port
+transmitted x schedule name j links next c port linking stays same are =
+    let change : Link → Link = λ one. link_step one (send j) in
+    stays_in_world x schedule (Transmit name j) links next c port linking (at_link change linking.linked name) (λ w at. refl)
+    (events_stay change linking.linked name)
+    (items_stay change (λ l. send_items l j) linking.linked name linking.calls linking.st linking.items) are stays same
+    (λ w. placed_still change (λ l. send_items l j) w linking.linked name (length schedule + 1) next are)
+
+pub delivered : (x : Given) (schedule : List LinkEvent) (name : LinkName) (j : ℕ) (links next : Links) (c : Course)
+    (port : PortState) (linking : IsLinking x schedule links c port) → Stays x linking.calls linking.linked.events linking.st
+    → ((tables : Told) → port.told ≡ Some tables → (world_of x).at linking.linked.events ≡ linking.st)
+    → AreLinks (length schedule + 1) (at_link (λ one. link_step one (arrive j)) linking.linked name) next
+    → IsLinking x (schedule ++ Deliver name j ∷ []) next c port
+delivered x schedule name j links next c port linking stays same are =
+    let change : Link → Link = λ one. link_step one (arrive j) in
+    stays_in_world x schedule (Deliver name j) links next c port linking (at_link change linking.linked name) (λ w at. refl)
+    (events_stay change linking.linked name)
+    (items_stay change (λ l. arrive_items l j) linking.linked name linking.calls linking.st linking.items) are stays same
+    (λ w. placed_still change (λ l. arrive_items l j) w linking.linked name (length schedule + 1) next are)
+
+pub confirmed : (x : Given) (schedule : List LinkEvent) (name : LinkName) (j : ℕ) (links next : Links) (c : Course)
+    (port : PortState) (linking : IsLinking x schedule links c port) → Stays x linking.calls linking.linked.events linking.st
+    → ((tables : Told) → port.told ≡ Some tables → (world_of x).at linking.linked.events ≡ linking.st)
+    → AreLinks (length schedule + 1) (at_link (λ one. link_step one (confirm j)) linking.linked name) next
+    → IsLinking x (schedule ++ Confirm name j ∷ []) next c port
+confirmed x schedule name j links next c port linking stays same are =
+    let change : Link → Link = λ one. link_step one (confirm j) in
+    stays_in_world x schedule (Confirm name j) links next c port linking (at_link change linking.linked name) (λ w at. refl)
+    (events_stay change linking.linked name)
+    (items_stay change (λ l. confirm_items l j) linking.linked name linking.calls linking.st linking.items) are stays same
+    (λ w. placed_still change (λ l. confirm_items l j) w linking.linked name (length schedule + 1) next are)

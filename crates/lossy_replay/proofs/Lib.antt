@@ -1,0 +1,15 @@
+mod Apart
+mod Applying
+mod AtWork
+mod Carrying
+mod Giving
+mod GoingOn
+mod Items
+mod Noting
+mod OnWays
+mod Performing
+mod Placed
+mod Small
+mod Standing
+mod Whole
+mod WorldOn

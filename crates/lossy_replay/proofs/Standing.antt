@@ -1,0 +1,179 @@
+-- The numbers that stand on a way, and how one of them is found.
+use Rattle.std.proofs.Common.{◌≡◌, ◌≢◌, ◌<◌, ◌≤◌, ◌+◌, ℕ, zero, suc, Bool, true, false, not, cond, List, [], ◌∷◌, ◌++◌, length, get_or, refl, sym, ap, ◌∙◌, subst, inl, inr, Some, None, arith, true≢false, add-zero}
+use Rattle.std.specs.Prelude.{◌==◌, Ok, Err, nat_lt, slice_get}
+use Rattle.std.specs.List.{AllPairs, filter, position, position_or_len, range_with_len}
+use Rattle.std.specs.List.Sorted.{IsBinarySearchResult}
+use Rattle.std.specs.Ordering.{nat_cmp}
+use Rattle.std.proofs.lemmas.Bool.{cases_eq, cases_lt, cond-false, cond-true, eq-eqb, eqb-true, lt-ltb, ne_eqb, or_cases, or_from, or_left, or_right}
+use Rattle.std.proofs.lemmas.List.Elements.{filter-append}
+use Rattle.std.proofs.lemmas.List.Sorted.{searched}
+use Rattle.std.proofs.lemmas.Option.{slice_get-get_or, slice_get_within}
+use Rattle.lossy_link.specs.Link.{is_among}
+use Rattle.lossy_replay.specs.Linked.{without}
+use Rattle.lossy_replay.proofs.Apart.{AreApart, among_there}
+
+-- ---- rising numbers
+
+abbrev pub AreRising : ℕ → ℕ → List ℕ → Type 0
+AreRising from to [] = Unit {0}
+AreRising from to (n ∷ ns) = (from ≤ n) × (n < to) × AreRising (suc n) to ns
+
+rising_from : (a b : ℕ) (xs : List ℕ) → AreRising a b xs → (j : ℕ) → j < length xs → a ≤ get_or xs j 0
+rising_from a b [] up j inside = absurd (omega arith)
+rising_from a b (x ∷ xs) up zero inside = up.0
+rising_from a b (x ∷ xs) up (suc j) inside = omega (arith, up.0, rising_from (suc x) b xs up.2 j (omega arith))
+
+rising_order : (a b : ℕ) (xs : List ℕ) → AreRising a b xs → (i j : ℕ) → i ≤ j → j < length xs → get_or xs i 0 ≤ get_or xs j 0
+rising_order a b [] up i j before inside = absurd (omega arith)
+rising_order a b (x ∷ xs) up zero zero before inside = omega arith
+rising_order a b (x ∷ xs) up zero (suc j) before inside = omega (arith, rising_from (suc x) b xs up.2 j (omega arith))
+rising_order a b (x ∷ xs) up (suc i) zero before inside = absurd (omega arith)
+rising_order a b (x ∷ xs) up (suc i) (suc j) before inside = rising_order (suc x) b xs up.2 i j (omega arith) (omega arith)
+
+rising_lower : (a a' b : ℕ) (xs : List ℕ) → a' ≤ a → AreRising a b xs → AreRising a' b xs
+rising_lower a a' b [] le up = tt
+rising_lower a a' b (x ∷ xs) le up = (omega (arith, up.0), up.1, up.2)
+
+moved : (a b b' : ℕ) (xs : List ℕ) → b ≡ b' → AreRising a b xs → AreRising a b' xs
+moved a b b' xs same up = subst (λ (k : ℕ). AreRising a k xs) same up
+
+-- what a test keeps of a range rises
+kept_rises : (p : ℕ → Bool) (a n : ℕ) → AreRising a (a + n) (filter p (range_with_len a n))
+kept_rises p a zero = tt
+kept_rises p a (suc n) =
+    let rest = moved (a + 1) ((a + 1) + n) (a + suc n) (filter p (range_with_len (a + 1) n)) (omega arith) (kept_rises p (a + 1) n) in
+    elim (p a) as (λ b. AreRising a (a + suc n) (cond b (a ∷ filter p (range_with_len (a + 1) n)) (filter p (range_with_len (a + 1) n)))) [
+      | true ↦ (omega arith, omega arith, rising_lower (a + 1) (suc a) (a + suc n) (filter p (range_with_len (a + 1) n)) (omega arith) rest)
+      | false ↦ rising_lower (a + 1) a (a + suc n) (filter p (range_with_len (a + 1) n)) (omega arith) rest
+    ]
+
+pub not_among : (xs : List ℕ) (n : ℕ) → ((k : ℕ) → k < length xs → get_or xs k 0 ≢ n) → is_among xs n ≡ false
+not_among [] n fails = refl
+not_among (x ∷ xs) n fails =
+    or_from (x == n) (is_among xs n) (ne_eqb x n (fails 0 (omega arith))) (not_among xs n (λ k inside. fails (suc k) (omega arith)))
+
+rising_apart : (a b : ℕ) (xs : List ℕ) → AreRising a b xs → AreApart xs
+rising_apart a b [] up = tt
+rising_apart a b (x ∷ xs) up =
+    (not_among xs x (λ k inside same. absurd (omega (arith, same, rising_from (suc x) b xs up.2 k inside))), rising_apart (suc x) b xs up.2)
+
+all_kept : (a n : ℕ) → filter (λ k. true) (range_with_len a n) ≡ range_with_len a n
+all_kept a zero = refl
+all_kept a (suc n) = ap (λ (ks : List ℕ). a ∷ ks) (all_kept (a + 1) n)
+
+pub range_apart : (a n : ℕ) → AreApart (range_with_len a n)
+range_apart a n = rising_apart a (a + n) (range_with_len a n) (subst (AreRising a (a + n)) (all_kept a n) (kept_rises (λ k. true) a n))
+
+pub pairs_apart : (xs : List ℕ) → AllPairs (λ m n. m ≢ n) xs → AreApart xs
+pairs_apart [] all = tt
+pairs_apart (x ∷ xs) all = (
+  not_among xs x (λ k inside same. all 0 (suc k) 0 (omega arith) (omega arith) (sym same)),
+  pairs_apart xs (λ i j d before inside. all (suc i) (suc j) d (omega arith) (omega arith)),
+)
+
+-- ---- ranges
+
+range_push : (a n : ℕ) → range_with_len a (suc n) ≡ range_with_len a n ++ (a + n) ∷ []
+range_push a zero = ap (λ (k : ℕ). k ∷ []) (sym (add-zero a))
+range_push a (suc n) =
+    let last : (a + 1) + n ≡ a + suc n = omega arith in
+    ap (λ (xs : List ℕ). a ∷ xs) (range_push (a + 1) n ∙ ap (λ (k : ℕ). range_with_len (a + 1) n ++ k ∷ []) last)
+
+pub one_stands : (gone : List ℕ) (n : ℕ) → is_among gone n ≡ false
+    → without gone (range_with_len 0 (suc n)) ≡ without gone (range_with_len 0 n) ++ n ∷ []
+one_stands gone n fails =
+    let p : ℕ → Bool = λ k. not (is_among gone k) in
+    let zero_plus : 0 + n ≡ n = omega arith in
+    let last : filter p (n ∷ []) ≡ n ∷ [] = cond-true (p n) (n ∷ []) [] (ap not fails) in
+    ap (filter p) (range_push 0 n ∙ ap (λ (k : ℕ). range_with_len 0 n ++ k ∷ []) zero_plus)
+    ∙ (filter-append p (range_with_len 0 n) (n ∷ []) ∙ ap (λ (ks : List ℕ). filter p (range_with_len 0 n) ++ ks) last)
+
+-- ---- places
+
+place_or_len : (xs : List ℕ) (j n : ℕ) → AreApart xs → slice_get xs j ≡ Some n → position_or_len (λ m. m == n) xs ≡ j
+place_or_len [] j n apart is = absurd cc
+place_or_len (x ∷ xs) zero n apart is =
+    let same : x ≡ n = cc in cond-false (not (x == n)) (1 + position_or_len (λ m. m == n) xs) 0 (ap not (eq-eqb x n same))
+place_or_len (x ∷ xs) (suc j) n apart is =
+    let other : (x == n) ≡ false = ne_eqb x n (λ same. true≢false (sym (among_there xs j n is) ∙ (ap (is_among xs) (sym same) ∙ apart.0))) in
+    let behind : 1 + j ≡ suc j = omega arith in
+    cond-true (not (x == n)) (1 + position_or_len (λ m. m == n) xs) 0 (ap not other) ∙ (ap (λ (k : ℕ). 1 + k) (place_or_len xs j n apart.1 is) ∙ behind)
+
+pub placed : (xs : List ℕ) (j n : ℕ) → AreApart xs → slice_get xs j ≡ Some n → position (λ m. m == n) xs ≡ Some j
+placed xs j n apart is =
+    ap (λ (k : ℕ). cond (nat_lt k (length xs)) (Some k) None) (place_or_len xs j n apart is)
+    ∙ cond-true (nat_lt j (length xs)) (Some j) None (lt-ltb j (length xs) (slice_get_within xs j n is))
+
+-- a number that stands there is found by halves
+pub record IsFoundAt (xs : List ℕ) (n place : ℕ) : Type 0 where
+  pub there : slice_get xs place ≡ Some n
+  pub position_is : position (λ m. m == n) xs ≡ Some place
+
+pub found_standing : (gone : List ℕ) (count n : ℕ) (place : ℕ)
+    → IsBinarySearchResult (λ y. nat_cmp y n) (without gone (range_with_len 0 count)) (Ok place)
+    → IsFoundAt (without gone (range_with_len 0 count)) n place
+found_standing gone count n place search =
+    let p : ℕ → Bool = λ k. not (is_among gone k) in
+    let xs = filter p (range_with_len 0 count) in
+    let up = kept_rises p 0 count in
+    let at = searched xs n (Ok place) search (rising_order 0 (0 + count) xs up) in
+    let there : slice_get xs place ≡ Some n = slice_get-get_or xs place 0 at.0 ∙ ap (λ (k : ℕ). Some k) at.1 in
+    record { there = there; position_is = placed xs place n (rising_apart 0 (0 + count) xs up) there }
+
+pub missing_standing : (gone : List ℕ) (count n : ℕ) (place : ℕ)
+    → IsBinarySearchResult (λ y. nat_cmp y n) (without gone (range_with_len 0 count)) (Err place)
+    → is_among (without gone (range_with_len 0 count)) n ≡ false
+missing_standing gone count n place search =
+    let p : ℕ → Bool = λ k. not (is_among gone k) in
+    let xs = filter p (range_with_len 0 count) in
+    let at = searched xs n (Err place) search (rising_order 0 (0 + count) xs (kept_rises p 0 count)) in
+    not_among xs n (λ k inside same. elim (cases_lt k place) [
+      | inl before ↦ absurd (omega (arith, same, at.1 k before))
+      | inr behind ↦ absurd (omega (arith, same, at.2 k behind inside))
+    ])
+
+-- ---- what passes a test, and what stands in a range
+
+pub passes : (p : ℕ → Bool) (xs : List ℕ) (n : ℕ) → is_among (filter p xs) n ≡ true → p n ≡ true
+passes p [] n there = absurd cc
+passes p (x ∷ xs) n there =
+    elim (p x) as (λ b. p x ≡ b → is_among (cond b (x ∷ filter p xs) (filter p xs)) n ≡ true → p n ≡ true) [
+      | true ↦ λ holds in_it. elim (or_cases (x == n) (is_among (filter p xs) n) in_it) [
+        | inl here ↦ ap p (sym (eqb-true x n here)) ∙ holds
+        | inr behind ↦ passes p xs n behind
+      ]
+      | false ↦ λ fails in_it. passes p xs n in_it
+    ] refl there
+
+pub passed : (p : ℕ → Bool) (xs : List ℕ) (n : ℕ) → is_among xs n ≡ true → p n ≡ true → is_among (filter p xs) n ≡ true
+passed p [] n there holds = absurd cc
+passed p (x ∷ xs) n there holds =
+    elim (or_cases (x == n) (is_among xs n) there) [
+      | inl here ↦
+          let first : p x ≡ true = ap p (eqb-true x n here) ∙ holds in
+          ap (λ (ys : List ℕ). is_among ys n) (cond-true (p x) (x ∷ filter p xs) (filter p xs) first) ∙ or_left (x == n) (is_among (filter p xs) n) here
+      | inr behind ↦
+          let rest = passed p xs n behind holds in
+          elim (p x) as (λ b. is_among (cond b (x ∷ filter p xs) (filter p xs)) n ≡ true) [
+            | true ↦ or_right (x == n) (is_among (filter p xs) n) rest
+            | false ↦ rest
+          ]
+    ]
+
+pub among_range : (a n k : ℕ) → a ≤ k → k < a + n → is_among (range_with_len a n) k ≡ true
+among_range a zero k from below = absurd (omega arith)
+among_range a (suc n) k from below =
+    elim (cases_eq a k) [
+      | inl same ↦ or_left (a == k) (is_among (range_with_len (a + 1) n) k) (eq-eqb a k same)
+      | inr other ↦ or_right (a == k) (is_among (range_with_len (a + 1) n) k) (among_range (a + 1) n k (omega (arith, other)) (omega arith))
+    ]
+
+rising_short : (a b : ℕ) (xs : List ℕ) → AreRising a b xs → a ≤ b → a + length xs ≤ b
+rising_short a b [] up le = omega arith
+rising_short a b (x ∷ xs) up le = omega (arith, up.0, rising_short (suc x) b xs up.2 (omega (arith, up.1)))
+
+pub few_standing : (gone : List ℕ) (count : ℕ) → length (without gone (range_with_len 0 count)) ≤ count
+few_standing gone count =
+    let p : ℕ → Bool = λ k. not (is_among gone k) in
+    let short = rising_short 0 (0 + count) (filter p (range_with_len 0 count)) (kept_rises p 0 count) (omega arith) in
+    omega (arith, short)

@@ -1,0 +1,14 @@
+use Rattle.std.proofs.Common.{sym, ◌∙◌}
+use Rattle.replay_contracts.specs.Given.{setup_for, whole}
+use Rattle.replay_contracts.specs.Replayer.{given_of}
+use Rattle.lossy_replay.proofs.Applying.{none_applies, some_applies}
+use Rattle.lossy_replay.proofs.allowing.may_apply.Goals as goal
+
+pub returns-in-Some : goal.returns-in-Some
+returns-in-Some c = λ job calls st shown.
+    some_applies (whole (given_of job)) (setup_for (given_of job)) calls st c.args.course.now c.in-Some.command c.waits.result shown
+    (sym c.peek.ensures ∙ c.in-Some.is) c.waits.ensures
+
+pub returns-in-None : goal.returns-in-None
+returns-in-None c = λ job calls st shown.
+    none_applies (whole (given_of job)) (setup_for (given_of job)) calls st c.args.course.now shown (sym c.peek.ensures ∙ c.in-None.is)

@@ -1,0 +1,60 @@
+//! A whole replay over links.
+ghost use Rattle.std.specs.Prelude.{◌≡◌, ◌≤◌, [], false, length, is_some, IfErr, IfOk, IsSome, OnOk};
+ghost use Rattle.flat_ir.specs.Program.{program_of};
+ghost use Rattle.run_model.specs.LinkEvents.{IsLinkSchedule};
+ghost use Rattle.run_model.specs.Sizes.{most_packets};
+ghost use Rattle.split_model.specs.Bounds.{HasFewStages};
+ghost use Rattle.split_answers.specs.Whole.{IsSplit};
+ghost use Rattle.replay_contracts.specs.Replayer.{CountsFault, given_of};
+ghost use Rattle.lossy_replay.specs.Replay.{IsLinkedReplay, IsLinkedRun};
+
+use crate::links::Links;
+use crate::run::LossyRun;
+use replay_contracts::{
+    Job, ReplayError, a_quiet_switch_has_the_servers_tables, a_run_keeps_its_promises,
+    a_told_replay_reports_the_run,
+};
+use replay_course::{Course, few_events_are_left};
+use replay_state::a_run_is_answered_by_its_calls;
+use run_model::LinkEvents;
+use std::alloc::Global;
+use switch_ir::SwitchPort;
+
+/// Loads a switch with the code of a job, and performs the events of a schedule over links: those of the world only
+/// where they apply and the links let them happen. Each other event of the world leaves no trace. No call of the switch
+/// failed then. After an error it is told of the switch only that just one call of it failed, or that none did and there
+/// was no memory; it tells its tables where it told them before.
+pub fn replay_lossy<S: SwitchPort>(
+    alloc: Global,
+    job: &Job,
+    events: &LinkEvents,
+    port: &mut S,
+) -> Result<LossyRun, ReplayError>
+    requires split { IsSplit (program_of job.now.flat) job.now.split job.now.writeback }
+    requires stages { HasFewStages job.now.split }
+    requires writeback { job.now.writeback ≤ 65536 }
+    requires few_packets { length job.now.packets ≤ most_packets }
+    requires schedule { IsLinkSchedule events.now }
+    requires none { job.now.events ≡ [] }
+    requires plain { job.now.fine ≡ false }
+    requires ends { job.now.drain ≡ false }
+    ensures linked { IfOk result (λ run. IsLinkedReplay (given_of job.now) events.now run (S.seen port.new)) }
+    ensures told { IsSome (S.seen port.old).told → IfOk result (λ run.
+        IsLinkedRun (given_of job.now) events.now run (S.seen port.new)) }
+    ensures stays { is_some (S.seen port.new).told ≡ is_some (S.seen port.old).told }
+    ensures no_fault { OnOk result ((S.seen port.new).faults ≡ (S.seen port.old).faults) }
+    ensures fault { IfErr result (λ e. CountsFault e (S.seen port.old) (S.seen port.new)) }
+{
+    a_quiet_switch_has_the_servers_tables();
+    a_run_is_answered_by_its_calls();
+    a_run_keeps_its_promises();
+    a_told_replay_reports_the_run();
+    few_events_are_left();
+    let mut course = Course::start(alloc, job, port)?;
+    let mut links = Links::new(alloc);
+    for event in events.as_slice() {
+        links.step(alloc, job, &mut course, port, *event)?;
+    }
+    let replayed = course.report(alloc, job, port)?;
+    Ok(links.into_run(replayed.run))
+}
