@@ -21,7 +21,7 @@ use Rattle.element_lang.specs.Meaning.{State, Running, value_of, assigned, with_
 use Rattle.element_chain.specs.Compose.{clearing, kept_where}
 use Rattle.packet_fields.specs.FieldOrder.{same_index, index-lt}
 use Rattle.packet_fields.proofs.SetFields.{value_absent, value_there}
-use Rattle.element_chain.proofs.FieldLists.{Has, each_there}
+use Rattle.packet_fields.proofs.FieldLists.{Has, each_there}
 use Rattle.element_chain.proofs.Sent.{sent_shape, sent_length, sent_fixed, sent_there, absent_value, other_port, written_behind_port}
 
 -- ## operators

@@ -1,4 +1,3 @@
-pub mod FieldLists
 pub mod Tests
 pub mod Ranks
 pub mod Ranked

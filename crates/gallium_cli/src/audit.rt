@@ -18,7 +18,6 @@ ghost use Rattle.gallium_cli.specs.Answers.{IsAuditInput, IsTrueFile, audited_te
 ghost use Rattle.gallium_cli.specs.Loads.{GoesOn, IsFileRefused, IsUnread, raised_by};
 ghost use Rattle.gallium_cli.specs.Causes.{CountsFaults, HasCause, IsDone, IsFirstRefused};
 
-use crate::arrivals::all_arrive;
 use crate::exceeding::owner;
 use crate::input::load_input;
 use crate::load::{Format, load};
@@ -194,7 +193,6 @@ fn load_audited<'a, F: Files>(
     ensures few_reads { (F.seen files.new).reads ≤ raised_by 3 (F.seen files.old).reads }
 {
     let (middlebox, packets) = load_input(alloc, source, trace, files)?;
-    all_arrive(packets.as_slice());
     let run = load_report(alloc, &middlebox, &packets, report, files)?;
     Ok(TrueRun {
         middlebox,

@@ -1,6 +1,6 @@
 //! What the files of a command are read as.
 ghost use Rattle.std.specs.Prelude.{◌≡◌, ◌≤◌, ◌<◌, ◌^◌, IsTrue, Ok, IfOk, IfErr, length};
-ghost use Rattle.packet_fields.specs.Sizes.{AreShort};
+ghost use Rattle.packet_fields.specs.Arrivals.{AreArrivals};
 ghost use Rattle.element_lang.specs.Accepted.{HasNames};
 ghost use Rattle.element_lang.specs.View.{tree};
 ghost use Rattle.element_lang.specs.Rules.{is_good};
@@ -185,7 +185,7 @@ impl Format for TraceFormat {
 
     ghost spells = { λ _ text packets. trace_of text ≡ Ok packets };
 
-    ghost sound = { λ _ packets. (length packets ≤ most_packets) × AreShort packets };
+    ghost sound = { λ _ packets. (length packets ≤ most_packets) × AreArrivals packets };
 
     ghost ready = { λ _. Unit {0} };
 

@@ -1,6 +1,6 @@
 //! A middlebox and the packets of a trace.
 ghost use Rattle.std.specs.Prelude.{◌≡◌, ◌≤◌, ◌<◌, ◌^◌, IsTrue, IfOk, IfErr, OnOk, length};
-ghost use Rattle.packet_fields.specs.Sizes.{AreShort};
+ghost use Rattle.packet_fields.specs.Arrivals.{AreArrivals};
 ghost use Rattle.element_lang.specs.View.{tree};
 ghost use Rattle.element_lang.specs.Rules.{is_good};
 ghost use Rattle.report_text.specs.Form.{are_declared};
@@ -33,7 +33,7 @@ pub fn load_input<'a, F: Files>(
     ensures few_objects { IfOk result (λ x. length x.0.objects < 2 ^ 32) }
     ensures declared { IfOk result (λ x. IsTrue (are_declared (tree x.0).objects)) }
     ensures few_packets { IfOk result (λ x. length x.1 ≤ most_packets) }
-    ensures short_packets { IfOk result (λ x. AreShort x.1) }
+    ensures arrivals { IfOk result (λ x. AreArrivals x.1) }
     ensures err { IfErr result (λ refusal. IsFirstRefused refusal (gates_of (Run source.now trace.now))
         (F.seen files.old) (F.seen files.new)) }
     ensures stays { OnOk result (GoesOn Status.Done (F.seen files.old) (F.seen files.new)) }

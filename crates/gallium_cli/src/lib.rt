@@ -5,7 +5,6 @@
 //! capture of a trace.
 #![tactic(auto)]
 
-mod arrivals;
 mod audit;
 mod captures;
 mod chain;

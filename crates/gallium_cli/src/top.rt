@@ -1,7 +1,7 @@
 //! The whole program.
 ghost use Rattle.std.specs.Prelude.{◌≡◌, ◌<◌, ◌^◌, Some, IsTrue, IfOk, IfErr, OnOk};
 ghost use Rattle.std.specs.Prelude.{map, length, string_bytes};
-ghost use Rattle.packet_fields.specs.Sizes.{AreShort};
+ghost use Rattle.packet_fields.specs.Arrivals.{AreArrivals};
 ghost use Rattle.element_lang.specs.View.{tree};
 ghost use Rattle.element_lang.specs.Rules.{is_good};
 ghost use Rattle.gallium_cli.specs.Words.{request_of, Run};
@@ -44,7 +44,7 @@ use switch_ir::SwitchPort;
 fn answer(alloc: Global, m: &Middlebox, packets: &[Packet]) -> Result<Text, NoMemory>
     requires good { IsTrue (is_good (tree m.now)) }
     requires few_objects { length m.now.objects < 2 ^ 32 }
-    requires short_packets { AreShort packets.now }
+    requires arrivals { AreArrivals packets.now }
     ensures { IfOk result (λ text. text ≡ serial_answer (tree m.now) packets.now) }
 {
     let served = run_all(alloc, m, packets)?;

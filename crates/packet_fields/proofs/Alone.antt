@@ -1,15 +1,13 @@
 -- A field set to its own value leaves the packet, and bytes stay bytes.
-use Rattle.std.proofs.Common.{◌≡◌, ℕ, ◌+◌, ◌-◌, ◌*◌, ◌^◌, ◌<◌, ◌≤◌, List, length, refl, sym, ap, ◌∙◌, subst, arith, lit<, Option, Some, None, unwrap_or, ⊎_elim}
+use Rattle.std.proofs.Common.{◌≡◌, ℕ, ◌+◌, ◌-◌, ◌*◌, ◌^◌, ◌<◌, ◌≤◌, List, length, refl, sym, ap, ◌∙◌, subst, arith, lit<, Option, Some, None, ⊎_elim}
 use Rattle.std.proofs.lemmas.Bool.{cases_lt}
 use Rattle.std.proofs.lemmas.List.{get_or_past}
 use Rattle.std.specs.Int.{bit_at}
-use Rattle.std.specs.Option.{option_map}
 use Rattle.packet_fields.specs.declared.field.Field.{Field}
 use Rattle.packet_fields.specs.Bits.{bit_of, spelled, replaced, bytes_of, number_at, with_number_at}
-use Rattle.packet_fields.specs.Fields.{place, meta_value, field_value, with_field}
+use Rattle.packet_fields.specs.Fields.{place, field_value, with_field}
 use Rattle.packet_fields.specs.Several.{AreBytes}
 use Rattle.packet_fields.specs.Shape.{shape_of}
-use Rattle.packet_fields.specs.Sizes.{largest_packet}
 use Rattle.packet_fields.specs.Table.{row}
 use Rattle.packet_fields.specs.Fitting.{AreBits, bit_of-lt, spelled-lt}
 use Rattle.packet_fields.proofs.BitRows.{spelled-middle, spelled-one, spelled-same, replaced_inside, replaced_before, replaced_behind, replaced-lt, byte_of, length-bytes_of, get_or-bytes_of, is_bytes_of}

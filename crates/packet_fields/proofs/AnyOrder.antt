@@ -1,6 +1,6 @@
 -- Several fields of a packet, set in any order.
-use Rattle.std.proofs.Common.{◌≡◌, ◌≢◌, ℕ, ◌^◌, ◌<◌, ◌⊎◌, ◌&&◌, ◌||◌, ◌==◌, not, Bool, true, false, List, [], ◌∷◌, ◌++◌, length, refl, sym, ap, ◌∙◌, subst, inl, inr, arith, Option, Some, None, IsSome, cond}
-use Rattle.std.proofs.lemmas.Bool.{true≢false, eqb-true, cases_Bool, cond-true, cond-false, cond_both, and_parts}
+use Rattle.std.proofs.Common.{◌≡◌, ◌≢◌, ℕ, ◌^◌, ◌<◌, ◌⊎◌, ◌||◌, ◌==◌, not, Bool, true, false, List, [], ◌∷◌, ◌++◌, length, refl, sym, ap, ◌∙◌, subst, inl, inr, arith, Option, Some, None, IsSome, cond}
+use Rattle.std.proofs.lemmas.Bool.{true≢false, eqb-true, cases_Bool, cond-true, cond-false, cond_both}
 use Rattle.std.specs.List.{filter}
 use Rattle.packet_fields.specs.declared.field.Field.{Field}
 use Rattle.packet_fields.specs.Bits.{with_number_at}
@@ -9,7 +9,8 @@ use Rattle.packet_fields.specs.Several.{Setting, with_settings, CanBeSet, IsUnse
 use Rattle.packet_fields.specs.Shape.{shape_of}
 use Rattle.packet_fields.specs.Table.{row, all_fields, field_index}
 use Rattle.packet_fields.proofs.BitRows.{length-with_number_at, with_number_at_swapped}
-use Rattle.packet_fields.specs.FieldOrder.{same_index, each_of, of_each}
+use Rattle.packet_fields.specs.FieldOrder.{same_index}
+use Rattle.packet_fields.proofs.FieldLists.{Has, NoneTwice, has, has_it, it_is_there, once, each_there}
 use Rattle.packet_fields.proofs.Places.{none_overlap}
 use Rattle.packet_fields.proofs.SetFields.{shape_stays, with_field_there, with_field_absent, other_value, IsSet, field_set}
 
@@ -122,22 +123,6 @@ two_parts (s ∷ ss) bytes test can distinct =
     ∙ two_parts ss (with_field bytes s.field s.value) test can.2 distinct.1
 
 -- ---- field order
-abbrev Has : Field → List Field → Type 0
-Has f [] = ⊥
-Has f (g ∷ gs) = (g ≡ f) ⊎ Has f gs
-
-abbrev NoneTwice : List Field → Type 0
-NoneTwice [] = Unit {0}
-NoneTwice (f ∷ fs) = (Has f fs → ⊥) × NoneTwice fs
-
-abbrev has : Field → List Field → Bool
-has f [] = false
-has f (g ∷ gs) = field_index g == field_index f || has f gs
-
-abbrev none_twice : List Field → Bool
-none_twice [] = true
-none_twice (f ∷ fs) = not (has f fs) && none_twice fs
-
 same_test : (f g : Field) → f ≡ g → (field_index f == field_index g) ≡ true
 same_test f g e = grind (arith, ap field_index e)
 
@@ -146,41 +131,6 @@ other_test f g other = elim (cases_Bool (field_index f == field_index g)) [ inl 
 
 or_true : (b c : Bool) → b ≡ true → (b || c) ≡ true
 or_true b c e = cc
-
-has_it : (f : Field) (fs : List Field) → Has f fs → has f fs ≡ true
-has_it f [] h = absurd h
-has_it f (g ∷ gs) h = elim h [ inl here ↦ rw (same_test g f here) refl | inr later ↦ let rest : has f gs ≡ true = has_it f gs later in grind (arith, rest) ]
-
-it_is_there : (f : Field) (fs : List Field) → has f fs ≡ true → Has f fs
-it_is_there f [] test = absurd (true≢false (sym test))
-it_is_there f (g ∷ gs) test = elim (cases_Bool (field_index g == field_index f)) [
-  | inl same ↦ inl (same_index g f (eqb-true (field_index g) (field_index f) same))
-  | inr other ↦ inr (it_is_there f gs (rw other at test))
-]
-
-not_both : (b : Bool) → not b ≡ true → b ≡ true → ⊥
-not_both true p q = true≢false (sym p)
-not_both false p q = true≢false (sym q)
-
-none_is_twice : (fs : List Field) → none_twice fs ≡ true → NoneTwice fs
-none_is_twice [] test = tt
-none_is_twice (f ∷ fs) test =
-    let parts = and_parts (not (has f fs)) (none_twice fs) test in
-    (λ h. not_both (has f fs) parts.0 (has_it f fs h), none_is_twice fs parts.1)
-
-all_once : none_twice all_fields ≡ true
-unfolding all_fields
-all_once = refl
-
-all_had : each_of (λ f. has f all_fields) all_fields ≡ true
-unfolding all_fields
-all_had = refl
-
-once : NoneTwice all_fields
-once = none_is_twice all_fields all_once
-
-each_there : (f : Field) → Has f all_fields
-each_there f = it_is_there f all_fields (of_each (λ g. has g all_fields) all_had f)
 
 same_choice : (fs : List Field) (bytes : List ℕ) (c d : Choice) → ((f : Field) → Has f fs → c f ≡ d f) → with_each bytes c fs ≡ with_each bytes d fs
 same_choice [] bytes c d same = refl

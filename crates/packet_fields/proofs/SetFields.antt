@@ -1,10 +1,9 @@
 -- What the fields of a packet say after one of them is set.
-use Rattle.std.proofs.Common.{◌≡◌, ◌≢◌, ℕ, ◌+◌, ◌-◌, ◌*◌, ◌^◌, ◌<◌, ◌≤◌, ◌⊎◌, ◌&&◌, ◌==◌, nat_le, Bool, true, false, List, length, refl, sym, ap, ◌∙◌, inl, inr, arith, lit<, Option, Some, None, is_some, unwrap_or, cond}
+use Rattle.std.proofs.Common.{◌≡◌, ◌≢◌, ℕ, ◌+◌, ◌-◌, ◌*◌, ◌^◌, ◌<◌, ◌≤◌, ◌⊎◌, ◌&&◌, ◌==◌, nat_le, Bool, true, false, List, length, refl, sym, ap, ◌∙◌, inl, inr, arith, Option, Some, None, unwrap_or, cond}
 use Rattle.std.proofs.lemmas.Bool.{true≢false}
-use Rattle.std.proofs.lemmas.Nat.{pow_pos}
 use Rattle.std.specs.Option.{option_map}
 use Rattle.packet_fields.specs.declared.field.Field.{Field}
-use Rattle.packet_fields.specs.declared.field.Field.TheVariants.{MetaPort, MetaLen, HasIp, HasTcp, HasUdp, EthType, IpVersion, IpIhl, IpFrag, IpProto}
+use Rattle.packet_fields.specs.declared.field.Field.TheVariants.{EthType, IpVersion, IpIhl, IpFrag, IpProto}
 use Rattle.packet_fields.specs.declared.shape.Shape.{Shape}
 use Rattle.packet_fields.specs.Bits.{number_at, with_number_at}
 use Rattle.packet_fields.specs.Fields.{place, meta_value, field_value, with_field}
@@ -12,7 +11,6 @@ use Rattle.packet_fields.specs.Shape.{outline_of, in_header, has_tag, network_st
 use Rattle.packet_fields.specs.Table.{row}
 use Rattle.packet_fields.proofs.BitRows.{length-with_number_at, number_at-with_same, number_at-with_apart}
 use Rattle.packet_fields.proofs.Places.{Stands, stands_in, network_of, network_in, Spot, spot, is_at, fields_apart, field_and_type, header_ends, place_within, none_overlap}
-use Rattle.packet_fields.specs.Sizes.{largest_packet}
 
 -- ---- in the packet
 pub start_near : (shape : Shape) (bytes : List ℕ) (f : Field) (start : ℕ) → shape ≡ shape_of bytes → start_of shape (row f).header ≡ Some start → start ≤ length bytes

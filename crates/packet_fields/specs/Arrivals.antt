@@ -1,5 +1,5 @@
 -- Packets that may arrive.
-use Rattle.std.specs.Prelude.{ℕ, ◌<◌, ◌≤◌, ◌^◌, length, slice_index}
+use Rattle.std.specs.Prelude.{ℕ, ◌<◌, ◌≤◌, ◌^◌, List, All, length, slice_index}
 use Rattle.packet_fields.specs.declared.packet.Packet.{Packet}
 use Rattle.packet_fields.specs.Sizes.{largest_packet}
 
@@ -8,3 +8,7 @@ pub record IsArrival (packet : Packet) : Type 0 where
   pub port : packet.port < 2 ^ 8
   pub bytes : (i : ℕ) → slice_index packet.bytes i < 2 ^ 8
   pub size : length packet.bytes ≤ largest_packet
+
+-- each of these packets may arrive
+abbrev pub AreArrivals : List Packet → Type 0
+AreArrivals packets = All IsArrival packets

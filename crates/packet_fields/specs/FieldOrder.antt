@@ -1,7 +1,7 @@
 -- Lemmas on field order, for this crate and those above: each field stands at its place, and what a test says of the
 -- members of the list holds of every field.
 use Rattle.std.proofs.Common.{◌≡◌, ℕ, zero, suc, ◌<◌, ◌≤◌, ◌&&◌, Bool, true, List, [], ◌∷◌, get_or, length, nat_le}
-use Rattle.std.proofs.Common.{slice_get, slice_index, Option, Some, refl, sym, ap, ◌∙◌, subst, lit<, arith}
+use Rattle.std.proofs.Common.{slice_get, slice_index, Some, refl, sym, ap, ◌∙◌, subst, lit<, arith}
 use Rattle.std.proofs.lemmas.Bool.{leb-true, and_parts}
 use Rattle.std.proofs.lemmas.List.{get_or-map}
 use Rattle.std.proofs.lemmas.Option.{slice_get-get_or}

@@ -1,6 +1,7 @@
 //! Packets as they arrive.
-ghost use Rattle.std.specs.Prelude.{◌≡◌, ◌≤◌, ◌↔◌, ◌++◌, ◌∷◌, [], length, nat_le, IfOk, IsTrue, OnOk, OnErr};
-ghost use Rattle.packet_fields.specs.Sizes.{AreShort, largest_packet};
+ghost use Rattle.std.specs.Prelude.{◌≡◌, ◌<◌, ◌≤◌, ◌↔◌, ◌++◌, ◌∷◌, ◌^◌, ℕ, [], length, nat_le, slice_index, IfOk, IsTrue, OnOk, OnErr};
+ghost use Rattle.packet_fields.specs.Arrivals.{AreArrivals, IsArrival};
+ghost use Rattle.packet_fields.specs.Sizes.{largest_packet};
 
 use gal_io::{Bytes, NoMemory};
 use std::alloc::Global;
@@ -36,6 +37,20 @@ impl Packet {
     }
 }
 
+// Bytes have 8 bits each.
+fn bytes_fit(bytes: &[u8])
+    ensures { (i : ℕ) → slice_index bytes.now i < 2 ^ 8 }
+{}
+
+// A packet of so few bytes may arrive: its port and its bytes have 8 bits, by their types.
+fn may_arrive(packet: &Packet)
+    requires { length packet.now.bytes ≤ largest_packet }
+    ensures { IsArrival packet.now }
+{
+    let _port = packet.port;
+    bytes_fit(packet.bytes.as_slice());
+}
+
 /// A list of packets, in order of arrival.
 #[derive(Debug, Drop)]
 pub struct Packets {
@@ -45,13 +60,13 @@ pub struct Packets {
 impl Model for Packets {
     ghost use Rattle.std.specs.Prelude.{List};
     ghost use Rattle.packet_fields.specs.declared.packet.Packet.{Packet};
-    ghost use Rattle.packet_fields.specs.Sizes.{AreShort};
+    ghost use Rattle.packet_fields.specs.Arrivals.{AreArrivals};
 
     ghost Value = { List Packet };
 
     ghost view = { λ packets. packets.items.items };
 
-    ghost invariant = { λ packets. AreShort packets.items.items };
+    ghost invariant = { λ packets. AreArrivals packets.items.items };
 }
 
 impl Packets {
@@ -65,7 +80,7 @@ impl Packets {
 
     pub fn as_slice(&self) -> &[Packet]
         ensures value { result.now ≡ self.now }
-        ensures short { AreShort self.now }
+        ensures arrivals { AreArrivals self.now }
     {
         self.items.as_slice()
     }
@@ -84,7 +99,7 @@ impl Packets {
 
     /// The list of these packets.
     pub fn of(items: Vec<Packet>) -> Packets
-        requires { AreShort items.items }
+        requires { AreArrivals items.items }
         ensures { result ≡ items.items }
     {
         Packets { items }
@@ -107,6 +122,7 @@ impl Packets {
         ensures ok { OnOk result (self.new ≡ self.old ++ packet ∷ []) }
         ensures err { OnErr result (self.new ≡ self.old) }
     {
+        may_arrive(&packet);
         self.items.push(packet)?;
         Ok(())
     }

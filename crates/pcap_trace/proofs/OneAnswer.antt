@@ -1,15 +1,14 @@
 -- Of each list of bytes one answer holds: a capture that they are, or the cause of one refusal.
-use Rattle.std.proofs.Common.{◌≡◌, ◌≢◌, ◌⊎◌, ℕ, ◌+◌, ◌<◌, ◌≤◌, ◌^◌, Bool, List, [], ◌++◌, length, take, drop, Result, Ok, Err, refl, sym, ap, ◌∙◌, subst, arith, inl, inr}
+use Rattle.std.proofs.Common.{◌≡◌, ◌≢◌, ◌⊎◌, ℕ, ◌<◌, ◌≤◌, Bool, List, [], ◌++◌, length, take, drop, Result, Ok, Err, refl, sym, ap, ◌∙◌, subst, arith, inl, inr}
 use Rattle.std.specs.Prelude.{IfErr, IfOk, MatchResult}
 use Rattle.std.specs.Int.{w32}
 use Rattle.std.proofs.lemmas.List.{append-nil}
-use Rattle.packet_fields.specs.Sizes.{largest_packet}
 use Rattle.pcap_trace.specs.declared.pcap.Pcap.{Pcap}
 use Rattle.pcap_trace.specs.declared.refusal.PcapError.{PcapError}
 use Rattle.pcap_trace.specs.declared.refusal.PcapError.TheVariants as errors
 use Rattle.pcap_trace.specs.Format.{IsCapture, IsPcap, ethernet, number, pcap_bytes}
 use Rattle.pcap_trace.specs.Records.{most_records}
-use Rattle.pcap_trace.specs.Refused.{Begins, IsCut, IsLong, IsRefused, StandsIn, Tells}
+use Rattle.pcap_trace.specs.Refused.{Begins, IsCut, IsLong, IsRefused}
 use Rattle.pcap_trace.proofs.NumberLemmas.{one_number}
 use Rattle.pcap_trace.proofs.OneRecord.{IsStuck, cut_is_stuck, long_is_stuck, none_is_stuck}
 use Rattle.pcap_trace.proofs.OneCapture.{begins_of, link_of, one_capture, one_kind}

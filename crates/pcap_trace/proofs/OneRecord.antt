@@ -1,9 +1,8 @@
 -- Bytes begin with one list of records at most, behind which no record stands.
-use Rattle.std.proofs.Common.{◌≡◌, ℕ, ◌+◌, ◌<◌, ◌≤◌, ◌^◌, Bool, List, [], ◌∷◌, ◌++◌, length, take, drop, refl, sym, ap, ◌∙◌, append_assoc, arith, inl, inr}
+use Rattle.std.proofs.Common.{◌≡◌, ℕ, ◌+◌, ◌<◌, ◌^◌, Bool, List, [], ◌∷◌, ◌++◌, length, take, drop, refl, sym, ap, ◌∙◌, append_assoc, arith, inl, inr}
 use Rattle.std.specs.Int.{w32}
 use Rattle.std.specs.List.{AllByRecursion as Each, flat_map}
 use Rattle.std.proofs.lemmas.List.{drop_at, length-append, take_at}
-use Rattle.packet_fields.specs.Sizes.{largest_packet}
 use Rattle.pcap_trace.specs.declared.records.Record.{Record}
 use Rattle.pcap_trace.specs.Format.{number, record_bytes, record_header}
 use Rattle.pcap_trace.specs.Records.{IsRecord}

@@ -1,5 +1,5 @@
 -- The bytes of a capture, in the savefile format of libpcap, pcap-savefile(5).
-use Rattle.std.specs.Prelude.{◌≡◌, ℕ, ◌<◌, ◌≤◌, ◌^◌, Bool, true, false, List, ◌++◌, length}
+use Rattle.std.specs.Prelude.{ℕ, ◌<◌, ◌≤◌, ◌^◌, Bool, true, false, List, ◌++◌, length}
 use Rattle.std.specs.Int.{Width, w16, w32, to_be_bytes, to_le_bytes}
 use Rattle.std.specs.List.{AllByRecursion as Each, flat_map}
 use Rattle.pcap_trace.specs.declared.pcap.Pcap.{Pcap}

@@ -1,6 +1,7 @@
 //! The packets of a trace, out of a capture and into one.
 ghost use Rattle.std.specs.Prelude.{◌≡◌, ◌≤◌, length, IfOk};
-ghost use Rattle.packet_fields.specs.Sizes.{AreShort, largest_packet};
+ghost use Rattle.packet_fields.specs.Arrivals.{AreArrivals};
+ghost use Rattle.packet_fields.specs.Sizes.{largest_packet};
 ghost use Rattle.pcap_trace.specs.Packets.{packet_of, packets_of, pcap_of, records_from, whole_record};
 ghost use Rattle.pcap_trace.specs.Records.{IsRecord, most_records};
 
@@ -47,7 +48,7 @@ fn record_at(alloc: Global, second: u32, bytes: &[u8]) -> Result<Record, NoMemor
 // A record for each of these packets.
 fn records_of(alloc: Global, packets: &[Packet]) -> Result<Records, NoMemory>
     requires few { length packets.now ≤ most_records }
-    requires short { AreShort packets.now }
+    requires arrivals { AreArrivals packets.now }
     ensures { IfOk result (λ records. records ≡ records_from 0 packets.now) }
 {
     let mut records = Vec::new(alloc);

@@ -1,8 +1,5 @@
 //! The start of a replay.
 ghost use Rattle.std.specs.Prelude.{◌≡◌, ◌≤◌, ◌<◌, ◌*◌, ◌^◌, [], length, is_some, if◌then◌else◌, IfErr, IfOk, OnOk};
-ghost use Rattle.std.specs.List.{AllByRecursion as Each};
-ghost use Rattle.packet_fields.specs.Sizes.{AreShort, largest_packet};
-ghost use Rattle.flat_ir.specs.Arrivals.{IsArrival};
 ghost use Rattle.flat_ir.specs.Program.{program_of};
 ghost use Rattle.switch_ir.specs.Code.{code_of};
 ghost use Rattle.switch_ir.specs.Emitted.{IsEmitted};
@@ -14,28 +11,11 @@ ghost use Rattle.replay_course.specs.Going.{most_commands};
 ghost use Rattle.replay_course.specs.UnderWay.{HasGone};
 
 use crate::course::Course;
-use packet_fields::Packet;
 use replay_contracts::{Job, ReplayError, a_replay_begins};
 use server_runtime::Server;
 use state_store::Store;
 use std::alloc::Global;
 use switch_ir::{PortEnd, SwitchCode, SwitchPort, emit};
-
-// The port and the bytes of a packet have 8 bits.
-fn arrives(port: u8, bytes: &[u8])
-    requires { length bytes.now ≤ largest_packet }
-    ensures { IsArrival (record { port = port; bytes = bytes.now }) }
-{}
-
-// So it is for all packets of a trace.
-fn all_arrive(packets: &[Packet])
-    requires { AreShort packets.now }
-    ensures { Each IsArrival packets.now }
-{
-    for packet in packets {
-        arrives(packet.port, packet.bytes.as_slice());
-    }
-}
 
 // How many stages a pass of this code has left where it enters before the server, and behind it: none where it takes
 // one event in all.
@@ -80,7 +60,7 @@ impl Course {
         ensures fault { IfErr result (λ e. CountsFault e (S.seen port.old) (S.seen port.new)) }
     {
         a_replay_begins();
-        all_arrive(job.packets.as_slice());
+        let _ = job.packets.as_slice();
         let code = emit(alloc, &job.flat, &job.split, job.writeback)?;
         load(alloc, port, &code)?;
         let store = Store::new(alloc, &job.flat.objects)?;

@@ -1,5 +1,5 @@
 -- What holds of the value of each line holds of all values of a text.
-use Rattle.std.proofs.Common.{ℕ, suc, Bool, true, false, List, [], ◌∷◌, length}
+use Rattle.std.proofs.Common.{ℕ, suc, true, false, List, [], ◌∷◌, length}
 use Rattle.std.specs.Prelude.{All, IfOk, Result, Ok, Err, nat_le, if◌then◌else◌}
 use Rattle.std.proofs.lemmas.List.Elements.{All-nil, All-cons}
 use Rattle.gal_io.specs.Lines.{is_skipped}

@@ -1,7 +1,8 @@
 pub mod LineSteps
 pub mod AllValues
-pub mod ShortPackets
 pub mod Numbers
+pub mod Arriving
 pub mod PrintedLines
 pub mod PrintedBack
 pub mod LinkSchedules
+pub mod Numbered

@@ -1,12 +1,14 @@
 -- Numbers as they are printed, and read again.
-use Rattle.std.proofs.Common.{◌≡◌, ℕ, zero, suc, ◌<◌, ◌≤◌, ◌^◌, true, List, [], ◌∷◌, length, get_or, Some, ap, lit<, arith}
+use Rattle.std.proofs.Common.{◌≡◌, ℕ, zero, suc, ◌<◌, ◌≤◌, ◌^◌, true, inl, inr, List, [], ◌∷◌, length, get_or, Some, ap, lit<, arith}
+use Rattle.std.specs.Prelude.{IfSome, Option, None, nat_le, if◌then◌else◌, option_and_then}
 use Rattle.std.specs.Fmt.{decimal}
 use Rattle.std.specs.Str.{all_ascii_digits}
 use Rattle.std.specs.Str.Parse.{digits_value}
 use Rattle.std.proofs.lemmas.Str.Parse.{IsNumeralModel, numerals_by_value, tells_all_ascii_digits}
 use Rattle.std.proofs.lemmas.Fmt.{digits_decimal, digits_value-decimal, decimal_nonempty, first_decimal, decimal_digit}
 use Rattle.std.proofs.lemmas.Bool.Decides.{nat_tests}
-use Rattle.gal_io.specs.Number.{is_number, number_up_to}
+use Rattle.std.proofs.lemmas.Bool.{cases_Bool}
+use Rattle.gal_io.specs.Number.{is_number, number_of, number_up_to}
 
 own : IsNumeralModel (λ digits. all_ascii_digits digits ≡ true) (digits_value 10)
 own = numerals_by_value _ tells_all_ascii_digits
@@ -28,3 +30,14 @@ read_again most number small fits =
     let is : is_number (decimal number) ≡ true = numeral_is (decimal number) (decimal_nonempty number (omega arith)) (decimal_digits number (omega arith)) (unpadded number (omega arith)) in
     let value : digits_value 10 (decimal number) ≡ number = digits_value-decimal own number (omega arith) in
     rw (is, value) (grind (arith, nat_tests))
+
+-- a number that is read is at most so large
+small_of : (most : ℕ) (number : Option ℕ) → IfSome (option_and_then (λ n. if nat_le n most then Some n else None) number) (λ n. n ≤ most)
+small_of most None = tt
+small_of most (Some n) = elim (cases_Bool (nat_le n most)) [
+  | inl small ↦ rw small (grind (arith, nat_tests))
+  | inr large ↦ rw large tt
+]
+
+pub number_small : (most : ℕ) (text : List ℕ) → IfSome (number_up_to most text) (λ n. n ≤ most)
+number_small most text = small_of most (number_of text)

@@ -22,7 +22,7 @@ use Rattle.run_text.specs.Printed.{IsLineOf, drain_lines, event_text, fine_lines
 use Rattle.run_model.specs.Sizes.{most_packets, most_events}
 use Rattle.run_text.specs.Trace.{at_most, behind_fine, body_of, event_line, is_drain, largest, numbered, packet_line, plan_behind, plan_by, schedule_of, trace_of, values_until}
 use Rattle.run_text.proofs.LineSteps.{ahead_values, all_lines}
-use Rattle.run_text.proofs.ShortPackets.{trace_values}
+use Rattle.run_text.proofs.Arriving.{trace_values}
 use Rattle.run_text.proofs.Numbers.{decimal_digits, read_again}
 use Rattle.run_text.proofs.PrintedLines.{AreLines, after_space, all_both, before_space, lines_lined, none_lined, plain, space_there, unspaced, values_lined}
 

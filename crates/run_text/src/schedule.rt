@@ -38,21 +38,25 @@ pub(crate) fn read_word(line: &[u8]) -> Option<Event>
     }
 }
 
+// The event that this letter names with the item behind it.
+fn read_numbered(letter: u8, item: &[u8]) -> Result<Event, LineKind>
+    ensures { result ≡ event_line (letter ∷ 32 ∷ item.now) }
+{
+    match letter {
+        b'u' => Ok(Event::Serve(read_item(item)?)),
+        b'h' => Ok(Event::Hold(read_item(item)?)),
+        b'd' => Ok(Event::Down(read_item(item)?)),
+        b's' => Ok(Event::Stage(read_item(item)?)),
+        _ => Err(LineKind::Form),
+    }
+}
+
 fn read_event(line: &[u8]) -> Result<Event, LineKind>
     ensures { result ≡ event_line line.now }
 {
-    if let Some(event) = read_word(line) {
-        return Ok(event);
-    }
-    let Some((letter, item)) = split_at_space(line) else {
-        return Err(LineKind::Form);
-    };
-    match letter {
-        [b'u'] => Ok(Event::Serve(read_item(item)?)),
-        [b'h'] => Ok(Event::Hold(read_item(item)?)),
-        [b'd'] => Ok(Event::Down(read_item(item)?)),
-        [b's'] => Ok(Event::Stage(read_item(item)?)),
-        _ => Err(LineKind::Form),
+    match line {
+        [letter, b' ', item @ ..] => read_numbered(*letter, item),
+        _ => read_word(line).ok_or(LineKind::Form),
     }
 }
 

@@ -1,6 +1,7 @@
 //! The text of a trace.
 ghost use Rattle.std.specs.Prelude.{◌≡◌, ◌≤◌, ◌⊎◌, ◌++◌, length, false, codes, decimal, IfOk, IfErr, OnOk, Ok, Err};
-ghost use Rattle.packet_fields.specs.Sizes.{AreShort, largest_packet};
+ghost use Rattle.packet_fields.specs.Arrivals.{AreArrivals};
+ghost use Rattle.packet_fields.specs.Sizes.{largest_packet};
 ghost use Rattle.run_text.specs.Printed.{IsLineOf, packet_text, trace_text};
 ghost use Rattle.run_text.specs.Report.{line_end};
 ghost use Rattle.run_model.specs.Sizes.{most_packets};
@@ -63,7 +64,7 @@ pub fn read_trace(alloc: Global, text: &[u8]) -> Result<Packets, LinesError>
     ensures ok { IfOk result (λ packets. trace_of text.now ≡ Ok packets) }
     ensures err { IfErr result (λ e. (e ≡ LinesError.NoMemory) ⊎ (trace_of text.now ≡ Err e)) }
     ensures few { IfOk result (λ packets. length packets ≤ most_packets) }
-    ensures short { IfOk result AreShort }
+    ensures arrivals { IfOk result AreArrivals }
 {
     let lines = read_values(alloc, text, 0, MAX_PACKETS)?;
     Ok(Packets::of(lines.items))

@@ -1,6 +1,4 @@
-use Rattle.std.proofs.Common.{List, subst}
-use Rattle.std.specs.List.{AllByRecursion as Each}
-use Rattle.packet_fields.specs.declared.packet.Packet.{Packet}
+use Rattle.std.proofs.lemmas.List.Elements.{recursion_from_All}
 use Rattle.element_lang.specs.View.{tree}
 use Rattle.flat_ir.specs.Arrivals.{IsArrival}
 use Rattle.flat_ir.specs.Program.{program_of}
@@ -10,7 +8,7 @@ use Rattle.gallium_cli.proofs.lossy.replayed.Goals as goal
 pub returns-in-Ok-clause-ok : goal.returns-in-Ok-clause-ok
 returns-in-Ok-clause-ok g c =
     let asked = c.requires.runnable in
-    let arrive = subst (λ (xs : List Packet). Each IsArrival xs) c.as_slice.ensures.value c.all_arrive.ensures in
+    let arrive = recursion_from_All IsArrival c.args.packets c.as_slice.ensures.arrivals in
     source_over_links (tree c.args.split_middlebox.program.middlebox) (program_of c.args.split_middlebox.program.flat)
     c.args.split_middlebox.split c.args.split_middlebox.writeback c.args.packets c.args.events.now c.in-Ok.run'
     (g.S.SwitchPort.seen c.args.port.now) (g.S.SwitchPort.seen c.replay_lossy.new.port)

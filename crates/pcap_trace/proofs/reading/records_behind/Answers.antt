@@ -1,4 +1,4 @@
-use Rattle.std.proofs.Common.{◌≡◌, ℕ, ◌+◌, ◌-◌, List, [], ◌∷◌, ◌++◌, take, drop, refl, ap, ◌∙◌, arith}
+use Rattle.std.proofs.Common.{◌≡◌, ℕ, ◌+◌, ◌-◌, [], ◌∷◌, ◌++◌, take, drop, refl, ap, ◌∙◌, arith}
 use Rattle.pcap_trace.specs.Reading.{record_with}
 use Rattle.pcap_trace.specs.Records.{most_records}
 use Rattle.pcap_trace.proofs.RecordLoop.{kept_few, none_so_far, one_more, part_are_bytes, records_are_taken, whole_is_read}

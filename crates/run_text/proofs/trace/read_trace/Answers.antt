@@ -1,9 +1,9 @@
 use Rattle.std.proofs.Common.{sym, ◌∙◌, rules}
-use Rattle.run_text.proofs.ShortPackets.{short_trace, trace_values}
+use Rattle.run_text.proofs.Arriving.{trace_arrives, trace_values}
 use Rattle.run_text.proofs.trace.read_trace.Goals as goal
 
 pub of-requires : goal.of-requires
-of-requires c = rw (sym (trace_values c.args.text.now) ∙ c.in_ok-lines.ensures.ok) at (short_trace c.args.text.now)
+of-requires c = rw (sym (trace_values c.args.text.now) ∙ c.in_ok-lines.ensures.ok) at (trace_arrives c.args.text.now)
 
 pub returns-in_err-lines-clause-err : goal.returns-in_err-lines-clause-err
 returns-in_err-lines-clause-err c = rw (sym (trace_values c.args.text.now)) (search rules)
@@ -11,6 +11,6 @@ returns-in_err-lines-clause-err c = rw (sym (trace_values c.args.text.now)) (sea
 pub returns-clause-ok : goal.returns-clause-ok
 returns-clause-ok c = rw c.of.ensures (sym (trace_values c.args.text.now) ∙ c.in_ok-lines.ensures.ok)
 
-pub returns-clause-short : goal.returns-clause-short
-returns-clause-short c =
-    rw c.of.ensures (rw (sym (trace_values c.args.text.now) ∙ c.in_ok-lines.ensures.ok) at (short_trace c.args.text.now))
+pub returns-clause-arrivals : goal.returns-clause-arrivals
+returns-clause-arrivals c =
+    rw c.of.ensures (rw (sym (trace_values c.args.text.now) ∙ c.in_ok-lines.ensures.ok) at (trace_arrives c.args.text.now))

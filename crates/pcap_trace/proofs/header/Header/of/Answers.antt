@@ -1,4 +1,4 @@
-use Rattle.std.proofs.Common.{◌≡◌, ◌<◌, ◌^◌, ℕ, drop, take, sym, ap, ◌∙◌, arith}
+use Rattle.std.proofs.Common.{◌≡◌, ℕ, drop, take, sym, ap, ◌∙◌, arith}
 use Rattle.std.specs.Int.{w32}
 use Rattle.pcap_trace.specs.Format.{ethernet, number}
 use Rattle.pcap_trace.proofs.NumberLemmas.{header_read}

@@ -1,7 +1,7 @@
 use Rattle.std.proofs.Common.{subst, ap, refl, ◌∙◌}
 use Rattle.flat_ir.specs.Program.{program_of}
 use Rattle.server_runtime.specs.Views.{server_of}
-use Rattle.std.specs.List.{AllByRecursion as Each}
+use Rattle.std.proofs.lemmas.List.Elements.{recursion_from_All}
 use Rattle.flat_ir.specs.Arrivals.{IsArrival}
 use Rattle.std.specs.Prelude.{if◌then◌else◌}
 use Rattle.switch_ir.specs.Code.{Code}
@@ -19,7 +19,7 @@ returns-clause-started g c =
     let pre = c.stages_in-pre_stages.ensures.pre ∙ ap (λ (k : Code). if x.manner.fine then k.pre.highest else 0) c.in_ok-code.ensures.code in
     let post = c.stages_in-pre_stages.ensures.post ∙ ap (λ (k : Code). if x.manner.fine then k.post.highest else 0) c.in_ok-code.ensures.code in
     started c.a_replay_begins.ensures x c.new-3.result (server_of c.in_ok-server.server) _ _ c.stages_in-pre_stages.result.0 c.stages_in-pre_stages.result.1
-    (is_prepared x c.requires.split c.requires.stages (subst (Each IsArrival) c.as_slice.ensures.value c.all_arrive.ensures) refl c.requires.few)
+    (is_prepared x c.requires.split c.requires.stages (recursion_from_All IsArrival c.args.job.now.packets c.as_slice.ensures.arrivals) refl c.requires.few)
     loads pre post
     (c.in_ok-server.ensures ∙ ap (λ st. record {
       program = program_of c.args.job.now.flat;

@@ -14,7 +14,7 @@ NoneTwice [] = Unit {0}
 NoneTwice (f ∷ fs) = (Has f fs → ⊥) × NoneTwice fs
 
 -- ## by tests, which compute
-abbrev has : Field → List Field → Bool
+abbrev pub has : Field → List Field → Bool
 has f [] = false
 has f (g ∷ gs) = field_index g == field_index f || has f gs
 
@@ -22,14 +22,14 @@ abbrev none_twice : List Field → Bool
 none_twice [] = true
 none_twice (f ∷ fs) = not (has f fs) && none_twice fs
 
-has_it : (f : Field) (fs : List Field) → Has f fs → has f fs ≡ true
+pub has_it : (f : Field) (fs : List Field) → Has f fs → has f fs ≡ true
 has_it f [] h = absurd h
 has_it f (g ∷ gs) h = elim h [
   | inl here ↦ grind (arith, ap field_index here)
   | inr later ↦ let rest : has f gs ≡ true = has_it f gs later in grind (arith, rest)
 ]
 
-it_is_there : (f : Field) (fs : List Field) → has f fs ≡ true → Has f fs
+pub it_is_there : (f : Field) (fs : List Field) → has f fs ≡ true → Has f fs
 it_is_there f [] test = absurd (true≢false (sym test))
 it_is_there f (g ∷ gs) test = elim (cases_Bool (field_index g == field_index f)) [
   | inl same ↦ inl (same_index g f (eqb-true (field_index g) (field_index f) same))
