@@ -2,10 +2,10 @@
 use Rattle.std.proofs.Common.{◌≡◌, ℕ, ◌+◌, ◌*◌, ◌^◌, ◌<◌, ◌≤◌, suc, true, false, List, [], ◌∷◌, ◌++◌, length, map, drop, Option, Some, None, option_map, refl, sym, ap, ap₂, subst, ◌∙◌, arith, zero, slice_get, slice_index_or, nat_lt, add-one, All, append_assoc, append-nil, IsPermutation, IsSorted}
 use Rattle.std.specs.Ordering.{nat_cmp, ordering_then, is_lt}
 use Rattle.std.specs.declared.cmp.Ordering.{Ordering}
-use Rattle.std.specs.FinMap.{entries, entries_sorted}
+use Rattle.std.specs.FinMap.{entries, entries_sorted, len}
 use Rattle.std.proofs.lemmas.Bool.{ltb-true}
 use Rattle.std.proofs.lemmas.Bool.Decides.{nat_tests}
-use Rattle.std.proofs.lemmas.List.{drop_all}
+use Rattle.std.proofs.lemmas.List.{drop_all, length-map}
 use Rattle.std.proofs.lemmas.List.Elements.{All-nil, All-cons}
 use Rattle.std.proofs.lemmas.List.Sorted.{IsPermutation-map, IsPermutation-trans, IsPermutation-sym}
 use Rattle.slot_table.specs.Table.{Entry, Contents, Slots, held, IsLaidOut}
@@ -19,7 +19,7 @@ use Rattle.state_store.specs.Sizes.{slot_rows, row_numbers, option_list}
 use Rattle.state_store.specs.Store.{row_of, rows_from}
 use Rattle.state_store.proofs.PackLaws.{number_words, words_cmp, packed_below}
 use Rattle.state_store.proofs.RowLaws.{entries_of}
-use Rattle.state_store.proofs.SlotRows.{row_at, gap_at, slots_permute}
+use Rattle.state_store.proofs.SlotRows.{row_at, gap_at, slots_permute, slots_count}
 use Rattle.state_store.proofs.SortLaws.{entry_cmp, Ascends, neighbours, at_most, first_or_behind, ascending_is}
 
 abbrev Numbers : Type 0
@@ -43,6 +43,21 @@ slot_pushed s i o l l' w lt e is so_far = go (held s i) o refl e is
 
 pub slots_pushed : (s : Slots) (i : ℕ) (l w : Numbers) → length s ≤ i → l ++ map row_numbers (slot_rows (drop i s)) ≡ w → l ≡ w
 slots_pushed s i l w le e = sym (append-nil l) ∙ ap (λ x. l ++ map row_numbers (slot_rows x)) (sym (drop_all i s le)) ∙ e
+
+-- a list that is as long as all is all
+as_long : (l m w : Numbers) → length w ≤ length l → l ++ m ≡ w → l ≡ w
+as_long l [] w le e = sym (append-nil l) ∙ e
+as_long l (x ∷ m) w le e = let all = ap length e in let parts = longer l m in absurd (omega arith)
+  where
+    longer : (l m : Numbers) → length (l ++ x ∷ m) ≡ length l + suc (length m)
+    longer [] m = omega arith
+    longer (y ∷ l) m = let rest = longer l m in omega arith
+
+-- as many rows as there are were met
+pub rows_pushed : (rows : Contents) (s : Slots) (i : ℕ) (l : Numbers) → IsLaidOut rows s → len rows ≤ length l → l ++ map row_numbers (slot_rows (drop i s)) ≡ map row_numbers (slot_rows s) → l ≡ map row_numbers (slot_rows s)
+rows_pushed rows s i l laid le e =
+    let count = length-map (slot_rows s) row_numbers ∙ slots_count rows s laid in
+    as_long l (map row_numbers (slot_rows (drop i s))) (map row_numbers (slot_rows s)) (omega arith) e
 
 -- ---- words
 words_back : (count : ℕ) (ws l ns : List ℕ) → packed_list count ws ns ≡ l → words count (number l) ≡ l

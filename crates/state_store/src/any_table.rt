@@ -168,20 +168,42 @@ pub fn numbers(alloc: Global, any: &AnyTable) -> Result<Vec<(u128, u128)>, NoMem
         made.items ≡ list_map of.row_numbers (of.slot_rows (of.table_of any.now).slots)) }
     ensures laid { IfOk result (λ _. IsLaidOut (of.table_of any.now).rows (of.table_of any.now).slots) }
 {
-    let mut made = Vec::with_capacity(alloc, len(any))?;
-    for i in 0..slots(any) {
-        let row = slot(any, i);
+    at_each!(any, table => numbers_of(alloc, table))
+}
+
+// The rows of one table as numbers, from slot to slot. Behind the last row no slot is looked at.
+fn numbers_of<const K: usize, const V: usize>(
+    alloc: Global,
+    table: &SlotTable<K, V>,
+) -> Result<Vec<(u128, u128)>, NoMemory>
+    requires keys { IsWords K }
+    requires values { IsWords V }
+    ensures rows { IfOk result (λ made. made.items ≡ list_map of.row_numbers (of.slot_rows table.now.slots)) }
+    ensures laid { IfOk result (λ _. IsLaidOut table.now.rows table.now.slots) }
+{
+    let count = table.len();
+    let mut made = Vec::with_capacity(alloc, count)?;
+    for i in 0..table.slots() {
+        let row = table.slot(i);
         push_row(&mut made, row)?;
+        if made.len() == count {
+            return Ok(made);
+        }
     }
     Ok(made)
 }
 
-// Pushes what a slot holds.
-fn push_row(made: &mut Vec<(u128, u128)>, slot: Option<(u128, u128)>) -> Result<(), NoMemory>
-    ensures { IfOk result (λ _. made.new.items ≡ made.old.items ++ of.option_list slot) }
+// Pushes the numbers of what a slot holds.
+fn push_row<const K: usize, const V: usize>(
+    made: &mut Vec<(u128, u128)>,
+    slot: Option<([u64; K], [u64; V])>,
+) -> Result<(), NoMemory>
+    requires keys { IsWords K }
+    requires values { IsWords V }
+    ensures { IfOk result (λ _. made.new.items ≡ made.old.items ++ of.option_list (option_map of.row_numbers slot.entry)) }
 {
     if let Some(row) = slot {
-        made.push(row)?;
+        made.push((number(&row.0), number(&row.1)))?;
     }
     Ok(())
 }
