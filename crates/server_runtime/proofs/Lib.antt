@@ -19,4 +19,5 @@ pub mod Spanned
 pub mod Steps
 pub mod Told
 pub mod Turned
+pub mod Walked
 pub mod Wholes

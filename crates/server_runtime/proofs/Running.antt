@@ -1,8 +1,7 @@
 -- One turn of the server more.
-use Rattle.std.proofs.Common.{◌≡◌, ◌+◌, ◌-◌, ◌≤◌, ◌<◌, ◌&&◌, ℕ, zero, suc, Bool, true, false, cond, List, [], ◌++◌, length, slice_index, refl, sym, ap, subst, ◌∙◌, arith, add-one, ⊎_elim, length-append, Some, slice_get, IsTrue, if◌then◌else◌}
+use Rattle.std.proofs.Common.{◌≡◌, ◌+◌, ◌-◌, ◌≤◌, ◌<◌, ◌&&◌, ℕ, zero, suc, Bool, true, cond, List, [], ◌++◌, length, slice_index, sym, ap, subst, ◌∙◌, arith, add-one, ⊎_elim, length-append, Some, slice_get, IsTrue}
 use Rattle.std.specs.List.{AllByRecursion as Each}
 use Rattle.std.proofs.lemmas.Bool.{lt-ltb}
-use Rattle.std.proofs.lemmas.List.{append-nil}
 use Rattle.std.proofs.Math.Nat.{eq-or-lt_of_le}
 use Rattle.packet_fields.specs.declared.packet.Packet.{Packet}
 use Rattle.state_store.specs.Store.{Store}
@@ -25,7 +24,7 @@ use Rattle.server_runtime.specs.Registers.{register_reads, HaveRegisters}
 use Rattle.server_runtime.specs.Running.{contents_at, row_of, server_steps}
 use Rattle.server_runtime.specs.Serving.{followed_writes, is_followed, updates_of}
 use Rattle.server_runtime.specs.Spans.{is_taken, is_turn, numbers_of, server_spans, values_at, writes_at}
-use Rattle.server_runtime.specs.Turns.{registers_by, turn_by, HasTurned, IsServing}
+use Rattle.server_runtime.specs.Turns.{registers_behind, HasTurned, IsServing}
 use Rattle.server_runtime.proofs.Alike.{IsTurnedAlike}
 use Rattle.server_runtime.proofs.Contents.{among_results, turn_alike}
 use Rattle.server_runtime.proofs.Spanned.{has_span}
@@ -60,16 +59,15 @@ module _ (f : Program) (well : IsWellFormed f) (split : List Part) (up : Reading
     turns mine =
         turn_alike f numbers well split up start packet same_operands same_results same_changes same_live i lt (content_of registers) (taken_is ∙ mine) alike.reads
 
-    store_by : (b : Bool) → is_turn f split i ≡ b → (turn_by b f packet i (register_reads f registers) st).store ≡ (next b).store
-    store_by true mine = ap (λ s. (turn f packet i (register_reads f registers) s).store) so.store ∙ (turns mine).store
-    store_by false mine = so.store
+    -- the run's turn is the server's
+    went : is_turn f split i ≡ true → next true ≡ next (is_turn f split i)
+    went mine = ap next (sym mine)
 
-    changes_by : (b : Bool) → is_turn f split i ≡ b
-        → updates_of f split m.changes ++ updates_of f split (turn_by b f packet i (register_reads f registers) st).changes ≡ updates_of f split (next b).changes
-    changes_by true mine =
+    changes_by : is_turn f split i ≡ true
+        → updates_of f split m.changes ++ updates_of f split (turn f packet i (register_reads f registers) st).changes ≡ updates_of f split (next (is_turn f split i)).changes
+    changes_by mine =
         ap (λ cs. updates_of f split m.changes ++ updates_of f split cs) (ap (λ s. (turn f packet i (register_reads f registers) s).changes) so.store ∙ (turns mine).changes)
-        ∙ sym (updates_append f split m.changes (turn f packet i m.reads m.store).changes)
-    changes_by false mine = append-nil (updates_of f split m.changes)
+        ∙ sym (updates_append f split m.changes (turn f packet i m.reads m.store).changes) ∙ ap (λ (n : Machine). updates_of f split n.changes) (went mine)
 
     -- the registers behind the step
     abbrev behind : Bool → Registers
@@ -77,16 +75,10 @@ module _ (f : Program) (well : IsWellFormed f) (split : List Part) (up : Reading
         all_written registers (cond b (numbers_of f (values_at f i)) [])
         (λ n. cond b (slice_index (row_of f packet i (register_reads f registers) m.store) (n - length (values_below f i))) 0)
 
-    behind_is : (b : Bool) → behind b ≡ registers_by b f packet i registers m.store
-    behind_is true = refl
-    behind_is false = refl
-
-    module _ (after : Registers) (st' : Store) (updates' : List Update)
-        (turned : HasTurned f split packet i (is_turn f split i) registers st after st' updates updates') where
+    module _ (mine : is_turn f split i ≡ true) (after : Registers) (st' : Store) (updates' : List Update)
+        (turned : HasTurned f split packet i registers st after st' updates updates') where
       after_is : registers_after (server_steps f split up start packet) registers (suc i) ≡ after
-      after_is =
-          ap behind taken_is ∙ behind_is (is_turn f split i)
-          ∙ ap (registers_by (is_turn f split i) f packet i registers) (sym so.store) ∙ sym turned.registers
+      after_is = ap behind (taken_is ∙ mine) ∙ ap (registers_behind f packet i registers) (sym so.store) ∙ sym turned.registers
 
       pub serving_more : reading_after (server_steps f split up start packet) (contents_at f split up start packet i) (suc i) ≡ contents_at f split up start packet (suc i)
           → IsServing f split up start packet (i + 1) after st' updates'
@@ -94,18 +86,18 @@ module _ (f : Program) (well : IsWellFormed f) (split : List Part) (up : Reading
           subst (λ n. IsServing f split up start packet n after st' updates') (sym (add-one i)) (record {
             ready = subst (λ contents. IsReady (server_spans f split) after contents (suc i + 1)) goes
                 (subst (λ r. IsReady (server_spans f split) r (reading_after (server_steps f split up start packet) (contents_at f split up start packet i) (suc i)) (suc i + 1)) after_is alike.next);
-            store = turned.store ∙ store_by (is_turn f split i) refl;
-            told = turned.told ∙ ap (λ l. l ++ updates_of f split (turn_by (is_turn f split i) f packet i (register_reads f registers) st).changes) so.told
-                ∙ changes_by (is_turn f split i) refl;
+            store = turned.store ∙ ap (λ s. (turn f packet i (register_reads f registers) s).store) so.store ∙ (turns mine).store ∙ ap (λ (n : Machine). n.store) (went mine);
+            told = turned.told ∙ ap (λ l. l ++ updates_of f split (turn f packet i (register_reads f registers) st).changes) so.told ∙ changes_by mine;
           })
 
     -- there is room for what the switch is told
-    pub room_for_turn : length (updates_of f split (served f split up start packet (i + 1)).changes) ≤ count_below (i + 1) (λ j. is_followed f split (step_at f j).work)
-        → length updates + length (updates_of f split (turn_by (is_turn f split i) f packet i (register_reads f registers) st).changes) ≤ followed_writes f split
-    room_for_turn few =
-        let more = updates_of f split (turn_by (is_turn f split i) f packet i (register_reads f registers) st).changes in
+    pub room_for_turn : is_turn f split i ≡ true
+        → length (updates_of f split (served f split up start packet (i + 1)).changes) ≤ count_below (i + 1) (λ j. is_followed f split (step_at f j).work)
+        → length updates + length (updates_of f split (turn f packet i (register_reads f registers) st).changes) ≤ followed_writes f split
+    room_for_turn mine few =
+        let more = updates_of f split (turn f packet i (register_reads f registers) st).changes in
         let all : length (updates_of f split m.changes ++ more) ≡ length (updates_of f split (served f split up start packet (i + 1)).changes) =
-        ap length (changes_by (is_turn f split i) refl) ∙ ap (λ n. length (updates_of f split (served f split up start packet n).changes)) (sym (add-one i))
+        ap length (changes_by mine) ∙ ap (λ n. length (updates_of f split (served f split up start packet n).changes)) (sym (add-one i))
         in
         omega (
           arith,
@@ -128,13 +120,3 @@ have_registers f split i registers lt written kept mine place low =
     in
     let h = has_span (server_spans f split) n (omega (arith, written (suc i) n among)) in
     subst (HasRegister registers) h.same (kept.has h.span h.there)
-
--- ## How many instructions are evaluated
-
-pub one_at_most : (b : Bool) → (if b then 1 else 0) ≤ 1
-one_at_most true = omega arith
-one_at_most false = omega arith
-
-pub count_at_most : (test : ℕ → Bool) (n : ℕ) → count_below n test ≤ n
-count_at_most test zero = omega arith
-count_at_most test (suc n) = omega (arith, count_at_most test n, one_at_most (test n))

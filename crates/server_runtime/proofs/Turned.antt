@@ -1,5 +1,5 @@
 -- What an instruction that the server evaluates leaves.
-use Rattle.std.proofs.Common.{◌≡◌, ℕ, Bool, true, List, [], ◌∷◌, ◌++◌, sym, ap, ◌∙◌}
+use Rattle.std.proofs.Common.{◌≡◌, ℕ, Bool, List, [], ◌∷◌, ◌++◌, sym, ap, ◌∙◌}
 use Rattle.packet_fields.specs.declared.packet.Packet.{Packet}
 use Rattle.state_store.specs.Store.{Store}
 use Rattle.flat_ir.specs.Blocks.{is_live}
@@ -33,7 +33,7 @@ module _ (f : Program) (split : List Part) (packet : Packet) (i : ℕ) (register
       → st' ≡ with_changes st (made (live_at s) (change_of (register_reads f registers) st s.work))
       → after ≡ with_row f i (number ∷ []) registers
       → told' ≡ told ++ updates_of f split (changed_by (register_reads f registers) number s.work)
-      → HasTurned f split packet i true registers st after st' told told'
+      → HasTurned f split packet i registers st after st' told told'
   number_turned s number after st' told told' is gives leaves sets tells = record {
     registers = sets ∙ ap (λ rs. with_row f i rs registers) (sym gives)
         ∙ ap (λ (t : Step). with_row f i (results (register_reads f registers) (live_at t) st packet t.work) registers) is;

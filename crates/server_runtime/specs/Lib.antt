@@ -1,5 +1,6 @@
 pub mod Plans
 pub mod Spans
+pub mod Walks
 pub mod Registers
 pub mod Running
 pub mod Serving

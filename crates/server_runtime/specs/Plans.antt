@@ -9,7 +9,7 @@ use Rattle.split_model.specs.Passes.{server_fields}
 use Rattle.split_model.specs.Shown.{is_replicated}
 use Rattle.server_runtime.specs.declared.plan.PreparedProgram.{PreparedProgram}
 use Rattle.server_runtime.specs.Registers.{AreFirsts}
-use Rattle.server_runtime.specs.Serving.{followed_writes}
+use Rattle.server_runtime.specs.Serving.{evaluated_steps, followed_writes}
 
 pub record ServerPlan : Type 0 where
   pub program : Program
@@ -32,3 +32,4 @@ pub record IsPrepared (w : PreparedProgram) : Type 0 where
   pub fields : w.fields.items ≡ server_fields (program_of w.flat) w.split
   pub followed : AreReplicated (program_of w.flat) w.split w.followed.items
   pub writes : w.writes ≡ followed_writes (program_of w.flat) w.split
+  pub evaluated : w.evaluated ≡ evaluated_steps (program_of w.flat) w.split

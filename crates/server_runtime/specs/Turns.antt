@@ -1,5 +1,5 @@
 -- The server's turns.
-use Rattle.std.specs.Prelude.{◌≡◌, ◌<◌, ◌≤◌, ◌+◌, ℕ, Bool, true, false, ◌==◌, List, [], ◌∷◌, ◌++◌, map, length, drop}
+use Rattle.std.specs.Prelude.{◌≡◌, ◌<◌, ◌≤◌, ◌+◌, ℕ, true, ◌==◌, List, [], ◌∷◌, ◌++◌, map, length, drop}
 use Rattle.std.specs.Prelude.{Option, Some, None, if◌then◌else◌}
 use Rattle.std.specs.List.{AllByRecursion as Each}
 use Rattle.packet_fields.specs.declared.packet.Packet.{Packet}
@@ -13,7 +13,7 @@ use Rattle.flat_ir.specs.Laws.{AllFit}
 use Rattle.flat_ir.specs.Program.{Program, Work}
 use Rattle.flat_ir.specs.Program.Work.{const, field, apply, shift, select, byte, look, put, del}
 use Rattle.flat_ir.specs.Blocks.{Reading}
-use Rattle.flat_ir.specs.Run.{made, with_writes, Change, Machine}
+use Rattle.flat_ir.specs.Run.{made, with_writes, Change}
 use Rattle.flat_ir.specs.Turns.{turn}
 use Rattle.flat_ir.specs.WellFormed.{IsWellFormed}
 use Rattle.split_model.specs.declared.split.Part.{Part}
@@ -43,15 +43,9 @@ pub record IsServing (f : Program) (split : List Part) (up : Reading) (start : S
   pub store : st ≡ (served f split up start packet n).store
   pub told : updates ≡ updates_of f split (served f split up start packet n).changes
 
--- the server's turn at instruction i, from these registers and this store
-abbrev pub turn_by : Bool → Program → Packet → ℕ → Reading → Store → Machine
-turn_by true f packet i reads st = turn f packet i reads st
-turn_by false f packet i reads st = record { reads = reads; store = st; changes = [] }
-
--- the registers behind it
-abbrev pub registers_by : Bool → Program → Packet → ℕ → Registers → Store → Registers
-registers_by true f packet i registers st = with_row f i (row_of f packet i (register_reads f registers) st) registers
-registers_by false f packet i registers st = registers
+-- the registers behind the server's turn at instruction i, from these registers and this store
+abbrev pub registers_behind : Program → Packet → ℕ → Registers → Store → Registers
+registers_behind f packet i registers st = with_row f i (row_of f packet i (register_reads f registers) st) registers
 
 -- what a put or a del changes where it takes effect
 abbrev pub wanted : Reading → Work → Option Change
@@ -81,17 +75,17 @@ pub record IsAtTurn (whole : PreparedProgram) (arrival : Arrival) (i : ℕ) : Ty
   pub size : length arrival.bytes.now ≤ largest_packet
   pub shape : arrival.shape ≡ shape_of arrival.bytes.now
 
--- a turn was taken or not: of what it read it left registers and a store, and the switch was told of its changes
-pub record HasTurned (f : Program) (split : List Part) (packet : Packet) (i : ℕ) (taken : Bool)
+-- a turn was taken: of what it read it left registers and a store, and the switch was told of its changes
+pub record HasTurned (f : Program) (split : List Part) (packet : Packet) (i : ℕ)
     (before : Registers) (st : Store) (after : Registers) (st' : Store) (updates updates' : List Update) : Type 0 where
-  pub registers : after ≡ registers_by taken f packet i before st
-  pub store : st' ≡ (turn_by taken f packet i (register_reads f before) st).store
-  pub told : updates' ≡ updates ++ updates_of f split (turn_by taken f packet i (register_reads f before) st).changes
+  pub registers : after ≡ registers_behind f packet i before st
+  pub store : st' ≡ (turn f packet i (register_reads f before) st).store
+  pub told : updates' ≡ updates ++ updates_of f split (turn f packet i (register_reads f before) st).changes
 
 -- the updates have room for what a turn tells the switch
-abbrev pub HasRoomFor : Program → List Part → Packet → ℕ → Bool → Registers → Store → ℕ → ℕ → Type 0
-HasRoomFor f split packet i taken registers st told room =
-    told + length (updates_of f split (turn_by taken f packet i (register_reads f registers) st).changes) ≤ room
+abbrev pub HasRoomFor : Program → List Part → Packet → ℕ → Registers → Store → ℕ → ℕ → Type 0
+HasRoomFor f split packet i registers st told room =
+    told + length (updates_of f split (turn f packet i (register_reads f registers) st).changes) ≤ room
 
 -- What is read of a frame that came up: its number and packet, and its numbers in registers, which fit.
 pub record IsRead (f : Program) (split : List Part) (frame : List ℕ) (registers : Registers) (head : Head)

@@ -1,6 +1,7 @@
 //! A split program, and what the server works out of it beforehand.
-ghost use Rattle.std.specs.Prelude.{◌≡◌, ◌<◌, ◌≤◌, ◌^◌, List, Some, None, length, IfOk, IsTrue, if◌then◌else◌};
+ghost use Rattle.std.specs.Prelude.{◌≡◌, ◌<◌, ◌≤◌, ◌^◌, ◌&&◌, not, List, Some, None, length, IfOk, IsTrue, if◌then◌else◌};
 ghost use Rattle.flat_ir.specs.Fits.{fits};
+ghost use Rattle.flat_ir.specs.Kinds.{is_input};
 ghost use Rattle.flat_ir.specs.Program.{is_named, program_of, work_of, Program};
 ghost use Rattle.flat_ir.specs.WellFormed.{IsWellFormed};
 ghost use Rattle.split_model.specs.declared.split.Part.{Part};
@@ -9,11 +10,12 @@ ghost use Rattle.split_model.specs.Layouts.{down_layout, number_of, up_layout, v
 ghost use Rattle.split_model.specs.Legal.{IsLegal};
 ghost use Rattle.split_model.specs.Passes.{server_fields};
 ghost use Rattle.split_model.specs.Shown.{is_replicated};
+ghost use Rattle.split_model.specs.Split.{is_server};
 ghost use Rattle.server_runtime.specs.Plans.{AreReplicated, IsPrepared};
 ghost use Rattle.server_runtime.specs.Registers.{AreFirsts};
-ghost use Rattle.server_runtime.specs.Serving.{followed_writes, is_followed};
+ghost use Rattle.server_runtime.specs.Serving.{evaluated_steps, followed_writes, is_followed};
 
-use crate::spans::{Seated, registers_of};
+use crate::spans::{Course, course_of};
 use flat_ir::{FieldValue, Flat, InstrKind, ValueId};
 use gal_io::NoMemory;
 use split_model::{Layout, Split, down_layout, replicated, up_layout};
@@ -33,12 +35,16 @@ pub(crate) struct PreparedProgram {
     pub firsts: Vec<u32>,
     /// Where the number of each instruction's first value stands among the registers. Empty until these are planned.
     pub seats: Vec<u32>,
+    /// The instructions at which a run takes a turn, in order. Empty until registers are planned.
+    pub turns: Vec<u32>,
     /// The fields that the server sets.
     pub fields: Vec<FieldValue>,
     /// Whether the object is replicated, for each object.
     pub followed: Vec<bool>,
     /// How many instructions write to replicated objects.
     pub writes: usize,
+    /// How many instructions other than consts and fields the server evaluates.
+    pub evaluated: u32,
 }
 
 /// A legally split program, and the registers in which it is run. Contracts see the program and the split.
@@ -53,6 +59,7 @@ impl Model for ServerPlan {
     ghost use Rattle.server_runtime.specs.Plans as plans;
     ghost use Rattle.server_runtime.specs.Plans.{IsPrepared};
     ghost use Rattle.server_runtime.specs.Registers.{AreSeats, AreServing};
+    ghost use Rattle.server_runtime.specs.Walks.{AreTurns};
 
     ghost Value = { plans.ServerPlan };
 
@@ -60,7 +67,8 @@ impl Model for ServerPlan {
 
     ghost invariant = { λ plan. IsPrepared plan.whole
         × AreServing (program_of plan.whole.flat) plan.whole.split plan.values
-        × AreSeats (program_of plan.whole.flat) plan.whole.seats.items plan.values };
+        × AreSeats (program_of plan.whole.flat) plan.whole.seats.items plan.values
+        × AreTurns (program_of plan.whole.flat) plan.whole.split plan.whole.turns.items };
 }
 
 impl ServerPlan {
@@ -72,8 +80,12 @@ impl ServerPlan {
         ensures split { IfOk result (λ plan. plan.split ≡ s.now) }
     {
         let mut whole = PreparedProgram::of(alloc, f, s)?;
-        let Seated { values, seats } = registers_of(alloc, &whole)?;
-        whole.take_seats(seats);
+        let Course {
+            values,
+            seats,
+            turns,
+        } = course_of(alloc, &whole)?;
+        whole.take_course(seats, turns);
         Ok(ServerPlan { whole, values })
     }
 }
@@ -196,6 +208,27 @@ fn count_writes(f: &Flat, followed: &[bool]) -> usize
     writes
 }
 
+// Whether it is the server's, and no const or field.
+fn is_evaluated(s: &Split, instruction: usize, kind: &InstrKind) -> bool
+    ensures { result ≡ (is_server s.now instruction && not (is_input (work_of kind.now))) }
+{
+    s.is_server(instruction) && !kind.is_input()
+}
+
+// How many instructions other than consts and fields the server evaluates.
+fn count_evaluated(f: &Flat, s: &Split) -> u32
+    requires { length f.now.code ≤ 4096 }
+    ensures { result ≡ evaluated_steps (program_of f.now) s.now }
+{
+    let mut evaluated = 0;
+    for (place, instr) in f.code.as_slice().iter().enumerate() {
+        if is_evaluated(s, place, &instr.kind) {
+            evaluated += 1;
+        }
+    }
+    evaluated
+}
+
 impl PreparedProgram {
     // The split program, with what is looked up in it.
     fn of(alloc: Global, f: &Flat, s: &Split) -> Result<PreparedProgram, NoMemory>
@@ -210,6 +243,7 @@ impl PreparedProgram {
         let split = s.copy(alloc)?;
         let flat = f.copy(alloc)?;
         let writes = count_writes(f, &lists.followed);
+        let evaluated = count_evaluated(f, s);
         Ok(PreparedProgram {
             flat,
             split,
@@ -217,21 +251,25 @@ impl PreparedProgram {
             down: layouts.down,
             firsts: lists.firsts,
             seats: Vec::new(alloc),
+            turns: Vec::new(alloc),
             fields: lists.fields,
             followed: lists.followed,
             writes,
+            evaluated,
         })
     }
 
-    // Takes the places of the instructions' first values.
-    fn take_seats(&mut self, seats: Vec<u32>)
+    // Takes the places of the instructions' first values, and the turns of a run.
+    fn take_course(&mut self, seats: Vec<u32>, turns: Vec<u32>)
         requires { IsPrepared self.old }
         ensures prepared { IsPrepared self.new }
         ensures seats { self.new.seats ≡ seats }
+        ensures turns { self.new.turns ≡ turns }
         ensures flat { self.new.flat ≡ self.old.flat }
         ensures split { self.new.split ≡ self.old.split }
     {
         self.seats = seats;
+        self.turns = turns;
     }
 
     /// The number of an instruction's first value.

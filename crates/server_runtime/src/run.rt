@@ -16,9 +16,10 @@ ghost use Rattle.transfer_header.specs.Steps.{IsReady};
 ghost use Rattle.transfer_header.specs.Told.{number_in, packet_in, reads_in};
 ghost use Rattle.server_runtime.specs.Plans.{IsPrepared};
 ghost use Rattle.server_runtime.specs.Registers.{contents_of, handed, register_reads, AreSeats, AreServing};
-ghost use Rattle.server_runtime.specs.Serving.{evaluated_steps, followed_writes};
+ghost use Rattle.server_runtime.specs.Serving.{followed_writes};
 ghost use Rattle.server_runtime.specs.Spans.{server_spans};
 ghost use Rattle.server_runtime.specs.Turns.{IsOutcome, IsRead, IsServing};
+ghost use Rattle.server_runtime.specs.Walks.{AreTurns};
 
 use crate::plan::{PreparedProgram, ServerPlan};
 use crate::registers::Registers;
@@ -47,16 +48,16 @@ pub(crate) struct Ran {
     pub evaluated: u32,
 }
 
-// All turns of the server, in order. What the switch is told goes into `updates`, which has room for it. The answer is
-// how many instructions other than consts and fields were evaluated.
+// All turns of the server, in order. What the switch is told goes into `updates`, which has room for it.
 fn take_turns(
     whole: &PreparedProgram,
     arrival: &Arrival<'_>,
     values: &mut Regs,
     store: &mut Store,
     updates: &mut Vec<Update>,
-) -> u32
+)
     requires prepared { IsPrepared whole.now }
+    requires turns { AreTurns (program_of whole.now.flat) whole.now.split whole.now.turns.items }
     requires seats { AreSeats (program_of whole.now.flat) whole.now.seats.items values.old }
     requires kept { IsKept whole.now.flat.objects store.old }
     requires ready { let f = program_of whole.now.flat in
@@ -71,14 +72,18 @@ fn take_turns(
         (length f.code) values.new store.new updates.new.items }
     ensures seats { AreSeats (program_of whole.now.flat) whole.now.seats.items values.new }
     ensures kept { IsKept whole.now.flat.objects store.new }
-    ensures evaluated { result ≡ evaluated_steps (program_of whole.now.flat) whole.now.split }
 {
     a_server_takes_turns();
-    let mut evaluated = 0;
-    for i in 0..whole.flat.code.len() {
-        evaluated += take_turn(whole, arrival, i, values, store, updates);
+    for instruction in &whole.turns {
+        take_turn(
+            whole,
+            arrival,
+            *instruction as usize,
+            values,
+            store,
+            updates,
+        );
     }
-    evaluated
 }
 
 // A frame, where the fields are set in its packet that the server sets. They are set in the frame's own bytes, of which
@@ -121,6 +126,7 @@ fn run(
     room: Room,
 ) -> Ran
     requires prepared { IsPrepared whole.now }
+    requires turns { AreTurns (program_of whole.now.flat) whole.now.split whole.now.turns.items }
     requires seats { AreSeats (program_of whole.now.flat) whole.now.seats.items values.old }
     requires kept { IsKept whole.now.flat.objects store.old }
     requires ready { let f = program_of whole.now.flat in
@@ -140,7 +146,7 @@ fn run(
 {
     a_server_run_has_an_outcome();
     let Room { frame, mut updates } = room;
-    let evaluated = take_turns(whole, arrival, values, store, &mut updates);
+    take_turns(whole, arrival, values, store, &mut updates);
     let frame = pack_down_in(
         frame,
         &whole.down,
@@ -154,7 +160,7 @@ fn run(
         number,
         down,
         updates: Updates::from(updates),
-        evaluated,
+        evaluated: whole.evaluated,
     }
 }
 

@@ -1,6 +1,6 @@
 //! What holds of a server's run in registers, turn by turn and at its end. These functions do nothing: their contracts
 //! are the laws.
-ghost use Rattle.std.specs.Prelude.{◌≡◌, ◌+◌, ◌<◌, ◌≤◌, ◌^◌, ℕ, true, List, length, slice_index};
+ghost use Rattle.std.specs.Prelude.{◌≡◌, ◌+◌, ◌<◌, ◌≤◌, ◌^◌, ℕ, true, false, List, length, slice_index};
 ghost use Rattle.packet_fields.specs.declared.packet.Packet.{Packet};
 ghost use Rattle.state_store.specs.Kept.{IsKept};
 ghost use Rattle.state_store.specs.Store.{Store};
@@ -18,6 +18,7 @@ ghost use Rattle.server_runtime.specs.Registers.{AreServing, HaveRegisters};
 ghost use Rattle.server_runtime.specs.Serving.{evaluated_steps, followed_writes};
 ghost use Rattle.server_runtime.specs.Spans.{is_turn};
 ghost use Rattle.server_runtime.specs.Turns.{sent_by, HasRoomFor, HasTurned, IsBegun, IsOutcome, IsRead, IsServing};
+ghost use Rattle.server_runtime.specs.Walks.{is_due};
 
 use crate::laws::{a_server_run_goes_by_steps, what_the_switch_is_told_fits};
 use flat_ir::readings_that_agree;
@@ -43,7 +44,7 @@ pub(crate) fn a_frame_is_read()
 }
 
 /// A run that goes on has registers for its next turn, a store that keeps what was declared, and room for what the
-/// switch is told. The turn that is taken then is that of the run.
+/// switch is told. The turn that is taken then is that of the run. Where none is due, the run goes on with what it has.
 pub(crate) fn a_server_takes_turns()
     ensures has { (f : Program) (split : List Part) (up : Reading) (st : Store) (packet : Packet) (i : ℕ)
         (registers : Registers) (now : Store) (updates : List Update)
@@ -56,15 +57,20 @@ pub(crate) fn a_server_takes_turns()
     ensures room { (f : Program) (split : List Part) (up : Reading) (st : Store) (packet : Packet) (i : ℕ)
         (registers : Registers) (now : Store) (updates : List Update)
         → IsBegun f split up st packet → IsServing f split up st packet i registers now updates
-        → i < length f.code → HasRoomFor f split packet i (is_turn f split i) registers now (length updates)
+        → i < length f.code → is_turn f split i ≡ true → HasRoomFor f split packet i registers now (length updates)
         (followed_writes f split) }
     ensures next { (f : Program) (split : List Part) (up : Reading) (st : Store) (packet : Packet) (i : ℕ)
         (registers : Registers) (now : Store) (updates : List Update)
         (after : Registers) (later : Store) (told : List Update)
         → IsBegun f split up st packet → IsServing f split up st packet i registers now updates
-        → i < length f.code
-        → HasTurned f split packet i (is_turn f split i) registers now after later updates told
+        → i < length f.code → is_turn f split i ≡ true
+        → HasTurned f split packet i registers now after later updates told
         → IsServing f split up st packet (i + 1) after later told }
+    ensures idle { (f : Program) (split : List Part) (up : Reading) (st : Store) (packet : Packet) (i n : ℕ)
+        (registers : Registers) (now : Store) (updates : List Update)
+        → IsBegun f split up st packet → IsServing f split up st packet i registers now updates
+        → i ≤ n → n ≤ length f.code → ((j : ℕ) → i ≤ j → j < n → is_due f split j ≡ false)
+        → IsServing f split up st packet n registers now updates }
 {
     a_server_keeps_widths();
     a_server_run_goes_by_steps();

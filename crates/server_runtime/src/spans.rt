@@ -1,27 +1,35 @@
-//! Registers for a server's run: as few as its values need at once.
-ghost use Rattle.std.specs.Prelude.{◌≡◌, ◌+◌, ◌<◌, ◌++◌, ◌^◌, ◌&&◌, Bool, ℕ, suc, length, map, max, slice_index, slice_set};
+//! What a server's run goes by: registers, as few as its values need at once, and the turns that it takes.
+ghost use Rattle.std.specs.Prelude.{◌≡◌, ◌+◌, ◌<◌, ◌++◌, ◌^◌, ◌&&◌, ◌||◌, Bool, ℕ, suc, length, map, max, slice_index, slice_set};
 ghost use Rattle.std.specs.Prelude.{All, IfOk, OnOk, IsTrue, if◌then◌else◌};
 ghost use Rattle.std.specs.List.{AllByRecursion as Each};
-ghost use Rattle.flat_ir.specs.Kinds.{is_write};
+ghost use Rattle.flat_ir.specs.Kinds.{is_input, is_write};
 ghost use Rattle.flat_ir.specs.Program.{is_named, operands, program_of, step_at, work_of};
 ghost use Rattle.split_model.specs.Layouts.{values_of};
 ghost use Rattle.split_model.specs.Passes.{server_fields};
+ghost use Rattle.split_model.specs.Split.{is_server};
 ghost use Rattle.transfer_header.specs.BlockSteps.{greatest, step_if};
 ghost use Rattle.transfer_header.specs.Steps.{is_among};
 ghost use Rattle.server_runtime.specs.Plans.{IsPrepared};
 ghost use Rattle.server_runtime.specs.Registers.{seat_by, AreSeats, AreServing};
 ghost use Rattle.server_runtime.specs.Noting.{is_condition_of, is_operand_at, is_written_at};
-ghost use Rattle.server_runtime.specs.Spans.{last_below, last_read, numbers_of, reads_at};
+ghost use Rattle.server_runtime.specs.Spans.{last_below, numbers_of, reads_at};
 ghost use Rattle.server_runtime.specs.Spans.{server_spans, values_at, values_kept, writes_at};
+ghost use Rattle.server_runtime.specs.Walks.{is_due, AreLastReads, AreTurns};
 
 use crate::laws::a_server_run_goes_by_steps;
 use crate::plan::PreparedProgram;
-use crate::turn::is_mine;
 use flat_ir::{Instr, InstrKind, RegPlan, Span, Spans, ValueId};
 use gal_io::NoMemory;
 use split_model::Layout;
 use std::alloc::Global;
 use transfer_header::{BlockSteps, Regs, a_plan_keeps_apart, values_have_their_numbers};
+
+// Whether the server evaluates an instruction.
+fn is_mine(whole: &PreparedProgram, instruction: usize, kind: &InstrKind) -> bool
+    ensures { result ≡ (is_input (work_of kind.now) || is_server whole.now.split instruction) }
+{
+    kind.is_input() || whole.split.is_server(instruction)
+}
 
 // Puts the numbers of some values last.
 fn push_numbers(
@@ -223,10 +231,7 @@ fn turn_reads(alloc: Global, whole: &PreparedProgram) -> Result<Vec<u32>, NoMemo
 // The step that reads each value last, 0 where none does.
 fn last_reads(alloc: Global, whole: &PreparedProgram) -> Result<Vec<u32>, NoMemory>
     requires { IsPrepared whole.now }
-    ensures last { let f = program_of whole.now.flat in
-        IfOk result (λ last. (n : ℕ) → n < length (values_of f)
-        → slice_index last.items n ≡ last_read f whole.now.split n) }
-    ensures count { IfOk result (λ last. length last.items ≡ length (values_of (program_of whole.now.flat))) }
+    ensures { IfOk result (λ last. AreLastReads (program_of whole.now.flat) whole.now.split last.items) }
 {
     values_have_their_numbers();
     let mut last = turn_reads(alloc, whole)?;
@@ -293,27 +298,49 @@ fn push_spans(spans: &mut Spans, from: u32, numbers: &[u32], last: &[u32]) -> Re
 }
 
 // The spans of the values of a run.
-fn spans_of(alloc: Global, whole: &PreparedProgram) -> Result<Spans, NoMemory>
-    requires { IsPrepared whole.now }
+fn spans_of(alloc: Global, whole: &PreparedProgram, last: &[u32]) -> Result<Spans, NoMemory>
+    requires prepared { IsPrepared whole.now }
+    requires last { AreLastReads (program_of whole.now.flat) whole.now.split last.now }
     ensures { IfOk result (λ spans. spans ≡ server_spans (program_of whole.now.flat) whole.now.split) }
 {
     values_have_their_numbers();
-    let last = last_reads(alloc, whole)?;
     let mut spans = Spans::new(alloc);
     let handed = numbers_handed(alloc, whole)?;
-    push_spans(&mut spans, 0, &handed, &last)?;
+    push_spans(&mut spans, 0, &handed, last)?;
     for i in 0..whole.flat.code.len() {
         let numbers = numbers_written(alloc, whole, i)?;
-        push_spans(&mut spans, i as u32 + 1, &numbers, &last)?;
+        push_spans(&mut spans, i as u32 + 1, &numbers, last)?;
     }
     Ok(spans)
 }
 
-/// Registers in which the values of a run are computed, and where each instruction's first value has its own.
-#[derive(Drop)]
-pub(crate) struct Seated {
-    pub values: Regs,
-    pub seats: Vec<u32>,
+// Whether a run takes a turn at instruction `i`: it is the server's, or a const or a field that is read later.
+fn is_due(whole: &PreparedProgram, last: &[u32], i: usize) -> bool
+    requires prepared { IsPrepared whole.now }
+    requires within { i < length whole.now.flat.code }
+    requires last { AreLastReads (program_of whole.now.flat) whole.now.split last.now }
+    ensures { result ≡ is_due (program_of whole.now.flat) whole.now.split i }
+{
+    if whole.flat.code.as_slice()[i].kind.is_input() {
+        last[whole.first(i) as usize] > i as u32 + 1
+    } else {
+        whole.split.is_server(i)
+    }
+}
+
+// The instructions at which a run takes a turn, in order.
+fn turns_of(alloc: Global, whole: &PreparedProgram, last: &[u32]) -> Result<Vec<u32>, NoMemory>
+    requires prepared { IsPrepared whole.now }
+    requires last { AreLastReads (program_of whole.now.flat) whole.now.split last.now }
+    ensures { IfOk result (λ turns. AreTurns (program_of whole.now.flat) whole.now.split turns.items) }
+{
+    let mut turns = Vec::new(alloc);
+    for i in 0..whole.flat.code.len() {
+        if is_due(whole, last, i) {
+            turns.push(i as u32)?;
+        }
+    }
+    Ok(turns)
 }
 
 // Where the number of an instruction's first value stands by a plan, past all registers if nowhere.
@@ -349,17 +376,33 @@ fn seats_of(alloc: Global, whole: &PreparedProgram, plan: &RegPlan) -> Result<Ve
     Ok(seats)
 }
 
-/// Registers for a run, with a zero in each.
-pub(crate) fn registers_of(alloc: Global, whole: &PreparedProgram) -> Result<Seated, NoMemory>
+/// What a run goes by: registers in which its values are computed, where each instruction's first value has its own,
+/// and the instructions at which it takes a turn, in order.
+#[derive(Drop)]
+pub(crate) struct Course {
+    pub values: Regs,
+    pub seats: Vec<u32>,
+    pub turns: Vec<u32>,
+}
+
+/// What a run goes by, with a zero in each register.
+pub(crate) fn course_of(alloc: Global, whole: &PreparedProgram) -> Result<Course, NoMemory>
     requires { IsPrepared whole.now }
     ensures serving { IfOk result (λ made. AreServing (program_of whole.now.flat) whole.now.split made.values) }
     ensures seats { IfOk result (λ made. AreSeats (program_of whole.now.flat) made.seats.items made.values) }
+    ensures turns { IfOk result (λ made. AreTurns (program_of whole.now.flat) whole.now.split made.turns.items) }
 {
     a_plan_keeps_apart();
     a_server_run_goes_by_steps();
-    let spans = spans_of(alloc, whole)?;
+    let last = last_reads(alloc, whole)?;
+    let spans = spans_of(alloc, whole, &last)?;
     let plan = RegPlan::of(alloc, &spans)?;
     let seats = seats_of(alloc, whole, &plan)?;
+    let turns = turns_of(alloc, whole, &last)?;
     let values = Regs::planned(alloc, plan)?;
-    Ok(Seated { values, seats })
+    Ok(Course {
+        values,
+        seats,
+        turns,
+    })
 }

@@ -1,17 +1,15 @@
 //! The server's turn at an instruction.
-ghost use Rattle.std.specs.Prelude.{◌≡◌, ◌+◌, ◌<◌, ◌≤◌, ◌||◌, ◌++◌, ◌∷◌, [], true, false};
-ghost use Rattle.std.specs.Prelude.{length, map, vec_capacity, vec_len, IsTrue, if◌then◌else◌};
+ghost use Rattle.std.specs.Prelude.{◌≡◌, ◌+◌, ◌<◌, ◌≤◌, ◌++◌, ◌∷◌, [], true, false};
+ghost use Rattle.std.specs.Prelude.{length, map, vec_capacity, vec_len, IsTrue};
 ghost use Rattle.state_store.specs.Kept.{IsKept};
 ghost use Rattle.flat_ir.specs.Fits.{fits};
-ghost use Rattle.flat_ir.specs.Kinds.{is_input, is_look};
+ghost use Rattle.flat_ir.specs.Kinds.{is_look};
 ghost use Rattle.flat_ir.specs.Program.{program_of, result_count, step_at, step_of, work_of};
 ghost use Rattle.flat_ir.specs.Registers.{packet_of};
 ghost use Rattle.flat_ir.specs.Run.{looked, made};
-ghost use Rattle.split_model.specs.Split.{is_server};
 ghost use Rattle.server_runtime.specs.Plans.{IsPrepared};
 ghost use Rattle.server_runtime.specs.Registers.{register_reads, with_row, AreSeats, HaveRegisters};
-ghost use Rattle.server_runtime.specs.Serving.{is_evaluated, updates_of};
-ghost use Rattle.server_runtime.specs.Spans.{is_turn};
+ghost use Rattle.server_runtime.specs.Serving.{updates_of};
 ghost use Rattle.server_runtime.specs.Turns.{changed_by, told_of, wanted, HasRoomFor, HasTurned, IsAtTurn};
 
 use crate::plan::PreparedProgram;
@@ -122,9 +120,9 @@ fn give_number(
     requires number { is_look (work_of instr.now.kind) ≡ false }
     requires has { HaveRegisters (program_of whole.now.flat) instruction values.old }
     requires seats { AreSeats (program_of whole.now.flat) whole.now.seats.items values.old }
-    requires room { HasRoomFor (program_of whole.now.flat) whole.now.split (packet_of arrival.now) instruction true
+    requires room { HasRoomFor (program_of whole.now.flat) whole.now.split (packet_of arrival.now) instruction
         values.old store.old (vec_len updates.old) (vec_capacity updates.old) }
-    ensures turn { HasTurned (program_of whole.now.flat) whole.now.split (packet_of arrival.now) instruction true
+    ensures turn { HasTurned (program_of whole.now.flat) whole.now.split (packet_of arrival.now) instruction
         values.old store.old values.new store.new updates.old.items updates.new.items }
     ensures seats { AreSeats (program_of whole.now.flat) whole.now.seats.items values.new }
     ensures room { vec_capacity updates.old ≤ vec_capacity updates.new }
@@ -176,9 +174,9 @@ fn evaluate(
     requires has { HaveRegisters (program_of whole.now.flat) instruction values.old }
     requires seats { AreSeats (program_of whole.now.flat) whole.now.seats.items values.old }
     requires kept { IsKept whole.now.flat.objects store.old }
-    requires room { HasRoomFor (program_of whole.now.flat) whole.now.split (packet_of arrival.now) instruction true
+    requires room { HasRoomFor (program_of whole.now.flat) whole.now.split (packet_of arrival.now) instruction
         values.old store.old (vec_len updates.old) (vec_capacity updates.old) }
-    ensures turn { HasTurned (program_of whole.now.flat) whole.now.split (packet_of arrival.now) instruction true
+    ensures turn { HasTurned (program_of whole.now.flat) whole.now.split (packet_of arrival.now) instruction
         values.old store.old values.new store.new updates.old.items updates.new.items }
     ensures seats { AreSeats (program_of whole.now.flat) whole.now.seats.items values.new }
     ensures room { vec_capacity updates.old ≤ vec_capacity updates.new }
@@ -192,15 +190,8 @@ fn evaluate(
     }
 }
 
-/// Whether the server evaluates an instruction.
-pub(crate) fn is_mine(whole: &PreparedProgram, instruction: usize, kind: &InstrKind) -> bool
-    ensures { result ≡ (is_input (work_of kind.now) || is_server whole.now.split instruction) }
-{
-    kind.is_input() || whole.split.is_server(instruction)
-}
-
-/// The server's turn at an instruction. What the switch is told of it goes into `updates`, which has room for it. The
-/// answer is how many instructions other than consts and fields were evaluated.
+/// The server's turn at an instruction that it evaluates. What the switch is told of it goes into `updates`, which has
+/// room for it.
 pub(crate) fn take_turn(
     whole: &PreparedProgram,
     arrival: &Arrival<'_>,
@@ -208,27 +199,18 @@ pub(crate) fn take_turn(
     values: &mut Regs,
     store: &mut Store,
     updates: &mut Vec<Update>,
-) -> u32
+)
     requires at { IsAtTurn whole.now arrival.now instruction }
-    requires has { let f = program_of whole.now.flat in
-        is_turn f whole.now.split instruction ≡ true → HaveRegisters f instruction values.old }
+    requires has { HaveRegisters (program_of whole.now.flat) instruction values.old }
     requires seats { AreSeats (program_of whole.now.flat) whole.now.seats.items values.old }
     requires kept { IsKept whole.now.flat.objects store.old }
-    requires room { let f = program_of whole.now.flat in
-        HasRoomFor f whole.now.split (packet_of arrival.now) instruction (is_turn f whole.now.split instruction)
+    requires room { HasRoomFor (program_of whole.now.flat) whole.now.split (packet_of arrival.now) instruction
         values.old store.old (vec_len updates.old) (vec_capacity updates.old) }
-    ensures turn { let f = program_of whole.now.flat in
-        HasTurned f whole.now.split (packet_of arrival.now) instruction (is_turn f whole.now.split instruction)
+    ensures turn { HasTurned (program_of whole.now.flat) whole.now.split (packet_of arrival.now) instruction
         values.old store.old values.new store.new updates.old.items updates.new.items }
     ensures seats { AreSeats (program_of whole.now.flat) whole.now.seats.items values.new }
     ensures room { vec_capacity updates.old ≤ vec_capacity updates.new }
-    ensures evaluated { result
-        ≡ (if is_evaluated (program_of whole.now.flat) whole.now.split instruction then 1 else 0) }
 {
     let instr = &whole.flat.code.as_slice()[instruction];
-    if !is_mine(whole, instruction, &instr.kind) {
-        return 0;
-    }
     evaluate(whole, arrival, instruction, instr, values, store, updates);
-    u32::from(!instr.kind.is_input())
 }

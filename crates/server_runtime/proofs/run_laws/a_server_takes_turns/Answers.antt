@@ -4,6 +4,7 @@ use Rattle.transfer_header.specs.Steps.{IsDoneAlike}
 use Rattle.server_runtime.specs.Running.{contents_at, server_steps}
 use Rattle.server_runtime.specs.Spans.{server_spans}
 use Rattle.server_runtime.proofs.Running.{have_registers, room_for_turn, serving_more}
+use Rattle.server_runtime.proofs.Walked.{serving_later}
 use Rattle.server_runtime.proofs.run_laws.a_server_takes_turns.Goals as goal
 
 pub returns-clause-has : goal.returns-clause-has
@@ -15,7 +16,7 @@ returns-clause-kept c f split up st packet i registers now updates begun so le =
     subst (IsKept f.objects) (sym so.store) (c.a_server_keeps_widths.ensures.turns f split st packet up i begun.formed begun.arrives begun.kept begun.fit le).kept
 
 pub returns-clause-room : goal.returns-clause-room
-returns-clause-room c f split up st packet i registers now updates begun so lt =
+returns-clause-room c f split up st packet i registers now updates begun so lt mine =
     let well = begun.formed in
     let steps = server_steps f split up st packet in
     let spans = server_spans f split in
@@ -27,10 +28,10 @@ returns-clause-room c f split up st packet i registers now updates begun so lt =
     (c.a_step_in_registers.ensures steps spans registers contents (i + 1) (goes.looks f split up st packet well) (goes.spans f split up st packet well) so.ready)
     in
     room_for_turn f well split up st packet (c.values_have_their_numbers.ensures f) agree.operands agree.results agree.changes agree.live i lt registers now updates
-    so alike (c.what_the_switch_is_told_fits.ensures.few f split st packet up (i + 1))
+    so alike mine (c.what_the_switch_is_told_fits.ensures.few f split st packet up (i + 1))
 
 pub returns-clause-next : goal.returns-clause-next
-returns-clause-next c f split up st packet i registers now updates after later told begun so lt turned =
+returns-clause-next c f split up st packet i registers now updates after later told begun so lt mine turned =
     let well = begun.formed in
     let steps = server_steps f split up st packet in
     let spans = server_spans f split in
@@ -42,4 +43,11 @@ returns-clause-next c f split up st packet i registers now updates after later t
     (c.a_step_in_registers.ensures steps spans registers contents (i + 1) (goes.looks f split up st packet well) (goes.spans f split up st packet well) so.ready)
     in
     serving_more f well split up st packet (c.values_have_their_numbers.ensures f) agree.operands agree.results agree.changes agree.live i lt registers now updates
-    so alike after later told turned (goes.numbers f split up st packet i well lt)
+    so alike mine after later told turned (goes.numbers f split up st packet i well lt)
+
+pub returns-clause-idle : goal.returns-clause-idle
+returns-clause-idle c f split up st packet i n registers now updates begun so le within idle =
+    let well = begun.formed in
+    let goes = c.a_server_run_goes_by_steps.ensures in
+    serving_later f split up st packet registers now updates (goes.spans f split up st packet well) (λ j lt. goes.numbers f split up st packet j well lt)
+    i n le within idle so

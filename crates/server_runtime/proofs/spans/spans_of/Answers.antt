@@ -14,47 +14,48 @@ push_spans-requires c =
     let flat = c.args.whole.now.flat in
     let f = program_of flat in
     let split = c.args.whole.now.split in
-    let low = writes_low f split c.requires.bounded.formed (c.values_have_their_numbers.ensures f) in
-    subst (λ (ns : List ℕ). All (λ (n : ℕ). n < length c.deref-2.result.now) ns) (sym (c.deref.ensures.value ∙ c.in_ok-handed.ensures))
-    (subst (λ (k : ℕ). All (λ (n : ℕ). n < k) (writes_at f split 0)) (sym (ap length c.deref-2.ensures.value ∙ c.in_ok-last.ensures.count)) (low 0))
+    let low = writes_low f split c.requires.prepared.bounded.formed (c.values_have_their_numbers.ensures f) in
+    subst (λ (ns : List ℕ). All (λ (n : ℕ). n < length c.args.last.now) ns) (sym (c.deref.ensures.value ∙ c.in_ok-handed.ensures))
+    (subst (λ (k : ℕ). All (λ (n : ℕ). n < k) (writes_at f split 0)) (sym c.requires.last.count) (low 0))
 
 pub loop-i-init : goal.loop-i-init
 loop-i-init c =
     let flat = c.args.whole.now.flat in
     let f = program_of flat in
     let split = c.args.whole.now.split in
-    let low = writes_low f split c.requires.bounded.formed (c.values_have_their_numbers.ensures f) in
+    let low = writes_low f split c.requires.prepared.bounded.formed (c.values_have_their_numbers.ensures f) in
     let row : ℕ → List ℕ → List ℕ → List Span = λ step last ws. map {B = Span} (λ (n : ℕ). record { value = n; from = step; to = max step (get_or last n 0) }) ws in
+    let last = c.args.last.now in
     c.in_ok-push_spans.ensures
-    ∙ (λ p. c.new-spans.ensures p ++ row 0 (c.deref-2.ensures.value p) ((c.deref.ensures.value ∙ c.in_ok-handed.ensures) p))
-    ∙ spans_same f split 0 c.in_ok-last.last.items c.in_ok-last.ensures.last (writes_at f split 0) (recursion_from_All (λ (n : ℕ). n < length (values_of f)) (writes_at f split 0) (low 0))
+    ∙ (λ p. c.new-spans.ensures p ++ row 0 last ((c.deref.ensures.value ∙ c.in_ok-handed.ensures) p))
+    ∙ spans_same f split 0 last c.requires.last.each (writes_at f split 0) (recursion_from_All (λ (n : ℕ). n < length (values_of f)) (writes_at f split 0) (low 0))
 
 pub push_spans-requires-in-loop-i : goal.push_spans-requires-in-loop-i
 push_spans-requires-in-loop-i c =
     let flat = c.args.whole.now.flat in
     let f = program_of flat in
     let split = c.args.whole.now.split in
-    let low = writes_low f split c.requires.bounded.formed (c.values_have_their_numbers.ensures f) in
+    let low = writes_low f split c.requires.prepared.bounded.formed (c.values_have_their_numbers.ensures f) in
     let i = c.loop-i.i in
-    subst (λ (ns : List ℕ). All (λ (n : ℕ). n < length c.deref-in-loop-i-2.result.now) ns) (sym (c.deref-in-loop-i.ensures.value ∙ c.in_ok-numbers.ensures))
-    (subst (λ (k : ℕ). All (λ (n : ℕ). n < k) (writes_at f split (suc i))) (sym (ap length c.deref-in-loop-i-2.ensures.value ∙ c.in_ok-last.ensures.count)) (low (suc i)))
+    subst (λ (ns : List ℕ). All (λ (n : ℕ). n < length c.args.last.now) ns) (sym (c.deref-in-loop-i.ensures.value ∙ c.in_ok-numbers.ensures))
+    (subst (λ (k : ℕ). All (λ (n : ℕ). n < k) (writes_at f split (suc i))) (sym c.requires.last.count) (low (suc i)))
 
 pub loop-i-preserved : goal.loop-i-preserved
 loop-i-preserved c =
     let flat = c.args.whole.now.flat in
     let f = program_of flat in
     let split = c.args.whole.now.split in
-    let low = writes_low f split c.requires.bounded.formed (c.values_have_their_numbers.ensures f) in
+    let low = writes_low f split c.requires.prepared.bounded.formed (c.values_have_their_numbers.ensures f) in
     let row : ℕ → List ℕ → List ℕ → List Span = λ step last ws. map {B = Span} (λ (n : ℕ). record { value = n; from = step; to = max step (get_or last n 0) }) ws in
     let i = c.loop-i.i in
-    let last = c.in_ok-last.last.items in
+    let last = c.args.last.now in
     let ws = writes_at f split (suc i) in
     let two : suc (suc i) ≡ i + 1 + 1 = omega arith in
     c.in_ok-push_spans-2.ensures
-    ∙ (λ p. c.loop-i.invariant p ++ row (i + 1) (c.deref-in-loop-i-2.ensures.value p) ((c.deref-in-loop-i.ensures.value ∙ c.in_ok-numbers.ensures) p))
+    ∙ (λ p. c.loop-i.invariant p ++ row (i + 1) last ((c.deref-in-loop-i.ensures.value ∙ c.in_ok-numbers.ensures) p))
     ∙ ap (λ (k : ℕ). spans_below f split k ++ row k last ws) (add-one i)
     ∙ ap (λ (l : List Span). spans_below f split (suc i) ++ l)
-    (spans_same f split (suc i) last c.in_ok-last.ensures.last ws (recursion_from_All (λ (n : ℕ). n < length (values_of f)) ws (low (suc i))))
+    (spans_same f split (suc i) last c.requires.last.each ws (recursion_from_All (λ (n : ℕ). n < length (values_of f)) ws (low (suc i))))
     ∙ ap (spans_below f split) two
 
 pub returns : goal.returns

@@ -4,10 +4,11 @@ use Rattle.flat_ir.specs.Plan.{register_of, AreApart}
 use Rattle.flat_ir.specs.Program.{program_of}
 use Rattle.flat_ir.specs.Spans.{spans_of, ValuesDiffer}
 use Rattle.server_runtime.specs.Spans.{server_spans, spans_below}
+use Rattle.server_runtime.specs.Walks.{AreLastReads}
 use Rattle.server_runtime.proofs.Few.{spans_few}
 use Rattle.server_runtime.proofs.Seats.{seats_by_plan}
 use Rattle.server_runtime.proofs.Steps.{code_length}
-use Rattle.server_runtime.proofs.spans.registers_of.Goals as goal
+use Rattle.server_runtime.proofs.spans.course_of.Goals as goal
 
 pub of-requires-clause-few : goal.of-requires-clause-few
 of-requires-clause-few c =
@@ -44,3 +45,7 @@ returns-clause-seats c =
     let flat = c.args.whole.now.flat in
     seats_by_plan (program_of flat) c.in_ok-seats.seats.items c.in_ok-plan.plan c.in_ok-values.values c.in_ok-values.ensures.plan
     (c.in_ok-seats.ensures.count ∙ sym (code_length flat)) (λ i lt. c.in_ok-seats.ensures.each i (omega (arith, lt, code_length flat)))
+
+pub spans_of-requires-clause-last : goal.spans_of-requires-clause-last
+spans_of-requires-clause-last c =
+    subst (AreLastReads (program_of c.args.whole.now.flat) c.args.whole.now.split) (sym c.deref.ensures.value) c.in_ok-last.ensures
