@@ -1,5 +1,5 @@
 -- Passes that begin and go on.
-use Rattle.std.proofs.Common.{◌≡◌, ◌∙◌, ◌≤◌, ◌<◌, ℕ, suc, List, length, sym, ap, subst, arith}
+use Rattle.std.proofs.Common.{◌≡◌, ◌∙◌, ◌≤◌, ◌<◌, suc, List, length, sym, ap, subst, arith}
 use Rattle.packet_fields.specs.declared.packet.Packet.{Packet}
 use Rattle.packet_fields.specs.Sizes.{largest_packet}
 use Rattle.flat_ir.specs.Blocks.{Reading}
@@ -15,12 +15,11 @@ use Rattle.switch_machine.specs.Flights.{numbers_in, packet_in, HasBegun, HasMov
 use Rattle.switch_machine.specs.Workplaces.{IsPlanned}
 
 -- a pass that was kept has begun
-pub has_begun : (pass : Pass) (p : Staging) (ranges : List ValueRange) (given : Reading) (number : ℕ) (packet : Packet) (told : Told) (registers done : Registers) (f : Flight)
-    → IsBegun number packet told.bit registers f → registers ≡ done → IsPlanned pass.plan registers → length registers.numbers ≡ pass.plan.count
+pub has_begun : (pass : Pass) (p : Staging) (ranges : List ValueRange) (given : Reading) (packet : Packet) (told : Told) (registers done : Registers) (f : Flight)
+    → IsBegun packet told.bit registers f → registers ≡ done → IsPlanned pass.plan registers → length registers.numbers ≡ pass.plan.count
     → length packet.bytes ≤ largest_packet → 0 < pass.highest
-    → IsEntered p given (seen_tables told) packet (numbers_in p ranges 0 done) → HasBegun pass p ranges given number packet told f
-has_begun pass p ranges given number packet told registers done f b are planned count size left entered = record {
-  number_is = b.number_is;
+    → IsEntered p given (seen_tables told) packet (numbers_in p ranges 0 done) → HasBegun pass p ranges given packet told f
+has_begun pass p ranges given packet told registers done f b are planned count size left entered = record {
   packet_is = b.packet_is;
   bit_is = b.bit_is;
   stage_is = b.stage_is;
@@ -36,12 +35,11 @@ has_begun pass p ranges given number packet told registers done f b are planned 
 -- a pass that took a stage has moved
 pub has_moved : (pass : Pass) (p : Staging) (ranges : List ValueRange) (told : Told) (old new : Flight) (done : Registers)
     → IsFlightOf pass old → suc old.stage < pass.highest
-    → new.number ≡ old.number → packet_in new ≡ packet_in old → new.bit ≡ old.bit → new.stage ≡ suc old.stage → new.registers ≡ done
+    → packet_in new ≡ packet_in old → new.bit ≡ old.bit → new.stage ≡ suc old.stage → new.registers ≡ done
     → IsPlanned pass.plan done → length done.numbers ≡ pass.plan.count
     → IsStaged p (suc old.stage) (numbers_in p ranges old.stage old.registers) (view_of old.bit told.pairs) (packet_in old) (numbers_in p ranges (suc old.stage) done)
     → HasMoved pass p ranges told old new
-has_moved pass p ranges told old new done before left number packet bit stage registers planned count staged = record {
-  number_is = number;
+has_moved pass p ranges told old new done before left packet bit stage registers planned count staged = record {
   packet_is = packet;
   bit_is = bit;
   stage_is = stage;
@@ -56,11 +54,11 @@ has_moved pass p ranges told old new done before left number packet bit stage re
 }
 
 -- what a pass began with is told by other code that is the same, and by other words for what it is given
-pub begun_by : (a b : Loaded) → StaysLoaded a b → (given other : Reading) (number n : ℕ) (packet q : Packet) (told : Told) (f : Flight)
-    → given ≡ other → number ≡ n → packet ≡ q
-    → HasBegun b.code.post (post_staging (code_of b.code)) b.post_numbering given number packet told f
-    → HasBegun a.code.post (post_staging (code_of a.code)) a.post_numbering other n q told f
-begun_by a b same given other number n packet q told f given_is number_is packet_is h =
-    let P : Pass × Code × List ValueRange × Reading × ℕ × Packet → Type 0 =
-    λ (pass, code, ranges, reads, m, r). HasBegun pass (post_staging code) ranges reads m r told f in
-    subst P (λ i. (same.1 i, same.2 i, same.4 i, given_is i, number_is i, packet_is i)) h
+pub begun_by : (a b : Loaded) → StaysLoaded a b → (given other : Reading) (packet q : Packet) (told : Told) (f : Flight)
+    → given ≡ other → packet ≡ q
+    → HasBegun b.code.post (post_staging (code_of b.code)) b.post_numbering given packet told f
+    → HasBegun a.code.post (post_staging (code_of a.code)) a.post_numbering other q told f
+begun_by a b same given other packet q told f given_is packet_is h =
+    let P : Pass × Code × List ValueRange × Reading × Packet → Type 0 =
+    λ (pass, code, ranges, reads, r). HasBegun pass (post_staging code) ranges reads r told f in
+    subst P (λ i. (same.1 i, same.2 i, same.4 i, given_is i, packet_is i)) h

@@ -3,7 +3,7 @@ mod Beginnings
 mod Each
 mod EmittedOrder
 mod Fitting
-mod FlightLists
+mod FlightMaps
 mod GoingDown
 mod GoingUp
 mod HandedDown

@@ -1,5 +1,5 @@
 -- What is ahead in a list.
-use Rattle.std.proofs.Common.{◌≡◌, ℕ, zero, suc, ◌+◌, ◌<◌, ◌≤◌, List, [], ◌∷◌, length, ◌-◌, get_or, take, drop, Result, Ok, Err, IfOk, OnOk, refl, sym, ap, ◌∙◌, arith, add-one, drop-cons, length-drop}
+use Rattle.std.proofs.Common.{◌≡◌, ℕ, zero, suc, ◌+◌, ◌<◌, ◌≤◌, List, [], ◌∷◌, length, ◌-◌, get_or, take, drop, Result, Ok, Err, IfOk, OnErr, OnOk, refl, sym, ap, ◌∙◌, arith, add-one, drop-cons, length-drop}
 use Rattle.std.proofs.Math.Seq.{take-length}
 
 -- the member at a place, and what is behind it
@@ -25,6 +25,10 @@ ok_weaker P Q (Err e) go h = tt
 pub on_ok : {X E : Type 0} (P : Type 0) (r : Result X E) → P → OnOk r P
 on_ok P (Ok x) p = p
 on_ok P (Err e) p = tt
+
+pub on_err : {X E : Type 0} (P : Type 0) (r : Result X E) → P → OnErr r P
+on_err P (Ok x) p = tt
+on_err P (Err e) p = p
 
 -- what follows from what holds of a success
 pub on_weaker : {X E : Type 0} (P Q : Type 0) (r : Result X E) → (P → Q) → OnOk r P → OnOk r Q

@@ -19,7 +19,8 @@ use Rattle.switch_machine.specs.Calls.{ended, IsCountedAs}
 use Rattle.switch_machine.specs.Counts.{counted}
 use Rattle.switch_machine.specs.Ends.{DownPasses, UpPasses}
 use Rattle.switch_machine.specs.Machine.{MachineState, seen_of}
-use Rattle.switch_machine.specs.Staging.{went, with_pass, DownIsPlanned, EntersByFrame, EntersUp, GoesOnDown, GoesOnUp, IsLastDown, IsLastUp, IsLeft, UpIsPlanned}
+use Rattle.switch_machine.specs.Flights.{with_pass}
+use Rattle.switch_machine.specs.Staging.{went, DownIsPlanned, EntersByFrame, EntersUp, GoesOnDown, GoesOnUp, IsLastDown, IsLastUp, IsLeft, UpIsPlanned}
 use Rattle.std.proofs.lemmas.Option.{same_Some, none-some}
 
 module _ (old new : MachineState) (entries : List Entry) (passes : UnderWay) (is : new ≡ went old entries passes) where

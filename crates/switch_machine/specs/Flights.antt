@@ -1,8 +1,9 @@
 -- Passes that are under way in the machine.
-use Rattle.std.specs.Prelude.{◌≡◌, ◌≤◌, ◌<◌, ℕ, suc, ◌==◌, Bool, ◌&&◌, List, [], ◌∷◌, length, Option, Some, None, if◌then◌else◌}
+use Rattle.std.specs.Prelude.{◌≡◌, ◌≤◌, ◌<◌, ℕ, suc, ◌==◌, Bool, ◌&&◌, List, length, Option, Some, None, if◌then◌else◌}
+use Rattle.std.specs.BTreeMap.{BTreeMap, get}
 use Rattle.std.specs.Coded.{Coded-set, coded_ℕ, le_prop}
-use Rattle.std.specs.List.{AllByRecursion as Each, AllByRecursion-prop}
 use Rattle.std.specs.Option.{option_map}
+use Rattle.std.specs.Ordering.{nat_cmp}
 use Rattle.packet_fields.specs.declared.packet.Packet.{Packet}
 use Rattle.flat_ir.specs.Blocks.{Reading}
 use Rattle.packet_fields.specs.Sizes.{largest_packet}
@@ -11,7 +12,7 @@ use Rattle.switch_ir.specs.declared.code.Pass.{Pass}
 use Rattle.switch_ir.specs.Code.{code_of}
 use Rattle.switch_ir.specs.Staged.{Numbers, Staging, pre_staging, post_staging, is_had, is_read_later, IsEntered, IsStaged}
 use Rattle.switch_ir.specs.Tables.{seen_tables, view_of, Told}
-use Rattle.switch_ir.specs.UnderWay.{PassState, Passes, UnderWay, none_under_way}
+use Rattle.switch_ir.specs.UnderWay.{PassState, Passes, UnderWay}
 use Rattle.switch_machine.specs.declared.flight.Flight.{Flight}
 use Rattle.switch_machine.specs.declared.loaded.Loaded.{Loaded}
 use Rattle.switch_machine.specs.declared.numbering.ValueRange.{ValueRange}
@@ -35,19 +36,45 @@ shown p ranges f = record {
   told = Some (record { bit = f.bit; numbers = numbers_in p ranges f.stage f.registers });
 }
 
--- the pass over the packet of this number
-abbrev pub flight_at : List Flight → ℕ → Option Flight
-flight_at [] n = None
-flight_at (f ∷ fs) n = if f.number == n then Some f else flight_at fs n
+-- the passes of a kind that it holds, by the numbers of their packets
+abbrev pub NumberedFlights : Type 0
+NumberedFlights = ℕ → Option Flight
 
-abbrev pub passes_in : Staging → List ValueRange → List Flight → Passes
-passes_in p ranges flights n = option_map (shown p ranges) (flight_at flights n)
+abbrev pub flights_in : BTreeMap ℕ Flight → NumberedFlights
+flights_in flights n = get nat_cmp flights n
 
-abbrev pub under_way : Option Loaded → List Flight → List Flight → UnderWay
-under_way None arriving leaving = none_under_way
-under_way (Some l) arriving leaving = record {
-  pre = passes_in (pre_staging (code_of l.code)) l.pre_numbering arriving;
-  post = passes_in (post_staging (code_of l.code)) l.post_numbering leaving;
+-- those of a kind, with another in place of that of a number
+abbrev pub with_pass : {X : Type 0} → ℕ → Option X → (ℕ → Option X) → ℕ → Option X
+with_pass number pass passes n = if number == n then pass else passes n
+
+-- the two kinds: passes over packets that arrived, and over those that came down
+pub record PassKind : Type 0 where
+  pub pass : Loaded → Pass
+  pub staging : Loaded → Staging
+  pub ranges : Loaded → List ValueRange
+
+abbrev pub pre_kind : PassKind
+pre_kind = record {
+  pass = λ l. l.code.pre;
+  staging = λ l. pre_staging (code_of l.code);
+  ranges = λ l. l.pre_numbering;
+}
+
+abbrev pub post_kind : PassKind
+post_kind = record {
+  pass = λ l. l.code.post;
+  staging = λ l. post_staging (code_of l.code);
+  ranges = λ l. l.post_numbering;
+}
+
+abbrev pub passes_in : PassKind → Option Loaded → NumberedFlights → Passes
+passes_in k None flights n = None
+passes_in k (Some l) flights n = option_map (shown (k.staging l) (k.ranges l)) (flights n)
+
+abbrev pub under_way : Option Loaded → NumberedFlights → NumberedFlights → UnderWay
+under_way loaded arriving leaving = record {
+  pre = passes_in pre_kind loaded arriving;
+  post = passes_in post_kind loaded leaving;
 }
 
 -- the code, and where its values stand, are the same
@@ -65,13 +92,10 @@ pub record IsFlightOf (pass : Pass) (f : Flight) : Type 0 where
   pub count : length f.registers.numbers ≡ pass.plan.count
   pub below : f.stage < pass.highest
 
--- those of the code that is loaded
-pub record AreFlightsOf (l : Loaded) (up down : List Flight) : Type 0 where
-  pub arriving : Each (IsFlightOf l.code.pre) up
-  pub leaving : Each (IsFlightOf l.code.post) down
-
-abbrev pub AreReadyIn : Option Loaded → List Flight → List Flight → Type 0
-AreReadyIn loaded arriving leaving = (l : Loaded) → loaded ≡ Some l → AreFlightsOf l arriving leaving
+-- those of a kind are passes of the code that is loaded
+abbrev pub AreReadyIn : PassKind → Option Loaded → NumberedFlights → Type 0
+AreReadyIn k loaded flights =
+    (l : Loaded) (n : ℕ) (f : Flight) → loaded ≡ Some l → flights n ≡ Some f → IsFlightOf (k.pass l) f
 
 -- this has at most one proof
 flight_prop : (pass : Pass) (f : Flight) → IsProp (IsFlightOf pass f)
@@ -82,15 +106,11 @@ flight_prop pass f a b = λ i. record {
   below = le_prop a.below b.below i;
 }
 
-pub flights_prop : (loaded : Option Loaded) (arriving leaving : List Flight) → IsProp (AreReadyIn loaded arriving leaving)
-flights_prop loaded arriving leaving a b = λ i l is. record {
-  arriving = AllByRecursion-prop (IsFlightOf l.code.pre) (flight_prop l.code.pre) arriving (a l is).arriving (b l is).arriving i;
-  leaving = AllByRecursion-prop (IsFlightOf l.code.post) (flight_prop l.code.post) leaving (a l is).leaving (b l is).leaving i;
-}
+pub ready_prop : (k : PassKind) (loaded : Option Loaded) (flights : NumberedFlights) → IsProp (AreReadyIn k loaded flights)
+ready_prop k loaded flights a b = λ i l n f is there. flight_prop (k.pass l) f (a l n f is there) (b l n f is there) i
 
 -- a pass whose stage 0 is done, with these numbers in its registers
-pub record IsBegun (number : ℕ) (packet : Packet) (bit : Bool) (registers : Registers) (f : Flight) : Type 0 where
-  pub number_is : f.number ≡ number
+pub record IsBegun (packet : Packet) (bit : Bool) (registers : Registers) (f : Flight) : Type 0 where
   pub packet_is : packet_in f ≡ packet
   pub bit_is : f.bit ≡ bit
   pub stage_is : f.stage ≡ 0
@@ -98,10 +118,9 @@ pub record IsBegun (number : ℕ) (packet : Packet) (bit : Bool) (registers : Re
 
 -- the pass over a packet, which was given these numbers, knows what stage 0 gives over the tables as lookups see them
 pub record HasBegun
-    (pass : Pass) (p : Staging) (ranges : List ValueRange) (given : Reading) (number : ℕ) (packet : Packet) (told : Told)
+    (pass : Pass) (p : Staging) (ranges : List ValueRange) (given : Reading) (packet : Packet) (told : Told)
     (f : Flight)
     : Type 0 where
-  pub number_is : f.number ≡ number
   pub packet_is : packet_in f ≡ packet
   pub bit_is : f.bit ≡ told.bit
   pub stage_is : f.stage ≡ 0
@@ -112,7 +131,6 @@ pub record HasBegun
 pub record HasMoved
     (pass : Pass) (p : Staging) (ranges : List ValueRange) (told : Told) (old new : Flight)
     : Type 0 where
-  pub number_is : new.number ≡ old.number
   pub packet_is : packet_in new ≡ packet_in old
   pub bit_is : new.bit ≡ old.bit
   pub stage_is : new.stage ≡ suc old.stage

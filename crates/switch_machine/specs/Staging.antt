@@ -1,23 +1,18 @@
 -- What the calls of a switch in memory leave by which passes go on stage by stage.
-use Rattle.std.specs.Prelude.{◌≡◌, ◌==◌, ◌++◌, ◌∷◌, [], ℕ, Bool, true, false, List, Option, Some, None, if◌then◌else◌}
-use Rattle.std.specs.Prelude.{position}
+use Rattle.std.specs.Prelude.{◌≡◌, ◌++◌, ◌∷◌, [], ℕ, Bool, true, false, List, Some, None}
 use Rattle.switch_ir.specs.Code.{Code}
 use Rattle.switch_ir.specs.Port.{IsHandedDown, IsNothing, IsUpFrame, OfItsParts}
 use Rattle.switch_ir.specs.Staged.{pre_staging, post_staging, EndsBy, EndsDownBy}
-use Rattle.switch_ir.specs.UnderWay.{EndsWith, HasEntered, HasGoneOn, Passes, PassState, UnderWay}
+use Rattle.switch_ir.specs.UnderWay.{EndsWith, HasEntered, HasGoneOn, PassState, UnderWay}
 use Rattle.switch_ir.specs.declared.journal.Entry.{Entry}
 use Rattle.switch_ir.specs.declared.journal.Entry.TheVariants as entry
 use Rattle.switch_ir.specs.declared.port.UpEnd.{UpEnd}
 use Rattle.switch_ir.specs.declared.port.UpEnd.TheVariants as up
 use Rattle.switch_ir.specs.declared.port.DownEnd.{DownEnd}
 use Rattle.switch_ir.specs.declared.port.DownEnd.TheVariants as down
-use Rattle.switch_machine.specs.declared.flight.Flight.{Flight}
 use Rattle.switch_machine.specs.Ends.{DownPasses, UpPasses}
+use Rattle.switch_machine.specs.Flights.{with_pass}
 use Rattle.switch_machine.specs.Machine.{MachineState}
-
--- the passes of a kind, with another in place of that of a number
-abbrev pub with_pass : ℕ → Option PassState → Passes → Passes
-with_pass number pass passes n = if number == n then pass else passes n
 
 -- the state after a call that left these entries and passes
 abbrev pub went : MachineState → List Entry → UnderWay → MachineState
@@ -30,10 +25,6 @@ went m entries passes = record m {
 pub record IsLeft (old new : MachineState) : Type 0 where
   pub planned : new.planned ≡ old.planned
   pub calls : new.calls ≡ old.calls
-
--- the flight at this place is the first over the packet of this number
-abbrev pub IsPlaceOf : List Flight → ℕ → ℕ → Type 0
-IsPlaceOf flights number place = position (λ (f : Flight). f.number == number) flights ≡ Some place
 
 -- ## Packets that arrive
 

@@ -159,22 +159,24 @@ fn run_down(loaded: &mut Loaded, tables: &SwitchTables, arrival: &Arrival<'_>)
     );
 }
 
-/// A frame comes down whose packet's pass has a stage above 0: it enters, and stage 0 is done.
+/// A frame comes down whose packet's pass has a stage above 0: it enters, and stage 0 is done. This tells the number of
+/// the packet and the pass.
 pub(crate) fn enter_down(
     alloc: Global,
     loaded: &mut Loaded,
     tables: &SwitchTables,
     frame: &[u8],
-) -> Result<Flight, NoMemory>
+) -> Result<(u32, Flight), NoMemory>
     requires frame { IsFrame 2 loaded.old.code.down frame.now }
     requires left { 0 < loaded.old.code.post.highest }
     requires safe { KeepsTables (code_of loaded.old.code) tables.now }
     ensures stays { StaysLoaded loaded.old loaded.new }
     ensures begun { (number port : ℕ) (values : Crossing → ℕ) (packet : List ℕ)
         → IsFrameOf 2 loaded.old.code.down number port values packet frame.now
-        → IfOk result (HasBegun loaded.old.code.post (post_staging (code_of loaded.old.code)) loaded.old.post_numbering
-        (down_given (code_of loaded.old.code) values (record { port = port; bytes = packet })) number
-        (record { port = port; bytes = packet }) tables.now) }
+        → IfOk result (λ entered. (entered.0 ≡ number)
+        × HasBegun loaded.old.code.post (post_staging (code_of loaded.old.code)) loaded.old.post_numbering
+        (down_given (code_of loaded.old.code) values (record { port = port; bytes = packet }))
+        (record { port = port; bytes = packet }) tables.now entered.1) }
 {
     let head = unpack(loaded, frame);
     let packet = &frame[head.packet_at..];
@@ -184,7 +186,8 @@ pub(crate) fn enter_down(
         shape: Shape::of(packet),
     };
     give(loaded, alloc, &arrival);
-    begin(alloc, loaded, tables, head.number, &arrival)
+    let flight = begin(alloc, loaded, tables, &arrival)?;
+    Ok((head.number, flight))
 }
 
 // Stage 0 of postprocessing, from what it is given.
@@ -192,7 +195,6 @@ fn begin(
     alloc: Global,
     loaded: &mut Loaded,
     tables: &SwitchTables,
-    number: u32,
     arrival: &Arrival<'_>,
 ) -> Result<Flight, NoMemory>
     requires size { length arrival.now.bytes.now ≤ largest_packet }
@@ -204,21 +206,14 @@ fn begin(
     ensures begun { (given : Reading) → BeginsWith loaded.old.post_numbering
         (begins_down loaded.old.post_numbering (code_of loaded.old.code)) given loaded.old.down.registers
         → IfOk result (HasBegun loaded.old.code.post (post_staging (code_of loaded.old.code)) loaded.old.post_numbering given
-        number (packet_of arrival.now) tables.now) }
+        (packet_of arrival.now) tables.now) }
 {
     postprocessing_goes_by_stages();
     a_pass_by_place();
     are_few(&loaded.down.registers);
     take_first(&loaded.post, &mut loaded.down, tables, arrival);
     let plan = loaded.code.post.plan.copy(alloc)?;
-    keep(
-        alloc,
-        plan,
-        &loaded.down.registers,
-        number,
-        arrival,
-        tables.bit(),
-    )
+    keep(alloc, plan, &loaded.down.registers, arrival, tables.bit())
 }
 
 /// The pass takes a stage that isn't its last. This takes no memory.

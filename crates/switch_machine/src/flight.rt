@@ -1,14 +1,13 @@
 //! Passes that are under way, stage by stage.
-ghost use Rattle.std.specs.Prelude.{◌≡◌, ℕ, ◌≤◌, ◌<◌, ◌==◌, suc, filter, not, position, length, IfOk};
+ghost use Rattle.std.specs.Prelude.{◌≡◌, ◌≤◌, ◌<◌, ◌++◌, ◌∷◌, [], suc, length, None, Some, IfOk, IsSome, OnErr, OnOk};
 ghost use Rattle.packet_fields.specs.Shape.{shape_of};
 ghost use Rattle.packet_fields.specs.Sizes.{largest_packet};
 ghost use Rattle.flat_ir.specs.Registers.{packet_of};
 ghost use Rattle.transfer_header.specs.Registers.{ArePlaced};
 ghost use Rattle.switch_ir.specs.Tables.{seen_tables, view_of};
-ghost use Rattle.switch_machine.specs.Flights.{packet_in, IsBegun};
+ghost use Rattle.switch_machine.specs.Flights.{flights_in, packet_in, with_pass, IsBegun};
 ghost use Rattle.switch_machine.specs.Ready.{all_placed, reads_at, ready_at, ready_gives, CanReady};
 ghost use Rattle.std.specs.List.{AllByRecursion as Each};
-ghost use Rattle.switch_machine.specs.declared.flight.Flight.{Flight as PassFlight};
 
 use crate::loaded::Workplace;
 use crate::passes::run_stage;
@@ -18,13 +17,13 @@ use flat_ir::{Arrival, RegPlan};
 use gal_io::{Bytes, NoMemory};
 use packet_fields::Shape;
 use std::alloc::Global;
+use std::collections::BTreeMap;
+use switch_ir::{Entry, Journal};
 use transfer_header::Regs;
 
 /// A pass between two of its stages.
 #[derive(Debug, Drop)]
 pub(crate) struct Flight {
-    /// The number of its packet.
-    pub number: u32,
     pub port: u8,
     pub packet: Bytes,
     /// The bit that stood at its entry.
@@ -34,18 +33,46 @@ pub(crate) struct Flight {
     pub registers: Regs,
 }
 
-/// The place of the first pass over the packet of this number.
-pub(crate) fn place_of(flights: &[Flight], number: u32) -> Option<usize>
-    ensures { result ≡ position (λ (f : PassFlight). f.number == number) flights.now }
+/// The pass over the packet of this number.
+pub(crate) fn flight_of(flights: &BTreeMap<u32, Flight>, number: u32) -> &Flight
+    requires { IsSome (flights_in flights.now number) }
+    ensures { flights_in flights.now number ≡ Some result.now }
 {
-    flights.iter().position(|flight| flight.number == number)
+    match flights.get(&number) {
+        Some(flight) => flight,
+        None => unreachable!(),
+    }
 }
 
-/// Takes the passes over the packet of this number out of a list. This takes no memory.
-pub(crate) fn take_out(flights: &mut Vec<Flight>, number: u32)
-    ensures { flights.new.items ≡ filter (λ (f : PassFlight). not (f.number == number)) flights.old.items }
+/// Puts in the pass over the packet of this number, and notes the call that began it. Where this takes more memory than
+/// there is, neither is done.
+pub(crate) fn put_noted(
+    flights: &mut BTreeMap<u32, Flight>,
+    journal: &mut Journal,
+    number: u32,
+    flight: Flight,
+    entry: Entry,
+) -> Result<(), NoMemory>
+    requires { flights_in flights.old number ≡ None }
+    ensures put { OnOk result (flights_in flights.new ≡ with_pass number (Some flight) (flights_in flights.old)) }
+    ensures noted { OnOk result
+        (journal.new ≡ record journal.old { entries = journal.old.entries ++ entry ∷ [] }) }
+    ensures stays { OnErr result (flights_in flights.new ≡ flights_in flights.old) }
+    ensures err { OnErr result (journal.new ≡ journal.old) }
 {
-    flights.retain(|flight| flight.number != number);
+    flights.insert(number, flight)?;
+    if let Err(failed) = journal.push(entry) {
+        take_out(flights, number);
+        return Err(failed);
+    }
+    Ok(())
+}
+
+/// Takes out the pass over the packet of this number. This takes no memory.
+pub(crate) fn take_out(flights: &mut BTreeMap<u32, Flight>, number: u32)
+    ensures { flights_in flights.new ≡ with_pass number None (flights_in flights.old) }
+{
+    let _ = flights.remove(&number);
 }
 
 // Gives registers the numbers of others that go by the same plan.
@@ -65,18 +92,16 @@ pub(crate) fn keep(
     alloc: Global,
     plan: RegPlan,
     registers: &Regs,
-    number: u32,
     arrival: &Arrival<'_>,
     bit: bool,
 ) -> Result<Flight, NoMemory>
     requires plan { registers.now.plan ≡ Some plan }
     requires count { length registers.now.numbers ≡ plan.count }
-    ensures { IfOk result (IsBegun number (packet_of arrival.now) bit registers.now) }
+    ensures { IfOk result (IsBegun (packet_of arrival.now) bit registers.now) }
 {
     let mut own = Regs::planned(alloc, plan)?;
     copy_numbers(registers, &mut own);
     Ok(Flight {
-        number,
         port: arrival.port,
         packet: Bytes::from_slice(alloc, arrival.bytes)?,
         bit,

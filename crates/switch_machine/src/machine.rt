@@ -22,7 +22,7 @@ ghost use Rattle.switch_machine.specs.Calls.{called, ended, IsCountedAs, PortEnd
 ghost use Rattle.switch_machine.specs.Calls.{DownEndsAsPlanned, CommandEndsAsPlanned, RowsEndAsPlanned};
 ghost use Rattle.switch_machine.specs.Counts.{counted};
 ghost use Rattle.switch_machine.specs.Ends.{DownPasses, UpPasses};
-ghost use Rattle.switch_machine.specs.Flights.{flights_prop, AreReadyIn};
+ghost use Rattle.switch_machine.specs.Flights.{flights_in, post_kind, pre_kind, ready_prop, AreReadyIn};
 ghost use Rattle.switch_machine.specs.Kept.{safe_prop, AreSafe};
 ghost use Rattle.switch_machine.specs.Loading.{code_in};
 ghost use Rattle.switch_machine.specs.Machine.{fails_next, seen_of};
@@ -37,6 +37,7 @@ use crate::up::go_up;
 use gal_io::{Bytes, NoMemory};
 use state_store::Rows;
 use std::alloc::Global;
+use std::collections::BTreeMap;
 use switch_ir::{
     CommandEnd, DownEnd, Entry, Journal, PortEnd, RowsEnd, SwitchCode, SwitchPort, UpEnd,
     what_is_emitted_can_be_run,
@@ -54,12 +55,13 @@ pub struct ModelSwitch {
     pub(crate) calls: Calls,
     /// How many registers the last pass was computed in.
     pub(crate) registers: u32,
-    /// The passes under way over packets that arrived.
-    pub(crate) arriving: Vec<Flight>,
-    /// The passes under way over packets that came down.
-    pub(crate) leaving: Vec<Flight>,
+    /// The passes under way over packets that arrived, by their numbers.
+    pub(crate) arriving: BTreeMap<u32, Flight>,
+    /// The passes under way over packets that came down, by their numbers.
+    pub(crate) leaving: BTreeMap<u32, Flight>,
     ghost safe: { AreSafe (code_in loaded) tables } by { safe_prop (code_in loaded) tables },
-    ghost flights: { AreReadyIn loaded arriving.items leaving.items } by { flights_prop loaded arriving.items leaving.items },
+    ghost up: { AreReadyIn pre_kind loaded (flights_in arriving) } by { ready_prop pre_kind loaded (flights_in arriving) },
+    ghost down: { AreReadyIn post_kind loaded (flights_in leaving) } by { ready_prop post_kind loaded (flights_in leaving) },
 }
 
 impl ModelSwitch {
@@ -96,8 +98,8 @@ impl ModelSwitch {
             planned: Vec::new(alloc),
             calls: Calls::none(),
             registers: 0,
-            arriving: Vec::new(alloc),
-            leaving: Vec::new(alloc),
+            arriving: BTreeMap::new(alloc),
+            leaving: BTreeMap::new(alloc),
         }
     }
 

@@ -12,10 +12,10 @@ ghost use Rattle.switch_ir.specs.declared.journal.Entry.TheVariants as entry;
 ghost use Rattle.switch_machine.specs.Calls.{ended};
 ghost use Rattle.switch_machine.specs.Ends.{DownPasses, UpPasses};
 ghost use Rattle.switch_machine.specs.Machine.{seen_of};
-ghost use Rattle.switch_machine.specs.Staging.{went, EntersUp, EntersByFrame, DownIsPlanned, GoesOnUp, GoesOnDown, IsLastUp, IsLastDown, IsLeft, IsPlaceOf, UpIsPlanned};
+ghost use Rattle.switch_machine.specs.Staging.{went, EntersUp, EntersByFrame, DownIsPlanned, GoesOnUp, GoesOnDown, IsLastUp, IsLastDown, IsLeft, UpIsPlanned};
 
 use crate::down::{enter_down, finish_down, go_on_down};
-use crate::flight::{place_of, take_out};
+use crate::flight::{flight_of, put_noted, take_out};
 use crate::machine::ModelSwitch;
 use crate::up::{enter_up, finish_up, go_on_up};
 use gal_io::{Bytes, NoMemory};
@@ -104,19 +104,18 @@ impl ModelSwitch {
         ensures err { OnErr result (machine_of self.new ≡ machine_of self.old) }
     {
         let copy = Bytes::from_slice(alloc, packet)?;
-        self.arriving.reserve(1)?;
         let Some(loaded) = &mut self.loaded else {
             unreachable!()
         };
         self.registers = loaded.up.registers.len();
-        let flight = enter_up(alloc, loaded, &self.tables, number, port, packet)?;
-        self.journal.push(Entry::BeginUp {
+        let flight = enter_up(alloc, loaded, &self.tables, port, packet)?;
+        let entry = Entry::BeginUp {
             number,
             port,
             packet: copy,
             answer: UpEnd::Going,
-        })?;
-        self.arriving.push_reserved(flight);
+        };
+        put_noted(&mut self.arriving, &mut self.journal, number, flight, entry)?;
         Ok(())
     }
 
@@ -146,10 +145,9 @@ impl ModelSwitch {
         }
     }
 
-    // The pass at this place, over the packet of this number, takes a stage that isn't its last.
-    fn go_on_arriving(&mut self, place: usize, number: u32) -> Result<(), NoMemory>
-        requires pass { IsPlaceOf self.old.arriving.items number place }
-        requires loaded { IsSome (machine_of self.old).code }
+    // The pass over the packet of this number takes a stage that isn't its last.
+    fn go_on_arriving(&mut self, number: u32) -> Result<(), NoMemory>
+        requires pass { HasUpPass (seen_of (machine_of self.old)) number }
         requires left { (code : Code) (pass : PassState) → (machine_of self.old).code ≡ Some code
             → (machine_of self.old).passes.pre number ≡ Some pass → suc pass.stage < code.pre.highest }
         ensures ok { OnOk result (GoesOnUp number (machine_of self.old) (machine_of self.new)) }
@@ -162,14 +160,16 @@ impl ModelSwitch {
         let Some(loaded) = &mut self.loaded else {
             unreachable!()
         };
-        go_on_up(loaded, &self.tables, &mut self.arriving[place]);
+        let Some(flight) = self.arriving.get_mut(&number) else {
+            unreachable!()
+        };
+        go_on_up(loaded, &self.tables, flight);
         Ok(())
     }
 
     // It takes its last stage.
-    fn end_arriving(&mut self, alloc: Global, place: usize, number: u32) -> Result<UpEnd, NoMemory>
-        requires pass { IsPlaceOf self.old.arriving.items number place }
-        requires loaded { IsSome (machine_of self.old).code }
+    fn end_arriving(&mut self, alloc: Global, number: u32) -> Result<UpEnd, NoMemory>
+        requires pass { HasUpPass (seen_of (machine_of self.old)) number }
         requires last { (code : Code) (pass : PassState) → (machine_of self.old).code ≡ Some code
             → (machine_of self.old).passes.pre number ≡ Some pass → suc pass.stage ≡ code.pre.highest }
         ensures ok { IfOk result (IsLastUp number (machine_of self.old) (machine_of self.new)) }
@@ -178,23 +178,12 @@ impl ModelSwitch {
         let Some(loaded) = &mut self.loaded else {
             unreachable!()
         };
-        let end = finish_up(alloc, loaded, &self.tables, &self.arriving[place])?;
+        let flight = flight_of(&self.arriving, number);
+        let end = finish_up(alloc, loaded, &self.tables, number, flight)?;
         let answer = end.copy(alloc)?;
         self.journal.push(Entry::StageUp { number, answer })?;
         take_out(&mut self.arriving, number);
         Ok(end)
-    }
-
-    // The place of the pass over a packet that arrived.
-    fn arriving_at(&self, number: u32) -> usize
-        requires { HasUpPass (seen_of (machine_of self.now)) number }
-        ensures place { IsPlaceOf self.now.arriving.items number result }
-        ensures loaded { IsSome (machine_of self.now).code }
-    {
-        match place_of(&self.arriving, number) {
-            Some(place) => place,
-            None => unreachable!(),
-        }
     }
 
     // Notes a call that failed, and its fault.
@@ -228,13 +217,12 @@ impl ModelSwitch {
             })?;
             return Ok(UpEnd::Failed);
         }
-        let place = self.arriving_at(number);
-        let done = self.arriving[place].stage;
+        let done = flight_of(&self.arriving, number).stage;
         if self.highest_up().saturating_sub(done) > 1 {
-            self.go_on_arriving(place, number)?;
+            self.go_on_arriving(number)?;
             Ok(UpEnd::Going)
         } else {
-            self.end_arriving(alloc, place, number)
+            self.end_arriving(alloc, number)
         }
     }
 
@@ -280,17 +268,16 @@ impl ModelSwitch {
         ensures err { OnErr result (machine_of self.new ≡ machine_of self.old) }
     {
         let copy = Bytes::from_slice(alloc, frame)?;
-        self.leaving.reserve(1)?;
         let Some(loaded) = &mut self.loaded else {
             unreachable!()
         };
         self.registers = loaded.down.registers.len();
-        let flight = enter_down(alloc, loaded, &self.tables, frame)?;
-        self.journal.push(Entry::BeginDown {
+        let (number, flight) = enter_down(alloc, loaded, &self.tables, frame)?;
+        let entry = Entry::BeginDown {
             frame: copy,
             answer: DownEnd::Going,
-        })?;
-        self.leaving.push_reserved(flight);
+        };
+        put_noted(&mut self.leaving, &mut self.journal, number, flight, entry)?;
         Ok(())
     }
 
@@ -318,10 +305,9 @@ impl ModelSwitch {
         }
     }
 
-    // The pass at this place, over the packet of this number, takes a stage that isn't its last.
-    fn go_on_leaving(&mut self, place: usize, number: u32) -> Result<(), NoMemory>
-        requires pass { IsPlaceOf self.old.leaving.items number place }
-        requires loaded { IsSome (machine_of self.old).code }
+    // The pass over the packet of this number takes a stage that isn't its last.
+    fn go_on_leaving(&mut self, number: u32) -> Result<(), NoMemory>
+        requires pass { HasDownPass (seen_of (machine_of self.old)) number }
         requires left { (code : Code) (pass : PassState) → (machine_of self.old).code ≡ Some code
             → (machine_of self.old).passes.post number ≡ Some pass → suc pass.stage < code.post.highest }
         ensures ok { OnOk result (GoesOnDown number (machine_of self.old) (machine_of self.new)) }
@@ -334,14 +320,16 @@ impl ModelSwitch {
         let Some(loaded) = &mut self.loaded else {
             unreachable!()
         };
-        go_on_down(loaded, &self.tables, &mut self.leaving[place]);
+        let Some(flight) = self.leaving.get_mut(&number) else {
+            unreachable!()
+        };
+        go_on_down(loaded, &self.tables, flight);
         Ok(())
     }
 
     // It takes its last stage.
-    fn end_leaving(&mut self, alloc: Global, place: usize, number: u32) -> Result<DownEnd, NoMemory>
-        requires pass { IsPlaceOf self.old.leaving.items number place }
-        requires loaded { IsSome (machine_of self.old).code }
+    fn end_leaving(&mut self, alloc: Global, number: u32) -> Result<DownEnd, NoMemory>
+        requires pass { HasDownPass (seen_of (machine_of self.old)) number }
         requires last { (code : Code) (pass : PassState) → (machine_of self.old).code ≡ Some code
             → (machine_of self.old).passes.post number ≡ Some pass → suc pass.stage ≡ code.post.highest }
         ensures ok { IfOk result (IsLastDown number (machine_of self.old) (machine_of self.new)) }
@@ -350,24 +338,13 @@ impl ModelSwitch {
         let Some(loaded) = &mut self.loaded else {
             unreachable!()
         };
-        let verdict = finish_down(alloc, loaded, &self.tables, &self.leaving[place])?;
+        let flight = flight_of(&self.leaving, number);
+        let verdict = finish_down(alloc, loaded, &self.tables, flight)?;
         let end = DownEnd::Verdict(verdict);
         let answer = end.copy(alloc)?;
         self.journal.push(Entry::StageDown { number, answer })?;
         take_out(&mut self.leaving, number);
         Ok(end)
-    }
-
-    // The place of the pass over a packet that came down.
-    fn leaving_at(&self, number: u32) -> usize
-        requires { HasDownPass (seen_of (machine_of self.now)) number }
-        ensures place { IsPlaceOf self.now.leaving.items number result }
-        ensures loaded { IsSome (machine_of self.now).code }
-    {
-        match place_of(&self.leaving, number) {
-            Some(place) => place,
-            None => unreachable!(),
-        }
     }
 
     /// The pass over the packet of this number that came down takes a stage, where it fails or doesn't.
@@ -391,13 +368,12 @@ impl ModelSwitch {
             })?;
             return Ok(DownEnd::Failed);
         }
-        let place = self.leaving_at(number);
-        let done = self.leaving[place].stage;
+        let done = flight_of(&self.leaving, number).stage;
         if self.highest_down().saturating_sub(done) > 1 {
-            self.go_on_leaving(place, number)?;
+            self.go_on_leaving(number)?;
             Ok(DownEnd::Going)
         } else {
-            self.end_leaving(alloc, place, number)
+            self.end_leaving(alloc, number)
         }
     }
 }

@@ -136,7 +136,6 @@ pub(crate) fn enter_up(
     alloc: Global,
     loaded: &mut Loaded,
     tables: &SwitchTables,
-    number: u32,
     port: u8,
     packet: &[u8],
 ) -> Result<Flight, NoMemory>
@@ -145,7 +144,7 @@ pub(crate) fn enter_up(
     requires safe { KeepsTables (code_of loaded.old.code) tables.now }
     ensures stays { StaysLoaded loaded.old loaded.new }
     ensures begun { IfOk result (HasBegun loaded.old.code.pre (pre_staging (code_of loaded.old.code))
-        loaded.old.pre_numbering nothing number (record { port = port; bytes = packet.now }) tables.now) }
+        loaded.old.pre_numbering nothing (record { port = port; bytes = packet.now }) tables.now) }
 {
     preprocessing_goes_by_stages();
     a_pass_by_place();
@@ -158,14 +157,7 @@ pub(crate) fn enter_up(
     are_few(&loaded.up.registers);
     take_first(&loaded.pre, &mut loaded.up, tables, &arrival);
     let plan = loaded.code.pre.plan.copy(alloc)?;
-    keep(
-        alloc,
-        plan,
-        &loaded.up.registers,
-        number,
-        &arrival,
-        tables.bit(),
-    )
+    keep(alloc, plan, &loaded.up.registers, &arrival, tables.bit())
 }
 
 /// The pass takes a stage that isn't its last. This takes no memory.
@@ -192,6 +184,7 @@ pub(crate) fn finish_up(
     alloc: Global,
     loaded: &mut Loaded,
     tables: &SwitchTables,
+    number: u32,
     flight: &Flight,
 ) -> Result<UpEnd, NoMemory>
     requires flight { IsFlightOf loaded.old.code.pre flight.now }
@@ -200,12 +193,12 @@ pub(crate) fn finish_up(
     ensures stays { StaysLoaded loaded.old loaded.new }
     ensures passes { IfOk result (UpPasses false) }
     ensures frame { IfOk result
-        (IsUpFrame (code_of loaded.old.code) flight.now.number flight.now.port flight.now.packet) }
+        (IsUpFrame (code_of loaded.old.code) number flight.now.port flight.now.packet) }
     ensures told { IfOk result (EndsBy (code_of loaded.old.code)
         (last_numbers (pre_staging (code_of loaded.old.code)) (suc flight.now.stage)
         (numbers_in (pre_staging (code_of loaded.old.code)) loaded.old.pre_numbering flight.now.stage flight.now.registers)
         (view_of flight.now.bit tables.now.pairs) (packet_in flight.now))
-        flight.now.number (packet_in flight.now)) }
+        number (packet_in flight.now)) }
 {
     preprocessing_is_computed();
     preprocessing_goes_by_stages();
@@ -220,5 +213,5 @@ pub(crate) fn finish_up(
         bytes,
         shape: Shape::of(bytes),
     };
-    end_up(alloc, loaded, flight.number, &arrival)
+    end_up(alloc, loaded, number, &arrival)
 }

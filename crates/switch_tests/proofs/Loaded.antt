@@ -9,10 +9,15 @@ use Rattle.writeback_table.specs.declared.command.Command.TheVariants.{On}
 use Rattle.switch_ir.specs.declared.code.Table.{Table}
 use Rattle.switch_ir.specs.Code.{Code}
 use Rattle.switch_ir.specs.Tables.{declared_at}
-use Rattle.switch_ir.specs.Port.{PortState, IsLoaded, IsReplicatedIn, HasReplicated, IsDownFrame, WaitsForNone}
+use Rattle.switch_ir.specs.Port.{PortState, HasNoUpPass, IsLoaded, IsReplicatedIn, HasReplicated, IsDownFrame, WaitsForNone}
+use Rattle.switch_ir.specs.UnderWay.{UnderWay, none_under_way}
 
 pub loaded_by : (state : PortState) (code : Code) → state.code ≡ Some code → IsLoaded state
 loaded_by state code e = subst (λ c. IsSome c) (sym e) refl
+
+-- no pass is under way where the code was just loaded, and where it looks the same since
+pub none_begun : (old new : PortState) → old.passes ≡ none_under_way → new ≡ old → HasNoUpPass new 0
+none_begun old new none same = ap (λ (s : PortState). s.passes.pre 0) same ∙ ap (λ (u : UnderWay). u.pre 0) none
 
 pub shown_by : (state : PortState) (code : Code) → state.code ≡ Some code → (d : ObjectDecl) × IsReplicatedIn code 0 d
     → HasReplicated state 0

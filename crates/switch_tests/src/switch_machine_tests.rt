@@ -207,13 +207,24 @@ fn leaves_by_17(alloc: Global, port: &mut ModelSwitch) -> bool
 
 // Before its first pass a switch took no registers.
 #[tactic(auto, using(crate::proofs::Loaded::loaded_by))]
+fn port_takes_registers(
+    alloc: Global,
+    code: &SwitchCode,
+    port: &mut ModelSwitch,
+) -> Result<bool, Fail>
+    requires { IsEmitted (code_of code.now) }
+{
+    let before = port.registers();
+    loaded(alloc, port, code)?;
+    Ok(before == 0 && port.registers() == 0 && leaves_by_17(alloc, port))
+}
+
+// The same of a new switch.
 fn takes_registers(alloc: Global, code: &SwitchCode) -> Result<bool, Fail>
     requires { IsEmitted (code_of code.now) }
 {
     let mut port = ModelSwitch::new(alloc);
-    let before = port.registers();
-    loaded(alloc, &mut port, code)?;
-    Ok(before == 0 && port.registers() == 0 && leaves_by_17(alloc, &mut port))
+    port_takes_registers(alloc, code, &mut port)
 }
 
 fn are_registers_taken(alloc: Global) -> Result<bool, Fail> {
@@ -283,8 +294,50 @@ fn stages_taken(alloc: Global, code: &SwitchCode, port: &mut ModelSwitch) -> usi
     9
 }
 
+// Plans that the second stage call fails, where that is wanted.
+fn plan(port: &mut ModelSwitch, fails: bool) -> Result<(), Fail>
+    ensures { OnOk result (seen_of (machine_of port.new) ≡ seen_of (machine_of port.old)) }
+{
+    if fails {
+        port.fail_at(CallKind::StageUp, 2)?;
+    }
+    Ok(())
+}
+
+// A switch with the code, and with no pass under way, where the second stage call may be planned to fail.
+fn starts(alloc: Global, code: &SwitchCode, fails: bool, port: &mut ModelSwitch) -> Result<(), Fail>
+    requires { IsEmitted (code_of code.now) }
+    ensures code { OnOk result ((seen_of (machine_of port.new)).code ≡ Some (code_of code.now)) }
+    ensures none { OnOk result (HasNoUpPass (seen_of (machine_of port.new)) 0) }
+{
+    loaded(alloc, port, code)?;
+    plan(port, fails)?;
+    Ok(())
+}
+
 // The chain of sums stage by stage, where the second stage call may be planned to fail: how many stage calls there are,
 // and what the journal tells.
+fn port_takes_stages(
+    alloc: Global,
+    code: &SwitchCode,
+    fails: bool,
+    calls: usize,
+    told: &str,
+    port: &mut ModelSwitch,
+) -> Result<bool, Fail>
+    requires { IsEmitted (code_of code.now) }
+{
+    starts(alloc, code, fails, port)?;
+    let entered = enters(alloc, code, port);
+    Ok(
+        entered
+            && stages_taken(alloc, code, port) == calls
+            && port.faults() == u64::from(fails)
+            && tells(port.journal(), told),
+    )
+}
+
+// The same of a new switch.
 fn takes_stages(
     alloc: Global,
     code: &SwitchCode,
@@ -295,17 +348,7 @@ fn takes_stages(
     requires { IsEmitted (code_of code.now) }
 {
     let mut port = ModelSwitch::new(alloc);
-    loaded(alloc, &mut port, code)?;
-    if fails {
-        port.fail_at(CallKind::StageUp, 2)?;
-    }
-    let entered = enters(alloc, code, &mut port);
-    Ok(
-        entered
-            && stages_taken(alloc, code, &mut port) == calls
-            && port.faults() == u64::from(fails)
-            && tells(port.journal(), told),
-    )
+    port_takes_stages(alloc, code, fails, calls, told, &mut port)
 }
 
 fn are_stages_taken(alloc: Global) -> Result<bool, Fail> {

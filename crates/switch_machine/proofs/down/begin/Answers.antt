@@ -41,8 +41,8 @@ returns-clause-begun c given begins =
     c.take_first.ensures.written
     ∙ c.a_pass_by_place.ensures.one l.post_numbering l.code.post.plan code.post.steps code.post.highest l.post (seen_tables told) packet start 0 l.post_stages
     l.post_plan c.are_few.ensures.few (omega arith) in
-    ok_weaker (IsBegun c.args.number packet told.bit after) (HasBegun l.code.post (post_staging code) l.post_numbering given c.args.number packet told) c.keep.result
-    (λ f b. has_begun l.code.post (post_staging code) l.post_numbering given c.args.number packet told after done f b same
+    ok_weaker (IsBegun packet told.bit after) (HasBegun l.code.post (post_staging code) l.post_numbering given packet told) c.keep.result
+    (λ f b. has_begun l.code.post (post_staging code) l.post_numbering given packet told after done f b same
     (c.take_first.ensures.plan ∙ l.post_plan) (c.take_first.ensures.count ∙ l.down_count) c.requires.size c.requires.left
     (c.postprocessing_goes_by_stages.ensures.entry code l.post_numbering start told packet given (ready_down l start refl) c.requires.safe c.requires.placed begins))
-    (subst (λ (bit : Bool). IfOk c.keep.result (IsBegun c.args.number packet bit after)) c.bit.ensures c.keep.ensures)
+    (subst (λ (bit : Bool). IfOk c.keep.result (IsBegun packet bit after)) c.bit.ensures c.keep.ensures)

@@ -3,13 +3,12 @@ use Rattle.packet_fields.specs.declared.packet.Packet.{Packet}
 use Rattle.transfer_header.specs.Registers.{value_in}
 use Rattle.switch_ir.specs.Code.{code_of, Code}
 use Rattle.switch_ir.specs.Meaning.{down_given}
-use Rattle.switch_ir.specs.Staged.{post_staging}
-use Rattle.switch_machine.specs.Flights.{HasBegun, StaysLoaded}
+use Rattle.switch_machine.specs.Flights.{StaysLoaded}
 use Rattle.switch_machine.specs.Keeping.{begins_down}
 use Rattle.switch_machine.specs.Planned.{BeginsWith}
 use Rattle.switch_machine.proofs.Beginnings.{begun_by}
 use Rattle.switch_machine.proofs.HandedDown.{given_same}
-use Rattle.switch_machine.proofs.Lists.{ok_weaker, whole_rest}
+use Rattle.switch_machine.proofs.Lists.{whole_rest}
 use Rattle.switch_machine.proofs.down.enter_down.Goals as goal
 
 pub returns-clause-begun : goal.returns-clause-begun
@@ -36,8 +35,7 @@ returns-clause-begun c number port values packet frame_is =
     (sym c.give.ensures.code) c.give.ensures.begins in
     let one = c.unpack-head.ensures.stays in
     let two = c.give.ensures.stays in
-    let stays : StaysLoaded first given_to = (two.0 ∙ one.0, two.1 ∙ one.1, two.2 ∙ one.2, two.3 ∙ one.3, two.4 ∙ one.4) in
-    ok_weaker (HasBegun given_to.code.post (post_staging (code_of given_to.code)) given_to.post_numbering given head.number arrived told)
-    (HasBegun first.code.post (post_staging code) first.post_numbering other number packet_too told) c.begin.result
-    (λ f h. begun_by first given_to stays given other head.number number arrived packet_too told f given_is same.same_number packet_is h)
-    (c.begin.ensures.begun given begins)
+    let stays : StaysLoaded first given_to = (two.0 ∙ one.0, two.1 ∙ one.1, two.2 ∙ one.2, two.3 ∙ one.3, two.4 ∙ one.4) in (
+      same.same_number,
+      begun_by first given_to stays given other arrived packet_too told c.in_ok-flight.flight given_is packet_is (c.in_ok-flight.ensures.begun given begins),
+    )

@@ -38,12 +38,12 @@ returns-clause-moved c =
     let view = view_of f.bit told.pairs in
     let gives = stage_gives l.post_numbering (of_stage (suc f.stage) code.post.steps) (reads_by l.post_numbering (content_of f.registers)) view (packet_in f) in
     let done = pairs_written f.registers gives in
-    let moved : Flight = record { number = f.number; port = f.port; packet = f.packet; bit = f.bit; stage = f.stage + 1; registers = c.swap.new.y } in
+    let moved : Flight = record { port = f.port; packet = f.packet; bit = f.bit; stage = f.stage + 1; registers = c.swap.new.y } in
     let same : c.take_stage.new.place.registers ≡ done =
     c.take_stage.ensures.written
     ∙ c.a_pass_by_place.ensures.one l.post_numbering l.code.post.plan code.post.steps code.post.highest l.post view (packet_in f) f.registers (suc f.stage) l.post_stages
     c.requires.flight.plan c.are_few.ensures.few (omega (arith, c.requires.left)) in
-    has_moved l.code.post (post_staging code) l.post_numbering told f moved done c.requires.flight c.requires.left refl refl refl (add-one f.stage) (c.swap.ensures.y_after ∙ same)
+    has_moved l.code.post (post_staging code) l.post_numbering told f moved done c.requires.flight c.requires.left refl refl (add-one f.stage) (c.swap.ensures.y_after ∙ same)
     (plan_pairs f.registers gives ∙ c.requires.flight.plan) (size_pairs f.registers gives ∙ c.requires.flight.count)
     (c.postprocessing_goes_by_stages.ensures.stage code l.post_numbering f.registers told f.bit (packet_in f) f.stage
     (ready_down l f.registers (c.requires.flight.plan ∙ sym l.post_plan)) c.requires.safe c.are_few.ensures.placed)

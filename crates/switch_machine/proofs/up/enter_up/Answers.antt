@@ -42,9 +42,9 @@ returns-clause-begun c =
     c.take_first.ensures.written
     ∙ c.a_pass_by_place.ensures.one l.pre_numbering l.code.pre.plan code.pre.steps code.pre.highest l.pre (seen_tables told) packet cleared 0 l.pre_stages
     (c.clear.ensures.plan ∙ l.pre_plan) c.are_few.ensures.few (omega arith) in
-    ok_weaker (IsBegun c.args.number packet told.bit after) (HasBegun l.code.pre (pre_staging code) l.pre_numbering nothing c.args.number packet told) c.keep.result
-    (λ f b. has_begun l.code.pre (pre_staging code) l.pre_numbering nothing c.args.number packet told after done f b same
+    ok_weaker (IsBegun packet told.bit after) (HasBegun l.code.pre (pre_staging code) l.pre_numbering nothing packet told) c.keep.result
+    (λ f b. has_begun l.code.pre (pre_staging code) l.pre_numbering nothing packet told after done f b same
     (c.take_first.ensures.plan ∙ c.clear.ensures.plan ∙ l.pre_plan) (c.take_first.ensures.count ∙ c.clear.ensures.count ∙ l.up_count) c.requires.size c.requires.left
     (c.preprocessing_goes_by_stages.ensures.entry code l.pre_numbering cleared told packet (ready_up l cleared c.clear.ensures.plan) c.requires.safe
     c.clear.ensures.contents c.clear.ensures.placed))
-    (subst (λ (bit : Bool). IfOk c.keep.result (IsBegun c.args.number packet bit after)) c.bit.ensures c.keep.ensures)
+    (subst (λ (bit : Bool). IfOk c.keep.result (IsBegun packet bit after)) c.bit.ensures c.keep.ensures)

@@ -65,5 +65,5 @@ returns-clause-told c =
     let held = held_by l.pre_numbering done c.take_stage.new.place.registers last (kept_up code) same
     (c.preprocessing_goes_by_stages.ensures.last code l.pre_numbering f.registers told f.bit (packet_in f) f.stage
     (ready_up l f.registers (c.requires.flight.plan ∙ sym l.pre_plan)) c.requires.safe c.are_few.ensures.placed c.requires.last) in
-    subst (λ bytes. IfOk c.end_up.result (EndsBy code last f.number (record { port = f.port; bytes = bytes }))) c.as_slice-bytes.ensures
+    subst (λ bytes. IfOk c.end_up.result (EndsBy code last c.args.number (record { port = f.port; bytes = bytes }))) c.as_slice-bytes.ensures
     (c.end_up.ensures.ends last held)

@@ -38,12 +38,12 @@ returns-clause-moved c =
     let view = view_of f.bit told.pairs in
     let gives = stage_gives l.pre_numbering (of_stage (suc f.stage) code.pre.steps) (reads_by l.pre_numbering (content_of f.registers)) view (packet_in f) in
     let done = pairs_written f.registers gives in
-    let moved : Flight = record { number = f.number; port = f.port; packet = f.packet; bit = f.bit; stage = f.stage + 1; registers = c.swap.new.y } in
+    let moved : Flight = record { port = f.port; packet = f.packet; bit = f.bit; stage = f.stage + 1; registers = c.swap.new.y } in
     let same : c.take_stage.new.place.registers ≡ done =
     c.take_stage.ensures.written
     ∙ c.a_pass_by_place.ensures.one l.pre_numbering l.code.pre.plan code.pre.steps code.pre.highest l.pre view (packet_in f) f.registers (suc f.stage) l.pre_stages
     c.requires.flight.plan c.are_few.ensures.few (omega (arith, c.requires.left)) in
-    has_moved l.code.pre (pre_staging code) l.pre_numbering told f moved done c.requires.flight c.requires.left refl refl refl (add-one f.stage) (c.swap.ensures.y_after ∙ same)
+    has_moved l.code.pre (pre_staging code) l.pre_numbering told f moved done c.requires.flight c.requires.left refl refl (add-one f.stage) (c.swap.ensures.y_after ∙ same)
     (plan_pairs f.registers gives ∙ c.requires.flight.plan) (size_pairs f.registers gives ∙ c.requires.flight.count)
     (c.preprocessing_goes_by_stages.ensures.stage code l.pre_numbering f.registers told f.bit (packet_in f) f.stage
     (ready_up l f.registers (c.requires.flight.plan ∙ sym l.pre_plan)) c.requires.safe c.are_few.ensures.placed)

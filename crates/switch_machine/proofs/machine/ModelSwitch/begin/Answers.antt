@@ -1,25 +1,23 @@
-use Rattle.std.proofs.Common.{List, Some, sym, subst}
-use Rattle.std.specs.List.{AllByRecursion as Each}
+use Rattle.std.proofs.Common.{Some, ap, sym, ◌∙◌}
+use Rattle.std.proofs.lemmas.Option.{none-some}
 use Rattle.switch_ir.specs.Code.{code_of}
-use Rattle.switch_machine.specs.declared.flight.Flight.{Flight}
-use Rattle.switch_machine.specs.Flights.{under_way, IsFlightOf}
+use Rattle.switch_machine.specs.Flights.{under_way}
 use Rattle.switch_machine.specs.Views.{machine_of}
+use Rattle.switch_machine.proofs.FlightMaps.{none_in}
 use Rattle.switch_machine.proofs.KeptTables.{start_safe}
 use Rattle.switch_machine.proofs.machine.ModelSwitch.begin.Goals as goal
 
 pub invariant_of-self : goal.invariant_of-self
 invariant_of-self c = record {
   safe = start_safe (code_of c.args.loaded.code) c.args.tables c.args.loaded.can c.requires;
-  flights = λ l is. record {
-    arriving = subst (λ (fs : List Flight). Each (IsFlightOf l.code.pre) fs) (sym c.clear.ensures.items) tt;
-    leaving = subst (λ (fs : List Flight). Each (IsFlightOf l.code.post) fs) (sym c.clear-2.ensures.items) tt;
-  };
+  up = λ l n f is there. absurd (none-some f (sym (ap (λ g. g n) (none_in c.clear.new.self c.clear.ensures.empty)) ∙ there));
+  down = λ l n f is there. absurd (none-some f (sym (ap (λ g. g n) (none_in c.clear-2.new.self c.clear-2.ensures.empty)) ∙ there));
 }
 
 pub returns : goal.returns
 returns c =
-    let arriving = c.clear.ensures.items in
-    let leaving = c.clear-2.ensures.items in
+    let arriving = none_in c.clear.new.self c.clear.ensures.empty in
+    let leaving = none_in c.clear-2.new.self c.clear-2.ensures.empty in
     λ i. record (machine_of c.args.self.now) {
       code = Some (code_of c.args.loaded.code);
       tables = c.args.tables;

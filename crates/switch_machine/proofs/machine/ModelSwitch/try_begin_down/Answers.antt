@@ -6,7 +6,8 @@ use Rattle.switch_ir.specs.declared.port.DownEnd.{DownEnd}
 use Rattle.switch_ir.specs.declared.port.DownEnd.TheVariants as down
 use Rattle.switch_machine.specs.Calls.{ended}
 use Rattle.switch_machine.specs.Ends.{DownPasses}
-use Rattle.switch_machine.specs.Staging.{with_pass, IsLeft, DownIsPlanned}
+use Rattle.switch_machine.specs.Flights.{with_pass}
+use Rattle.switch_machine.specs.Staging.{IsLeft, DownIsPlanned}
 use Rattle.switch_machine.specs.Views.{machine_of}
 use Rattle.switch_machine.proofs.Lists.{ok_weaker}
 use Rattle.switch_machine.proofs.StagedCalls.{begins_going_down, ended_left, planned_down, went_left}

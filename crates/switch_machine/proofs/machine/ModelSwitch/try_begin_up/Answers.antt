@@ -6,7 +6,8 @@ use Rattle.switch_ir.specs.declared.port.UpEnd.{UpEnd}
 use Rattle.switch_ir.specs.declared.port.UpEnd.TheVariants as up
 use Rattle.switch_machine.specs.Calls.{ended}
 use Rattle.switch_machine.specs.Ends.{UpPasses}
-use Rattle.switch_machine.specs.Staging.{with_pass, IsLeft, UpIsPlanned}
+use Rattle.switch_machine.specs.Flights.{with_pass}
+use Rattle.switch_machine.specs.Staging.{IsLeft, UpIsPlanned}
 use Rattle.switch_machine.specs.Views.{machine_of}
 use Rattle.switch_machine.proofs.Lists.{ok_weaker}
 use Rattle.switch_machine.proofs.StagedCalls.{begins_going_up, ended_left, planned_up, went_left}

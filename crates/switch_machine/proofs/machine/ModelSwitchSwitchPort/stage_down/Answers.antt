@@ -1,10 +1,24 @@
-use Rattle.std.proofs.Common.{ap, subst}
-use Rattle.switch_ir.specs.Port.{StagesDown, PortState}
+use Rattle.std.proofs.Common.{ap, subst, sym}
+use Rattle.switch_ir.specs.Port.{StagesDown, HasDownPass, PortState}
+use Rattle.switch_ir.specs.declared.port.DownEnd.TheVariants.{NoMemory}
 use Rattle.switch_machine.specs.Machine.{seen_of}
 use Rattle.switch_machine.specs.Views.{machine_of}
+use Rattle.switch_machine.proofs.StagedCalls.{stages_none_down}
 use Rattle.switch_machine.proofs.machine.ModelSwitchSwitchPort.stage_down.Goals as goal
 
 pub returns-in-Ok-clause-stages : goal.returns-in-Ok-clause-stages
 returns-in-Ok-clause-stages c =
     subst (λ (state : PortState). StagesDown c.in-Ok.end c.args.number state (seen_of (machine_of c.try_stage_down.new.self)))
     (ap seen_of c.is_to_fail-fails.ensures.counted) c.in-Ok.ensures.stages
+
+pub try_stage_down-requires : goal.try_stage_down-requires
+try_stage_down-requires c = record {
+  pass = subst (λ (state : PortState). HasDownPass state c.args.number) (sym (ap seen_of c.is_to_fail-fails.ensures.counted)) c.requires;
+}
+
+pub returns-in-Err-clause-stages : goal.returns-in-Err-clause-stages
+returns-in-Err-clause-stages c =
+    let old = machine_of c.is_to_fail-fails.new.self in
+    let new = machine_of c.try_stage_down.new.self in
+    subst (λ (state : PortState). StagesDown NoMemory c.args.number state (seen_of new)) (ap seen_of c.is_to_fail-fails.ensures.counted)
+    (stages_none_down c.args.number old new c.in-Err.ensures.err)
