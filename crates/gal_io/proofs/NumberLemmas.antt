@@ -1,7 +1,7 @@
 -- The value of digits, and numbers as they are printed.
-use Rattle.std.proofs.Common.{◌≡◌, ℕ, zero, suc, ◌+◌, ◌*◌, ◌/◌, ◌%◌, ◌^◌, ◌≤◌, ◌<◌, Bool, true, false, cond, leb, List, [], ◌∷◌, ◌++◌, length, get_or, take, drop, Some, None, option_and_then, drop-cons, sym, ap, ◌∙◌, lit<, arith, add-one, length-append}
-use Rattle.std.proofs.Math.ListN.{set}
-use Rattle.std.proofs.Math.Seq.{take-suc-set}
+use Rattle.std.proofs.Common.{◌≡◌, ℕ, zero, suc, ◌+◌, ◌-◌, ◌*◌, ◌/◌, ◌%◌, ◌^◌, ◌≤◌, ◌<◌, Bool, true, false, cond, leb, List, [], ◌∷◌, ◌++◌, length, get_or, drop, Some, None, option_and_then, drop-cons, sym, ap, ◌∙◌, lit<, arith, refl, length-append, append_assoc}
+use Rattle.std.proofs.lemmas.List.{append-nil, drop-set}
+use Rattle.std.proofs.Math.ListN.{drop_of_length-le, set}
 use Rattle.std.specs.Char.{digit_value}
 use Rattle.std.specs.Fmt.{decimal}
 use Rattle.std.specs.Str.{all_ascii_digits}
@@ -70,19 +70,32 @@ read_again text most number h small fits =
 pub few_digits : (number : ℕ) → number < 2 ^ 64 → length (decimal number) ≤ 20
 few_digits number fits = length-decimal-le 20 number (lit< tt) (omega arith) fits
 
-pub one_digit : (number : ℕ) (digits : List ℕ) → number < 10 → length digits ≡ 20 → take 1 (set digits 0 (48 + number)) ≡ decimal number
-one_digit number (first ∷ rest) small size = sym (decimal_digit number small)
-one_digit number [] small size = absurd (omega (arith, size))
+pub some_digits : (number : ℕ) → number < 2 ^ 64 → 0 < length (decimal number)
+some_digits number fits = decimal_nonempty number fits
 
-pub one_digit_count : (number : ℕ) → number < 10 → length (decimal number) ≡ 1
-one_digit_count number small = ap length (decimal_digit number small)
+-- the digits of a number and of what is left of it but for the last digit
+pub digits_left : (number : ℕ) → 10 ≤ number → number < 2 ^ 64 → length (decimal number) ≡ length (decimal (number / 10)) + 1
+digits_left number large fits = ap length (decimal_step number large fits) ∙ length-append (decimal (number / 10)) ((48 + number % 10) ∷ [])
 
-pub more_digits : (number : ℕ) → 10 ≤ number → number < 2 ^ 64 → length (decimal number) ≡ length (decimal (number / 10)) + 1
-more_digits number large fits = ap length (decimal_step number large fits) ∙ length-append (decimal (number / 10)) ((48 + number % 10) ∷ [])
+-- before a digit is written, all of the number is left
+pub nothing_written : (number start : ℕ) (digits : List ℕ) → length digits ≤ start → decimal number ≡ decimal number ++ drop start digits
+nothing_written number start digits short = sym (ap (λ ds. decimal number ++ ds) (drop_of_length-le digits short) ∙ append-nil (decimal number))
 
-pub last_digit : (number front : ℕ) (digits : List ℕ) → 10 ≤ number → number < 2 ^ 64 → length digits ≡ 20 → front ≡ length (decimal (number / 10))
-    → take front digits ≡ decimal (number / 10) → take (front + 1) (set digits front (48 + number % 10)) ≡ decimal number
-last_digit number front digits large fits size count before =
-    let within : front < length digits = omega (arith, few_digits number fits, more_digits number large fits) in
-    ap (λ n. take n (set digits front (48 + number % 10))) (add-one front)
-    ∙ take-suc-set digits front (48 + number % 10) within ∙ ap (λ ds. ds ++ ((48 + number % 10) ∷ [])) before ∙ sym (decimal_step number large fits)
+-- the first digit, before those that stand there from `start` on
+pub first_digit : (number rest start : ℕ) (digits : List ℕ) → rest < 10 → 0 < start → start ≤ length digits
+    → decimal number ≡ decimal rest ++ drop start digits → drop (start - 1) (set digits (start - 1) (48 + rest % 10)) ≡ decimal number
+first_digit number rest start digits small some within so_far =
+    let at : start - 1 + 1 ≡ start = omega arith in
+    let digit : rest % 10 ≡ rest = omega arith in
+    drop-set digits (start - 1) (48 + rest % 10) (omega arith)
+    ∙ rw (at, digit) (ap (λ ds. ds ++ drop start digits) (sym (decimal_digit rest small)) ∙ sym so_far)
+
+-- one more digit, before those that stand there from `start` on
+pub next_digit : (number rest start : ℕ) (digits : List ℕ) → 10 ≤ rest → rest < 2 ^ 64 → 0 < start → start ≤ length digits
+    → decimal number ≡ decimal rest ++ drop start digits
+    → decimal number ≡ decimal (rest / 10) ++ drop (start - 1) (set digits (start - 1) (48 + rest % 10))
+next_digit number rest start digits large fits some within so_far =
+    let at : start - 1 + 1 ≡ start = omega arith in
+    so_far ∙ ap (λ ds. ds ++ drop start digits) (decimal_step rest large fits)
+    ∙ append_assoc (decimal (rest / 10)) ((48 + rest % 10) ∷ []) (drop start digits)
+    ∙ ap (λ ds. decimal (rest / 10) ++ ds) (sym (drop-set digits (start - 1) (48 + rest % 10) (omega arith) ∙ rw at refl))

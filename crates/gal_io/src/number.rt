@@ -1,5 +1,5 @@
 //! Numbers in a text.
-ghost use Rattle.std.specs.Prelude.{◌≡◌, ◌≤◌, ℕ, IsTrue, IfSome, Some, length, take};
+ghost use Rattle.std.specs.Prelude.{◌≡◌, ◌≤◌, ℕ, IsTrue, IfSome, Some, ◌++◌, length, drop};
 ghost use Rattle.std.specs.Option.{SomeIff};
 ghost use Rattle.std.specs.Fmt.{decimal};
 ghost use Rattle.std.specs.Str.{all_ascii_digits};
@@ -45,17 +45,19 @@ pub fn number_up_to(digits: &[u8], most: u64) -> Option<u64>
     parse(digits, most)
 }
 
-/// Writes a number in decimal to the front of `digits`, and answers how many digits it has.
-#[tactic(auto, using(crate::proofs::NumberLemmas::one_digit, crate::proofs::NumberLemmas::one_digit_count, crate::proofs::NumberLemmas::last_digit, crate::proofs::NumberLemmas::more_digits, crate::proofs::NumberLemmas::few_digits))]
+/// Writes a number in decimal to the end of `digits`, and answers where it begins there.
 pub(crate) fn write_decimal(number: u64, digits: &mut [u8; 20]) -> usize
-    ensures count { result ≡ length (decimal number) }
-    ensures digits { take result digits.new ≡ decimal number }
+    ensures start { result ≤ 20 }
+    ensures digits { drop result digits.new ≡ decimal number }
 {
-    if number < 10 {
-        digits[0] = b'0' + number as u8;
-        return 1;
+    let mut rest = number;
+    let mut start = digits.len();
+    loop {
+        start -= 1;
+        digits[start] = b'0' + (rest % 10) as u8;
+        if rest < 10 {
+            return start;
+        }
+        rest /= 10;
     }
-    let front = write_decimal(number / 10, digits);
-    digits[front] = b'0' + (number % 10) as u8;
-    front + 1
 }

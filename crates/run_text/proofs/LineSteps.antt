@@ -1,10 +1,14 @@
 -- What a reader of lines has read.
-use Rattle.std.proofs.Common.{◌≡◌, ℕ, suc, ◌+◌, ◌≤◌, Bool, inl, inr, true, false, not, ◌&&◌, ◌||◌, cond, ltb, eqb, List, [], ◌∷◌, ◌++◌, length, refl, sym, ◌∙◌, arith}
+use Rattle.std.proofs.Common.{◌≡◌, ℕ, suc, ◌+◌, ◌≤◌, Bool, inl, inr, true, false, not, ◌&&◌, ◌||◌, cond, ltb, eqb, List, [], ◌∷◌, ◌++◌, length, refl, sym, ◌∙◌, arith, append_assoc}
 use Rattle.std.specs.Prelude.{Result, Ok, Err, if◌then◌else◌}
 use Rattle.std.specs.List.{list_any, position_or_len, before_first}
 use Rattle.std.proofs.lemmas.Bool.Decides.{nat_tests}
 use Rattle.std.proofs.lemmas.Bool.{cases_Bool}
 use Rattle.gal_io.specs.Lines.{is_skipped}
+use Rattle.run_text.specs.Said.{given_said, said_by}
+use Rattle.run_text.specs.declared.line_value.Said.{Said}
+use Rattle.run_text.specs.declared.line_value.Said.TheVariants.{Value, Nothing, End, Wrong}
+use Rattle.run_text.specs.declared.refusal.LinesError.TheVariants.{Line}
 use Rattle.run_text.specs.Trace.{after_drain, followed_by, in_front, is_space, line_values, values_until, with_line}
 use Rattle.run_text.specs.declared.refusal.LineKind.{LineKind}
 use Rattle.run_text.specs.declared.refusal.LinesError.{LinesError}
@@ -103,3 +107,61 @@ not_ended value n (l ∷ ls) =
 -- where no line ends the values, all lines have one
 pub none_ends : {X : Type 0} (value : List ℕ → Result X LineKind) (ls : List (List ℕ)) → values_until (λ _. false) value 1 ls ≡ line_values value 1 ls
 none_ends value ls = sym (all_lines (λ _. false) value 1 ls) ∙ not_ended value 1 ls
+
+-- ---- one line after the other
+
+-- what lines give by what the first of them says
+abbrev pub values_after : {X : Type 0} → (List ℕ → Bool) → (List ℕ → Result X LineKind) → Bool → ℕ → List (List ℕ) → Said X → Result (List X) LinesError
+values_after ends value ended n ls (Value x) = in_front x (ahead_values ends value ended (n + 1) ls)
+values_after ends value ended n ls Nothing = ahead_values ends value ended (n + 1) ls
+values_after ends value ended n ls End = ahead_values ends value true (n + 1) ls
+values_after ends value ended n ls (Wrong kind) = Err (Line n kind)
+
+-- and whether the values have ended behind it
+abbrev pub ended_after : {X : Type 0} → Bool → Said X → Bool
+ended_after ended (Value x) = ended
+ended_after ended Nothing = ended
+ended_after ended End = true
+ended_after ended (Wrong kind) = ended
+
+given_first : {X : Type 0} (ends : List ℕ → Bool) (value : List ℕ → Result X LineKind) (ended : Bool) (n : ℕ) (ls : List (List ℕ)) (given : Result X LineKind)
+    → with_line n given (ahead_values ends value ended (n + 1) ls) ≡ values_after ends value ended n ls (given_said given)
+given_first ends value ended n ls (Ok x) = refl
+given_first ends value ended n ls (Err kind) = refl
+
+pub values_first : {X : Type 0} (ends : List ℕ → Bool) (value : List ℕ → Result X LineKind) (ended : Bool) (n : ℕ) (l : List ℕ) (ls : List (List ℕ))
+    → ahead_values ends value ended n (l ∷ ls) ≡ values_after ends value ended n ls (said_by ends value ended l)
+values_first ends value ended n l ls = elim (cases_Bool (not ended && ends l)) [
+  | inl last ↦ rw last refl
+  | inr before ↦ rw before (elim (cases_Bool (is_skipped l)) [
+    | inl skipped ↦ rw skipped refl
+    | inr told ↦ rw told (given_first ends value ended n ls (if ended then after_drain l else value l))
+  ])
+]
+
+given_ended : {X : Type 0} (ended : Bool) (given : Result X LineKind) → ended_after ended (given_said given) ≡ ended
+given_ended ended (Ok x) = refl
+given_ended ended (Err kind) = refl
+
+pub ended_first : {X : Type 0} (ends : List ℕ → Bool) (value : List ℕ → Result X LineKind) (ended : Bool) (l : List ℕ) (ls : List (List ℕ))
+    → ahead_ended ends ended (l ∷ ls) ≡ ahead_ended ends (ended_after ended (said_by ends value ended l)) ls
+ended_first ends value ended l ls = elim (cases_Bool (not ended && ends l)) [
+  | inl last ↦ rw last refl
+  | inr before ↦ rw before (elim (cases_Bool (is_skipped l)) [
+    | inl skipped ↦ rw skipped refl
+    | inr told ↦ rw told (rw (given_ended ended (if ended then after_drain l else value l)) refl)
+  ])
+]
+
+-- a value that is kept
+pub stands_kept : {X : Type 0} (x : X) (ahead whole : Result (List X) LinesError) (kept : List X) (have most : ℕ)
+    → Stands (in_front x ahead) whole kept have most → Stands ahead whole (kept ++ (x ∷ [])) (have + 1) most
+stands_kept x (Ok xs) whole kept have most (all, same, size, front) =
+    (all, same, omega (arith, size), λ few. let h : all ≡ kept ++ (x ∷ xs) = front (omega arith) in rw h (sym (append_assoc kept (x ∷ []) xs)))
+stands_kept x (Err e) whole kept have most h = h
+
+-- and one that is counted alone
+pub stands_counted : {X : Type 0} (x : X) (ahead whole : Result (List X) LinesError) (kept : List X) (have most : ℕ) → most ≤ have
+    → Stands (in_front x ahead) whole kept have most → Stands ahead whole kept (have + 1) most
+stands_counted x (Ok xs) whole kept have most many (all, same, size, front) = (all, same, omega (arith, size), λ few. absurd (omega arith))
+stands_counted x (Err e) whole kept have most many h = h

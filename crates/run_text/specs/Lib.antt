@@ -3,3 +3,4 @@ pub mod Report
 pub mod Answer
 pub mod Printed
 pub mod LinkSchedule
+pub mod Said

@@ -1,9 +1,10 @@
 //! Values of which each stands on a line of a text.
-ghost use Rattle.std.specs.Prelude.{◌≡◌, ◌≤◌, ◌<◌, ◌⊎◌, ◌+◌, ◌^◌, length, IfOk, IfErr, MatchOption, true, false, Ok, Err, []};
-ghost use Rattle.std.specs.Prelude.{not, ◌&&◌, if◌then◌else◌};
+ghost use Rattle.std.specs.Prelude.{◌≡◌, ◌≤◌, ◌<◌, ◌⊎◌, ◌+◌, ◌^◌, length, IfOk, IfErr, IfSome, MatchOption, true, false, Ok, Err, []};
+ghost use Rattle.std.specs.Prelude.{not, ◌&&◌};
 ghost use Rattle.std.specs.List.{after_first, before_first, list_any, position_or_len};
 ghost use Rattle.gal_io.specs.Lines.{lines};
-ghost use Rattle.run_text.specs.Trace.{after_drain, at_most, is_space, values_until};
+ghost use Rattle.run_text.specs.Said.{IsFirst, IsSaidFirst, said_by};
+ghost use Rattle.run_text.specs.Trace.{at_most, is_space, values_until};
 
 use crate::refusal::{LineKind, LinesError};
 use gal_io::{NoMemory, is_skipped, split_line};
@@ -25,6 +26,19 @@ pub(crate) trait LineValue: Sized + Drop {
     /// Whether a line spells no value and is the last that may stand.
     fn is_end(line: &[u8]) -> bool
         ensures { result ≡ line_ends line.now };
+
+    /// The value that the first line of a text spells, and the lines behind it, where a look at a few bytes tells.
+    fn at_once(text: &[u8]) -> Option<(Self, &[u8])>
+        ensures { IfSome result (λ first. IsFirst line_ends line_gives text.now first.0 first.1.now) };
+}
+
+// What a line says.
+#[derive(Drop)]
+enum Said<V> {
+    Value(V),
+    Nothing,
+    End,
+    Wrong(LineKind),
 }
 
 /// The values of the lines of a text, and whether one ended them.
@@ -57,25 +71,44 @@ pub(crate) fn split_at_space(line: &[u8]) -> Option<(&[u8], &[u8])>
     Some((&line[..at], &line[at + 1..]))
 }
 
-// Whether a line ends values that no line ended before.
-fn ends_here<V: LineValue>(line: &[u8], ended: bool) -> bool
-    ensures { result ≡ (not ended && V.line_ends line.now) }
+// What a line says that isn't the first one to end the values.
+fn read_line<V: LineValue>(alloc: Global, line: &[u8], ended: bool) -> Result<Said<V>, NoMemory>
+    ensures { (not ended && V.line_ends line.now) ≡ false
+        → IfOk result (λ said. said ≡ said_by V.line_ends V.line_gives ended line.now) }
 {
-    !ended && V::is_end(line)
+    if is_skipped(line) {
+        return Ok(Said::Nothing);
+    }
+    if ended {
+        return Ok(Said::Wrong(LineKind::AfterDrain));
+    }
+    match V::from_line(alloc, line)? {
+        Ok(value) => Ok(Said::Value(value)),
+        Err(kind) => Ok(Said::Wrong(kind)),
+    }
 }
 
-// The value of a line; once the values have ended, none may stand.
-fn read_line<V: LineValue>(
+// What the first line of a text says, where the values have ended already or not, and the lines behind it.
+fn first_said<'t, V: LineValue>(
     alloc: Global,
-    line: &[u8],
+    text: &'t [u8],
     ended: bool,
-) -> Result<Result<V, LineKind>, NoMemory>
-    ensures { IfOk result (λ given. given ≡ (if ended then after_drain line.now else V.line_gives line.now)) }
+) -> Result<Option<(Said<V>, &'t [u8])>, NoMemory>
+    ensures { IfOk result (λ first. MatchOption first (text.now ≡ [])
+        (λ parts. IsSaidFirst V.line_ends V.line_gives ended text.now parts.0 parts.1.now)) }
 {
-    if ended {
-        return Ok(Err(LineKind::AfterDrain));
+    if !ended {
+        if let Some((value, behind)) = V::at_once(text) {
+            return Ok(Some((Said::Value(value), behind)));
+        }
     }
-    V::from_line(alloc, line)
+    let Some((line, behind)) = split_line(text) else {
+        return Ok(None);
+    };
+    if !ended && V::is_end(line) {
+        return Ok(Some((Said::End, behind)));
+    }
+    Ok(Some((read_line(alloc, line, ended)?, behind)))
 }
 
 // No values yet, with room for as many as the lines of a text can spell, but for no more than `most`: each line has a
@@ -89,6 +122,7 @@ fn room_for<V>(alloc: Global, text: &[u8], most: usize) -> Result<Vec<V>, NoMemo
 
 /// The values of the lines of a text, in front of which so many lines stand. Those past the first `most` are counted
 /// and not kept.
+#[tactic(auto, using(std::proofs::lemmas::Grind::common_steps, crate::proofs::LineSteps::values_first, crate::proofs::LineSteps::ended_first, crate::proofs::LineSteps::stands_kept, crate::proofs::LineSteps::stands_counted))]
 pub(crate) fn read_values<V: LineValue>(
     alloc: Global,
     text: &[u8],
@@ -107,22 +141,20 @@ pub(crate) fn read_values<V: LineValue>(
     let mut number = before;
     let mut ended = false;
     let mut ahead = text;
-    while let Some((line, behind)) = split_line(ahead) {
+    while let Some((said, behind)) = first_said::<V>(alloc, ahead, ended)? {
         number += 1;
         ahead = behind;
-        if ends_here::<V>(line, ended) {
-            ended = true;
-            continue;
+        match said {
+            Said::Value(value) => {
+                if have < most {
+                    items.push(value)?;
+                }
+                have += 1;
+            }
+            Said::Nothing => {}
+            Said::End => ended = true,
+            Said::Wrong(kind) => return Err(LinesError::Line { number, kind }),
         }
-        if is_skipped(line) {
-            continue;
-        }
-        match read_line(alloc, line, ended)? {
-            Ok(value) if have < most => items.push(value)?,
-            Ok(_) => {}
-            Err(kind) => return Err(LinesError::Line { number, kind }),
-        }
-        have += 1;
     }
     if have > most {
         return Err(LinesError::TooMany {

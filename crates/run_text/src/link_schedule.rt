@@ -89,6 +89,10 @@ impl LineValue for LinkEvent {
     fn is_end(_line: &[u8]) -> bool {
         false
     }
+
+    fn at_once(_text: &[u8]) -> Option<(LinkEvent, &[u8])> {
+        None
+    }
 }
 
 /// The events of a schedule over links. A line is one of a schedule without stages, but for `drain`; or `x`, `y` or `z`

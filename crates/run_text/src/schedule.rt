@@ -1,6 +1,6 @@
 //! The text of a schedule.
 ghost use Rattle.std.specs.Prelude.{◌≡◌, ◌≤◌, ◌<◌, ◌+◌, ◌^◌, ◌⊎◌, ◌++◌, ◌∷◌, length, decimal, map, All, OnOk, IfOk, IfErr};
-ghost use Rattle.std.specs.Prelude.{IfSome, MatchOption, MatchResult, Some, None, Ok, Err};
+ghost use Rattle.std.specs.Prelude.{IfSome, MatchOption, MatchResult, Some, None, Ok, Err, []};
 ghost use Rattle.gal_io.specs.Lines.{lines};
 ghost use Rattle.gal_io.specs.Number.{number_up_to};
 ghost use Rattle.run_model.specs.Sizes.{most_events};
@@ -25,15 +25,39 @@ pub(crate) fn read_item(item: &[u8]) -> Result<u32, LineKind>
     }
 }
 
+// The event that a letter names.
+fn read_letter(letter: u8) -> Option<Event>
+    ensures { result ≡ word_event (letter ∷ []) }
+{
+    match letter {
+        b'a' => Some(Event::Admit),
+        b'c' => Some(Event::Send),
+        b'w' => Some(Event::Apply),
+        b'k' => Some(Event::Ack),
+        _ => None,
+    }
+}
+
 // The event that a line without an item names.
 pub(crate) fn read_word(line: &[u8]) -> Option<Event>
     ensures { result ≡ word_event line.now }
 {
     match line {
-        [b'a'] => Some(Event::Admit),
-        [b'c'] => Some(Event::Send),
-        [b'w'] => Some(Event::Apply),
-        [b'k'] => Some(Event::Ack),
+        [letter] => read_letter(*letter),
+        _ => None,
+    }
+}
+
+// The event that a letter names with an item.
+fn event_with(letter: u8, item: u32) -> Option<Event>
+    ensures { MatchOption result (event_line (letter ∷ 32 ∷ decimal item) ≡ Err LineKind.Form)
+        (λ event. IsLineOf event_line (letter ∷ 32 ∷ decimal item) event) }
+{
+    match letter {
+        b'u' => Some(Event::Serve(item)),
+        b'h' => Some(Event::Hold(item)),
+        b'd' => Some(Event::Down(item)),
+        b's' => Some(Event::Stage(item)),
         _ => None,
     }
 }
@@ -71,6 +95,16 @@ impl LineValue for Event {
 
     fn is_end(line: &[u8]) -> bool {
         line == b"drain".as_slice()
+    }
+
+    fn at_once(text: &[u8]) -> Option<(Event, &[u8])> {
+        match text {
+            [letter, b'\n', behind @ ..] => Some((read_letter(*letter)?, behind)),
+            [letter, b' ', digit @ b'0'..=b'9', b'\n', behind @ ..] => {
+                Some((event_with(*letter, u32::from(*digit - b'0'))?, behind))
+            }
+            _ => None,
+        }
     }
 }
 

@@ -57,6 +57,10 @@ impl LineValue for Packet {
     fn is_end(_line: &[u8]) -> bool {
         false
     }
+
+    fn at_once(_text: &[u8]) -> Option<(Packet, &[u8])> {
+        None
+    }
 }
 
 /// The packets of a trace. Each line has a port in decimal, a space and a body; the empty body is `-`.

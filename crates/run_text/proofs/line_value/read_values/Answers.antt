@@ -4,8 +4,8 @@ use Rattle.run_text.specs.Trace.{values_until}
 use Rattle.run_text.proofs.LineSteps.{ahead_values, all_lines, any_ends, first_stands}
 use Rattle.run_text.proofs.line_value.read_values.Goals as goal
 
-pub loop-line-init : goal.loop-line-init
-loop-line-init g c =
+pub loop-items-init : goal.loop-items-init
+loop-items-init g c =
     let ends = g.V.LineValue.line_ends in
     let value = g.V.LineValue.line_gives in
     let ls = lines c.args.text.now in
