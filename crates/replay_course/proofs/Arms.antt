@@ -1,15 +1,15 @@
 -- What the calls in each event come to.
 use Rattle.std.proofs.Common.{◌≡◌, ◌<◌, ◌≤◌, ◌+◌, ◌-◌, ℕ, zero, suc, Bool, true, false, eqb, leb, List, [], ◌∷◌, ◌++◌, Option, Some, None, inl, inr, refl, sym, ap, subst, ◌∙◌, arith, length, get_or, map}
-use Rattle.std.specs.Prelude.{slice_get, slice_set, remove, nat_lt, not, IfSome, IsSome, OnSome, if◌then◌else◌}
+use Rattle.std.specs.Prelude.{slice_get, slice_set, remove, nat_lt, not, ◌&&◌, IfSome, IsSome, OnSome, if◌then◌else◌}
 use Rattle.std.specs.List.{AllByRecursion as Each}
 use Rattle.std.proofs.lemmas.Bool.{cases_Bool, cases_lt, eqb-true, le-ltb, leb-false, leb-true, lt-ltb}
 use Rattle.std.proofs.lemmas.Bool.Decides.{nat_tests}
-use Rattle.std.proofs.lemmas.Option.{same_Some, slice_get-get_or, slice_get_within}
+use Rattle.std.proofs.lemmas.Option.{same_Some, slice_get-get_or, slice_get_past, slice_get_within}
 use Rattle.packet_fields.specs.declared.packet.Packet.{Packet}
 use Rattle.flat_ir.specs.Arrivals.{IsArrival}
 use Rattle.transfer_header.specs.Frames.{IsFrame}
 use Rattle.transfer_header.specs.Told.{number_in}
-use Rattle.output_commit.specs.Batches.{fits}
+use Rattle.output_commit.specs.Batches.{commands_in, fits, visible}
 use Rattle.output_commit.specs.Commit.{Commit, commands}
 use Rattle.run_model.specs.declared.event.Event.{Event}
 use Rattle.run_model.specs.declared.event.Event.TheVariants as event
@@ -27,7 +27,7 @@ use Rattle.replay_state.specs.Places.{HavePlaces, IsHeld}
 use Rattle.replay_state.specs.Program.{SplitProgram, packet_at}
 use Rattle.replay_state.specs.declared.pass.Pass.{Pass}
 use Rattle.replay_state.specs.State.{Entered, State, seen}
-use Rattle.replay_state.specs.Step.{applies, came, came_down, ended, happens, pass_of, staged, step, tick}
+use Rattle.replay_state.specs.Step.{applies, came, came_down, ended, happens, may_go, pass_of, staged, step, tick, waits}
 use Rattle.split_answers.specs.Over.{IsGiven}
 use Rattle.split_answers.specs.Through.{down_end_of, end_of}
 use Rattle.split_answers.specs.UnderWay.{IsOnSwitch, highest_of, passes_of}
@@ -39,6 +39,7 @@ use Rattle.replay_contracts.specs.declared.job.Stepped.{Stepped}
 use Rattle.replay_contracts.specs.declared.job.Stepped.TheVariants.{Did, Idle}
 use Rattle.replay_course.specs.declared.course.Course.{Course}
 use Rattle.replay_course.specs.Going.{FitsDown, FitsUp, HasStage, HasTurned, IsGoing, IsSound, MayComeIn, MayComeOut, TakesDown, TakesOneMore, TakesUp, came_to, less_one, pass_for, unapplied}
+use Rattle.replay_course.specs.Idle.{finds_nothing}
 use Rattle.replay_course.specs.Shown.{IsShown}
 use Rattle.replay_course.proofs.Calling.{keeps_all}
 use Rattle.replay_course.proofs.Costs.{enough}
@@ -58,6 +59,15 @@ ShowsIdle c after = (s : SplitProgram) (setup : Setup) (a : Answers) (calls : Li
 
 past_is : (a n : ℕ) → n ≤ a → nat_lt a n ≡ false
 past_is a n h = grind (arith, nat_tests)
+
+within_is : (n a : ℕ) → leb n a ≡ true → n ≤ a
+within_is n a h = grind (arith, nat_tests, h)
+
+same_is : (a b : ℕ) → eqb a b ≡ true → a ≡ b
+same_is a b h = eqb-true a b h
+
+same_within : (n a : ℕ) → n ≡ a → n ≤ a
+same_within n a e = omega (arith, e)
 
 length_is : {X Y : Type 0} (f : X → Y) (xs : List X) (ys : List Y) → map f xs ≡ ys → length xs ≡ length ys
 length_is f xs ys e = sym (length_map f xs) ∙ ap length e
@@ -109,6 +119,29 @@ pub down_idles_from : (x : Given) (stepped : Stepped) (before c after : Course) 
 down_idles_from x stepped before c after port j is going past idle sound same counted shows =
     subst (λ (z : Course). HasTurned x (event.Down j) stepped z port after port) is
     (down_idles x stepped before after port j (subst (λ (z : Course). IsGoing x z port) (sym is) going) (subst (λ (z : Course). length z.down.items ≤ j) (sym is) past) idle sound same counted shows)
+
+-- an event that finds nothing doesn't apply
+nothing_applies : (x : Given) (calls : List Call) (st : State) (c : Course) (ev : Event) → IsShown (whole x) calls st c
+    → finds_nothing (length x.packets) c ev ≡ true → applies (setup_for x) st ev ≡ false
+nothing_applies x calls st c event.Admit h none = past_is _ _ (subst (λ n. length x.packets ≤ n) (fates_count (whole x) calls st c h) (within_is _ _ none))
+nothing_applies x calls st c (event.Stage j) h none = past_is _ _ (subst (λ (l : List Pass). length l ≤ j) h.passes (within_is _ _ none))
+nothing_applies x calls st c (event.Serve j) h none = past_is _ _ (subst (λ n. n ≤ j) (length_is _ c.up.items st.up h.up) (within_is _ _ none))
+nothing_applies x calls st c event.Send h none =
+    past_is _ _ (same_within _ _ (sym (ap (λ bs. length (commands_in bs)) h.batches) ∙ sym (same_is _ _ none) ∙ h.sent))
+nothing_applies x calls st c event.Apply h none =
+    ap (λ (b : Bool). b && not (waits st.passes (slice_get (commands_in st.batches) st.done)))
+    (past_is _ _ (same_within _ _ (sym h.sent ∙ sym (same_is _ _ none) ∙ h.done)))
+nothing_applies x calls st c event.Ack h none = past_is _ _ (same_within _ _ (sym h.done ∙ sym (same_is _ _ none) ∙ h.acked))
+nothing_applies x calls st c (event.Hold j) h none =
+    ap (may_go (visible st.batches st.acked)) (slice_get_past st.held j (subst (λ n. n ≤ j) (length_is _ c.commit.held st.held h.held) (within_is _ _ none)))
+nothing_applies x calls st c (event.Down j) h none = past_is _ _ (subst (λ n. n ≤ j) (length_is _ c.down.items st.down h.down) (within_is _ _ none))
+
+pub nothing_turned : (x : Given) (ev : Event) (packets : ℕ) (stepped : Stepped) (c after : Course) (port : PortState) → IsGoing x c port
+    → packets ≡ length x.packets → finds_nothing packets c ev ≡ true → stepped ≡ Idle
+    → ((y : Given) → IsSound y c → IsSound y after) → unapplied after ≡ unapplied c → after.events ≡ c.events + 1 → ShowsIdle c after → HasTurned x ev stepped c port after port
+nothing_turned x ev packets stepped c after port going is none idle sound same counted shows =
+    idles x ev stepped c after port going idle sound same counted shows
+    (λ calls st h. nothing_applies x calls st c ev h (ap (λ n. finds_nothing n c ev) (sym is) ∙ none))
 
 -- ## Events that call for nothing
 

@@ -1,5 +1,5 @@
 -- A call over a packet has ended: what the course shows then.
-use Rattle.std.proofs.Common.{◌≡◌, ℕ, ◌+◌, Bool, true, false, List, [], ◌∷◌, ◌++◌, Some, refl, sym, ◌∙◌, ap, subst, map}
+use Rattle.std.proofs.Common.{◌≡◌, ℕ, List, [], ◌∷◌, ◌++◌, refl, sym, ◌∙◌, ap, subst}
 use Rattle.std.specs.Prelude.{slice_get, slice_set}
 use Rattle.packet_fields.specs.declared.verdict.Verdict.{Verdict}
 use Rattle.switch_ir.specs.declared.port.DownEnd.TheVariants as down

@@ -1,5 +1,5 @@
 -- The events that end a run, one after the other.
-use Rattle.std.proofs.Common.{◌≡◌, ◌<◌, ◌≤◌, ◌+◌, ◌-◌, ◌*◌, ◌^◌, ℕ, suc, Bool, true, false, List, [], ◌∷◌, ◌++◌, Option, Some, None, inl, inr, refl, sym, ap, subst, ◌∙◌, arith, length, map, take}
+use Rattle.std.proofs.Common.{◌≡◌, ◌<◌, ◌≤◌, ◌+◌, ◌-◌, ◌*◌, ◌^◌, ℕ, suc, Bool, true, false, List, [], ◌∷◌, ◌++◌, Option, Some, None, inl, inr, refl, sym, ap, subst, ◌∙◌, arith, length, map}
 use Rattle.std.specs.Prelude.{slice_get, nat_lt, not, ◌&&◌, if◌then◌else◌, is_some}
 use Rattle.std.proofs.lemmas.Bool.{cases_Bool, le-leb, lt-ltb, ltb-false}
 use Rattle.std.proofs.lemmas.List.{append-nil, append_assoc}
@@ -29,7 +29,7 @@ use Rattle.replay_course.specs.Going.{HasTurned, IsGoing, IsPrepared, IsSound, M
 use Rattle.replay_course.specs.Shown.{IsShown}
 use Rattle.replay_course.specs.UnderWay.{IsDrained, IsDraining, IsOnItsWay, course_left, picked_by}
 use Rattle.replay_course.proofs.Calling.{stays_all, stays_more}
-use Rattle.replay_course.proofs.Lists.{each_at, length_map, length_push, take_past}
+use Rattle.replay_course.proofs.Lists.{each_at, length_map, length_push}
 use Rattle.replay_course.proofs.Room.{FindsRoom, SplitLaws, is_split_program}
 use Rattle.replay_course.proofs.Sounding.{Needs}
 use Rattle.replay_course.proofs.Versions.{visible_past}

@@ -1,5 +1,5 @@
 -- What is told of a course is what is told of the state that it shows.
-use Rattle.std.proofs.Common.{◌≡◌, ◌<◌, ◌≤◌, ◌*◌, ◌^◌, ℕ, Bool, true, false, List, refl, sym, ap, ◌∙◌, arith, length, map, take, eqb}
+use Rattle.std.proofs.Common.{◌≡◌, ◌<◌, ◌≤◌, ◌*◌, ◌^◌, ℕ, Bool, true, false, List, refl, sym, ap, ◌∙◌, arith, length, map, eqb}
 use Rattle.std.proofs.Math.Nat.{mul-le-mul}
 use Rattle.std.specs.Prelude.{◌&&◌, count_by}
 use Rattle.run_model.specs.Fate.{is_decided, is_released}

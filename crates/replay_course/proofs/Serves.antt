@@ -1,6 +1,6 @@
 -- What the server makes of a frame comes to what the split program says of it.
-use Rattle.std.proofs.Common.{◌≡◌, ◌<◌, ◌≤◌, ◌+◌, ◌-◌, ◌*◌, ◌^◌, ℕ, suc, zero, Bool, true, false, List, [], ◌∷◌, ◌++◌, Some, refl, sym, ap, subst, ◌∙◌, arith, length, map}
-use Rattle.std.specs.Prelude.{slice_get, slice_set, remove, IsTrue, ◌&&◌, if◌then◌else◌}
+use Rattle.std.proofs.Common.{◌≡◌, ◌<◌, ◌≤◌, ◌+◌, ◌-◌, ◌*◌, ◌^◌, ℕ, suc, zero, Bool, true, false, List, [], ◌∷◌, ◌++◌, Some, refl, sym, ap, subst, ◌∙◌, arith, length}
+use Rattle.std.specs.Prelude.{slice_get, slice_set, remove, if◌then◌else◌}
 use Rattle.std.specs.List.{AllByRecursion as Each}
 use Rattle.std.proofs.lemmas.Option.{slice_get_within}
 use Rattle.std.proofs.Math.Nat.{mul-le-mul}
@@ -27,7 +27,7 @@ use Rattle.replay_contracts.specs.declared.job.Stepped.TheVariants.{Did}
 use Rattle.replay_course.specs.Fates as fates_of
 use Rattle.replay_course.specs.declared.course.Course.{Course}
 use Rattle.replay_course.specs.Going.{HasTurned, IsGoing, IsSound, MadeRoom, most_commands, unapplied}
-use Rattle.replay_course.proofs.Lists.{each_at, each_join, each_more, each_push, each_remove, length_join, length_remove, length_set}
+use Rattle.replay_course.proofs.Lists.{each_at, each_join, each_more, each_push, each_remove, length_remove, length_set}
 use Rattle.replay_course.proofs.Costs.{commands_served, enough, one_more_times, spare_served, still_within, undecided_served}
 use Rattle.replay_course.proofs.Counting.{before_server}
 use Rattle.replay_course.proofs.Sounding.{FramedDown, FramedHeld, FramedUp, HasLeft, Needs}

@@ -1,20 +1,19 @@
 -- What a course shows after an event.
-use Rattle.std.proofs.Common.{◌≡◌, ℕ, ◌+◌, ◌-◌, ◌≤◌, Bool, true, false, eqb, leb, ltb, List, [], ◌∷◌, ◌++◌, Option, Some, None, inl, inr, refl, sym, ◌∙◌, ap, subst, arith, zero, suc, map, length, take}
+use Rattle.std.proofs.Common.{◌≡◌, ℕ, ◌+◌, ◌≤◌, Bool, true, false, ltb, List, [], ◌∷◌, ◌++◌, Option, Some, None, inl, inr, refl, sym, ◌∙◌, ap, subst, arith, map, length}
 use Rattle.std.specs.Prelude.{slice_get, remove, is_some, not, ◌&&◌, if◌then◌else◌}
 use Rattle.std.specs.Option.{option_map}
-use Rattle.std.proofs.lemmas.Bool.{and_left, and_right, cases_Bool, le-leb, lt-leb, ltb-true, ltb-false}
+use Rattle.std.proofs.lemmas.Bool.{and_left, cases_Bool, le-leb, lt-leb, ltb-true, ltb-false}
 use Rattle.std.proofs.lemmas.Option.{none-some, slice_get-map}
 use Rattle.writeback_table.specs.declared.command.Update.{Update}
 use Rattle.writeback_table.specs.declared.command.Command.{Command}
 use Rattle.output_commit.specs.Commit.{Commit, commands, acknowledged, after_next, after_release, after_send, answer, next}
-use Rattle.output_commit.specs.Commit.{visible as seen_by}
 use Rattle.output_commit.specs.Laws.{IsMerged}
 use Rattle.output_commit.specs.declared.output.Output.{Output}
 use Rattle.output_commit.specs.declared.output.Release.TheVariants as release
 use Rattle.run_model.specs.declared.event.Event.TheVariants as event
 use Rattle.packet_fields.specs.declared.packet.Packet.{Packet}
 use Rattle.replay_state.specs.Answers.{Answers, Setup}
-use Rattle.replay_state.specs.Journal.{Call, SentUp, Question, UpAnswer, asked, asks_command, down_frame, ends_up, frame_in, or_else, over_in, up_answer}
+use Rattle.replay_state.specs.Journal.{Call, SentUp, UpAnswer, asked, asks_command, down_frame, ends_up, frame_in, or_else, over_in, up_answer}
 use Rattle.replay_state.specs.Program.{SplitProgram}
 use Rattle.output_commit.specs.Batches.{Batch, commands_in, fits, merged, visible}
 use Rattle.replay_state.specs.declared.pass.Pass.{Pass}

@@ -1,14 +1,13 @@
 -- What stands in a course stands after each event.
-use Rattle.std.proofs.Common.{◌≡◌, ◌<◌, ◌≤◌, ◌+◌, ◌-◌, ◌*◌, ℕ, suc, Bool, true, false, ltb, List, [], ◌∷◌, ◌++◌, Some, inl, inr, refl, sym, ◌∙◌, ap, subst, arith, length}
+use Rattle.std.proofs.Common.{◌≡◌, ◌<◌, ◌≤◌, ◌+◌, ◌-◌, ◌*◌, ℕ, suc, false, ltb, List, [], ◌∷◌, ◌++◌, Some, inl, inr, refl, sym, ◌∙◌, ap, subst, arith, length}
 use Rattle.std.specs.Prelude.{slice_get, slice_set, remove}
 use Rattle.std.specs.List.{AllByRecursion as Each}
 use Rattle.std.proofs.lemmas.Bool.{cases_Bool, ltb-true}
 use Rattle.split_model.specs.Layouts.{down_layout, up_layout}
 use Rattle.transfer_header.specs.Frames.{IsFrame}
-use Rattle.writeback_table.specs.declared.command.Update.{Update}
-use Rattle.output_commit.specs.Batches.{Batch, commands_in, fits, merged}
+use Rattle.output_commit.specs.Batches.{commands_in, fits}
 use Rattle.output_commit.specs.Commit.{Commit, IsInOrder, after_acknowledge, after_next, after_send, commands, first}
-use Rattle.output_commit.specs.Laws.{IsMerged, changes_in, versions_in}
+use Rattle.output_commit.specs.Laws.{changes_in, versions_in}
 use Rattle.output_commit.specs.declared.output.Output.{Output}
 use Rattle.run_model.specs.declared.fate.Fate.{Fate}
 use Rattle.server_runtime.specs.Views.{server_of}

@@ -1,36 +1,34 @@
 -- What a course shows after an event that is idle, after a packet was served, and where a pass enters, goes on or ends.
-use Rattle.std.proofs.Common.{◌≡◌, ℕ, ◌+◌, ◌-◌, ◌≤◌, Bool, true, false, eqb, leb, List, [], ◌∷◌, ◌++◌, Option, Some, None, inl, inr, refl, sym, ◌∙◌, ap, subst, arith, zero, suc, map, length}
+use Rattle.std.proofs.Common.{◌≡◌, ℕ, ◌+◌, ◌≤◌, Bool, true, false, List, [], ◌∷◌, ◌++◌, Some, None, inl, inr, refl, sym, ◌∙◌, ap, subst, arith, zero, suc, map, length}
 use Rattle.std.specs.Prelude.{slice_get, slice_set, remove, if◌then◌else◌}
 use Rattle.std.specs.Option.{option_map}
 use Rattle.std.proofs.lemmas.Bool.{lt-ltb}
 use Rattle.std.proofs.lemmas.List.{append-nil}
-use Rattle.std.proofs.lemmas.Option.{none-some, same_Some, slice_get-map, slice_get_within}
+use Rattle.std.proofs.lemmas.Option.{same_Some, slice_get-map, slice_get_within}
 use Rattle.packet_fields.specs.declared.verdict.Verdict.{Verdict}
 use Rattle.state_store.specs.Store.{Store}
 use Rattle.writeback_table.specs.declared.command.Update.{Update}
-use Rattle.output_commit.specs.Commit.{Commit, batch_of, bit, commands, with_output}
-use Rattle.output_commit.specs.Commit.{visible as seen_by}
+use Rattle.output_commit.specs.Commit.{Commit, batch_of, commands, with_output}
 use Rattle.output_commit.specs.declared.output.Output.{Output}
 use Rattle.run_model.specs.declared.event.Event.{Event}
 use Rattle.run_model.specs.declared.event.Event.TheVariants as event
 use Rattle.run_model.specs.declared.fate.Fate.TheVariants as fate
 use Rattle.server_runtime.specs.Serving.{version_after}
 use Rattle.replay_state.specs.Answers.{Answers, Setup}
-use Rattle.replay_state.specs.Carried.{Carried, Member}
-use Rattle.replay_state.specs.Journal.{Call, Finished, GoingUp, HasGoneUp, Released, GoingDown, SentUp, UpAnswer, DownAnswer, down_answer, down_frame, frame_in, is_down_end, is_up_end, journal, over_in, told, up_answer, verdict_in}
-use Rattle.replay_state.specs.Journal.{down_end as down_ended, up_end as up_ended}
+use Rattle.replay_state.specs.Carried.{Carried}
+use Rattle.replay_state.specs.Journal.{Call, Finished, HasGoneUp, SentUp, down_answer, down_frame, frame_in, journal, over_in, told, up_answer, verdict_in}
 use Rattle.replay_state.specs.Places.{HavePlaces, IsHeld}
 use Rattle.replay_state.specs.Program.{SplitProgram}
 use Rattle.output_commit.specs.Batches.{Batch, commands_in, visible}
 use Rattle.replay_state.specs.declared.pass.Pass.{Pass}
-use Rattle.replay_state.specs.State.{State, Entered, Fast, Held, Progress, Slow, Up, bit_behind, fate_of, seen, store_at}
+use Rattle.replay_state.specs.State.{State, Entered, Fast, Held, Progress, Slow, Up, bit_behind, fate_of, seen}
 use Rattle.replay_state.specs.Step.{applies, came, came_in, came_out, decided, finished, happens, idled, pass_of, ran, released, served, step, tick, went_up, with_changes}
 use Rattle.replay_course.specs.Fates as fates_of
 use Rattle.replay_course.specs.declared.course.Course.{Course}
-use Rattle.replay_course.specs.Going.{MayComeIn, MayComeOut, came_to, pass_for}
+use Rattle.replay_course.specs.Going.{came_to, pass_for}
 use Rattle.replay_course.specs.Shown.{IsShown}
-use Rattle.replay_course.proofs.Lists.{get_last, get_member, get_pushed, get_removed, get_set_other, get_set_same, length_map, map_push, map_remove, map_set}
-use Rattle.replay_course.proofs.Showing.{down_at, moved, moved_shown, number_of, output_at, still_up, up_append, up_at, waiting}
+use Rattle.replay_course.proofs.Lists.{get_member, get_pushed, get_removed, get_set_other, get_set_same, map_push, map_remove, map_set}
+use Rattle.replay_course.proofs.Showing.{down_at, moved_shown, number_of, output_at, still_up, up_at, waiting}
 use Rattle.replay_course.proofs.Versions.{length_more}
 
 -- ---- an event that can't apply

@@ -1,11 +1,10 @@
 -- An event leads from one replay that a course shows to the next.
-use Rattle.std.proofs.Common.{◌≡◌, ◌≤◌, ◌+◌, ◌-◌, ℕ, suc, Bool, true, false, List, [], ◌∷◌, ◌++◌, Option, Some, None, inl, inr, refl, sym, ap, subst, ◌∙◌, arith, length, map, ltb, eqb}
-use Rattle.std.specs.Prelude.{slice_get, slice_set, remove, if◌then◌else◌}
-use Rattle.std.proofs.lemmas.Bool.{cases_Bool, eq-eqb, lt-ltb}
+use Rattle.std.proofs.Common.{◌≡◌, ◌≤◌, ◌+◌, ℕ, suc, Bool, true, false, List, [], ◌∷◌, ◌++◌, Option, Some, None, inl, inr, refl, sym, ap, subst, ◌∙◌, arith, length, map, ltb}
+use Rattle.std.specs.Prelude.{slice_get, remove, if◌then◌else◌}
+use Rattle.std.proofs.lemmas.Bool.{cases_Bool, eq-eqb}
 use Rattle.std.proofs.lemmas.List.{append-nil}
-use Rattle.std.proofs.lemmas.Option.{none-some, same_Some}
+use Rattle.std.proofs.lemmas.Option.{none-some}
 use Rattle.packet_fields.specs.declared.packet.Packet.{Packet}
-use Rattle.packet_fields.specs.declared.verdict.Verdict.{Verdict}
 use Rattle.writeback_table.specs.declared.command.Command.{Command}
 use Rattle.run_model.specs.declared.event.Event.{Event}
 use Rattle.run_model.specs.declared.event.Event.TheVariants as event
@@ -21,7 +20,7 @@ use Rattle.replay_state.specs.declared.pass.Pass.{Pass}
 use Rattle.replay_state.specs.State.{Progress, State, fate_of}
 use Rattle.replay_state.specs.Step.{applies, ended, happens, idled, state_of, step, tick}
 use Rattle.split_answers.specs.Over.{IsGiven}
-use Rattle.replay_contracts.specs.Called.{KeepsCalls, WasCalled, WasMade}
+use Rattle.replay_contracts.specs.Called.{KeepsCalls, WasMade}
 use Rattle.replay_contracts.specs.Given.{Given, code_for, setup_for, whole}
 use Rattle.replay_contracts.specs.Replay.{IsReplay, answered}
 use Rattle.replay_contracts.specs.Replayer.{stepped_by}
@@ -31,7 +30,7 @@ use Rattle.replay_course.specs.declared.course.Course.{Course}
 use Rattle.replay_course.specs.Going.{HasTurned, IsGoing, IsPrepared, IsSound, came_to, unapplied}
 use Rattle.replay_course.specs.Shown.{IsShown}
 use Rattle.replay_course.proofs.Calling.{called_once, keeps_all, kept_stays, made, made_stays}
-use Rattle.replay_course.proofs.Lists.{each_at, length_map, member_kept, none_at_end}
+use Rattle.replay_course.proofs.Lists.{each_at, length_map, member_kept}
 use Rattle.replay_course.proofs.Named.{commands_named}
 
 -- ## The laws that are used

@@ -1,5 +1,6 @@
 pub mod Fates
 pub mod Going
+pub mod Idle
 pub mod Shown
 pub mod Telling
 pub mod UnderWay

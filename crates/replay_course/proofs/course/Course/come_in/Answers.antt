@@ -1,6 +1,4 @@
-use Rattle.std.proofs.Common.{arith, refl, sym, subst, ap, ◌∙◌}
-use Rattle.std.proofs.lemmas.Result.{err_from_is_err_and}
-use Rattle.switch_ir.specs.Port.{up_failed}
+use Rattle.std.proofs.Common.{refl, sym, subst, ◌∙◌}
 use Rattle.replay_state.specs.Journal.{Finished, GoingUp, SentUp}
 use Rattle.replay_course.specs.Going.{FitsUp}
 use Rattle.replay_course.proofs.Coming.{comes_finished, comes_going, comes_up}

@@ -1,6 +1,4 @@
-use Rattle.std.proofs.Common.{arith, refl, sym, subst, ap, ◌∙◌}
-use Rattle.std.proofs.lemmas.Result.{err_from_is_err_and}
-use Rattle.switch_ir.specs.Port.{down_failed}
+use Rattle.std.proofs.Common.{refl, sym, subst, ◌∙◌}
 use Rattle.replay_state.specs.Journal.{GoingDown, Released}
 use Rattle.replay_course.specs.Going.{FitsDown}
 use Rattle.replay_course.proofs.Coming.{comes_out, goes_on_behind}
