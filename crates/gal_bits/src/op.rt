@@ -135,6 +135,7 @@ pub fn on_switch(op: Op) -> bool
 }
 
 /// The operator's value, where `width` is that of the result.
+#[inline(always)]
 #[tactic(auto, using(crate::proofs::Cut::cut_cut, crate::proofs::Cut::cut_difference, crate::proofs::Cut::cut_complement, crate::proofs::Cut::cut_below), unfolding(crate::specs::Operators::value_of))]
 pub fn eval(op: Op, width: Width, args: &[u64]) -> u64
     requires { length args.now ≡ (operator_row op).arity }
