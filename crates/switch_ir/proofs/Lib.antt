@@ -16,3 +16,4 @@ mod Going
 mod Needing
 mod Planning
 mod Listing
+pub mod Journals

@@ -1,6 +1,6 @@
 -- A pass that is under way, between its stages: what it knows, and what it answers at last.
 use Rattle.std.specs.Prelude.{◌≡◌, ℕ, suc, nat_le, nat_lt, Bool, true, false, ◌&&◌, List, []}
-use Rattle.std.specs.Prelude.{Option, Some, None, IsSome, unwrap_or, ⊤}
+use Rattle.std.specs.Prelude.{Option, Some, IsSome, unwrap_or, ⊤}
 use Rattle.std.specs.List.{list_any}
 use Rattle.packet_fields.specs.declared.packet.Packet.{Packet}
 use Rattle.state_store.specs.Store.{Store, object_at}

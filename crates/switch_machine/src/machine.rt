@@ -356,7 +356,7 @@ impl ModelSwitch {
               };
             } }
     {
-        self.journal.push_spare(Entry::Command(*command, end));
+        self.journal.push_command(command, end);
     }
 
     fn try_rows(&mut self, alloc: Global, object: u32) -> Result<Rows, NoMemory>

@@ -1,12 +1,16 @@
 //! Code of a switch, and for how long its values are needed, worked out by hand.
 use crate::samples::{chain, split_of};
 use flat_ir::{Flat, Spans};
+use gal_bits::Values;
 use gal_io::NoMemory;
 use packet_fields::Verdict;
 use split_model::Layout;
 use std::alloc::Global;
 use std::test::Fail;
-use switch_ir::{DownEnd, Entry, Journal, Pass, Steps, SwitchCode, UpEnd, emit, spans_of_passes};
+use switch_ir::{
+    CommandEnd, DownEnd, Entry, Journal, Pass, Steps, SwitchCode, UpEnd, emit, spans_of_passes,
+};
+use writeback_table::{Command, To, Update};
 
 // A value, the stage that gives it, and the step that reads it last.
 type Needed = (u32, u32, u32);
@@ -158,7 +162,61 @@ fn is_journal_kept(alloc: Global) -> Result<bool, NoMemory> {
     journal.reserve(1)?;
     journal.push(Entry::Load)?;
     journal.push_spare(Entry::Room(1));
-    Ok(matches!(journal.as_slice(), [Entry::Load, Entry::Room(1)]) && journal.spare() == 0)
+    let entries = journal.entries(alloc)?;
+    Ok(matches!(entries.as_slice(), [Entry::Load, Entry::Room(1)]) && journal.spare() == 0)
+}
+
+fn two_values(first: u64, second: u64) -> Values {
+    let mut values = Values::new();
+    values.push(first);
+    values.push(second);
+    values
+}
+
+// Three commands, with a call that is none between them.
+fn commanded(alloc: Global) -> Result<Journal, NoMemory> {
+    let staged = Command::Stage(Update {
+        object: 3,
+        key: two_values(1, 2),
+        to: To::Value(two_values(5, 7)),
+    });
+    let gone = Command::Main(Update {
+        object: 4,
+        key: two_values(8, 9),
+        to: To::Gone,
+    });
+    let mut journal = Journal::new(alloc);
+    journal.push(Entry::Command(staged, CommandEnd::Done))?;
+    journal.push(Entry::Visible(3))?;
+    journal.push(Entry::Command(gone, CommandEnd::Failed))?;
+    journal.push(Entry::Command(Command::Clear(5, two_values(3, 4)), CommandEnd::Done))?;
+    Ok(journal)
+}
+
+fn is_staged(update: &Update) -> bool {
+    let is_left = match update.to {
+        To::Value(values) => values == two_values(5, 7),
+        To::Gone => false,
+    };
+    is_left && update.object == 3 && update.key == two_values(1, 2)
+}
+
+fn is_gone(update: &Update) -> bool {
+    matches!(update.to, To::Gone) && update.object == 4 && update.key == two_values(8, 9)
+}
+
+fn are_commands_kept(alloc: Global) -> Result<bool, NoMemory> {
+    let journal = commanded(alloc)?;
+    let entries = journal.entries(alloc)?;
+    Ok(match entries.as_slice() {
+        [
+            Entry::Command(Command::Stage(staged), CommandEnd::Done),
+            Entry::Visible(3),
+            Entry::Command(Command::Main(gone), CommandEnd::Failed),
+            Entry::Command(Command::Clear(5, key), CommandEnd::Done),
+        ] => is_staged(staged) && is_gone(gone) && *key == two_values(3, 4),
+        _ => false,
+    })
 }
 
 fn are_answers_copied(alloc: Global) -> Result<bool, NoMemory> {
@@ -173,6 +231,7 @@ fn are_answers_copied(alloc: Global) -> Result<bool, NoMemory> {
 #[test]
 fn a_journal_keeps_its_calls(rt: HostRuntime) -> Result<(), Fail> {
     assert!(rt; is_journal_kept(rt.alloc())?);
+    assert!(rt; are_commands_kept(rt.alloc())?);
     assert!(rt; are_answers_copied(rt.alloc())?);
     Ok(())
 }

@@ -142,12 +142,13 @@ fn letter(entry: &Entry) -> u8 {
     }
 }
 
-fn tells(journal: &Journal, letters: &str) -> bool {
-    let mut all = journal.as_slice().len() == letters.len();
-    for (entry, wanted) in journal.as_slice().iter().zip(letters.as_bytes()) {
+fn tells(alloc: Global, journal: &Journal, letters: &str) -> Result<bool, NoMemory> {
+    let entries = journal.entries(alloc)?;
+    let mut all = entries.len() == letters.len();
+    for (entry, wanted) in entries.as_slice().iter().zip(letters.as_bytes()) {
         all = all && letter(entry) == *wanted;
     }
-    all
+    Ok(all)
 }
 
 // Loads a switch, anew where that fails once.
@@ -329,12 +330,10 @@ fn port_takes_stages(
 {
     starts(alloc, code, fails, port)?;
     let entered = enters(alloc, code, port);
-    Ok(
-        entered
-            && stages_taken(alloc, code, port) == calls
-            && port.faults() == u64::from(fails)
-            && tells(port.journal(), told),
-    )
+    let is_taken = entered
+        && stages_taken(alloc, code, port) == calls
+        && port.faults() == u64::from(fails);
+    Ok(is_taken && tells(alloc, port.journal(), told)?)
 }
 
 // The same of a new switch.
@@ -471,7 +470,8 @@ fn is_called(
     }
     let is_answered = call(alloc, code, port)? == wanted.answers;
     let faults = u64::from(wanted.fault.is_some());
-    Ok(is_answered && tells(port.journal(), wanted.told) && port.faults() == faults)
+    let is_told = tells(alloc, port.journal(), wanted.told)?;
+    Ok(is_answered && is_told && port.faults() == faults)
 }
 
 // Whether a new switch is so called.
