@@ -13,35 +13,56 @@ use std::test::Fail;
 use switch_ir::SwitchPort;
 use switch_machine::ModelSwitch;
 
-// What is told of a link: how many items it got, how often they were sent, how many were delivered and of how many the
-// sender knows that; and the numbers of those that were delivered, in their order.
-#[derive(Clone, Copy)]
-struct Link<'a> {
-    tally: [u32; 4],
-    delivered: &'a [u32],
+fn run_of<S: SwitchPort>(
+    alloc: Global,
+    job: &Job,
+    events: &LinkEvents,
+    port: &mut S,
+) -> Result<LossyRun, Fail>
+    requires ready { IsReady job.now }
+    requires fits { IsLinkSchedule events.now }
+{
+    match replay_lossy(alloc, job, events, port) {
+        Ok(run) => Ok(run),
+        Err(_) => Err(Fail::from("no replay")),
+    }
 }
 
-const UNUSED: Link<'static> = Link {
-    tally: [0, 0, 0, 0],
-    delivered: &[],
-};
-
-// What comes of a schedule.
-#[derive(Clone, Copy)]
-struct Wanted<'a> {
-    // The events, those of them that found nothing, the packets that are decided, and those that are released.
-    counts: (u32, u32, u32, u32),
-    // The event that decides each packet.
-    decided: &'a [u32],
-    visible: u32,
-    up: Link<'a>,
-    down: Link<'a>,
-    ctl: Link<'a>,
-    ack: Link<'a>,
+// What comes of a schedule over packets of one byte each.
+fn replayed(alloc: Global, source: &str, bytes: &[u8], schedule: &[u8]) -> Result<LossyRun, Fail> {
+    let job = job(alloc, source, bytes)?;
+    let events = read_link_schedule(alloc, schedule)?;
+    let mut port = ModelSwitch::new(alloc);
+    run_of(alloc, &job, &events, &mut port)
 }
 
-fn is_tally(tally: &Tally4, want: [u32; 4]) -> bool {
-    [tally.items, tally.sent, tally.delivered, tally.known] == want
+fn tally(items: u32, sent: u32, delivered: u32, known: u32) -> Tally4 {
+    Tally4 {
+        items,
+        sent,
+        delivered,
+        known,
+    }
+}
+
+// Whether the links of frames have these tallies.
+fn has_frames(run: &LossyRun, up: Tally4, down: Tally4) -> bool {
+    run.up.tally == up && run.down.tally == down
+}
+
+// Whether the links of commands and of their acknowledgements have these tallies.
+fn has_commands(run: &LossyRun, ctl: Tally4, ack: Tally4) -> bool {
+    run.ctl.tally == ctl && run.ack.tally == ack
+}
+
+// How many events there were, how many were idle, and when packets were decided and released.
+fn told(run: &LossyRun) -> (u32, u32, u32, u32) {
+    (
+        run.run.events,
+        run.run.idle,
+        run.run.decided,
+        run.run.released,
+    )
 }
 
 // Whether a pair has this number, and the item that the sender has there.
@@ -62,94 +83,17 @@ fn delivered(ends: &Ends, numbers: &[u32]) -> bool {
     same
 }
 
-fn is_link(ends: &Ends, want: &Link) -> bool {
-    is_tally(&ends.tally, want.tally) && delivered(ends, want.delivered)
-}
-
-// Whether a packet that went to the server was decided by this event.
-fn is_decided(fate: &Fate, event: u32) -> bool {
-    match fate {
-        Fate::Held { decided, .. } | Fate::Slow { decided, .. } => *decided == event,
-        _ => false,
-    }
-}
-
-fn are_decided(fates: &[Fate], events: &[u32]) -> bool {
-    let mut all = fates.len() == events.len();
-    for (fate, event) in fates.iter().zip(events) {
-        all = all && is_decided(fate, *event);
-    }
-    all
-}
-
-fn is_so(told: &LossyRun, want: &Wanted) -> bool {
-    let run = &told.run;
-    let counts = (run.events, run.idle, run.decided, run.released);
-    let counted = counts == want.counts && run.visible == want.visible;
-    let frames = is_link(&told.up, &want.up) && is_link(&told.down, &want.down);
-    let commands = is_link(&told.ctl, &want.ctl) && is_link(&told.ack, &want.ack);
-    counted && are_decided(run.fates.as_slice(), want.decided) && frames && commands
-}
-
-fn run_is_so<S: SwitchPort>(
-    alloc: Global,
-    job: &Job,
-    events: &LinkEvents,
-    port: &mut S,
-    want: &Wanted,
-) -> bool
-    requires ready { IsReady job.now }
-    requires fits { IsLinkSchedule events.now }
-{
-    match replay_lossy(alloc, job, events, port) {
-        Ok(run) => is_so(&run, want),
-        Err(_) => false,
-    }
-}
-
-fn of_schedule(alloc: Global, job: &Job, schedule: &[u8], want: &Wanted) -> Result<bool, Fail>
-    requires { IsReady job.now }
-{
-    let events = read_link_schedule(alloc, schedule)?;
-    let mut port = ModelSwitch::new(alloc);
-    Ok(run_is_so(alloc, job, &events, &mut port, want))
-}
-
-// Whether that comes of a schedule over packets of one byte each.
-fn comes_so(
-    alloc: Global,
-    source: &str,
-    bytes: &[u8],
-    schedule: &[u8],
-    want: &Wanted,
-) -> Result<bool, Fail> {
-    let job = job(alloc, source, bytes)?;
-    of_schedule(alloc, &job, schedule, want)
-}
-
 // The frame is sent twice and comes twice; it can't be run before it came, nor a second time.
 const REPEATED: &[u8] =
     b"a\nx up 0\nx up 0\nu 0\ny up 1\ny up 0\nu 0\nz up 0\nh 0\nx down 0\ny down 0\nd 0\n";
 
-const RUN_ONCE: Wanted<'static> = Wanted {
-    counts: (4, 0, 1, 1),
-    decided: &[2],
-    visible: 0,
-    up: Link {
-        tally: [1, 2, 1, 1],
-        delivered: &[0],
-    },
-    down: Link {
-        tally: [1, 1, 1, 0],
-        delivered: &[0],
-    },
-    ctl: UNUSED,
-    ack: UNUSED,
-};
-
 #[test]
 fn a_repeated_frame_is_run_once(rt: HostRuntime) -> Result<(), Fail> {
-    assert!(rt; comes_so(rt.alloc(), FORWARDS, &[7], REPEATED, &RUN_ONCE)?);
+    let run = replayed(rt.alloc(), FORWARDS, &[7], REPEATED)?;
+    assert_eq!(rt; told(&run), (4, 0, 1, 1));
+    assert!(rt; has_frames(&run, tally(1, 2, 1, 1), tally(1, 1, 1, 0)));
+    assert!(rt; has_commands(&run, tally(0, 0, 0, 0), tally(0, 0, 0, 0)));
+    assert!(rt; delivered(&run.up, &[0]) && delivered(&run.down, &[0]));
     Ok(())
 }
 
@@ -162,7 +106,7 @@ fn printed_again(alloc: Global, schedule: &[u8]) -> Result<bool, Fail> {
 
 #[test]
 fn a_schedule_is_printed_back(rt: HostRuntime) -> Result<(), Fail> {
-    assert!(rt; printed_again(rt.alloc(), REPEATED)?);
+    assert_eq!(rt; printed_again(rt.alloc(), REPEATED)?, true);
     Ok(())
 }
 
@@ -170,25 +114,21 @@ fn a_schedule_is_printed_back(rt: HostRuntime) -> Result<(), Fail> {
 const LOST: &[u8] =
     b"a\na\nx up 0\nx up 1\ny up 1\nu 1\nu 0\nx up 0\ny up 2\nu 0\nh 0\nh 0\nx down 1\ny down 0\nd 0\nd 0\n";
 
-const OVERTAKEN: Wanted<'static> = Wanted {
-    counts: (7, 0, 2, 1),
-    decided: &[4, 3],
-    visible: 0,
-    up: Link {
-        tally: [2, 3, 2, 0],
-        delivered: &[1, 0],
-    },
-    down: Link {
-        tally: [2, 1, 1, 0],
-        delivered: &[1],
-    },
-    ctl: UNUSED,
-    ack: UNUSED,
-};
+// When a packet was decided, of a run of packets that all go to the server.
+fn decided(run: &LossyRun, number: usize) -> Option<u32> {
+    match run.run.fates.as_slice().get(number)? {
+        Fate::Held { decided, .. } | Fate::Slow { decided, .. } => Some(*decided),
+        _ => None,
+    }
+}
 
 #[test]
 fn a_lost_frame_comes_later(rt: HostRuntime) -> Result<(), Fail> {
-    assert!(rt; comes_so(rt.alloc(), FORWARDS, &[7, 8], LOST, &OVERTAKEN)?);
+    let run = replayed(rt.alloc(), FORWARDS, &[7, 8], LOST)?;
+    assert_eq!(rt; told(&run), (7, 0, 2, 1));
+    assert_eq!(rt; (decided(&run, 0), decided(&run, 1)), (Some(4), Some(3)));
+    assert!(rt; has_frames(&run, tally(2, 3, 2, 0), tally(2, 1, 1, 0)));
+    assert!(rt; delivered(&run.up, &[1, 0]) && delivered(&run.down, &[1]));
     Ok(())
 }
 
@@ -196,30 +136,12 @@ fn a_lost_frame_comes_later(rt: HostRuntime) -> Result<(), Fail> {
 const EARLY: &[u8] =
     b"a\nx up 0\ny up 0\nu 0\nc\nc\nx ctl 1\nx ctl 0\ny ctl 0\nw\ny ctl 1\nw\nw\ny ctl 0\nw\nh 0\nx ack 0\nx ack 1\ny ack 1\nk\ny ack 0\nk\nk\nh 0\ny ack 0\nk\ny ack 1\nk\nh 0\nz ctl 0\nz ctl 0\n";
 
-const IN_ORDER: Wanted<'static> = Wanted {
-    counts: (9, 0, 1, 0),
-    decided: &[2],
-    visible: 1,
-    up: Link {
-        tally: [1, 1, 1, 0],
-        delivered: &[0],
-    },
-    down: Link {
-        tally: [1, 0, 0, 0],
-        delivered: &[],
-    },
-    ctl: Link {
-        tally: [2, 2, 2, 1],
-        delivered: &[0, 1],
-    },
-    ack: Link {
-        tally: [2, 2, 2, 0],
-        delivered: &[0, 1],
-    },
-};
-
 #[test]
 fn commands_are_applied_in_order(rt: HostRuntime) -> Result<(), Fail> {
-    assert!(rt; comes_so(rt.alloc(), TELLS, &[7], EARLY, &IN_ORDER)?);
+    let run = replayed(rt.alloc(), TELLS, &[7], EARLY)?;
+    assert_eq!(rt; told(&run), (9, 0, 1, 0));
+    assert_eq!(rt; run.run.visible, 1);
+    assert!(rt; has_commands(&run, tally(2, 2, 2, 1), tally(2, 2, 2, 0)));
+    assert!(rt; delivered(&run.ctl, &[0, 1]) && delivered(&run.ack, &[0, 1]));
     Ok(())
 }
