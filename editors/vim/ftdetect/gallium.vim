@@ -1,0 +1,2 @@
+" Sources of Gallium.
+au BufRead,BufNewFile *.gal setfiletype gallium
