@@ -5,48 +5,7 @@
 
 const namesOf = (names) => [...names].map((name) => `\`${name}\``).join(", ");
 
-// What the parts of an answer of compile make of the counts in its second line, as far as that can be told.
-function countsOf(answer, source) {
-  const tables = tablesOf(answer, source);
-  const { up, down } = crossingsOf(answer);
-  const widths = widthsOf(answer, source);
-  const [upBits, downBits] = [bitsOf(up, widths), bitsOf(down, widths)];
-  const most = (numbers) => numbers.reduce((one, other) => Math.max(one, other), 0);
-  const passes = ({ looks }) => looks.reduce((sum, { before, after }) =>
-    sum + (before === null ? 0 : 1) + (after === null ? 0 : 1), 0);
-  return new Map([
-    ["accesses", most(tables.map(passes))],
-    ["stages", most(answer.instructions.map(({ before, after }) => Math.max(before || 0, after || 0)))],
-    ["writeback", most(tables.filter(({ isReplicated }) => isReplicated).map(({ writes }) => writes.length))],
-    ["transfer_bytes", upBits === null || downBits === null ? null : bytesFor(Math.max(upBits, downBits))],
-  ]);
-}
-
-function wrongCount(answer, source) {
-  const isWrong = ([name, count]) => count !== null && count !== answer.counts.get(name);
-  const found = [...countsOf(answer, source)].find(isWrong);
-  return found ? `the second line of the answer tells ${found[0]} ${grouped(answer.counts.get(found[0]))}, and its `
-    + `instructions take ${grouped(found[1])}` : null;
-}
-
-// The bits of tables are those of the declared objects, and some number of rows of write-back tables.
-function wrongTableBits(source, answer, limits) {
-  const sum = (numbers) => numbers.reduce((one, other) => one + other, 0);
-  let [rows, changes] = [0, 0];
-  for (const { declared, onSwitch, isReplicated } of tablesOf(answer, source)) {
-    const bits = sum([...declared.keys, ...declared.values]);
-    rows += onSwitch && (isReplicated || declared.kind === "table") ? declared.rows * bits : 0;
-    changes += isReplicated ? bits + 1 : 0;
-  }
-  const have = answer.counts.get("table_bits");
-  const allowed = limits && limits.limits.get("writeback");
-  const isPossible = allowed !== undefined && allowed !== null ? have === rows + allowed * changes
-    : have >= rows && (changes === 0 ? have === rows : (have - rows) % changes === 0);
-  return isPossible ? null : `by the objects that the source declares, the tables on the switch don't have the ${
-    grouped(have)} bits that the answer tells`;
-}
-
-function sourceAndAnswer({ source, answer, limits }) {
+function sourceAndAnswer({ source, answer }) {
   if (!source.flat) {
     return `the source becomes more than ${grouped(MOST_INSTRUCTIONS)} instructions`;
   }
@@ -66,7 +25,16 @@ function sourceAndAnswer({ source, answer, limits }) {
     return `the source becomes \`${lines[at] || "nothing more"}\`, where the answer of compile has \`${
       others[at] || "nothing more"}\``;
   }
-  return wrongTableBits(source, answer, limits);
+  return null;
+}
+
+function sourceAndSplit({ source, split }) {
+  if (!source.flat) {
+    return `the source becomes more than ${grouped(MOST_INSTRUCTIONS)} instructions`;
+  }
+  const [have, told] = [source.flat.instructions.length, split.parts.length];
+  return have === told ? null
+    : `the source becomes ${counted(have, "instruction")}, and the split has a line for ${grouped(told)}`;
 }
 
 // Whether rows can be those of the objects that a source declares: the server's, and those that the switch shows.
@@ -156,8 +124,8 @@ function reportAndRun({ report, run }) {
 
 // Each two kinds of texts, and what speaks against their belonging together.
 const PAIRS = [
-  [["answer"], ({ answer, source }) => wrongCount(answer, source && source.flat ? source : null)],
-  [["source", "answer"], sourceAndAnswer],
+  [["source", "answer"], ({ source, answer }) => (answer.kind === "split" ? null : sourceAndAnswer({ source, answer }))],
+  [["source", "split"], sourceAndSplit],
   [["source", "report"], ({ source, report }) => sourceAndRows(source, report, "report")],
   [["source", "run"], ({ source, run }) => sourceAndRows(source, run, "answer of run")],
   [["answer", "report"], reportAndAnswer],

@@ -2,11 +2,43 @@
 
 // What the page's test asks for: numbers of marks, and some texts, a line for each.
 
-// For each line of the source that has instructions, their numbers by column.
+// Each row of the source, as it is shown; for each that has instructions, their numbers by column; and for each that
+// declares an object, where that is.
 function countsOfSource() {
   const places = COLUMNS.map(([name]) => name);
-  return [...drawing.querySelectorAll(".source-row.filled")].map((row) => `beside ${row.dataset.line} ${places
-    .map((name) => row.querySelector(`.place.${name}`).dataset.numbers.replaceAll(" ", ",") || "-").join(" ")}`);
+  const rows = [...drawing.querySelectorAll(".source-row[data-line]")];
+  const numbersIn = (row, name) => row.querySelector(`.place.${name}`).dataset.numbers.replaceAll(" ", ",") || "-";
+  const ofRow = (row, place) => [
+    `row ${place + 1} ${row.querySelector(".line small").textContent || "-"} ${row.querySelector("code").textContent}`,
+    ...(row.matches(".filled") ? [`beside ${place + 1} ${places.map((name) => numbersIn(row, name)).join(" ")}`] : []),
+    ...(row.dataset.object ? [`kept ${row.dataset.object} ${row.querySelector(".kept-where").textContent}`] : []),
+  ];
+  return [...rows.flatMap(ofRow), ...countsOfWrapped(rows)];
+}
+
+// How many rows of the source take several lines of the screen, and how many of these lose their indentation there.
+function countsOfWrapped(rows) {
+  const leftsOf = (row) => {
+    const text = row.querySelector("code").firstChild;
+    const range = document.createRange();
+    range.setStart(text, text.data.search(/\S|$/));
+    range.setEnd(text, text.data.length);
+    return [...range.getClientRects()].map(({ left }) => left);
+  };
+  const wrapped = rows.map(leftsOf).filter((lefts) => lefts.length > 1);
+  const outdented = wrapped.filter(([first, ...others]) => others.some((left) => left < first - 1));
+  return [`wrapped ${wrapped.length}`, `outdented ${outdented.length}`];
+}
+
+// What a split takes, by the names of limits, and what is said of an edited one.
+function countsOfLimits() {
+  const textOf = (shape) => [...drawing.querySelectorAll(shape)].map((element) => element.textContent).join(" ");
+  return [
+    ...[...drawing.querySelectorAll(".gauge")].map((gauge) =>
+      `takes-${gauge.dataset.name} ${gauge.querySelector("b").textContent.replaceAll(",", "")}`),
+    `broken ${textOf(".broken")}`, `stale ${textOf(".stale")}`,
+    `wrong-chips ${drawing.querySelectorAll(".lane .chip.wrong").length}`,
+  ];
 }
 
 // What stands for addresses and ports in the rows at the end, the changes of packets, and the constants of the split.
@@ -112,7 +144,7 @@ function writeCounts(name, milliseconds) {
   lines.push(`order ${[...drawing.querySelectorAll(".seat b")].map((seat) => seat.textContent).join(" ")}`);
   lines.push(`fields ${document.querySelectorAll(".fields input[type=file]").length}`,
     `links ${document.querySelectorAll("#examples:not([open]) .examples a").length}`);
-  lines.push(...countsOfStages(), ...countsOfLinks(), ...countsOfSource(), ...countsOfNumbers(), ...countsOfHidden(),
+  lines.push(...countsOfStages(), ...countsOfLinks(), ...countsOfSource(), ...countsOfLimits(), ...countsOfNumbers(), ...countsOfHidden(),
     ...countsOfStrangers());
   lines.push(`refusal ${document.getElementById("refusal").textContent}`, `milliseconds ${Math.round(milliseconds)}`);
   const counts = make("pre", "counts", `counts of ${name}\n${lines.join("\n")}\nend of counts\n`);
