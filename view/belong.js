@@ -122,6 +122,17 @@ function reportAndRun({ report, run }) {
   return one === other ? null : "they tell the rows of other objects";
 }
 
+// Which lines of a schedule over links come through is found where its run is derived.
+function scheduleAndReport({ schedule, report }) {
+  if (report.links.length === 0) {
+    return schedule.linked ? "the schedule is one over links, and the report isn't one of `lossy`"
+      : strangenessOf(report, schedule);
+  }
+  const other = schedule.drain ? "drain" : schedule.fine ? "fine" : schedule.events.some(({ letter }) => letter === "s")
+    ? "s" : null;
+  return other ? `the report is one of \`lossy\`, and a schedule over links has no \`${other}\`` : null;
+}
+
 // Each two kinds of texts, and what speaks against their belonging together.
 const PAIRS = [
   [["source", "answer"], ({ source, answer }) => (answer.kind === "split" ? null : sourceAndAnswer({ source, answer }))],
@@ -132,7 +143,7 @@ const PAIRS = [
   [["trace", "report"], ({ trace, report }) => traceAndPackets(trace, report.packets, report.total, "report")],
   [["trace", "run"], ({ trace, run }) => traceAndPackets(trace, run.packets, run.packets.length, "answer of run")],
   [["run", "report"], reportAndRun],
-  [["schedule", "report"], ({ schedule, report }) => strangenessOf(report, schedule)],
+  [["schedule", "report"], scheduleAndReport],
 ];
 
 // What speaks against the texts belonging together: [{ kinds, why }].

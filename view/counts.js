@@ -72,8 +72,18 @@ function countsOfStages() {
   ];
 }
 
-// The four numbers of each link.
+// The four numbers of each link, and what is drawn of its datagrams.
 function countsOfLinks() {
+  const links = [...drawing.querySelectorAll(".link")].flatMap((part) => [
+    `drawn-${part.dataset.link} ${part.dataset.numbers}`,
+    `fates-${part.dataset.link} ${[...part.querySelectorAll(".row")].map((row) => row.dataset.fate).join(" ")}`,
+    `marks-${part.dataset.link} ${["given", "out", "lost", "new", "again", "early", "read"].map((name) =>
+      `${name} ${part.querySelectorAll(`.mark.${name}`).length}`).join(" ")}`,
+  ]);
+  return [...links, ...countsOfLinkFacts()];
+}
+
+function countsOfLinkFacts() {
   return [...drawing.querySelectorAll(".facts div")].map((pair) => [...pair.children].map((part) => part.textContent))
     .filter(([name]) => name.startsWith("link "))
     .map(([name, told]) => `${name.replace(" ", "-")} ${told.replaceAll(",", "").match(/[0-9]+/g).join(" ")}`);
@@ -98,11 +108,16 @@ function countExamples(asked) {
       shownRun.show(from - 0.5, to + 0.5);
     }
     drawing.getBoundingClientRect();
-    writeCounts(example.name, performance.now() - before);
+    const milliseconds = performance.now() - before;
+    const isMade = `made ${drawing.querySelectorAll(".rows .row").length}`;
+    if (shownRun) {
+      shownRun.chunks.fillAll();
+    }
+    writeCounts(example.name, milliseconds, isMade);
   }
 }
 
-function writeCounts(name, milliseconds) {
+function writeCounts(name, milliseconds, isMade) {
   const shapes = {
     before: ".lane.before .chip", server: ".lane.server .chip", after: ".lane.after .chip",
     twice: ".lane.server .chip.twice", blocks: ".block-line", tables: ".mark.table", gauges: ".gauge .used",
@@ -118,7 +133,9 @@ function writeCounts(name, milliseconds) {
     held: ".rows .wait.held", kept: ".rows .wait.kept", free: ".rows .wait.free", down: ".rows .wait.down",
     uncertain: ".rows .wait.perhaps",
   };
-  const lines = Object.entries(shapes).map(([name, shape]) => `${name} ${drawing.querySelectorAll(shape).length}`);
+  // The rows of datagrams are counted apart.
+  const rowsOf = (shape) => shape.replaceAll(".rows .", ".run .timeline:not(.datagrams) .rows .");
+  const lines = Object.entries(shapes).map(([name, shape]) => [name, rowsOf(shape)]).map(([name, shape]) => `${name} ${drawing.querySelectorAll(shape).length}`);
   const told = [...drawing.querySelectorAll(".crossing .told-count")].map((element) => element.textContent);
   const stages = [...drawing.querySelectorAll(".lane.switch")].map((lane) => {
     const titles = [...lane.querySelectorAll(".stage h4")].map((title) => Number(title.textContent.split(" ")[1]));
@@ -132,7 +149,7 @@ function writeCounts(name, milliseconds) {
   }
   const placesOf = (row, shape) => [...row.querySelectorAll(shape)]
     .map(({ style }) => `${style.getPropertyValue("--at")}-${style.getPropertyValue("--until")}`);
-  const ways = (shape) => [...drawing.querySelectorAll(".rows .row")]
+  const ways = (shape) => [...drawing.querySelectorAll(rowsOf(".rows .row"))]
     .flatMap((row) => placesOf(row, shape).map((place) => `${row.querySelector(".label b").textContent}:${place}`));
   lines.push(`waits ${ways(".wait.held").join(" ")}`, `comes-down ${ways(".wait.down").join(" ")}`,
     `first-passes ${ways(".wait.pass").join(" ")}`, `second-passes ${ways(".wait.second").join(" ")}`,
@@ -146,7 +163,7 @@ function writeCounts(name, milliseconds) {
     `links ${document.querySelectorAll("#examples:not([open]) .examples a").length}`);
   lines.push(...countsOfStages(), ...countsOfLinks(), ...countsOfSource(), ...countsOfLimits(), ...countsOfNumbers(), ...countsOfHidden(),
     ...countsOfStrangers());
-  lines.push(`refusal ${document.getElementById("refusal").textContent}`, `milliseconds ${Math.round(milliseconds)}`);
+  lines.push(isMade, `refusal ${document.getElementById("refusal").textContent}`, `milliseconds ${Math.round(milliseconds)}`);
   const counts = make("pre", "counts", `counts of ${name}\n${lines.join("\n")}\nend of counts\n`);
   document.body.append(counts);
 }
