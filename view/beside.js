@@ -109,7 +109,7 @@ class SourceDrawing {
     });
     const head = makeWith("div", "source-row source-head", [make("span", "text", "the source"), ...heads]);
     return makeWith("div", "source-part", [
-      make("h3", "", "What each statement became"), make("p", "source", this.told()),
+      make("h3", "", "What each statement became"), makeProse("p", "source", this.told()),
       makeWith("div", "source-lines", [head, ...lines.map((piece) => this.drawPiece(piece))]),
     ]);
   }

@@ -11,7 +11,7 @@ function countsOfSource() {
   const ofRow = (row, place) => [
     `row ${place + 1} ${row.querySelector(".line small").textContent || "-"} ${row.querySelector("code").textContent}`,
     ...(row.matches(".filled") ? [`beside ${place + 1} ${places.map((name) => numbersIn(row, name)).join(" ")}`] : []),
-    ...(row.dataset.object ? [`kept ${row.dataset.object} ${row.querySelector(".kept-where").textContent}`] : []),
+    ...(row.dataset.object ? [`stands ${row.dataset.object} ${row.querySelector(".kept-where").textContent}`] : []),
   ];
   return [...rows.flatMap(ofRow), ...countsOfWrapped(rows)];
 }
@@ -100,6 +100,8 @@ function countsOfStrangers() {
 function countExamples(asked) {
   const named = EXAMPLES.filter(({ name }) => exampleInAddress() === "" || name === exampleInAddress());
   for (const example of named) {
+    drawing.replaceChildren();
+    drawing.getBoundingClientRect();
     const before = performance.now();
     texts.clear();
     take(Object.entries(example.texts));
@@ -109,7 +111,7 @@ function countExamples(asked) {
     }
     drawing.getBoundingClientRect();
     const milliseconds = performance.now() - before;
-    const isMade = `made ${drawing.querySelectorAll(".rows .row").length}`;
+    const isMade = `drawn-at-once ${drawing.querySelectorAll(".rows .row").length}`;
     if (shownRun) {
       shownRun.chunks.fillAll();
     }

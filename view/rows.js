@@ -60,12 +60,14 @@ function drawVersion(run, version) {
   ].map((text) => make("td", "", text));
   const row = makeWith("tr", "mark version-row", cells);
   row.tabIndex = -1;
-  const waiting = run.report.packets.filter((packet) => packet.way === "slow" && packet.version === version);
-  return tellOf(row, () => ({
-    note: `Version ${version}: ${counted(waiting.length, "output", "outputs")} may go only when it is acknowledged.`,
-    lines: maker ? [{ kind: "report", line: maker.line }] : [],
-    related: waiting.flatMap(({ number }) => run.relatedTo(number)),
-  }));
+  return tellOf(row, () => {
+    const waiting = run.report.packets.filter((packet) => packet.way === "slow" && packet.version === version);
+    return {
+      note: `Version ${version}: ${counted(waiting.length, "output", "outputs")} may go only when it is acknowledged.`,
+      lines: maker ? [{ kind: "report", line: maker.line }] : [],
+      related: waiting.flatMap(({ number }) => run.relatedTo(number)),
+    };
+  });
 }
 
 // `kind` is the kind of the text that tells the rows.

@@ -161,15 +161,15 @@ class RunDrawing {
       this.strips.append(drawVersionStrip(this));
     }
     this.legend = make("ul", "legend");
+    this.shapes = new Set();
     const rows = make("div", "rows");
     const order = this.drawOrder();
     this.chunks = this.makeChunks();
     rows.append(...this.chunks.elements);
     this.timeline.append(makeWith("div", "ways", [this.strips, rows]), order);
-    this.showLegend();
     const section = makeWith("section", "run", [
       make("h2", "", "What became of the packets"), ...this.drawFacts(), this.legend,
-      make("p", "source", this.sourceOfDrawing()), this.drawWindow(), this.hint, this.timeline,
+      makeProse("p", "source", this.sourceOfDrawing()), this.drawWindow(), this.hint, this.timeline,
       ...(this.datagrams ? [this.datagrams.draw()] : []), ...drawVersions(this), drawPackets(this),
       drawState(this.report, "report", this.meanings),
     ]);
@@ -192,7 +192,7 @@ class RunDrawing {
         this.seatChunks[place].append(...order.slice(from, until).map((number, at) => this.drawSeat(number, from + at)));
       }
       this.drawPaths(from, until);
-      this.showLegend();
+      this.addToLegend(this.rows[from].parentElement);
     };
     return new Chunks(packets.length, drawRows, drawSeats);
   }
@@ -292,8 +292,8 @@ class RunDrawing {
         : ` ${counted(open, "of these numbers isn't", "of these numbers aren't")} certain, and drawn as stretches.`}`;
   }
 
-  // What the marks that are drawn mean.
-  showLegend() {
+  // What the marks mean that are drawn in a chunk of rows, as far as that doesn't stand in the legend yet.
+  addToLegend(chunk) {
     const samples = [
       ["mark admitted", "admitted"], ["wait pass", "in its first pass"],
       ["wait up", this.isFine && !this.derived ? "in its first pass, or waits for the server" : "waits for the server"],
@@ -303,8 +303,13 @@ class RunDrawing {
       ["wait down", "let go, on its way down"], ["wait second", "in its second pass"], ["mark sent", "sent"],
       ["mark dropped", "dropped"], ["mark fast", "fast: sent by the switch alone"],
       ["mark fast drops", "fast, dropped"], ["wait open", "still on its way"],
-    ].filter(([shape]) => this.timeline.querySelector(`.track > .${shape.replaceAll(" ", ".")}`));
-    this.legend.replaceChildren(...samples.map(([shape, text]) =>
+    ];
+    for (const [shape] of samples) {
+      if (!this.shapes.has(shape) && chunk.querySelector(`.track > .${shape.replaceAll(" ", ".")}`)) {
+        this.shapes.add(shape);
+      }
+    }
+    this.legend.replaceChildren(...samples.filter(([shape]) => this.shapes.has(shape)).map(([shape, text]) =>
       makeWith("li", "", [makeWith("span", "sample", [make("i", shape)]), make("span", "", text)])));
   }
 
@@ -450,7 +455,7 @@ class RunDrawing {
       const mark = this.point(way === "fast" ? "fast" : name, released);
       mark.classList.toggle("drops", way === "fast" && port === null);
       track.append(mark);
-      verdict.append(port === null ? "✕ dropped" : `▶ port ${port}`, ...(port === null ? []
+      verdict.replaceChildren(port === null ? "✕ dropped" : `▶ port ${port}`, ...(port === null ? []
         : [make("span", "bytes", `, ${counted(packet.bytes, "byte")}`)]));
     }
     const label = makeWith("span", "label", [
@@ -527,7 +532,7 @@ class RunDrawing {
     const seat = makeWith("span", "mark seat", [make("b", "", number)]);
     const isFirst = place === 0 || packets[order[place - 1]].version !== version;
     if (isFirst && this.report.version > 0) {
-      seat.append(make("span", "", ` version ${version}`));
+      seat.append(make("span", "long", ` version ${version}`), make("span", "short", `v${version}`));
       seat.classList.add("first");
     }
     seat.tabIndex = -1;

@@ -72,7 +72,7 @@ class SplitDrawing {
       return [];
     }
     const { rule, instruction } = this.broken;
-    const told = make("p", "broken mark", `This split may not be taken: rule ${rule} is broken at instruction ${
+    const told = makeProse("p", "broken mark", `This split may not be taken: rule ${rule} is broken at instruction ${
       instruction.number}, ${wordOf(this.answer, instruction)}: ${SPLIT_RULES.get(rule)}.`);
     told.tabIndex = -1;
     return [tellOf(told, () => this.tellInstruction(instruction))];
@@ -84,7 +84,7 @@ class SplitDrawing {
     const wrong = [...(told || [])].filter(([name, number]) =>
       !canBeTold(name, number, this.taken.get(name), this.tables));
     const parts = wrong.map(([name, number]) => `${name} ${grouped(number)}`);
-    return wrong.length === 0 ? [] : [make("p", "source stale",
+    return wrong.length === 0 ? [] : [makeProse("p", "source stale",
       `Line 2 of the answer says ${parts.join(" and ")}. The split doesn't take that${this.limits ? "" : " with any limits"
       }, so the split, the limits or the sizes of objects have changed since. The numbers above are counted from the ${
         this.source ? "source and the split" : "split"}.`)];

@@ -79,9 +79,11 @@ class LineReader {
     throw new Refusal(this.number, `expected ${wanted}${this.ended ? ", but the text ends here" : ""}`);
   }
 
-  // The parts of the next line where it fits the pattern; the walk then goes on after it.
+  // The parts of the next line where it fits the pattern; the walk then goes on after it. A pattern of whole lines may be
+  // a regular expression.
   match(pattern) {
-    const parts = this.ended ? null : wholeLine(pattern).exec(this.lines[this.place]);
+    const form = pattern instanceof RegExp ? pattern : wholeLine(pattern);
+    const parts = this.ended ? null : form.exec(this.lines[this.place]);
     if (parts) {
       this.place += 1;
       this.pass();
@@ -267,8 +269,8 @@ const PACKET_FORMS = new RegExp(
 function readPacket(reader, number) {
   const line = reader.number;
   const wanted = `packet ${number}`;
-  const parts = PACKET_FORMS.exec(reader.take(`(packet .*)`, wanted)[1]);
-  if (!parts || Number(parts[1]) !== number || (parts[4] === "fast" && parts[8])) {
+  const parts = reader.take(PACKET_FORMS, `${wanted}, in one of its forms`);
+  if (Number(parts[1]) !== number || (parts[4] === "fast" && parts[8])) {
     throw new Refusal(line, `expected ${wanted}, in one of its forms`);
   }
   const packet = { number, line, way: parts[2] || parts[4], admitted: Number(parts[3] || parts[5]) };
@@ -386,6 +388,9 @@ const LINK_NAMES = ["up", "down", "ctl", "ack"];
 // A schedule: the letter, item and line of each event, whether it ends with `drain`, and whether it is fine, that is
 // whether each stage of a pass is an event of its own. `linked` says whether it is one over links: then some of its
 // lines are no events but say what becomes of datagrams, and these have the link's name too.
+const EVENT_FORMS = new RegExp(
+  `^(?:([acwk])|([uhds]) ${NUMBER}|(drain)|([xyz]) (${LINK_NAMES.join("|")}) ${NUMBER})$`);
+
 function readSchedule(text) {
   const reader = new LineReader(text, isSkipped);
   const fineLine = reader.number;
@@ -394,8 +399,7 @@ function readSchedule(text) {
   let [drain, linked, alone] = [false, false, fine ? { line: fineLine, word: "`fine`" } : null];
   while (!reader.ended) {
     const line = reader.number;
-    const parts = reader.take(`(?:([acwk])|([uhds]) ${NUMBER}|(drain)|([xyz]) (${LINK_NAMES.join("|")}) ${NUMBER})`,
-      "an event");
+    const parts = reader.take(EVENT_FORMS, "an event");
     if (drain) {
       throw new Refusal(line, "nothing may stand after `drain`");
     }

@@ -14,13 +14,13 @@ const SHOWN_AFTER = 200;
 // A line of a text, with a mark at a column where there is one to blame.
 function drawLine(line, column) {
   if (column === null) {
-    return make("code", "", shortened(line));
+    return make("code", "shown-line", shortened(line));
   }
   const characters = [...line];
   const from = Math.max(0, column - 1 - SHOWN_BEFORE);
   const until = column + SHOWN_AFTER;
   const part = (start, end) => characters.slice(start, end).join("");
-  return makeWith("code", "", [
+  return makeWith("code", "shown-line", [
     `${from > 0 ? "… " : ""}${part(from, column - 1)}`, make("mark", "", part(column - 1, column) || " "),
     `${part(column, until)}${until < characters.length ? " …" : ""}`,
   ]);
@@ -31,7 +31,7 @@ function refuse(name, { line, column, message }) {
   const lines = linesOf(texts.get(name) ? texts.get(name).text : "");
   const place = [name, ...(line ? [`line ${grouped(line)}`] : []), ...(column ? [`column ${grouped(column)}`] : [])];
   document.getElementById("refusal").replaceChildren(
-    make("b", "", `${place.join(", ")}: `), `${message}.`,
+    make("b", "", `${place.join(", ")}: `), ...proseOf(`${message}.`),
     ...(line && lines[line - 1] !== undefined ? [drawLine(lines[line - 1], column)] : []));
 }
 
@@ -82,7 +82,7 @@ function tellStrangers(strangers) {
   document.getElementById("refusal").replaceChildren(
     make("b", "", "These texts don't belong together, so nothing is drawn."),
     makeWith("ul", "", strangers.map(({ kinds, why }) =>
-      makeWith("li", "stranger", [make("b", "", kinds.map(nameOf).join(" and ")), `: ${why}.`]))),
+      makeWith("li", "stranger", [make("b", "", kinds.map(nameOf).join(" and ")), ": ", ...proseOf(`${why}.`)]))),
     make("p", "", "Take one of them away with its ×, or give the one that belongs to the others."));
 }
 
@@ -132,7 +132,7 @@ function drawAll(read, meanings) {
     drawing.append(new SplitDrawing(read.get("answer"), read.get("source"), read.get("limits")).draw());
   }
   if (texts.size > 0 && drawing.children.length === 0) {
-    document.getElementById("refusal").textContent = missingFor(read);
+    document.getElementById("refusal").replaceChildren(...proseOf(missingFor(read)));
   }
   recountHidden.forEach((recount) => recount());
 }
@@ -210,8 +210,11 @@ function sizeOf(example) {
     return counted(lines.filter((line) => line.startsWith("packet ")).length, "packet");
   }
   const told = (line, word) => counted(Number(new RegExp(`${word}s ([0-9]+)`).exec(line)[1]), word);
-  return lines[0] === "report 1" ? `${told(lines[1], "packet")}, ${told(lines[2], "event")}`
-    : `${told(lines[0], "instruction")}, ${told(lines[1], "stage")}`;
+  if (lines[0] === "report 1") {
+    return `${told(lines[1], "packet")}, ${told(lines[2], "event")}`;
+  }
+  return lines[0].startsWith("# instructions ") ? `${told(lines[0], "instruction")}, ${told(lines[1], "stage")}`
+    : counted(lines.filter((line) => /^[0-9]/.test(line)).length, "instruction");
 }
 
 function start() {
