@@ -45,7 +45,7 @@ function countsOfLimits() {
 function countsOfNumbers() {
   const textsOf = (shape) => [...drawing.querySelectorAll(shape)].map((element) => element.textContent).join(" ");
   const meant = [...MEANINGS.keys()];
-  const arrived = [...drawing.querySelectorAll(".serial-row td:nth-child(3)")].map((cell) => cell.textContent);
+  const arrived = [...drawing.querySelectorAll("td.arrived")].map((cell) => cell.textContent);
   return [
     ...meant.map((meaning) => `rows-${meaning} ${textsOf(`.state .address.${meaning}`)}`),
     ...meant.map((meaning) => `changed-${meaning} ${textsOf(`.change .address.${meaning}`)}`),
@@ -95,9 +95,28 @@ function countsOfStrangers() {
   return [`strangers ${strangers.length}`, ...strangers.map((text, place) => `stranger-${place} ${text}`)];
 }
 
+// How much room the ways of packets have, how far the page reaches beyond the window, and whether the examples stand open.
+function countsOfWindow() {
+  const tracks = [drawing.querySelector(".rows .row .track"), ...drawing.querySelectorAll(".band .track")];
+  const widths = tracks.filter(Boolean).map(({ clientWidth }) => clientWidth);
+  const nav = document.querySelector("#examples nav");
+  const facts = [...drawing.querySelectorAll(".facts div")].map(({ textContent }) => textContent);
+  return [
+    `track-width ${widths.length === 0 ? "" : Math.min(...widths)}`,
+    `too-wide ${document.documentElement.scrollWidth - document.documentElement.clientWidth}`,
+    `open-examples ${nav.checkVisibility() ? nav.querySelectorAll("a").length : 0}`,
+    `fact-fast ${facts.filter((fact) => fact.startsWith("never visited")).join(" ")}`,
+    `said ${[...drawing.querySelectorAll(".run > p.source, .source-part > p.source")].map(({ textContent }) => textContent)
+      .join(" ")}`,
+  ];
+}
+
 // With ?count the page draws the example behind the #, or all of them where there is none, and writes for each how many
 // marks it has drawn. With ?count&events=5-20 these events are shown alone.
 function countExamples(asked) {
+  if (texts.size === 0) {
+    writeCounts("nothing", 0, "drawn-at-once 0");
+  }
   const named = EXAMPLES.filter(({ name }) => exampleInAddress() === "" || name === exampleInAddress());
   for (const example of named) {
     drawing.replaceChildren();
@@ -163,9 +182,10 @@ function writeCounts(name, milliseconds, isMade) {
   lines.push(`order ${[...drawing.querySelectorAll(".seat b")].map((seat) => seat.textContent).join(" ")}`);
   lines.push(`fields ${document.querySelectorAll(".fields input[type=file]").length}`,
     `links ${document.querySelectorAll("#examples:not([open]) .examples a").length}`);
-  lines.push(...countsOfStages(), ...countsOfLinks(), ...countsOfSource(), ...countsOfLimits(), ...countsOfNumbers(), ...countsOfHidden(),
+  lines.push(...countsOfWindow(), ...countsOfStages(), ...countsOfLinks(), ...countsOfSource(), ...countsOfLimits(), ...countsOfNumbers(), ...countsOfHidden(),
     ...countsOfStrangers());
   lines.push(isMade, `refusal ${document.getElementById("refusal").textContent}`, `milliseconds ${Math.round(milliseconds)}`);
   const counts = make("pre", "counts", `counts of ${name}\n${lines.join("\n")}\nend of counts\n`);
+  counts.hidden = true;
   document.body.append(counts);
 }

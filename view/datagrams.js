@@ -23,14 +23,22 @@ function fateOf({ arrivals }) {
 const isConfirmed = ({ arrivals }) => arrivals.some(({ confirmation }) => confirmation && confirmation.read.length > 0);
 
 const FATE_TEXTS = {
-  lost: "lost", delivered: "delivered", repeated: "repeated, its item was there", early: "too early, not taken",
+  lost: "it was sent, and never arrived", delivered: "it arrived, and its item was delivered",
+  repeated: "it arrived, and its item had been delivered before", early: "it arrived too early, and wasn't taken",
 };
 
+// The same in a few words.
 function verdictOf(datagram) {
+  const fate = fateOf(datagram);
+  return `${fate === "early" ? "too early" : fate}${isConfirmed(datagram) ? ", confirmed" : ""}`;
+}
+
+// The same in a sentence.
+function storyOf(datagram) {
   const { arrivals } = datagram;
-  const times = arrivals.length > 1 ? `, arrived ${arrivals.length} times` : "";
+  const times = arrivals.length > 1 ? `; it arrived ${arrivals.length} times` : "";
   const confirmed = !arrivals.some(({ confirmation }) => confirmation) ? ""
-    : isConfirmed(datagram) ? ", confirmed" : ", no confirmation read";
+    : isConfirmed(datagram) ? "; a confirmation of it came back" : "; no confirmation of it came back";
   return `${FATE_TEXTS[fateOf(datagram)]}${times}${confirmed}`;
 }
 
@@ -76,7 +84,7 @@ class DatagramDrawing {
       makeWith("div", "ways", [this.axis, ...this.links.map((link) => this.drawLink(link))]),
     ]);
     letKeysMove(this.part, ".row", null);
-    return makeWith("div", "state", [
+    return makeWith("div", "part", [
       make("h3", "", "Datagrams on the links"),
       make("p", "source", "A row for each datagram, over the events that came through. What was sent, arrived and was "
         + "confirmed stands between these, in the order of the schedule's lines."),
@@ -163,17 +171,18 @@ class DatagramDrawing {
       makeWith("span", "label", [make("b", "", short)]), track, make("span", "verdict", verdict),
     ]);
     row.dataset.fate = datagram ? `${item.item}:${fateOf(datagram)}` : "";
-    return tellOf(row, (target) => this.tellRow(link, item, verdict, datagram, target));
+    return tellOf(row, (target) => this.tellRow(link, item, datagram, target));
   }
 
-  tellRow(link, item, verdict, datagram, target) {
+  tellRow(link, item, datagram, target) {
     const lineOf = (place) => this.lines[place].line;
     const places = [item.given, ...(datagram ? [datagram.sent, ...datagram.arrivals.flatMap(({ place, confirmation }) =>
       [place, ...(confirmation ? confirmation.read : [])])] : [])];
     const pointed = target.dataset.line === undefined ? places : [Number(target.dataset.line)];
     const isPacket = link.name === "up" || link.name === "down";
     return {
-      note: `Link ${link.name}, ${itemName(link.name, item)}: ${verdict}.`,
+      note: datagram ? `Link ${link.name}, a datagram of ${itemName(link.name, item)}: ${storyOf(datagram)}.`
+        : `Link ${link.name}, ${itemName(link.name, item)}: no datagram of it was sent.`,
       lines: pointed.map((place) => ({ kind: "schedule", line: lineOf(place) })),
       related: isPacket ? this.run.relatedTo(item.item) : [],
     };

@@ -20,7 +20,7 @@ function drawPacketTable(packets, trace, kind) {
 function drawPackets({ report, trace }) {
   const hint = trace ? [] : [make("p", "source",
     "With the trace beside it, the page shows what arrived, and which fields have changed.")];
-  return makeWith("div", "state", [
+  return makeWith("div", "part", [
     make("h3", "", "What arrived, and what left"), ...hint, drawPacketTable(report.packets, trace, "report"),
   ]);
 }

@@ -2,6 +2,9 @@
 
 // Draws the report of a replay: the way of each packet by event number, versions, the serial order, and the rows.
 
+// So much room a number of an event takes at least.
+const TICK_WIDTH = 45;
+
 // A number that is between two, with a word before each.
 function rangeOf({ least, most }, word) {
   return least === most ? `${word}${grouped(least)}` : `${word}${grouped(least)} to ${grouped(most)}`;
@@ -175,7 +178,10 @@ class RunDrawing {
     ]);
     this.show(0.5, this.last);
     this.chunks.watch();
-    new ResizeObserver(() => this.tellHiddenEvents()).observe(this.timeline);
+    new ResizeObserver(() => {
+      this.drawTicks();
+      this.tellHiddenEvents();
+    }).observe(this.timeline);
     this.timeline.addEventListener("focusin", ({ target }) => this.fillAroundMark(target));
     letKeysMove(this.timeline, ".row, .seats", null);
     return section;
@@ -381,20 +387,24 @@ class RunDrawing {
       const [top, height] = heightsOf(this.from, this.to);
       picture.setAttribute("viewBox", `${this.from} ${top} ${span} ${height}`);
     }
+    this.drawTicks();
+    this.tellHiddenEvents();
+  }
+
+  // The numbers of events above the ways, as many as have room.
+  drawTicks() {
+    const most = Math.max(2, Math.min(16, (this.axis.querySelector(".track").clientWidth || 800) / TICK_WIDTH));
     const step = [1, 2, 5].flatMap((digit) => [0, 1, 2, 3, 4, 5, 6, 7].map((power) => digit * 10 ** power))
-      .filter((size) => span / size <= 16).reduce((one, other) => Math.min(one, other));
-    const drawTicks = () => {
+      .filter((size) => (this.to - this.from) / size <= most).reduce((one, other) => Math.min(one, other));
+    for (const axis of [this.axis, ...(this.datagrams ? [this.datagrams.axis] : [])]) {
       const ticks = [];
       for (let event = Math.ceil(this.from / step) * step; event < this.to; event += step) {
         const tick = make("span", "tick", grouped(event));
         tick.style.setProperty("--at", event);
         ticks.push(tick);
       }
-      return ticks;
-    };
-    [this.axis, ...(this.datagrams ? [this.datagrams.axis] : [])].forEach((axis) =>
-      axis.querySelector(".track").replaceChildren(...drawTicks()));
-    this.tellHiddenEvents();
+      axis.querySelector(".track").replaceChildren(...ticks);
+    }
   }
 
   // Which events aren't in sight, and whether more than one stand in one column of the screen.
