@@ -1,7 +1,7 @@
 "use strict";
 
-// Whether texts belong together: a source and its split, a report and its trace, and so on. Each test answers a text
-// that says what speaks against it, or null.
+// Whether texts belong together: a source and its split, a report and its trace, and so on. Each test returns a text that
+// says what speaks against it, or null.
 
 const namesOf = (names) => [...names].map((name) => `\`${name}\``).join(", ");
 
@@ -42,12 +42,12 @@ function sourceAndRows(source, { objects: parts, tables }, title) {
   const kept = [...source.objects].filter(([, { kind }]) => kind !== "table");
   const [wanted, have] = [kept.map(([name]) => name), parts.map(({ name }) => name)];
   if (wanted.join(" ") !== have.join(" ")) {
-    return `the source has the objects ${namesOf(wanted) || "none"}, and the ${title} tells of ${
+    return `the source has the objects ${namesOf(wanted) || "none"}, and the ${title} has ${
       namesOf(have) || "none"}`;
   }
   const foreign = tables.map(({ name }) => name).filter((name) => !wanted.includes(name));
   if (foreign.length > 0) {
-    return `the source has no object ${namesOf(foreign)}, of which the ${title} tells what the switch shows`;
+    return `the source has no object ${namesOf(foreign)}, of which the ${title} has the rows that the switch shows`;
   }
   for (const { name, rows } of [...parts, ...tables]) {
     const { kind, keys, values, rows: size } = source.objects.get(name);
@@ -69,7 +69,7 @@ const numbersOf = (text) => (text === "" ? [] : text.split(" "));
 // Whether packets left with as many bytes as they arrived with.
 function traceAndPackets(trace, packets, total, title) {
   if (trace.packets.length !== total) {
-    return `the trace has ${counted(trace.packets.length, "packet")}, and the ${title} tells of ${grouped(total)}`;
+    return `the trace has ${counted(trace.packets.length, "packet")}, and the ${title} has ${grouped(total)}`;
   }
   const isSent = ({ port }) => port !== undefined && port !== null;
   const isOther = (packet) => isSent(packet) && packet.bytes !== trace.packets[packet.number].bytes;
@@ -98,10 +98,10 @@ function reportAndAnswer({ report, answer, source }) {
   const rows = new Set(report.objects.map(({ name }) => name));
   const unknown = tables.filter(({ name, writes }) => writes.length > 0 && !rows.has(name)).map(({ name }) => name);
   if (unknown.length > 0) {
-    return `the split changes ${namesOf(unknown)}, of which the report tells no rows`;
+    return `the split changes ${namesOf(unknown)}, of which the report has no rows`;
   }
   if (mostChangesOf(answer, report) === null) {
-    return `the split makes no change that the switch keeps, and the report tells of version ${
+    return `the split makes no change that the switch keeps, and the report has version ${
       grouped(report.version)}`;
   }
   const outside = blocksOutside(answer);
@@ -115,11 +115,11 @@ function reportAndAnswer({ report, answer, source }) {
 
 function reportAndRun({ report, run }) {
   if (report.total !== run.packets.length) {
-    return `the report tells of ${counted(report.total, "packet")}, and the answer of run of ${
+    return `the report has ${counted(report.total, "packet")}, and the answer of run ${
       grouped(run.packets.length)}`;
   }
   const [one, other] = [report, run].map(({ objects }) => objects.map(({ name }) => name).join(" "));
-  return one === other ? null : "they tell the rows of other objects";
+  return one === other ? null : "they have the rows of other objects";
 }
 
 // Which lines of a schedule over links come through is found where its run is derived.
@@ -151,7 +151,7 @@ function strangersOf(read) {
   const texts = Object.fromEntries(read);
   const found = [];
   for (const [kinds, test] of PAIRS) {
-    // Where the source isn't that of the split, its widths and objects would make further tests mean nothing.
+    // Where the source isn't that of the split, its widths and objects would make further tests meaningless.
     const isTold = found.some((other) => other.kinds.every((kind) => kinds.includes(kind)));
     const why = kinds.every((kind) => read.has(kind)) && !isTold ? test(texts) : null;
     if (why) {

@@ -83,7 +83,7 @@ function piecesOf(source) {
 }
 
 class SourceDrawing {
-  // `split` is the drawing of the split, whose marks tell of instructions.
+  // `split` is the drawing of the split, whose marks are those of instructions.
   constructor(split, source) {
     this.split = split;
     this.source = source;

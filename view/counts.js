@@ -11,7 +11,7 @@ function countsOfSource() {
   const ofRow = (row, place) => [
     `row ${place + 1} ${row.querySelector(".line small").textContent || "-"} ${row.querySelector("code").textContent}`,
     ...(row.matches(".filled") ? [`beside ${place + 1} ${places.map((name) => numbersIn(row, name)).join(" ")}`] : []),
-    ...(row.dataset.object ? [`stands ${row.dataset.object} ${row.querySelector(".kept-where").textContent}`] : []),
+    ...(row.dataset.object ? [`stands-${row.dataset.object} ${row.querySelector(".kept-where").textContent}`] : []),
   ];
   return [...rows.flatMap(ofRow), ...countsOfWrapped(rows)];
 }
@@ -89,7 +89,7 @@ function countsOfLinkFacts() {
     .map(([name, told]) => `${name.replace(" ", "-")} ${told.replaceAll(",", "").match(/[0-9]+/g).join(" ")}`);
 }
 
-// What is said of texts that don't belong together.
+// What the page says of texts that don't belong together.
 function countsOfStrangers() {
   const strangers = [...document.querySelectorAll(".stranger")].map((stranger) => stranger.textContent);
   return [`strangers ${strangers.length}`, ...strangers.map((text, place) => `stranger-${place} ${text}`)];
@@ -111,7 +111,7 @@ function countsOfWindow() {
   ];
 }
 
-// With ?count the page draws the example behind the #, or all of them where there is none, and writes for each how many
+// With ?count the page draws the example after the #, or all of them where there is none, and writes for each how many
 // marks it has drawn. With ?count&events=5-20 these events are shown alone.
 function countExamples(asked) {
   if (texts.size === 0) {

@@ -17,7 +17,7 @@ const COST_OF_SEVERAL = 8;
 const EVENT_LETTERS = "aucwkhds";
 
 // How many stages a pass before the server and one after it have left as they enter: the highest stage of each, by the
-// answer of compile, where each stage is an event of its own, and else none. Null where there is no answer to tell it.
+// answer of compile, where each stage is an event of its own, and else none. Null where there is no answer that says it.
 function stagesOf(schedule, answer) {
   if (!schedule.fine) {
     return { before: 0, after: 0 };
@@ -56,7 +56,7 @@ function mostChangesOf(answer, report) {
 }
 
 // The greatest number of changes that one run of a packet can make to one object that the switch keeps, to how many
-// objects it can make changes at all, and how many rows can be staged for each; or null where no limits tell that.
+// objects it can make changes at all, and how many rows can be staged for each; or null where no limits say that.
 function roomOf(answer, limits) {
   const staged = limits ? limits.limits.get("writeback") : null;
   if (typeof staged !== "number") {
@@ -105,8 +105,8 @@ function branchOf(run, changed) {
 }
 
 class Derivation {
-  // `stages` is what stagesOf tells of passes; `most` is the greatest number of changes that a run can make, or null
-  // where no split tells it; `room` is what roomOf tells of batches.
+  // `stages` is what stagesOf says of passes; `most` is the greatest number of changes that a run can make, or null where
+  // no split says it; `room` is what roomOf says of batches.
   constructor(report, schedule, stages, most, room) {
     this.report = report;
     this.schedule = schedule;
@@ -161,8 +161,8 @@ class Derivation {
 
   // For each version, how many changes it can have at most. Where the switch showed the version, a command for each of
   // its changes, one at least for each earlier version, and the one that shows them were applied before. Where not all
-  // commands are sent in the end, more changes than commands that were sent behind the version can't be told from just
-  // as many: such versions stand in `orMore`. What drain makes is acknowledged before the report tells of another event,
+  // commands are sent in the end, more changes than commands that were sent after the version can't be told from just
+  // as many: such versions stand in `orMore`. What drain makes is acknowledged before the report has another event,
   // so it goes in a batch of its own.
   boundsOf(most) {
     const { report, schedule } = this;
@@ -596,7 +596,7 @@ class Derivation {
     return { number: Number(number), pass, stage: stages - Number(left) + 1, stages };
   }
 
-  // What an idle `w` waited for, as waitOfCommand tells it; or null where it didn't wait, or that isn't certain.
+  // What an idle `w` waited for, as waitOfCommand says it; or null where it didn't wait, or that isn't certain.
   waitAt(event) {
     const fact = this.stateOf(event) === "idle" ? this.facts.wait.get(event) : null;
     return fact && fact !== "none" ? fact : null;

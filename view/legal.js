@@ -76,7 +76,7 @@ function tableBitsOf(tables) {
   return { rows, changes };
 }
 
-// What a split takes, by the names of limits. A number is null where it can't be told: the widths of what crosses and the
+// What a split takes, by the names of limits. A number is null where it isn't known: the widths of what crosses and the
 // sizes of tables are declared by the source, and how many rows write-back tables have is said by the limits.
 function takenBy(answer, source, limits) {
   const tables = tablesOf(answer, source);

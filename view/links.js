@@ -75,7 +75,7 @@ class LinkDerivation extends Derivation {
     return { ...super.firstRun(), line: 0, links: makeLinks() };
   }
 
-  // A version has no more changes than commands were sent: of more nothing can be told.
+  // More changes than commands were sent can't be told from just as many.
   boundsOf(most) {
     const sent = Math.max(1, this.report.links[CTL].items);
     const { made } = versionsOf(this.report);

@@ -27,7 +27,7 @@ class RunDrawing {
     // Whether each link of a replay over links is drawn, and by which schedule.
     this.linkSchedule = null;
     this.datagrams = null;
-    // Whether each stage of a pass was an event of its own, as far as the texts tell.
+    // Whether each stage of a pass was an event of its own, as far as the texts say.
     this.isFine = schedule ? schedule.fine : isFine(report);
     this.told = toldEvents(report);
     this.derive(schedule, answer, limits);
@@ -419,7 +419,7 @@ class RunDrawing {
     const told = hidden === 0 ? [] : [`${grouped(hidden)} of ${grouped(events)} columns of events are hidden: ${
       named.join(" and ")}. The button "all" shows them, "earlier" and "later" go there.`];
     if (shared > 1) {
-      told.push(`Up to ${counted(shared, "event")} stand in one column of the screen, one behind the other. The button `
+      told.push(`Up to ${counted(shared, "event")} share one column of the screen. The button `
         + "\"closer\" draws them apart.");
     }
     this.hint.textContent = told.join(" ");

@@ -16,7 +16,7 @@ function wordOf(answer, { number, kind, field, object, width, shift }) {
   return field || (object ? `${kind} ${object}` : short[kind] || kind);
 }
 
-// Some numbers behind a word, or nothing where there are none.
+// Some numbers after a word, or nothing where there are none.
 function listed(word, numbers) {
   const shown = numbers.slice(0, 12).join(", ");
   const more = numbers.length > 12 ? ` and ${numbers.length - 12} more` : "";
@@ -147,7 +147,7 @@ class SplitDrawing {
     const shapes = samples.map(([shape, word, text]) =>
       makeWith("li", "", [make("span", `chip ${shape}`, word), make("span", "", text)]));
     const tags = [
-      ["↻", "done before the server, and again at it or after it"], ["↑", "handed up to the server"],
+      ["↻", "done before the server, and again on it or after it"], ["↑", "handed up to the server"],
       ["b4", "its block"],
     ].map(([tag, text]) => makeWith("li", "", [make("span", "tag", tag), make("span", "", text)]));
     return makeWith("ul", "legend", [...shapes, ...tags]);
@@ -195,7 +195,7 @@ class SplitDrawing {
     }
     const again = before === null ? "" : " again";
     if (slow === "carried") {
-      parts.push(this.upward.has(number) ? ", and hands it up" : ", and that counts for every packet");
+      parts.push(this.upward.has(number) ? ", and hands it up" : ", and the server doesn't do it again");
     } else if (slow === "server") {
       parts.push(`the server does it${again}${again ? ", over its own rows" : ""}`);
     } else {

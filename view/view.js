@@ -35,7 +35,7 @@ function refuse(name, { line, column, message }) {
     ...(line && lines[line - 1] !== undefined ? [drawLine(lines[line - 1], column)] : []));
 }
 
-// Reads all texts. Returns what they say, by kind; or null where one of them isn't in the form, which is then told.
+// Reads all texts. Returns what they say, by kind; or null where one of them isn't in the form, which it then says.
 function readTexts() {
   const read = new Map();
   for (const [name, { text }] of texts) {
