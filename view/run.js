@@ -24,7 +24,7 @@ class RunDrawing {
     this.meanings = meanings;
     // What speaks against the texts belonging together, as strangersOf says it.
     this.strangers = [];
-    // Whether each link of a replay over links is drawn, and by which schedule.
+    // Of a replay over links its schedule, and the drawing of its datagrams where that is certain.
     this.linkSchedule = null;
     this.datagrams = null;
     // Whether each stage of a pass was an event of its own, as far as the texts say.
@@ -274,8 +274,9 @@ class RunDrawing {
     const told = "The report says when packets were admitted, decided and released, and on which versions; so also when"
       + " the server made each version.";
     if (this.failure) {
+      const help = this.most === null && !this.isFine ? " With the split beside them more may be certain." : "";
       return `${told} The schedule is ignored here: ${this.failure}. So it isn't shown when outputs were let go and`
-        + " versions were shown.";
+        + ` versions were shown.${help}`;
     }
     if (!this.schedule) {
       const links = this.report.links.length > 0 ? " The run went over links: the events are those that came through, and"

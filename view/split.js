@@ -72,9 +72,9 @@ class SplitDrawing {
       return [];
     }
     const { rule, instruction } = this.broken;
-    const told = makeProse("p", "broken mark", `This split may not be taken: rule ${rule} is broken at instruction ${
+    const told = makeProse("p", "broken", `This split may not be taken: rule ${rule} is broken at instruction ${
       instruction.number}, ${wordOf(this.answer, instruction)}: ${SPLIT_RULES.get(rule)}.`);
-    told.tabIndex = -1;
+    told.tabIndex = 0;
     return [tellOf(told, () => this.tellInstruction(instruction))];
   }
 
