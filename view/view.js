@@ -115,6 +115,7 @@ function redraw() {
     strangers.push(...shownRun.strangers);
   }
   if (strangers.length > 0) {
+    shownRun = null;
     tellStrangers(strangers);
     return;
   }
