@@ -1,11 +1,14 @@
 "use strict";
 
-// Whether texts belong together: a source and its split, a report and its trace, and so on. Each test returns a text that
-// says what speaks against it, or null.
+// Whether texts belong together: a source and its split, a report and its trace, and so on. Each test returns a text
+// that says what speaks against it, or null.
 
 const namesOf = (names) => [...names].map((name) => `\`${name}\``).join(", ");
 
 function sourceAndAnswer({ source, answer }) {
+  if (answer.kind === "split") {
+    return null;
+  }
   if (!source.flat) {
     return `the source becomes more than ${grouped(MOST_INSTRUCTIONS)} instructions`;
   }
@@ -135,7 +138,7 @@ function scheduleAndReport({ schedule, report }) {
 
 // Each two kinds of texts, and what speaks against their belonging together.
 const PAIRS = [
-  [["source", "answer"], ({ source, answer }) => (answer.kind === "split" ? null : sourceAndAnswer({ source, answer }))],
+  [["source", "answer"], sourceAndAnswer],
   [["source", "split"], sourceAndSplit],
   [["source", "report"], ({ source, report }) => sourceAndRows(source, report, "report")],
   [["source", "run"], ({ source, run }) => sourceAndRows(source, run, "answer of run")],

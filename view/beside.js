@@ -45,8 +45,8 @@ function tokensByLine(source) {
   return lines;
 }
 
-// Where a line in which several items begin is cut: before each item, each row of a table, and each closing bracket. The
-// first cut is its beginning. Any other line has that one alone.
+// Where a line in which several items begin is cut: before each item, each row of a table, and each closing bracket.
+// The first cut is its beginning. Any other line has that one alone.
 function cutsOf(tokens, start, items, rows) {
   const begins = ({ word, at }, place) => place > 0 && (items.has(at) || rows.has(at)
     || (word === "}" && tokens[place - 1].word !== "{"));
@@ -117,12 +117,12 @@ class SourceDrawing {
   told() {
     const layout = this.isLaidOut ? " A line of the source in which several statements begin is laid out here over "
       + "several lines, for reading alone: your text stays as it is." : "";
-    const made = this.split.answer.kind === "split" ? " The split doesn't list the instructions: the page has made them "
-      + "from the source." : " The page has made these instructions from the source itself, and they are the ones that "
-      + "the split lists.";
+    const made = this.split.answer.kind === "split"
+      ? " The split doesn't list the instructions: the page has made them from the source."
+      : " The page has made these instructions from the source itself, and they are the ones that the split lists.";
     return "Each mark is an instruction of the split, with its number. Its column says where it runs. A `join` isn't "
-      + "written in the source: it is a select of the value that holds after an `if`, or after a statement that may have "
-      + `ended the run, and it is shown with that statement.${made}${layout}`;
+      + "written in the source: it is a select of the value that holds after an `if`, or after a statement that may "
+      + `have ended the run, and it is shown with that statement.${made}${layout}`;
   }
 
   fitsOf(column) {
@@ -203,8 +203,9 @@ class SourceDrawing {
     const became = given.length > 0 ? `${start}${counted(given.length, "instruction")}${turns}: ${told}.`
       : "It became no instruction: it only says which value a name has from here on, or how the run ends.";
     const mine = given.flatMap(({ instruction }) => this.split.marks[instruction.number]);
+    const column = isLaidOut ? `, column ${placeInText(this.source.text, at).column}` : "";
     return {
-      note: `Line ${line}${isLaidOut ? `, column ${placeInText(this.source.text, at).column}` : ""}. ${statement || isProcess ? became : ""}`, lines: [{ kind: "source", line }],
+      note: `Line ${line}${column}. ${statement || isProcess ? became : ""}`, lines: [{ kind: "source", line }],
       related: mine.map((element) => ({ element, name: "same" })),
     };
   }

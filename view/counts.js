@@ -95,19 +95,19 @@ function countsOfStrangers() {
   return [`strangers ${strangers.length}`, ...strangers.map((text, place) => `stranger-${place} ${text}`)];
 }
 
-// How much room the ways of packets have, how far the page reaches beyond the window, and whether the examples stand open.
+// How much room the ways of packets have, how far the page reaches beyond the window, and whether the examples stand
+// open.
 function countsOfWindow() {
   const tracks = [drawing.querySelector(".rows .row .track"), ...drawing.querySelectorAll(".band .track")];
   const widths = tracks.filter(Boolean).map(({ clientWidth }) => clientWidth);
   const nav = document.querySelector("#examples nav");
-  const facts = [...drawing.querySelectorAll(".facts div")].map(({ textContent }) => textContent);
+  const textsOf = (shape) => [...drawing.querySelectorAll(shape)].map(({ textContent }) => textContent);
   return [
     `track-width ${widths.length === 0 ? "" : Math.min(...widths)}`,
     `too-wide ${document.documentElement.scrollWidth - document.documentElement.clientWidth}`,
     `open-examples ${nav.checkVisibility() ? nav.querySelectorAll("a").length : 0}`,
-    `fact-fast ${facts.filter((fact) => fact.startsWith("never visited")).join(" ")}`,
-    `said ${[...drawing.querySelectorAll(".run > p.source, .source-part > p.source")].map(({ textContent }) => textContent)
-      .join(" ")}`,
+    `fact-fast ${textsOf(".facts div").filter((fact) => fact.startsWith("never visited")).join(" ")}`,
+    `said ${textsOf(".run > p.source, .source-part > p.source").join(" ")}`,
   ];
 }
 
@@ -156,7 +156,8 @@ function writeCounts(name, milliseconds, isMade) {
   };
   // The rows of datagrams are counted apart.
   const rowsOf = (shape) => shape.replaceAll(".rows .", ".run .timeline:not(.datagrams) .rows .");
-  const lines = Object.entries(shapes).map(([name, shape]) => [name, rowsOf(shape)]).map(([name, shape]) => `${name} ${drawing.querySelectorAll(shape).length}`);
+  const lines = Object.entries(shapes).map(([name, shape]) =>
+    `${name} ${drawing.querySelectorAll(rowsOf(shape)).length}`);
   const told = [...drawing.querySelectorAll(".crossing .told-count")].map((element) => element.textContent);
   const stages = [...drawing.querySelectorAll(".lane.switch")].map((lane) => {
     const titles = [...lane.querySelectorAll(".stage h4")].map((title) => Number(title.textContent.split(" ")[1]));
@@ -182,9 +183,10 @@ function writeCounts(name, milliseconds, isMade) {
   lines.push(`order ${[...drawing.querySelectorAll(".seat b")].map((seat) => seat.textContent).join(" ")}`);
   lines.push(`fields ${document.querySelectorAll(".fields input[type=file]").length}`,
     `links ${document.querySelectorAll("#examples:not([open]) .examples a").length}`);
-  lines.push(...countsOfWindow(), ...countsOfStages(), ...countsOfLinks(), ...countsOfSource(), ...countsOfLimits(), ...countsOfNumbers(), ...countsOfHidden(),
-    ...countsOfStrangers());
-  lines.push(isMade, `refusal ${document.getElementById("refusal").textContent}`, `milliseconds ${Math.round(milliseconds)}`);
+  lines.push(...countsOfWindow(), ...countsOfStages(), ...countsOfLinks(), ...countsOfSource(), ...countsOfLimits(),
+    ...countsOfNumbers(), ...countsOfHidden(), ...countsOfStrangers());
+  lines.push(isMade, `refusal ${document.getElementById("refusal").textContent}`,
+    `milliseconds ${Math.round(milliseconds)}`);
   const counts = make("pre", "counts", `counts of ${name}\n${lines.join("\n")}\nend of counts\n`);
   counts.hidden = true;
   document.body.append(counts);

@@ -72,7 +72,8 @@ class DatagramDrawing {
       const middle = (low + high) >> 1;
       [low, high] = performed[middle] <= line ? [middle + 1, high] : [low, middle];
     }
-    const [before, next] = [low > 0 ? performed[low - 1] : -1, low < performed.length ? performed[low] : this.lines.length];
+    const before = low > 0 ? performed[low - 1] : -1;
+    const next = low < performed.length ? performed[low] : this.lines.length;
     const share = (line - before) / (next - before);
     return low === 0 ? 0.5 + share / 2 : low === performed.length ? low + share / 2 : low + share;
   }
@@ -106,8 +107,8 @@ class DatagramDrawing {
     const numbers = numbersOfLink(link);
     const body = make("div", "rows");
     const told = numbers.items === 0 ? "nothing was given to it"
-      : `${counted(numbers.items, "item")}; ${counted(numbers.sent, "datagram")} sent, ${grouped(numbers.lost)} of them lost; ${
-        counted(numbers.arrivals, "arrival")}: ${grouped(numbers.delivered)} delivered, ${grouped(numbers.repeated)
+      : `${counted(numbers.items, "item")}; ${counted(numbers.sent, "datagram")} sent, ${
+        grouped(numbers.lost)} of them lost; ${counted(numbers.arrivals, "arrival")}: ${grouped(numbers.delivered)} delivered, ${grouped(numbers.repeated)
       } repeated, ${grouped(numbers.early)} too early; ${counted(numbers.confirmations, "confirmation")} sent back, ${
         grouped(numbers.unread)} of them never read; ${counted(numbers.known, "item")} known to be delivered`;
     const firsts = new Map();

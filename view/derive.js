@@ -17,7 +17,7 @@ const COST_OF_SEVERAL = 8;
 const EVENT_LETTERS = "aucwkhds";
 
 // How many stages a pass before the server and one after it have left as they enter: the highest stage of each, by the
-// answer of compile, where each stage is an event of its own, and else none. Null where there is no answer that says it.
+// answer of compile, where each stage is an event of its own, and else none. Null where no answer says it.
 function stagesOf(schedule, answer) {
   if (!schedule.fine) {
     return { before: 0, after: 0 };
@@ -105,8 +105,8 @@ function branchOf(run, changed) {
 }
 
 class Derivation {
-  // `stages` is what stagesOf says of passes; `most` is the greatest number of changes that a run can make, or null where
-  // no split says it; `room` is what roomOf says of batches.
+  // `stages` is what stagesOf says of passes; `most` is the greatest number of changes that a run can make, or null
+  // where no split says it; `room` is what roomOf says of batches.
   constructor(report, schedule, stages, most, room) {
     this.report = report;
     this.schedule = schedule;

@@ -28,7 +28,8 @@ function rulesBrokenBy(answer, source, instruction) {
   const isMutableLook = kind === "look" && (declared ? declared.kind !== "table" : answer.instructions.some((other) =>
     isWrite(other) && other.object === object));
   const isConstant = kind === "const" || kind === "field";
-  const isWrongStage = (stage, stages) => (isConstant ? stage !== 0 : stage === 0 || stages.some((one) => one >= stage));
+  const isWrongStage = (stage, below) =>
+    (isConstant ? stage !== 0 : stage === 0 || below.some((other) => other >= stage));
   const isPost = (giver) => giver.slow === "post";
   const guards = isWrite(instruction) ? guardsOf(answer, block).map((guard) => atValue(answer, guard.condition)) : [];
   const needed = kind === "select" ? givers.slice(0, 1) : givers;
@@ -61,8 +62,8 @@ function brokenRuleOf(answer, source) {
 
 const greatestOf = (numbers) => numbers.reduce((one, other) => Math.max(one, other), 0);
 
-// The bits of all tables on the switch: those of their rows, and those for each row of a write-back table that the limits
-// allow; or null where no source declares the objects.
+// The bits of all tables on the switch: those of their rows, and those for each row of a write-back table that the
+// limits allow; or null where no source declares the objects.
 function tableBitsOf(tables) {
   if (tables.some(({ declared }) => !declared)) {
     return null;
@@ -77,7 +78,7 @@ function tableBitsOf(tables) {
 }
 
 // What a split takes, by the names of limits. A number is null where it isn't known: the widths of what crosses and the
-// sizes of tables are declared by the source, and how many rows write-back tables have is said by the limits.
+// sizes of tables are declared by the source, and the limits say how many rows write-back tables have.
 function takenBy(answer, source, limits) {
   const tables = tablesOf(answer, source);
   const { up, down } = crossingsOf(answer);
@@ -90,14 +91,15 @@ function takenBy(answer, source, limits) {
   return new Map([
     ["accesses", greatestOf(tables.map(passes))],
     ["stages", greatestOf(answer.instructions.map(({ before, after }) => Math.max(before || 0, after || 0)))],
-    ["table_bits", bits === null || (staged === null && bits.changes > 0) ? null : bits.rows + (staged || 0) * bits.changes],
+    ["table_bits", bits === null || (staged === null && bits.changes > 0) ? null
+      : bits.rows + (staged || 0) * bits.changes],
     ["writeback", greatestOf(tables.filter(({ isReplicated }) => isReplicated).map(({ writes }) => writes.length))],
     ["transfer_bytes", upBits === null || downBits === null ? null : bytesFor(Math.max(upBits, downBits))],
   ]);
 }
 
-// Whether the number that line 2 of an answer of compile has can be what its split takes. The bits of tables are those of
-// the rows, and some number of rows of write-back tables.
+// Whether the number that line 2 of an answer of compile has can be what its split takes. The bits of tables are those
+// of the rows, and some number of rows of write-back tables.
 function canBeTold(name, told, taken, tables) {
   const bits = name === "table_bits" && taken === null ? tableBitsOf(tables) : null;
   return bits === null ? taken === null || taken === told

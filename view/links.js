@@ -6,7 +6,9 @@
 // One link: what its sender and its receiver know, and what was sent on it so far.
 class Link {
   constructor(isOrdered) {
-    Object.assign(this, { isOrdered, items: [], sent: [], delivered: new Set(), back: [], unknown: [], known: new Set() });
+    Object.assign(this, {
+      isOrdered, items: [], sent: [], delivered: new Set(), back: [], unknown: [], known: new Set(),
+    });
   }
 
   copy() {
@@ -150,7 +152,8 @@ class LinkDerivation extends Derivation {
   }
 
   isDrained(run) {
-    return super.isDrained(run) && [UP, DOWN].every((link) => run.links[link].items.length === run.links[link].delivered.size);
+    const isEmpty = ({ items, delivered }) => items.length === delivered.size;
+    return super.isDrained(run) && isEmpty(run.links[UP]) && isEmpty(run.links[DOWN]);
   }
 
   // The lines that came through, in order, each with its place among all lines; or null where that isn't certain.
@@ -173,7 +176,8 @@ function datagramsOf(report, { events }, performed) {
   };
   // Which packets the server holds is said by the events that run them and let them go.
   const held = [];
-  const decidedAt = new Map(report.packets.filter(({ way }) => way === "slow").map((packet) => [packet.decided, packet]));
+  const slow = report.packets.filter(({ way }) => way === "slow");
+  const decidedAt = new Map(slow.map((packet) => [packet.decided, packet]));
   let [sent, applied] = [0, 0];
   const perform = ({ letter, item }, place, event) => {
     if (letter === "a" && goesUp.has(event)) {

@@ -1,6 +1,7 @@
 "use strict";
 
-// Draws the packets of a run or of a replay as a table: what arrived, what became of it, and what was changed on the way.
+// Draws the packets of a run or of a replay as a table: what arrived, what became of it, and what was changed on the
+// way.
 
 // `packets` are those of an answer of run or of a report; `kind` is the kind of that text. A packet of a replay has its
 // way beside it, and may not be out yet.
@@ -45,8 +46,9 @@ function drawPacketRow(packet, trace, kind) {
   const row = makeWith("tr", `mark ${kind === "run" ? "serial-row" : "packet-row"}`, cells);
   row.tabIndex = -1;
   const became = isSent ? `was sent by port ${port}` : isOut ? "was dropped" : "isn't out yet";
+  const came = () => (arrived ? `arrived by port ${arrived.port} (${summaryOf(arrived.hex)}), and ` : "");
   return tellOf(row, () => ({
-    note: `Packet ${number} ${arrived ? `arrived by port ${arrived.port} (${summaryOf(arrived.hex)}), and ` : ""}${became}.`,
+    note: `Packet ${number} ${came()}${became}.`,
     lines: [{ kind, line }, ...(arrived ? [{ kind: "trace", line: arrived.line }] : [])],
   }));
 }

@@ -195,7 +195,8 @@ class RunDrawing {
       const place = from / CHUNK;
       if (this.seatChunks[place]) {
         this.seatChunks[place].style.height = "";
-        this.seatChunks[place].append(...order.slice(from, until).map((number, at) => this.drawSeat(number, from + at)));
+        const seats = order.slice(from, until).map((number, at) => this.drawSeat(number, from + at));
+        this.seatChunks[place].append(...seats);
       }
       this.drawPaths(from, until);
       this.addToLegend(this.rows[from].parentElement);
@@ -265,8 +266,8 @@ class RunDrawing {
 
   changesNote(bound) {
     return this.report.version === 0 ? "Nothing is left open by that."
-      : `No text says how many changes a version has (${bound}), so each number was tried, and those are kept that agree`
-        + " with the report.";
+      : `No text says how many changes a version has (${bound}), so each number was tried, and those are kept that`
+        + " agree with the report.";
   }
 
   // What of the drawing stands in the report, and what is derived and how.
@@ -279,8 +280,8 @@ class RunDrawing {
         + ` versions were shown.${help}`;
     }
     if (!this.schedule) {
-      const links = this.report.links.length > 0 ? " The run went over links: the events are those that came through, and"
-        + " with the schedule beside it the page shows what became of each datagram." : "";
+      const links = this.report.links.length > 0 ? " The run went over links: the events are those that came through,"
+        + " and with the schedule beside it the page shows what became of each datagram." : "";
       return `${told} It doesn't say when an output was let go, nor when the switch showed a version: that is only`
         + ` bounded by what packets saw and when they left. With the schedule beside it more can be derived.${links}`;
     }
@@ -524,7 +525,8 @@ class RunDrawing {
   drawOrder() {
     const { order, packets } = this.report;
     const height = Math.max(1, packets.length) * ROW_HEIGHT;
-    this.slopes = makeVector("svg", { viewBox: `0 0 60 ${height}`, height, class: "slopes", preserveAspectRatio: "none" });
+    const viewBox = `0 0 60 ${height}`;
+    this.slopes = makeVector("svg", { viewBox, height, class: "slopes", preserveAspectRatio: "none" });
     this.seatChunks = Array.from({ length: Math.ceil(order.length / CHUNK) }, (_, place) => {
       const chunk = make("div", "chunk");
       chunk.style.height = `${Math.min(CHUNK, order.length - place * CHUNK) * ROW_HEIGHT}px`;
@@ -559,7 +561,8 @@ class RunDrawing {
       return Math.min(number, place) < until && Math.max(number, place) >= from;
     };
     const here = Array.from({ length: until - from }, (_, at) => from + at).filter((number) => this.places.has(number));
-    [...here, ...order.slice(from, until), ...this.longPaths.filter(isAcross)].forEach((number) => this.drawPath(number));
+    const inSight = [...here, ...order.slice(from, until), ...this.longPaths.filter(isAcross)];
+    inSight.forEach((number) => this.drawPath(number));
   }
 
   drawPath(number) {

@@ -84,10 +84,11 @@ class SplitDrawing {
     const wrong = [...(told || [])].filter(([name, number]) =>
       !canBeTold(name, number, this.taken.get(name), this.tables));
     const parts = wrong.map(([name, number]) => `${name} ${grouped(number)}`);
+    const limits = this.limits ? "" : " with any limits";
     return wrong.length === 0 ? [] : [makeProse("p", "source stale",
-      `Line 2 of the answer says ${parts.join(" and ")}. The split doesn't take that${this.limits ? "" : " with any limits"
-      }, so the split, the limits or the sizes of objects have changed since. The numbers above are counted from the ${
-        this.source ? "source and the split" : "split"}.`)];
+      `Line 2 of the answer says ${parts.join(" and ")}. The split doesn't take that${limits}, so the split, the limits `
+      + "or the sizes of objects have changed since. The numbers above are counted from the "
+      + `${this.source ? "source and the split" : "split"}.`)];
   }
 
   // A number that the split takes, in words, and as a number where it is known. What can't be counted here is what the

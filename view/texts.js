@@ -79,8 +79,8 @@ class LineReader {
     throw new Refusal(this.number, `expected ${wanted}${this.ended ? ", but the text ends here" : ""}`);
   }
 
-  // The parts of the next line where it fits the pattern; the walk then goes on after it. A pattern of whole lines may be
-  // a regular expression.
+  // The parts of the next line where it fits the pattern; the walk then goes on after it. A pattern of whole lines may
+  // be a regular expression.
   match(pattern) {
     const form = pattern instanceof RegExp ? pattern : wholeLine(pattern);
     const parts = this.ended ? null : form.exec(this.lines[this.place]);
@@ -503,6 +503,6 @@ function kindOf(text, name = "") {
   if (/\bprocess\b/.test(text) || /^\s*(\/\/|(table|map|vector|int)\b)/.test(line)) {
     return "source";
   }
-  throw new Refusal(place + 1, "the page doesn't know this text: it begins like nothing that `compile`, `run` or `replay` "
-    + "reads or prints");
+  throw new Refusal(place + 1, "the page doesn't know this text: it begins like nothing that `compile`, `run` or "
+    + "`replay` reads or prints");
 }

@@ -86,8 +86,8 @@ function tellStrangers(strangers) {
     make("p", "", "Take one of them away with its ×, or give the one that belongs to the others."));
 }
 
-// Reads all texts anew and draws what they say. Where one of them isn't in the form, or where they don't belong together,
-// nothing is drawn.
+// Reads all texts anew and draws what they say. Where one of them isn't in the form, or where they don't belong
+// together, nothing is drawn.
 function redraw() {
   const isEmpty = texts.size === 0;
   drawing.replaceChildren();
@@ -144,7 +144,8 @@ function missingFor(read) {
   if (source && !source.flat) {
     return `The source becomes more than ${grouped(MOST_INSTRUCTIONS)} instructions, so it can't be split.`;
   }
-  return read.has("split") ? "A split that lists no instructions is drawn with its source beside it: give the source too."
+  return read.has("split")
+    ? "A split that lists no instructions is drawn with its source beside it: give the source too."
     : "Nothing is drawn yet: give what `compile`, `replay` or `run` prints too.";
 }
 
