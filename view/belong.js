@@ -1,52 +1,14 @@
 "use strict";
 
-// Whether texts belong together: a source and its split, a report and its trace, and so on. Each test answers a text
+// Whether texts belong together: a source and its split, a report and its trace, and so on. Each test returns a text
 // that says what speaks against it, or null.
 
 const namesOf = (names) => [...names].map((name) => `\`${name}\``).join(", ");
 
-// What the parts of an answer of compile make of the counts in its second line, as far as that can be told.
-function countsOf(answer, source) {
-  const tables = tablesOf(answer, source);
-  const { up, down } = crossingsOf(answer);
-  const widths = widthsOf(answer, source);
-  const [upBits, downBits] = [bitsOf(up, widths), bitsOf(down, widths)];
-  const most = (numbers) => numbers.reduce((one, other) => Math.max(one, other), 0);
-  const passes = ({ looks }) => looks.reduce((sum, { before, after }) =>
-    sum + (before === null ? 0 : 1) + (after === null ? 0 : 1), 0);
-  return new Map([
-    ["accesses", most(tables.map(passes))],
-    ["stages", most(answer.instructions.map(({ before, after }) => Math.max(before || 0, after || 0)))],
-    ["writeback", most(tables.filter(({ isReplicated }) => isReplicated).map(({ writes }) => writes.length))],
-    ["transfer_bytes", upBits === null || downBits === null ? null : bytesFor(Math.max(upBits, downBits))],
-  ]);
-}
-
-function wrongCount(answer, source) {
-  const isWrong = ([name, count]) => count !== null && count !== answer.counts.get(name);
-  const found = [...countsOf(answer, source)].find(isWrong);
-  return found ? `the second line of the answer tells ${found[0]} ${grouped(answer.counts.get(found[0]))}, and its `
-    + `instructions take ${grouped(found[1])}` : null;
-}
-
-// The bits of tables are those of the declared objects, and some number of rows of write-back tables.
-function wrongTableBits(source, answer, limits) {
-  const sum = (numbers) => numbers.reduce((one, other) => one + other, 0);
-  let [rows, changes] = [0, 0];
-  for (const { declared, onSwitch, isReplicated } of tablesOf(answer, source)) {
-    const bits = sum([...declared.keys, ...declared.values]);
-    rows += onSwitch && (isReplicated || declared.kind === "table") ? declared.rows * bits : 0;
-    changes += isReplicated ? bits + 1 : 0;
+function sourceAndAnswer({ source, answer }) {
+  if (answer.kind === "split") {
+    return null;
   }
-  const have = answer.counts.get("table_bits");
-  const allowed = limits && limits.limits.get("writeback");
-  const isPossible = allowed !== undefined && allowed !== null ? have === rows + allowed * changes
-    : have >= rows && (changes === 0 ? have === rows : (have - rows) % changes === 0);
-  return isPossible ? null : `by the objects that the source declares, the tables on the switch don't have the ${
-    grouped(have)} bits that the answer tells`;
-}
-
-function sourceAndAnswer({ source, answer, limits }) {
   if (!source.flat) {
     return `the source becomes more than ${grouped(MOST_INSTRUCTIONS)} instructions`;
   }
@@ -66,7 +28,16 @@ function sourceAndAnswer({ source, answer, limits }) {
     return `the source becomes \`${lines[at] || "nothing more"}\`, where the answer of compile has \`${
       others[at] || "nothing more"}\``;
   }
-  return wrongTableBits(source, answer, limits);
+  return null;
+}
+
+function sourceAndSplit({ source, split }) {
+  if (!source.flat) {
+    return `the source becomes more than ${grouped(MOST_INSTRUCTIONS)} instructions`;
+  }
+  const [have, told] = [source.flat.instructions.length, split.parts.length];
+  return have === told ? null
+    : `the source becomes ${counted(have, "instruction")}, and the split has a line for ${grouped(told)}`;
 }
 
 // Whether rows can be those of the objects that a source declares: the server's, and those that the switch shows.
@@ -74,12 +45,12 @@ function sourceAndRows(source, { objects: parts, tables }, title) {
   const kept = [...source.objects].filter(([, { kind }]) => kind !== "table");
   const [wanted, have] = [kept.map(([name]) => name), parts.map(({ name }) => name)];
   if (wanted.join(" ") !== have.join(" ")) {
-    return `the source has the objects ${namesOf(wanted) || "none"}, and the ${title} tells of ${
+    return `the source has the objects ${namesOf(wanted) || "none"}, and the ${title} has ${
       namesOf(have) || "none"}`;
   }
   const foreign = tables.map(({ name }) => name).filter((name) => !wanted.includes(name));
   if (foreign.length > 0) {
-    return `the source has no object ${namesOf(foreign)}, of which the ${title} tells what the switch shows`;
+    return `the source has no object ${namesOf(foreign)}, of which the ${title} has the rows that the switch shows`;
   }
   for (const { name, rows } of [...parts, ...tables]) {
     const { kind, keys, values, rows: size } = source.objects.get(name);
@@ -101,7 +72,7 @@ const numbersOf = (text) => (text === "" ? [] : text.split(" "));
 // Whether packets left with as many bytes as they arrived with.
 function traceAndPackets(trace, packets, total, title) {
   if (trace.packets.length !== total) {
-    return `the trace has ${counted(trace.packets.length, "packet")}, and the ${title} tells of ${grouped(total)}`;
+    return `the trace has ${counted(trace.packets.length, "packet")}, and the ${title} has ${grouped(total)}`;
   }
   const isSent = ({ port }) => port !== undefined && port !== null;
   const isOther = (packet) => isSent(packet) && packet.bytes !== trace.packets[packet.number].bytes;
@@ -130,10 +101,10 @@ function reportAndAnswer({ report, answer, source }) {
   const rows = new Set(report.objects.map(({ name }) => name));
   const unknown = tables.filter(({ name, writes }) => writes.length > 0 && !rows.has(name)).map(({ name }) => name);
   if (unknown.length > 0) {
-    return `the split changes ${namesOf(unknown)}, of which the report tells no rows`;
+    return `the split changes ${namesOf(unknown)}, of which the report has no rows`;
   }
   if (mostChangesOf(answer, report) === null) {
-    return `the split makes no change that the switch keeps, and the report tells of version ${
+    return `the split makes no change that the switch keeps, and the report has version ${
       grouped(report.version)}`;
   }
   const outside = blocksOutside(answer);
@@ -147,24 +118,35 @@ function reportAndAnswer({ report, answer, source }) {
 
 function reportAndRun({ report, run }) {
   if (report.total !== run.packets.length) {
-    return `the report tells of ${counted(report.total, "packet")}, and the answer of run of ${
+    return `the report has ${counted(report.total, "packet")}, and the answer of run ${
       grouped(run.packets.length)}`;
   }
   const [one, other] = [report, run].map(({ objects }) => objects.map(({ name }) => name).join(" "));
-  return one === other ? null : "they tell the rows of other objects";
+  return one === other ? null : "they have the rows of other objects";
+}
+
+// Which lines of a schedule over links come through is found where its run is derived.
+function scheduleAndReport({ schedule, report }) {
+  if (report.links.length === 0) {
+    return schedule.linked ? "the schedule is one over links, and the report isn't one of `lossy`"
+      : strangenessOf(report, schedule);
+  }
+  const other = schedule.drain ? "drain" : schedule.fine ? "fine" : schedule.events.some(({ letter }) => letter === "s")
+    ? "s" : null;
+  return other ? `the report is one of \`lossy\`, and a schedule over links has no \`${other}\`` : null;
 }
 
 // Each two kinds of texts, and what speaks against their belonging together.
 const PAIRS = [
-  [["answer"], ({ answer, source }) => wrongCount(answer, source && source.flat ? source : null)],
   [["source", "answer"], sourceAndAnswer],
+  [["source", "split"], sourceAndSplit],
   [["source", "report"], ({ source, report }) => sourceAndRows(source, report, "report")],
   [["source", "run"], ({ source, run }) => sourceAndRows(source, run, "answer of run")],
   [["answer", "report"], reportAndAnswer],
   [["trace", "report"], ({ trace, report }) => traceAndPackets(trace, report.packets, report.total, "report")],
   [["trace", "run"], ({ trace, run }) => traceAndPackets(trace, run.packets, run.packets.length, "answer of run")],
   [["run", "report"], reportAndRun],
-  [["schedule", "report"], ({ schedule, report }) => strangenessOf(report, schedule)],
+  [["schedule", "report"], scheduleAndReport],
 ];
 
 // What speaks against the texts belonging together: [{ kinds, why }].
@@ -172,7 +154,7 @@ function strangersOf(read) {
   const texts = Object.fromEntries(read);
   const found = [];
   for (const [kinds, test] of PAIRS) {
-    // Where the source isn't that of the split, its widths and objects would make further tests mean nothing.
+    // Where the source isn't that of the split, its widths and objects would make further tests meaningless.
     const isTold = found.some((other) => other.kinds.every((kind) => kinds.includes(kind)));
     const why = kinds.every((kind) => read.has(kind)) && !isTold ? test(texts) : null;
     if (why) {

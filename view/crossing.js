@@ -115,7 +115,7 @@ class Widths extends Groups {
 const COMPARISONS = new Set(["eq", "ne", "lt", "le"]);
 const isAccess = ({ kind }) => kind === "look" || kind === "put" || kind === "del";
 
-// How many keys each object has, as far as the source or a look or a del tells it.
+// How many keys each object has, as far as the source or a look or a del says it.
 function keyCountsOf(program, source) {
   const counts = new Map();
   for (const { kind, object, operands } of program.instructions) {
@@ -147,7 +147,7 @@ function joinAlike(program, { kind, number, object, operands }, keyCounts, join)
     join(valueName(value), `${atValue(program, value).object} value ${value.result - 1}`));
 }
 
-// The widths of values as far as operators, fields, constants and the declarations of a source tell them.
+// The widths of values as far as operators, fields, constants and the declarations of a source say them.
 function widthsOf(answer, source) {
   const widths = new Widths();
   const keyCounts = keyCountsOf(answer, source);

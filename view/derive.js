@@ -1,14 +1,14 @@
 "use strict";
 
 // What a report makes certain of a run when its schedule stands beside it, and, where each stage of a pass is an event
-// of its own, the split, which tells how many stages passes take. What none of them tells is how many changes each
+// of its own, the split, which says how many stages passes take. What none of them says is how many changes each
 // version has, and how many of those that wait find room in a batch that begins to be sent. So every number that is
-// possible is tried; of the runs of the schedule that come of it, those are kept that do just what the report tells.
+// possible is tried; of the runs of the schedule that come of it, those are kept that do just what the report says.
 // What is the same in all of them is certain.
 
 // How many runs are followed at once, and how many steps are taken in all; where there are several runs, each step
 // costs more. Of more runs than a few, those that differ only in how many events were idle are taken together, so that
-// less may be told as certain than is.
+// less may be shown as certain than is.
 const FEW_RUNS = 40;
 const MOST_RUNS = 600;
 const MOST_STEPS = 3000000;
@@ -16,8 +16,8 @@ const COST_OF_SEVERAL = 8;
 
 const EVENT_LETTERS = "aucwkhds";
 
-// How many stages a pass before the server and one behind it have left as they enter: the highest stage of each, by the
-// answer of compile, where each stage is an event of its own, and else none. Null where there is no answer to tell it.
+// How many stages a pass before the server and one after it have left as they enter: the highest stage of each, by the
+// answer of compile, where each stage is an event of its own, and else none. Null where no answer says it.
 function stagesOf(schedule, answer) {
   if (!schedule.fine) {
     return { before: 0, after: 0 };
@@ -56,7 +56,7 @@ function mostChangesOf(answer, report) {
 }
 
 // The greatest number of changes that one run of a packet can make to one object that the switch keeps, to how many
-// objects it can make changes at all, and how many rows can be staged for each; or null where no limits tell that.
+// objects it can make changes at all, and how many rows can be staged for each; or null where no limits say that.
 function roomOf(answer, limits) {
   const staged = limits ? limits.limits.get("writeback") : null;
   if (typeof staged !== "number") {
@@ -99,13 +99,14 @@ function waitOfCommand(run) {
 // A run beside this one, which goes on by itself.
 function branchOf(run, changed) {
   return {
-    ...run, passes: [...run.passes], up: [...run.up], held: [...run.held], down: [...run.down], ...changed,
+    ...run, passes: [...run.passes], up: [...run.up], held: [...run.held], down: [...run.down],
+    links: run.links && run.links.map((link) => link.copy()), ...changed,
   };
 }
 
 class Derivation {
-  // `stages` is what stagesOf tells of passes; `most` is the greatest number of changes that a run can make, or null
-  // where no split tells it; `room` is what roomOf tells of batches.
+  // `stages` is what stagesOf says of passes; `most` is the greatest number of changes that a run can make, or null
+  // where no split says it; `room` is what roomOf says of batches.
   constructor(report, schedule, stages, most, room) {
     this.report = report;
     this.schedule = schedule;
@@ -117,8 +118,9 @@ class Derivation {
     this.ranges = {
       changes: new Map(), shown: new Map(), known: new Map(), letGo: new Map(), wentUp: new Map(), cameDown: new Map(),
     };
-    // For each event the stage that a pass took, or what a `w` that was idle waited for; null where it isn't certain.
-    this.facts = { stage: new Map(), wait: new Map() };
+    // For each event the stage that a pass took, what a `w` that was idle waited for, or the line of the schedule that
+    // the event is; null where it isn't certain.
+    this.facts = { stage: new Map(), wait: new Map(), line: new Map() };
     // Why nothing could be derived: a text, or null.
     this.failure = null;
     if (report.events > MOST_STEPS) {
@@ -132,11 +134,20 @@ class Derivation {
     this.most = this.boundsOf(most);
     this.admitted = 0;
     this.version = 0;
-    this.runs = [{
-      passes: [], up: [], held: [], down: [], pending: [], total: 0, sent: 0, applied: 0, acknowledged: 0, visible: 0,
-      known: 0, leastIdle: 0, mostIdle: 0, done: null, history: null,
-    }];
+    this.runs = [this.firstRun()];
     this.follow();
+  }
+
+  firstRun() {
+    return {
+      passes: [], up: [], held: [], down: [], pending: [], total: 0, sent: 0, applied: 0, acknowledged: 0, visible: 0,
+      known: 0, leastIdle: 0, mostIdle: 0, done: null, history: null, links: null,
+    };
+  }
+
+  // What the run performs as its next event, or null where nothing is left.
+  nextOf(run, event) {
+    return this.schedule.events[event - 1] || this.turnOf(run);
   }
 
   // How many events with the letter there are up to each event, at most: of three events of drain one is a `c`, and of
@@ -150,8 +161,8 @@ class Derivation {
 
   // For each version, how many changes it can have at most. Where the switch showed the version, a command for each of
   // its changes, one at least for each earlier version, and the one that shows them were applied before. Where not all
-  // commands are sent in the end, more changes than commands that were sent behind the version can't be told from just
-  // as many: such versions stand in `orMore`. What drain makes is acknowledged before the report tells of another event,
+  // commands are sent in the end, more changes than commands that were sent after the version can't be told from just
+  // as many: such versions stand in `orMore`. What drain makes is acknowledged before the report has another event,
   // so it goes in a batch of its own.
   boundsOf(most) {
     const { report, schedule } = this;
@@ -177,14 +188,14 @@ class Derivation {
 
   // Goes through all events with all runs that the report leaves open.
   follow() {
-    const { report, schedule } = this;
+    const { report } = this;
     let steps = 0;
     for (let event = 1; event <= report.events; event += 1) {
       const isOne = this.runs.length === 1;
       const told = this.told.get(event);
       const next = [];
       for (const run of this.runs) {
-        const given = schedule.events[event - 1] || this.turnOf(run);
+        const given = this.nextOf(run, event, isOne);
         if (given && this.perform(run, given, event, told, isOne)) {
           next.push(...(given.letter === "c" ? this.takingsOf(run) : this.branchesOf(run, told)));
         }
@@ -196,11 +207,11 @@ class Derivation {
         this.runs = this.merged(this.runs, false);
       }
       if (this.runs.length > MOST_RUNS || steps > MOST_STEPS) {
-        this.failure = "report and schedule leave more runs open than this page follows";
+        this.failure = "the report and the schedule leave more runs open than this page follows";
         return;
       }
       if (this.runs.length === 0) {
-        this.failure = `no run of the schedule does what the report tells up to event ${grouped(event)}`;
+        this.failure = `no run of the schedule does what the report says up to event ${grouped(event)}`;
         this.isOther = true;
         return;
       }
@@ -208,14 +219,14 @@ class Derivation {
     }
     this.runs = this.runs.filter((run) => this.isEnd(run));
     if (this.runs.length === 0) {
-      this.failure = "no run of the schedule ends as the report tells";
+      this.failure = "no run of the schedule ends as the report says";
       this.isOther = true;
       return;
     }
     this.runs.forEach((run) => this.takeHistory(run));
   }
 
-  // What drain performs next: the first event that applies, or null. Behind `s 0` no pass is under way, so no command
+  // What drain performs next: the first event that applies, or null. After `s 0` no pass is under way, so no command
   // waits for one.
   turnOf({ passes, up, held, down, total, sent, applied, acknowledged, known }) {
     if (passes.length > 0) {
@@ -242,7 +253,7 @@ class Derivation {
     return this.admitted < this.report.total ? { letter: "a", item: 0 } : null;
   }
 
-  // Performs the event in the run. Answers whether the run does what the report tells of the event.
+  // Performs the event in the run. Returns whether the run does what the report says of the event.
   perform(run, { letter, item }, event, told, isOne) {
     if (event > this.schedule.events.length) {
       this.note(run, isOne, "letter", event, EVENT_LETTERS.indexOf(letter));
@@ -264,7 +275,7 @@ class Derivation {
       && (what !== "decided" || packet.version === this.version || packet.version === this.version + 1);
   }
 
-  // Performs the event where it applies. Answers whether it does; what the report then has to tell of it is `run.done`.
+  // Performs the event where it applies. Returns whether it does; what the report then has to say of it is `run.done`.
   apply(run, letter, item, event, isOne) {
     if (letter === "a") {
       return this.admit(run, event, isOne);
@@ -291,7 +302,7 @@ class Derivation {
       const isFree = item < run.held.length && run.held[item].version <= run.known;
       if (isFree) {
         const [packet] = run.held.splice(item, 1);
-        run.down.push(packet);
+        this.sendDown(run, packet);
         this.note(run, isOne, "letGo", packet.number, event);
       }
       return isFree;
@@ -341,19 +352,28 @@ class Derivation {
     return true;
   }
 
-  // A pass ends. Before the server a fast packet is released by it, any other goes up, and none may be told to be under
-  // way still; behind the server the packet is released.
+  // A pass ends. Before the server a fast packet is released by it, any other goes up, and the report may not have it
+  // under way still; after the server the packet is released.
   endPass(run, { packet, isFirst }, event, isOne) {
     if (!isFirst || (packet.way === "fast" && this.stages.before > 0)) {
       run.done = { what: "released", packet };
     } else if (packet.way === "pass") {
       run.done = { what: "ended", packet };
     } else if (packet.way !== "fast") {
-      run.up.push(packet);
+      this.sendUp(run, packet);
       if (this.stages.before > 0) {
         this.note(run, isOne, "wentUp", packet.number, event);
       }
     }
+  }
+
+  // A packet goes up to the server, or down from it.
+  sendUp(run, packet) {
+    run.up.push(packet);
+  }
+
+  sendDown(run, packet) {
+    run.down.push(packet);
   }
 
   command(run, letter, event, isOne) {
@@ -413,7 +433,7 @@ class Derivation {
   }
 
   // Where the command that was sent is the first of its batch, a run for each number of batches that this one can have
-  // taken up before. It takes up those behind it, one after the other, until one doesn't find room.
+  // taken up before. It takes up those after it, one by one, until one doesn't find room.
   takingsOf(run) {
     const place = run.pending.findIndex((batch) => startOf(batch) === run.sent - 1);
     const runs = [];
@@ -443,7 +463,7 @@ class Derivation {
     }
   }
 
-  // What the report tells is the same in all runs.
+  // What the report says is the same in all runs.
   takeTold(told) {
     if (told && told.what === "admitted") {
       this.admitted += 1;
@@ -482,7 +502,7 @@ class Derivation {
       "up", ...up.map(({ number }) => number)];
   }
 
-  // Where one run is left, all that lies behind it is settled.
+  // Where one run is left, all that it did is settled.
   settle() {
     if (this.runs.length === 1 && this.runs[0].history !== null) {
       this.takeHistory(this.runs[0]);
@@ -531,11 +551,15 @@ class Derivation {
 
   isEnd(run) {
     const { report, schedule } = this;
-    const isDrained = this.turnOf(run) === null && run.held.length === 0;
+    const isDrained = this.isDrained(run);
     return run.leastIdle <= report.idle && run.mostIdle >= report.idle
       && run.visible === report.visible && this.version === report.version
       && run.passes.every(({ packet, isFirst }) => !isFirst || packet.way === "pass")
       && isDrained === report.drained && (isDrained || !schedule.drain);
+  }
+
+  isDrained(run) {
+    return this.turnOf(run) === null && run.held.length === 0;
   }
 
   // The letter of an event of drain, or null where it isn't certain.
@@ -572,7 +596,7 @@ class Derivation {
     return { number: Number(number), pass, stage: stages - Number(left) + 1, stages };
   }
 
-  // What an idle `w` waited for, as waitOfCommand tells it; or null where it didn't wait, or that isn't certain.
+  // What an idle `w` waited for, as waitOfCommand says it; or null where it didn't wait, or that isn't certain.
   waitAt(event) {
     const fact = this.stateOf(event) === "idle" ? this.facts.wait.get(event) : null;
     return fact && fact !== "none" ? fact : null;

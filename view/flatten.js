@@ -49,7 +49,7 @@ class Flattening {
       .map(([field]) => ({ field, value: end.fields.get(field) }));
   }
 
-  // One more instruction; answers its first result.
+  // One more instruction; returns its first result.
   give({ block, loop }, parts) {
     const number = this.instructions.length;
     if (number === MOST_INSTRUCTIONS) {
@@ -94,7 +94,7 @@ class Flattening {
       : this.give(place, { kind: "select", width, operands: [by, one, other], chooses: true });
   }
 
-  // What stands behind two ways: the first where the value is 1.
+  // What stands after two ways: the first where the value is 1.
   join(place, by, first, second) {
     const locals = [];
     this.source.locals.forEach(({ width }, local) => {

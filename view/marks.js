@@ -20,6 +20,13 @@ function makeWith(tag, classes, children) {
   return element;
 }
 
+// A text in which code stands between two backticks.
+function makeProse(tag, classes, text) {
+  return makeWith(tag, classes, proseOf(text));
+}
+
+const proseOf = (text) => text.split("`").map((part, place) => (place % 2 === 1 ? make("code", "", part) : part));
+
 function makeVector(tag, attributes) {
   const element = document.createElementNS("http://www.w3.org/2000/svg", tag);
   Object.entries(attributes).forEach(([name, value]) => element.setAttribute(name, value));
@@ -29,7 +36,7 @@ function makeVector(tag, attributes) {
 const counted = (number, word, words) => `${grouped(number)} ${number === 1 ? word : words || `${word}s`}`;
 const grouped = (number) => String(number).replace(/\B(?=(\d{3})+$)/g, ",");
 
-// For an element, what is told of it and of the marks in it: a function of the mark that answers
+// For an element, what is said of it and of the marks in it: a function of the mark that returns
 // { note, lines: [{ kind, line }], related: [elements] }.
 const tellers = new WeakMap();
 
@@ -49,14 +56,14 @@ function tellerAbove(element) {
 let shownTexts = new Map();
 let marked = [];
 
-// Tells of the mark: its note, and each line of a text that it stands for.
+// Says what the mark is: its note, and each line of a text that it stands for.
 function tell(target) {
   const place = tellerAbove(target);
   if (!place) {
     return;
   }
   const { note, lines, related } = tellers.get(place)(target);
-  document.getElementById("note").textContent = note;
+  document.getElementById("note").replaceChildren(...proseOf(note));
   const list = document.getElementById("lines");
   list.replaceChildren(...lines.filter(({ line }) => line).map(({ kind, line }) => makeWith("li", "", [
     make("span", "where", `${TEXT_KINDS.get(kind).title}, line ${line}`),

@@ -37,7 +37,7 @@ function drawVersions(run) {
   return [part];
 }
 
-// What a range tells, or what there is to say where it doesn't.
+// A range in words, or what there is to say where there is none.
 function rangeCell(range, otherwise, behind) {
   return range ? `${rangeOf(range, "").replace(" to ", " – ")}${behind || ""}` : otherwise;
 }
@@ -47,28 +47,30 @@ function drawVersion(run, version) {
   const maker = versions.makers[version];
   const { changes, shown, known } = derived ? derived.ranges
     : { changes: new Map(), shown: new Map(), known: new Map() };
-  const none = derived ? "not yet" : "not told";
+  const none = derived ? "not yet" : "not known";
   const orMore = derived && derived.orMore.has(version) && changes.get(version)
     && changes.get(version).most === derived.most[version] ? " or more" : "";
   const isOpen = derived && known.has(version) && !derived.isKnown(version) ? ", or not yet" : "";
-  const bounds = versions.shown[version] === null ? "not told"
+  const bounds = versions.shown[version] === null ? "not known"
     : rangeCell({ least: versions.notYet[version] + 1, most: versions.shown[version] });
   const cells = [
-    version, maker ? grouped(versions.made[version]) : "not told", maker ? maker.number : "–",
-    rangeCell(changes.get(version), "not told", orMore),
+    version, maker ? grouped(versions.made[version]) : "not known", maker ? maker.number : "–",
+    rangeCell(changes.get(version), "not known", orMore),
     derived ? rangeCell(shown.get(version), none) : bounds, rangeCell(known.get(version), none, isOpen),
   ].map((text) => make("td", "", text));
   const row = makeWith("tr", "mark version-row", cells);
   row.tabIndex = -1;
-  const waiting = run.report.packets.filter((packet) => packet.way === "slow" && packet.version === version);
-  return tellOf(row, () => ({
-    note: `Version ${version}: ${counted(waiting.length, "output", "outputs")} may go only when it is acknowledged.`,
-    lines: maker ? [{ kind: "report", line: maker.line }] : [],
-    related: waiting.flatMap(({ number }) => run.relatedTo(number)),
-  }));
+  return tellOf(row, () => {
+    const waiting = run.report.packets.filter((packet) => packet.way === "slow" && packet.version === version);
+    return {
+      note: `Version ${version}: ${counted(waiting.length, "output", "outputs")} may go only when it is acknowledged.`,
+      lines: maker ? [{ kind: "report", line: maker.line }] : [],
+      related: waiting.flatMap(({ number }) => run.relatedTo(number)),
+    };
+  });
 }
 
-// `kind` is the kind of the text that tells the rows.
+// `kind` is the kind of the text that has the rows.
 function drawState(report, kind, meanings) {
   const tables = new Map(report.tables.map((part) => [part.name, part]));
   const objects = new Map(report.objects.map((part) => [part.name, part]));
@@ -78,7 +80,7 @@ function drawState(report, kind, meanings) {
   const state = makeWith("div", "state", [
     make("h3", "", "Rows at the end"),
     ...(meanings || parts.length === 0 ? [] : [make("p", "source",
-      "Addresses are told as such where the source or the split stands beside the rows.")]),
+      "With the source or the split beside the rows, addresses are written as such.")]),
     makeWith("div", "objects", parts.length ? parts : [none]),
   ]);
   letKeysMove(state, "tbody", "tbody");

@@ -2,8 +2,8 @@
 
 // Draws the report of a replay: the way of each packet by event number, versions, the serial order, and the rows.
 
-const CHUNK = 100;
-const ROW_HEIGHT = 24;
+// So much room a number of an event takes at least.
+const TICK_WIDTH = 45;
 
 // A number that is between two, with a word before each.
 function rangeOf({ least, most }, word) {
@@ -11,7 +11,10 @@ function rangeOf({ least, most }, word) {
 }
 
 // How many stages passes take, in words.
-const stagesText = ({ before, after }) => `${counted(before, "stage")} before the server and ${after} behind it`;
+const stagesText = ({ before, after }) => `${counted(before, "stage")} before the server and ${after} after it`;
+
+// A part of a whole in percent, with one digit after the point.
+const percentOf = (part, whole) => `${(100 * part / whole).toFixed(1)}%`;
 
 class RunDrawing {
   // Beside the report stand the texts that are there: schedule, trace and answer, and what numbers mean.
@@ -19,9 +22,12 @@ class RunDrawing {
     this.report = report;
     this.trace = trace;
     this.meanings = meanings;
-    // What speaks against the texts belonging together, as strangersOf tells it.
+    // What speaks against the texts belonging together, as strangersOf says it.
     this.strangers = [];
-    // Whether each stage of a pass was an event of its own, as far as the texts tell.
+    // Of a replay over links its schedule, and the drawing of its datagrams where that is certain.
+    this.linkSchedule = null;
+    this.datagrams = null;
+    // Whether each stage of a pass was an event of its own, as far as the texts say.
     this.isFine = schedule ? schedule.fine : isFine(report);
     this.told = toldEvents(report);
     this.derive(schedule, answer, limits);
@@ -43,14 +49,36 @@ class RunDrawing {
     this.schedule = schedule;
     this.most = schedule && answer ? mostChangesOf(answer, report) : null;
     const room = this.most === null ? null : roomOf(answer, limits);
-    const stages = schedule ? stagesOf(schedule, answer) : null;
     this.derived = null;
-    this.failure = schedule && !stages ? "each stage of a pass is an event of its own, and how many stages passes take "
-      + "is told by the split alone, so what compile prints is needed beside the report" : null;
-    if (!schedule || this.failure) {
+    this.failure = null;
+    if (schedule && report.links.length > 0) {
+      this.deriveOverLinks(schedule, room);
       return;
     }
-    const derivation = new Derivation(report, schedule, stages, this.most, room);
+    const stages = schedule ? stagesOf(schedule, answer) : null;
+    this.failure = schedule && !stages ? "each stage of a pass is an event of its own, and how many stages passes take "
+      + "is said by the split alone, so give what compile prints too" : null;
+    if (schedule && !this.failure) {
+      this.takeDerivation(new Derivation(report, schedule, stages, this.most, room));
+    }
+  }
+
+  // The schedule of a replay over links says which events came through. Where that isn't certain, it is ignored.
+  deriveOverLinks(schedule, room) {
+    this.linkSchedule = schedule;
+    this.schedule = undefined;
+    this.takeDerivation(new LinkDerivation(this.report, schedule, this.most, room));
+    const performed = this.derived && this.derived.performed;
+    if (this.derived && !performed) {
+      this.derived = null;
+      this.failure = "it isn't certain which of its lines came through";
+    } else if (performed) {
+      this.schedule = { ...schedule, events: performed.map((place) => schedule.events[place]) };
+      this.datagrams = new DatagramDrawing(this, datagramsOf(this.report, schedule, performed), performed);
+    }
+  }
+
+  takeDerivation(derivation) {
     if (derivation.isOther) {
       this.tellOther(derivation);
     } else if (derivation.failure) {
@@ -60,11 +88,13 @@ class RunDrawing {
     }
   }
 
-  // No run does what the report tells. Where without the changes of the split one does, it is another split; else
+  // No run does what the report says. Where without the changes of the split one does, it is another split; else
   // another schedule, or, where each stage is an event, another split or schedule.
-  tellOther({ failure, stages }) {
-    const { report, schedule } = this;
-    const isSplit = this.most !== null && !new Derivation(report, schedule, stages, null, null).isOther;
+  tellOther({ failure, stages, schedule }) {
+    const { report } = this;
+    const again = () => (this.linkSchedule ? new LinkDerivation(report, schedule, null, null)
+      : new Derivation(report, schedule, stages, null, null));
+    const isSplit = this.most !== null && !again().isOther;
     this.strangers.push(isSplit
       ? { kinds: ["answer", "report"], why: `with the changes that this split can make, ${failure}` }
       : schedule.fine
@@ -133,16 +163,54 @@ class RunDrawing {
     if (this.versions.made.length > 1) {
       this.strips.append(drawVersionStrip(this));
     }
-    this.timeline.append(makeWith("div", "ways", [this.strips, this.drawWays()]), this.drawOrder());
+    this.legend = make("ul", "legend");
+    this.shapes = new Set();
+    const rows = make("div", "rows");
+    const order = this.drawOrder();
+    this.chunks = this.makeChunks();
+    rows.append(...this.chunks.elements);
+    this.timeline.append(makeWith("div", "ways", [this.strips, rows]), order);
     const section = makeWith("section", "run", [
-      make("h2", "", "What became of the packets"), ...this.drawFacts(), this.drawLegend(),
-      make("p", "source", this.sourceOfDrawing()), this.drawWindow(), this.hint, this.timeline, ...drawVersions(this),
+      make("h2", "", "What became of the packets"), ...this.drawFacts(), this.legend,
+      makeProse("p", "source", this.sourceOfDrawing()), this.drawWindow(), this.hint, this.timeline,
+      ...(this.datagrams ? [this.datagrams.draw()] : []), ...drawVersions(this), drawPackets(this),
       drawState(this.report, "report", this.meanings),
     ]);
     this.show(0.5, this.last);
-    new ResizeObserver(() => this.tellHiddenEvents()).observe(this.timeline);
+    this.chunks.watch();
+    new ResizeObserver(() => {
+      this.drawTicks();
+      this.tellHiddenEvents();
+    }).observe(this.timeline);
+    this.timeline.addEventListener("focusin", ({ target }) => this.fillAroundMark(target));
     letKeysMove(this.timeline, ".row, .seats", null);
     return section;
+  }
+
+  // The rows of the packets, and beside them the seats of the serial order with the lines that lead to them.
+  makeChunks() {
+    const { packets, order } = this.report;
+    const drawRows = (from, until) => packets.slice(from, until).map((packet) => this.drawWay(packet));
+    const drawSeats = (from, until) => {
+      const place = from / CHUNK;
+      if (this.seatChunks[place]) {
+        this.seatChunks[place].style.height = "";
+        const seats = order.slice(from, until).map((number, at) => this.drawSeat(number, from + at));
+        this.seatChunks[place].append(...seats);
+      }
+      this.drawPaths(from, until);
+      this.addToLegend(this.rows[from].parentElement);
+    };
+    return new Chunks(packets.length, drawRows, drawSeats);
+  }
+
+  // The neighbours of a mark that is gone to by keys are made, so that the keys find them.
+  fillAroundMark(target) {
+    const [row, seat] = [target.closest(".row"), target.closest(".seat")];
+    if (row || seat) {
+      const number = row ? this.rows.indexOf(row) : this.places.get(this.seats.indexOf(seat));
+      this.chunks.fillAround(number);
+    }
   }
 
   drawFacts() {
@@ -157,9 +225,12 @@ class RunDrawing {
     const most = waits.reduce((one, other) => (one && one.range.most >= other.range.most ? one : other), null);
     const versionWait = !most || most.range.most === 0 ? "none"
       : `at most ${counted(most.range.most, "event")} (packet ${most.packet.number}, version ${most.packet.version})`;
+    // Of a packet whose first pass is under way it isn't known yet.
+    const known = report.packets.filter(({ way }) => way !== "pass").length;
     const facts = [
       ["packets", `${grouped(report.admitted)} of ${grouped(report.total)} admitted`],
-      ["never visited the server", grouped(fast)],
+      ["never visited the server", known === 0 ? "none" : `${grouped(fast)} of ${grouped(known)}, ${
+        percentOf(fast, known)} of the packets are fast`],
       ["decided by the server", grouped(report.decided - fast)],
       ["released", `${grouped(report.released)}, ${grouped(report.admitted - report.released)} on their way`],
       ...(this.isFine && this.derived ? [["passes take", stagesText(this.derived.stages)]] : []),
@@ -172,7 +243,7 @@ class RunDrawing {
       ["drained", report.drained ? "yes" : "no"],
       ...report.links.map(({ name, items, sent, delivered, known }) => [`link ${name}`,
         `${counted(items, "item")}, ${counted(sent, "datagram")} sent, ${grouped(delivered)} delivered, ${
-          grouped(known)} known to be`]),
+          grouped(known)} known to be delivered`]),
     ];
     const pairs = facts.map(([name, value]) => makeWith("div", "", [make("dt", "", name), make("dd", "", value)]));
     return [makeWith("dl", "facts", pairs)];
@@ -195,24 +266,24 @@ class RunDrawing {
 
   changesNote(bound) {
     return this.report.version === 0 ? "Nothing is left open by that."
-      : `How many changes a version has is told nowhere (${bound}), so each number was tried, and what is left is what`
-        + " agrees with the report.";
+      : `No text says how many changes a version has (${bound}), so each number was tried, and those are kept that`
+        + " agree with the report.";
   }
 
   // What of the drawing stands in the report, and what is derived and how.
   sourceOfDrawing() {
-    const told = "The report tells when packets were admitted, decided and released, and their versions; so also when"
+    const told = "The report says when packets were admitted, decided and released, and on which versions; so also when"
       + " the server made each version.";
-    if (this.report.links.length > 0) {
-      return `${told} It is that of the events which came through over links. Datagrams aren't drawn: which of them were`
-        + " lost, repeated or late is told by no line.";
+    if (this.failure) {
+      const help = this.most === null && !this.isFine ? " With the split beside them more may be certain." : "";
+      return `${told} The schedule is ignored here: ${this.failure}. So it isn't shown when outputs were let go and`
+        + ` versions were shown.${help}`;
     }
     if (!this.schedule) {
-      return `${told} It doesn't tell when an output was let go, nor when the switch showed a version: what packets saw`
-        + " and when they left only bounds that. With the schedule beside it more can be derived.";
-    }
-    if (this.failure) {
-      return `${told} When outputs were let go and versions were shown isn't derived here: ${this.failure}.`;
+      const links = this.report.links.length > 0 ? " The run went over links: the events are those that came through,"
+        + " and with the schedule beside it the page shows what became of each datagram." : "";
+      return `${told} It doesn't say when an output was let go, nor when the switch showed a version: that is only`
+        + ` bounded by what packets saw and when they left. With the schedule beside it more can be derived.${links}`;
     }
     const drains = this.report.events - this.schedule.events.length;
     const rule = drains > 0 ? `, and the ${counted(drains, "event")} of drain, each the first of ${
@@ -222,13 +293,15 @@ class RunDrawing {
     const passes = this.isFine ? "which pass took a stage, " : "";
     const open = this.derived.openCount;
     const bound = this.most !== null ? `at most ${this.most}, by the split` : "without the split beside it, any number";
-    return `${told}${fine} Derived from the schedule: which events were idle, ${passes}when commands showed and `
-      + `acknowledged versions, when outputs were let go${rule}. ${this.changesNote(bound)}${open === 0 ? ""
-        : ` ${counted(open, "number of these isn't", "numbers of these aren't")} certain, and drawn as stretches.`}`;
+    const lines = this.linkSchedule ? "which of its lines came through over the links, what became of each datagram, "
+      : "which events were idle, ";
+    return `${told}${fine} Derived from the schedule: ${lines}${passes}when commands showed and acknowledged versions, `
+      + `when outputs were let go${rule}. ${this.changesNote(bound)}${open === 0 ? ""
+        : ` ${counted(open, "of these numbers isn't", "of these numbers aren't")} certain, and drawn as stretches.`}`;
   }
 
-  // What the marks that are drawn mean.
-  drawLegend() {
+  // What the marks mean that are drawn in a chunk of rows, as far as that doesn't stand in the legend yet.
+  addToLegend(chunk) {
     const samples = [
       ["mark admitted", "admitted"], ["wait pass", "in its first pass"],
       ["wait up", this.isFine && !this.derived ? "in its first pass, or waits for the server" : "waits for the server"],
@@ -238,8 +311,13 @@ class RunDrawing {
       ["wait down", "let go, on its way down"], ["wait second", "in its second pass"], ["mark sent", "sent"],
       ["mark dropped", "dropped"], ["mark fast", "fast: sent by the switch alone"],
       ["mark fast drops", "fast, dropped"], ["wait open", "still on its way"],
-    ].filter(([shape]) => this.timeline.querySelector(`.track > .${shape.replaceAll(" ", ".")}`));
-    return makeWith("ul", "legend", samples.map(([shape, text]) =>
+    ];
+    for (const [shape] of samples) {
+      if (!this.shapes.has(shape) && chunk.querySelector(`.track > .${shape.replaceAll(" ", ".")}`)) {
+        this.shapes.add(shape);
+      }
+    }
+    this.legend.replaceChildren(...samples.filter(([shape]) => this.shapes.has(shape)).map(([shape, text]) =>
       makeWith("li", "", [makeWith("span", "sample", [make("i", shape)]), make("span", "", text)])));
   }
 
@@ -285,6 +363,7 @@ class RunDrawing {
         const half = Math.max(this.to - this.from, 2 * (end - packet.admitted)) / 2;
         this.show((packet.admitted + end) / 2 - half, (packet.admitted + end) / 2 + half);
       }
+      this.chunks.fillAround(number);
       const mark = this.rows[number].querySelector(".mark");
       mark.focus();
       mark.scrollIntoView({ block: "center" });
@@ -296,8 +375,11 @@ class RunDrawing {
     this.from = Math.max(0.5, Math.min(Math.round(from - 0.5) + 0.5, this.last - 1));
     this.to = Math.min(Math.max(this.last, 1.5), Math.max(Math.round(to - 0.5) + 0.5, this.from + 1));
     const span = this.to - this.from;
-    this.timeline.style.setProperty("--from", this.from);
-    this.timeline.style.setProperty("--span", span);
+    const parts = [this.timeline, ...(this.datagrams ? [this.datagrams.part] : [])];
+    parts.forEach((part) => {
+      part.style.setProperty("--from", this.from);
+      part.style.setProperty("--span", span);
+    });
     this.inputs[0].value = this.from + 0.5;
     this.inputs[1].value = this.to - 0.5;
     for (const { picture, heightsOf, fill } of this.pictures) {
@@ -307,16 +389,24 @@ class RunDrawing {
       const [top, height] = heightsOf(this.from, this.to);
       picture.setAttribute("viewBox", `${this.from} ${top} ${span} ${height}`);
     }
-    const step = [1, 2, 5].flatMap((digit) => [0, 1, 2, 3, 4, 5, 6, 7].map((power) => digit * 10 ** power))
-      .filter((size) => span / size <= 16).reduce((one, other) => Math.min(one, other));
-    const ticks = [];
-    for (let event = Math.ceil(this.from / step) * step; event < this.to; event += step) {
-      const tick = make("span", "tick", grouped(event));
-      tick.style.setProperty("--at", event);
-      ticks.push(tick);
-    }
-    this.axis.querySelector(".track").replaceChildren(...ticks);
+    this.drawTicks();
     this.tellHiddenEvents();
+  }
+
+  // The numbers of events above the ways, as many as have room.
+  drawTicks() {
+    const most = Math.max(2, Math.min(16, (this.axis.querySelector(".track").clientWidth || 800) / TICK_WIDTH));
+    const step = [1, 2, 5].flatMap((digit) => [0, 1, 2, 3, 4, 5, 6, 7].map((power) => digit * 10 ** power))
+      .filter((size) => (this.to - this.from) / size <= most).reduce((one, other) => Math.min(one, other));
+    for (const axis of [this.axis, ...(this.datagrams ? [this.datagrams.axis] : [])]) {
+      const ticks = [];
+      for (let event = Math.ceil(this.from / step) * step; event < this.to; event += step) {
+        const tick = make("span", "tick", grouped(event));
+        tick.style.setProperty("--at", event);
+        ticks.push(tick);
+      }
+      axis.querySelector(".track").replaceChildren(...ticks);
+    }
   }
 
   // Which events aren't in sight, and whether more than one stand in one column of the screen.
@@ -331,7 +421,7 @@ class RunDrawing {
     const told = hidden === 0 ? [] : [`${grouped(hidden)} of ${grouped(events)} columns of events are hidden: ${
       named.join(" and ")}. The button "all" shows them, "earlier" and "later" go there.`];
     if (shared > 1) {
-      told.push(`Up to ${counted(shared, "event")} stand in one column of the screen, one behind the other. The button `
+      told.push(`Up to ${counted(shared, "event")} share one column of the screen. The button `
         + "\"closer\" draws them apart.");
     }
     this.hint.textContent = told.join(" ");
@@ -377,7 +467,8 @@ class RunDrawing {
       const mark = this.point(way === "fast" ? "fast" : name, released);
       mark.classList.toggle("drops", way === "fast" && port === null);
       track.append(mark);
-      verdict.textContent = port === null ? "✕ dropped" : `▶ port ${port}, ${counted(packet.bytes, "byte")}`;
+      verdict.replaceChildren(port === null ? "✕ dropped" : `▶ port ${port}`, ...(port === null ? []
+        : [make("span", "bytes", `, ${counted(packet.bytes, "byte")}`)]));
     }
     const label = makeWith("span", "label", [
       make("b", "", number), way === "fast" ? " fast" : "",
@@ -430,49 +521,60 @@ class RunDrawing {
       : this.derived.isKnown(version) ? "held, and may go" : `held for version ${version}`;
   }
 
-  inChunks(elements, classes) {
-    const chunks = [];
-    for (let at = 0; at < elements.length; at += CHUNK) {
-      const some = elements.slice(at, at + CHUNK);
-      const chunk = makeWith("div", classes, some);
-      chunk.style.containIntrinsicHeight = `${some.length * ROW_HEIGHT}px`;
-      chunks.push(chunk);
-    }
-    return chunks;
-  }
-
-  drawWays() {
-    return makeWith("div", "rows", this.inChunks(this.report.packets.map((packet) => this.drawWay(packet)), "chunk"));
-  }
-
-  // The serial order, and a line from each packet's row to its place.
+  // The serial order: seats, and lines from the rows of the packets to them, which are made as they come into sight.
   drawOrder() {
     const { order, packets } = this.report;
     const height = Math.max(1, packets.length) * ROW_HEIGHT;
-    const picture = makeVector("svg", { viewBox: `0 0 60 ${height}`, width: 60, height, class: "slopes" });
-    let version = null;
-    const seats = order.map((number, place) => {
-      const middle = (at) => at * ROW_HEIGHT + ROW_HEIGHT / 2;
-      const path = makeVector("path", {
-        d: `M0 ${middle(number)}C30 ${middle(number)} 30 ${middle(place)} 60 ${middle(place)}`,
-        class: number === place ? "level" : number > place ? "earlier" : "later",
-      });
-      this.paths[number] = path;
-      picture.append(path);
-      const seat = makeWith("span", "mark seat", [make("b", "", number)]);
-      const packet = packets[number];
-      if (packet.version !== version && this.report.version > 0) {
-        seat.append(make("span", "", ` version ${packet.version}`));
-        seat.classList.add("first");
-      }
-      version = packet.version;
-      seat.tabIndex = -1;
-      this.seats[number] = seat;
-      return tellOf(seat, () => this.tellPacket(packet, place, 0));
+    const viewBox = `0 0 60 ${height}`;
+    this.slopes = makeVector("svg", { viewBox, height, class: "slopes", preserveAspectRatio: "none" });
+    this.seatChunks = Array.from({ length: Math.ceil(order.length / CHUNK) }, (_, place) => {
+      const chunk = make("div", "chunk");
+      chunk.style.height = `${Math.min(CHUNK, order.length - place * CHUNK) * ROW_HEIGHT}px`;
+      return chunk;
     });
+    // Lines that reach over more than a chunk, which may be in sight where neither end is.
+    this.longPaths = order.filter((number, place) => Math.abs(number - place) >= CHUNK);
     return makeWith("div", "order", [
-      make("h4", "", "Serial order"), picture, makeWith("div", "seats", this.inChunks(seats, "chunk")),
+      make("h4", "", "Serial order"), this.slopes, makeWith("div", "seats", this.seatChunks),
     ]);
+  }
+
+  drawSeat(number, place) {
+    const { order, packets } = this.report;
+    const { version } = packets[number];
+    const seat = makeWith("span", "mark seat", [make("b", "", number)]);
+    const isFirst = place === 0 || packets[order[place - 1]].version !== version;
+    if (isFirst && this.report.version > 0) {
+      seat.append(make("span", "long", ` version ${version}`), make("span", "short", `v${version}`));
+      seat.classList.add("first");
+    }
+    seat.tabIndex = -1;
+    this.seats[number] = seat;
+    return tellOf(seat, () => this.tellPacket(packets[number], place, 0));
+  }
+
+  // The lines that are in sight where the rows from one number up to another one are.
+  drawPaths(from, until) {
+    const { order } = this.report;
+    const isAcross = (number) => {
+      const place = this.places.get(number);
+      return Math.min(number, place) < until && Math.max(number, place) >= from;
+    };
+    const here = Array.from({ length: until - from }, (_, at) => from + at).filter((number) => this.places.has(number));
+    const inSight = [...here, ...order.slice(from, until), ...this.longPaths.filter(isAcross)];
+    inSight.forEach((number) => this.drawPath(number));
+  }
+
+  drawPath(number) {
+    if (this.paths[number]) {
+      return;
+    }
+    const [place, middle] = [this.places.get(number), (at) => at * ROW_HEIGHT + ROW_HEIGHT / 2];
+    this.paths[number] = makeVector("path", {
+      d: `M0 ${middle(number)}C30 ${middle(number)} 30 ${middle(place)} 60 ${middle(place)}`,
+      class: number === place ? "level" : number > place ? "earlier" : "later",
+    });
+    this.slopes.append(this.paths[number]);
   }
 
   relatedTo(number) {

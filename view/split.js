@@ -16,7 +16,7 @@ function wordOf(answer, { number, kind, field, object, width, shift }) {
   return field || (object ? `${kind} ${object}` : short[kind] || kind);
 }
 
-// Some numbers behind a word, or nothing where there are none.
+// Some numbers after a word, or nothing where there are none.
 function listed(word, numbers) {
   const shown = numbers.slice(0, 12).join(", ");
   const more = numbers.length > 12 ? ` and ${numbers.length - 12} more` : "";
@@ -34,6 +34,8 @@ class SplitDrawing {
     this.widths = widthsOf(answer, source);
     this.crossings = crossingsOf(answer);
     this.tables = tablesOf(answer, source);
+    this.taken = takenBy(answer, source, limits);
+    this.broken = brokenRuleOf(answer, source);
     this.marks = answer.instructions.map(() => []);
     this.users = answer.instructions.map(() => []);
     for (const { number, operands } of answer.instructions) {
@@ -53,9 +55,10 @@ class SplitDrawing {
       this.drawPass("after", "Switch, after the server", this.drawOutput()),
     ]);
     const section = makeWith("section", "split", [
-      make("h2", "", "Where each instruction is done"), this.drawGauges(), this.drawLegend(),
+      make("h2", "", "Where each instruction is done"), ...this.drawBroken(), this.drawGauges(), ...this.drawStale(),
+      this.drawLegend(),
       ...(this.beside ? [this.beside.draw()] : [make("p", "source",
-        "With the source beside it, the page tells what each statement became.")]),
+        "With the source beside it, the page shows what each statement became.")]),
       make("h3", "", "The way of a packet"), lanes,
       makeWith("div", "beside", [this.drawTables(), this.drawBlocks()]),
     ]);
@@ -63,26 +66,66 @@ class SplitDrawing {
     return section;
   }
 
+  // Which rule the split breaks, if any.
+  drawBroken() {
+    if (!this.broken) {
+      return [];
+    }
+    const { rule, instruction } = this.broken;
+    const told = makeProse("p", "broken", `This split may not be taken: rule ${rule} is broken at instruction ${
+      instruction.number}, ${wordOf(this.answer, instruction)}: ${SPLIT_RULES.get(rule)}.`);
+    told.tabIndex = 0;
+    return [tellOf(told, () => this.tellInstruction(instruction))];
+  }
+
+  // What line 2 of the answer says and the split doesn't take, which is so where the split was edited.
+  drawStale() {
+    const { told } = this.answer;
+    const wrong = [...(told || [])].filter(([name, number]) =>
+      !canBeTold(name, number, this.taken.get(name), this.tables));
+    const parts = wrong.map(([name, number]) => `${name} ${grouped(number)}`);
+    const limits = this.limits ? "" : " with any limits";
+    return wrong.length === 0 ? [] : [makeProse("p", "source stale",
+      `Line 2 of the answer says ${parts.join(" and ")}. The split doesn't take that${limits}, so the split, the limits `
+      + "or the sizes of objects have changed since. The numbers above are counted from the "
+      + `${this.source ? "source and the split" : "split"}.`)];
+  }
+
+  // A number that the split takes, in words, and as a number where it is known. What can't be counted here is what the
+  // answer of compile says.
+  numberOf(name) {
+    const [taken, told] = [this.taken.get(name), this.answer.told ? this.answer.told.get(name) : null];
+    if (taken !== null) {
+      return { have: taken, text: grouped(taken) };
+    }
+    const bits = name === "table_bits" ? tableBitsOf(this.tables) : null;
+    if (told !== null && canBeTold(name, told, taken, this.tables)) {
+      return { have: told, text: grouped(told) };
+    }
+    return { have: null, text: bits ? `${grouped(bits.rows)} + writeback × ${grouped(bits.changes)}` : "not known" };
+  }
+
   drawGauges() {
     const allowed = new Map([["accesses", 1], ...(this.limits ? this.limits.limits : [])]);
-    const gauges = [...this.answer.counts].map(([name, have]) => {
+    const gauges = [...this.taken.keys()].map((name) => {
+      const { have, text } = this.numberOf(name);
       const limit = allowed.get(name);
-      const isOver = limit !== undefined && have > limit;
+      const isOver = limit !== undefined && have !== null && have > limit;
       const bar = make("span", "bar");
-      if (limit !== undefined) {
+      if (limit !== undefined && have !== null) {
         const used = make("span", isOver ? "used over" : "used");
         used.style.width = `${limit === 0 ? (have > 0 ? 100 : 0) : Math.min(100, (100 * have) / limit)}%`;
         bar.append(used);
       }
       const told = limit === undefined ? "" : ` of ${grouped(limit)}${isOver ? ", too many" : ""}`;
       const gauge = makeWith("li", "mark gauge", [
-        make("span", "name", name.replace("_", " ")),
-        makeWith("span", "number", [make("b", "", grouped(have)), told]), bar,
+        make("span", "name", name.replace("_", " ")), makeWith("span", "number", [make("b", "", text), told]), bar,
       ]);
       gauge.tabIndex = -1;
+      gauge.dataset.name = name;
       return tellOf(gauge, () => ({
-        note: `${name}: the split takes ${grouped(have)}${told || "; no limits are given beside it"}.`,
-        lines: [{ kind: "answer", line: this.answer.countsLine }, ...this.limitLine(name)],
+        note: `${name}: the split takes ${text}${told || "; no limits are given beside it"}.`,
+        lines: [{ kind: this.answer.kind, line: this.answer.countsLine }, ...this.limitLine(name)],
       }));
     });
     return makeWith("ul", "gauges list", gauges);
@@ -105,7 +148,7 @@ class SplitDrawing {
     const shapes = samples.map(([shape, word, text]) =>
       makeWith("li", "", [make("span", `chip ${shape}`, word), make("span", "", text)]));
     const tags = [
-      ["↻", "done before the server, and again at it or after it"], ["↑", "handed up to the server"],
+      ["↻", "done before the server, and again on it or after it"], ["↑", "handed up to the server"],
       ["b4", "its block"],
     ].map(([tag, text]) => makeWith("li", "", [make("span", "tag", tag), make("span", "", text)]));
     return makeWith("ul", "legend", [...shapes, ...tags]);
@@ -131,6 +174,9 @@ class SplitDrawing {
     if ((lane === "before" || lane === "after") && block !== 0) {
       chip.append(make("span", "block", `b${block}`));
     }
+    if (this.broken && this.broken.instruction.number === number) {
+      chip.classList.add("wrong");
+    }
     this.marks[number].push(chip);
     return tellOf(chip, () => this.tellInstruction(instruction));
   }
@@ -150,7 +196,7 @@ class SplitDrawing {
     }
     const again = before === null ? "" : " again";
     if (slow === "carried") {
-      parts.push(this.upward.has(number) ? ", and hands it up" : ", and that counts for every packet");
+      parts.push(this.upward.has(number) ? ", and hands it up" : ", and the server doesn't do it again");
     } else if (slow === "server") {
       parts.push(`the server does it${again}${again ? ", over its own rows" : ""}`);
     } else {
@@ -166,7 +212,7 @@ class SplitDrawing {
       note: parts.join(""),
       lines: [
         ...(statement ? [{ kind: "source", line: statement.line }] : []),
-        ...[line, partLine, this.answer.blocks[block].line].map((place) => ({ kind: "answer", line: place })),
+        ...[line, partLine, this.answer.blocks[block].line].map((place) => ({ kind: this.answer.kind, line: place })),
       ],
       related: [
         ...mine([number], "same"), ...mine(givers, "needed"),
@@ -247,7 +293,7 @@ class SplitDrawing {
         block.polarity}: ${conditionOf(this.answer, block)}`;
     return {
       note: `${live}.${outside ? " A packet for which it is live goes up to the server." : ""}`,
-      lines: [{ kind: "answer", line: block.line }],
+      lines: [{ kind: this.answer.kind, line: block.line }],
       related: [
         ...mine.flatMap(({ number }) => this.marks[number].map((element) => ({ element, name: "same" }))),
         ...giver.map((element) => ({ element, name: "needed" })),
@@ -328,7 +374,7 @@ class SplitDrawing {
         ...this.tellInstruction(giver),
         note: `A packet that visits the server leaves with ${name} = ${valueName(value)}, made ${by}: ${
           expressionOf(this.answer, value, 2)}.`,
-        lines: [{ kind: "answer", line }, { kind: "answer", line: giver.line }],
+        lines: [{ kind: this.answer.kind, line }, { kind: this.answer.kind, line: giver.line }],
       }));
     });
     return makeWith("div", "outputs", [make("span", "", "It leaves with "), makeWith("span", "values", cells)]);
@@ -363,7 +409,7 @@ class SplitDrawing {
       : table.onSwitch ? "the switch keeps its rows" : "the server alone has its rows";
     return {
       note: `${table.name}: ${kept}.`,
-      lines: all.map(({ line }) => ({ kind: "answer", line })),
+      lines: all.map(({ line }) => ({ kind: this.answer.kind, line })),
       related: all.flatMap(({ number }) => this.marks[number].map((element) => ({ element, name: "same" }))),
     };
   }

@@ -16,7 +16,7 @@ function titleOf(run, letter) {
 // How many marks of one letter a strip has at most.
 const DRAWN_EVENTS = 8000;
 
-// A strip: its label, what stands in its track, what stands behind it, and how many lines high it is.
+// A strip: its label, what stands in its track, what stands after it, and how many lines high it is.
 function drawBand(label, inTrack, behind, lines) {
   const band = makeWith("div", "band", [label, makeWith("span", "track", inTrack), make("span", "verdict", behind)]);
   band.style.setProperty("--lines", lines);

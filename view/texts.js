@@ -1,12 +1,13 @@
 "use strict";
 
-// Readers of the texts that the program reads and writes. Each answers what its text tells, with the line of each part,
+// Readers of the texts that the program reads and writes. Each returns what its text says, with the line of each part,
 // or throws a Refusal that names the first line that isn't in the form.
 
+// The line and the column are null where none is to blame.
 class Refusal extends Error {
-  constructor(line, reason) {
+  constructor(line, reason, column = null) {
     super(reason);
-    this.line = line;
+    Object.assign(this, { line, column });
   }
 }
 
@@ -75,12 +76,14 @@ class LineReader {
   }
 
   refuse(wanted) {
-    throw new Refusal(this.number, `${this.ended ? "the text ends here, where " : ""}${wanted} is wanted`);
+    throw new Refusal(this.number, `expected ${wanted}${this.ended ? ", but the text ends here" : ""}`);
   }
 
-  // The parts of the next line where it fits the pattern; the walk then goes on behind it.
+  // The parts of the next line where it fits the pattern; the walk then goes on after it. A pattern of whole lines may
+  // be a regular expression.
   match(pattern) {
-    const parts = this.ended ? null : wholeLine(pattern).exec(this.lines[this.place]);
+    const form = pattern instanceof RegExp ? pattern : wholeLine(pattern);
+    const parts = this.ended ? null : form.exec(this.lines[this.place]);
     if (parts) {
       this.place += 1;
       this.pass();
@@ -99,7 +102,8 @@ class LineReader {
   }
 }
 
-const isBlank = (line) => line === "";
+const LISTED = /^# (?:instructions |accesses |block |[0-9]+ b|send |write )/;
+const isNoListing = (line) => line === "" || (line.startsWith("#") && !LISTED.test(line));
 const isSkipped = (line) => line === "" || line.startsWith("#");
 
 function readValue(word, below) {
@@ -112,7 +116,7 @@ function readValue(word, below) {
 
 const valueName = (value) => `${value.instruction}.${value.result}`;
 
-// What stands behind the block in the line of an instruction, or null where it isn't in the form.
+// What stands after the block in the line of an instruction, or null where it isn't in the form.
 function readKind(words, number) {
   const kind = words[0];
   const instruction = { kind, operands: [], width: null, loop: false };
@@ -167,31 +171,54 @@ function readInstruction(reader, number, blocks) {
   const parts = reader.take(`# ${NUMBER} b${NUMBER} (.+)`, `instruction ${number}`);
   const instruction = readKind(parts[3].split(" "), number);
   if (Number(parts[1]) !== number || Number(parts[2]) >= blocks.length || !instruction) {
-    throw new Refusal(line, `instruction ${number} is wanted, of a kind that there is, over values of lower numbers`);
+    throw new Refusal(line, `expected instruction ${number}, of a known kind, with operands of lower numbers`);
   }
   return Object.assign(instruction, { number, block: Number(parts[2]), line });
 }
 
-function readPart(reader, instruction) {
+// Where an instruction is done: its stages in the two passes, and who gives its results to a packet that visits the
+// server.
+function readPart(reader, number) {
   const line = reader.number;
-  const wanted = `where instruction ${instruction.number} is done`;
+  const wanted = `where instruction ${number} is done`;
   const parts = reader.take(`${NUMBER} (-|${NUMBER}) (carried|server|post ${NUMBER})`, wanted);
   const before = parts[2] === "-" ? null : Number(parts[2]);
   const after = parts[5] === undefined ? null : Number(parts[5]);
-  if (Number(parts[1]) !== instruction.number || before > 4096 || after > 4096) {
-    throw new Refusal(line, `${wanted} is wanted`);
+  if (Number(parts[1]) !== number || before > 4096 || after > 4096) {
+    throw new Refusal(line, `expected ${wanted}`);
   }
-  Object.assign(instruction, { before, after, slow: parts[4].split(" ")[0], partLine: line });
+  return { before, after, slow: parts[4].split(" ")[0], partLine: line };
 }
 
-// The answer of compile: counts, blocks, instructions with their places, and the output.
+// The split text from its first line on: a part for each instruction.
+function readParts(reader, total) {
+  reader.take(`split 1 ${total}`, `\`split 1 ${total}\``);
+  const parts = Array.from({ length: total }, (_, number) => readPart(reader, number));
+  reader.take("end", "`end`");
+  reader.end();
+  return parts;
+}
+
+// A split text that stands alone: which instructions its parts are of is what its source says.
+function readSplit(text) {
+  const reader = new LineReader(text, isSkipped);
+  const splitLine = reader.number;
+  const [, total] = wholeLine(`split 1 ${NUMBER}`).exec(reader.lines[reader.place]) || reader.refuse("`split 1 N`");
+  if (Number(total) > MOST_INSTRUCTIONS) {
+    throw new Refusal(splitLine, `a split has at most ${grouped(MOST_INSTRUCTIONS)} instructions`);
+  }
+  return { parts: readParts(reader, Number(total)), splitLine, lines: reader.lines };
+}
+
+// The answer of compile: counts, blocks, instructions with their places, and the output. Other comments than those that
+// compile prints are passed over, as anyone who edits the split may add some.
 function readAnswer(text) {
-  const reader = new LineReader(text, isBlank);
+  const reader = new LineReader(text, isNoListing);
   const total = Number(reader.take(`# instructions ${NUMBER}`, "the number of instructions")[1]);
   const countsLine = reader.number;
   const names = ["accesses", "stages", "table_bits", "writeback", "transfer_bytes"];
   const pattern = `# ${names.map((name) => `${name} ${NUMBER}`).join(" ")}`;
-  const found = reader.take(pattern, "the line of what the split takes");
+  const found = reader.take(pattern, "the line that says what the split takes");
   const counts = new Map(names.map((name, place) => [name, Number(found[place + 1])]));
 
   const blocks = [{ number: 0, parent: null, line: null }];
@@ -201,7 +228,7 @@ function readAnswer(text) {
     const parts = reader.take(`# block ${NUMBER} in ${NUMBER} when (\\S+) is ([01])`, "a block");
     const condition = readValue(parts[3], total);
     if (Number(parts[1]) !== blocks.length || Number(parts[2]) >= blocks.length || !condition) {
-      throw new Refusal(line, `block ${blocks.length} is wanted, in a block of a lower number`);
+      throw new Refusal(line, `expected block ${blocks.length}, in a block of a lower number`);
     }
     blocks.push({ number: blocks.length, parent: Number(parts[2]), condition, polarity: Number(parts[4]), line });
   }
@@ -215,7 +242,7 @@ function readAnswer(text) {
   const send = readValue(output[1], total);
   const port = readValue(output[2], total);
   if (!send || !port) {
-    throw new Refusal(outputLine, "the output is wanted, with values that there are");
+    throw new Refusal(outputLine, "expected the output, of values of the instructions");
   }
   const writes = [];
   while (!reader.ended && reader.lines[reader.place].startsWith("# write ")) {
@@ -223,15 +250,14 @@ function readAnswer(text) {
     const parts = reader.take("# write (\\S+) (\\S+)", "a field that is written");
     const value = readValue(parts[2], total);
     if (!FIELD_WIDTHS.has(parts[1]) || !value) {
-      throw new Refusal(line, "a field and its value are wanted");
+      throw new Refusal(line, "expected a field and its value");
     }
     writes.push({ field: parts[1], value, line });
   }
-  reader.take(`split 1 ${total}`, `\`split 1 ${total}\``);
-  instructions.forEach((instruction) => readPart(reader, instruction));
-  reader.take("end", "`end`");
-  reader.end();
-  return { counts, countsLine, blocks, instructions, send, port, outputLine, writes, lines: reader.lines };
+  readParts(reader, total).forEach((part, number) => Object.assign(instructions[number], part));
+  return {
+    kind: "answer", told: counts, countsLine, blocks, instructions, send, port, outputLine, writes, lines: reader.lines,
+  };
 }
 
 const EVENT = "([1-9][0-9]{0,9})";
@@ -243,9 +269,9 @@ const PACKET_FORMS = new RegExp(
 function readPacket(reader, number) {
   const line = reader.number;
   const wanted = `packet ${number}`;
-  const parts = PACKET_FORMS.exec(reader.take(`(packet .*)`, wanted)[1]);
-  if (!parts || Number(parts[1]) !== number || (parts[4] === "fast" && parts[8])) {
-    throw new Refusal(line, `${wanted} is wanted, in one of its forms`);
+  const parts = reader.take(PACKET_FORMS, `${wanted}, in one of its forms`);
+  if (Number(parts[1]) !== number || (parts[4] === "fast" && parts[8])) {
+    throw new Refusal(line, `expected ${wanted}, in one of its forms`);
   }
   const packet = { number, line, way: parts[2] || parts[4], admitted: Number(parts[3] || parts[5]) };
   if (packet.way === "up" || packet.way === "pass") {
@@ -262,7 +288,7 @@ function readPacket(reader, number) {
   packet.bytes = packet.hex.length / 2;
   const inTurn = packet.admitted <= packet.decided && packet.decided <= packet.released;
   if (!inTurn || packet.port > 255) {
-    throw new Refusal(line, `${wanted} is wanted, with events that follow one another`);
+    throw new Refusal(line, `expected ${wanted}, with events in order`);
   }
   return packet;
 }
@@ -274,13 +300,13 @@ function readOrder(reader, packets) {
   const decided = packets.filter((packet) => packet.decided);
   const known = order.every((number) => packets[number] && packets[number].decided);
   if (!known || new Set(order).size !== order.length || order.length !== decided.length) {
-    throw new Refusal(line, "the order has to name each decided packet once, and no other");
+    throw new Refusal(line, "the order has to name each decided packet once, and no other packet");
   }
   return { order, orderLine: line };
 }
 
-// The parts of one kind, `object` or `switch`, each with its rows.
-function readParts(reader, word) {
+// The objects of one kind, `object` or `switch`, each with its rows.
+function readObjects(reader, word) {
   const parts = [];
   for (let head = reader.match(`${word} ${NAME} ${NUMBER}`); head; head = reader.match(`${word} ${NAME} ${NUMBER}`)) {
     const part = { name: head[1], rows: [] };
@@ -294,10 +320,10 @@ function readParts(reader, word) {
   return parts;
 }
 
-// The lines of the four links, which stand behind a report of `lossy` alone.
+// The lines of the four links, which stand after a report of `lossy` alone.
 function readLinks(reader) {
   const links = [];
-  for (const name of ["up", "down", "ctl", "ack"]) {
+  for (const name of LINK_NAMES) {
     const pattern = `link ${name} items ${NUMBER} sent ${NUMBER} delivered ${NUMBER} known ${NUMBER}`;
     const told = reader.match(pattern) || (links.length > 0 ? reader.refuse(`the line of the link ${name}`) : null);
     if (!told) {
@@ -320,14 +346,14 @@ function readReport(text) {
   const events = reader.take(`events ${NUMBER} idle ${NUMBER}`, "the numbers of events");
   const versionLine = reader.number;
   const versions = reader.take(`version ${NUMBER} visible ${NUMBER}`, "the versions");
-  const drained = reader.take("drained (yes|no)", "whether the run is drained")[1] === "yes";
+  const drained = reader.take("drained (yes|no)", "`drained yes` or `drained no`")[1] === "yes";
   const packets = [];
   while (packets.length < admitted) {
     packets.push(readPacket(reader, packets.length));
   }
   const order = readOrder(reader, packets);
-  const objects = readParts(reader, "object");
-  const tables = readParts(reader, "switch");
+  const objects = readObjects(reader, "object");
+  const tables = readObjects(reader, "switch");
   reader.take("end", "`end`");
   const links = readLinks(reader);
   reader.end();
@@ -346,39 +372,49 @@ function readRun(text) {
     line = reader.number, parts = reader.match(`packet ${NUMBER} ${VERDICT}`)) {
     const port = parts[3] === undefined ? null : Number(parts[3]);
     if (Number(parts[1]) !== packets.length || port > 255) {
-      throw new Refusal(line, `packet ${packets.length} is wanted, with its verdict`);
+      throw new Refusal(line, `expected packet ${packets.length}, with its verdict`);
     }
     const hex = port === null || parts[4] === "-" ? "" : parts[4];
     packets.push({ number: packets.length, line, port, hex, bytes: hex.length / 2 });
   }
-  const objects = readParts(reader, "object");
+  const objects = readObjects(reader, "object");
   reader.take("end", "a packet, an object or `end`");
   reader.end();
   return { packets, objects, tables: [], lines: reader.lines };
 }
 
-// The schedule: the letter, item and line of each event, whether it ends with `drain`, and whether it is fine, that is
-// whether each stage of a pass is an event of its own.
+const LINK_NAMES = ["up", "down", "ctl", "ack"];
+
+// A schedule: the letter, item and line of each event, whether it ends with `drain`, and whether it is fine, that is
+// whether each stage of a pass is an event of its own. `linked` says whether it is one over links: then some of its
+// lines are no events but say what becomes of datagrams, and these have the link's name too.
+const EVENT_FORMS = new RegExp(
+  `^(?:([acwk])|([uhds]) ${NUMBER}|(drain)|([xyz]) (${LINK_NAMES.join("|")}) ${NUMBER})$`);
+
 function readSchedule(text) {
   const reader = new LineReader(text, isSkipped);
+  const fineLine = reader.number;
   const fine = reader.match("fine") !== null;
   const events = [];
-  let drain = false;
+  let [drain, linked, alone] = [false, false, fine ? { line: fineLine, word: "`fine`" } : null];
   while (!reader.ended) {
     const line = reader.number;
-    if (reader.match("[xyz] .*")) {
-      throw new Refusal(line, "this is a schedule over links, and links aren't drawn: leave it out");
-    }
-    const parts = reader.take(`(?:([acwk])|([uhds]) ${NUMBER}|(drain))`, "an event");
+    const parts = reader.take(EVENT_FORMS, "an event");
     if (drain) {
-      throw new Refusal(line, "nothing may stand behind `drain`");
+      throw new Refusal(line, "nothing may stand after `drain`");
     }
+    const letter = parts[1] || parts[2] || parts[5];
     drain = parts[4] !== undefined;
+    linked = linked || parts[5] !== undefined;
+    alone = drain || letter === "s" ? { line, word: drain ? "`drain`" : "`s`" } : alone;
     if (!drain) {
-      events.push({ letter: parts[1] || parts[2], item: Number(parts[3] || 0), line });
+      events.push({ letter, item: Number(parts[3] || parts[7] || 0), link: parts[6] || null, line });
     }
   }
-  return { fine, events, drain, lines: reader.lines };
+  if (linked && alone) {
+    throw new Refusal(alone.line, `a schedule over links has no ${alone.word}`);
+  }
+  return { fine, events, drain, linked, lines: reader.lines };
 }
 
 // The trace: the port, the number of bytes and the line of each packet.
@@ -389,7 +425,7 @@ function readTrace(text) {
     const line = reader.number;
     const parts = reader.take(`${NUMBER} (-|(?:[0-9a-fA-F]{2})+)`, "a port and the bytes of a packet");
     if (Number(parts[1]) > 255) {
-      throw new Refusal(line, "a port up to 255 is wanted");
+      throw new Refusal(line, "expected a port from 0 to 255");
     }
     const hex = parts[2] === "-" ? "" : parts[2];
     packets.push({ port: Number(parts[1]), hex, bytes: hex.length / 2, line });
@@ -419,20 +455,26 @@ function readLimits(text) {
 // The kinds of texts, with their readers and what they are called on the page.
 const TEXT_KINDS = new Map([
   ["answer", { title: "answer of compile", read: readAnswer }],
+  ["split", { title: "split", read: readSplit }],
   ["limits", { title: "limits", read: readLimits }],
   ["source", { title: "source", read: (text) => readSource(text) }],
   ["report", { title: "report", read: readReport }],
   ["run", { title: "answer of run", read: readRun }],
   ["schedule", { title: "schedule", read: readSchedule }],
   ["trace", { title: "trace", read: readTrace }],
-  ["nothing", { title: "tells nothing", read: (text) => ({ lines: linesOf(text) }) }],
+  ["nothing", { title: "says nothing", read: (text) => ({ lines: linesOf(text) }) }],
 ]);
 
-// Which kind of text it is, by its first line that isn't skipped.
-function kindOf(text) {
+// A text of one of these kinds takes the place of one of the other.
+const SPLIT_KINDS = ["answer", "split"];
+
+// Which kind of text it is, by its first line that isn't skipped; a file `.gal` is a source whatever it holds.
+function kindOf(text, name = "") {
   const lines = linesOf(text);
-  const first = lines.find((line) => line.trim() !== "") || "";
-  if (first.startsWith("# instructions ")) {
+  if (name.endsWith(".gal")) {
+    return "source";
+  }
+  if (lines.some((line) => line.startsWith("# instructions ")) && lines.some((line) => line.startsWith("split "))) {
     return "answer";
   }
   const place = lines.findIndex((line) => !/^\s*(#.*)?$/.test(line));
@@ -442,6 +484,9 @@ function kindOf(text) {
   const line = lines[place];
   if (line.startsWith("report")) {
     return "report";
+  }
+  if (line.startsWith("split ")) {
+    return "split";
   }
   if (/^(packet |object |end$)/.test(line)) {
     return "run";
@@ -455,9 +500,9 @@ function kindOf(text) {
   if (/^\s*[a-z_]+\s*=/.test(line)) {
     return "limits";
   }
-  if (/\bprocess\b/.test(text)) {
+  if (/\bprocess\b/.test(text) || /^\s*(\/\/|(table|map|vector|int)\b)/.test(line)) {
     return "source";
   }
-  throw new Refusal(place + 1,
-    "the beginning of what compile, run or replay print, or of a text that goes with it, is wanted");
+  throw new Refusal(place + 1, "the page doesn't know this text: it begins like nothing that `compile`, `run` or "
+    + "`replay` reads or prints");
 }

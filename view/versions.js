@@ -3,7 +3,7 @@
 // What a report alone makes certain of versions, and whether a schedule can be the one of the report.
 
 // For each version from 1 on: the event at which the server made it, the last event at which the switch can't have
-// shown it yet, and the first one at which it must have, or null where the report doesn't tell that it ever did.
+// shown it yet, and the first one at which it must have, or null where the report doesn't say that it ever did.
 function versionsOf(report) {
   const greatest = Math.min(report.version, report.packets.length);
   const made = new Array(greatest + 1).fill(null);
@@ -43,8 +43,8 @@ function versionsOf(report) {
 const isFine = (report) => report.packets.some(({ way, admitted, released }) =>
   way === "pass" || (way === "fast" && admitted < released));
 
-// What the report tells of events: of each that admits, decides or releases a packet, which of these and the packet. An
-// event that admits a fast packet and releases it at once is told as its admission.
+// What the report says of events: of each that admits, decides or releases a packet, which of these and the packet. An
+// event that admits a fast packet and releases it at once counts as its admission.
 function toldEvents(report) {
   const told = new Map();
   for (const packet of report.packets) {
