@@ -17,3 +17,5 @@ pub mod ReadableDecls
 pub mod Least
 pub mod Shortest
 pub mod Sources
+pub mod Digits
+pub mod Counted
