@@ -1,5 +1,6 @@
 -- How many parts there are.
-use Rattle.std.proofs.Common.{◌≡◌, suc, ◌==◌, List, [], ◌∷◌, length, refl, sym, ap, ◌∙◌, arith}
+use Rattle.std.proofs.Common.{◌≡◌, suc, ◌<◌, ◌==◌, List, [], ◌∷◌, length, refl, ap, arith}
+use Rattle.std.proofs.lemmas.Bool.Decides.{nat_tests}
 use Rattle.element_lang.specs.declared.tree.Expr.{Expr}
 use Rattle.element_lang.specs.declared.tree.Stmt.{Stmt}
 use Rattle.element_lang.specs.Rules.{count_of, is_empty}
@@ -11,4 +12,4 @@ counted_trees (e ∷ es) = ap suc (counted_trees es)
 
 pub is_empty_body : (ss : List Stmt) → is_empty (body_tree ss) ≡ (length ss == 0)
 is_empty_body [] = refl
-is_empty_body (s ∷ ss) = refl
+is_empty_body (s ∷ ss) = let some : 0 < length (s ∷ ss) = omega arith in grind (arith, nat_tests)

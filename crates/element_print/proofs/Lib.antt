@@ -19,3 +19,5 @@ pub mod Shortest
 pub mod Sources
 pub mod Digits
 pub mod Counted
+pub mod TextLengths
+pub mod TextDepths
