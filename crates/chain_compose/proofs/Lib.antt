@@ -13,6 +13,10 @@ pub mod Shown
 pub mod Firsts
 pub mod Repeats
 pub mod Depths
+pub mod DeepExprs
+pub mod DeepBodies
+pub mod DeepLevels
+pub mod DeepCaps
 pub mod Fits
 pub mod OneReason
 pub mod Answered
