@@ -46,8 +46,14 @@ bytes_append (t ∷ ts) us = omega (arith, bytes_append ts us)
 -- an LF stands in place of the last blank
 text_bytes : (ts : List Token) (t : Token) → length (text_of (ts ++ t ∷ [])) ≡ bytes_of (ts ++ t ∷ [])
 text_bytes ts t =
-    omega (arith, ap length (spaced_end ts t), length-append (spaced ts) (token_text t ++ 10 ∷ []), length-append (token_text t) (10 ∷ []),
-      spaced_bytes ts, bytes_append ts (t ∷ []))
+    omega (
+      arith,
+      ap length (spaced_end ts t),
+      length-append (spaced ts) (token_text t ++ 10 ∷ []),
+      length-append (token_text t) (10 ∷ []),
+      spaced_bytes ts,
+      bytes_append ts (t ∷ []),
+    )
 
 -- ## Brackets, and marks between parts
 
@@ -142,13 +148,21 @@ mutual
   expr_bytes m (field f) = omega (arith, read_bytes m f)
   expr_bytes m (byte index) = omega (arith, enclosed (expr_tokens (named_expr m index)), expr_bytes m index)
   expr_bytes m (shift op by arg) =
-      omega (arith, bytes_append (part Operand (named_expr m arg)) (fixed (mark_of op) ∷ number by ∷ []),
-        part_bytes m Operand arg (expr_length (lengths_of m) arg) (expr_bytes m arg))
+      omega (
+        arith,
+        bytes_append (part Operand (named_expr m arg)) (fixed (mark_of op) ∷ number by ∷ []),
+        part_bytes m Operand arg (expr_length (lengths_of m) arg) (expr_bytes m arg),
+      )
   expr_bytes m (apply ops.Not width args) = omega (arith, list_bytes m Turned marks.Comma args (all_bytes m Turned args))
   expr_bytes m (apply ops.Cast width args) =
       let rest : List Token = behind_each marks.Comma (parts Whole (named_exprs m args)) in
-      omega (arith, enclosed (number width ∷ rest), behind_bytes marks.Comma (parts Whole (named_exprs m args)), all_bytes m Whole args,
-        ap (λ n. n * mark_length marks.Comma) (same_count m Whole args))
+      omega (
+        arith,
+        enclosed (number width ∷ rest),
+        behind_bytes marks.Comma (parts Whole (named_exprs m args)),
+        all_bytes m Whole args,
+        ap (λ n. n * mark_length marks.Comma) (same_count m Whole args),
+      )
   expr_bytes m (apply ops.Select width args) =
       omega (arith, enclosed (exprs_tokens (named_exprs m args)), list_bytes m Whole marks.Comma args (all_bytes m Whole args))
   expr_bytes m (apply ops.Adjust width args) =
@@ -171,8 +185,12 @@ value_bytes m e = omega (arith, bytes_append (expr_tokens (named_expr m e)) (fix
 
 keyed_bytes : (m : Tree) (x : ℕ) (keys : Exprs) → bytes_of (keyed (object_name m x) (named_exprs m keys)) ≡ keyed_length (lengths_of m) x keys
 keyed_bytes m x keys =
-    omega (arith, bytes_append (exprs_tokens (named_exprs m keys)) (fixed marks.RightBracket ∷ []), exprs_bytes m keys,
-      object_bytes m.objects x)
+    omega (
+      arith,
+      bytes_append (exprs_tokens (named_exprs m keys)) (fixed marks.RightBracket ∷ []),
+      exprs_bytes m keys,
+      object_bytes m.objects x,
+    )
 
 names_bytes : (m : Tree) (xs : List ℕ)
     → bytes_of (behind_each marks.Comma (map (λ word. tokens.name word ∷ []) (map (local_name m) xs))) ≡ names_length (lengths_of m) xs
@@ -189,15 +207,25 @@ look_bytes : (m : Tree) (found : ℕ) (into : List ℕ) (object : ℕ) (keys : E
 look_bytes m found into object keys =
     let names : List Token = behind_each marks.Comma (map (λ word. tokens.name word ∷ []) (map (local_name m) into)) in
     let last : List Token = keyed (object_name m object) (named_exprs m keys) ++ fixed marks.Semicolon ∷ [] in
-    omega (arith, local_bytes m.locals found, bytes_append names (fixed marks.Assign ∷ last), names_bytes m into,
-      behind_key m object keys (fixed marks.Semicolon ∷ []))
+    omega (
+      arith,
+      local_bytes m.locals found,
+      bytes_append names (fixed marks.Assign ∷ last),
+      names_bytes m into,
+      behind_key m object keys (fixed marks.Semicolon ∷ []),
+    )
 
 put_bytes : (m : Tree) (ok object : ℕ) (keys values : Exprs)
     → bytes_of (stmt_tokens (named_stmt m (put ok object keys values))) ≡ head_length (lengths_of m) (put ok object keys values)
 put_bytes m ok object keys values =
     let last : List Token = exprs_tokens (named_exprs m values) ++ fixed marks.Semicolon ∷ [] in
-    omega (arith, local_bytes m.locals ok, behind_key m object keys (fixed marks.Arrow ∷ last),
-      bytes_append (exprs_tokens (named_exprs m values)) (fixed marks.Semicolon ∷ []), exprs_bytes m values)
+    omega (
+      arith,
+      local_bytes m.locals ok,
+      behind_key m object keys (fixed marks.Arrow ∷ last),
+      bytes_append (exprs_tokens (named_exprs m values)) (fixed marks.Semicolon ∷ []),
+      exprs_bytes m values,
+    )
 
 else_bytes : (m : Tree) (b : BodyTree) (bytes : ℕ) → bytes_of (body_tokens (named_body m b)) ≡ bytes
     → bytes_of (else_tokens (named_body m b) (body_tokens (named_body m b))) ≡ else_length (is_empty b) + bytes
@@ -216,8 +244,15 @@ mutual
   stmt_bytes m (choose cond first second) =
       let one : List Token = body_tokens (named_body m first) in
       let two : List Token = else_tokens (named_body m second) (body_tokens (named_body m second)) in
-      omega (arith, bytes_append (expr_tokens (named_expr m cond)) (in_braces one ++ two), bytes_append (in_braces one) two, expr_bytes m cond,
-        braced one, body_bytes m first, else_bytes m second (body_length (lengths_of m) second) (body_bytes m second))
+      omega (
+        arith,
+        bytes_append (expr_tokens (named_expr m cond)) (in_braces one ++ two),
+        bytes_append (in_braces one) two,
+        expr_bytes m cond,
+        braced one,
+        body_bytes m first,
+        else_bytes m second (body_length (lengths_of m) second) (body_bytes m second),
+      )
   stmt_bytes m (repeat index count body) =
       omega (arith, local_bytes m.locals index, braced (body_tokens (named_body m body)), body_bytes m body)
   stmt_bytes m (send port) = omega (arith, value_bytes m port)
@@ -264,15 +299,26 @@ rows_bytes keys values [] = refl
 rows_bytes keys values (r ∷ rows) =
     let last : List Token = rows_tokens (map (named_row keys values) rows) in
     let second : List Token = literals_tokens (literals values r.values) in
-    omega (arith, bytes_append (literals_tokens (literals keys r.keys)) (fixed marks.Arrow ∷ (second ++ fixed marks.Semicolon ∷ last)),
-      bytes_append second (fixed marks.Semicolon ∷ last), literals_bytes keys r.keys, literals_bytes values r.values, rows_bytes keys values rows)
+    omega (
+      arith,
+      bytes_append (literals_tokens (literals keys r.keys)) (fixed marks.Arrow ∷ (second ++ fixed marks.Semicolon ∷ last)),
+      bytes_append second (fixed marks.Semicolon ∷ last),
+      literals_bytes keys r.keys,
+      literals_bytes values r.values,
+      rows_bytes keys values rows,
+    )
 
 -- widths of keys and values, and what stands after them
 widths_behind : (keys values : List ℕ) (ts : List Token)
     → bytes_of (widths_tokens keys ++ fixed marks.Arrow ∷ (widths_tokens values ++ ts)) ≡ widths_length keys + mark_length marks.Arrow + widths_length values + bytes_of ts
 widths_behind keys values ts =
-    omega (arith, bytes_append (widths_tokens keys) (fixed marks.Arrow ∷ (widths_tokens values ++ ts)), bytes_append (widths_tokens values) ts,
-      widths_bytes keys, widths_bytes values)
+    omega (
+      arith,
+      bytes_append (widths_tokens keys) (fixed marks.Arrow ∷ (widths_tokens values ++ ts)),
+      bytes_append (widths_tokens values) ts,
+      widths_bytes keys,
+      widths_bytes values,
+    )
 
 kind_bytes : (kind : Kind) (o : ObjectDecl) → bytes_of (decl_tokens (named_as kind o)) ≡ length o.name + length_as kind o
 kind_bytes Table o =
@@ -295,5 +341,13 @@ whole_bytes m =
     let body : List Token = body_tokens (named_body m m.body) in
     let but_last : List Token = decls ++ fixed marks.Process ∷ fixed marks.LeftBrace ∷ body in
     let same : but_last ++ fixed marks.RightBrace ∷ [] ≡ print_tokens (named m) = append_assoc decls (fixed marks.Process ∷ fixed marks.LeftBrace ∷ body) (fixed marks.RightBrace ∷ []) in
-    omega (arith, ap (λ ts. length (text_of ts)) same, text_bytes but_last (fixed marks.RightBrace), ap bytes_of same,
-      bytes_append decls (fixed marks.Process ∷ in_braces body), braced body, decls_bytes m.objects, body_bytes m m.body)
+    omega (
+      arith,
+      ap (λ ts. length (text_of ts)) same,
+      text_bytes but_last (fixed marks.RightBrace),
+      ap bytes_of same,
+      bytes_append decls (fixed marks.Process ∷ in_braces body),
+      braced body,
+      decls_bytes m.objects,
+      body_bytes m m.body,
+    )
