@@ -21,7 +21,7 @@ use Rattle.element_print.specs.declared.place.Place.{Place}
 use Rattle.element_print.specs.declared.place.Place.TheVariants.{Whole, Operand, Turned}
 use Rattle.element_print.specs.Printed.{in_brackets_if, in_brackets, in_braces, behind_each, joined, mark_of, needs_brackets, expr_tokens, parts, part, exprs_tokens, keyed, else_tokens, stmt_tokens, body_tokens, widths_tokens, literal_tokens, literals_tokens, rows_tokens, decl_tokens, decls_tokens, print_tokens}
 use Rattle.element_print.specs.Lengths.{nameless}
-use Rattle.element_print.specs.Depths.{within_if, expr_depth, parts_depth, keyed_depth, head_depth, stmt_depth, body_depth, rows_depth, depth_as, decls_depth, text_depth}
+use Rattle.element_print.specs.Depths.{within_if, expr_depth, parts_depth, keyed_depth, stmt_depth, body_depth, rows_depth, depth_as, decls_depth, text_depth}
 use Rattle.element_print.proofs.TextLengths.{same_brackets}
 
 -- These tokens close the brackets that they open, of which so many are open at once, whatever stands before and after.

@@ -1,11 +1,9 @@
 -- How many bytes printed tokens have.
-use Rattle.std.proofs.Common.{◌≡◌, ℕ, zero, suc, ◌+◌, ◌-◌, ◌*◌, Bool, true, false, ◌||◌, List, [], ◌∷◌, ◌++◌, map, length, decimal, slice_index, slice_get, refl, sym, ap, ◌∙◌, arith, length-append, append_assoc}
+use Rattle.std.proofs.Common.{◌≡◌, ℕ, zero, suc, ◌+◌, ◌-◌, ◌*◌, Bool, true, false, ◌||◌, List, [], ◌∷◌, ◌++◌, map, length, slice_index, slice_get, refl, sym, ap, ◌∙◌, arith, length-append, append_assoc}
 use Rattle.std.proofs.Math.Nat.{suc-mul, zero-mul}
-use Rattle.gal_bits.specs.declared.op.Op.{Op}
 use Rattle.gal_bits.specs.declared.op.Op.TheVariants as ops
 use Rattle.packet_fields.specs.declared.field.Field.{Field}
 use Rattle.packet_fields.specs.declared.field.Field.TheVariants.{MetaPort}
-use Rattle.packet_fields.specs.Table.{row}
 use Rattle.state_store.specs.declared.object.Kind.{Kind}
 use Rattle.state_store.specs.declared.object.Kind.TheVariants.{Table, Map, Vector, Int}
 use Rattle.state_store.specs.declared.object.Row.{Row}
@@ -21,12 +19,12 @@ use Rattle.element_lang.specs.Tree.ExprTree.{lit, local, field, byte, shift, app
 use Rattle.element_lang.specs.Tree.Exprs.{no_expr, expr}
 use Rattle.element_lang.specs.Tree.StmtTree.{let_local, assign, set_field, look, put, del, choose, repeat, send, drop}
 use Rattle.element_lang.specs.Tree.BodyTree.{done, stmt}
-use Rattle.element_lang.specs.Surface.{named_expr, named_exprs, named_stmt, named_body, named_row, named_as, named_decl, named, local_name, object_name, name_of_local, name_of_object, literals, Literal, SurfaceRow}
+use Rattle.element_lang.specs.Surface.{named_expr, named_exprs, named_stmt, named_body, named_row, named_as, named_decl, named, local_name, object_name, name_of_local, name_of_object, literals}
 use Rattle.element_print.specs.declared.place.Place.{Place}
 use Rattle.element_print.specs.declared.place.Place.TheVariants.{Whole, Operand, Turned}
 use Rattle.element_print.specs.Printed.{token_text, text_of, in_brackets_if, in_brackets, in_braces, behind_each, joined, mark_of, needs_brackets, has_infix, is_turned, expr_tokens, parts, part, exprs_tokens, keyed, else_tokens, stmt_tokens, body_tokens, widths_tokens, literal_tokens, literals_tokens, rows_tokens, decl_tokens, decls_tokens, print_tokens}
 use Rattle.element_print.specs.Spaced.{spaced}
-use Rattle.element_print.specs.Lengths.{Lengths, lengths_of, nameless, mark_length, number_length, literal_length, field_length, brackets_length, between_length, read_length, expr_length, parts_length, exprs_length, keyed_length, names_length, braces_length, else_length, head_length, stmt_length, body_length, widths_sum, widths_length, literals_sum, literals_length, rows_length, length_as, decls_length, text_length}
+use Rattle.element_print.specs.Lengths.{lengths_of, nameless, mark_length, field_length, brackets_length, between_length, read_length, expr_length, parts_length, exprs_length, keyed_length, names_length, braces_length, else_length, head_length, stmt_length, body_length, widths_sum, widths_length, literals_sum, literals_length, rows_length, length_as, decls_length, text_length}
 use Rattle.element_print.proofs.Spaces.{spaced_end}
 
 -- the bytes of tokens, each with the one that stands after it
