@@ -17,6 +17,12 @@ pub mod DeepExprs
 pub mod DeepBodies
 pub mod DeepLevels
 pub mod DeepCaps
+pub mod NamedSteps
+pub mod NamedTotals
+pub mod NamedRange
+pub mod NamedEnds
+pub mod NamedCode
+pub mod NamedPut
 pub mod Fits
 pub mod OneReason
 pub mod Answered

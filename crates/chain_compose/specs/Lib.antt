@@ -2,6 +2,7 @@ pub mod Refusals
 pub mod Counts
 pub mod Depths
 pub mod SendLevels
+pub mod NamedFrom
 pub mod Routes
 pub mod Declares
 pub mod Parts

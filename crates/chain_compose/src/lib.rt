@@ -11,7 +11,9 @@ mod error;
 mod expressions;
 mod gauge;
 mod laws;
+mod levels;
 mod matrix;
+mod named;
 mod names;
 mod nesting;
 mod parts;
@@ -19,6 +21,7 @@ mod plain;
 mod reach;
 mod refusals;
 mod routes;
+mod steps;
 mod terms;
 mod uses;
 
