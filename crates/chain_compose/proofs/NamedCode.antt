@@ -1,5 +1,5 @@
 -- Counts of places where locals are named, as the code has them.
-use Rattle.std.proofs.Common.{◌&&◌, ◌==◌, ◌≡◌, ◌<◌, ◌≤◌, ℕ, zero, suc, ◌+◌, ◌-◌, ◌^◌, ◌⊎◌, inl, inr, Bool, true, false, cond, List, [], ◌∷◌, ◌++◌, length, map, take, slice_index, slice_index_or, min, refl, sym, ap, subst, ◌∙◌, arith}
+use Rattle.std.proofs.Common.{◌&&◌, ◌==◌, ◌≡◌, ◌<◌, ◌≤◌, ℕ, zero, suc, ◌+◌, ◌-◌, ◌^◌, inl, inr, Bool, true, List, [], ◌∷◌, ◌++◌, length, map, take, slice_index, slice_index_or, refl, sym, ap, subst, ◌∙◌, arith}
 use Rattle.std.proofs.lemmas.List.{map-append, take_more, take_all, length-map}
 use Rattle.std.proofs.lemmas.Bool.{cases_lt}
 use Rattle.std.specs.List.{list_all, All}
@@ -12,23 +12,24 @@ use Rattle.element_lang.specs.declared.tree.Middlebox.{Middlebox}
 use Rattle.element_chain.specs.declared.chain.Wire.{Wire}
 use Rattle.element_chain.specs.declared.chain.Target.{Target}
 use Rattle.element_chain.specs.declared.chain.Target.TheVariants.{Element, Out}
-use Rattle.element_chain.specs.Chain.{Connected, element_at, no_element}
-use Rattle.element_chain.specs.Compose.{wires_of}
+use Rattle.element_chain.specs.Chain.{Connected, element_at}
+use Rattle.element_chain.specs.Compose.{wires_of, composed}
 use Rattle.element_chain.specs.Wiring.{IsWithin, AreWithin}
 use Rattle.chain_compose.specs.declared.gauge.Gauge.{Gauge}
 use Rattle.chain_compose.specs.declared.gauge.Gauge.TheVariants.{Locals, Uses}
 use Rattle.chain_compose.specs.declared.named.Tally.{Tally}
 use Rattle.chain_compose.specs.declared.parts.Parts.{Parts}
 use Rattle.chain_compose.specs.declared.steps.Step.{Step}
-use Rattle.chain_compose.specs.declared.steps.Step.TheVariants.{Name, Declare, Send}
-use Rattle.chain_compose.specs.Counts.{end_count}
+use Rattle.chain_compose.specs.declared.steps.Step.TheVariants.{Name, Send}
+use Rattle.chain_compose.specs.Counts.{used_in, end_count}
+use Rattle.chain_compose.specs.Tallies.{told}
 use Rattle.chain_compose.specs.Parts.{chain_of}
-use Rattle.chain_compose.specs.NamedFrom.{is_from, Spans, Namings, tests_span, tests_from, Naming, declared, stepped, all_stepped, started, own_steps, body_steps, element_from, end_from, told_at, AreTold, IsTally}
+use Rattle.chain_compose.specs.NamedFrom.{is_from, Spans, Namings, tests_span, tests_from, Naming, declared, stepped, all_stepped, started, own_steps, body_steps, element_from, end_from, count_from, AreTold, IsTally}
 use Rattle.chain_compose.proofs.RoutesAt.{wires_all, routes_at}
 use Rattle.chain_compose.specs.SendLevels.{has_wires}
 use Rattle.chain_compose.proofs.NamedSteps.{run_append}
 use Rattle.chain_compose.proofs.NamedRange.{counts_one, counts_none, left, right}
-use Rattle.chain_compose.proofs.NamedEnds.{AreGood, all_named, none_named}
+use Rattle.chain_compose.proofs.NamedEnds.{AreGood, all_named, none_named, whole_from}
 
 -- ## numbers
 pub capped_at : (xs : List ℕ) (i : ℕ) → slice_index (map capped xs) i ≡ capped (slice_index xs i)
@@ -103,8 +104,17 @@ module _ (least : ℕ) (most : least ≤ 2 ^ 64 - 1) (span : Spans) (from : Nami
       let here = behind_is (suc n.next + tests_span span ws) so_far.next in
       record {
         next = omega (arith, next_is, so_far.next, wide_is, ap (tests_span span) more, span_push span ws w);
-        count = omega (arith, count_is, so_far.count, here, one_is, ap (is_from least) told.next, same_from least n.next most,
-            ap (λ (us : List Wire). tests_from least span from n.next us (suc n.next)) more, from_push least span from n.next ws w (suc n.next));
+        count = omega (
+          arith,
+          count_is,
+          so_far.count,
+          here,
+          one_is,
+          ap (is_from least) told.next,
+          same_from least n.next most,
+          ap (λ (us : List Wire). tests_from least span from n.next us (suc n.next)) more,
+          from_push least span from n.next ws w (suc n.next),
+        );
       }
 
 -- ## the end of a wire
@@ -194,14 +204,11 @@ element_tally c least span from e before i ws wired b ss put numbers tally past 
     ∙ ap (λ (us : List Step). capped (all_stepped least span from ws us (started before)).count) all
     ∙ ap (λ (us : List Wire). capped (all_stepped least span from us (own_steps c e) (started before)).count) ws_are
 
--- what a table has of an element after a wire
-pub table_at : (g : Gauge) (parts : Parts) (table : List (List ℕ)) (levels e input : ℕ) (t : Target) → AreTold g (chain_of parts) table → levels ≤ length parts.classes.now → IsWithin (length parts.classes.now) t
-    → t ≡ Element e → told_at table levels e ≡ capped (end_count g (chain_of parts) levels t input)
-table_at g parts table levels e input t told fits there is =
-    let same : length (chain_of parts).elements ≡ length parts.classes.now = length-map parts.classes.now tree in
-    let within : e < length parts.classes.now = subst (IsWithin (length parts.classes.now)) is there in
-    told.each levels e input (omega (arith, same, fits)) (omega (arith, same, within))
-    ∙ sym (ap (λ (u : Target). capped (end_count g (chain_of parts) levels u input)) is)
+-- what is told of an element after a wire
+pub told_after : (g : Gauge) (c : Connected) (count : ℕ) (table : List (List ℕ)) (levels e input : ℕ) (t : Target) → AreTold g c count table → levels ≤ count → IsWithin count t → t ≡ Element e
+    → told table levels e ≡ capped (end_count g c levels t input)
+told_after g c count table levels e input t all fits there is =
+    all.each levels e input fits (subst (IsWithin count) is there) ∙ sym (ap (λ (u : Target). capped (end_count g c levels u input)) is)
 
 -- the wires of an element, and where one of them leads
 pub wires_told : (parts : Parts) (e : ℕ) (wires : List Wire) → e < length parts.classes.now → wires ≡ slice_index_or parts.routes.now e [] → wires ≡ wires_of (chain_of parts).wires e
@@ -213,15 +220,17 @@ pub wires_within : (parts : Parts) (e : ℕ) (wires : List Wire) → e < length 
 wires_within parts e wires there is within =
     subst (All (λ (w : Wire). IsWithin (length parts.classes.now) w.to)) (sym (wires_told parts e wires there is)) (own_within parts.chain.now.wires (length parts.classes.now) e within)
 
-within_at : (count : ℕ) (ws : List Wire) (i : ℕ) (d : Wire) → All (λ (w : Wire). IsWithin count w.to) ws → i < length ws → IsWithin count (slice_index_or ws i d).to
+pub within_at : (count : ℕ) (ws : List Wire) (i : ℕ) (d : Wire) → All (λ (w : Wire). IsWithin count w.to) ws → i < length ws → IsWithin count (slice_index_or ws i d).to
 within_at count [] i d all lt = absurd (omega (arith, lt))
 within_at count (w ∷ ws) zero d all lt = All-head (λ (u : Wire). IsWithin count u.to) w ws all
 within_at count (w ∷ ws) (suc i) d all lt = within_at count ws i d (All-tail (λ (u : Wire). IsWithin count u.to) w ws all) (omega (arith, lt))
 
--- there are as many elements
-pub as_many : (parts : Parts) → length (chain_of parts).elements ≡ length parts.classes.now
-as_many parts = length-map parts.classes.now tree
-
-pub wire_within : (parts : Parts) (ws : List Wire) (i : ℕ) (d : Wire) → All (λ (w : Wire). IsWithin (length parts.classes.now) w.to) ws → i < length ws → IsWithin (length (chain_of parts).elements) (slice_index_or ws i d).to
-wire_within parts ws i d all lt =
-    subst (λ (k : ℕ). IsWithin k (slice_index_or ws i d).to) (sym (as_many parts)) (within_at (length parts.classes.now) ws i d all lt)
+-- the whole
+pub whole_told : (parts : Parts) (least count : ℕ)
+    → count ≡ capped (element_from (chain_of parts) least (end_count Locals (chain_of parts) (length parts.classes.now)) (end_from (chain_of parts) least (length parts.classes.now)) 0 0)
+    → count ≡ capped (count_from least (used_in (composed (chain_of parts)).body))
+whole_told parts least count is =
+    let c = chain_of parts in
+    is
+    ∙ ap (λ (n : ℕ). capped (element_from c least (end_count Locals c n) (end_from c least n) 0 0)) (sym (length-map parts.classes.now tree))
+    ∙ ap capped (sym (whole_from c least))

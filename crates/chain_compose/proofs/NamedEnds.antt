@@ -1,5 +1,5 @@
 -- How often locals are named in the whole, and where that is told by tables alone.
-use Rattle.std.proofs.Common.{◌≡◌, ◌<◌, ◌≤◌, ℕ, zero, suc, ◌+◌, Bool, true, false, cond, List, [], ◌∷◌, length, Option, Some, None, refl, sym, ap, ◌∙◌, arith}
+use Rattle.std.proofs.Common.{◌≡◌, ◌<◌, ◌≤◌, ℕ, zero, suc, ◌+◌, Bool, true, false, cond, List, [], length, Option, Some, None, refl, sym, ap, ◌∙◌, arith}
 use Rattle.std.specs.List.{filter}
 use Rattle.std.proofs.lemmas.List.Elements.{All-nil}
 use Rattle.packet_fields.specs.Table.{all_fields}
@@ -7,17 +7,15 @@ use Rattle.element_lang.specs.Tree.{BodyTree}
 use Rattle.element_lang.specs.Tree.StmtTree.{drop}
 use Rattle.element_lang.specs.Rules.{ends_always, is_good_body}
 use Rattle.element_lang.specs.Widths.{local_widths}
-use Rattle.element_chain.specs.declared.chain.Wire.{Wire}
 use Rattle.element_chain.specs.declared.chain.Target.{Target}
 use Rattle.element_chain.specs.declared.chain.Target.TheVariants.{Element, Out}
 use Rattle.element_chain.specs.Chain.{Connected, element_at}
 use Rattle.element_chain.specs.Compose.{followed, one, Spot, Ends, wires_of, base_of, clearing, closed, is_set, sent_by, ends_within, element_placed, composed}
 use Rattle.chain_compose.specs.declared.gauge.Gauge.TheVariants.{Locals, Uses}
-use Rattle.chain_compose.specs.declared.steps.Step.{Step}
 use Rattle.chain_compose.specs.Counts.{used_in, end_count, element_count}
 use Rattle.chain_compose.specs.SendLevels.{has_wires}
 use Rattle.chain_compose.specs.NamedFrom.{count_from, Spans, Namings, Naming, all_stepped, started, own_steps, element_from, end_from}
-use Rattle.chain_compose.proofs.NamedSteps.{count_append, used_followed, at, body_run, AreEndsTold, sent_run}
+use Rattle.chain_compose.proofs.NamedSteps.{used_followed, at, body_run, AreEndsTold, sent_run}
 use Rattle.chain_compose.proofs.NamedTotals.{steps_next, locals_of_element, uses_of_element, clearing_from, no_clearing_locals, no_clearing_uses, no_closing_locals, no_closing_uses}
 use Rattle.chain_compose.proofs.NamedRange.{AreKnown, known_body, none_yet, all_count, none_counts}
 
@@ -44,8 +42,14 @@ module _ (c : Connected) (least n : ℕ) (told : AreEndsTold least (ends_within 
   next_wide (Element e) input widths =
       let span = end_count Locals c n in
       let run = element_run c least (ends_within c n) span (end_from c least n) told (Some input) e widths in
-      omega (arith, ap (λ (k : Naming). k.next) run, steps_next least span (end_from c least n) (wires_of c.wires e) (own_steps c e) (started (length widths)),
-      locals_of_element c span (Some input) e, no_clearing_locals c, no_closing_locals (element_at c.elements e).body)
+      omega (
+        arith,
+        ap (λ (k : Naming). k.next) run,
+        steps_next least span (end_from c least n) (wires_of c.wires e) (own_steps c e) (started (length widths)),
+        locals_of_element c span (Some input) e,
+        no_clearing_locals c,
+        no_closing_locals (element_at c.elements e).body,
+      )
 
   next_often : (t : Target) (input : ℕ) (widths : List ℕ) → count_from least (used_in (ends_within c (suc n) t input widths).body) ≡ end_from c least (suc n) t input (length widths)
   next_often Out input widths = refl
@@ -93,8 +97,13 @@ all_named c good least (suc n) Out input before large = refl
 all_named c good least (suc n) (Element e) input before large =
     let ws = wires_of c.wires e in
     let uses = end_count Uses c n in
-    omega (arith, all_count least (end_count Locals c n) (end_from c least n) ws uses (λ w b le. all_named c good least n w.to w.input b le) before (own_steps c e) (started before) large (own_known c good e) (none_yet before (started before) refl refl),
-    uses_of_element c uses (Some input) e, no_clearing_uses c, no_closing_uses (element_at c.elements e).body)
+    omega (
+      arith,
+      all_count least (end_count Locals c n) (end_from c least n) ws uses (λ w b le. all_named c good least n w.to w.input b le) before (own_steps c e) (started before) large (own_known c good e) (none_yet before (started before) refl refl),
+      uses_of_element c uses (Some input) e,
+      no_clearing_uses c,
+      no_closing_uses (element_at c.elements e).body,
+    )
 
 -- where none is
 pub none_named : (c : Connected) → AreGood c → (least n : ℕ) (t : Target) (input before : ℕ) → before + end_count Locals c n t input ≤ least → end_from c least n t input before ≡ 0

@@ -1,5 +1,5 @@
 -- A copy of an element that keeps the rules names no local but those that it declares, and those after it.
-use Rattle.std.proofs.Common.{◌≡◌, ◌<◌, ◌≤◌, ℕ, zero, suc, ◌+◌, Bool, true, false, cond, ◌&&◌, ◌||◌, ◌==◌, ◌⊎◌, inl, inr, List, [], ◌∷◌, ◌++◌, length, leb, slice_index, refl, sym, ap, subst, ◌∙◌, arith, true≢false, nat_le}
+use Rattle.std.proofs.Common.{◌≡◌, ◌<◌, ◌≤◌, ℕ, zero, suc, ◌+◌, Bool, true, false, cond, ◌&&◌, ◌||◌, ◌==◌, ◌⊎◌, inl, inr, List, [], ◌∷◌, ◌++◌, length, slice_index, refl, sym, ap, subst, ◌∙◌, arith, true≢false, nat_le}
 use Rattle.std.specs.List.{All, list_any}
 use Rattle.std.proofs.lemmas.Bool.{eqb-true, le-leb, leb-true}
 use Rattle.std.proofs.lemmas.List.{length_push, get_or_append_left, get_or_push}
@@ -9,14 +9,14 @@ use Rattle.element_lang.specs.Tree.ExprTree.{lit, local, field, byte, shift, app
 use Rattle.element_lang.specs.Tree.Exprs.{no_expr, expr}
 use Rattle.element_lang.specs.Tree.StmtTree.{let_local, assign, set_field, look, put, del, choose, repeat, send, drop}
 use Rattle.element_lang.specs.Tree.BodyTree.{done, stmt}
-use Rattle.element_lang.specs.Rules.{is_good_expr, are_good_exprs, is_good_stmt, is_good_body, counted_from, declared_in, declared_by, binds, is_shift}
+use Rattle.element_lang.specs.Rules.{is_good_expr, are_good_exprs, is_good_stmt, is_good_body, counted_from, declared_in, declared_by, binds}
 use Rattle.element_lang.specs.Widths.{local_widths}
 use Rattle.element_chain.specs.declared.chain.Wire.{Wire}
 use Rattle.chain_compose.specs.declared.steps.Step.{Step}
 use Rattle.chain_compose.specs.declared.steps.Step.TheVariants.{Name, Declare, Send}
 use Rattle.chain_compose.specs.Counts.{used_by_expr, used_by_exprs}
 use Rattle.chain_compose.specs.NamedFrom.{is_from, named, all_declared_steps, send_steps, stmt_steps, body_steps, Spans, Namings, tests_span, tests_from, Naming, stepped, all_stepped}
-use Rattle.chain_compose.proofs.NamedTotals.{steps_span, steps_next, steps_uses}
+use Rattle.chain_compose.proofs.NamedTotals.{steps_span, steps_uses}
 
 -- ## the steps of an element
 -- each local that they name is declared before, where so many are at their start
@@ -122,6 +122,12 @@ module _ (widths scope : List ℕ) (d : ℕ) (below : Below d scope) where
     known_exprs (expr e es) h =
         known_names_append d (used_by_expr e) (used_by_exprs es) (known_expr e (left _ _ h)) (known_exprs es (right _ _ h))
 
+one_more : (n : ℕ) → n + 1 ≡ suc n
+one_more n = omega arith
+
+at_most : (n k : ℕ) → n ≤ n + k
+at_most n k = omega arith
+
 module _ (m : Tree) (wired : Bool) where
   known_send : (d : ℕ) (port : ExprTree) (b : Bool) → AreKnown d (named (used_by_expr port)) → AreKnown d (send_steps b port)
   known_send d port true known = known_after d (used_by_expr port) (Send ∷ []) known tt
@@ -191,9 +197,8 @@ module _ (m : Tree) (wired : Bool) where
         (known_at (next + declared_by first) (next + declares (body_steps wired first)) (body_steps wired second) (omega (arith, declares_body first))
         (known_body scope (next + declared_by first) second (below_more next (next + declared_by first) scope (omega arith) below) (right _ _ h))))
     known_stmt scope next (repeat index count body) below h =
-        let is : Below (next + 1) (index ∷ []) = below_counted next (index ∷ []) (right _ _ (left _ _ (left _ _ h))) in
-        known_at (next + 1) (suc next) (body_steps wired body) (omega arith)
-        (known_body (index ∷ scope) (next + 1) body (below_append (next + 1) (index ∷ []) scope is (below_more next (next + 1) scope (omega arith) below)) (right _ _ h))
+        known_at (next + 1) (suc next) (body_steps wired body) (one_more next)
+        (known_body (index ∷ scope) (next + 1) body (below_append (next + 1) (index ∷ []) scope (below_counted next (index ∷ []) (right _ _ (left _ _ (left _ _ h)))) (below_more next (next + 1) scope (at_most next 1) below)) (right _ _ h))
     known_stmt scope next (send port) below h = known_send next port wired (known_expr (local_widths m) scope next below port (left _ _ h))
     known_stmt scope next drop below h = tt
 
@@ -277,8 +282,12 @@ module _ (least : ℕ) (span : Spans) (from : Namings) (ws : List Wire) where
         omega (arith, all_count low ss next large (known_at (suc (length n.names)) (length next.names) ss many known) (declare_within low n next within refl refl), counts_one least n.next (omega (arith, large, within.start)))
     all_count low (Send ∷ ss) n large known within =
         let next = stepped least span from ws Send n in
-        omega (arith, all_count low ss next large known (record { start = omega (arith, within.start); least = within.least; below = λ x lt. omega (arith, within.below x lt) }),
-        counts_one least n.next (omega (arith, large, within.start)), all_tests n.next (suc n.next) ws (omega (arith, large, within.start)) (omega (arith, large, within.start)))
+        omega (
+          arith,
+          all_count low ss next large known (record { start = omega (arith, within.start); least = within.least; below = λ x lt. omega (arith, within.below x lt) }),
+          counts_one least n.next (omega (arith, large, within.start)),
+          all_tests n.next (suc n.next) ws (omega (arith, large, within.start)) (omega (arith, large, within.start)),
+        )
 
   -- where none is, none does
   module _ (none : (w : Wire) (before : ℕ) → before + span w.to w.input ≤ least → from w.to w.input before ≡ 0) where
@@ -291,14 +300,24 @@ module _ (least : ℕ) (span : Spans) (from : Namings) (ws : List Wire) where
     none_counts low [] n known within fits = refl
     none_counts low (Name x ∷ ss) n known within fits =
         let next = stepped least span from ws (Name x) n in
-        omega (arith, none_counts low ss next known.1 (record { start = within.start; least = within.least; below = within.below }) fits,
-        counts_none least (slice_index n.names x) (omega (arith, within.below x known.0, fits)))
+        omega (
+          arith,
+          none_counts low ss next known.1 (record { start = within.start; least = within.least; below = within.below }) fits,
+          counts_none least (slice_index n.names x) (omega (arith, within.below x known.0, fits)),
+        )
     none_counts low (Declare ∷ ss) n known within fits =
         let next = stepped least span from ws Declare n in
         let many : suc (length n.names) ≡ length next.names = omega (arith, length_push n.names n.next) in
-        omega (arith, none_counts low ss next (known_at (suc (length n.names)) (length next.names) ss many known) (declare_within low n next within refl refl) (omega (arith, fits)),
-        counts_none least n.next (omega (arith, fits)))
+        omega (
+          arith,
+          none_counts low ss next (known_at (suc (length n.names)) (length next.names) ss many known) (declare_within low n next within refl refl) (omega (arith, fits)),
+          counts_none least n.next (omega (arith, fits)),
+        )
     none_counts low (Send ∷ ss) n known within fits =
         let next = stepped least span from ws Send n in
-        omega (arith, none_counts low ss next known (record { start = omega (arith, within.start); least = within.least; below = λ x lt. omega (arith, within.below x lt) }) (omega (arith, fits)),
-        counts_none least n.next (omega (arith, fits)), no_tests n.next (suc n.next) ws (omega (arith, fits)) (omega (arith, fits)))
+        omega (
+          arith,
+          none_counts low ss next known (record { start = omega (arith, within.start); least = within.least; below = λ x lt. omega (arith, within.below x lt) }) (omega (arith, fits)),
+          counts_none least n.next (omega (arith, fits)),
+          no_tests n.next (suc n.next) ws (omega (arith, fits)) (omega (arith, fits)),
+        )

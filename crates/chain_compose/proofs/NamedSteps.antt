@@ -1,5 +1,5 @@
 -- What stands in the whole names locals as often as the steps of its elements do.
-use Rattle.std.proofs.Common.{◌≡◌, ℕ, zero, suc, ◌+◌, Bool, true, false, cond, List, [], ◌∷◌, ◌++◌, length, map, slice_index, Option, Some, None, refl, sym, ap, ◌∙◌, arith, ◌==◌}
+use Rattle.std.proofs.Common.{◌≡◌, ℕ, suc, ◌+◌, Bool, true, false, cond, List, [], ◌∷◌, ◌++◌, length, map, slice_index, Option, Some, None, refl, sym, ap, ◌∙◌, arith, ◌==◌}
 use Rattle.std.proofs.lemmas.List.{map-append, length_push}
 use Rattle.packet_fields.specs.declared.field.Field.{Field}
 use Rattle.packet_fields.specs.declared.field.Field.TheVariants.{MetaPort}
@@ -11,10 +11,10 @@ use Rattle.element_lang.specs.Tree.StmtTree.{let_local, assign, set_field, look,
 use Rattle.element_lang.specs.Tree.BodyTree.{done, stmt}
 use Rattle.element_chain.specs.declared.chain.Wire.{Wire}
 use Rattle.element_chain.specs.declared.chain.Target.{Target}
-use Rattle.element_chain.specs.Compose.{followed, one, Numbering, Spot, Sends, Ends, seen, renamed, all_renamed, declared, all_declared, numbers, stmt_placed, body_placed, tests, sent_by}
+use Rattle.element_chain.specs.Compose.{followed, Numbering, Spot, Sends, Ends, seen, renamed, all_renamed, declared, all_declared, numbers, stmt_placed, body_placed, tests, sent_by}
 use Rattle.chain_compose.specs.declared.steps.Step.{Step}
-use Rattle.chain_compose.specs.declared.steps.Step.TheVariants.{Name, Declare, Send}
-use Rattle.chain_compose.specs.Counts.{used_by_expr, used_by_exprs, used_by_head, used_by, used_in}
+use Rattle.chain_compose.specs.declared.steps.Step.TheVariants.{Declare, Send}
+use Rattle.chain_compose.specs.Counts.{used_by_expr, used_by_exprs, used_by, used_in}
 use Rattle.chain_compose.specs.SendLevels.{has_wires}
 use Rattle.chain_compose.specs.NamedFrom.{is_from, count_from, named, all_declared_steps, send_steps, stmt_steps, body_steps, Spans, Namings, tests_span, tests_from, Naming, stepped, all_stepped}
 

@@ -1,5 +1,5 @@
 -- How many locals the steps of an element declare and name, told from its statements.
-use Rattle.std.proofs.Common.{◌≡◌, ℕ, zero, suc, ◌+◌, ◌*◌, Bool, true, false, cond, List, [], ◌∷◌, ◌++◌, length, Option, refl, ap, ◌∙◌, arith, length-append}
+use Rattle.std.proofs.Common.{◌≡◌, ℕ, suc, ◌+◌, Bool, true, false, cond, List, [], ◌∷◌, ◌++◌, length, Option, refl, ap, arith, length-append}
 use Rattle.std.specs.List.{filter}
 use Rattle.packet_fields.specs.declared.field.Field.{Field}
 use Rattle.packet_fields.specs.declared.field.Header.{Header}
@@ -11,16 +11,14 @@ use Rattle.element_lang.specs.Tree.StmtTree.{let_local, assign, set_field, look,
 use Rattle.element_lang.specs.Tree.BodyTree.{done, stmt}
 use Rattle.element_print.specs.Lengths.{Lengths}
 use Rattle.element_chain.specs.declared.chain.Wire.{Wire}
-use Rattle.element_chain.specs.declared.chain.Target.{Target}
 use Rattle.element_chain.specs.Chain.{Connected, element_at}
 use Rattle.element_chain.specs.Compose.{kept_where, clearing, wires_of, is_set}
-use Rattle.chain_compose.specs.declared.gauge.Gauge.{Gauge}
 use Rattle.chain_compose.specs.declared.gauge.Gauge.TheVariants.{Locals, Uses}
 use Rattle.chain_compose.specs.declared.steps.Step.{Step}
 use Rattle.chain_compose.specs.declared.steps.Step.TheVariants.{Name, Declare, Send}
-use Rattle.chain_compose.specs.Counts.{used_by_expr, used_by_exprs, used_in, weight, body_count, placed_stmt_count, placed_count, tests_count, sent_count, closing_count, clearing_count, whole_lengths, own_lengths, element_count}
+use Rattle.chain_compose.specs.Counts.{used_by_expr, used_by_exprs, used_in, body_count, placed_stmt_count, placed_count, tests_count, sent_count, closing_count, clearing_count, whole_lengths, own_lengths, element_count}
 use Rattle.chain_compose.specs.SendLevels.{has_wires}
-use Rattle.chain_compose.specs.NamedFrom.{count_from, named, all_declared_steps, send_steps, stmt_steps, body_steps, own_steps, Spans, Namings, tests_span, Naming, stepped, all_stepped, element_from}
+use Rattle.chain_compose.specs.NamedFrom.{count_from, named, all_declared_steps, send_steps, stmt_steps, body_steps, own_steps, Spans, Namings, tests_span, Naming, stepped, all_stepped}
 use Rattle.chain_compose.proofs.NamedSteps.{count_append}
 
 -- ## locals

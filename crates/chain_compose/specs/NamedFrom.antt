@@ -1,6 +1,6 @@
 -- How often locals are named whose numbers in the whole are at least so much, told from the elements alone.
-use Rattle.std.specs.Prelude.{◌≡◌, ℕ, zero, suc, ◌+◌, ◌≤◌, ◌<◌, Bool, true, false, List, [], ◌∷◌, ◌++◌, length, map}
-use Rattle.std.specs.Prelude.{nat_le, slice_index, slice_index_or, if◌then◌else◌}
+use Rattle.std.specs.Prelude.{◌≡◌, ℕ, zero, suc, ◌+◌, ◌≤◌, ◌<◌, Bool, true, false, List, [], ◌∷◌, ◌++◌, map}
+use Rattle.std.specs.Prelude.{nat_le, slice_index, if◌then◌else◌}
 use Rattle.element_lang.specs.Tree.{ExprTree, StmtTree, BodyTree}
 use Rattle.element_lang.specs.Tree.StmtTree.{let_local, assign, set_field, look, put, del, choose, repeat, send, drop}
 use Rattle.element_lang.specs.Tree.BodyTree.{done, stmt}
@@ -17,6 +17,7 @@ use Rattle.chain_compose.specs.declared.named.Tally.{Tally}
 use Rattle.chain_compose.specs.declared.steps.Step.{Step}
 use Rattle.chain_compose.specs.declared.steps.Step.TheVariants.{Name, Declare, Send}
 use Rattle.chain_compose.specs.Counts.{used_by_expr, used_by_exprs, end_count}
+use Rattle.chain_compose.specs.Tallies.{told}
 use Rattle.chain_compose.specs.SendLevels.{has_wires}
 
 -- ## Numbers
@@ -134,19 +135,14 @@ end_from c least (suc n) (Element e) input before =
 
 -- ## Where counts are told of each level
 
--- what a table has of an element through so many elements
-abbrev pub told_at : List (List ℕ) → ℕ → ℕ → ℕ
-told_at table n e = slice_index (slice_index_or table n []) e
+-- of as many elements it is told what is counted at the end of a wire to each, through up to as many and no more
+pub record AreTold (g : Gauge) (c : Connected) (count : ℕ) (levels : List (List ℕ)) : Type 0 where
+  pub each : (n e input : ℕ) → n ≤ count → e < count → told levels n e ≡ capped (end_count g c n (Element e) input)
 
--- a table has what is counted at the end of a wire to each element, through any number of elements
-pub record AreTold (g : Gauge) (c : Connected) (table : List (List ℕ)) : Type 0 where
-  pub each : (n e input : ℕ) → n ≤ length c.elements → e < length c.elements
-      → told_at table n e ≡ capped (end_count g c n (Element e) input)
-
--- tables have the locals that are declared there, and how often one is named
-pub record AreTables (c : Connected) (tables : Tables) : Type 0 where
-  pub locals : AreTold Locals c tables.locals.now
-  pub uses : AreTold Uses c tables.uses.now
+-- how many locals are declared there, and how often one is named
+pub record AreTables (c : Connected) (count : ℕ) (tables : Tables) : Type 0 where
+  pub locals : AreTold Locals c count tables.locals.now
+  pub uses : AreTold Uses c count tables.uses.now
 
 -- ## Where numbers stop at the greatest of 64 bits
 

@@ -11,7 +11,6 @@ mod error;
 mod expressions;
 mod gauge;
 mod laws;
-mod levels;
 mod matrix;
 mod named;
 mod names;

@@ -17,9 +17,9 @@ ghost use Rattle.chain_compose.specs.NamedFrom.{count_from, declared, Naming, Ar
 ghost use Rattle.chain_compose.specs.Parts.{chain_of};
 
 use crate::depth::has_wires;
-use crate::levels::Levels;
 use crate::parts::Parts;
 use crate::steps::{Step, put_body};
+use crate::told::Levels;
 use element_chain::{Target, Wire};
 use gal_io::NoMemory;
 
@@ -70,21 +70,27 @@ fn declare(least: u64, names: &mut Vec<u64>, tally: Tally) -> Result<Tally, NoMe
 
 // How many locals are declared at the end of a wire.
 fn end_span(tables: &Tables, levels: u32, wire: &Wire) -> u64
-    ensures { (c : Connected) → AreTold Locals c tables.now.locals.now → levels ≤ length c.elements
-        → IsWithin (length c.elements) wire.now.to
+    ensures { (c : Connected) (count : ℕ) → AreTold Locals c count tables.now.locals.now → levels ≤ count
+        → IsWithin count wire.now.to
         → result ≡ capped (end_count Locals c levels wire.now.to wire.now.input) }
 {
     match wire.to {
         Target::Out => 0,
-        Target::Element(element) => tables.locals.at(levels, element),
+        Target::Element(element) => tables.locals.at(levels as usize, element as usize),
     }
 }
 
 impl Parts<'_> {
     // How often a local that counts is named at the end of a wire, where so many are declared before.
     #[cycle(named)]
-    fn end_from(&self, tables: &Tables, levels: u32, wire: &Wire, before: u64) -> Result<u64, NoMemory>
-        requires told { AreTables (chain_of self.now) tables.now }
+    fn end_from(
+        &self,
+        tables: &Tables,
+        levels: u32,
+        wire: &Wire,
+        before: u64,
+    ) -> Result<u64, NoMemory>
+        requires told { AreTables (chain_of self.now) (length self.now.classes.now) tables.now }
         requires levels_fit { levels ≤ length self.now.classes.now }
         requires within { AreWithin (length self.now.classes.now) self.now.chain.now.wires }
         requires there { IsWithin (length self.now.classes.now) wire.now.to }
@@ -94,9 +100,9 @@ impl Parts<'_> {
         match wire.to {
             Target::Element(element) if levels > 0 => {
                 if tables.least <= before {
-                    return Ok(tables.uses.at(levels, element));
+                    return Ok(tables.uses.at(levels as usize, element as usize));
                 }
-                let span = tables.locals.at(levels, element);
+                let span = tables.locals.at(levels as usize, element as usize);
                 if before.saturating_add(span) < tables.least {
                     return Ok(0);
                 }
@@ -116,7 +122,7 @@ impl Parts<'_> {
         wires: &[Wire],
         tally: Tally,
     ) -> Result<Tally, NoMemory>
-        requires told { AreTables (chain_of self.now) tables.now }
+        requires told { AreTables (chain_of self.now) (length self.now.classes.now) tables.now }
         requires levels_fit { levels ≤ length self.now.classes.now }
         requires within { AreWithin (length self.now.classes.now) self.now.chain.now.wires }
         requires all_there { All (λ (w : Wire). IsWithin (length self.now.classes.now) w.to) wires.now }
@@ -150,7 +156,7 @@ impl Parts<'_> {
         names: &mut Vec<u64>,
         tally: Tally,
     ) -> Result<Tally, NoMemory>
-        requires told { AreTables (chain_of self.now) tables.now }
+        requires told { AreTables (chain_of self.now) (length self.now.classes.now) tables.now }
         requires levels_fit { levels ≤ length self.now.classes.now }
         requires within { AreWithin (length self.now.classes.now) self.now.chain.now.wires }
         requires all_there { All (λ (w : Wire). IsWithin (length self.now.classes.now) w.to) wires.now }
@@ -180,7 +186,7 @@ impl Parts<'_> {
         element: u32,
         before: u64,
     ) -> Result<u64, NoMemory>
-        requires told { AreTables (chain_of self.now) tables.now }
+        requires told { AreTables (chain_of self.now) (length self.now.classes.now) tables.now }
         requires levels_fit { levels ≤ length self.now.classes.now }
         requires within { AreWithin (length self.now.classes.now) self.now.chain.now.wires }
         requires there { element < length self.now.classes.now }
@@ -208,8 +214,8 @@ impl Parts<'_> {
         requires few { length self.now.classes.now ≤ 32 }
         requires some { 0 < length self.now.classes.now }
         requires within { AreWithin (length self.now.classes.now) self.now.chain.now.wires }
-        requires locals_told { AreTold Locals (chain_of self.now) locals.now }
-        requires uses_told { AreTold Uses (chain_of self.now) uses.now }
+        requires locals_told { AreTold Locals (chain_of self.now) (length self.now.classes.now) locals.now }
+        requires uses_told { AreTold Uses (chain_of self.now) (length self.now.classes.now) uses.now }
         ensures { IfOk result (λ count. count ≡ capped (count_from least (used_in (composed (chain_of self.now)).body))) }
     {
         let tables = Tables {

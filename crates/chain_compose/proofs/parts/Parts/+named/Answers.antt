@@ -1,8 +1,7 @@
-use Rattle.std.proofs.Common.{◌≡◌, ◌≤◌, ◌<◌, ◌-◌, ◌^◌, ◌+◌, ◌∙◌, ℕ, List, [], ◌++◌, length, map, sym, ap, subst, arith, take}
-use Rattle.std.proofs.lemmas.List.{length-map}
+use Rattle.std.proofs.Common.{◌+◌, ◌∙◌, ℕ, List, ◌++◌, length, sym, ap, arith, take}
 use Rattle.element_lang.specs.declared.tree.Middlebox.{Middlebox}
 use Rattle.element_lang.specs.Tree.{Tree}
-use Rattle.element_lang.specs.View.{tree, body_tree}
+use Rattle.element_lang.specs.View.{body_tree}
 use Rattle.element_print.specs.Lengths.{capped}
 use Rattle.element_chain.specs.declared.chain.Target.{Target}
 use Rattle.element_chain.specs.declared.chain.Wire.{Wire}
@@ -13,7 +12,7 @@ use Rattle.chain_compose.specs.Counts.{end_count}
 use Rattle.chain_compose.specs.NamedFrom.{body_steps, all_stepped, started, end_from}
 use Rattle.chain_compose.specs.Parts.{chain_of}
 use Rattle.chain_compose.proofs.Trees.{tree_at}
-use Rattle.chain_compose.proofs.NamedCode.{all_good, large_end, small_end, walked_end, next_tested, sent_tally, stepped_tally, element_tally, table_at, wires_told, wires_within, wire_within, as_many}
+use Rattle.chain_compose.proofs.NamedCode.{all_good, large_end, small_end, walked_end, next_tested, sent_tally, stepped_tally, element_tally, told_after, wires_told, wires_within, within_at}
 use Rattle.chain_compose.proofs.parts.Parts.+named.Goals as goal
 
 -- ## the end of a wire
@@ -22,14 +21,14 @@ end_from-returns-then-tables-before t c = λ exact is.
     let parts = c.args.self.now in
     let wire = c.args.wire.now in
     large_end (chain_of parts) (all_good parts) c.args.tables.now.least c.args.levels wire.to wire.input c.args.before exact c.at.result c.if-tables-before.true is
-    (c.at.ensures ∙ table_at Uses parts c.args.tables.now.uses.now c.args.levels c.in-Element.element wire.input wire.to c.requires.told.uses c.requires.levels_fit c.requires.there c.in-Element.is)
+    (c.at.ensures ∙ told_after Uses (chain_of parts) (length parts.classes.now) c.args.tables.now.uses.now c.args.levels c.in-Element.element wire.input wire.to c.requires.told.uses c.requires.levels_fit c.requires.there c.in-Element.is)
 
 pub end_from-returns-then-saturating_add-tables : goal.end_from-returns-then-saturating_add-tables
 end_from-returns-then-saturating_add-tables t c = λ exact is.
     let parts = c.args.self.now in
     let wire = c.args.wire.now in
     small_end (chain_of parts) (all_good parts) c.args.tables.now.least c.args.levels wire.to wire.input c.args.before exact c.at-span.result (omega arith) is
-    (c.at-span.ensures ∙ table_at Locals parts c.args.tables.now.locals.now c.args.levels c.in-Element.element wire.input wire.to c.requires.told.locals c.requires.levels_fit c.requires.there c.in-Element.is)
+    (c.at-span.ensures ∙ told_after Locals (chain_of parts) (length parts.classes.now) c.args.tables.now.locals.now c.args.levels c.in-Element.element wire.input wire.to c.requires.told.locals c.requires.levels_fit c.requires.there c.in-Element.is)
     (omega (arith, c.saturating_add.ensures, c.if-saturating_add-tables.true))
 
 pub end_from-returns-in_ok-count-in-Element : goal.end_from-returns-in_ok-count-in-Element
@@ -48,7 +47,7 @@ sent_from-loop-wire-preserved t c = λ numbers n told.
     let least = c.args.tables.now.least in
     next_tested least (omega arith) (end_count Locals (chain_of parts) c.args.levels) (end_from (chain_of parts) least c.args.levels) n c.args.wires.now i d numbers c.args.tally c.loop-wire.made _
     c.is_from-own.result c.in_ok-behind.behind c.end_span.result c.loop-wire-test.true c.is_from-own.ensures c.in_ok-behind.ensures
-    (c.end_span.ensures (chain_of parts) c.requires.told.locals (omega (arith, as_many parts, c.requires.levels_fit)) (wire_within parts c.args.wires.now i d c.requires.all_there c.loop-wire-test.true))
+    (c.end_span.ensures (chain_of parts) (length parts.classes.now) c.requires.told.locals c.requires.levels_fit (within_at (length parts.classes.now) c.args.wires.now i d c.requires.all_there c.loop-wire-test.true))
     c.saturating_add-in-loop-wire.ensures
     (c.saturating_add-in-loop-wire-3.ensures ∙ ap (λ (k : ℕ). capped (c.loop-wire.made.count + k)) c.saturating_add-in-loop-wire-2.ensures)
     told (c.loop-wire.invariant numbers n told)

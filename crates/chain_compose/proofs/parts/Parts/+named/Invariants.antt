@@ -1,5 +1,4 @@
-use Rattle.std.proofs.Common.{◌≡◌, ◌+◌, ◌*◌, ℕ, List, take}
-use Rattle.element_chain.specs.Compose.{wires_of}
+use Rattle.std.proofs.Common.{◌+◌, ◌*◌, ℕ, List, take}
 use Rattle.chain_compose.specs.declared.gauge.Gauge.TheVariants.{Locals}
 use Rattle.chain_compose.specs.Counts.{end_count}
 use Rattle.chain_compose.specs.NamedFrom.{Naming, IsTally, all_stepped, started, end_from}
