@@ -2,8 +2,13 @@ pub mod Trees
 pub mod Placing
 pub mod RoutesAt
 pub mod Below
-pub mod Sizes
+pub mod Counted
 pub mod Caps
+pub mod Rises
+pub mod Tallied
+pub mod SentFirst
+pub mod Gauges
+pub mod Widened
 pub mod Steps
 pub mod Weights
 pub mod Levels

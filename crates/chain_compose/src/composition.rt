@@ -21,6 +21,7 @@ ghost use Rattle.chain_compose.specs.Refusals.{AreInPlace, IsRefused, IsUnrefuse
 ghost use Rattle.chain_compose.specs.Refusals.{IsCountRefusal, statements_in, most_statements, order, amount, allowed};
 
 use crate::error::{ComposeError, What};
+use crate::gauge::Gauge;
 use crate::matrix::Reach;
 use crate::names::{locals, objects};
 use crate::parts::{Parts, Place};
@@ -102,10 +103,9 @@ impl Parts<'_> {
         ensures few { IfOk result (λ _. statements_in (composed (chain_of self.now)).body ≤ most_statements) }
         ensures err { IfErr result (IsCountRefusal (chain_of self.now)) }
     {
-        if self.size()? > MAX_STATEMENTS {
+        if self.count(Gauge::Statements)? > MAX_STATEMENTS {
             return Err(ComposeError::Statements);
         }
-        self.refuse_deep()?;
         Ok(self.whole()?)
     }
 }
