@@ -13,7 +13,8 @@ use Rattle.element_lang.specs.Tree.StmtTree.{let_local, assign, set_field, look,
 use Rattle.element_lang.specs.Tree.BodyTree.{done, stmt}
 use Rattle.element_print.specs.declared.place.Place.{Place}
 use Rattle.element_print.specs.declared.place.Place.TheVariants.{Whole, Operand, Turned}
-use Rattle.element_print.specs.Lengths.{has_infix, needs_brackets}
+use Rattle.element_print.specs.Printed.{needs_brackets}
+use Rattle.element_print.specs.Lengths.{nameless}
 
 -- one deeper, where brackets stand around it
 abbrev pub within_if : Bool → ℕ → ℕ
@@ -26,7 +27,7 @@ abbrev mutual
   expr_depth (local x) = 0
   expr_depth (field f) = 0
   expr_depth (byte index) = suc (expr_depth index)
-  expr_depth (shift op by arg) = within_if (has_infix arg) (expr_depth arg)
+  expr_depth (shift op by arg) = within_if (needs_brackets Operand (nameless arg)) (expr_depth arg)
   expr_depth (apply ops.Not width args) = parts_depth Turned args
   expr_depth (apply ops.Cast width args) = suc (parts_depth Whole args)
   expr_depth (apply ops.Select width args) = suc (parts_depth Whole args)
@@ -35,7 +36,7 @@ abbrev mutual
 
   pub parts_depth : Place → Exprs → ℕ
   parts_depth place no_expr = 0
-  parts_depth place (expr e es) = max (within_if (needs_brackets place e) (expr_depth e)) (parts_depth place es)
+  parts_depth place (expr e es) = max (within_if (needs_brackets place (nameless e)) (expr_depth e)) (parts_depth place es)
 
 -- a key stands in square brackets
 abbrev pub keyed_depth : Exprs → ℕ

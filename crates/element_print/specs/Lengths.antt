@@ -14,6 +14,7 @@ use Rattle.element_lang.specs.declared.mark.Mark.{Mark}
 use Rattle.element_lang.specs.declared.mark.Mark.TheVariants as marks
 use Rattle.element_lang.specs.Mark.{spelling}
 use Rattle.element_lang.specs.Rules.{count_of, is_empty}
+use Rattle.element_lang.specs.Surface.{SurfaceExpr, named_expr}
 use Rattle.element_lang.specs.Tree.{ExprTree, Exprs, StmtTree, BodyTree, Tree}
 use Rattle.element_lang.specs.Tree.ExprTree.{lit, local, field, byte, shift, apply}
 use Rattle.element_lang.specs.Tree.Exprs.{no_expr, expr}
@@ -21,7 +22,8 @@ use Rattle.element_lang.specs.Tree.StmtTree.{let_local, assign, set_field, look,
 use Rattle.element_lang.specs.Tree.BodyTree.{done, stmt}
 use Rattle.element_print.specs.declared.place.Place.{Place}
 use Rattle.element_print.specs.declared.place.Place.TheVariants.{Whole, Operand, Turned}
-use Rattle.element_print.specs.Printed.{is_infix, is_not, mark_of}
+use Rattle.element_print.specs.declared.lengths.NameLengths.{NameLengths}
+use Rattle.element_print.specs.Printed.{needs_brackets, mark_of}
 
 -- a count of 64 bits: the count itself, or the greatest that 64 bits can hold
 abbrev pub capped : ℕ → ℕ
@@ -33,6 +35,9 @@ pub record Lengths : Type 0 where
   pub locals : List ℕ
   pub objects : List ℕ
   pub port : ℕ
+
+abbrev pub lengths_by : NameLengths → Lengths
+lengths_by names = record { locals = names.locals.now; objects = names.objects.now; port = names.port }
 
 -- ## Tokens, with the blank after each
 
@@ -70,20 +75,9 @@ between_length m count = (count - 1) * mark_length m
 
 -- ## Expressions
 
--- a symbol stands between its parts, or it is turned by `~`
-abbrev pub has_infix : ExprTree → Bool
-has_infix (shift op by arg) = true
-has_infix (apply op width args) = is_infix op
-has_infix _ = false
-
-abbrev pub is_turned : ExprTree → Bool
-is_turned (apply op width args) = is_not op
-is_turned _ = false
-
-abbrev pub needs_brackets : Place → ExprTree → Bool
-needs_brackets Whole e = false
-needs_brackets Operand e = has_infix e
-needs_brackets Turned e = if has_infix e then true else is_turned e
+-- the expression as it is written but for its names, which don't matter to brackets
+abbrev pub nameless : ExprTree → SurfaceExpr
+nameless = named_expr (record { objects = []; locals = []; body = done })
 
 abbrev pub read_length : Lengths → Field → ℕ
 read_length l f = if field_index f == field_index MetaPort then l.port else field_length f
@@ -99,7 +93,7 @@ abbrev mutual
   expr_length l (field f) = read_length l f
   expr_length l (byte index) = call_length marks.Byte + expr_length l index
   expr_length l (shift op by arg) =
-      brackets_length (has_infix arg) + expr_length l arg + mark_length (mark_of op) + number_length by
+      brackets_length (needs_brackets Operand (nameless arg)) + expr_length l arg + mark_length (mark_of op) + number_length by
   expr_length l (apply ops.Not width args) =
       mark_length marks.Tilde + parts_length l Turned args + between_length marks.Comma (count_of args)
   expr_length l (apply ops.Cast width args) =
@@ -116,7 +110,7 @@ abbrev mutual
   pub parts_length : Lengths → Place → Exprs → ℕ
   parts_length l place no_expr = 0
   parts_length l place (expr e es) =
-      brackets_length (needs_brackets place e) + expr_length l e + parts_length l place es
+      brackets_length (needs_brackets place (nameless e)) + expr_length l e + parts_length l place es
 
 -- expressions with commas between them
 abbrev pub exprs_length : Lengths → Exprs → ℕ
