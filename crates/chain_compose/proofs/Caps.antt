@@ -36,12 +36,12 @@ times_past a b past some =
 
 same_times : (a b y : ℕ) → (b ≡ y) ⊎ ((most ≤ b) × (most ≤ y)) → capped (a * b) ≡ capped (a * y)
 same_times a b y (inl same) = ap (λ (n : ℕ). capped (a * n)) same
-same_times zero b y (inr past) = refl
+same_times zero b y (inr past) = let none : zero * b ≡ zero * y = omega arith in ap capped none
 same_times (suc a) b y (inr past) = past_capped (suc a * b) (suc a * y) (past_times (suc a) b (omega arith) past.0) (past_times (suc a) y (omega arith) past.1)
 
 times_same : (a x y : ℕ) → (a ≡ x) ⊎ ((most ≤ a) × (most ≤ x)) → capped (a * y) ≡ capped (x * y)
 times_same a x y (inl same) = ap (λ (n : ℕ). capped (n * y)) same
-times_same a x zero (inr past) = refl
+times_same a x zero (inr past) = let none : a * zero ≡ x * zero = omega arith in ap capped none
 times_same a x (suc y) (inr past) = past_capped (a * suc y) (x * suc y) (times_past a (suc y) past.0 (omega arith)) (times_past x (suc y) past.1 (omega arith))
 
 pub mul_capped : (a b x y : ℕ) → capped a ≡ capped x → capped b ≡ capped y → capped (a * b) ≡ capped (x * y)

@@ -1,5 +1,5 @@
 -- What is counted of the whole is what is told of its elements.
-use Rattle.std.proofs.Common.{◌≡◌, ℕ, zero, suc, ◌+◌, ◌*◌, ◌==◌, Bool, true, false, cond, List, [], ◌∷◌, ◌++◌, length, map, drop, slice_index, refl, sym, ap, ◌∙◌, arith, Option, Some, None, length-append, add-zero}
+use Rattle.std.proofs.Common.{◌≡◌, ℕ, zero, suc, ◌+◌, ◌*◌, ◌==◌, Bool, true, false, cond, ◌||◌, List, [], ◌∷◌, ◌++◌, length, map, drop, slice_index, refl, sym, ap, ◌∙◌, arith, Option, Some, None, length-append, add-zero}
 use Rattle.std.specs.List.{filter}
 use Rattle.std.proofs.lemmas.List.{get_or-drop}
 use Rattle.gal_bits.specs.declared.op.Op.{Op}
@@ -19,8 +19,8 @@ use Rattle.element_lang.specs.Tree.BodyTree.{done, stmt}
 use Rattle.element_lang.specs.Widths.{local_widths}
 use Rattle.element_print.specs.declared.place.Place.{Place}
 use Rattle.element_print.specs.declared.place.Place.TheVariants.{Whole, Operand, Turned}
-use Rattle.element_print.specs.Printed.{mark_of}
-use Rattle.element_print.specs.Lengths.{Lengths, mark_length, number_length, literal_length, brackets_length, between_length, field_length, read_length, has_infix, is_turned, needs_brackets, call_length, expr_length, parts_length, exprs_length, keyed_length, names_length, else_length, head_length, braces_length, name_length}
+use Rattle.element_print.specs.Printed.{mark_of, has_infix, is_turned, needs_brackets}
+use Rattle.element_print.specs.Lengths.{Lengths, mark_length, number_length, literal_length, brackets_length, between_length, field_length, nameless, read_length, call_length, expr_length, parts_length, exprs_length, keyed_length, names_length, else_length, head_length, braces_length, name_length}
 use Rattle.element_chain.specs.declared.chain.Wire.{Wire}
 use Rattle.element_chain.specs.declared.chain.Target.{Target}
 use Rattle.element_chain.specs.declared.chain.Target.TheVariants.{Element, Out}
@@ -92,28 +92,28 @@ module _ (port : Option ℕ) (names : List ℕ) where
       with_port None = refl
       with_port (Some input) = by_test input (field_index f == field_index MetaPort)
 
-  same_infix : (e : ExprTree) → has_infix (renamed port names e) ≡ has_infix e
+  same_infix : (e : ExprTree) → has_infix (nameless (renamed port names e)) ≡ has_infix (nameless e)
   same_infix (lit value width) = refl
   same_infix (local x) = refl
-  same_infix (field f) = by_seen has_infix (λ g. refl) (λ input. refl) f
+  same_infix (field f) = by_seen (λ (e : ExprTree). has_infix (nameless e)) (λ g. refl) (λ input. refl) f
   same_infix (byte index) = refl
   same_infix (shift op by arg) = refl
   same_infix (apply op width args) = refl
 
-  same_turned : (e : ExprTree) → is_turned (renamed port names e) ≡ is_turned e
+  same_turned : (e : ExprTree) → is_turned (nameless (renamed port names e)) ≡ is_turned (nameless e)
   same_turned (lit value width) = refl
   same_turned (local x) = refl
-  same_turned (field f) = by_seen is_turned (λ g. refl) (λ input. refl) f
+  same_turned (field f) = by_seen (λ (e : ExprTree). is_turned (nameless e)) (λ g. refl) (λ input. refl) f
   same_turned (byte index) = refl
   same_turned (shift op by arg) = refl
   same_turned (apply op width args) = refl
 
-  same_brackets : (place : Place) (e : ExprTree) → needs_brackets place (renamed port names e) ≡ needs_brackets place e
+  same_brackets : (place : Place) (e : ExprTree) → needs_brackets place (nameless (renamed port names e)) ≡ needs_brackets place (nameless e)
   same_brackets Whole e = refl
   same_brackets Operand e = same_infix e
   same_brackets Turned e =
-      ap (λ (v : Bool). cond v true (is_turned (renamed port names e))) (same_infix e)
-      ∙ ap (λ (v : Bool). cond (has_infix e) true v) (same_turned e)
+      ap (λ (v : Bool). v || is_turned (nameless (renamed port names e))) (same_infix e)
+      ∙ ap (λ (v : Bool). has_infix (nameless e) || v) (same_turned e)
 
 module _ (xs : List ℕ) (base : ℕ) (port : Option ℕ) (names : List ℕ) where
   mutual
@@ -124,7 +124,7 @@ module _ (xs : List ℕ) (base : ℕ) (port : Option ℕ) (names : List ℕ) whe
     same_length (byte index) = omega (arith, same_length index)
     same_length (shift op by arg) =
         let inner = same_length arg in
-        let brackets : brackets_length (has_infix (renamed port names arg)) ≡ brackets_length (has_infix arg) = ap brackets_length (same_infix port names arg) in
+        let brackets : brackets_length (needs_brackets Operand (nameless (renamed port names arg))) ≡ brackets_length (needs_brackets Operand (nameless arg)) = ap brackets_length (same_infix port names arg) in
         omega arith
     same_length (apply op width args) =
         let j : Joins op = joins op in
@@ -136,7 +136,7 @@ module _ (xs : List ℕ) (base : ℕ) (port : Option ℕ) (names : List ℕ) whe
     pub same_parts : (place : Place) (es : Exprs) → parts_length (whole xs base port) place (all_renamed port names es) ≡ parts_length (own xs base port) place es
     same_parts place no_expr = refl
     same_parts place (expr e es) =
-        let brackets : brackets_length (needs_brackets place (renamed port names e)) ≡ brackets_length (needs_brackets place e) = ap brackets_length (same_brackets port names place e) in
+        let brackets : brackets_length (needs_brackets place (nameless (renamed port names e))) ≡ brackets_length (needs_brackets place (nameless e)) = ap brackets_length (same_brackets port names place e) in
         let first = same_length e in
         let rest = same_parts place es in
         omega arith

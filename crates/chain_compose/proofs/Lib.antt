@@ -6,6 +6,10 @@ pub mod Counted
 pub mod Caps
 pub mod Rises
 pub mod Tallied
+pub mod Pushed
+pub mod Inputs
+pub mod Elements
+pub mod AllObjects
 pub mod SentFirst
 pub mod Gauges
 pub mod Widened

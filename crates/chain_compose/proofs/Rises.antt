@@ -15,8 +15,8 @@ use Rattle.element_lang.specs.Tree.StmtTree.{let_local, assign, set_field, look,
 use Rattle.element_lang.specs.Tree.BodyTree.{done, stmt}
 use Rattle.element_print.specs.declared.place.Place.{Place}
 use Rattle.element_print.specs.declared.place.Place.TheVariants.{Whole, Operand}
-use Rattle.element_print.specs.Printed.{mark_of}
-use Rattle.element_print.specs.Lengths.{Lengths, capped, mark_length, number_length, literal_length, brackets_length, between_length, field_length, read_length, has_infix, needs_brackets, name_length, call_length, expr_length, parts_length, exprs_length, keyed_length, names_length, else_length, braces_length, head_length}
+use Rattle.element_print.specs.Printed.{mark_of, needs_brackets}
+use Rattle.element_print.specs.Lengths.{Lengths, capped, mark_length, number_length, literal_length, brackets_length, between_length, field_length, nameless, read_length, name_length, call_length, expr_length, parts_length, exprs_length, keyed_length, names_length, else_length, braces_length, head_length}
 use Rattle.chain_compose.specs.declared.gauge.Gauge.{Gauge}
 use Rattle.chain_compose.specs.declared.gauge.Gauge.TheVariants.{Statements, Writes, Locals, Uses, Bytes}
 use Rattle.chain_compose.specs.Counts.{weight, turns, placed_stmt_count, placed_count, drop_weight}
@@ -84,7 +84,7 @@ module _ (locals objects : List ℕ) where
     expr_rises (field f) = read_rises f
     expr_rises (byte index) = above (call_length marks.Byte) (λ n. expr_length (at n) index) (expr_rises index)
     expr_rises (shift op by arg) =
-        let k = brackets_length (has_infix arg) in
+        let k = brackets_length (needs_brackets Operand (nameless arg)) in
         let m = mark_length (mark_of op) + number_length by in
         along (λ n. expr_length (at n) (shift op by arg)) (λ n. k + expr_length (at n) arg + m) (λ n. omega arith)
         (around k (λ n. expr_length (at n) arg) m (expr_rises arg))
@@ -97,7 +97,7 @@ module _ (locals objects : List ℕ) where
     parts_rise : (place : Place) (es : Exprs) → Rises (λ n. parts_length (at n) place es)
     parts_rise place no_expr = level 0
     parts_rise place (expr e es) =
-        let k = brackets_length (needs_brackets place e) in
+        let k = brackets_length (needs_brackets place (nameless e)) in
         both (λ n. k + expr_length (at n) e) (λ n. parts_length (at n) place es)
         (above k (λ n. expr_length (at n) e) (expr_rises e)) (parts_rise place es)
 

@@ -66,12 +66,12 @@ module _ (end : Ends) (counts : Target → ℕ → ℕ) (each : AreWidened end c
 -- nothing is declared where a packet is cleared
 clearing_declares : (l : Lengths) (fs : List Field) → body_count Locals l (clearing fs) ≡ 0
 clearing_declares l [] = refl
-clearing_declares l (f ∷ fs) = clearing_declares l fs
+clearing_declares l (f ∷ fs) = omega (arith, clearing_declares l fs)
 
 closing_declares : (b : BodyTree) → closing_count Locals b ≡ 0
 closing_declares b = by_test (ends_always b)
   where
-    by_test : (e : Bool) → cond e 0 0 ≡ 0
+    by_test : (e : Bool) → cond e zero zero ≡ zero
     by_test true = refl
     by_test false = refl
 

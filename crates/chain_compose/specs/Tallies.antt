@@ -1,5 +1,5 @@
 -- How what is counted of a composition is told: once of each element, and then of one level after the other in numbers.
-use Rattle.std.specs.Prelude.{ℕ, ◌≡◌, ◌<◌, ◌≤◌, ◌+◌, ◌*◌, Bool, true, false, not, List, [], ◌∷◌, length, map, drop, slice_index_or}
+use Rattle.std.specs.Prelude.{ℕ, ◌≡◌, ◌<◌, ◌≤◌, ◌+◌, ◌*◌, Bool, true, false, not, List, [], ◌∷◌, length, map, drop, slice_index, slice_index_or}
 use Rattle.packet_fields.specs.declared.field.Field.TheVariants.{MetaPort}
 use Rattle.element_lang.specs.Tree.{ExprTree, StmtTree, BodyTree}
 use Rattle.element_lang.specs.Tree.ExprTree.{lit}
@@ -111,3 +111,18 @@ pub record IsNext (g : Gauge) (c : Connected) (es : List Ending) (e : ℕ) (f : 
   pub fixed : made.fixed ≡ capped (clearing_count g c + (f.own + (f.closing
       + f.sent * after_count g (told_end g es) (wires_of c.wires e))))
   pub reads : made.reads ≡ f.reads
+
+-- ## Where the input doesn't matter
+
+-- what is told at a level, 0 where nothing is
+abbrev pub told : List (List ℕ) → ℕ → ℕ → ℕ
+told levels n e = slice_index (slice_index_or levels n []) e
+
+-- what is counted at the end of a wire to each element by its input 0, through so many elements and no more
+pub record IsLevel (g : Gauge) (c : Connected) (n : ℕ) (level : List ℕ) : Type 0 where
+  pub each : (e : ℕ) → e < length c.elements → slice_index level e ≡ capped (end_count g c n (Element e) 0)
+
+-- at each of the first so many levels
+pub record AreLevels (g : Gauge) (c : Connected) (count : ℕ) (levels : List (List ℕ)) : Type 0 where
+  pub many : length levels ≡ count
+  pub each : (n : ℕ) → n < count → IsLevel g c n (slice_index_or levels n [])

@@ -94,6 +94,7 @@ impl Parts<'_> {
     }
 
     // The same, where it has few enough statements. They are counted before it is made.
+    #[tactic(auto, using(crate::proofs::Gauges::all_statements))]
     fn few(&self) -> Result<Middlebox, ComposeError>
         requires some { 0 < length self.now.classes.now }
         requires few { length self.now.classes.now ≤ 32 }

@@ -4,33 +4,49 @@ ghost use Rattle.std.specs.Prelude.{◌≡◌, ◌≢◌, ◌<◌, ◌≤◌, �
 ghost use Rattle.element_chain.specs.Compose.{composed};
 ghost use Rattle.element_chain.specs.Wiring.{AreWithin};
 ghost use Rattle.element_chain.specs.declared.chain.Target.TheVariants.{Element};
+ghost use Rattle.element_lang.specs.View.{body_tree};
 ghost use Rattle.element_print.specs.Lengths.{capped};
 ghost use Rattle.chain_compose.specs.Counts.{body_count, whole_lengths, end_count};
 ghost use Rattle.chain_compose.specs.Counts as counts;
 ghost use Rattle.chain_compose.specs.Parts.{chain_of};
 ghost use Rattle.chain_compose.specs.Tallies as tallies;
-ghost use Rattle.chain_compose.specs.Tallies.{all_names, no_ending, no_figures, AreFigures, AllFigures, IsNext, AreEndings};
+ghost use Rattle.chain_compose.specs.Tallies.{all_names, no_ending, no_figures, AreFigures, AllFigures, IsNext, AreEndings, IsLevel, told};
 
 use crate::clearing::put_clearing;
 use crate::ends::ends_always;
 use crate::figures::{Ending, Figures, Scale};
 use crate::gauge::Gauge;
+use crate::levels::Levels;
+use crate::objects::name_lengths;
 use crate::parts::Parts;
 use crate::plain::base_of;
 use crate::tally::{bare_count, sent_in};
 use crate::weights::{drop_weight, out_weight, test_weight};
 use element_chain::{Target, Wire};
 use element_print::{field_length, literal_length};
+use element_lang::Stmt;
 use gal_io::NoMemory;
 use packet_fields::Field;
 
 // The names from one on.
 fn names_from(names: &[u64], first: u64) -> &[u64]
-    ensures { result.now ≡ drop first names.now }
+    ensures { (n : ℕ) → first ≡ capped n → result.now ≡ drop n names.now }
 {
-    match usize::try_from(first) {
-        Ok(first) if first <= names.len() => &names[first..],
-        _ => &[],
+    let first = first as usize;
+    if first <= names.len() {
+        &names[first..]
+    } else {
+        &[]
+    }
+}
+
+// Whether there is a wire.
+fn has_wire(wires: &[Wire]) -> bool
+    ensures { result ≡ tallies.has_wire wires.now }
+{
+    match wires {
+        [] => false,
+        [_, ..] => true,
     }
 }
 
@@ -101,19 +117,30 @@ impl Parts<'_> {
         ensures { AreFigures gauge (chain_of self.now) element result }
     {
         let body = &self.classes[element as usize].body;
+        let objects = names_from(names, base_of(self.classes, element));
+        let wired = has_wire(self.routes.of(element));
         let unread = Scale {
             gauge,
-            objects: names_from(names, base_of(self.classes, element)),
+            objects,
             port: 0,
-            wired: !self.routes.of(element).is_empty(),
+            wired,
         };
-        let read = Scale { port: 1, ..unread };
+        let read = Scale {
+            gauge,
+            objects,
+            port: 1,
+            wired,
+        };
         let own = bare_count(&unread, body);
+        let once = bare_count(&read, body);
+        let reads = once.saturating_sub(own);
+        let sent = sent_in(gauge, body);
+        let closing = closing_count(gauge, body);
         Figures {
             own,
-            reads: bare_count(&read, body).saturating_sub(own),
-            sent: sent_in(gauge, body),
-            closing: closing_count(gauge, body),
+            reads,
+            sent,
+            closing,
         }
     }
 
@@ -143,7 +170,8 @@ impl Parts<'_> {
             port: field_length(Field::MetaPort),
             wired: false,
         };
-        Ok(bare_count(&scale, &body))
+        let counted = bare_count(&scale, &body);
+        Ok(counted)
     }
 
     // The ends of wires to each element, through no element.
@@ -174,12 +202,112 @@ impl Parts<'_> {
         ensures { IsNext gauge (chain_of self.now) endings.now element figures result }
     {
         let after = after_count(gauge, endings, self.routes.of(element));
-        let behind = figures
-            .closing
-            .saturating_add(figures.sent.saturating_mul(after));
+        let tests = figures.sent.saturating_mul(after);
+        let behind = figures.closing.saturating_add(tests);
+        let own = figures.own.saturating_add(behind);
+        let fixed = clearing.saturating_add(own);
         Ending {
-            fixed: clearing.saturating_add(figures.own.saturating_add(behind)),
+            fixed,
             reads: figures.reads,
         }
+    }
+
+    // The same of each element, through one element more.
+    fn more_endings(
+        &self,
+        gauge: Gauge,
+        clearing: u64,
+        figures: &[Figures],
+        endings: &[Ending],
+    ) -> Result<Vec<Ending>, NoMemory>
+        requires few { length self.now.classes.now ≤ 32 }
+        requires within { AreWithin (length self.now.classes.now) self.now.chain.now.wires }
+        requires clearing { clearing ≡ capped (counts.clearing_count gauge (chain_of self.now)) }
+        requires figures { AllFigures gauge (chain_of self.now) (length self.now.classes.now) figures.now }
+        ensures { (n : ℕ) → AreEndings gauge (chain_of self.now) n endings.now
+            → IfOk result (λ made. AreEndings gauge (chain_of self.now) (suc n) made.items) }
+    {
+        let mut made = Vec::new(self.alloc);
+        for element in 0..figures.len() {
+            made.push(self.next_ending(
+                gauge,
+                clearing,
+                figures[element],
+                endings,
+                element as u32,
+            ))?;
+        }
+        Ok(made)
+    }
+
+    // The entry, with all behind it.
+    fn entry_count(&self, gauge: Gauge, figures: &[Figures], endings: &[Ending]) -> u64
+        requires some { 0 < length self.now.classes.now }
+        requires within { AreWithin (length self.now.classes.now) self.now.chain.now.wires }
+        requires figures { AllFigures gauge (chain_of self.now) (length self.now.classes.now) figures.now }
+        requires endings { AreEndings gauge (chain_of self.now) (length self.now.classes.now) endings.now }
+        ensures { result
+            ≡ capped (body_count gauge (whole_lengths (chain_of self.now)) (composed (chain_of self.now)).body) }
+    {
+        let entry = figures[0];
+        let read = entry.reads.saturating_mul(field_length(Field::MetaPort));
+        let after = after_count(gauge, endings, self.routes.of(0));
+        let tests = entry.sent.saturating_mul(after);
+        let own = entry.own.saturating_add(read);
+        own.saturating_add(tests)
+    }
+
+    /// What is counted of the whole.
+    pub fn count(&self, gauge: Gauge) -> Result<u64, NoMemory>
+        requires few { length self.now.classes.now ≤ 32 }
+        requires some { 0 < length self.now.classes.now }
+        requires within { AreWithin (length self.now.classes.now) self.now.chain.now.wires }
+        ensures { IfOk result (λ n. n
+            ≡ capped (body_count gauge (whole_lengths (chain_of self.now)) (composed (chain_of self.now)).body)) }
+    {
+        let names = name_lengths(self.alloc, self.classes)?;
+        let figures = self.figures(gauge, &names)?;
+        let clearing = self.clearing_count(gauge, &names)?;
+        let mut endings = self.first_endings(gauge)?;
+        for _ in 0..self.classes.len() {
+            endings = self.more_endings(gauge, clearing, &figures, &endings)?;
+        }
+        Ok(self.entry_count(gauge, &figures, &endings))
+    }
+
+    // What is counted at the end of a wire to each element, where the input doesn't matter.
+    fn level(&self, gauge: Gauge, endings: &[Ending]) -> Result<Vec<u64>, NoMemory>
+        requires few { length self.now.classes.now ≤ 32 }
+        ensures { (n : ℕ) → AreEndings gauge (chain_of self.now) n endings.now
+            → IfOk result (λ made. IsLevel gauge (chain_of self.now) n made.items) }
+    {
+        let mut level = Vec::new(self.alloc);
+        for element in 0..self.classes.len() as u32 {
+            level.push(told_end(gauge, endings, Target::Element(element), 0))?;
+        }
+        Ok(level)
+    }
+
+    /// What is counted at the end of a wire to each element through 0, 1, .. elements and no more, up to as many as
+    /// there are.
+    pub fn levels(&self, gauge: Gauge) -> Result<Levels, NoMemory>
+        requires few { length self.now.classes.now ≤ 32 }
+        requires within { AreWithin (length self.now.classes.now) self.now.chain.now.wires }
+        requires unread { gauge ≢ Gauge.Bytes }
+        ensures { IfOk result (λ levels. (n e input : ℕ) → n ≤ length self.now.classes.now
+            → e < length self.now.classes.now
+            → told levels n e ≡ capped (end_count gauge (chain_of self.now) n (Element e) input)) }
+    {
+        let names = name_lengths(self.alloc, self.classes)?;
+        let figures = self.figures(gauge, &names)?;
+        let clearing = self.clearing_count(gauge, &names)?;
+        let mut endings = self.first_endings(gauge)?;
+        let mut levels = Levels::new(self.alloc);
+        levels.push(self.level(gauge, &endings)?)?;
+        for _ in 0..self.classes.len() {
+            endings = self.more_endings(gauge, clearing, &figures, &endings)?;
+            levels.push(self.level(gauge, &endings)?)?;
+        }
+        Ok(levels)
     }
 }

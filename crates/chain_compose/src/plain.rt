@@ -25,8 +25,8 @@ pub(crate) fn next_number(widths: &Vec<Width>) -> Result<u32, NoMemory>
     }
 }
 
-// How many objects the elements before this one have.
-fn base_of(classes: &[Middlebox], element: u32) -> u64
+/// How many objects the elements before this one have.
+pub(crate) fn base_of(classes: &[Middlebox], element: u32) -> u64
     ensures { result ≡ capped (compose.base_of (map tree classes.now) element) }
 {
     match classes {
