@@ -8,7 +8,7 @@ ghost use Rattle.chain_compose.specs.Tallies.{scale_lengths};
 
 use crate::figures::Scale;
 use crate::gauge::Gauge;
-use crate::weights::{first_sent, turns, weight};
+use crate::heads::{first_sent, turns, weight};
 use element_lang::Stmt;
 
 // A statement, with no more for a `send` than what stands first for it.

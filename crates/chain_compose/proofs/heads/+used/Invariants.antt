@@ -2,7 +2,7 @@ use Rattle.std.proofs.Common.{◌≡◌, ◌+◌, ◌-◌, ◌^◌, ◌≤◌, d
 use Rattle.element_lang.specs.View.{expr_trees}
 use Rattle.element_print.specs.Lengths.{capped}
 use Rattle.chain_compose.specs.Counts.{used_by_exprs}
-use Rattle.chain_compose.proofs.weights.+used.Given as goal
+use Rattle.chain_compose.proofs.heads.+used.Given as goal
 
 abbrev pub invariant-used_by_exprs-loop-expr : goal.invariant-used_by_exprs-loop-expr
 invariant-used_by_exprs-loop-expr l =
