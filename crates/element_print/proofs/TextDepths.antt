@@ -21,7 +21,7 @@ use Rattle.element_print.specs.declared.place.Place.{Place}
 use Rattle.element_print.specs.declared.place.Place.TheVariants.{Whole, Operand, Turned}
 use Rattle.element_print.specs.Printed.{in_brackets_if, in_brackets, in_braces, behind_each, joined, mark_of, needs_brackets, expr_tokens, parts, part, exprs_tokens, keyed, else_tokens, stmt_tokens, body_tokens, widths_tokens, literal_tokens, literals_tokens, rows_tokens, decl_tokens, decls_tokens, print_tokens}
 use Rattle.element_print.specs.Lengths.{nameless}
-use Rattle.element_print.specs.Depths.{within_if, expr_depth, parts_depth, keyed_depth, head_depth, stmt_depth, body_depth, rows_depth, depth_as, decls_depth, text_depth}
+use Rattle.element_print.specs.Depths.{within_if, expr_depth, parts_depth, keyed_depth, stmt_depth, body_depth, rows_depth, depth_as, decls_depth, text_depth}
 use Rattle.element_print.proofs.TextLengths.{same_brackets}
 
 -- These tokens close the brackets that they open, of which so many are open at once, whatever stands before and after.
@@ -126,7 +126,7 @@ mutual
       let last : List Token = fixed (mark_of op) ∷ number by ∷ [] in
       nested_as (part Operand (named_expr m arg) ++ last) (max d 0) d
       (nested_append (part Operand (named_expr m arg)) last d 0 (part_nested m Operand arg (expr_nested m arg))
-        (nested_cons (fixed (mark_of op)) (number by ∷ []) 0 (plain_mark op) (nested_cons (number by) [] 0 (λ n. refl) nested_none)))
+      (nested_cons (fixed (mark_of op)) (number by ∷ []) 0 (plain_mark op) (nested_cons (number by) [] 0 (λ n. refl) nested_none)))
       (omega arith)
   expr_nested m (apply ops.Not width args) =
       nested_cons (fixed marks.Tilde) (joined marks.Comma (parts Turned (named_exprs m args))) (parts_depth Turned args) (λ n. refl)
@@ -134,7 +134,7 @@ mutual
   expr_nested m (apply ops.Cast width args) =
       call_nested marks.Cast (number width ∷ behind_each marks.Comma (parts Whole (named_exprs m args))) (parts_depth Whole args) (λ n. refl)
       (nested_cons (number width) (behind_each marks.Comma (parts Whole (named_exprs m args))) (parts_depth Whole args) (λ n. refl)
-        (all_nested m Whole marks.Comma args (λ n. refl)))
+      (all_nested m Whole marks.Comma args (λ n. refl)))
   expr_nested m (apply ops.Select width args) =
       call_nested marks.Select (exprs_tokens (named_exprs m args)) (parts_depth Whole args) (λ n. refl)
       (list_nested m Whole marks.Comma args (λ n. refl) (all_nested m Whole marks.Comma args (λ n. refl)))
@@ -152,7 +152,7 @@ mutual
       let rest : List Token = behind_each mark (parts place (named_exprs m es)) in
       nested_cons (fixed mark) (part place (named_expr m e) ++ rest) (max d (parts_depth place es)) plain
       (nested_append (part place (named_expr m e)) rest d (parts_depth place es) (part_nested m place e (expr_nested m e))
-        (all_nested m place mark es plain))
+      (all_nested m place mark es plain))
 
 exprs_nested : (m : Tree) (es : Exprs) → IsNested (exprs_tokens (named_exprs m es)) (parts_depth Whole es)
 exprs_nested m es = list_nested m Whole marks.Comma es (λ n. refl) (all_nested m Whole marks.Comma es (λ n. refl))
@@ -168,7 +168,7 @@ keyed_nested m x keys =
     nested_cons (tokens.name (object_name m x)) (fixed marks.LeftBracket ∷ (exprs_tokens (named_exprs m keys) ++ fixed marks.RightBracket ∷ [])) (keyed_depth keys)
     (λ n. refl)
     (nested_deeper (fixed marks.LeftBracket) (fixed marks.RightBracket) (exprs_tokens (named_exprs m keys)) (parts_depth Whole keys) (λ n. refl) closes
-      (exprs_nested m keys))
+    (exprs_nested m keys))
 
 -- a key, and the end of its statement
 behind_key : (m : Tree) (x : ℕ) (keys : Exprs)
@@ -203,7 +203,7 @@ blocks_nested m first (stmt s b) h k =
     let us : List Token = fixed marks.Else ∷ in_braces (body_tokens (named_body m (stmt s b))) in
     nested_as (ts ++ us) (max (suc (body_depth first)) (suc (body_depth (stmt s b)))) (suc (max (body_depth first) (body_depth (stmt s b))))
     (nested_append ts us (suc (body_depth first)) (suc (body_depth (stmt s b))) (braced (body_tokens (named_body m first)) (body_depth first) h)
-      (else_nested m (stmt s b) k))
+    (else_nested m (stmt s b) k))
     (omega arith)
 
 look_nested : (m : Tree) (found : ℕ) (into : List ℕ) (object : ℕ) (keys : Exprs)
@@ -213,8 +213,8 @@ look_nested m found into object keys =
     let last : List Token = fixed marks.Assign ∷ (keyed (object_name m object) (named_exprs m keys) ++ fixed marks.Semicolon ∷ []) in
     nested_cons (fixed marks.Look) (tokens.name (local_name m found) ∷ (names ++ last)) (keyed_depth keys) (λ n. refl)
     (nested_cons (tokens.name (local_name m found)) (names ++ last) (keyed_depth keys) (λ n. refl)
-      (nested_as (names ++ last) (max 0 (keyed_depth keys)) (keyed_depth keys)
-        (nested_append names last 0 (keyed_depth keys) (names_nested m into) (behind_key m object keys)) (omega arith)))
+    (nested_as (names ++ last) (max 0 (keyed_depth keys)) (keyed_depth keys)
+    (nested_append names last 0 (keyed_depth keys) (names_nested m into) (behind_key m object keys)) (omega arith)))
 
 put_nested : (m : Tree) (ok object : ℕ) (keys values : Exprs)
     → IsNested (stmt_tokens (named_stmt m (put ok object keys values))) (max (keyed_depth keys) (parts_depth Whole values))
@@ -224,10 +224,10 @@ put_nested m ok object keys values =
     let last : List Token = exprs_tokens (named_exprs m values) ++ fixed marks.Semicolon ∷ [] in
     nested_cons (fixed marks.Put) (tokens.name (local_name m ok) ∷ fixed marks.Assign ∷ (key ++ fixed marks.Arrow ∷ last)) d (λ n. refl)
     (nested_cons (tokens.name (local_name m ok)) (fixed marks.Assign ∷ (key ++ fixed marks.Arrow ∷ last)) d (λ n. refl)
-      (nested_cons (fixed marks.Assign) (key ++ fixed marks.Arrow ∷ last) d (λ n. refl)
-        (nested_append key (fixed marks.Arrow ∷ last) (keyed_depth keys) (parts_depth Whole values) (keyed_nested m object keys)
-          (nested_cons (fixed marks.Arrow) last (parts_depth Whole values) (λ n. refl)
-            (nested_end (fixed marks.Semicolon) (exprs_tokens (named_exprs m values)) (parts_depth Whole values) (λ n. refl) (exprs_nested m values))))))
+    (nested_cons (fixed marks.Assign) (key ++ fixed marks.Arrow ∷ last) d (λ n. refl)
+    (nested_append key (fixed marks.Arrow ∷ last) (keyed_depth keys) (parts_depth Whole values) (keyed_nested m object keys)
+    (nested_cons (fixed marks.Arrow) last (parts_depth Whole values) (λ n. refl)
+    (nested_end (fixed marks.Semicolon) (exprs_tokens (named_exprs m values)) (parts_depth Whole values) (λ n. refl) (exprs_nested m values))))))
 
 mutual
   stmt_nested : (m : Tree) (s : StmtTree) → IsNested (stmt_tokens (named_stmt m s)) (stmt_depth s)
@@ -235,7 +235,7 @@ mutual
       let last : List Token = expr_tokens (named_expr m value) ++ fixed marks.Semicolon ∷ [] in
       nested_cons (fixed marks.Let) (tokens.name (local_name m x) ∷ fixed marks.Assign ∷ last) (expr_depth value) (λ n. refl)
       (nested_cons (tokens.name (local_name m x)) (fixed marks.Assign ∷ last) (expr_depth value) (λ n. refl)
-        (nested_cons (fixed marks.Assign) last (expr_depth value) (λ n. refl) (value_nested m value)))
+      (nested_cons (fixed marks.Assign) last (expr_depth value) (λ n. refl) (value_nested m value)))
   stmt_nested m (assign x value) =
       let last : List Token = expr_tokens (named_expr m value) ++ fixed marks.Semicolon ∷ [] in
       nested_cons (tokens.name (local_name m x)) (fixed marks.Assign ∷ last) (expr_depth value) (λ n. refl)
@@ -255,12 +255,12 @@ mutual
       let d : ℕ = suc (max (body_depth first) (body_depth second)) in
       nested_cons (fixed marks.If) (expr_tokens (named_expr m cond) ++ blocks) (max (expr_depth cond) d) (λ n. refl)
       (nested_append (expr_tokens (named_expr m cond)) blocks (expr_depth cond) d (expr_nested m cond)
-        (blocks_nested m first second (body_nested m first) (body_nested m second)))
+      (blocks_nested m first second (body_nested m first) (body_nested m second)))
   stmt_nested m (repeat index count body) =
       let block : List Token = in_braces (body_tokens (named_body m body)) in
       nested_cons (fixed marks.Repeat) (tokens.name (local_name m index) ∷ number count ∷ block) (suc (body_depth body)) (λ n. refl)
       (nested_cons (tokens.name (local_name m index)) (number count ∷ block) (suc (body_depth body)) (λ n. refl)
-        (nested_cons (number count) block (suc (body_depth body)) (λ n. refl) (braced (body_tokens (named_body m body)) (body_depth body) (body_nested m body))))
+      (nested_cons (number count) block (suc (body_depth body)) (λ n. refl) (braced (body_tokens (named_body m body)) (body_depth body) (body_nested m body))))
   stmt_nested m (send port) =
       nested_cons (fixed marks.Send) (expr_tokens (named_expr m port) ++ fixed marks.Semicolon ∷ []) (expr_depth port) (λ n. refl) (value_nested m port)
   stmt_nested m drop =
@@ -290,7 +290,7 @@ literal_nested : (value width : ℕ) (rest : List Token) → IsNested rest 0
 literal_nested value width rest h =
     nested_cons (fixed marks.Comma) (number value ∷ fixed marks.Colon ∷ number width ∷ rest) 0 (λ n. refl)
     (nested_cons (number value) (fixed marks.Colon ∷ number width ∷ rest) 0 (λ n. refl)
-      (nested_cons (fixed marks.Colon) (number width ∷ rest) 0 (λ n. refl) (nested_cons (number width) rest 0 (λ n. refl) h)))
+    (nested_cons (fixed marks.Colon) (number width ∷ rest) 0 (λ n. refl) (nested_cons (number width) rest 0 (λ n. refl) h)))
 
 literal_list_nested : (ws ns : List ℕ) → IsNested (behind_each marks.Comma (map literal_tokens (literals ws ns))) 0
 literal_list_nested ws [] = nested_none
@@ -326,9 +326,9 @@ rows_nested keys values (r ∷ rows) =
     let rest : List Token = rows_tokens (map (named_row keys values) rows) in
     nested_as (first ++ fixed marks.Arrow ∷ (second ++ fixed marks.Semicolon ∷ rest)) (max 1 (max 1 (depth_within rows))) 1
     (nested_append first (fixed marks.Arrow ∷ (second ++ fixed marks.Semicolon ∷ rest)) 1 (max 1 (depth_within rows)) (literals_nested keys r.keys)
-      (nested_cons (fixed marks.Arrow) (second ++ fixed marks.Semicolon ∷ rest) (max 1 (depth_within rows)) (λ n. refl)
-        (nested_append second (fixed marks.Semicolon ∷ rest) 1 (depth_within rows) (literals_nested values r.values)
-          (nested_cons (fixed marks.Semicolon) rest (depth_within rows) (λ n. refl) (rows_nested keys values rows)))))
+    (nested_cons (fixed marks.Arrow) (second ++ fixed marks.Semicolon ∷ rest) (max 1 (depth_within rows)) (λ n. refl)
+    (nested_append second (fixed marks.Semicolon ∷ rest) 1 (depth_within rows) (literals_nested values r.values)
+    (nested_cons (fixed marks.Semicolon) rest (depth_within rows) (λ n. refl) (rows_nested keys values rows)))))
     (omega (arith, at_most_one rows))
 
 -- widths of keys and values, and what stands after them
@@ -337,8 +337,8 @@ widths_behind : (keys values : List ℕ) (ts : List Token) (d e : ℕ) → IsNes
 widths_behind keys values ts d e h is =
     nested_as (widths_tokens keys ++ fixed marks.Arrow ∷ (widths_tokens values ++ ts)) (max 1 (max 1 d)) e
     (nested_append (widths_tokens keys) (fixed marks.Arrow ∷ (widths_tokens values ++ ts)) 1 (max 1 d) (widths_nested keys)
-      (nested_cons (fixed marks.Arrow) (widths_tokens values ++ ts) (max 1 d) (λ n. refl)
-        (nested_append (widths_tokens values) ts 1 d (widths_nested values) h)))
+    (nested_cons (fixed marks.Arrow) (widths_tokens values ++ ts) (max 1 d) (λ n. refl)
+    (nested_append (widths_tokens values) ts 1 d (widths_nested values) h)))
     (omega (arith, is))
 
 table_nested : (o : ObjectDecl) → IsNested (decl_tokens (named_as Table o)) (rows_depth o.rows)
@@ -347,8 +347,8 @@ table_nested o =
     let all : List Token = widths_tokens o.keys ++ fixed marks.Arrow ∷ (widths_tokens o.values ++ in_braces rows) in
     nested_cons (fixed marks.Table) (tokens.name o.name ∷ all) (rows_depth o.rows) (λ n. refl)
     (nested_cons (tokens.name o.name) all (rows_depth o.rows) (λ n. refl)
-      (widths_behind o.keys o.values (in_braces rows) (suc (depth_within o.rows)) (rows_depth o.rows)
-        (braced rows (depth_within o.rows) (rows_nested o.keys o.values o.rows)) (omega (arith, one_more o.rows))))
+    (widths_behind o.keys o.values (in_braces rows) (suc (depth_within o.rows)) (rows_depth o.rows)
+    (braced rows (depth_within o.rows) (rows_nested o.keys o.values o.rows)) (omega (arith, one_more o.rows))))
 
 map_nested : (o : ObjectDecl) → IsNested (decl_tokens (named_as Map o)) 1
 map_nested o =
@@ -356,20 +356,20 @@ map_nested o =
     let all : List Token = widths_tokens o.keys ++ fixed marks.Arrow ∷ (widths_tokens o.values ++ room) in
     nested_cons (fixed marks.Map) (tokens.name o.name ∷ all) 1 (λ n. refl)
     (nested_cons (tokens.name o.name) all 1 (λ n. refl)
-      (widths_behind o.keys o.values room 0 1
-        (nested_cons (fixed marks.Capacity) (number o.size ∷ fixed marks.Semicolon ∷ []) 0 (λ n. refl)
-          (nested_cons (number o.size) (fixed marks.Semicolon ∷ []) 0 (λ n. refl) (nested_cons (fixed marks.Semicolon) [] 0 (λ n. refl) nested_none)))
-        refl))
+    (widths_behind o.keys o.values room 0 1
+    (nested_cons (fixed marks.Capacity) (number o.size ∷ fixed marks.Semicolon ∷ []) 0 (λ n. refl)
+    (nested_cons (number o.size) (fixed marks.Semicolon ∷ []) 0 (λ n. refl) (nested_cons (fixed marks.Semicolon) [] 0 (λ n. refl) nested_none)))
+    refl))
 
 vector_nested : (o : ObjectDecl) → IsNested (decl_tokens (named_as Vector o)) 1
 vector_nested o =
     let last : List Token = widths_tokens o.values ++ fixed marks.Semicolon ∷ [] in
     nested_cons (fixed marks.Vector) (tokens.name o.name ∷ fixed marks.Length ∷ number o.size ∷ fixed marks.Arrow ∷ last) 1 (λ n. refl)
     (nested_cons (tokens.name o.name) (fixed marks.Length ∷ number o.size ∷ fixed marks.Arrow ∷ last) 1 (λ n. refl)
-      (nested_cons (fixed marks.Length) (number o.size ∷ fixed marks.Arrow ∷ last) 1 (λ n. refl)
-        (nested_cons (number o.size) (fixed marks.Arrow ∷ last) 1 (λ n. refl)
-          (nested_cons (fixed marks.Arrow) last 1 (λ n. refl)
-            (nested_end (fixed marks.Semicolon) (widths_tokens o.values) 1 (λ n. refl) (widths_nested o.values))))))
+    (nested_cons (fixed marks.Length) (number o.size ∷ fixed marks.Arrow ∷ last) 1 (λ n. refl)
+    (nested_cons (number o.size) (fixed marks.Arrow ∷ last) 1 (λ n. refl)
+    (nested_cons (fixed marks.Arrow) last 1 (λ n. refl)
+    (nested_end (fixed marks.Semicolon) (widths_tokens o.values) 1 (λ n. refl) (widths_nested o.values))))))
 
 kind_nested : (kind : Kind) (o : ObjectDecl) → IsNested (decl_tokens (named_as kind o)) (depth_as kind o)
 kind_nested Table o = table_nested o
@@ -391,7 +391,7 @@ whole_nested m =
     let block : List Token = in_braces (body_tokens (named_body m m.body)) in
     nested_append decls (fixed marks.Process ∷ block) (decls_depth m.objects) (suc (body_depth m.body)) (decls_nested m.objects)
     (nested_cons (fixed marks.Process) block (suc (body_depth m.body)) (λ n. refl)
-      (braced (body_tokens (named_body m m.body)) (body_depth m.body) (body_nested m m.body)))
+    (braced (body_tokens (named_body m m.body)) (body_depth m.body) (body_nested m m.body)))
 
 pub whole_depth : (m : Tree) → deepest 0 (print_tokens (named m)) ≡ text_depth m
 whole_depth m =

@@ -1,11 +1,9 @@
 -- How many bytes printed tokens have.
-use Rattle.std.proofs.Common.{◌≡◌, ℕ, zero, suc, ◌+◌, ◌-◌, ◌*◌, Bool, true, false, ◌||◌, List, [], ◌∷◌, ◌++◌, map, length, decimal, slice_index, slice_get, refl, sym, ap, ◌∙◌, arith, length-append, append_assoc}
+use Rattle.std.proofs.Common.{◌≡◌, ℕ, zero, suc, ◌+◌, ◌-◌, ◌*◌, Bool, true, false, ◌||◌, List, [], ◌∷◌, ◌++◌, map, length, slice_index, slice_get, refl, sym, ap, ◌∙◌, arith, length-append, append_assoc}
 use Rattle.std.proofs.Math.Nat.{suc-mul, zero-mul}
-use Rattle.gal_bits.specs.declared.op.Op.{Op}
 use Rattle.gal_bits.specs.declared.op.Op.TheVariants as ops
 use Rattle.packet_fields.specs.declared.field.Field.{Field}
 use Rattle.packet_fields.specs.declared.field.Field.TheVariants.{MetaPort}
-use Rattle.packet_fields.specs.Table.{row}
 use Rattle.state_store.specs.declared.object.Kind.{Kind}
 use Rattle.state_store.specs.declared.object.Kind.TheVariants.{Table, Map, Vector, Int}
 use Rattle.state_store.specs.declared.object.Row.{Row}
@@ -21,12 +19,12 @@ use Rattle.element_lang.specs.Tree.ExprTree.{lit, local, field, byte, shift, app
 use Rattle.element_lang.specs.Tree.Exprs.{no_expr, expr}
 use Rattle.element_lang.specs.Tree.StmtTree.{let_local, assign, set_field, look, put, del, choose, repeat, send, drop}
 use Rattle.element_lang.specs.Tree.BodyTree.{done, stmt}
-use Rattle.element_lang.specs.Surface.{named_expr, named_exprs, named_stmt, named_body, named_row, named_as, named_decl, named, local_name, object_name, name_of_local, name_of_object, literals, Literal, SurfaceRow}
+use Rattle.element_lang.specs.Surface.{named_expr, named_exprs, named_stmt, named_body, named_row, named_as, named_decl, named, local_name, object_name, name_of_local, name_of_object, literals}
 use Rattle.element_print.specs.declared.place.Place.{Place}
 use Rattle.element_print.specs.declared.place.Place.TheVariants.{Whole, Operand, Turned}
 use Rattle.element_print.specs.Printed.{token_text, text_of, in_brackets_if, in_brackets, in_braces, behind_each, joined, mark_of, needs_brackets, has_infix, is_turned, expr_tokens, parts, part, exprs_tokens, keyed, else_tokens, stmt_tokens, body_tokens, widths_tokens, literal_tokens, literals_tokens, rows_tokens, decl_tokens, decls_tokens, print_tokens}
 use Rattle.element_print.specs.Spaced.{spaced}
-use Rattle.element_print.specs.Lengths.{Lengths, lengths_of, nameless, mark_length, number_length, literal_length, field_length, brackets_length, between_length, read_length, expr_length, parts_length, exprs_length, keyed_length, names_length, braces_length, else_length, head_length, stmt_length, body_length, widths_sum, widths_length, literals_sum, literals_length, rows_length, length_as, decls_length, text_length}
+use Rattle.element_print.specs.Lengths.{lengths_of, nameless, mark_length, field_length, brackets_length, between_length, read_length, expr_length, parts_length, exprs_length, keyed_length, names_length, braces_length, else_length, head_length, stmt_length, body_length, widths_sum, widths_length, literals_sum, literals_length, rows_length, length_as, decls_length, text_length}
 use Rattle.element_print.proofs.Spaces.{spaced_end}
 
 -- the bytes of tokens, each with the one that stands after it
@@ -46,8 +44,14 @@ bytes_append (t ∷ ts) us = omega (arith, bytes_append ts us)
 -- an LF stands in place of the last blank
 text_bytes : (ts : List Token) (t : Token) → length (text_of (ts ++ t ∷ [])) ≡ bytes_of (ts ++ t ∷ [])
 text_bytes ts t =
-    omega (arith, ap length (spaced_end ts t), length-append (spaced ts) (token_text t ++ 10 ∷ []), length-append (token_text t) (10 ∷ []),
-      spaced_bytes ts, bytes_append ts (t ∷ []))
+    omega (
+      arith,
+      ap length (spaced_end ts t),
+      length-append (spaced ts) (token_text t ++ 10 ∷ []),
+      length-append (token_text t) (10 ∷ []),
+      spaced_bytes ts,
+      bytes_append ts (t ∷ []),
+    )
 
 -- ## Brackets, and marks between parts
 
@@ -142,13 +146,21 @@ mutual
   expr_bytes m (field f) = omega (arith, read_bytes m f)
   expr_bytes m (byte index) = omega (arith, enclosed (expr_tokens (named_expr m index)), expr_bytes m index)
   expr_bytes m (shift op by arg) =
-      omega (arith, bytes_append (part Operand (named_expr m arg)) (fixed (mark_of op) ∷ number by ∷ []),
-        part_bytes m Operand arg (expr_length (lengths_of m) arg) (expr_bytes m arg))
+      omega (
+        arith,
+        bytes_append (part Operand (named_expr m arg)) (fixed (mark_of op) ∷ number by ∷ []),
+        part_bytes m Operand arg (expr_length (lengths_of m) arg) (expr_bytes m arg),
+      )
   expr_bytes m (apply ops.Not width args) = omega (arith, list_bytes m Turned marks.Comma args (all_bytes m Turned args))
   expr_bytes m (apply ops.Cast width args) =
       let rest : List Token = behind_each marks.Comma (parts Whole (named_exprs m args)) in
-      omega (arith, enclosed (number width ∷ rest), behind_bytes marks.Comma (parts Whole (named_exprs m args)), all_bytes m Whole args,
-        ap (λ n. n * mark_length marks.Comma) (same_count m Whole args))
+      omega (
+        arith,
+        enclosed (number width ∷ rest),
+        behind_bytes marks.Comma (parts Whole (named_exprs m args)),
+        all_bytes m Whole args,
+        ap (λ n. n * mark_length marks.Comma) (same_count m Whole args),
+      )
   expr_bytes m (apply ops.Select width args) =
       omega (arith, enclosed (exprs_tokens (named_exprs m args)), list_bytes m Whole marks.Comma args (all_bytes m Whole args))
   expr_bytes m (apply ops.Adjust width args) =
@@ -171,8 +183,12 @@ value_bytes m e = omega (arith, bytes_append (expr_tokens (named_expr m e)) (fix
 
 keyed_bytes : (m : Tree) (x : ℕ) (keys : Exprs) → bytes_of (keyed (object_name m x) (named_exprs m keys)) ≡ keyed_length (lengths_of m) x keys
 keyed_bytes m x keys =
-    omega (arith, bytes_append (exprs_tokens (named_exprs m keys)) (fixed marks.RightBracket ∷ []), exprs_bytes m keys,
-      object_bytes m.objects x)
+    omega (
+      arith,
+      bytes_append (exprs_tokens (named_exprs m keys)) (fixed marks.RightBracket ∷ []),
+      exprs_bytes m keys,
+      object_bytes m.objects x,
+    )
 
 names_bytes : (m : Tree) (xs : List ℕ)
     → bytes_of (behind_each marks.Comma (map (λ word. tokens.name word ∷ []) (map (local_name m) xs))) ≡ names_length (lengths_of m) xs
@@ -189,15 +205,25 @@ look_bytes : (m : Tree) (found : ℕ) (into : List ℕ) (object : ℕ) (keys : E
 look_bytes m found into object keys =
     let names : List Token = behind_each marks.Comma (map (λ word. tokens.name word ∷ []) (map (local_name m) into)) in
     let last : List Token = keyed (object_name m object) (named_exprs m keys) ++ fixed marks.Semicolon ∷ [] in
-    omega (arith, local_bytes m.locals found, bytes_append names (fixed marks.Assign ∷ last), names_bytes m into,
-      behind_key m object keys (fixed marks.Semicolon ∷ []))
+    omega (
+      arith,
+      local_bytes m.locals found,
+      bytes_append names (fixed marks.Assign ∷ last),
+      names_bytes m into,
+      behind_key m object keys (fixed marks.Semicolon ∷ []),
+    )
 
 put_bytes : (m : Tree) (ok object : ℕ) (keys values : Exprs)
     → bytes_of (stmt_tokens (named_stmt m (put ok object keys values))) ≡ head_length (lengths_of m) (put ok object keys values)
 put_bytes m ok object keys values =
     let last : List Token = exprs_tokens (named_exprs m values) ++ fixed marks.Semicolon ∷ [] in
-    omega (arith, local_bytes m.locals ok, behind_key m object keys (fixed marks.Arrow ∷ last),
-      bytes_append (exprs_tokens (named_exprs m values)) (fixed marks.Semicolon ∷ []), exprs_bytes m values)
+    omega (
+      arith,
+      local_bytes m.locals ok,
+      behind_key m object keys (fixed marks.Arrow ∷ last),
+      bytes_append (exprs_tokens (named_exprs m values)) (fixed marks.Semicolon ∷ []),
+      exprs_bytes m values,
+    )
 
 else_bytes : (m : Tree) (b : BodyTree) (bytes : ℕ) → bytes_of (body_tokens (named_body m b)) ≡ bytes
     → bytes_of (else_tokens (named_body m b) (body_tokens (named_body m b))) ≡ else_length (is_empty b) + bytes
@@ -216,8 +242,15 @@ mutual
   stmt_bytes m (choose cond first second) =
       let one : List Token = body_tokens (named_body m first) in
       let two : List Token = else_tokens (named_body m second) (body_tokens (named_body m second)) in
-      omega (arith, bytes_append (expr_tokens (named_expr m cond)) (in_braces one ++ two), bytes_append (in_braces one) two, expr_bytes m cond,
-        braced one, body_bytes m first, else_bytes m second (body_length (lengths_of m) second) (body_bytes m second))
+      omega (
+        arith,
+        bytes_append (expr_tokens (named_expr m cond)) (in_braces one ++ two),
+        bytes_append (in_braces one) two,
+        expr_bytes m cond,
+        braced one,
+        body_bytes m first,
+        else_bytes m second (body_length (lengths_of m) second) (body_bytes m second),
+      )
   stmt_bytes m (repeat index count body) =
       omega (arith, local_bytes m.locals index, braced (body_tokens (named_body m body)), body_bytes m body)
   stmt_bytes m (send port) = omega (arith, value_bytes m port)
@@ -264,15 +297,26 @@ rows_bytes keys values [] = refl
 rows_bytes keys values (r ∷ rows) =
     let last : List Token = rows_tokens (map (named_row keys values) rows) in
     let second : List Token = literals_tokens (literals values r.values) in
-    omega (arith, bytes_append (literals_tokens (literals keys r.keys)) (fixed marks.Arrow ∷ (second ++ fixed marks.Semicolon ∷ last)),
-      bytes_append second (fixed marks.Semicolon ∷ last), literals_bytes keys r.keys, literals_bytes values r.values, rows_bytes keys values rows)
+    omega (
+      arith,
+      bytes_append (literals_tokens (literals keys r.keys)) (fixed marks.Arrow ∷ (second ++ fixed marks.Semicolon ∷ last)),
+      bytes_append second (fixed marks.Semicolon ∷ last),
+      literals_bytes keys r.keys,
+      literals_bytes values r.values,
+      rows_bytes keys values rows,
+    )
 
 -- widths of keys and values, and what stands after them
 widths_behind : (keys values : List ℕ) (ts : List Token)
     → bytes_of (widths_tokens keys ++ fixed marks.Arrow ∷ (widths_tokens values ++ ts)) ≡ widths_length keys + mark_length marks.Arrow + widths_length values + bytes_of ts
 widths_behind keys values ts =
-    omega (arith, bytes_append (widths_tokens keys) (fixed marks.Arrow ∷ (widths_tokens values ++ ts)), bytes_append (widths_tokens values) ts,
-      widths_bytes keys, widths_bytes values)
+    omega (
+      arith,
+      bytes_append (widths_tokens keys) (fixed marks.Arrow ∷ (widths_tokens values ++ ts)),
+      bytes_append (widths_tokens values) ts,
+      widths_bytes keys,
+      widths_bytes values,
+    )
 
 kind_bytes : (kind : Kind) (o : ObjectDecl) → bytes_of (decl_tokens (named_as kind o)) ≡ length o.name + length_as kind o
 kind_bytes Table o =
@@ -295,5 +339,13 @@ whole_bytes m =
     let body : List Token = body_tokens (named_body m m.body) in
     let but_last : List Token = decls ++ fixed marks.Process ∷ fixed marks.LeftBrace ∷ body in
     let same : but_last ++ fixed marks.RightBrace ∷ [] ≡ print_tokens (named m) = append_assoc decls (fixed marks.Process ∷ fixed marks.LeftBrace ∷ body) (fixed marks.RightBrace ∷ []) in
-    omega (arith, ap (λ ts. length (text_of ts)) same, text_bytes but_last (fixed marks.RightBrace), ap bytes_of same,
-      bytes_append decls (fixed marks.Process ∷ in_braces body), braced body, decls_bytes m.objects, body_bytes m m.body)
+    omega (
+      arith,
+      ap (λ ts. length (text_of ts)) same,
+      text_bytes but_last (fixed marks.RightBrace),
+      ap bytes_of same,
+      bytes_append decls (fixed marks.Process ∷ in_braces body),
+      braced body,
+      decls_bytes m.objects,
+      body_bytes m m.body,
+    )

@@ -1,7 +1,6 @@
 -- How many bytes a printed text has, told from the tree: each token's own, and one for what stands after it.
 use Rattle.std.specs.Prelude.{ℕ, suc, ◌+◌, ◌-◌, ◌*◌, ◌^◌, ◌==◌, min, Bool, true, false, List, [], ◌∷◌, length, map}
 use Rattle.std.specs.Prelude.{decimal, slice_index, if◌then◌else◌}
-use Rattle.gal_bits.specs.declared.op.Op.{Op}
 use Rattle.gal_bits.specs.declared.op.Op.TheVariants as ops
 use Rattle.packet_fields.specs.declared.field.Field.{Field}
 use Rattle.packet_fields.specs.declared.field.Field.TheVariants.{MetaPort}

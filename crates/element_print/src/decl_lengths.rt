@@ -4,8 +4,10 @@ ghost use Rattle.element_print.specs.Lengths as lengths;
 ghost use Rattle.element_print.specs.Lengths.{capped};
 
 use crate::decl::width_at;
-use crate::token_lengths::{between_length, braces_length, brackets_length, literal_length};
-use crate::token_lengths::{mark_length, number_length, total};
+use crate::token_lengths::{
+    between_length, braces_length, brackets_length, literal_length, mark_length, number_length,
+    total,
+};
 use element_lang::Mark;
 use gal_bits::Widths;
 use state_store::{Kind, ObjectDecl, Row};

@@ -9,8 +9,10 @@ ghost use Rattle.element_print.specs.Printed as printed;
 
 use crate::lengths::NameLengths;
 use crate::place::{Place, mark_of, needs_brackets};
-use crate::token_lengths::{between_length, brackets_length, field_length, literal_length};
-use crate::token_lengths::{mark_length, marks_length, name_length, number_length, total};
+use crate::token_lengths::{
+    between_length, brackets_length, field_length, literal_length, mark_length, marks_length,
+    name_length, number_length, total,
+};
 use element_lang::{Expr, Mark};
 use gal_bits::{Op, Width};
 use packet_fields::Field;

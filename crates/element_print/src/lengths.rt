@@ -7,8 +7,9 @@ ghost use Rattle.element_print.specs.Lengths.{capped, lengths_by};
 
 use crate::decl_lengths::decls_length;
 use crate::expr_lengths::{expr_length, exprs_length};
-use crate::token_lengths::{braces_length, field_length, frame_length, mark_length};
-use crate::token_lengths::{name_length, number_length, total};
+use crate::token_lengths::{
+    braces_length, field_length, frame_length, mark_length, name_length, number_length, total,
+};
 use element_lang::{Expr, Local, Mark, Middlebox, Stmt};
 use gal_io::NoMemory;
 use packet_fields::Field;
@@ -65,13 +66,7 @@ fn names_length(names: &NameLengths<'_>, locals: &[u32]) -> u64
     bytes
 }
 
-fn look_length(
-    names: &NameLengths<'_>,
-    found: u32,
-    into: &[u32],
-    object: u32,
-    keys: &[Expr],
-) -> u64
+fn look_length(names: &NameLengths<'_>, found: u32, into: &[u32], object: u32, keys: &[Expr]) -> u64
     ensures { result ≡ capped (lengths.head_length (lengths_by names.now)
         (look found into.now object (expr_trees keys.now))) }
 {
@@ -85,13 +80,7 @@ fn look_length(
     ])
 }
 
-fn put_length(
-    names: &NameLengths<'_>,
-    ok: u32,
-    object: u32,
-    keys: &[Expr],
-    values: &[Expr],
-) -> u64
+fn put_length(names: &NameLengths<'_>, ok: u32, object: u32, keys: &[Expr], values: &[Expr]) -> u64
     ensures { result ≡ capped (lengths.head_length (lengths_by names.now)
         (put ok object (expr_trees keys.now) (expr_trees values.now))) }
 {

@@ -1,4 +1,4 @@
-use Rattle.std.proofs.Common.{◌≡◌, ◌+◌, ◌≤◌, take, sum}
+use Rattle.std.proofs.Common.{◌≡◌, take, sum}
 use Rattle.element_print.specs.Lengths.{capped}
 use Rattle.element_print.proofs.token_lengths.total.Given as goal
 
