@@ -1,5 +1,5 @@
 -- The objects of all elements, with their names in the whole.
-use Rattle.std.proofs.Common.{◌≡◌, ℕ, zero, suc, ◌+◌, ◌*◌, ◌<◌, ◌≤◌, List, [], ◌∷◌, ◌++◌, length, map, drop, refl, sym, ap, ◌∙◌, arith, length-append}
+use Rattle.std.proofs.Common.{◌≡◌, ℕ, zero, suc, ◌+◌, ◌*◌, ◌<◌, ◌≤◌, List, [], ◌∷◌, ◌++◌, length, map, drop, slice_index_or, refl, sym, ap, ◌∙◌, arith, length-append, append_assoc, drop-cons}
 use Rattle.std.proofs.Math.Nat.{suc-mul}
 use Rattle.state_store.specs.declared.object.Kind.{Kind}
 use Rattle.state_store.specs.declared.object.Kind.TheVariants.{Table, Map, Vector, Int}
@@ -10,6 +10,15 @@ use Rattle.element_lang.specs.View.{tree}
 use Rattle.element_lang.specs.declared.tree.Middlebox.{Middlebox}
 use Rattle.element_print.specs.Lengths.{length_as, decl_length, decls_length}
 use Rattle.element_chain.specs.Compose.{prefixed, named_objects, objects_from, base_of}
+
+-- the objects of an element, and those behind it
+pub objects_at : (ms : List Middlebox) (i : ℕ) (m : Middlebox) → i < length ms → m ≡ slice_index_or ms i m
+    → objects_from i (map tree (drop i ms)) ≡ named_objects i m.objects ++ objects_from (i + 1) (map tree (drop (i + 1) ms))
+objects_at ms i m within is =
+    let next : suc i ≡ i + 1 = omega arith in
+    ap (λ (ks : List Middlebox). objects_from i (map tree ks)) (drop-cons ms i m within)
+    ∙ ap (λ (k : Middlebox). named_objects i k.objects ++ objects_from (suc i) (map tree (drop (suc i) ms))) (sym is)
+    ∙ ap (λ (k : ℕ). named_objects i m.objects ++ objects_from k (map tree (drop k ms))) next
 
 -- ## How many there are
 
@@ -81,3 +90,41 @@ named_decls e prefix is (o ∷ os) =
 pub decls_append : (os ps : List ObjectDecl) → decls_length (os ++ ps) ≡ decls_length os + decls_length ps
 decls_append [] ps = omega arith
 decls_append (o ∷ os) ps = omega (arith, decls_append os ps)
+
+-- ## Names
+
+abbrev pub lengths_of_names : List ObjectDecl → List ℕ
+lengths_of_names = map (λ (o : ObjectDecl). length o.name)
+
+-- one more is told
+pub name_told : (e prefix : ℕ) (own : List ObjectDecl) (i : ℕ) (o : ObjectDecl) (n : ℕ) (had had' all : List ℕ) → ((name : List ℕ) → length (prefixed e name) ≡ prefix + length name)
+    → i < length own → o ≡ slice_index_or own i o → n ≡ prefix + length o.name → had' ≡ had ++ n ∷ []
+    → had ++ lengths_of_names (named_objects e (drop i own)) ≡ all → had' ++ lengths_of_names (named_objects e (drop (i + 1) own)) ≡ all
+name_told e prefix own i o n had had' all prefixes within is told more before =
+    let next : suc i ≡ i + 1 = omega arith in
+    let rest = lengths_of_names (named_objects e (drop (i + 1) own)) in
+    let here : drop i own ≡ o ∷ drop (i + 1) own =
+    drop-cons own i o within ∙ ap (λ (p : ObjectDecl). p ∷ drop (suc i) own) (sym is) ∙ ap (λ (k : ℕ). o ∷ drop k own) next in
+    let first : n ≡ length (prefixed e o.name) = told ∙ sym (prefixes o.name) in
+    ap (λ (ns : List ℕ). ns ++ rest) more
+    ∙ append_assoc had (n ∷ []) rest
+    ∙ ap (λ (k : ℕ). had ++ (k ∷ rest)) first
+    ∙ ap (λ (os : List ObjectDecl). had ++ lengths_of_names (named_objects e os)) (sym here)
+    ∙ before
+
+-- those of one element more
+pub names_told : (ms : List Middlebox) (i : ℕ) (m : Middlebox) (had had' all : List ℕ) → i < length ms → m ≡ slice_index_or ms i m
+    → had' ≡ had ++ lengths_of_names (named_objects i m.objects)
+    → had ++ lengths_of_names (objects_from i (map tree (drop i ms))) ≡ all → had' ++ lengths_of_names (objects_from (i + 1) (map tree (drop (i + 1) ms))) ≡ all
+names_told ms i m had had' all within is more before =
+    let next : suc i ≡ i + 1 = omega arith in
+    let rest = objects_from (i + 1) (map tree (drop (i + 1) ms)) in
+    ap (λ (ns : List ℕ). ns ++ lengths_of_names rest) more
+    ∙ append_assoc had (lengths_of_names (named_objects i m.objects)) (lengths_of_names rest)
+    ∙ ap (λ (ns : List ℕ). had ++ ns) (sym (names_append (named_objects i m.objects) rest))
+    ∙ ap (λ (os : List ObjectDecl). had ++ lengths_of_names os) (sym (objects_at ms i m within is))
+    ∙ before
+  where
+    names_append : (os ps : List ObjectDecl) → lengths_of_names (os ++ ps) ≡ lengths_of_names os ++ lengths_of_names ps
+    names_append [] ps = refl
+    names_append (o ∷ os) ps = ap (λ (ns : List ℕ). length o.name ∷ ns) (names_append os ps)

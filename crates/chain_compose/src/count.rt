@@ -303,10 +303,12 @@ impl Parts<'_> {
         let clearing = self.clearing_count(gauge, &names)?;
         let mut endings = self.first_endings(gauge)?;
         let mut levels = Levels::new(self.alloc);
-        levels.push(self.level(gauge, &endings)?)?;
+        let first = self.level(gauge, &endings)?;
+        levels.push(first)?;
         for _ in 0..self.classes.len() {
             endings = self.more_endings(gauge, clearing, &figures, &endings)?;
-            levels.push(self.level(gauge, &endings)?)?;
+            let next = self.level(gauge, &endings)?;
+            levels.push(next)?;
         }
         Ok(levels)
     }

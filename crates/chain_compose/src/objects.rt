@@ -63,7 +63,6 @@ pub(crate) fn name_lengths(alloc: Global, classes: &[Middlebox]) -> Result<Vec<u
 }
 
 /// How many objects all elements have.
-#[tactic(auto, using(crate::proofs::AllObjects::all_counted))]
 pub(crate) fn object_count(classes: &[Middlebox]) -> u64
     ensures { result ≡ capped (length (objects_from 0 (map tree classes.now))) }
 {
@@ -75,7 +74,6 @@ pub(crate) fn object_count(classes: &[Middlebox]) -> u64
 }
 
 /// How many entries they have.
-#[tactic(auto, using(crate::proofs::AllObjects::all_entered))]
 pub(crate) fn all_entries(classes: &[Middlebox]) -> u64
     ensures { result ≡ capped (entries_in (objects_from 0 (map tree classes.now))) }
 {
