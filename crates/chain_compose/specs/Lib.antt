@@ -1,5 +1,6 @@
 pub mod Refusals
 pub mod Counts
+pub mod Tallies
 pub mod Depths
 pub mod SendLevels
 pub mod NamedFrom

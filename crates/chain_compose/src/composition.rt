@@ -21,6 +21,7 @@ ghost use Rattle.chain_compose.specs.Refusals.{AreInPlace, IsRefused, IsUnrefuse
 ghost use Rattle.chain_compose.specs.Refusals.{IsCountRefusal, statements_in, most_statements, order, amount, allowed};
 
 use crate::error::{ComposeError, What};
+use crate::gauge::Gauge;
 use crate::matrix::Reach;
 use crate::names::{locals, objects};
 use crate::parts::{Parts, Place};
@@ -93,6 +94,7 @@ impl Parts<'_> {
     }
 
     // The same, where it has few enough statements. They are counted before it is made.
+    #[tactic(auto, using(crate::proofs::Gauges::all_statements))]
     fn few(&self) -> Result<Middlebox, ComposeError>
         requires some { 0 < length self.now.classes.now }
         requires few { length self.now.classes.now ≤ 32 }
@@ -102,10 +104,9 @@ impl Parts<'_> {
         ensures few { IfOk result (λ _. statements_in (composed (chain_of self.now)).body ≤ most_statements) }
         ensures err { IfErr result (IsCountRefusal (chain_of self.now)) }
     {
-        if self.size()? > MAX_STATEMENTS {
+        if self.count(Gauge::Statements)? > MAX_STATEMENTS {
             return Err(ComposeError::Statements);
         }
-        self.refuse_deep()?;
         Ok(self.whole()?)
     }
 }

@@ -1,0 +1,32 @@
+-- What stands first for a `send`.
+use Rattle.std.proofs.Common.{◌≡◌, ℕ, ◌+◌, Bool, true, false, List, [], ◌∷◌, refl, sym, ap, ◌∙◌, arith}
+use Rattle.packet_fields.specs.declared.field.Field.{Field}
+use Rattle.element_lang.specs.Tree.{ExprTree, BodyTree}
+use Rattle.element_lang.specs.Tree.StmtTree.{let_local, send}
+use Rattle.element_print.specs.Lengths.{Lengths, capped}
+use Rattle.element_chain.specs.Compose.{cleared, clearing}
+use Rattle.chain_compose.specs.declared.figures.Scale.{Scale}
+use Rattle.chain_compose.specs.declared.gauge.Gauge.{Gauge}
+use Rattle.chain_compose.specs.declared.gauge.Gauge.TheVariants.{Statements, Writes, Locals, Uses, Bytes}
+use Rattle.chain_compose.specs.Counts.{weight, stmt_count, body_count}
+use Rattle.chain_compose.specs.Tallies.{scale_lengths, let_excess, first_sent, bare_count}
+use Rattle.chain_compose.proofs.Caps.{add_capped, capped_again}
+
+let_more : (g : Gauge) (objects : List ℕ) (port : ℕ) (e : ExprTree) → (let l : Lengths = record { locals = []; objects = objects; port = port } in weight g l (let_local 0 e) ≡ weight g l (send e) + let_excess g)
+let_more Statements objects port e = refl
+let_more Writes objects port e = refl
+let_more Locals objects port e = refl
+let_more Uses objects port e = omega arith
+let_more Bytes objects port e = omega arith
+
+pub let_for_send : (s : Scale) (sent : ℕ) (port : ExprTree) → sent ≡ capped (weight s.gauge (scale_lengths s) (send port)) → capped (sent + let_excess s.gauge) ≡ capped (first_sent s.gauge (scale_lengths s) true port)
+let_for_send s sent port is =
+    let had = weight s.gauge (scale_lengths s) (send port) in
+    ap (λ (n : ℕ). capped (n + let_excess s.gauge)) is
+    ∙ add_capped (capped had) (let_excess s.gauge) had (let_excess s.gauge) (capped_again had) refl
+    ∙ ap capped (sym (let_more s.gauge s.objects.now s.port port))
+
+-- nothing is sent where a packet is cleared
+pub clearing_bare : (g : Gauge) (l : Lengths) (wired : Bool) (fs : List Field) → bare_count g l wired (clearing fs) ≡ body_count g l (clearing fs)
+clearing_bare g l wired [] = refl
+clearing_bare g l wired (f ∷ fs) = ap (λ (n : ℕ). stmt_count g l (cleared f) + n) (clearing_bare g l wired fs)
