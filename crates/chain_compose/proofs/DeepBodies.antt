@@ -1,5 +1,5 @@
 -- Brackets of the whole stand as deep as is told from its elements.
-use Rattle.std.proofs.Common.{◌≡◌, ℕ, zero, suc, ◌+◌, Bool, true, false, cond, List, [], ◌∷◌, ◌++◌, length, max, refl, ap, ◌∙◌, arith, Option, Some, None}
+use Rattle.std.proofs.Common.{◌≡◌, ℕ, zero, suc, Bool, true, false, cond, List, [], ◌∷◌, ◌++◌, length, max, refl, arith, Option, Some, None}
 use Rattle.std.specs.List.{filter}
 use Rattle.packet_fields.specs.Table.{all_fields}
 use Rattle.element_lang.specs.Rules.{ends_always}
@@ -8,13 +8,13 @@ use Rattle.element_lang.specs.Tree.StmtTree.{let_local, assign, set_field, look,
 use Rattle.element_lang.specs.Tree.BodyTree.{done, stmt}
 use Rattle.element_lang.specs.Widths.{local_widths}
 use Rattle.element_print.specs.declared.place.Place.TheVariants.{Whole}
-use Rattle.element_print.specs.Depths.{expr_depth, head_depth, stmt_depth, body_depth, text_depth, keyed_depth, parts_depth}
+use Rattle.element_print.specs.Depths.{body_depth, text_depth}
 use Rattle.element_chain.specs.declared.chain.Wire.{Wire}
 use Rattle.element_chain.specs.declared.chain.Target.{Target}
 use Rattle.element_chain.specs.declared.chain.Target.TheVariants.{Element, Out}
 use Rattle.element_chain.specs.Chain.{Connected, element_at}
-use Rattle.element_chain.specs.Compose.{followed, one, Numbering, Spot, Sends, Ends, declared, renamed, all_renamed, stmt_placed, body_placed, tests, sent_by, wires_of, clearing, closed, is_set, base_of, ends_within, element_placed, composed}
-use Rattle.chain_compose.specs.Depths.{placed_stmt_depth, placed_depth, tests_depth, sent_depth, element_depth, clearing_depth, end_depth, all_decls_depth, entry_depth}
+use Rattle.element_chain.specs.Compose.{followed, one, Numbering, Spot, Sends, Ends, declared, renamed, stmt_placed, body_placed, tests, sent_by, wires_of, clearing, closed, is_set, base_of, ends_within, element_placed, composed}
+use Rattle.chain_compose.specs.Depths.{placed_stmt_depth, placed_depth, tests_depth, sent_depth, element_depth, end_depth, entry_depth}
 use Rattle.chain_compose.proofs.DeepExprs.{depth_kept, parts_kept, whole_decls_depth}
 
 followed_depth : (a b : BodyTree) → body_depth (followed a b) ≡ max (body_depth a) (body_depth b)
@@ -76,8 +76,12 @@ depth_of_ends c (suc n) Out input widths = refl
 depth_of_ends c (suc n) (Element e) input widths =
     let m = element_at c.elements e in
     let own = element_placed c (ends_within c n) (Some input) e widths in
-    omega (arith, followed_depth (clearing (filter (is_set c.elements) all_fields)) (closed m.body own.body), closed_depth (ends_always m.body) own.body,
-    depth_of_element c (ends_within c n) (end_depth c n) (depth_of_ends c n) (Some input) e widths)
+    omega (
+      arith,
+      followed_depth (clearing (filter (is_set c.elements) all_fields)) (closed m.body own.body),
+      closed_depth (ends_always m.body) own.body,
+      depth_of_element c (ends_within c n) (end_depth c n) (depth_of_ends c n) (Some input) e widths,
+    )
 
 pub whole_depth : (c : Connected) → text_depth (composed c) ≡ entry_depth c
 whole_depth c =

@@ -1,9 +1,9 @@
 -- How deep an element is by its own statements and by the level of its innermost `send`.
-use Rattle.std.proofs.Common.{◌≡◌, ◌≤◌, ℕ, zero, suc, ◌+◌, ◌-◌, ◌==◌, ◌⊎◌, inl, inr, Bool, true, false, cond, List, [], ◌∷◌, max, refl, sym, ap, ◌∙◌, arith}
+use Rattle.std.proofs.Common.{◌≡◌, ◌≤◌, ℕ, zero, suc, ◌+◌, List, [], ◌∷◌, max, refl, sym, ap, ◌∙◌, arith}
 use Rattle.element_lang.specs.Tree.{ExprTree, StmtTree, BodyTree}
 use Rattle.element_lang.specs.Tree.StmtTree.{let_local, assign, set_field, look, put, del, choose, repeat, send, drop}
 use Rattle.element_lang.specs.Tree.BodyTree.{done, stmt}
-use Rattle.element_print.specs.Depths.{expr_depth, head_depth, stmt_depth, body_depth}
+use Rattle.element_print.specs.Depths.{expr_depth, stmt_depth, body_depth}
 use Rattle.element_chain.specs.declared.chain.Wire.{Wire}
 use Rattle.element_chain.specs.declared.chain.Target.{Target}
 use Rattle.element_chain.specs.Chain.{Connected, element_at}

@@ -19,8 +19,8 @@ use Rattle.chain_compose.specs.declared.gauge.Gauge.{Gauge}
 use Rattle.chain_compose.specs.declared.gauge.Gauge.TheVariants.{Locals, Uses}
 use Rattle.chain_compose.specs.declared.named.Tally.{Tally}
 use Rattle.chain_compose.specs.declared.parts.Parts.{Parts}
-use Rattle.chain_compose.specs.declared.steps.Step.{Step}
-use Rattle.chain_compose.specs.declared.steps.Step.TheVariants.{Name, Send}
+use Rattle.chain_compose.specs.declared.name_steps.Step.{Step}
+use Rattle.chain_compose.specs.declared.name_steps.Step.TheVariants.{Name, Send}
 use Rattle.chain_compose.specs.Counts.{used_in, end_count}
 use Rattle.chain_compose.specs.Tallies.{told}
 use Rattle.chain_compose.specs.Parts.{chain_of}

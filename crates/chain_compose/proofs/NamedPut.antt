@@ -2,8 +2,8 @@
 use Rattle.std.proofs.Common.{◌≡◌, ◌<◌, ℕ, suc, ◌+◌, List, [], ◌∷◌, ◌++◌, length, drop, slice_index_or, refl, sym, ap, ◌∙◌, arith, append_assoc, drop-cons}
 use Rattle.element_lang.specs.declared.tree.Expr.{Expr}
 use Rattle.element_lang.specs.View.{expr_tree, expr_trees}
-use Rattle.chain_compose.specs.declared.steps.Step.{Step}
-use Rattle.chain_compose.specs.declared.steps.Step.TheVariants.{Name, Declare}
+use Rattle.chain_compose.specs.declared.name_steps.Step.{Step}
+use Rattle.chain_compose.specs.declared.name_steps.Step.TheVariants.{Name, Declare}
 use Rattle.chain_compose.specs.Counts.{used_by_expr, used_by_exprs}
 use Rattle.chain_compose.specs.NamedFrom.{named, all_declared_steps}
 

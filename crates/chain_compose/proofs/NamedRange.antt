@@ -12,8 +12,8 @@ use Rattle.element_lang.specs.Tree.BodyTree.{done, stmt}
 use Rattle.element_lang.specs.Rules.{is_good_expr, are_good_exprs, is_good_stmt, is_good_body, counted_from, declared_in, declared_by, binds}
 use Rattle.element_lang.specs.Widths.{local_widths}
 use Rattle.element_chain.specs.declared.chain.Wire.{Wire}
-use Rattle.chain_compose.specs.declared.steps.Step.{Step}
-use Rattle.chain_compose.specs.declared.steps.Step.TheVariants.{Name, Declare, Send}
+use Rattle.chain_compose.specs.declared.name_steps.Step.{Step}
+use Rattle.chain_compose.specs.declared.name_steps.Step.TheVariants.{Name, Declare, Send}
 use Rattle.chain_compose.specs.Counts.{used_by_expr, used_by_exprs}
 use Rattle.chain_compose.specs.NamedFrom.{is_from, named, all_declared_steps, send_steps, stmt_steps, body_steps, Spans, Namings, tests_span, tests_from, Naming, stepped, all_stepped}
 use Rattle.chain_compose.proofs.NamedTotals.{steps_span, steps_uses}

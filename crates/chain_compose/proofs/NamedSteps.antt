@@ -12,8 +12,8 @@ use Rattle.element_lang.specs.Tree.BodyTree.{done, stmt}
 use Rattle.element_chain.specs.declared.chain.Wire.{Wire}
 use Rattle.element_chain.specs.declared.chain.Target.{Target}
 use Rattle.element_chain.specs.Compose.{followed, Numbering, Spot, Sends, Ends, seen, renamed, all_renamed, declared, all_declared, numbers, stmt_placed, body_placed, tests, sent_by}
-use Rattle.chain_compose.specs.declared.steps.Step.{Step}
-use Rattle.chain_compose.specs.declared.steps.Step.TheVariants.{Declare, Send}
+use Rattle.chain_compose.specs.declared.name_steps.Step.{Step}
+use Rattle.chain_compose.specs.declared.name_steps.Step.TheVariants.{Declare, Send}
 use Rattle.chain_compose.specs.Counts.{used_by_expr, used_by_exprs, used_by, used_in}
 use Rattle.chain_compose.specs.SendLevels.{has_wires}
 use Rattle.chain_compose.specs.NamedFrom.{is_from, count_from, named, all_declared_steps, send_steps, stmt_steps, body_steps, Spans, Namings, tests_span, tests_from, Naming, stepped, all_stepped}

@@ -14,8 +14,8 @@ use Rattle.element_chain.specs.declared.chain.Wire.{Wire}
 use Rattle.element_chain.specs.Chain.{Connected, element_at}
 use Rattle.element_chain.specs.Compose.{kept_where, clearing, wires_of, is_set}
 use Rattle.chain_compose.specs.declared.gauge.Gauge.TheVariants.{Locals, Uses}
-use Rattle.chain_compose.specs.declared.steps.Step.{Step}
-use Rattle.chain_compose.specs.declared.steps.Step.TheVariants.{Name, Declare, Send}
+use Rattle.chain_compose.specs.declared.name_steps.Step.{Step}
+use Rattle.chain_compose.specs.declared.name_steps.Step.TheVariants.{Name, Declare, Send}
 use Rattle.chain_compose.specs.Counts.{used_by_expr, used_by_exprs, used_in, body_count, placed_stmt_count, placed_count, tests_count, sent_count, closing_count, clearing_count, whole_lengths, own_lengths, element_count}
 use Rattle.chain_compose.specs.SendLevels.{has_wires}
 use Rattle.chain_compose.specs.NamedFrom.{count_from, named, all_declared_steps, send_steps, stmt_steps, body_steps, own_steps, Spans, Namings, tests_span, Naming, stepped, all_stepped}

@@ -14,8 +14,8 @@ use Rattle.chain_compose.specs.declared.gauge.Gauge.{Gauge}
 use Rattle.chain_compose.specs.declared.gauge.Gauge.TheVariants.{Locals, Uses}
 use Rattle.chain_compose.specs.declared.named.Tables.{Tables}
 use Rattle.chain_compose.specs.declared.named.Tally.{Tally}
-use Rattle.chain_compose.specs.declared.steps.Step.{Step}
-use Rattle.chain_compose.specs.declared.steps.Step.TheVariants.{Name, Declare, Send}
+use Rattle.chain_compose.specs.declared.name_steps.Step.{Step}
+use Rattle.chain_compose.specs.declared.name_steps.Step.TheVariants.{Name, Declare, Send}
 use Rattle.chain_compose.specs.Counts.{used_by_expr, used_by_exprs, end_count}
 use Rattle.chain_compose.specs.Tallies.{told}
 use Rattle.chain_compose.specs.SendLevels.{has_wires}

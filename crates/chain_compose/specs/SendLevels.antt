@@ -11,7 +11,7 @@ use Rattle.element_chain.specs.declared.chain.Target.TheVariants.{Element, Out}
 use Rattle.element_chain.specs.Chain.{Connected, element_at}
 use Rattle.element_chain.specs.Compose.{wires_of}
 use Rattle.chain_compose.specs.declared.depth.Own.{Own}
-use Rattle.chain_compose.specs.Depths.{placed_depth, tests_depth, clearing_depth, end_depth}
+use Rattle.chain_compose.specs.Depths.{placed_depth, end_depth}
 
 -- one level further in, where there is any
 abbrev pub further_in : ℕ → ℕ

@@ -79,13 +79,7 @@ fn own_of(wired: bool, stmt: &Stmt) -> u64
             deeper(head_depth(stmt), blocks.saturating_add(1))
         }
         Stmt::Repeat { body, .. } => own_in(wired, body).saturating_add(1),
-        Stmt::Send { port } => {
-            if wired {
-                expr_depth(port)
-            } else {
-                0
-            }
-        }
+        Stmt::Send { port } => { if wired { expr_depth(port) } else { 0 } }
         Stmt::Let { .. }
         | Stmt::Assign { .. }
         | Stmt::SetField { .. }
@@ -231,12 +225,7 @@ impl Parts<'_> {
     }
 
     // The same through one element more.
-    fn more_depths(
-        &self,
-        clearing: u64,
-        owns: &[Own],
-        depths: &[u64],
-    ) -> Result<Vec<u64>, NoMemory>
+    fn more_depths(&self, clearing: u64, owns: &[Own], depths: &[u64]) -> Result<Vec<u64>, NoMemory>
         requires few { length self.now.classes.now ≤ 32 }
         requires within { AreWithin (length self.now.classes.now) self.now.chain.now.wires }
         requires clearing_told { clearing ≡ capped (deep.clearing_depth (chain_of self.now)) }

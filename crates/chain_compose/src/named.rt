@@ -10,15 +10,15 @@ ghost use Rattle.element_chain.specs.Compose.{composed};
 ghost use Rattle.element_chain.specs.Wiring.{IsWithin, AreWithin};
 ghost use Rattle.element_chain.specs.declared.chain.Wire.{Wire};
 ghost use Rattle.chain_compose.specs.declared.gauge.Gauge.TheVariants.{Locals, Uses};
-ghost use Rattle.chain_compose.specs.declared.steps.Step.TheVariants.{Send};
+ghost use Rattle.chain_compose.specs.declared.name_steps.Step.TheVariants.{Send};
 ghost use Rattle.chain_compose.specs.Counts.{used_in, end_count};
 ghost use Rattle.chain_compose.specs.NamedFrom as namings;
 ghost use Rattle.chain_compose.specs.NamedFrom.{count_from, declared, Naming, AreTold, AreTables, IsTally};
 ghost use Rattle.chain_compose.specs.Parts.{chain_of};
 
 use crate::depth::has_wires;
+use crate::name_steps::{Step, put_body};
 use crate::parts::Parts;
-use crate::steps::{Step, put_body};
 use crate::told::Levels;
 use element_chain::{Target, Wire};
 use gal_io::NoMemory;

@@ -7,7 +7,7 @@ use Rattle.element_chain.specs.declared.chain.Target.{Target}
 use Rattle.element_chain.specs.declared.chain.Wire.{Wire}
 use Rattle.element_chain.specs.declared.chain.Target.TheVariants.{Element}
 use Rattle.chain_compose.specs.declared.gauge.Gauge.TheVariants.{Locals, Uses}
-use Rattle.chain_compose.specs.declared.steps.Step.{Step}
+use Rattle.chain_compose.specs.declared.name_steps.Step.{Step}
 use Rattle.chain_compose.specs.Counts.{end_count}
 use Rattle.chain_compose.specs.NamedFrom.{body_steps, all_stepped, started, end_from}
 use Rattle.chain_compose.specs.Parts.{chain_of}

@@ -3,7 +3,7 @@ ghost use Rattle.std.specs.Prelude.{◌≡◌, ◌++◌, ◌∷◌, [], OnOk};
 ghost use Rattle.element_lang.specs.View.{expr_tree, expr_trees, stmt_tree, body_tree};
 ghost use Rattle.chain_compose.specs.Counts.{used_by_expr, used_by_exprs};
 ghost use Rattle.chain_compose.specs.NamedFrom.{named, all_declared_steps, send_steps, stmt_steps, body_steps};
-ghost use Rattle.chain_compose.specs.declared.steps.Step.TheVariants.{Declare};
+ghost use Rattle.chain_compose.specs.declared.name_steps.Step.TheVariants.{Declare};
 
 use element_lang::{Expr, Stmt};
 use gal_io::NoMemory;

@@ -1,7 +1,7 @@
 use Rattle.std.proofs.Common.{◌≡◌, ◌++◌, drop}
 use Rattle.element_lang.specs.View.{body_tree}
 use Rattle.chain_compose.specs.NamedFrom.{body_steps}
-use Rattle.chain_compose.proofs.steps.+steps.Given as goal
+use Rattle.chain_compose.proofs.name_steps.+steps.Given as goal
 
 abbrev pub invariant-put_body-loop-stmt : goal.invariant-put_body-loop-stmt
 invariant-put_body-loop-stmt l =

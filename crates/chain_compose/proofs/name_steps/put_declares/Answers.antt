@@ -1,5 +1,5 @@
 use Rattle.chain_compose.proofs.NamedPut.{declares_more}
-use Rattle.chain_compose.proofs.steps.put_declares.Goals as goal
+use Rattle.chain_compose.proofs.name_steps.put_declares.Goals as goal
 
 pub loop-preserved : goal.loop-preserved
 loop-preserved c =

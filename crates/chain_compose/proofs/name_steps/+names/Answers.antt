@@ -1,5 +1,5 @@
 use Rattle.chain_compose.proofs.NamedPut.{exprs_more}
-use Rattle.chain_compose.proofs.steps.+names.Goals as goal
+use Rattle.chain_compose.proofs.name_steps.+names.Goals as goal
 
 pub put_exprs-loop-expr-preserved : goal.put_exprs-loop-expr-preserved
 put_exprs-loop-expr-preserved t c =
