@@ -25,7 +25,7 @@ use Rattle.chain_compose.proofs.Rises.{bare_told}
 use Rattle.chain_compose.proofs.SentFirst.{clearing_bare}
 use Rattle.chain_compose.proofs.Tallied.{next_told, whole_told}
 
-abbrev scaled : List ℕ → ℕ → Lengths
+abbrev pub scaled : List ℕ → ℕ → Lengths
 scaled objects port = record { locals = []; objects = objects; port = port }
 
 -- wires are within the elements that there are
