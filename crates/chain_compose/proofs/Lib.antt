@@ -21,7 +21,6 @@ pub mod Arms
 pub mod Shown
 pub mod Firsts
 pub mod Repeats
-pub mod Depths
 pub mod DeepExprs
 pub mod DeepBodies
 pub mod DeepLevels
@@ -35,3 +34,7 @@ pub mod NamedPut
 pub mod Fits
 pub mod OneReason
 pub mod Answered
+pub mod Digits
+pub mod NamesApart
+pub mod WholeNames
+pub mod WholeBytes

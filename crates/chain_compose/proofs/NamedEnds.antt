@@ -84,7 +84,7 @@ whole_from c least =
 pub record AreGood (c : Connected) : Type 0 where
   pub each : (e : ℕ) → is_good_body (element_at c.elements e) [] 0 (element_at c.elements e).body ≡ true
 
-own_known : (c : Connected) → AreGood c → (e : ℕ) → AreKnown 0 (own_steps c e)
+pub own_known : (c : Connected) → AreGood c → (e : ℕ) → AreKnown 0 (own_steps c e)
 own_known c good e =
     let m = element_at c.elements e in
     known_body m (has_wires (wires_of c.wires e)) [] 0 m.body (All-nil (λ (y : ℕ). y < 0)) (good.each e)

@@ -8,3 +8,4 @@ pub mod Routes
 pub mod Declares
 pub mod Parts
 pub mod Reach
+pub mod Named

@@ -23,6 +23,7 @@ mod plain;
 mod reach;
 mod refusals;
 mod routes;
+mod sizes;
 mod tally;
 mod terms;
 mod told;
