@@ -122,3 +122,10 @@ level_pushed g c count levels levels' level is are here = record {
   many = one_longer (List ℕ) levels levels' level count is are.many;
   each = each_pushed (List ℕ) (IsLevel g c) levels levels' level [] count is are.many are.each here;
 }
+
+-- one turn of a loop over levels
+pub more_again : (g : Gauge) (c : Connected) (n : ℕ) (es es' made : List Ending) → es' ≡ es → AreEndings g c n es
+    → ((k : ℕ) → AreEndings g c k es' → AreEndings g c (suc k) made) → AreEndings g c (n + 1) made
+more_again g c n es es' made same are next =
+    let level : suc n ≡ n + 1 = omega arith in
+    subst (λ (k : ℕ). AreEndings g c k made) level (next n (subst (λ (xs : List Ending). AreEndings g c n xs) (sym same) are))
