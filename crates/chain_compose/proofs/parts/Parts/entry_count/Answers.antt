@@ -2,7 +2,6 @@ use Rattle.std.proofs.Common.{◌∙◌, ◌*◌, ℕ, List, None, slice_index_o
 use Rattle.std.proofs.lemmas.List.{length-map}
 use Rattle.element_lang.specs.View.{tree}
 use Rattle.element_chain.specs.declared.chain.Wire.{Wire}
-use Rattle.element_chain.specs.Compose.{wires_of}
 use Rattle.element_print.specs.Lengths.{capped}
 use Rattle.chain_compose.specs.Parts.{chain_of}
 use Rattle.chain_compose.specs.Tallies.{after_count, told_end, AreEndings, AllFigures, no_figures}
