@@ -8,7 +8,7 @@ use Rattle.element_lang.specs.Sizes.{entries_of, entries_in}
 use Rattle.element_lang.specs.Tree.{Tree}
 use Rattle.element_lang.specs.View.{tree}
 use Rattle.element_lang.specs.declared.tree.Middlebox.{Middlebox}
-use Rattle.element_print.specs.Lengths.{length_as, decl_length, decls_length}
+use Rattle.element_print.specs.Lengths.{length_as, decls_length}
 use Rattle.element_chain.specs.Compose.{prefixed, named_objects, objects_from, base_of}
 
 -- the objects of an element, and those behind it

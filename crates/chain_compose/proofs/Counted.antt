@@ -20,15 +20,15 @@ use Rattle.element_lang.specs.Widths.{local_widths}
 use Rattle.element_print.specs.declared.place.Place.{Place}
 use Rattle.element_print.specs.declared.place.Place.TheVariants.{Whole, Operand, Turned}
 use Rattle.element_print.specs.Printed.{mark_of, has_infix, is_turned, needs_brackets}
-use Rattle.element_print.specs.Lengths.{Lengths, mark_length, number_length, literal_length, brackets_length, between_length, field_length, nameless, read_length, call_length, expr_length, parts_length, exprs_length, keyed_length, names_length, else_length, head_length, braces_length, name_length}
+use Rattle.element_print.specs.Lengths.{Lengths, mark_length, number_length, literal_length, brackets_length, between_length, field_length, nameless, read_length, call_length, expr_length, parts_length, exprs_length, keyed_length, names_length, else_length, braces_length, name_length}
 use Rattle.element_chain.specs.declared.chain.Wire.{Wire}
 use Rattle.element_chain.specs.declared.chain.Target.{Target}
 use Rattle.element_chain.specs.declared.chain.Target.TheVariants.{Element, Out}
 use Rattle.element_chain.specs.Chain.{Connected, element_at}
-use Rattle.element_chain.specs.Compose.{followed, one, two, seen, renamed, all_renamed, numbers, Numbering, Spot, Sends, Ends, declared, all_declared, stmt_placed, body_placed, tests, sent_by, wires_of, clearing, closed, is_set, base_of, objects_from, ends_within, element_placed, composed}
+use Rattle.element_chain.specs.Compose.{followed, one, two, seen, renamed, all_renamed, numbers, Numbering, Spot, Sends, Ends, declared, stmt_placed, body_placed, tests, sent_by, wires_of, clearing, closed, is_set, base_of, objects_from, ends_within, element_placed, composed}
 use Rattle.chain_compose.specs.declared.gauge.Gauge.{Gauge}
 use Rattle.chain_compose.specs.declared.gauge.Gauge.TheVariants.{Statements, Writes, Locals, Uses, Bytes}
-use Rattle.chain_compose.specs.Counts.{used_by_expr, used_by_exprs, used_by_head, weight, turns, stmt_count, body_count, placed_stmt_count, placed_count, whole_lengths, port_length, own_lengths, drop_weight, test_weight, tests_count, sent_count, closing_count, clearing_count, element_count, end_count, entry_count}
+use Rattle.chain_compose.specs.Counts.{used_by_expr, used_by_exprs, weight, turns, body_count, placed_stmt_count, placed_count, whole_lengths, port_length, drop_weight, test_weight, tests_count, sent_count, closing_count, clearing_count, element_count, end_count, entry_count}
 
 -- ## Statements one after the other
 
@@ -88,6 +88,7 @@ module _ (port : Option ℕ) (names : List ℕ) where
       by_test : (input : ℕ) (b : Bool) → P (cond b (lit input 8) (field f)) ≡ P (field f)
       by_test input true = literals input ∙ sym (fields f)
       by_test input false = refl
+
       with_port : (p : Option ℕ) → P (seen p f) ≡ P (field f)
       with_port None = refl
       with_port (Some input) = by_test input (field_index f == field_index MetaPort)
@@ -166,6 +167,7 @@ module _ (port : Option ℕ) (names : List ℕ) where
       by_test : (input : ℕ) (b : Bool) → length (used_by_expr (cond b (lit input 8) (field f))) ≡ 0
       by_test input true = refl
       by_test input false = refl
+
       with_port : (p : Option ℕ) → length (used_by_expr (seen p f)) ≡ 0
       with_port None = refl
       with_port (Some input) = by_test input (field_index f == field_index MetaPort)

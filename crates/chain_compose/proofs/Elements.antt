@@ -1,14 +1,11 @@
 -- What the code tells of elements and of levels.
-use Rattle.std.proofs.Common.{◌≡◌, ℕ, zero, suc, ◌+◌, ◌-◌, ◌*◌, ◌<◌, ◌≤◌, Bool, true, false, List, [], ◌∷◌, ◌++◌, length, map, drop, replicate, slice_index, slice_index_or, refl, sym, ap, subst, ◌∙◌, arith, None}
+use Rattle.std.proofs.Common.{◌≡◌, ℕ, zero, suc, ◌+◌, ◌-◌, ◌*◌, ◌<◌, Bool, false, List, [], ◌∷◌, ◌++◌, length, drop, replicate, slice_index, slice_index_or, refl, sym, ap, subst, ◌∙◌, arith}
 use Rattle.std.proofs.lemmas.List.{length-map}
-use Rattle.packet_fields.specs.declared.field.Field.{Field}
 use Rattle.packet_fields.specs.declared.field.Field.TheVariants.{MetaPort}
 use Rattle.element_lang.specs.Tree.{BodyTree}
 use Rattle.element_lang.specs.View.{tree}
 use Rattle.element_print.specs.Lengths.{Lengths, capped, field_length, literal_length}
-use Rattle.element_chain.specs.declared.chain.Wire.{Wire}
-use Rattle.element_chain.specs.declared.chain.Target.{Target}
-use Rattle.element_chain.specs.declared.chain.Target.TheVariants.{Element, Out}
+use Rattle.element_chain.specs.declared.chain.Target.TheVariants.{Element}
 use Rattle.element_chain.specs.Chain.{Connected, element_at}
 use Rattle.element_chain.specs.Compose.{wires_of, base_of, clearing, composed}
 use Rattle.element_chain.specs.Wiring.{AreWithin}
@@ -16,7 +13,7 @@ use Rattle.chain_compose.specs.declared.parts.Parts.{Parts}
 use Rattle.chain_compose.specs.declared.gauge.Gauge.{Gauge}
 use Rattle.chain_compose.specs.declared.figures.Figures.{Figures}
 use Rattle.chain_compose.specs.declared.figures.Ending.{Ending}
-use Rattle.chain_compose.specs.Counts.{body_count, whole_lengths, drop_weight, closing_count, clearing_count, end_count}
+use Rattle.chain_compose.specs.Counts.{body_count, whole_lengths, drop_weight, closing_count, clearing_count}
 use Rattle.chain_compose.specs.Parts.{chain_of}
 use Rattle.chain_compose.specs.Tallies.{sent_in, bare_count, after_count, has_wire, all_names, lengths_at, AreFigures, AllFigures, no_figures, no_ending, told_end, AreEndings, IsNext, IsLevel, AreLevels}
 use Rattle.chain_compose.proofs.Caps.{capped_again, add_capped, mul_capped}
@@ -74,6 +71,7 @@ first_told g c es are =
     many : (n : ℕ) (x : Ending) → length (replicate n x) ≡ n
     many zero x = refl
     many (suc n) x = ap suc (many n x)
+
     plus_none : (k n : ℕ) → k + 0 * n ≡ k
     plus_none k n = omega arith
 
@@ -122,3 +120,10 @@ level_pushed g c count levels levels' level is are here = record {
   many = one_longer (List ℕ) levels levels' level count is are.many;
   each = each_pushed (List ℕ) (IsLevel g c) levels levels' level [] count is are.many are.each here;
 }
+
+-- one turn of a loop over levels
+pub more_again : (g : Gauge) (c : Connected) (n : ℕ) (es es' made : List Ending) → es' ≡ es → AreEndings g c n es
+    → ((k : ℕ) → AreEndings g c k es' → AreEndings g c (suc k) made) → AreEndings g c (n + 1) made
+more_again g c n es es' made same are next =
+    let level : suc n ≡ n + 1 = omega arith in
+    subst (λ (k : ℕ). AreEndings g c k made) level (next n (subst (λ (xs : List Ending). AreEndings g c n xs) (sym same) are))

@@ -1,5 +1,5 @@
 -- What each gauge counts.
-use Rattle.std.proofs.Common.{◌≡◌, ℕ, zero, suc, ◌+◌, ◌*◌, List, [], ◌∷◌, ◌++◌, length, refl, ap, sym, ◌∙◌, arith, length-append}
+use Rattle.std.proofs.Common.{◌≡◌, ℕ, ◌*◌, ◌++◌, length, refl, ap, arith, length-append}
 use Rattle.element_lang.specs.Rules.{declared_in, declared_by}
 use Rattle.element_lang.specs.Sizes.{writes_of, writes_in}
 use Rattle.element_lang.specs.Tree as trees

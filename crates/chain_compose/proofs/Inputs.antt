@@ -1,5 +1,5 @@
 -- Where bytes aren't counted, the input doesn't matter.
-use Rattle.std.proofs.Common.{◌≡◌, ◌≢◌, ℕ, zero, suc, ◌+◌, ◌*◌, ◌<◌, ◌≤◌, List, [], ◌∷◌, length, slice_index, slice_index_or, refl, sym, ap, ◌∙◌, arith, Option, Some}
+use Rattle.std.proofs.Common.{◌≡◌, ◌≢◌, ℕ, zero, suc, ◌+◌, ◌*◌, ◌<◌, List, [], ◌∷◌, length, refl, ap, ◌∙◌, arith, Some}
 use Rattle.element_lang.specs.Tree as trees
 use Rattle.element_lang.specs.Tree.{ExprTree, StmtTree, BodyTree}
 use Rattle.element_lang.specs.Tree.ExprTree.{lit}
@@ -13,7 +13,7 @@ use Rattle.element_chain.specs.Chain.{Connected, element_at}
 use Rattle.element_chain.specs.Compose.{wires_of}
 use Rattle.chain_compose.specs.declared.gauge.Gauge.{Gauge}
 use Rattle.chain_compose.specs.declared.gauge.Gauge.TheVariants.{Statements, Writes, Locals, Uses, Bytes}
-use Rattle.chain_compose.specs.Counts.{weight, turns, placed_stmt_count, placed_count, whole_lengths, own_lengths, tests_count, sent_count, closing_count, clearing_count, element_count, end_count}
+use Rattle.chain_compose.specs.Counts.{weight, turns, placed_stmt_count, placed_count, whole_lengths, own_lengths, tests_count, sent_count, closing_count, clearing_count, end_count}
 use Rattle.chain_compose.specs.Tallies.{told, AreLevels}
 
 module _ (g : Gauge) (unread : g ≢ Bytes) where

@@ -1,7 +1,6 @@
 -- What is counted rises by the same for each byte of the port of arrival.
-use Rattle.std.proofs.Common.{◌≡◌, ℕ, zero, suc, ◌+◌, ◌-◌, ◌*◌, ◌==◌, ◌≤◌, Bool, true, false, cond, List, [], ◌∷◌, length, refl, sym, ap, ◌∙◌, arith}
+use Rattle.std.proofs.Common.{◌≡◌, ℕ, ◌+◌, ◌-◌, ◌*◌, ◌==◌, ◌≤◌, Bool, true, false, cond, List, [], ◌∷◌, refl, sym, ap, ◌∙◌, arith}
 use Rattle.std.proofs.Math.Nat.{add-mul, mul-add, mul_assoc}
-use Rattle.gal_bits.specs.declared.op.Op.{Op}
 use Rattle.packet_fields.specs.declared.field.Field.{Field}
 use Rattle.packet_fields.specs.declared.field.Field.TheVariants.{MetaPort}
 use Rattle.packet_fields.specs.Table.{field_index}
@@ -19,7 +18,7 @@ use Rattle.element_print.specs.Printed.{mark_of, needs_brackets}
 use Rattle.element_print.specs.Lengths.{Lengths, capped, mark_length, number_length, literal_length, brackets_length, between_length, field_length, nameless, read_length, name_length, call_length, expr_length, parts_length, exprs_length, keyed_length, names_length, else_length, braces_length, head_length}
 use Rattle.chain_compose.specs.declared.gauge.Gauge.{Gauge}
 use Rattle.chain_compose.specs.declared.gauge.Gauge.TheVariants.{Statements, Writes, Locals, Uses, Bytes}
-use Rattle.chain_compose.specs.Counts.{weight, turns, placed_stmt_count, placed_count, drop_weight}
+use Rattle.chain_compose.specs.Counts.{weight, turns, placed_stmt_count, drop_weight}
 use Rattle.chain_compose.specs.Tallies.{first_sent, bare_count}
 use Rattle.chain_compose.proofs.Caps.{rise_capped}
 use Rattle.chain_compose.proofs.Counted.{Joins, joins}

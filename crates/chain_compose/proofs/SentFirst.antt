@@ -1,5 +1,5 @@
 -- What stands first for a `send`.
-use Rattle.std.proofs.Common.{◌≡◌, ℕ, ◌+◌, ◌*◌, Bool, true, false, List, [], ◌∷◌, refl, sym, ap, ◌∙◌, arith}
+use Rattle.std.proofs.Common.{◌≡◌, ℕ, ◌+◌, ◌*◌, Bool, true, List, [], ◌∷◌, refl, sym, ap, ◌∙◌, arith}
 use Rattle.packet_fields.specs.declared.field.Field.{Field}
 use Rattle.element_lang.specs.Tree.{ExprTree, StmtTree, BodyTree}
 use Rattle.element_lang.specs.Tree.StmtTree.{let_local, repeat, send}

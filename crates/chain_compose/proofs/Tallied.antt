@@ -1,5 +1,5 @@
 -- What is told of one level after the other is what is counted there.
-use Rattle.std.proofs.Common.{◌≡◌, ℕ, zero, suc, ◌+◌, ◌-◌, ◌*◌, ◌<◌, ◌≤◌, ◌≢◌, Bool, true, false, cond, List, [], ◌∷◌, length, map, drop, slice_index_or, refl, sym, ap, ◌∙◌, arith, Option, Some, None}
+use Rattle.std.proofs.Common.{◌≡◌, ℕ, zero, suc, ◌+◌, ◌*◌, ◌<◌, ◌≤◌, List, [], ◌∷◌, length, refl, sym, ap, ◌∙◌, arith, Option, Some, None}
 use Rattle.std.proofs.Math.Nat.{add-mul, mul-add, mul_assoc}
 use Rattle.std.specs.List.{All}
 use Rattle.std.proofs.lemmas.List.Elements.{All-head, All-tail, All-weaker}
@@ -14,13 +14,13 @@ use Rattle.element_chain.specs.declared.chain.Wire.{Wire}
 use Rattle.element_chain.specs.declared.chain.Target.{Target}
 use Rattle.element_chain.specs.declared.chain.Target.TheVariants.{Element, Out}
 use Rattle.element_chain.specs.Chain.{Connected, element_at}
-use Rattle.element_chain.specs.Compose.{wires_of, base_of, composed}
+use Rattle.element_chain.specs.Compose.{wires_of, composed}
 use Rattle.element_chain.specs.Wiring.{IsWithin, AreWithin}
 use Rattle.chain_compose.specs.declared.gauge.Gauge.{Gauge}
 use Rattle.chain_compose.specs.declared.gauge.Gauge.TheVariants.{Statements, Writes, Locals, Uses, Bytes}
 use Rattle.chain_compose.specs.declared.figures.Figures.{Figures}
 use Rattle.chain_compose.specs.declared.figures.Ending.{Ending}
-use Rattle.chain_compose.specs.Counts.{weight, turns, placed_stmt_count, placed_count, body_count, whole_lengths, own_lengths, port_length, drop_weight, test_weight, tests_count, sent_count, closing_count, clearing_count, element_count, end_count, entry_count}
+use Rattle.chain_compose.specs.Counts.{weight, turns, placed_stmt_count, placed_count, body_count, whole_lengths, own_lengths, port_length, test_weight, tests_count, sent_count, closing_count, clearing_count, element_count, end_count}
 use Rattle.chain_compose.specs.Tallies.{sent_of, sent_in, first_sent, bare_count, after_count, has_wire, lengths_at, AreFigures, out_weight, told_end, AreEndings, IsNext}
 use Rattle.chain_compose.proofs.Caps.{capped_again, add_capped, mul_capped}
 use Rattle.chain_compose.proofs.Counted.{whole_counted}

@@ -1,5 +1,5 @@
 -- What is placed declares as many locals as are counted.
-use Rattle.std.proofs.Common.{◌≡◌, ℕ, zero, suc, ◌+◌, ◌*◌, List, [], ◌∷◌, ◌++◌, Bool, true, false, cond, length, slice_index, refl, sym, ap, ◌∙◌, arith, Option, Some, None, length-append, add-zero}
+use Rattle.std.proofs.Common.{◌≡◌, ℕ, zero, suc, ◌+◌, List, [], ◌∷◌, ◌++◌, Bool, true, false, cond, length, slice_index, refl, sym, arith, Option, Some, length-append, add-zero}
 use Rattle.element_lang.specs.Rules.{ends_always}
 use Rattle.element_lang.specs.Tree as trees
 use Rattle.element_lang.specs.Tree.{ExprTree, StmtTree, BodyTree}
@@ -16,7 +16,7 @@ use Rattle.packet_fields.specs.Table.{all_fields}
 use Rattle.std.specs.List.{filter}
 use Rattle.element_chain.specs.Compose.{renamed, Numbering, Spot, Sends, Ends, declared, all_declared, stmt_placed, body_placed, tests, sent_by, wires_of, base_of, clearing, is_set, ends_within, element_placed}
 use Rattle.chain_compose.specs.declared.gauge.Gauge.TheVariants.{Locals}
-use Rattle.chain_compose.specs.Counts.{placed_stmt_count, placed_count, body_count, own_lengths, whole_lengths, drop_weight, test_weight, tests_count, sent_count, closing_count, clearing_count, element_count, end_count}
+use Rattle.chain_compose.specs.Counts.{placed_stmt_count, placed_count, body_count, own_lengths, whole_lengths, tests_count, sent_count, closing_count, element_count, end_count}
 
 all_widened : (spot : Spot) (xs : List ℕ) (n : Numbering) → length (all_declared spot xs n).widths ≡ length n.widths + length xs
 all_widened spot [] n = sym (add-zero (length n.widths))

@@ -1,6 +1,5 @@
 -- How what is counted of a composition is told: once of each element, and then of one level after the other in numbers.
-use Rattle.std.specs.Prelude.{ℕ, ◌≡◌, ◌<◌, ◌≤◌, ◌+◌, ◌*◌, Bool, true, false, not, List, [], ◌∷◌, length, map, drop, slice_index, slice_index_or}
-use Rattle.packet_fields.specs.declared.field.Field.TheVariants.{MetaPort}
+use Rattle.std.specs.Prelude.{ℕ, ◌≡◌, ◌<◌, ◌≤◌, ◌+◌, ◌*◌, Bool, true, false, List, [], ◌∷◌, length, map, drop, slice_index, slice_index_or}
 use Rattle.element_lang.specs.Tree.{ExprTree, StmtTree, BodyTree}
 use Rattle.element_lang.specs.Tree.ExprTree.{lit}
 use Rattle.element_lang.specs.Tree.StmtTree.{let_local, choose, repeat, send}
@@ -11,7 +10,6 @@ use Rattle.element_chain.specs.declared.chain.Target.{Target}
 use Rattle.element_chain.specs.declared.chain.Target.TheVariants.{Element, Out}
 use Rattle.element_chain.specs.Chain.{Connected, element_at}
 use Rattle.element_chain.specs.Compose.{wires_of, base_of, objects_from}
-use Rattle.element_chain.specs.Wiring.{IsWithin}
 use Rattle.chain_compose.specs.declared.gauge.Gauge.{Gauge}
 use Rattle.chain_compose.specs.declared.gauge.Gauge.TheVariants.{Statements, Writes, Locals, Uses, Bytes}
 use Rattle.chain_compose.specs.declared.figures.Scale.{Scale}

@@ -16,15 +16,15 @@ use crate::clearing::put_clearing;
 use crate::ends::ends_always;
 use crate::figures::{Ending, Figures, Scale};
 use crate::gauge::Gauge;
-use crate::told::Levels;
+use crate::heads::{drop_weight, out_weight, test_weight};
 use crate::objects::name_lengths;
 use crate::parts::Parts;
 use crate::plain::base_of;
 use crate::tally::{bare_count, sent_in};
-use crate::heads::{drop_weight, out_weight, test_weight};
+use crate::told::Levels;
 use element_chain::{Target, Wire};
-use element_print::{field_length, literal_length};
 use element_lang::Stmt;
+use element_print::{field_length, literal_length};
 use gal_io::NoMemory;
 use packet_fields::Field;
 
@@ -69,7 +69,9 @@ fn told_end(gauge: Gauge, endings: &[Ending], to: Target, input: u8) -> u64
         Target::Element(element) => {
             let ending = ending_at(endings, element);
             let read = literal_length(u64::from(input), 8);
-            ending.fixed.saturating_add(ending.reads.saturating_mul(read))
+            ending
+                .fixed
+                .saturating_add(ending.reads.saturating_mul(read))
         }
     }
 }

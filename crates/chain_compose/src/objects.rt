@@ -31,11 +31,7 @@ fn whole_length(prefix: u64, object: &ObjectDecl) -> Result<u64, NoMemory>
     }
 }
 
-fn put_name_lengths(
-    element: u64,
-    own: &[ObjectDecl],
-    names: &mut Vec<u64>,
-) -> Result<(), NoMemory>
+fn put_name_lengths(element: u64, own: &[ObjectDecl], names: &mut Vec<u64>) -> Result<(), NoMemory>
     ensures { OnOk result (names.new.items
         ≡ names.old.items ++ map (λ o. length o.name) (named_objects element own.now)) }
 {

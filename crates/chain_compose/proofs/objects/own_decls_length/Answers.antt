@@ -1,4 +1,4 @@
-use Rattle.std.proofs.Common.{◌≡◌, ◌∙◌, ℕ, ◌+◌, ◌*◌, length, sym, ap}
+use Rattle.std.proofs.Common.{◌∙◌, ℕ, ◌+◌, ◌*◌, length, sym, ap}
 use Rattle.element_print.specs.Lengths.{capped, decls_length}
 use Rattle.chain_compose.proofs.AllObjects.{named_decls}
 use Rattle.chain_compose.proofs.Caps.{add_capped, capped_again}

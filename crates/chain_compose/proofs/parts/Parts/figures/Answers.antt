@@ -1,4 +1,4 @@
-use Rattle.std.proofs.Common.{ℕ, arith}
+use Rattle.std.proofs.Common.{ℕ}
 use Rattle.chain_compose.specs.declared.figures.Figures.{Figures}
 use Rattle.chain_compose.specs.Parts.{chain_of}
 use Rattle.chain_compose.specs.Tallies.{AreFigures, no_figures}

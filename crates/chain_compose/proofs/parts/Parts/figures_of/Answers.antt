@@ -1,10 +1,9 @@
-use Rattle.std.proofs.Common.{◌∙◌, ◌≡◌, ◌-◌, ℕ, List, None, drop, sym, ap}
+use Rattle.std.proofs.Common.{◌∙◌, List, None, drop, sym, ap}
 use Rattle.element_lang.specs.declared.tree.Middlebox.{Middlebox}
 use Rattle.element_lang.specs.declared.tree.Stmt.{Stmt}
 use Rattle.element_lang.specs.Tree.{Tree}
-use Rattle.element_lang.specs.View.{tree, body_tree}
+use Rattle.element_lang.specs.View.{body_tree}
 use Rattle.element_print.specs.Lengths.{capped}
-use Rattle.element_chain.specs.declared.chain.Wire.{Wire}
 use Rattle.element_chain.specs.Compose.{base_of}
 use Rattle.chain_compose.specs.declared.figures.Figures.{Figures}
 use Rattle.chain_compose.specs.Counts.{closing_count}

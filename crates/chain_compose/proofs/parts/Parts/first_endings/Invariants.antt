@@ -1,5 +1,4 @@
 use Rattle.std.proofs.Common.{◌≡◌, ◌≤◌, length, replicate}
-use Rattle.chain_compose.specs.declared.figures.Ending.{Ending}
 use Rattle.chain_compose.specs.Counts.{drop_weight}
 use Rattle.chain_compose.proofs.parts.Parts.first_endings.Given as goal
 

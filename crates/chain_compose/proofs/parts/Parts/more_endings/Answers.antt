@@ -1,12 +1,11 @@
-use Rattle.std.proofs.Common.{◌≡◌, ◌∙◌, ℕ, length, slice_index_or, sym, subst, arith}
+use Rattle.std.proofs.Common.{ℕ, slice_index_or, sym, subst, arith}
 use Rattle.std.proofs.lemmas.List.{length-map}
 use Rattle.element_lang.specs.View.{tree}
 use Rattle.chain_compose.specs.declared.figures.Ending.{Ending}
-use Rattle.chain_compose.specs.declared.figures.Figures.{Figures}
 use Rattle.chain_compose.specs.Parts.{chain_of}
 use Rattle.chain_compose.specs.Tallies.{AllFigures, IsNext, no_figures, no_ending}
 use Rattle.chain_compose.proofs.Elements.{more_told, all_within}
-use Rattle.chain_compose.proofs.Pushed.{one_longer, each_pushed, read_any}
+use Rattle.chain_compose.proofs.Pushed.{one_longer, each_pushed}
 use Rattle.chain_compose.proofs.parts.Parts.more_endings.Goals as goal
 
 pub loop-element-preserved : goal.loop-element-preserved
@@ -16,14 +15,11 @@ loop-element-preserved c =
     let es = c.args.endings.now in
     let fs = c.args.figures.now in
     let e = c.loop-element.element in
-    let f = c.index-figures-element.result in
     let holds = λ (i : ℕ) (x : Ending). IsNext g chain es i (slice_index_or fs i no_figures) x in
     let had = c.loop-element.made.items in
-    let own : f ≡ slice_index_or fs e no_figures = c.index-figures-element.is ∙ read_any Figures fs e f no_figures c.loop-element-test.true in
-    let here : holds e c.next_ending.result = subst (λ (k : Figures). IsNext g chain es e k c.next_ending.result) own c.next_ending.ensures in
     record {
       count = one_longer Ending had _ c.next_ending.result e c.in_ok-push.ensures.items c.loop-element.invariant.count;
-      each = each_pushed Ending holds had _ c.next_ending.result no_ending e c.in_ok-push.ensures.items c.loop-element.invariant.count c.loop-element.invariant.each here;
+      each = each_pushed Ending holds had _ c.next_ending.result no_ending e c.in_ok-push.ensures.items c.loop-element.invariant.count c.loop-element.invariant.each c.next_ending.ensures;
     }
 
 pub returns : goal.returns
