@@ -52,3 +52,12 @@ pub bytes_told : (c : Connected) → AreGood c → capped (told_bytes c) ≡ cap
 bytes_told c good =
     told_by_parts c (all_bytes (whole_lengths c) (composed c).body) (all_uses (whole_lengths c) (composed c).body) (whole_locals c) (whole_below c good)
     (cases_lt (length (widths_of c)) (2 ^ 64))
+
+-- the same of counts that stop
+pub bytes_counted : (c : Connected) → AreGood c → (decls tokens names digits : ℕ)
+    → decls ≡ capped (decls_length (composed c).objects) → tokens ≡ capped (body_count Bytes (whole_lengths c) (composed c).body)
+    → names ≡ capped (body_count Uses (whole_lengths c) (composed c).body) → digits ≡ capped (more_digits 19 (used_in (composed c).body))
+    → capped (decls + frame_length + tokens + 2 * names + digits) ≡ capped (text_length (composed c))
+bytes_counted c good decls tokens names digits d t n m =
+    let same : capped (decls + frame_length + tokens + 2 * names + digits) ≡ capped (told_bytes c) = omega (arith, d, t, n, m) in
+    same ∙ bytes_told c good

@@ -37,7 +37,9 @@ smaller : (least x : ℕ) → is_from least x ≡ 0 → x < least
 smaller least x none = by_test (nat_le least x) refl none
   where
     by_test : (b : Bool) → nat_le least x ≡ b → is_from least x ≡ 0 → x < least
-    by_test true is none = absurd (omega (arith, none, ap (λ (v : Bool). cond v 1 0) is))
+    by_test true is none =
+        let one : is_from least x ≡ 1 = ap (λ (v : Bool). cond v 1 0) is in
+        absurd (omega (arith, none, one))
     by_test false is none = grind (arith, nat_tests)
 
 all_smaller : (least : ℕ) (xs : List ℕ) → count_from least xs ≡ 0 → All (λ (x : ℕ). x < least) xs

@@ -1,7 +1,8 @@
 //! The sizes of the whole, told from its elements alone, and whether they are those of a source. A size stops at the
 //! greatest that 64 bits can hold.
-ghost use Rattle.std.specs.Prelude.{◌≡◌, ◌<◌, ◌≤◌, ◌⊎◌, length, IfOk, IfErr};
-ghost use Rattle.element_print.specs.Lengths.{capped, text_length};
+ghost use Rattle.std.specs.Prelude.{◌≡◌, ◌<◌, ◌≤◌, ◌+◌, ◌*◌, ◌⊎◌, length, IfOk, IfErr};
+ghost use Rattle.element_lang.specs.Sizes.{writes};
+ghost use Rattle.element_print.specs.Lengths.{capped, frame_length, text_length};
 ghost use Rattle.element_chain.specs.Compose.{composed};
 ghost use Rattle.element_chain.specs.Wiring.{AreWithin};
 ghost use Rattle.chain_compose.specs.Counts.{used_in};
@@ -40,6 +41,18 @@ fn allowed(what: What) -> u64
     }
 }
 
+// The bytes of declarations, of the tokens of statements without the names of locals, of `v` and a digit for each such
+// name, and of its further digits, and those around the statements.
+fn all_bytes(decls: u64, tokens: u64, names: u64, digits: u64) -> u64
+    ensures { result ≡ capped (decls + frame_length + tokens + 2 * names + digits) }
+{
+    decls
+        .saturating_add(frame_length())
+        .saturating_add(tokens)
+        .saturating_add(names.saturating_mul(2))
+        .saturating_add(digits)
+}
+
 impl Parts<'_> {
     // The digits of the numbers in the names of locals, but for the first of each: one more from each power of ten on.
     fn more_digits(&self) -> Result<u64, NoMemory>
@@ -66,12 +79,35 @@ impl Parts<'_> {
         requires within { AreWithin (length self.now.classes.now) self.now.chain.now.wires }
         ensures { IfOk result (λ n. n ≡ capped (text_length (composed (chain_of self.now)))) }
     {
-        let around = all_decls_length(self.classes).saturating_add(frame_length());
-        let tokens = around.saturating_add(self.count(Gauge::Bytes)?);
-        let names = self.count(Gauge::Uses)?.saturating_mul(2);
-        Ok(tokens
-            .saturating_add(names)
-            .saturating_add(self.more_digits()?))
+        let tokens = self.count(Gauge::Bytes)?;
+        let names = self.count(Gauge::Uses)?;
+        let digits = self.more_digits()?;
+        let decls = all_decls_length(self.classes);
+        Ok(all_bytes(decls, tokens, names, digits))
+    }
+
+    // The statements of the whole.
+    #[tactic(auto, using(crate::proofs::Gauges::all_statements))]
+    fn statements(&self) -> Result<u64, NoMemory>
+        requires few { length self.now.classes.now ≤ 32 }
+        requires some { 0 < length self.now.classes.now }
+        requires within { AreWithin (length self.now.classes.now) self.now.chain.now.wires }
+        ensures { IfOk result (λ n. n ≡ capped (statements_in (composed (chain_of self.now)).body)) }
+    {
+        let statements = self.count(Gauge::Statements)?;
+        Ok(statements)
+    }
+
+    // Those that store or remove a row.
+    #[tactic(auto, using(crate::proofs::Gauges::all_writes))]
+    fn writes(&self) -> Result<u64, NoMemory>
+        requires few { length self.now.classes.now ≤ 32 }
+        requires some { 0 < length self.now.classes.now }
+        requires within { AreWithin (length self.now.classes.now) self.now.chain.now.wires }
+        ensures { IfOk result (λ n. n ≡ capped (writes (composed (chain_of self.now)))) }
+    {
+        let writes = self.count(Gauge::Writes)?;
+        Ok(writes)
     }
 
     // How much of it the whole has.
@@ -85,7 +121,7 @@ impl Parts<'_> {
         match what {
             What::Objects => Ok(object_count(self.classes)),
             What::Entries => Ok(all_entries(self.classes)),
-            What::Writes => self.count(Gauge::Writes),
+            What::Writes => self.writes(),
             What::Depth => self.depth(),
             What::Bytes => self.bytes(),
         }
@@ -137,9 +173,13 @@ impl Parts<'_> {
         ensures sizes { IfOk result (λ _. KeepsSizes (composed (chain_of self.now))) }
         ensures err { IfErr result (IsLargeRefusal (composed (chain_of self.now))) }
     {
-        if self.count(Gauge::Statements)? > MAX_STATEMENTS {
+        let statements = self.statements()?;
+        if statements > MAX_STATEMENTS {
             return Err(ComposeError::Statements);
         }
-        self.refuse_sizes()
+        match self.refuse_sizes() {
+            Ok(()) => Ok(()),
+            Err(error) => Err(error),
+        }
     }
 }
