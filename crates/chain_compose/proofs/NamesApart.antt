@@ -76,7 +76,10 @@ module _ (l : Lengths) where
     stmt_apart (choose cond first second) =
         let s : StmtTree = choose cond first second in
         omega (
-          arith, head_apart s, body_apart first, body_apart second,
+          arith,
+          head_apart s,
+          body_apart first,
+          body_apart second,
           sum_append l.locals (used_by_head s) (used_in first ++ used_in second),
           sum_append l.locals (used_in first) (used_in second),
         )
