@@ -142,5 +142,6 @@ const panels = {
   start() {
     this.names.forEach((name) =>
       document.getElementById(`tab-${name}`).addEventListener("click", () => this.show(name)));
+    this.show("answer");
   },
 };

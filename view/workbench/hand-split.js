@@ -16,7 +16,7 @@ const SPLIT_LINE = /^(0|[1-9][0-9]*) (-|[0-9]+) (carried|server|post ([0-9]+))$/
 
 // The parts of a split text, [{ before, slow }], where slow is a word or the stage behind the server; or null where a
 // line isn't in the form.
-function partsOf(text) {
+function splitPartsOf(text) {
   const lines = linesOf(text).filter((line) => !isSkipped(line));
   const parts = lines.slice(1, -1).map((line) => SPLIT_LINE.exec(line));
   const isWhole = lines[0] === `split 1 ${parts.length}` && lines[lines.length - 1] === "end"
@@ -127,7 +127,7 @@ const handSplit = {
     if (this.listing && paper.text.trim() === "") {
       await paper.giveAndCheck(this.listing.lines.join("\n") + "\n");
     }
-    this.parts = this.listing ? partsOf(paper.text) : null;
+    this.parts = this.listing ? splitPartsOf(paper.text) : null;
     this.draw();
     if (this.parts && !this.answer) {
       await paper.check();
@@ -145,7 +145,7 @@ const handSplit = {
   // The split as compile would print it, for the drawings; or null where it isn't a split that may be taken.
   async answerText() {
     await this.load();
-    const parts = partsOf(papers.text("split"));
+    const parts = splitPartsOf(papers.text("split"));
     const answer = await callProgram("check SRC LIMITS SPLIT", filesOf(["source", "limits", "split"]));
     if (!this.listing || !parts || !answer.isDone) {
       return null;
@@ -280,7 +280,7 @@ const handSplit = {
 
   // Shows what was typed into the split.
   async follow() {
-    const parts = partsOf(papers.text("split"));
+    const parts = splitPartsOf(papers.text("split"));
     if (JSON.stringify(parts) !== JSON.stringify(this.parts)) {
       await this.open();
     }
