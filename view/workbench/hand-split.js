@@ -154,8 +154,15 @@ const handSplit = {
     return this.textOf(parts);
   },
 
-  // Moves an instruction, and asks `check` at once.
+  // Moves an instruction of the split that the text spells now, and asks `check` at once.
   async move(number, [, , , [before, slow]]) {
+    const parts = splitPartsOf(papers.text("split"));
+    if (!parts || parts.length !== this.listing.instructions.length) {
+      this.parts = parts;
+      this.draw();
+      return;
+    }
+    this.parts = parts;
     this.parts[number] = { before, slow };
     restage(this.parts, this.listing.instructions);
     this.moved = number;
@@ -227,6 +234,7 @@ const handSplit = {
       button.title = place[2];
       return makeWith("td", `cell ${place[0]}`, [button]);
     });
+    name.title = expressionOf(this.listing, { instruction: number, result: 0 }, 3);
     const row = makeWith("tr", "", [name, ...cells]);
     row.dataset.number = number;
     this.rows[number] = row;

@@ -358,9 +358,10 @@ function drawItem(view, letter, item, number, told) {
   return button;
 }
 
-function drawBox(classes, title, told, items) {
+function drawBox(classes, title, told, items, rows) {
   return makeWith("div", `place-box ${classes}`, [
     makeWith("h4", "", [title, make("small", "", told)]), makeWith("div", "items", items),
+    ...(rows || []).map(({ name, rows: all }) => make("small", "kept", `${name}: ${counted(all.length, "row")}`)),
   ]);
 }
 
@@ -390,9 +391,9 @@ function drawWorld(view) {
   document.getElementById("world").replaceChildren(...wrong,
     drawBox("coming", "arriving", coming === 0 ? "none left" : `next: packet ${report.total - coming}`, coming === 0 ? []
       : [make("span", "packet more", `${grouped(coming)} to come`)]),
-    drawBox("switch", "switch", `lookups see version ${report.visible}`, lists.passes),
+    drawBox("switch", "switch", `lookups see version ${report.visible}`, lists.passes, report.tables),
     drawBox("up", "up ▶", "sent to the server", lists.up),
-    drawBox("server", "server", `version ${report.version}`, lists.held),
+    drawBox("server", "server", `version ${report.version}`, lists.held, report.objects),
     drawBox("down", "◀ down", "on the way back", lists.down),
     drawBox("out", "out", "as they came out", out.slice(-60)), make("div", "commands"));
 }
