@@ -2,7 +2,11 @@
 
 // Shows what the program answered: the command line, its drawing, its text, and what can be downloaded.
 
-const commandLine = (words) => `./gallium ${words.join(" ")}`;
+// The command line, with the names that the texts have on the page.
+function commandLine(words) {
+  const names = new Map(papers.list.map(({ kind, file }) => [GIVEN_NAMES[kind], file]));
+  return `./gallium ${words.map((word) => names.get(word) || word).join(" ")}`;
+}
 
 // The texts that an answer was made of, read by the page for its drawing; those that it can't read are left out.
 function readBeside(kinds) {

@@ -9,6 +9,10 @@ const FIRST_LIMITS = "table_bits = 100000000\nstages = 32\nwriteback = 16\ntrans
 const PLAIN_SOURCE = "process { drop; }\n";
 const CLASS_NAME = /^[A-Za-z][A-Za-z0-9_]{0,63}\.gal$/;
 
+// The names of the texts in the folder of a call.
+const GIVEN_NAMES = { source: "source.gal", limits: "limits.toml", trace: "trace.txt", schedule: "schedule.txt",
+  split: "split.txt", report: "report.txt", chain: "conf" };
+
 // Whether a schedule is one over links: such a line is in no other.
 const isOverLinks = (text) => /^[xyz] /m.test(text);
 
@@ -171,12 +175,11 @@ const papers = {
 
   // Which paper an answer's place is in, of those that the call was made of.
   about({ place, command }, asked) {
-    const kinds = { "source.gal": "source", "limits.toml": "limits", "trace.txt": "trace", "schedule.txt": "schedule",
-      "split.txt": "split", "report.txt": "report", conf: "chain" };
+    const [kind] = Object.entries(GIVEN_NAMES).find(([, name]) => place && name === place.file) || [];
     if (!place || (place.file === "source.gal" && asked.kind === "class")) {
       return asked;
     }
-    return this.classes.get(place.file.replace(/^.*\//, "")) || this.all.get(kinds[place.file]) || asked;
+    return this.classes.get(place.file.replace(/^.*\//, "")) || this.all.get(kind) || asked;
   },
 
   show(paper) {

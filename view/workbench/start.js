@@ -129,6 +129,8 @@ function startTools() {
     takeFile(target.files[0]);
     target.value = "";
   });
+  document.getElementById("wide").addEventListener("click", ({ target }) =>
+    target.setAttribute("aria-pressed", document.body.classList.toggle("wide")));
   document.getElementById("add-class").addEventListener("click", () => {
     const name = `${inputOf("class-name").replace(/\.gal$/, "")}.gal`;
     if (CLASS_NAME.test(name)) {

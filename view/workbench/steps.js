@@ -6,6 +6,7 @@
 const MOST_STEPS_BY_HAND = 4000;
 const MOST_PLACES = 64;
 const MOST_COMMANDS = 2000;
+const MOST_VERSIONS = 40;
 const SHOWN_NOTES = 300;
 
 const EVENTS = [
@@ -163,22 +164,21 @@ const steps = {
       const { version } = world.packet(number);
       versions.set(version, [...(versions.get(version) || []), item]);
     });
+    const held = [...versions.values()].slice(0, MOST_VERSIONS);
     const guessed = this.guess();
-    const asked = [
-      "c\n".repeat(MOST_COMMANDS), "w\n", ...[...versions.values()].map(([item]) => `h ${item}\n`),
-      guessed.live.join(""), guessed.idle.join(""),
-    ];
+    const asked = ["c\n".repeat(MOST_COMMANDS), "w\n", guessed.live.join(""), guessed.idle.join(""),
+      ...held.map(([item]) => `h ${item}\n`)];
     const [form, files] = chosenReplay(text);
-    const found = await callVariants(form, files, asked.slice(0, MOST_PLACES).map((then) => ({ keep, then })));
+    const found = await callVariants(form, files, asked.map((then) => ({ keep, then })));
     const idleAt = (place) => found[place].idle - world.report.idle;
     const live = { c: MOST_COMMANDS - idleAt(0), w: idleAt(1) === 0, h: new Set() };
-    [...versions.values()].forEach((items, place) => idleAt(place + 2) === 0 && items.forEach((item) => live.h.add(item)));
-    const isRight = idleAt(asked.length - 2) === 0 && idleAt(asked.length - 1) === guessed.idle.length;
+    held.forEach((items, place) => idleAt(place + 4) === 0 && items.forEach((item) => live.h.add(item)));
+    const isRight = guessed.isApart && idleAt(2) === 0 && idleAt(3) === guessed.idle.length;
     return { ...live, ...(isRight ? guessed.of : await this.askEach(form, files, keep)) };
   },
 
   // What the world tells of the events that it knows: those that should find something to do, in an order in which none
-  // makes room for another one, and those that shouldn't.
+  // makes room for another one, and those that shouldn't. Where passes have stages there is no such order.
   guess() {
     const { world } = this;
     const of = { d: world.down.length > 0, k: world.known < world.applied, u: world.up.length > 0,
@@ -186,7 +186,7 @@ const steps = {
     const lines = Object.keys(of).map((letter) => [letter, `${lineOfEvent({ letter, item: 0 })}\n`]);
     const isApart = world.passes.length === 0 && world.stages.before === 0 && world.stages.after === 0;
     const live = lines.filter(([letter]) => of[letter]).map(([, line]) => line);
-    return { of, live: isApart ? live : live.slice(0, 1),
+    return { of, live, isApart,
       idle: lines.filter(([letter]) => !of[letter]).map(([, line]) => line) };
   },
 
