@@ -279,11 +279,17 @@ const handSplit = {
       this.draw();
     });
     panels.openers.hand = () => attempt("check", () => this.open());
-    papers.listeners.push({ checked: (paper, answer) => paper.kind === "split" && this.tell(answer) });
-    papers.listeners.push({
-      checked: ({ kind }) => kind !== "trace" && kind !== "schedule" && this.isShown() && attempt("check", () =>
-        (kind === "split" ? this.follow() : this.open())),
-    });
+    papers.listeners.push((paper, answer) => this.hear(paper, answer));
+  },
+
+  // The program was asked about a text: what is shown here follows.
+  hear(paper, answer) {
+    if (paper.kind === "split") {
+      this.tell(answer);
+    }
+    if (panels.shown === "hand" && ["source", "limits", "split"].includes(paper.kind)) {
+      attempt("check", () => (paper.kind === "split" ? this.follow() : this.open()));
+    }
   },
 
   // Shows what was typed into the split.
@@ -293,6 +299,4 @@ const handSplit = {
       await this.open();
     }
   },
-
-  isShown: () => panels.shown === "hand",
 };

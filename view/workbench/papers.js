@@ -32,6 +32,9 @@ const QUESTIONS = {
   class: (text) => ["run SRC TRACE", { SRC: text, TRACE: "" }],
 };
 
+// What is read together with a text of a kind.
+const DEPENDENTS = { source: ["split", "report"], limits: ["split"], trace: ["report"], class: ["chain"] };
+
 class Paper {
   constructor(kind, title, file, hint) {
     Object.assign(this, { kind, title, file, hint, version: 0, state: "", refusal: "", timer: null });
@@ -71,7 +74,6 @@ class Paper {
     if (this.text.trim() !== "" || this.kind === "source") {
       this.timer = setTimeout(() => this.check(), CHECK_DELAY);
     }
-    papers.changed(this);
   }
 
   async check() {
@@ -198,32 +200,27 @@ const papers = {
     shown.forEach((paper) => paper.drawTab());
   },
 
-  // Tells the listeners that a text was changed, or that the program was asked about it.
-  changed(paper) {
-    this.listeners.forEach(({ changed }) => changed && changed(paper));
-  },
-
+  // Tells the listeners that the program was asked about a text. Where it was accepted, the texts that are read with it
+  // are asked about anew.
   checked(paper, answer) {
-    this.listeners.forEach(({ checked }) => checked && checked(paper, answer));
+    this.listeners.forEach((listener) => listener(paper, answer));
+    const dependents = answer.isDone ? DEPENDENTS[paper.kind] || [] : [];
+    dependents.map((kind) => this.all.get(kind)).filter(({ text }) => text.trim() !== "").forEach((one) => one.touch());
   },
 };
 
-// What a text that was dropped or opened is: by its name, and else by how it begins.
-function kindOfFile(name, text) {
-  const ends = [[/\.toml$/, "limits"], [/(^|\/)conf$/, "chain"], [/^# instructions |^split 1 /m, "split"],
-    [/^report 1$/m, "report"], [/^(fine|drain|[acwk]|[uhdsxyz] .*)\r?$/m, "schedule"], [/^[0-9]+ (-|[0-9a-fA-F]+)\r?$/m,
-      "trace"]];
-  if (/\.gal$/.test(name) || /\bprocess\b/.test(text)) {
-    return "source";
-  }
-  if (/^\s*[a-z_]+\s*=/m.test(text)) {
-    return "limits";
-  }
-  if (/^\s*\w+\s*::\s*\w+\s*;/m.test(text)) {
+// Which paper a text that was dropped or opened belongs in, by its name and how it begins; or null.
+function paperOfFile(name, text) {
+  if (name === "conf" || /^\s*\w+\s*::\s*\w+\s*;/m.test(text)) {
     return "chain";
   }
-  const found = ends.find(([pattern], place) => pattern.test(place < 2 ? name : text));
-  return found ? found[1] : null;
+  const papersOfKinds = { answer: "split", nothing: null, run: null };
+  try {
+    const kind = kindOf(text, name);
+    return kind in papersOfKinds ? papersOfKinds[kind] : kind;
+  } catch (refusal) {
+    return null;
+  }
 }
 
 const isCapture = (bytes) => {
@@ -265,7 +262,7 @@ async function takeBytes(name, bytes, wanted) {
   if (isClass && CLASS_NAME.test(name)) {
     return papers.show(papers.addClass(name, text));
   }
-  const paper = papers.all.get(wanted || kindOfFile(name, text) || papers.shown.kind);
+  const paper = papers.all.get(wanted || paperOfFile(name, text) || papers.shown.kind);
   paper.give(text, name);
   return papers.show(paper);
 }

@@ -61,8 +61,8 @@ function segmentOf({ from, to, sport, dport, flags }) {
   return `020000000001020000000002${"0800"}${ip(checksumOf(ip("0000")))}${tcp(tcpSum)}`;
 }
 
-const SYN = 2;
-const ACK = 16;
+const TCP_SYN = 2;
+const TCP_ACK = 16;
 const FIRST_HOST = 0x0a000001;
 const SERVER = 0xc6336407;
 
@@ -74,11 +74,11 @@ function workloadOf({ flows, rounds, port, answerPort }) {
   for (let round = 0; round < rounds; round += 1) {
     for (let flow = 0; flow < flows; flow += 1) {
       const ends = { from: FIRST_HOST + (flow % 250), to: SERVER, sport: 5000 + Math.floor(flow / 250), dport: 80 };
-      lines.push(`${port} ${segmentOf({ ...ends, flags: round === 0 ? SYN : ACK })}\n`);
+      lines.push(`${port} ${segmentOf({ ...ends, flags: round === 0 ? TCP_SYN : TCP_ACK })}\n`);
       isNew.push(round === 0);
       if (answerPort !== null) {
         const back = { from: ends.to, to: ends.from, sport: ends.dport, dport: ends.sport };
-        lines.push(`${answerPort} ${segmentOf({ ...back, flags: round === 0 ? SYN | ACK : ACK })}\n`);
+        lines.push(`${answerPort} ${segmentOf({ ...back, flags: round === 0 ? TCP_SYN | TCP_ACK : TCP_ACK })}\n`);
         isNew.push(round === 0);
       }
     }

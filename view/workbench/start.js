@@ -109,12 +109,12 @@ function startAgain() {
     document.getElementById(`do-${name}`).addEventListener("click", () => { lastAct = name; }));
   ["lossy", "audit", "chain", "gen", "pcap-out"].forEach((name) =>
     document.getElementById(`do-${name}`).addEventListener("click", () => { lastAct = null; }));
-  papers.listeners.push({ checked: (paper, answer) => {
+  papers.listeners.push(({ kind }, answer) => {
     const isWanted = document.getElementById("again").checked && lastAct && panels.shown === "answer";
-    if (isWanted && answer.isDone && paper.kind !== "report" && paper.kind !== "class" && paper.kind !== "chain") {
+    if (isWanted && answer.isDone && kind in ROLES && kind !== "report") {
       attempt(lastAct, { run, compile, check, replay }[lastAct]);
     }
-  } });
+  });
   document.getElementById("way").addEventListener("change", () => {
     if (lastAct && lastAct !== "run" && panels.shown === "answer") {
       attempt(lastAct, { compile, check, replay }[lastAct]);

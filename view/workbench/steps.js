@@ -291,10 +291,8 @@ const steps = {
     document.getElementById("way").addEventListener("change", () =>
       panels.shown === "steps" && attemptSteps(() => this.refresh()));
     panels.openers.steps = () => attemptSteps(() => this.refresh());
-    papers.listeners.push({
-      checked: ({ kind }) => panels.shown === "steps" && ["source", "limits", "trace", "schedule", "split"].includes(kind)
-        && attemptSteps(() => this.refresh()),
-    });
+    papers.listeners.push(({ kind }) => panels.shown === "steps" && kind in ROLES && kind !== "report"
+      && attemptSteps(() => this.refresh()));
   },
 
   async takeRandom() {
