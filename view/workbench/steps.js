@@ -7,7 +7,6 @@ const MOST_STEPS_BY_HAND = 4000;
 const MOST_PLACES = 64;
 const MOST_COMMANDS = 2000;
 const MOST_VERSIONS = 40;
-const SHOWN_NOTES = 300;
 
 const EVENTS = [
   ["a", "admit", "the switch takes the next packet"],
@@ -259,10 +258,7 @@ const steps = {
   drawEvents() {
     drawEvents(this);
     drawCommands(this);
-    document.querySelectorAll("#world button[data-event]").forEach((button) => {
-      const [letter, item] = button.dataset.event.split(" ");
-      button.disabled = this.isLive(letter, Number(item)) !== true;
-    });
+    markItems(this);
   },
 
   // The run so far, drawn as a report is, and the rows on both sides.
@@ -319,134 +315,4 @@ async function attemptSteps(act) {
     document.getElementById("notes").replaceChildren();
     steps.setBusy(false);
   }
-}
-
-// The buttons of the events: those that are idle here are greyed.
-function drawEvents(view) {
-  const { world } = view;
-  document.getElementById("fine").checked = view.schedule.fine;
-  const buttons = EVENTS.filter(([letter]) => letter !== "s" || view.schedule.fine).map(([letter, word, told]) => {
-    const items = LISTS[letter] ? world[LISTS[letter]] : [0];
-    const item = Math.max(0, items.findIndex((_, place) => view.isLive(letter, place)));
-    const isLive = view.isLive(letter, item) === true;
-    const event = lineOfEvent({ letter, item });
-    const button = makeButton("", () => attemptSteps(() => view.perform(event)), isLive ? told
-      : view.isDrained ? "nothing stands behind `drain`" : world.whyIdle({ letter, item }));
-    button.append(make("b", "", event), make("span", "", word));
-    button.dataset.letter = letter;
-    button.disabled = !isLive;
-    return button;
-  });
-  document.getElementById("events").replaceChildren(...buttons);
-  document.getElementById("place").textContent = `event ${grouped(Math.min(view.at, view.length))} of ${
-    grouped(view.length)}`;
-  [["steps-first", view.at > 0], ["steps-back", view.at > 0], ["steps-next", view.at < view.length],
-    ["steps-last", view.at < view.length], ["steps-drain", !view.isDrained]].forEach(([name, isOpen]) => {
-    document.getElementById(name).disabled = !isOpen;
-  });
-}
-
-// A packet in one of the lists; a click takes its event.
-function drawItem(view, letter, item, number, told) {
-  const event = `${letter} ${item}`;
-  const button = makeButton("", () => attemptSteps(() => view.perform(event)), `event ${event}`);
-  button.className = `packet ${letter}`;
-  button.dataset.event = event;
-  button.append(make("b", "", number), ...(told ? [make("small", "", told)] : []));
-  return button;
-}
-
-function drawBox(classes, title, told, items, rows) {
-  return makeWith("div", `place-box ${classes}`, [
-    makeWith("h4", "", [title, make("small", "", told)]), makeWith("div", "items", items),
-    ...(rows || []).map(({ name, rows: all }) => make("small", "kept", `${name}: ${counted(all.length, "row")}`)),
-  ]);
-}
-
-// Where each packet is. A packet that is out keeps what became of it.
-function drawWorld(view) {
-  const { world } = view;
-  const { report } = world;
-  const listed = (letter, tellOne) => world[LISTS[letter]].map((one, item) =>
-    drawItem(view, letter, item, one.number === undefined ? one : one.number, tellOne && tellOne(one)));
-  const out = (view.isDrained ? [...report.packets].sort((one, other) => one.released - other.released)
-    : world.out.map((number) => world.packet(number))).map((packet) => {
-    const end = packet.port === null ? "✕" : `▶ ${packet.port}`;
-    const chip = makeWith("span", `packet out ${packet.way}`, [make("b", "", packet.number), make("small", "", end)]);
-    chip.title = `${packet.way}, ${packet.port === null ? "dropped" : `sent by port ${packet.port}`} at event ${
-      packet.released}`;
-    return chip;
-  });
-  const coming = view.isDrained ? 0 : report.total - world.next;
-  const lists = view.isDrained ? { up: [], held: [], down: [], passes: [] } : {
-    up: listed("u"), held: listed("h", (number) => {
-      const { version } = world.packet(number);
-      return version > 0 ? `waits for v${version}` : "";
-    }), down: listed("d"), passes: listed("s", ({ side, left }) => `${side}, ${left} left`),
-  };
-  const wrong = view.isDrained || world.isTold ? [] : [make("p", "refusal", "The world that is drawn isn't the one that "
-    + "the report tells. This is a fault of the page.")];
-  document.getElementById("world").replaceChildren(...wrong,
-    drawBox("coming", "arriving", coming === 0 ? "none left" : `next: packet ${report.total - coming}`, coming === 0 ? []
-      : [make("span", "packet more", `${grouped(coming)} to come`)]),
-    drawBox("switch", "switch", `lookups see version ${report.visible}`, lists.passes, report.tables),
-    drawBox("up", "up ▶", "sent to the server", lists.up),
-    drawBox("server", "server", `version ${report.version}`, lists.held, report.objects),
-    drawBox("down", "◀ down", "on the way back", lists.down),
-    drawBox("out", "out", "as they came out", out.slice(-60)), make("div", "commands"));
-}
-
-// How far the commands have come.
-function drawCommands(view) {
-  const place = document.querySelector("#world .commands");
-  if (!place) {
-    return;
-  }
-  const { world, live } = view;
-  const waiting = live ? live.c : 0;
-  const parts = view.isDrained ? [["known", "all are acknowledged", 0]] : [
-    ["known", "acknowledged", world.known], ["applied", "applied", world.applied - world.known],
-    ["sent", "on their way", world.sent - world.applied], ["waiting", "to be sent", waiting],
-  ];
-  const cells = parts.flatMap(([name, title, count]) =>
-    Array.from({ length: Math.min(count, 40) }, () => makeTitled("i", name, title)));
-  place.replaceChildren(make("h4", "", "commands to the switch"), makeWith("span", "cells", cells),
-    make("small", "", parts.map(([, title, count]) => (view.isDrained ? title : `${grouped(count)} ${title}`)).join(" · ")));
-}
-
-function makeTitled(tag, classes, title) {
-  const element = make(tag, classes);
-  element.title = title;
-  return element;
-}
-
-// What each event did; a click goes to it. The first output that isn't let go is told at length.
-function drawNotes(view) {
-  const { notes } = view.world;
-  const first = Math.max(0, notes.length - SHOWN_NOTES);
-  const items = notes.slice(first).map((event, place) => {
-    const number = first + place + 1;
-    const button = makeButton("", () => attemptSteps(() => view.goTo(number)), "Go to this event");
-    button.append(make("small", "", number), make("code", "", lineOfEvent(event)),
-      make("span", "", event.isIdle ? `idle: ${event.note}` : event.note));
-    return makeWith("li", event.isIdle ? "idle" : "", [button]);
-  });
-  const drained = view.isDrained ? [makeWith("li", "", [make("span", "drained", `drain: events ${
-    grouped(notes.length + 1)} to ${grouped(view.world.report.events)} went by themselves, until every packet was out and `
-    + "every command acknowledged")])] : [];
-  document.getElementById("notes").replaceChildren(...whyItWaits(view.world), makeWith("ol", "", [...items, ...drained]));
-  const list = document.querySelector("#notes ol");
-  list.scrollTop = list.scrollHeight;
-}
-
-// Why the first output that was asked for too early has to wait.
-function whyItWaits({ notes }) {
-  const place = notes.findIndex(({ letter, isIdle, note }) => letter === "h" && isIdle && note.includes("waits for"));
-  if (place < 0) {
-    return [];
-  }
-  return [makeWith("p", "why-waits", [make("b", "", `Event ${place + 1}, h ${notes[place].item}: `), `${
-    notes[place].note}. A naive splitter would let it out here. Then a packet that answers it could come to the switch `
-    + "before the new rows do, and be treated as if this one had never come; no order of the packets explains that. So "
-    + "it waits until the switch has acknowledged what it depends on."])];
 }
