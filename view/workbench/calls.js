@@ -3,7 +3,7 @@
 // Calls of the program through the server, one at a time.
 
 const BASE = location.pathname;
-// What the server tells of itself: the program, the folder, and its bounds.
+// What the server says of itself: the program, the folder, and its bounds.
 let bench = { program: { proved: false, told: "" }, folder: null, seconds: 20, bytes: 0 };
 
 // A call that gave no answer: stopped, over its time or its output, or not taken by the server.
@@ -17,8 +17,8 @@ const ENDS = new Map([
 
 const encodeText = (text) => new TextEncoder().encode(text);
 
-// What the program answered: the words that it was called with, its exit code, its line on standard error, what that
-// means and where; and the bytes that it wrote.
+// What the program answered: its arguments, its exit code, its line on standard error, what that means and where; and
+// the bytes that it wrote.
 class Answer {
   constructor(told, bytes) {
     Object.assign(this, told);
@@ -33,7 +33,7 @@ class Answer {
     return new TextDecoder("utf-8", { ignoreBOM: true }).decode(this.bytes);
   }
 
-  // The refusal's line, and the words behind it.
+  // The refusal's line, and what it means.
   get refusal() {
     return [this.errors.trim(), this.words.trimEnd()].filter(Boolean).join("\n");
   }
@@ -55,7 +55,7 @@ async function ask(path, options) {
 const calls = {
   last: Promise.resolve(), current: null, since: 0, count: 0,
 
-  // Asks in turn: behind all calls that were asked for before.
+  // Asks in turn: after all calls that were asked for before.
   async inTurn(path, words, body) {
     const before = this.last;
     let end;
@@ -91,7 +91,7 @@ function failOf(ended) {
   }
 }
 
-// Calls the program by a form such as "run SRC TRACE", with the texts of its files and its other words.
+// Calls the program by a command such as "run SRC TRACE", with the texts of its files and its other arguments.
 async function callProgram(form, files, words) {
   const response = await calls.inTurn("call", form.split(" ")[0], { form, files, words: words || {} });
   const told = JSON.parse(decodeURIComponent(response.headers.get("X-Answer")));
@@ -99,8 +99,8 @@ async function callProgram(form, files, words) {
   return new Answer(told, new Uint8Array(await response.arrayBuffer()));
 }
 
-// Replays under several schedules, each the first lines of the one in `files` and some lines behind them. Of each the
-// numbers of events and idle ones are answered, or null where the program refused.
+// Replays under several schedules, each the first lines of the one in `files` and some lines after them. Of each the
+// numbers of events and idle ones are returned, or null where the program refused.
 async function callVariants(form, files, variants) {
   const response = await calls.inTurn("variants", "replay", { form, files, variants });
   return (await response.json()).map(({ ended, head }) => {

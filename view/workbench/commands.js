@@ -4,7 +4,7 @@
 
 const inputOf = (name) => document.getElementById(name).value;
 
-// How a replay is split: its form, and the files that it needs more.
+// How a replay is split: its command, and the files that it needs besides.
 const WAYS = {
   strict: ["replay SRC TRACE SCHED LIMITS", ["limits"]],
   shrink: ["replay SRC TRACE SCHED LIMITS shrink", ["limits"]],
@@ -16,7 +16,7 @@ const ROLES = { source: "SRC", trace: "TRACE", schedule: "SCHED", limits: "LIMIT
 const filesOf = (kinds) => Object.fromEntries(kinds.map((kind) => [ROLES[kind], papers.text(kind)]));
 const wayOfSplit = () => inputOf("way");
 
-// The form of the replay that is chosen, and its files.
+// The command of the replay that is chosen, and its files.
 function chosenReplay(schedule) {
   const [form, more] = WAYS[wayOfSplit()];
   const files = filesOf(["source", "trace", "schedule", ...more]);
@@ -75,7 +75,7 @@ async function lossy() {
 // A report can be audited, and what it released can be had as a capture.
 function reportTools(text) {
   const take = makeButton("Audit this report", () => {
-    // The lines of links stand behind a report, and are no part of it.
+    // The lines of links stand after a report, and are no part of it.
     papers.all.get("report").give(text.replace(/^link .*\n/gm, ""));
     attempt("audit", audit);
   });
@@ -84,7 +84,7 @@ function reportTools(text) {
 
 async function audit() {
   const answer = await callProgram("audit SRC TRACE REPORT", filesOf(["source", "trace", "report"]));
-  const told = "The source, run on the packets in the order that the report tells, does just what the report tells.";
+  const told = "The source, run on the packets in the order of the report, does just what the report says.";
   answers.show("audit", answer, () => [make("p", "right", told)]);
 }
 
@@ -131,7 +131,7 @@ async function saveCapture(trace) {
   }
 }
 
-// Does what a button asks; a failure is told, and leaves the page as it was.
+// Does what a button asks; a failure is shown, and leaves the page as it was.
 async function attempt(title, act) {
   try {
     await act();

@@ -17,7 +17,7 @@ function drawEvents(view) {
     const isLive = view.isLive(letter, item) === true;
     const event = lineOfEvent({ letter, item });
     const button = makeButton("", () => attemptSteps(() => view.perform(event)), isLive ? told
-      : view.isDrained ? "nothing stands behind `drain`" : world.whyIdle({ letter, item }));
+      : view.isDrained ? "nothing comes after `drain`" : world.whyIdle({ letter, item }));
     button.append(make("b", "", event), make("span", "", word));
     button.dataset.letter = letter;
     button.disabled = !isLive;
@@ -64,7 +64,7 @@ function packetsOut({ isDrained, world }) {
     : world.out.map((number) => world.packet(number));
 }
 
-// The packets on their way, list by list; behind `drain` there are none.
+// The packets on their way, list by list; after `drain` there are none.
 function drawLists(view) {
   const { world, isDrained } = view;
   const waitOf = (number) => {
@@ -83,8 +83,8 @@ function drawWorld(view) {
   const { report } = world;
   const coming = isDrained ? 0 : report.total - world.next;
   const lists = drawLists(view);
-  const wrong = isDrained || world.isTold ? [] : [make("p", "refusal", "The world that is drawn isn't the one that the "
-    + "report tells. This is a fault of the page.")];
+  const wrong = isDrained || world.isTold ? [] : [make("p", "refusal", "The world that is drawn isn't the one of the "
+    + "report. This is a fault of the page.")];
   document.getElementById("world").replaceChildren(...wrong,
     drawBox("coming", "arriving", coming === 0 ? "none left" : `next: packet ${world.next}`, coming === 0 ? []
       : [make("span", "packet more", `${grouped(coming)} to come`)]),
@@ -132,7 +132,7 @@ function makeTitled(tag, classes, title) {
   return element;
 }
 
-// What each event did; a click goes to it. The first output that isn't let go is told at length.
+// What each event did; a click goes to it. The first output that isn't let go is explained.
 function drawNotes(view) {
   const { notes } = view.world;
   const first = Math.max(0, notes.length - SHOWN_NOTES);

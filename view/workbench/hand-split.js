@@ -14,7 +14,7 @@ const PLACES = [
 
 const SPLIT_LINE = /^(0|[1-9][0-9]*) (-|[0-9]+) (carried|server|post ([0-9]+))$/;
 
-// The parts of a split text, [{ before, slow }], where slow is a word or the stage behind the server; or null where a
+// The parts of a split text, [{ before, slow }], where slow is a word or the stage after the server; or null where a
 // line isn't in the form.
 function splitPartsOf(text) {
   const lines = linesOf(text).filter((line) => !isSkipped(line));
@@ -57,7 +57,7 @@ function countsOfLine(text) {
   return new Map([...text.matchAll(/([a-z_]+) ([0-9]+)/g)].map(([, name, number]) => [name, Number(number)]));
 }
 
-// The limits as the page reads them, for bars alone: what is exceeded is told by the program.
+// The limits as the page reads them, for bars alone: the program alone says what is exceeded.
 function limitsOfPaper() {
   const read = readBeside(["limits"]).get("limits");
   return new Map([["accesses", 1], ...(read ? read.limits : [])]);
@@ -134,7 +134,7 @@ const handSplit = {
     }
   },
 
-  // The split as a text, behind the listing of its instructions where that is there.
+  // The split as a text, after the listing of its instructions where that is there.
   textOf(parts) {
     const lines = this.listing ? this.listing.lines.filter((line) => line.startsWith("#")) : [];
     const counts = this.counts && [...this.counts].map(([name, number]) => `${name} ${number}`).join(" ");

@@ -16,7 +16,7 @@ const GIVEN_NAMES = { source: "source.gal", limits: "limits.toml", trace: "trace
 // Whether a schedule is one over links: such a line is in no other.
 const isOverLinks = (text) => /^[xyz] /m.test(text);
 
-// How the program is asked about each kind of text: [form, files].
+// How the program is asked about each kind of text: [command, files].
 const QUESTIONS = {
   source: (text) => ["run SRC TRACE", { SRC: text, TRACE: "" }],
   limits: (text) => ["compile SRC LIMITS", { SRC: PLAIN_SOURCE, LIMITS: text }],

@@ -13,7 +13,7 @@ function randomFrom(seed) {
   };
 }
 
-// As a naive splitter would: each packet goes through at once, and the switch is told later.
+// As a naive splitter would: each packet goes through at once, and the switch hears of it later.
 function naiveSchedule(packets) {
   const each = Array.from({ length: packets }, (_, number) =>
     `# packet ${number}: admitted, run, and out at once\na\nu 0\nh 0\nd 0\n`);

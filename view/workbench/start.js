@@ -1,6 +1,6 @@
 "use strict";
 
-// Starts the workbench: what the server tells of itself, the examples, the folder, and what is dropped on the page.
+// Starts the workbench: what the server says of itself, the examples, the folder, and what is dropped on the page.
 
 let examples = {};
 let lastAct = null;

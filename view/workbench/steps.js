@@ -41,7 +41,7 @@ const steps = {
     return this.schedule.events.length + (this.schedule.drain ? 1 : 0);
   },
 
-  // The lines of the schedule up to a place, `drain` among them where the place is behind it.
+  // The lines of the schedule up to a place, `drain` among them where the place is after it.
   textUpTo(place) {
     const { events, lines, fine } = this.schedule;
     if (place > events.length) {
@@ -138,7 +138,7 @@ const steps = {
     }
   },
 
-  // The stages of a pass before the server and behind it, where each is an event of its own.
+  // The stages of a pass before the server and after it, where each is an event of its own.
   async stages() {
     if (!this.schedule.fine || wayOfSplit() === "server") {
       return { before: 0, after: 0 };
@@ -153,7 +153,7 @@ const steps = {
   },
 
   // Which events would find something to do here. The program is asked: how many commands can be sent; for each version
-  // that an output waits for whether it may go; and the rest, which the world tells, all at once.
+  // that an output waits for whether it may go; and the rest, which the world shows, all at once.
   async findLive() {
     const { world } = this;
     const text = this.textUpTo(this.at);
@@ -176,7 +176,7 @@ const steps = {
     return { ...live, ...(isRight ? guessed.of : await this.askEach(form, files, keep)) };
   },
 
-  // What the world tells of the events that it knows: those that should find something to do, in an order in which none
+  // What the world says of the events that it knows: those that should find something to do, in an order in which none
   // makes room for another one, and those that shouldn't. Where passes have stages there is no such order.
   guess() {
     const { world } = this;
@@ -197,7 +197,7 @@ const steps = {
       [letter, found[place].idle === this.world.report.idle]));
   },
 
-  // Performs an event: what stood behind the place in the schedule goes.
+  // Performs an event: what came after the place in the schedule goes.
   async perform(event) {
     this.write(`${this.textUpTo(this.at)}${event}\n`);
     await this.goTo(this.length);
@@ -305,7 +305,7 @@ const steps = {
   },
 };
 
-// Does what a button asks, and tells a failure in the place of the world.
+// Does what a button asks, and shows a failure in the place of the world.
 async function attemptSteps(act) {
   try {
     await act();

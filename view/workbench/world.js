@@ -1,8 +1,8 @@
 "use strict";
 
 // The world between two events of a replay: which packets are where, and how far the commands have come. It follows the
-// reports of the program, which tell when each packet was admitted, decided and released, and the program's counts of
-// idle events, which tell for each event whether it found anything to do.
+// reports of the program, which say when each packet was admitted, decided and released, and the program's counts of
+// idle events, which say of each event whether it found anything to do.
 
 class World {
   // `stages` are those of the passes of a fine run, and 0 in any other; `idle` says of each event whether it was idle.
@@ -104,7 +104,7 @@ class World {
       : this.applied === this.sent ? "no command is on its way" : "the next command would change what a pass under way sees";
   }
 
-  // Whether the report tells the same of every packet.
+  // Whether the report says the same of every packet.
   get isTold() {
     const { packets } = this.report;
     const ways = (numbers, fits) => numbers.every((number) => packets[number] && fits(packets[number]));
@@ -129,7 +129,7 @@ class IdleCounts {
     this.counts[place] = idle;
   }
 
-  // Fills in the counts between two known ones where they leave no choice; answers where else to ask, at most so many.
+  // Fills in the counts between two known ones where they leave no choice; returns where else to ask, at most so many.
   open(length, most) {
     const wanted = [];
     let low = 0;
