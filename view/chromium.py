@@ -9,7 +9,7 @@ import time
 
 NAMES = ("chromium", "chromium-browser", "google-chrome")
 # So many seconds are waited for a page, which a busy machine may need.
-PATIENCE = 60
+PATIENCE = 180
 
 
 def find_browser():

@@ -130,7 +130,7 @@ function startTools() {
     target.value = "";
   });
   document.getElementById("wide").addEventListener("click", ({ target }) =>
-    target.setAttribute("aria-pressed", document.body.classList.toggle("wide")));
+    target.setAttribute("aria-pressed", document.body.classList.toggle("alone")));
   document.getElementById("add-class").addEventListener("click", () => {
     const name = `${inputOf("class-name").replace(/\.gal$/, "")}.gal`;
     if (CLASS_NAME.test(name)) {
