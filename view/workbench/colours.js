@@ -31,36 +31,43 @@ class Grammar {
   // `rules` are [scope, pattern, captures].
   constructor(rules) {
     this.rules = rules.map(([scope, pattern, captures]) =>
-      ({ colour: colourOf(scope), captures: captures || [], pattern: new RegExp(pattern, "dg") }));
+      ({ colour: colourOf(scope), captures: captures || [], pattern: new RegExp(pattern, captures ? "dg" : "g") }));
   }
 
   // The pieces of a line with their colours: [[text, colour]].
   piecesOf(line) {
     const pieces = [];
+    // Of each rule its next match, so that a long line is searched once for each.
+    const matches = this.rules.map((rule) => this.matchFrom(rule, line, 0));
     let at = 0;
     while (at < line.length) {
-      const found = this.firstFrom(line, at);
-      if (!found) {
+      const first = this.firstOf(matches);
+      if (!first) {
         break;
       }
-      pieces.push([line.slice(at, found.start), ""], ...found.pieces);
-      at = found.end;
+      const { rule, found } = first;
+      pieces.push([line.slice(at, found.index), ""], ...this.coloured(rule, found));
+      at = found.index + found[0].length;
+      matches.forEach((match, place) => {
+        if (match && match.found.index < at) {
+          matches[place] = this.matchFrom(match.rule, line, at);
+        }
+      });
     }
     pieces.push([line.slice(at), ""]);
     return pieces.filter(([text]) => text !== "");
   }
 
-  // The rule that fits first from a place on; of those that fit at one place, the first.
-  firstFrom(line, at) {
-    let first = null;
-    for (const rule of this.rules) {
-      rule.pattern.lastIndex = at;
-      const found = rule.pattern.exec(line);
-      if (found && found[0] !== "" && (!first || found.index < first.start)) {
-        first = { start: found.index, end: found.index + found[0].length, pieces: this.coloured(rule, found) };
-      }
-    }
-    return first;
+  matchFrom(rule, line, at) {
+    rule.pattern.lastIndex = at;
+    const found = rule.pattern.exec(line);
+    return found && found[0] !== "" ? { rule, found } : null;
+  }
+
+  // The match that comes first in the line; of several at one place that of the first rule.
+  firstOf(matches) {
+    return matches.reduce((first, match) =>
+      (match && (!first || match.found.index < first.found.index) ? match : first), null);
   }
 
   coloured({ colour, captures }, found) {
@@ -88,9 +95,10 @@ function rulesOf(grammar) {
     }
     const listed = Object.entries(captures || beginCaptures || {}).map(([number, one]) => [Number(number), one.name]);
     if (match) {
-      rules.push([name, match, listed]);
+      rules.push([name, match, listed.length > 0 && listed]);
     } else if (begin) {
-      rules.push([name, end && end !== "$" && end !== "\\n" ? `${begin}.*?(?:${end}|$)` : `${begin}.*`, listed]);
+      const isOpen = !end || end === "$" || end === "\\n";
+      rules.push([name, isOpen ? `${begin}.*` : `${begin}.*?(?:${end}|$)`, listed.length > 0 && listed]);
     }
     (patterns || []).forEach((one) => match || begin || add(one));
   };

@@ -4,9 +4,11 @@
 // refusal. Only the lines that are in sight are drawn.
 
 const LINE_HEIGHT = 19;
-// In texts with longer lines, or longer than that, nothing but the numbers is drawn over the field.
-const LONGEST_LINE = 4000;
-const LONGEST_TEXT = 2000000;
+// Of a line that is longer only the part in sight is drawn, and so many characters at its sides.
+const LONG_LINE = 1000;
+const BESIDE_SIGHT = 50;
+// A line that is still longer has no colours.
+const LONGEST_COLOURED = 10000;
 
 class Editor {
   constructor(title, grammarName, changed) {
@@ -66,8 +68,7 @@ class Editor {
 
   split() {
     this.lines = this.field.value.split("\n");
-    this.isPlain = this.field.value.length > LONGEST_TEXT || this.lines.some(({ length }) => length > LONGEST_LINE);
-    this.element.classList.toggle("plain", this.isPlain);
+    this.pieces = new Map();
     this.draw();
   }
 
@@ -84,6 +85,7 @@ class Editor {
     this.field.focus();
     this.field.setSelectionRange(at, at);
     this.field.scrollTop = Math.max(0, (line - 6) * LINE_HEIGHT);
+    this.field.scrollLeft = Math.max(0, column * this.letterWidth - this.field.clientWidth / 2);
   }
 
   draw() {
@@ -106,11 +108,42 @@ class Editor {
   }
 
   drawLine(line, number) {
-    const isMarked = this.mark && this.mark.line === number;
+    const isMarked = Boolean(this.mark) && this.mark.line === number;
+    const pieces = isMarked ? this.markPieces(line, this.piecesOf(line)) : this.piecesOf(line);
+    const [low, high] = line.length > LONG_LINE ? this.columnsInSight() : [0, Infinity];
+    const spans = [];
+    let [at, start] = [0, null];
+    pieces.forEach(([text, colour]) => {
+      const seen = text.slice(Math.max(0, low - at), Math.max(0, high - at));
+      if (seen !== "") {
+        start = start === null ? Math.max(at, low) : start;
+        spans.push(make("span", colour && colour.split(" ").map((one) => `c-${one}`).join(" "), seen));
+      }
+      at += text.length;
+    });
+    const element = makeWith("div", isMarked ? "line marked" : "line", spans);
+    element.style.paddingLeft = start ? `${start}ch` : "";
+    return element;
+  }
+
+  // The coloured pieces of a line, found once for each text.
+  piecesOf(line) {
     const grammar = grammars.get(this.grammarName);
-    const pieces = this.isPlain || !grammar ? [[this.isPlain ? "" : line, ""]] : grammar.piecesOf(line);
-    return makeWith("div", isMarked ? "line marked" : "line", isMarked ? this.markPieces(line, pieces)
-      : pieces.map(([text, colour]) => make("span", colour && `c-${colour}`, text)));
+    if (!this.pieces.has(line)) {
+      const isColoured = grammar && line.length <= LONGEST_COLOURED;
+      this.pieces.set(line, isColoured ? grammar.piecesOf(line) : [[line, ""]]);
+    }
+    return this.pieces.get(line);
+  }
+
+  get letterWidth() {
+    return parseFloat(getComputedStyle(this.gutter).width) / (String(this.lines.length).length + 2) || 8;
+  }
+
+  columnsInSight() {
+    const { scrollLeft, clientWidth } = this.field;
+    const columns = [scrollLeft, scrollLeft + clientWidth].map((pixels) => Math.round(pixels / this.letterWidth));
+    return [Math.max(0, columns[0] - BESIDE_SIGHT), columns[1] + BESIDE_SIGHT];
   }
 
   // The pieces of the marked line, with the token at the place of the mark set apart.
@@ -121,15 +154,12 @@ class Editor {
     const parts = [];
     let at = 0;
     pieces.forEach(([text, colour]) => {
-      [[0, start], [start, end], [end, Infinity]].forEach(([low, high], which) => {
-        const part = text.slice(Math.max(0, low - at), Math.max(0, high - at));
-        if (part) {
-          parts.push(make("span", `${colour && `c-${colour}`}${which === 1 ? " wrong" : ""}`, part));
-        }
+      [[0, start, ""], [start, end, " here"], [end, Infinity, ""]].forEach(([low, high, mark]) => {
+        parts.push([text.slice(Math.max(0, low - at), Math.max(0, high - at)), `${colour}${mark}`.trim()]);
       });
       at += text.length;
     });
-    return start >= line.length ? [...parts, make("span", "wrong", " ")] : parts;
+    return [...parts, [start >= line.length ? " " : "", "here"]].filter(([text]) => text !== "");
   }
 
   // A column counts characters of the text, and a place counts the units of the browser's strings.
