@@ -111,7 +111,8 @@ const answers = {
     const name = this.nameOf(answer.command);
     const tools = [makeButton(`Download ${name}`, () => download(name, answer.bytes), "Byte for byte what it printed")];
     if (answer.command.join(" ").startsWith("pcap out")) {
-      return [makeWith("p", "tools", tools), make("p", "note", `${counted(answer.bytes.length, "byte")} of a capture.`)];
+      const size = `${counted(answer.bytes.length, "byte")} of a capture.`;
+      return [makeWith("p", "tools", tools), make("p", "note", size)];
     }
     const { text } = answer;
     const shown = make("pre", "printed", text.length > 200000 ? `${text.slice(0, 200000)}\n ..` : text);

@@ -21,7 +21,8 @@ const LINE_GRAMMARS = {
 // Which colour a scope of TextMate has, by its beginning.
 const SCOPES = [
   ["comment", "comment"], ["keyword.operator", "operator"], ["keyword", "keyword"], ["storage", "storage"],
-  ["support", "support"], ["variable.other", "name"], ["variable", "variable"], ["constant", "number"], ["string", "string"],
+  ["support", "support"], ["variable.other", "name"], ["variable", "variable"],
+  ["constant", "number"], ["string", "string"],
   ["entity", "name"], ["invalid", "wrong"],
 ];
 

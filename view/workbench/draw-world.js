@@ -1,7 +1,7 @@
 "use strict";
 
-// Draws what the schedule by hand shows: the buttons of the events, where each packet is, how far the commands have come,
-// and what each event did.
+// Draws what the schedule by hand shows: the buttons of the events, where each packet is, how far the commands have
+// come, and what each event did.
 
 const SHOWN_NOTES = 300;
 const SHOWN_OUT = 60;
@@ -122,8 +122,9 @@ function drawCommands(view) {
   ];
   const cells = parts.flatMap(([name, title, count]) =>
     Array.from({ length: Math.min(count, SHOWN_COMMANDS) }, () => makeTitled("i", name, title)));
+  const told = parts.map(([, title, count]) => (view.isDrained ? title : `${grouped(count)} ${title}`)).join(" · ");
   place.replaceChildren(make("h4", "", "commands to the switch"), makeWith("span", "cells", cells),
-    make("small", "", parts.map(([, title, count]) => (view.isDrained ? title : `${grouped(count)} ${title}`)).join(" · ")));
+    make("small", "", told));
 }
 
 function makeTitled(tag, classes, title) {
@@ -143,10 +144,11 @@ function drawNotes(view) {
       make("span", "", event.isIdle ? `idle: ${event.note}` : event.note));
     return makeWith("li", event.isIdle ? "idle" : "", [button]);
   });
-  const drained = view.isDrained ? [makeWith("li", "", [make("span", "drained", `drain: events ${
-    grouped(notes.length + 1)} to ${grouped(view.world.report.events)} went by themselves, until every packet was out and `
-    + "every command acknowledged")])] : [];
-  document.getElementById("notes").replaceChildren(...whyItWaits(view.world), makeWith("ol", "", [...items, ...drained]));
+  const range = `${grouped(notes.length + 1)} to ${grouped(view.world.report.events)}`;
+  const drained = view.isDrained ? [makeWith("li", "", [make("span", "drained", `drain: events ${range} went by `
+    + "themselves, until every packet was out and every command acknowledged")])] : [];
+  const all = makeWith("ol", "", [...items, ...drained]);
+  document.getElementById("notes").replaceChildren(...whyItWaits(view.world), all);
   const list = document.querySelector("#notes ol");
   list.scrollTop = list.scrollHeight;
 }

@@ -209,7 +209,8 @@ const handSplit = {
     const statements = read && read.flat ? read.flat.instructions : [];
     const heads = ["instruction", ...PLACES.map(([, title]) => title)].map((title) => make("th", "text", title));
     const body = make("tbody");
-    const shown = this.listing.instructions.filter(({ kind }) => this.showsAll || (kind !== "const" && kind !== "field"));
+    const isShown = ({ kind }) => this.showsAll || (kind !== "const" && kind !== "field");
+    const shown = this.listing.instructions.filter(isShown);
     const more = fillRows(body, shown.map((instruction) => () => this.drawRow(instruction, statements)));
     place.replaceChildren(makeWith("div", "wide", [
       makeWith("table", "board", [makeWith("thead", "", [makeWith("tr", "", heads)]), body])]), more);

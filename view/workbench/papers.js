@@ -140,8 +140,8 @@ const papers = {
     const add = (...words) => this.all.set(words[0], new Paper(...words));
     add("source", "Source", "source.gal", "What the middlebox does to a packet.");
     add("limits", "Limits", "limits.toml", "What the switch has: four lines.");
-    add("trace", "Trace", "trace.txt", "The packets: a port, a space and the bytes. A capture that is dropped here becomes "
-      + "a trace.");
+    add("trace", "Trace", "trace.txt", "The packets: a port, a space and the bytes. A capture that is dropped here "
+      + "becomes a trace.");
     add("schedule", "Schedule", "schedule.txt", "The events of a replay, a line for each; `drain` ends it.");
     add("split", "Split", "split.txt", "A split by hand. The tab “Split by hand” changes it by clicks.");
     add("report", "Report", "report.txt", "What `replay` printed, to be audited.");

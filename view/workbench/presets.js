@@ -54,11 +54,12 @@ function checksumOf(hex) {
 
 // A TCP segment without data, with its checksums, in an Ethernet frame.
 function segmentOf({ from, to, sport, dport, flags }) {
-  const tcp = (sum) => `${hexOf(sport, 4)}${hexOf(dport, 4)}${"00000001"}${"00000000"}50${hexOf(flags, 2)}ffff${sum}0000`;
+  const ports = `${hexOf(sport, 4)}${hexOf(dport, 4)}`;
+  const tcp = (sum) => `${ports}000000010000000050${hexOf(flags, 2)}ffff${sum}0000`;
   const addresses = `${hexOf(from, 8)}${hexOf(to, 8)}`;
   const ip = (sum) => `45000028000040004006${sum}${addresses}`;
   const tcpSum = checksumOf(`${addresses}00060014${tcp("0000")}`);
-  return `020000000001020000000002${"0800"}${ip(checksumOf(ip("0000")))}${tcp(tcpSum)}`;
+  return `0200000000010200000000020800${ip(checksumOf(ip("0000")))}${tcp(tcpSum)}`;
 }
 
 const TCP_SYN = 2;
@@ -66,8 +67,8 @@ const TCP_ACK = 16;
 const FIRST_HOST = 0x0a000001;
 const SERVER = 0xc6336407;
 
-// Packets of flows, in rounds: in each a packet of each flow. Answers, where they are wanted, follow their packets, from
-// the other side. Answers { trace, isNew } where isNew says of each packet whether it is the first of its flow.
+// Packets of flows, in rounds: in each a packet of each flow. Answers, where they are wanted, follow their packets,
+// from the other side. Returns { trace, isNew } where isNew says of each packet whether its flow is new.
 function workloadOf({ flows, rounds, port, answerPort }) {
   const lines = [];
   const isNew = [];

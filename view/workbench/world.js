@@ -95,13 +95,17 @@ class World {
       const [list, word] = lists[letter];
       return this[list].length === 0 ? `no ${word}` : `there is no item ${item}`;
     }
-    const fixed = { a: "every packet is admitted", c: "no command waits to be sent", k: "no command waits to be acknowledged" };
+    const fixed = { a: "every packet is admitted", c: "no command waits to be sent",
+      k: "no command waits to be acknowledged" };
     if (letter === "h") {
       const { version } = this.packet(this.held[item]);
       return `the output of packet ${this.held[item]} waits for version ${version}, which isn't acknowledged`;
     }
-    return letter !== "w" ? fixed[letter] || "nothing to do"
-      : this.applied === this.sent ? "no command is on its way" : "the next command would change what a pass under way sees";
+    if (letter === "w") {
+      return this.applied === this.sent ? "no command is on its way"
+        : "the next command would change what a pass under way sees";
+    }
+    return fixed[letter] || "nothing to do";
   }
 
   // Whether the report says the same of every packet.
