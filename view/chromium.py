@@ -43,16 +43,25 @@ class Browser:
             self.ask(f"{domain}.enable")
 
     def call(self, method, session=None, **words):
+        return self.answer_to(method, self.send(method, session, **words))
+
+    def send(self, method, session=None, **words):
+        """Asks, and returns the number of the question."""
         self.number += 1
         message = {"id": self.number, "method": method, "params": words}
         self.sender.write(json.dumps({**message, "sessionId": session} if session else message).encode() + b"\0")
+        return self.number
+
+    def answer_to(self, method, number):
+        """The answer to the question of this number; those to questions before it are passed over."""
         while True:
             answer = self.receive()
-            if answer.get("id") == self.number:
+            if answer.get("id") == number:
                 if "error" in answer:
                     raise RuntimeError(f"{method}: {answer['error']}")
                 return answer["result"]
-            self.events.append(answer)
+            if "method" in answer:
+                self.events.append(answer)
 
     def receive(self):
         while b"\0" not in self.pending:
@@ -102,9 +111,14 @@ class Browser:
                    f"{json.dumps(value)}; one.dispatchEvent(new Event('change', {{ bubbles: true }})); }})()")
 
     def key(self, key, code=0, modifiers=0, text=""):
+        self.answer_to(key, self.press(key, code, modifiers, text))
+
+    def press(self, key, code=0, modifiers=0, text=""):
+        """Presses a key and lets it go; returns the number by which the answer is waited for."""
+        method = "Input.dispatchKeyEvent"
         words = {"key": key, "windowsVirtualKeyCode": code, "modifiers": modifiers}
-        self.ask("Input.dispatchKeyEvent", type="keyDown", **words, **({"text": text} if text else {}))
-        self.ask("Input.dispatchKeyEvent", type="keyUp", **words)
+        self.send(method, self.session, type="keyDown", **words, **({"text": text} if text else {}))
+        return self.send(method, self.session, type="keyUp", **words)
 
     def select_all(self):
         self.key("a", 65, modifiers=2)
@@ -115,13 +129,13 @@ class Browser:
         for place, line in enumerate(text.split("\n")):
             indent = len(line) - len(line.lstrip(" "))
             if place > 0:
-                self.key("Enter", 13, text="\r")
+                last = self.press("Enter", 13, text="\r")
                 for _ in range(before - indent):
-                    self.key("Backspace", 8)
+                    last = self.press("Backspace", 8)
             for character in line[before if indent > before else indent:]:
-                self.key(character, text=character)
+                last = self.press(character, text=character)
+            self.answer_to("a key", last)
             before = indent
-        return text
 
     def give(self, text):
         """Puts a text in place of what the editor in focus has."""

@@ -53,7 +53,7 @@ async function ask(path, options) {
 }
 
 const calls = {
-  last: Promise.resolve(), current: null, since: 0, count: 0,
+  last: Promise.resolve(), current: null, since: 0, count: 0, timer: null,
 
   // Asks in turn: after all calls that were asked for before.
   async inTurn(path, words, body) {
@@ -118,7 +118,8 @@ function showProgress() {
   if (calls.current) {
     const seconds = Math.floor(since / 1000);
     place.firstElementChild.textContent = `${calls.current.words} runs${seconds > 0 ? `, ${seconds} s` : ""} `;
-    setTimeout(showProgress, 300);
+    clearTimeout(calls.timer);
+    calls.timer = setTimeout(showProgress, 300);
   }
 }
 

@@ -48,8 +48,15 @@ class Editor {
   take() {
     this.original = this.lineEnd === "\r\n" ? this.field.value.replaceAll("\n", "\r\n") : this.field.value;
     this.mark = null;
-    this.split();
     this.changed();
+    // Several keys of one frame are drawn once.
+    if (!this.isWaiting) {
+      this.isWaiting = true;
+      requestAnimationFrame(() => {
+        this.isWaiting = false;
+        this.split();
+      });
+    }
   }
 
   // A new line begins as far to the right as the one before.
