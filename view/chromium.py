@@ -95,14 +95,15 @@ class Browser:
         return self.value(f"(document.querySelector({json.dumps(selector)}) || {{}}).textContent")
 
     def click(self, selector):
-        """Clicks on the middle of an element, with the mouse."""
-        found = json.dumps(selector)
-        box = self.value(f"(() => {{ const one = document.querySelector({found}); if (!one) {{ return null; }} "
-                         "one.scrollIntoView({ block: 'center', inline: 'nearest' }); "
-                         "const box = one.getBoundingClientRect(); "
-                         "return [box.x + box.width / 2, box.y + box.height / 2]; })()")
-        if box is None:
+        """Clicks on the middle of an element, with the mouse, once nothing lies over it."""
+        place = ("(() => { const one = document.querySelector(%s); if (!one) { return null; } "
+                 "one.scrollIntoView({ block: 'center', inline: 'nearest' }); "
+                 "const box = one.getBoundingClientRect(); "
+                 "const [x, y] = [box.x + box.width / 2, box.y + box.height / 2]; "
+                 "return one.contains(document.elementFromPoint(x, y)) ? [x, y] : null; })()" % json.dumps(selector))
+        if not self.wait(place):
             raise RuntimeError(f"there is no {selector}")
+        box = self.value(place)
         for kind in ("mouseMoved", "mousePressed", "mouseReleased"):
             self.ask("Input.dispatchMouseEvent", type=kind, x=box[0], y=box[1], button="left", clickCount=1)
 
