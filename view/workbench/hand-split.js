@@ -80,7 +80,7 @@ function drawBars(counts, limits) {
 }
 
 const handSplit = {
-  listing: null, key: "", rows: [], counts: null, showsAll: false,
+  listing: null, key: "", rows: [], drawn: null, counts: null, showsAll: false,
 
   // The program's instructions, as `compile .. shrink` lists them: every split of a source has the same ones.
   async load() {
@@ -187,7 +187,14 @@ const handSplit = {
 
   draw() {
     const place = document.getElementById("hand-board");
+    // The rows that stand are kept where they are of the same instructions, so that no click on one is lost.
+    const wanted = this.parts && `${this.showsAll} ${this.parts.length} ${this.key}`;
+    if (wanted && wanted === this.drawn) {
+      this.refresh();
+      return;
+    }
     this.rows = [];
+    this.drawn = null;
     if (!this.parts) {
       const why = this.refusal || "The text isn't a split of this source: begin with one of the splits above.";
       place.replaceChildren(make("pre", "refusal", why));
@@ -200,6 +207,7 @@ const handSplit = {
       return;
     }
     this.drawBoard(place);
+    this.drawn = wanted;
     this.refresh();
   },
 
