@@ -1,5 +1,5 @@
 -- There is one reason at most, want of memory aside.
-use Rattle.std.proofs.Common.{◌≡◌, ◌≢◌, ◌<◌, ◌≤◌, min, ◌⊎◌, inl, inr, ℕ, zero, suc, refl, sym, ap, subst, ◌∙◌, arith}
+use Rattle.std.proofs.Common.{◌≡◌, ◌≢◌, ◌<◌, ◌≤◌, ◌-◌, ◌^◌, min, ◌⊎◌, inl, inr, ℕ, zero, suc, refl, sym, ap, subst, ◌∙◌, arith}
 use Rattle.element_lang.specs.Tree.{Tree}
 use Rattle.element_chain.specs.Chain.{Connected}
 use Rattle.element_chain.specs.Compose.{composed}
@@ -7,7 +7,7 @@ use Rattle.chain_compose.specs.declared.error.ComposeError.{ComposeError}
 use Rattle.chain_compose.specs.declared.error.ComposeError.TheVariants.{Byte, Repeat, Statements, TooLarge, NoMemory}
 use Rattle.chain_compose.specs.declared.error.What.{What}
 use Rattle.chain_compose.specs.declared.error.What.TheVariants.{Objects, Entries, Writes, Depth, Bytes}
-use Rattle.chain_compose.specs.Refusals.{IsFirst, amount, allowed, order, IsTooLarge, IsRefused, IsUnrefused, KeepsSizes, AreInPlace, IsCountRefusal, IsSizeRefusal, statements_in, most_statements}
+use Rattle.chain_compose.specs.Refusals.{IsFirst, amount, allowed, order, IsTooLarge, IsRefused, IsUnrefused, KeepsSizes, AreInPlace, IsLargeRefusal, IsSizeRefusal, statements_in, most_statements}
 
 apart : (a b : ℕ) → (a < b) ⊎ ((a ≡ b) ⊎ (b < a))
 apart zero zero = inr (inl refl)
@@ -77,19 +77,27 @@ no_reason c (TooLarge what have most) none h = absurd (too_much (composed c) wha
 no_reason c NoMemory none h = refl
 
 -- ## the reasons one after the other
-pub count_refused : (c : Connected) (e : ComposeError) → AreInPlace c → IsCountRefusal c e → IsRefused c e
-count_refused c Statements placed h = (placed, h)
-count_refused c NoMemory placed h = tt
-count_refused c (Byte e) placed h = absurd h
-count_refused c (Repeat e) placed h = absurd h
-count_refused c (TooLarge what have most) placed h = absurd h
+pub large_refused : (c : Connected) (e : ComposeError) → AreInPlace c → IsLargeRefusal (composed c) e → IsRefused c e
+large_refused c Statements placed h = (placed, h)
+large_refused c (TooLarge what have most) placed h = (record { placed = placed; few = h.0 }, h.1)
+large_refused c NoMemory placed h = tt
+large_refused c (Byte e) placed h = absurd h
+large_refused c (Repeat e) placed h = absurd h
 
-pub size_refused : (c : Connected) (m : Tree) (e : ComposeError) → AreInPlace c → statements_in (composed c).body ≤ most_statements → m ≡ composed c → IsSizeRefusal m e → IsRefused c e
-size_refused c m (TooLarge what have most) placed few is h = (record { placed = placed; few = few }, subst (λ (t : Tree). IsTooLarge t what have most) is h)
-size_refused c m NoMemory placed few is h = tt
-size_refused c m (Byte e) placed few is h = absurd h
-size_refused c m (Repeat e) placed few is h = absurd h
-size_refused c m Statements placed few is h = absurd h
+pub size_refused : (m : Tree) (e : ComposeError) → statements_in m.body ≤ most_statements → IsSizeRefusal m e → IsLargeRefusal m e
+size_refused m (TooLarge what have most) few h = (few, h)
+size_refused m NoMemory few h = tt
+size_refused m (Byte e) few h = absurd h
+size_refused m (Repeat e) few h = absurd h
+size_refused m Statements few h = absurd h
 
-pub unrefused : (c : Connected) (m : Tree) → AreInPlace c → statements_in (composed c).body ≤ most_statements → m ≡ composed c → KeepsSizes m → IsUnrefused c
-unrefused c m placed few is sizes = record { few = record { placed = placed; few = few }; sizes = subst KeepsSizes is sizes }
+-- the first of which there is too much
+abbrev IsOver : Tree → What → ComposeError → Type 0
+IsOver m what e =
+    (e ≡ NoMemory) ⊎ ((allowed what < min (amount what m) (2 ^ 64 - 1)) × (e ≡ TooLarge what (min (amount what m) (2 ^ 64 - 1)) (allowed what)))
+
+pub over : (m : Tree) (what : What) (e : ComposeError) → ((other : What) → order other < order what → amount other m ≤ allowed other)
+    → IsOver m what e → IsSizeRefusal m e
+over m what e first (inl is) = subst (IsSizeRefusal m) (sym is) tt
+over m what e first (inr two) =
+    subst (IsSizeRefusal m) (sym two.1) (record { count = refl; limit = refl; above = two.0; first = first })

@@ -1,6 +1,11 @@
 pub mod Refusals
 pub mod Counts
+pub mod Tallies
+pub mod Depths
+pub mod SendLevels
+pub mod NamedFrom
 pub mod Routes
 pub mod Declares
 pub mod Parts
 pub mod Reach
+pub mod Named

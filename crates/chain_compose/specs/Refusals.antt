@@ -117,10 +117,10 @@ IsSizeRefusal m (Byte e) = ⊥
 IsSizeRefusal m (Repeat e) = ⊥
 IsSizeRefusal m Statements = ⊥
 
--- there are too many statements
-abbrev pub IsCountRefusal : Connected → ComposeError → Type 0
-IsCountRefusal c Statements = most_statements < statements_in (composed c).body
-IsCountRefusal c NoMemory = Unit {0}
-IsCountRefusal c (Byte e) = ⊥
-IsCountRefusal c (Repeat e) = ⊥
-IsCountRefusal c (TooLarge what have most) = ⊥
+-- there are too many statements; or few enough, and too much of something
+abbrev pub IsLargeRefusal : Tree → ComposeError → Type 0
+IsLargeRefusal m Statements = most_statements < statements_in m.body
+IsLargeRefusal m (TooLarge what have most) = (statements_in m.body ≤ most_statements) × IsTooLarge m what have most
+IsLargeRefusal m NoMemory = Unit {0}
+IsLargeRefusal m (Byte e) = ⊥
+IsLargeRefusal m (Repeat e) = ⊥

@@ -2,11 +2,9 @@
 ghost use Rattle.std.specs.Prelude.{◌≡◌, ◌≢◌, ◌<◌, ◌≤◌, ◌+◌, ◌^◌, ◌⊎◌, ℕ, List, true, length, IsTrue};
 ghost use Rattle.std.specs.Prelude.{IfOk, IfErr, MatchResult};
 ghost use Rattle.std.specs.List.{All, list_all};
-ghost use Rattle.element_lang.specs.Accepted.{HasNames, deepest};
+ghost use Rattle.element_lang.specs.Accepted.{HasNames};
 ghost use Rattle.element_lang.specs.Rules.{is_good};
-ghost use Rattle.element_lang.specs.Token.{Token};
 ghost use Rattle.element_lang.specs.View.{tree};
-ghost use Rattle.element_print.specs.ReadsBack.{HasExactly};
 ghost use Rattle.packet_fields.specs.declared.packet.Packet.{Packet};
 ghost use Rattle.packet_fields.specs.Arrivals.{IsArrival};
 ghost use Rattle.state_store.specs.Kept.{IsKept};
@@ -17,10 +15,10 @@ ghost use Rattle.element_chain.specs.Compose.{composed, joined, base_of};
 ghost use Rattle.element_chain.specs.Laws.{IsFit, AreKept};
 ghost use Rattle.element_chain.specs.Wiring.{AreWithin, HasNoCycle};
 ghost use Rattle.chain_compose.specs.Parts.{connected, chain_of};
-ghost use Rattle.chain_compose.specs.Refusals.{AreInPlace, IsRefused, IsUnrefused, KeepsSizes, IsSizeRefusal};
-ghost use Rattle.chain_compose.specs.Refusals.{IsCountRefusal, statements_in, most_statements, order, amount, allowed};
+ghost use Rattle.chain_compose.specs.Refusals.{AreInPlace, IsRefused, IsUnrefused, KeepsSizes, IsLargeRefusal};
+ghost use Rattle.chain_compose.specs.Refusals.{statements_in, most_statements};
 
-use crate::error::{ComposeError, What};
+use crate::error::ComposeError;
 use crate::matrix::Reach;
 use crate::names::{locals, objects};
 use crate::parts::{Parts, Place};
@@ -30,19 +28,10 @@ use crate::uses::fields_set;
 use element_chain::{
     Chain, Classes, Wire, composition_keeps_the_meaning, composition_keeps_the_rules, wires_lead,
 };
-use element_lang::{MAX_DEPTH, MAX_ENTRIES, MAX_OBJECTS, MAX_WRITES, Middlebox};
-use element_print::print;
-use element_rules::{entries, writes};
-use element_tokens::{depth, tokens};
-use gal_io::{NoMemory, Text};
+use element_lang::Middlebox;
+use gal_io::NoMemory;
 use packet_fields::{Field, width};
 use std::alloc::Global;
-
-/// The most bytes of a source.
-const MAX_BYTES: u64 = 262_144;
-
-/// The most statements of a composed middlebox, those within others counted.
-const MAX_STATEMENTS: u64 = 65_536;
 
 // Refuses elements that can't stand where they are.
 fn refuse_elements(alloc: Global, chain: &Chain, classes: &[Middlebox]) -> Result<(), ComposeError>
@@ -91,26 +80,9 @@ impl Parts<'_> {
             body,
         })
     }
-
-    // The same, where it has few enough statements. They are counted before it is made.
-    fn few(&self) -> Result<Middlebox, ComposeError>
-        requires some { 0 < length self.now.classes.now }
-        requires few { length self.now.classes.now ≤ 32 }
-        requires within { AreWithin (length self.now.classes.now) self.now.chain.now.wires }
-        ensures made { IfOk result (λ m. tree m ≡ composed (chain_of self.now)) }
-        ensures small { IfOk result (λ m. length m.locals < 2 ^ 64) }
-        ensures few { IfOk result (λ _. statements_in (composed (chain_of self.now)).body ≤ most_statements) }
-        ensures err { IfErr result (IsCountRefusal (chain_of self.now)) }
-    {
-        if self.size()? > MAX_STATEMENTS {
-            return Err(ComposeError::Statements);
-        }
-        self.refuse_deep()?;
-        Ok(self.whole()?)
-    }
 }
 
-// The elements as one middlebox, where it has few enough statements.
+// The elements as one middlebox, where it is small enough. Its sizes are told before it is made.
 fn whole(alloc: Global, chain: &Chain, classes: &[Middlebox]) -> Result<Middlebox, ComposeError>
     requires some { 0 < length classes.now }
     requires few { length classes.now ≤ 32 }
@@ -120,7 +92,8 @@ fn whole(alloc: Global, chain: &Chain, classes: &[Middlebox]) -> Result<Middlebo
     ensures small { IfOk result (λ m. length m.locals < 2 ^ 64) }
     ensures few { let c = connected classes.now chain.now.wires in
         IfOk result (λ _. statements_in (composed c).body ≤ most_statements) }
-    ensures err { IfErr result (IsCountRefusal (connected classes.now chain.now.wires)) }
+    ensures sizes { IfOk result (λ _. KeepsSizes (composed (connected classes.now chain.now.wires))) }
+    ensures err { IfErr result (IsLargeRefusal (composed (connected classes.now chain.now.wires))) }
 {
     let routes = Routes::new(alloc, chain.wires.as_slice(), classes.len() as u32)?;
     let cleared = fields_set(alloc, classes)?;
@@ -133,56 +106,8 @@ fn whole(alloc: Global, chain: &Chain, classes: &[Middlebox]) -> Result<Middlebo
         bit: width(Field::HasIp),
         byte: width(Field::MetaPort),
     };
-    parts.few()
-}
-
-fn within(what: What, have: u64, allowed: u64) -> Result<(), ComposeError>
-    ensures ok { IfOk result (λ _. have ≤ allowed) }
-    ensures err { IfErr result (λ e. (allowed < have) × (e ≡ ComposeError.TooLarge what have allowed)) }
-{
-    if have > allowed {
-        return Err(ComposeError::TooLarge {
-            what,
-            have,
-            allowed,
-        });
-    }
-    Ok(())
-}
-
-// How many brackets of a printed text are open at once.
-fn depth_of(alloc: Global, text: &Text) -> Result<u64, NoMemory>
-    ensures { (ts : List Token) → HasExactly text.now ts → IfOk result (λ found. found ≡ deepest 0 ts) }
-{
-    match tokens(alloc, text.as_slice()) {
-        Ok(found) => Ok(depth(text.as_slice(), &found) as u64),
-        Err(_) => Err(NoMemory),
-    }
-}
-
-// Refuses a middlebox that doesn't keep the sizes of sources.
-fn refuse_middlebox(m: &Middlebox) -> Result<(), ComposeError>
-    ensures ok { IfOk result (λ _. (what : What) → order what < 3 → amount what (tree m.now) ≤ allowed what) }
-    ensures err { IfErr result (IsSizeRefusal (tree m.now)) }
-{
-    within(What::Objects, m.objects.len() as u64, MAX_OBJECTS as u64)?;
-    within(What::Entries, entries(m), MAX_ENTRIES)?;
-    within(What::Writes, writes(m), MAX_WRITES)?;
-    Ok(())
-}
-
-// Refuses a middlebox whose text doesn't keep the sizes of sources.
-fn refuse_text(alloc: Global, m: &Middlebox) -> Result<(), ComposeError>
-    requires good { IsTrue (is_good (tree m.now)) }
-    requires names { HasNames (tree m.now) }
-    requires sizes { (what : What) → order what < 3 → amount what (tree m.now) ≤ allowed what }
-    ensures ok { IfOk result (λ _. KeepsSizes (tree m.now)) }
-    ensures err { IfErr result (IsSizeRefusal (tree m.now)) }
-{
-    let text = print(alloc, m)?;
-    within(What::Depth, depth_of(alloc, &text)?, MAX_DEPTH as u64)?;
-    within(What::Bytes, text.len() as u64, MAX_BYTES)?;
-    Ok(())
+    parts.refuse_large()?;
+    Ok(parts.whole()?)
 }
 
 // A number of 8 bits is one.
@@ -222,8 +147,6 @@ fn compose_elements(
     inputs_are_bytes(chain.wires.as_slice());
     refuse_elements(alloc, chain, classes)?;
     let middlebox = whole(alloc, chain, classes)?;
-    refuse_middlebox(&middlebox)?;
-    refuse_text(alloc, &middlebox)?;
     Ok(middlebox)
 }
 

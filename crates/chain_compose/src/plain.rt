@@ -5,7 +5,7 @@ ghost use Rattle.element_lang.specs.View.{expr_tree, expr_trees, stmt_tree, tree
 ghost use Rattle.element_lang.specs.Tree.StmtTree.{let_local, assign, set_field, look, put, del};
 ghost use Rattle.element_chain.specs.Compose.{renamed, all_renamed, declared, all_declared, numbers, stmt_placed};
 ghost use Rattle.element_chain.specs.Compose as compose;
-ghost use Rattle.chain_compose.specs.Counts.{capped};
+ghost use Rattle.element_print.specs.Lengths.{capped};
 ghost use Rattle.chain_compose.specs.Parts.{chain_of, own_tree, spot_of, sends_of, numbering, one_placed};
 
 use crate::expressions::{number_of, place_expr, place_exprs};
@@ -25,8 +25,8 @@ pub(crate) fn next_number(widths: &Vec<Width>) -> Result<u32, NoMemory>
     }
 }
 
-// How many objects the elements before this one have.
-fn base_of(classes: &[Middlebox], element: u32) -> u64
+/// How many objects the elements before this one have.
+pub(crate) fn base_of(classes: &[Middlebox], element: u32) -> u64
     ensures { result ≡ capped (compose.base_of (map tree classes.now) element) }
 {
     match classes {

@@ -56,12 +56,12 @@ target_on : (m n : ℕ) (t : Target) → m ≤ n → IsWithin m t → IsWithin n
 target_on m n target.Out le h = tt
 target_on m n (target.Element e) le h = omega arith
 
-within_more : (m n : ℕ) (ws : List Wire) → m ≤ n → AreWithin m ws → AreWithin n ws
+pub within_more : (m n : ℕ) (ws : List Wire) → m ≤ n → AreWithin m ws → AreWithin n ws
 within_more m n ws le h =
     All-weaker (λ (w : Wire). (w.from < m) × IsWithin m w.to) (λ (w : Wire). (w.from < n) × IsWithin n w.to)
     (λ w two. (omega (arith, two.0), target_on m n w.to le two.1)) ws h
 
-target_within : (es : List Element) (word : List ℕ) → (is_out word || is_named es word) ≡ true → IsWithin (length es) (target_of es word)
+pub target_within : (es : List Element) (word : List ℕ) → (is_out word || is_named es word) ≡ true → IsWithin (length es) (target_of es word)
 target_within es word h = by_test (is_out word) h
   where
     by_test : (b : Bool) → (b || is_named es word) ≡ true → IsWithin (length es) (cond b target.Out (target.Element (number_of es word)))
@@ -115,7 +115,7 @@ taken_declaration before old new name class (Ok false) h told es_are ws_are outp
     ap (λ l. is_out name || is_named l name) (sym h.elements) ∙ not-false (is_out name || is_named old.elements name) (sym told)
 
 -- ## one wire more
-apart : (ws : List Wire) (w : Wire) → is_wired ws w.from w.output ≡ false → AreWiredOnce ws → AreWiredOnce (ws ++ w ∷ [])
+pub apart : (ws : List Wire) (w : Wire) → is_wired ws w.from w.output ≡ false → AreWiredOnce ws → AreWiredOnce (ws ++ w ∷ [])
 apart ws w free once =
     all_pairs_push (λ (v w : Wire). v.from ≡ w.from → v.output ≡ w.output → ⊥) ws w once
     (λ k d lt same same'.

@@ -9,3 +9,4 @@ pub mod TakingAll
 pub mod Tables
 pub mod OneAnswer
 pub mod Reading
+pub mod Composing

@@ -38,7 +38,7 @@ fn put_widths(widths: &Widths, out: &mut Tokens) -> Result<(), NoMemory>
 }
 
 // The width at a place, 0 past the end.
-fn width_at(widths: &[u64], place: usize) -> u64
+pub(crate) fn width_at(widths: &[u64], place: usize) -> u64
     ensures { result ≡ slice_index widths.now place }
 {
     if place < widths.len() {

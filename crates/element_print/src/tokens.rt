@@ -14,7 +14,7 @@ use std::marker::Model;
 #[derive(Debug, Drop)]
 pub(crate) struct Tokens {
     alloc: Global,
-    text: Text,
+    bytes: Vec<u8>,
 }
 
 impl Model for Tokens {
@@ -22,15 +22,16 @@ impl Model for Tokens {
 
     ghost Value = { List ℕ };
 
-    ghost view = { λ tokens. tokens.text };
+    ghost view = { λ tokens. tokens.bytes.items };
 }
 
 impl Tokens {
-    pub fn new(alloc: Global) -> Tokens
-        ensures { result ≡ [] }
+    /// No tokens, with room for so many bytes.
+    pub fn with_capacity(alloc: Global, capacity: u64) -> Result<Tokens, NoMemory>
+        ensures { IfOk result (λ made. made ≡ []) }
     {
-        let text = Text::new(alloc);
-        Tokens { alloc, text }
+        let bytes = Vec::with_capacity(alloc, capacity as usize)?;
+        Ok(Tokens { alloc, bytes })
     }
 
     /// Adds a keyword or a symbol.
@@ -38,8 +39,8 @@ impl Tokens {
     pub fn mark(&mut self, mark: Mark) -> Result<(), NoMemory>
         ensures { OnOk result (self.new ≡ self.old ++ spaced (fixed mark ∷ [])) }
     {
-        self.text.extend(mark.spelling().as_bytes())?;
-        self.text.push(b' ')?;
+        self.bytes.extend_from_slice(mark.spelling().as_bytes())?;
+        self.bytes.push(b' ')?;
         Ok(())
     }
 
@@ -47,8 +48,9 @@ impl Tokens {
     pub fn number(&mut self, n: u64) -> Result<(), NoMemory>
         ensures { OnOk result (self.new ≡ self.old ++ spaced (number n ∷ [])) }
     {
-        self.text.extend(format!(in self.alloc; "{n}")?.as_bytes())?;
-        self.text.push(b' ')?;
+        self.bytes
+            .extend_from_slice(format!(in self.alloc; "{n}")?.as_bytes())?;
+        self.bytes.push(b' ')?;
         Ok(())
     }
 
@@ -67,8 +69,8 @@ impl Tokens {
     pub fn name(&mut self, word: &[u8]) -> Result<(), NoMemory>
         ensures { OnOk result (self.new ≡ self.old ++ spaced (name word.now ∷ [])) }
     {
-        self.text.extend(word)?;
-        self.text.push(b' ')?;
+        self.bytes.extend_from_slice(word)?;
+        self.bytes.push(b' ')?;
         Ok(())
     }
 
@@ -76,8 +78,8 @@ impl Tokens {
     pub fn field(&mut self, f: Field) -> Result<(), NoMemory>
         ensures { OnOk result (self.new ≡ self.old ++ spaced (field f ∷ [])) }
     {
-        self.text.extend(field_name(f).as_bytes())?;
-        self.text.push(b' ')?;
+        self.bytes.extend_from_slice(field_name(f).as_bytes())?;
+        self.bytes.push(b' ')?;
         Ok(())
     }
 
@@ -94,9 +96,9 @@ impl Tokens {
     pub fn end(self, mark: Mark) -> Result<Text, NoMemory>
         ensures { IfOk result (λ text. (ts : List Token) → self ≡ spaced ts → text ≡ text_of (ts ++ fixed mark ∷ [])) }
     {
-        let Tokens { alloc: _, mut text } = self;
-        text.extend(mark.spelling().as_bytes())?;
-        text.push(b'\n')?;
-        Ok(text)
+        let Tokens { alloc, mut bytes } = self;
+        bytes.extend_from_slice(mark.spelling().as_bytes())?;
+        bytes.push(b'\n')?;
+        Text::from_slice(alloc, &bytes)
     }
 }

@@ -19,7 +19,7 @@ use Rattle.element_chain.specs.declared.chain.Element.{Element}
 use Rattle.element_chain.specs.Chain.{Connected, element_at, store_at, chain_run}
 use Rattle.element_chain.specs.Compose.{composed, joined, base_of}
 use Rattle.element_chain.specs.Laws.{AreKept}
-use Rattle.chain_text.specs.Reads.{IsChainText, IsComposable, IsRefused}
+use Rattle.chain_text.specs.Reads.{IsChainText, IsRefused}
 use Rattle.chain_text.specs.declared.error.ChainTextError.{ChainTextError}
 use Rattle.chain_text.specs.declared.error.ChainTextError.TheVariants as chains
 use Rattle.chain_compose.specs.Refusals as composing
@@ -163,15 +163,14 @@ pub record IsRead (w : List ℕ) (chain : ChainTold) (f g : FilesState) : Type 0
   pub read : g.reads ≡ raised_by 1 f.reads
 
 pub chain_read : (w : List ℕ) (chain : ChainTold) (f g : FilesState)
-    → IfSome (f.told w) (λ text. (length text ≤ size_of wiring) × IsChainText text chain) → IsComposable chain
+    → IfSome (f.told w) (λ text. (length text ≤ size_of wiring) × IsChainText text chain)
     → GoesOn statuses.Done f g → g.reads ≡ raised_by 1 f.reads → IsRead w chain f g
-chain_read w chain f g spelled composable goes read =
-    record { wired = record { text = spelled; composable = composable }; goes = goes; read = read }
+chain_read w chain f g spelled goes read = record { wired = spelled; goes = goes; read = read }
 
 class_gates : (refusal : Refusal) (w : List ℕ) (chain : ChainTold) (f g h : FilesState) → IsRead w chain f g
     → IsFirstClassRefused refusal (class_files chain.elements) g h → IsFirstRefused refusal (gates_of (Chain w)) f h
 class_gates refusal w chain f g h is first = inr (
-  passed_wiring w f chain is.wired.text,
+  passed_wiring w f chain is.wired,
   inl (chain, is.wired, inl (first_class_later refusal (class_files chain.elements) f g h is.goes first)),
 )
 
@@ -225,7 +224,7 @@ chain_reads w chain ms f h are = (w ∷ class_files chain.elements, (chain, are.
 uncomposed_gates : (refusal : Refusal) (w : List ℕ) (chain : ChainTold) (ms : List Tree) (f h : FilesState)
     → AreRead w chain ms f h → IsUncomposed refusal chain ms → IsFirstRefused refusal (gates_of (Chain w)) f h
 uncomposed_gates refusal w chain ms f h are why =
-    inr (passed_wiring w f chain are.wired.text, inl (chain, are.wired, inr (ms, are.classes, why)))
+    inr (passed_wiring w f chain are.wired, inl (chain, are.wired, inr (ms, are.classes, why)))
 
 -- they aren't composed
 pub uncomposed_cause : (refusal : Refusal) (w : List ℕ) (chain : ChainTold) (ms : List Tree) (f h : FilesState)

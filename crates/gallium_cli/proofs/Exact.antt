@@ -245,7 +245,7 @@ one_text laws (Some text) chain found one two = laws.chain text chain found one.
 
 pub one_chain : Laws → (told : List ℕ → Option (List ℕ)) (w : List ℕ) (chain found : ChainTold)
     → IsToldWiring told w chain → IsWired told w found → chain ≡ found
-one_chain laws told w chain found asked wired = one_text laws (told w) chain found asked.text wired.text
+one_chain laws told w chain found asked wired = one_text laws (told w) chain found asked wired
 
 one_class : (told : Option (List ℕ)) (m n : Tree) → Tells told m → MayTell told n → m ≡ n
 one_class None m n one two = absurd one
@@ -490,7 +490,7 @@ answer_passed text (Audited s t r) f p p' (m, packets, run, found, told, printed
     audit_passed s t r f m packets run found told
 answer_passed text (Chained w) f p p' (chain, ms, wired, are, one) = (
   if_told (λ content. (length content ≤ size_of wiring) × IsChainText content chain) (IsGood wiring)
-      (λ content h. (h.0, (chain, h.1))) (f.told w) wired.text,
+      (λ content h. (h.0, (chain, h.1))) (f.told w) wired,
   ((chain, ms, wired, are, one.unrefused), tt),
 )
 answer_passed text (Gen seed count) f p p' answer = tt

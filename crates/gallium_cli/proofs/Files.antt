@@ -230,7 +230,7 @@ audit_before s t f g m packets goes is = record {
 
 wired_before : (w : List ℕ) (f g : FilesState) (chain : ChainTold) → GoesOn statuses.Done f g
     → IsWired g.told w chain → IsWired f.told w chain
-wired_before w f g chain goes is = record { text = told_before _ f g w goes is.text; composable = is.composable }
+wired_before w f g chain goes is = told_before _ f g w goes is
 
 pub classes_before : (f g : FilesState) (es : List Element) (ms : List Tree) → GoesOn statuses.Done f g
     → AreClasses g.told es ms → AreClasses f.told es ms

@@ -20,7 +20,7 @@ use Rattle.element_chain.specs.Chain.{Connected}
 use Rattle.element_chain.specs.Chain.{element_at, store_at, chain_run}
 use Rattle.element_chain.specs.Compose.{composed, joined, base_of}
 use Rattle.element_chain.specs.Laws.{AreKept}
-use Rattle.chain_text.specs.Reads.{IsChainText, IsComposable}
+use Rattle.chain_text.specs.Reads.{IsChainText}
 use Rattle.chain_compose.specs.Refusals as composing
 use Rattle.chain_compose.specs.declared.error.ComposeError.{ComposeError}
 use Rattle.chain_compose.specs.declared.error.ComposeError.TheVariants as errors
@@ -49,10 +49,9 @@ class_files es = map file_of (firsts (map (λ (e : Element). e.class) es))
 abbrev pub IsPlaceOf : List Element → List ℕ → ℕ → Type 0
 IsPlaceOf es class e = (x : Element) × (slice_get es e ≡ Some x) × (x.class ≡ class)
 
--- the chain is the one that the told content spells, and it can be composed
-pub record IsWired (told : List ℕ → Option (List ℕ)) (w : List ℕ) (chain : Chain) : Type 0 where
-  pub text : IfSome (told w) (λ text. (length text ≤ size_of wiring) × IsChainText text chain)
-  pub composable : IsComposable chain
+-- the chain is the one that the told content spells
+abbrev pub IsWired : (List ℕ → Option (List ℕ)) → List ℕ → Chain → Type 0
+IsWired told w chain = IfSome (told w) (λ text. (length text ≤ size_of wiring) × IsChainText text chain)
 
 -- Each element has the middlebox that the file of its class spells, where that is told, and elements of one class have
 -- one middlebox.

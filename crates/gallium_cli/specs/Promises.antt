@@ -15,7 +15,7 @@ use Rattle.partition.specs.Choice as choice
 use Rattle.element_chain.specs.declared.chain.Chain.{Chain as ChainTold}
 use Rattle.element_chain.specs.declared.chain.Element.{Element}
 use Rattle.chain_text.specs.Reads as reads
-use Rattle.chain_text.specs.Reads.{IsChainText, IsComposable}
+use Rattle.chain_text.specs.Reads.{IsChainText}
 use Rattle.chain_text.specs.declared.error.ChainTextError.TheVariants as chains
 use Rattle.chain_compose.specs.Refusals as composing
 use Rattle.chain_compose.specs.declared.error.ComposeError.{ComposeError}
@@ -104,10 +104,9 @@ pub record IsReplayReport (told : List ℕ → Option (List ℕ)) (s t r : List 
   pub trace : IsSomeAnd (told t) (λ text. trace_of text ≡ Ok packets)
   pub replay : IsSomeAnd (told r) (IsReplayOf m packets)
 
--- The contents are told, and spell this chain, which can be composed.
-pub record IsToldWiring (told : List ℕ → Option (List ℕ)) (w : List ℕ) (chain : ChainTold) : Type 0 where
-  pub text : IsSomeAnd (told w) (λ text. (length text ≤ size_of wiring) × IsChainText text chain)
-  pub composable : IsComposable chain
+-- the contents are told, and spell this chain
+abbrev pub IsToldWiring : (List ℕ → Option (List ℕ)) → List ℕ → ChainTold → Type 0
+IsToldWiring told w chain = IsSomeAnd (told w) (λ text. (length text ≤ size_of wiring) × IsChainText text chain)
 
 -- They are told of the class of each element, and spell these middleboxes: one for all elements of a class.
 pub record AreToldClasses (told : List ℕ → Option (List ℕ)) (chain : ChainTold) (ms : List Tree) : Type 0 where

@@ -11,25 +11,6 @@ use Rattle.chain_compose.proofs.composition.compose_elements.Goals as goal
 pub whole-requires-clause-good : goal.whole-requires-clause-good
 whole-requires-clause-good c = all_good c.args.classes.now c.requires.good
 
-pub refuse_text-requires-clause-good : goal.refuse_text-requires-clause-good
-refuse_text-requires-clause-good c =
-    let ms = c.args.classes.now in
-    let wires = c.args.chain.now.wires in
-    let placed = c.in_ok-refuse_elements.ensures.ok in
-    let m = c.in_ok-middlebox.middlebox in
-    let inputs = subst (λ (ws : List Wire). All (λ (w : Wire). w.input < 2 ^ 8) ws) c.as_slice.ensures c.inputs_are_bytes.ensures in
-    subst (λ (t : Tree). IsTrue (is_good t)) (sym c.in_ok-middlebox.ensures.made)
-    (c.composition_keeps_the_rules.ensures.rules (connected ms wires) (fits ms wires c.requires.some c.requires.good placed.reads inputs c.requires.within c.requires.acyclic) placed.repeats
-    (is_small ms wires m c.requires.few c.in_ok-middlebox.ensures.made c.in_ok-middlebox.ensures.small))
-
-pub refuse_text-requires-clause-names : goal.refuse_text-requires-clause-names
-refuse_text-requires-clause-names c =
-    let ms = c.args.classes.now in
-    let wires = c.args.chain.now.wires in
-    let m = c.in_ok-middlebox.middlebox in
-    subst (λ (t : Tree). HasNames t) (sym c.in_ok-middlebox.ensures.made)
-    (c.composition_keeps_the_rules.ensures.names (connected ms wires) (is_small ms wires m c.requires.few c.in_ok-middlebox.ensures.made c.in_ok-middlebox.ensures.small) (at_each HasNames ms c.requires.names))
-
 pub returns-clause-fits : goal.returns-clause-fits
 returns-clause-fits c =
     let ms = c.args.classes.now in

@@ -1,8 +1,6 @@
 use Rattle.std.proofs.Common.{◌≡◌, ◌≢◌, ◌⊎◌, inl, inr}
-use Rattle.element_chain.specs.Chain.{Connected}
 use Rattle.chain_compose.specs.declared.error.ComposeError.{ComposeError}
 use Rattle.chain_compose.specs.declared.error.ComposeError.TheVariants.{NoMemory}
-use Rattle.chain_compose.specs.Refusals.{IsRefused, IsUnrefused}
 use Rattle.chain_compose.proofs.OneReason.{one_reason, no_reason}
 use Rattle.chain_compose.proofs.laws.one_composition_or_one_reason.Goals as goal
 

@@ -18,7 +18,7 @@ pub returns-in-Err-clause-err : goal.returns-in-Err-clause-err
 returns-in-Err-clause-err g c = λ port.
     let told = c.in_ok-chain.ensures in
     let read = chain_read c.args.wiring.now c.in_ok-chain.chain (g.F.Files.seen c.args.files.now)
-    (g.F.Files.seen c.load.new.files) told.ok told.sound told.stays told.read in
+    (g.F.Files.seen c.load.new.files) told.ok told.stays told.read in
     class_cause c.in-Err.refusal c.args.wiring.now c.in_ok-chain.chain c.as_slice.result.now (g.F.Files.seen c.args.files.now)
     (g.F.Files.seen c.load.new.files) (g.F.Files.seen c.load_classes.new.files) port (g.O.Sink.seen c.args.out.now) read
     c.as_slice.ensures c.in-Err.ensures.err c.load_classes.ensures.few_reads
@@ -27,7 +27,7 @@ pub returns-in-Err-clause-fault : goal.returns-in-Err-clause-fault
 returns-in-Err-clause-fault g c = λ port.
     let told = c.in_ok-chain.ensures in
     let read = chain_read c.args.wiring.now c.in_ok-chain.chain (g.F.Files.seen c.args.files.now)
-    (g.F.Files.seen c.load.new.files) told.ok told.sound told.stays told.read in
+    (g.F.Files.seen c.load.new.files) told.ok told.stays told.read in
     class_counts c.in-Err.refusal c.args.wiring.now c.in_ok-chain.chain c.as_slice.result.now (g.F.Files.seen c.args.files.now)
     (g.F.Files.seen c.load.new.files) (g.F.Files.seen c.load_classes.new.files) port (g.O.Sink.seen c.args.out.now) read
     c.as_slice.ensures c.in-Err.ensures.err c.in-Err.ensures.fault
@@ -37,7 +37,7 @@ returns-in-Err-composed-clause-err g c = λ port.
     let told = c.in_ok-chain.ensures in
     let found = c.in-Ok.ensures in
     let read = chain_read c.args.wiring.now c.in_ok-chain.chain (g.F.Files.seen c.args.files.now)
-    (g.F.Files.seen c.load.new.files) told.ok told.sound told.stays told.read in
+    (g.F.Files.seen c.load.new.files) told.ok told.stays told.read in
     let all = classes_read c.args.wiring.now c.in_ok-chain.chain c.as_slice.result.now (map tree c.in-Ok.classes.items)
     (g.F.Files.seen c.args.files.now) (g.F.Files.seen c.load.new.files) (g.F.Files.seen c.load_classes.new.files) read
     c.as_slice.ensures found.ok found.stays found.read in
@@ -50,7 +50,7 @@ returns-clause-ok g c = λ port.
     let told = c.in_ok-chain.ensures in
     let found = c.in-Ok.ensures in
     let read = chain_read c.args.wiring.now c.in_ok-chain.chain (g.F.Files.seen c.args.files.now)
-    (g.F.Files.seen c.load.new.files) told.ok told.sound told.stays told.read in
+    (g.F.Files.seen c.load.new.files) told.ok told.stays told.read in
     let all = classes_read c.args.wiring.now c.in_ok-chain.chain c.as_slice.result.now (map tree c.in-Ok.classes.items)
     (g.F.Files.seen c.args.files.now) (g.F.Files.seen c.load.new.files) (g.F.Files.seen c.load_classes.new.files) read
     c.as_slice.ensures found.ok found.stays found.read in
@@ -65,7 +65,7 @@ returns-clause-err g c = λ port.
     let told = c.in_ok-chain.ensures in
     let found = c.in-Ok.ensures in
     let read = chain_read c.args.wiring.now c.in_ok-chain.chain (g.F.Files.seen c.args.files.now)
-    (g.F.Files.seen c.load.new.files) told.ok told.sound told.stays told.read in
+    (g.F.Files.seen c.load.new.files) told.ok told.stays told.read in
     let all = classes_read c.args.wiring.now c.in_ok-chain.chain c.as_slice.result.now (map tree c.in-Ok.classes.items)
     (g.F.Files.seen c.args.files.now) (g.F.Files.seen c.load.new.files) (g.F.Files.seen c.load_classes.new.files) read
     c.as_slice.ensures found.ok found.stays found.read in

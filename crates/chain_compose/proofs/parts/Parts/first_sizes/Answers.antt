@@ -1,8 +1,0 @@
-use Rattle.std.proofs.Common.{◌≡◌, ◌∙◌, ℕ, length, replicate, ap, arith}
-use Rattle.chain_compose.proofs.Caps.{first_sizes}
-use Rattle.chain_compose.proofs.parts.Parts.first_sizes.Goals as goal
-
-pub returns : goal.returns
-returns c =
-    let all : c.loop.counter ≡ length c.args.self.now.classes.now = omega (arith, c.loop.invariant.within, c.loop-test.false) in
-    first_sizes c.args.self.now c.loop.sizes.items (c.loop.invariant.so_far ∙ ap (λ (n : ℕ). replicate n 1) all)
