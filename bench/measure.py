@@ -5,6 +5,8 @@ the maximum resident set in MB (2^20 bytes). A run is started by a small process
 starts a program counts as the program's: less than the 5 MB of that process isn't seen.
 """
 import collections
+import importlib.machinery
+import importlib.util
 import math
 import os
 import re
@@ -36,6 +38,9 @@ for line in sys.stdin.buffer:
     code = os.WEXITSTATUS(status) if os.WIFEXITED(status) else -os.WTERMSIG(status)
     print(used.ru_utime + used.ru_stime, used.ru_maxrss, code, flush=True)
 '''.replace('LONGEST', str(LONGEST))
+
+# What is counted of a split, in order.
+COUNTS = ('accesses', 'stages', 'table_bits', 'writeback', 'transfer_bytes')
 
 Used = collections.namedtuple('Used', 'seconds megabytes status')
 
@@ -94,10 +99,13 @@ class Call:
 
 
 class Shape:
-    """What is measured at five sizes. `make(folder, size)` writes the inputs into a folder and answers the call."""
+    """What is measured at five sizes. `make(folder, size)` writes the inputs into a folder and answers the call.
 
-    def __init__(self, group, name, title, unit, sizes, make):
-        self.group, self.name, self.title, self.unit, self.sizes, self.make = group, name, title, unit, sizes, make
+    Of each thing that a size counts, `times` are done."""
+
+    def __init__(self, group, name, title, unit, sizes, times, make):
+        self.group, self.name, self.title, self.unit = group, name, title, unit
+        self.sizes, self.times, self.make = sizes, times, make
 
 
 class Shapes:
@@ -106,10 +114,10 @@ class Shapes:
     def __init__(self):
         self.all = []
 
-    def shape(self, group, name, title, unit, sizes):
+    def shape(self, group, name, title, unit, sizes, times=1):
         """What is written over a function that makes the inputs of a shape."""
         def added(make):
-            self.all.append(Shape(group, f'{group}-{name}' if name else group, title, unit, tuple(sizes), make))
+            self.all.append(Shape(group, f'{group}-{name}' if name else group, title, unit, tuple(sizes), times, make))
             return make
         return added
 
@@ -173,10 +181,22 @@ def table(head, rows):
             for row in [head, *rows]]
 
 
+def page_row(cells):
+    """A row of a table of a page."""
+    return '|' + ''.join(f' {cell} |' if cell else ' |' for cell in cells)
+
+
 def page_table(head, rows):
     """The same as lines of a page."""
-    written = [f'| {" | ".join(row)} |' for row in [head, *rows]]
-    return [written[0], '|' + '---|' * len(head), *written[1:]]
+    return [page_row(head), '|' + '---|' * len(head), *map(page_row, rows)]
+
+
+def script_beside(name):
+    """Another script of this folder as a module."""
+    loader = importlib.machinery.SourceFileLoader(name, os.path.join(TOP, 'bench', name))
+    module = importlib.util.module_from_spec(importlib.util.spec_from_loader(name, loader))
+    loader.exec_module(module)
+    return module
 
 
 def machine():

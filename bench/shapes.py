@@ -7,7 +7,7 @@ import struct
 
 import inputs
 from inputs import TRANSLATOR, answer, limits, lines, of_flow, report, schedule, served, trace, translated, write
-from measure import Call, Shapes
+from measure import COUNTS, Call, Shapes
 
 SHAPES = Shapes()
 shape = SHAPES.shape
@@ -42,20 +42,6 @@ def run_long(folder, size):
     data = data[:LONG - 54]
     trace(folder, size, of_flow(0, data))
     return Call(['run', TRANSLATOR, 'trace.txt'], answer(size, translated(0, 0, data)))
-
-
-@shape('run', 'put', '64 rows stored by each packet, up to the most rows of all, and listed', 'row',
-       halves(1_048_576))
-def run_put(folder, size):
-    puts = ''.join(f'put p{i} = m[eth.src, {i}:6] -> {i}:8;\n' for i in range(64))
-    write(folder, 'source.gal', f'map m (48, 6) -> (8) capacity 1048576;\nprocess {{\n{puts}send 1:8;\n}}\n')
-    packets = size // 64
-    sources = [(i * inputs.MIXED % 16384) for i in range(packets)]
-    trace(folder, packets, lambda i: f'ffffffffffff02{sources[i]:010x}0800')
-    rows = (f'{(2 << 40) + source} {i} -> {i}\n' for source in sorted(sources) for i in range(64))
-    return Call(['run', 'source.gal', 'trace.txt'],
-                answer(packets, lambda i: f'send 1 ffffffffffff02{sources[i]:010x}0800',
-                       f'object m {size}\n', rows, 'end\n'))
 
 
 # ---- sources, read for a run on no packet
@@ -109,8 +95,7 @@ def compiled(folder, text, instructions=None, takes=None, shrink=False, **kept):
         if instructions is not None:
             inputs.expect('the instructions', counted, instructions)
         taken = next(file).split()
-        inputs.expect('what the split takes', taken[1::2], [b'accesses', b'stages', b'table_bits', b'writeback',
-                                                            b'transfer_bytes'])
+        inputs.expect('what the split takes', taken[1::2], [name.encode() for name in COUNTS])
         for place, wanted in (takes or {}).items():
             inputs.expect(place, int(taken[taken.index(place.encode()) + 1]), wanted)
         rest = [line for line in file if line[:1] != b'#']
@@ -444,12 +429,13 @@ def deep(folder, size, packets, *events):
                 report(packets, sum_of(size, 60), lambda i: True))
 
 
-@shape('deep', 'plain', '1,024 packets through so many sums on the switch, each of which needs the one before', 'sum', halves(2043))
+@shape('deep', 'plain', '1,024 packets through so many sums on the switch, each of which needs the one before', 'sum', halves(2043),
+       1024)
 def deep_plain(folder, size):
     return deep(folder, size, 1024, 'a\n' * 1024)
 
 
-@shape('deep', 'fine', '128 packets through them stage by stage, all under way at once', 'sum', halves(2043))
+@shape('deep', 'fine', '128 packets through them stage by stage, all under way at once', 'sum', halves(2043), 128)
 def deep_fine(folder, size):
     return deep(folder, size, 128, 'fine\n', 'a\n' * 128, 's 0\n' * (128 * (size + 1)))
 
@@ -464,13 +450,13 @@ def on_server(folder, packets, text, verdict, row=()):
                 report(packets, verdict, events=4 * packets, rows=row))
 
 
-@shape('server', 'operators', '1,024 packets through so many sums on the server', 'operator', halves(2039))
+@shape('server', 'operators', '1,024 packets through so many sums on the server', 'operator', halves(2039), 1024)
 def server_operators(folder, size):
     return on_server(folder, 1024, chain_of_sums(size), sum_of(size, 60))
 
 
 @shape('server', 'looks', '1,024 packets through so many looks on the server, each by the value of the one before', 'look',
-       halves(1361))
+       halves(1361), 1024)
 def server_looks(folder, size):
     # A vector of zeros: each look finds 0 at the index 60 or 1.
     text = ''.join(f'look f{i}, a{i} = v[a{i - 1} + 1:32];\n' for i in range(1, size + 1))
@@ -605,6 +591,20 @@ def vector(folder, size):
     write(folder, 'source.gal', f'vector v length {size} -> (64);\nprocess {{\n'
                                 f'put stored = v[7:32] -> {TOP_ROW}:64;\ndrop;\n}}\n')
     write(folder, 'trace.txt', '0 -\n')
+
+
+@shape('rows', 'stored', '64 rows stored by each packet, up to the most rows of all, and listed', 'row',
+       halves(1_048_576))
+def rows_stored(folder, size):
+    puts = ''.join(f'put p{i} = m[eth.src, {i}:6] -> {i}:8;\n' for i in range(64))
+    write(folder, 'source.gal', f'map m (48, 6) -> (8) capacity 1048576;\nprocess {{\n{puts}send 1:8;\n}}\n')
+    packets = size // 64
+    sources = [(i * inputs.MIXED % 16384) for i in range(packets)]
+    trace(folder, packets, lambda i: f'ffffffffffff02{sources[i]:010x}0800')
+    rows = (f'{(2 << 40) + source} {i} -> {i}\n' for source in sorted(sources) for i in range(64))
+    return Call(['run', 'source.gal', 'trace.txt'],
+                answer(packets, lambda i: f'send 1 ffffffffffff02{sources[i]:010x}0800',
+                       f'object m {size}\n', rows, 'end\n'))
 
 
 @shape('rows', 'listed', 'a vector of so many rows, listed by `run`', 'row', halves(1_048_576))
