@@ -32,7 +32,8 @@ def frame(source, source_port, target, target_port, flags, data, sum_ip, sum_tcp
     ip = bytes.fromhex('4500') + (40 + len(data)).to_bytes(2, 'big') + bytes.fromhex('0001400040') + bytes([protocol])
     ip += sum_ip.to_bytes(2, 'big') + source.to_bytes(4, 'big') + target.to_bytes(4, 'big')
     tcp = source_port.to_bytes(2, 'big') + target_port.to_bytes(2, 'big') + bytes.fromhex('000000010000000050')
-    return (head + ip + tcp + bytes([flags]) + bytes.fromhex('2000') + sum_tcp.to_bytes(2, 'big') + bytes(2) + data).hex()
+    tcp += bytes([flags]) + bytes.fromhex('2000') + sum_tcp.to_bytes(2, 'big') + bytes(2)
+    return (head + ip + tcp + data).hex()
 
 
 def tcp(source, source_port, target, target_port, flags, data=b''):
@@ -121,17 +122,19 @@ def lines(*parts):
 
 
 def answer(count, verdicts, *parts):
-    """Looks at what `run` prints: the verdicts and then these lines. Where none are given, what follows isn't looked at."""
+    """Looks at what `run` prints: the verdicts and then these lines; without any, what follows isn't looked at."""
     packets = (f'packet {i} {verdict_of(verdicts, i)}\n' for i in range(count))
     return lines(packets, *parts) if parts else lambda file: same(file, packets)
 
 
 def report(count, verdicts, fast=lambda number: False, events=None, idle=0, rows=(), order=None, after=()):
-    """Looks at a report of a drained replay: what became of each packet, the order (where it is that of the numbers, or is
-    given), and how many rows the parts have. Then so many lines may follow the end."""
+    """Looks at a report of a drained replay: how many events there were, where it is given; what became of each packet;
+    the order, which is that of the numbers, or given, or 'any'; which parts there are, with how many rows; and the
+    lines that follow the end."""
     def check(file):
         expect('the first line', next(file, b''), b'report 1\n')
-        expect('the packets', next(file).decode(), f'packets {count} admitted {count} decided {count} released {count}\n')
+        expect('the packets', next(file).decode(),
+               f'packets {count} admitted {count} decided {count} released {count}\n')
         counted = next(file).decode()
         if events is not None:
             expect('the events', counted, f'events {events} idle {idle}\n')

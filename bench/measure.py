@@ -1,8 +1,8 @@
 """What the scripts of this folder share: runs with their processor time and memory, instructions, growth, and tables.
 
-Times are processor seconds of the program alone, the least of several runs, of which the output goes to /dev/null. Memory is
-the maximum resident set in MB (2^20 bytes). A run is started by a small process of its own, since the memory of whatever
-starts a program counts as the program's: less than the 5 MB of that process isn't seen.
+Times are processor seconds of the program alone, the least of several runs, of which the output goes to /dev/null.
+Memory is the maximum resident set in MB (2^20 bytes). A run is started by a small process of its own, since the memory
+of whatever starts a program counts as the program's: less than the 5 MB of that process isn't seen.
 """
 import collections
 import importlib.machinery
@@ -20,7 +20,7 @@ LONGEST = 300
 # Runs are repeated until they took so many seconds together, at least and at most so often.
 ENOUGH, FEWEST, MOST = 0.3, 3, 15
 
-# Reads lines of words with NUL between them: where the output and the refusal go, and the call. Tells what each run took.
+# Reads lines of words with NUL between them: where the output and the refusal go, and the call. Tells what a run took.
 LAUNCHER = r'''
 import os, resource, sys
 for line in sys.stdin.buffer:
@@ -80,7 +80,7 @@ class Launcher:
         return used
 
     def instructions(self, program, words):
-        """How many instructions a run has; the C library is told to copy by plain ones, which are counted one by one."""
+        """How many instructions a run has. The C library is told to copy by plain ones, each of which is counted."""
         if not shutil.which('valgrind'):
             return None
         plain = 'glibc.cpu.x86_rep_movsb_threshold=1073741824:glibc.cpu.x86_rep_stosb_threshold=1073741824'
@@ -92,7 +92,7 @@ class Launcher:
 
 
 class Call:
-    """A call of the program: its words, how it has to end, how its refusal begins, and what looks at what it printed."""
+    """A call of the program: its words, what looks at what it printed, how it ends, and how its refusal begins."""
 
     def __init__(self, words, check=None, status=0, refusal=''):
         self.words, self.check, self.status, self.refusal = words, check, status, refusal
@@ -101,23 +101,26 @@ class Call:
 class Shape:
     """What is measured at five sizes. `make(folder, size)` writes the inputs into a folder and answers the call.
 
-    Of each thing that a size counts, `times` are done."""
+    A shape is of the group that its name begins with. Of each thing that a size counts, `times` are done."""
 
-    def __init__(self, group, name, title, unit, sizes, times, make):
-        self.group, self.name, self.title, self.unit = group, name, title, unit
-        self.sizes, self.times, self.make = sizes, times, make
+    def __init__(self, name, title, unit, sizes, times, make):
+        self.group, self.name, self.title = name.split('-')[0], name, title
+        self.unit, self.sizes, self.times, self.make = unit, tuple(sizes), times, make
 
 
 class Shapes:
-    """A list of shapes, by group and name."""
+    """A list of shapes."""
 
     def __init__(self):
         self.all = []
 
-    def shape(self, group, name, title, unit, sizes, times=1):
-        """What is written over a function that makes the inputs of a shape."""
+    def add(self, *parts):
+        self.all.append(Shape(*parts))
+
+    def shape(self, unit, sizes, times=1):
+        """What stands over a function that makes inputs: its name and its text are those of the shape."""
         def added(make):
-            self.all.append(Shape(group, f'{group}-{name}' if name else group, title, unit, tuple(sizes), times, make))
+            self.add(make.__name__.replace('_', '-'), make.__doc__.rstrip('.'), unit, sizes, times, make)
             return make
         return added
 
