@@ -166,11 +166,15 @@ def middle(numbers):
 
 def three(number):
     """A number with three digits that count."""
-    if number is None:
-        return '-'
-    if number == 0:
-        return '0'
-    return f'{number:,.{max(0, 2 - math.floor(math.log10(abs(number))))}f}' if abs(number) < 1000 else f'{number:,.0f}'
+    if not number:
+        return '-' if number is None else '0'
+    places = 2 - math.floor(math.log10(abs(number)))
+    return f'{round(number, places):,.{max(0, places)}f}'
+
+
+def whole(number):
+    """A count: a whole number, or one with three digits where it is small."""
+    return f'{number:,.0f}' if number and number >= 1000 else three(number)
 
 
 def exponent(number):
