@@ -18,9 +18,9 @@ REPLAY = ['replay', TRANSLATOR, 'trace.txt', 'schedule.txt', 'limits.toml']
 LONG = 2046
 
 
-def halves(most, least=1):
-    """Five sizes, each about twice the one before."""
-    return [max(least, most >> turn) for turn in (4, 3, 2, 1, 0)]
+def halves(most):
+    """Five sizes up to the greatest, each about twice the one before."""
+    return [most >> turn for turn in (4, 3, 2, 1, 0)]
 
 
 # ---- run
@@ -42,8 +42,7 @@ def run_new(folder, size):
 @shape('packet', PACKETS)
 def run_long(folder, size):
     """The translator, packets of 2,046 bytes of one flow."""
-    data = bytes(range(256)) * 8
-    data = data[:LONG - 54]
+    data = (bytes(range(256)) * 8)[:LONG - 54]
     trace(folder, size, of_flow(0, data))
     return Call(['run', TRANSLATOR, 'trace.txt'], answer(size, translated(0, 0, data)))
 
