@@ -231,13 +231,15 @@ def chain_twice(folder, size):
 
 @shape('copy', [2 ** k for k in (4, 7, 10, 13, 16)])
 def chain_refused(folder, size):
-    """Copies of a long `let`, too many to be made: refused."""
+    """Copies of a `let` of 131,067 bytes, too many to be made: refused."""
     elements = size.bit_length() - 1
 
     def total(depth):
-        return f'({total(depth - 1)}) + ({total(depth - 1)})' if depth else 'ip.tos + ip.ttl'
+        return f'( {total(depth - 1)} ) + ( {total(depth - 1)} )' if depth else 'tcp.flags + tcp.flags'
+    long = f'let a = {total(12)} ;'.replace('tcp.flags', 'ip.proto', 4)
+    inputs.expect('bytes of the let', len(long), 131067)
     write(folder, 'Twice.gal', TWICE)
-    write(folder, 'Long.gal', f'process {{ let a = {total(12)}; }}\n')
+    write(folder, 'Long.gal', f'process {{ {long} }}\n')
     write(folder, 'conf', [*(f'e{i} :: Twice;\n' for i in range(elements)), f'e{elements} :: Long;\n',
                            *(f'e{i} [0] -> [0] e{i + 1};\n' for i in range(elements))])
     return Call(['chain', 'conf'], lines(), 14, 'chain: ')
