@@ -27,13 +27,13 @@ use Rattle.replay_state.specs.Sound.{AreSound}
 use Rattle.run_model.proofs.Rising.{rising_places, times_none, times_once, Before, Rising, before_self, before_not_back}
 use Rattle.run_model.proofs.Members.{member_get, get_mapped, get_member}
 use Rattle.run_model.proofs.SerialSort.{order_unique}
-use Rattle.replay_state.proofs.Words.{version_at, entry_of, admitted_at, released_at, verdict_at, is_decided, serial_store, serial_verdicts, left_by, upto}
+use Rattle.replay_state.proofs.Words.{version_at, entry_of, admitted_at, released_at, verdict_at, is_decided, serial_store, serial_verdicts, upto}
 use Rattle.replay_state.proofs.Order.{upto_all}
 use Rattle.replay_state.proofs.Lists.{weight, get_within, none_within}
 use Rattle.replay_state.proofs.Sorting.{IsOrder, entry_number, of_fates}
 use Rattle.replay_state.proofs.Visible.{visible_all}
 use Rattle.replay_state.proofs.Fates.{FateOk, Pair, pass_mark, up_mark, held_mark, in_first, in_last, in_up, in_held}
-use Rattle.replay_state.proofs.Serial.{numbers_of}
+use Rattle.replay_state.proofs.Serial.{left_by, numbers_of}
 use Rattle.replay_state.proofs.Effects.{Fine}
 use Rattle.replay_state.proofs.Runs.{Apart, entry_fact, what_at}
 use Rattle.replay_state.proofs.Keeping.{Kept, kept_of}
