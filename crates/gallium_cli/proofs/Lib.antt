@@ -16,4 +16,5 @@ pub mod Untrue
 pub mod Replayed
 pub mod Exact
 pub mod CauseTold
+pub mod Serial
 pub mod Promised

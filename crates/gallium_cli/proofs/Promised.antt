@@ -39,6 +39,7 @@ use Rattle.gallium_cli.proofs.Counted.{no_switch_fault}
 use Rattle.gallium_cli.proofs.Unkept.{Laws}
 use Rattle.gallium_cli.proofs.Untrue.{same_input}
 use Rattle.gallium_cli.proofs.Replayed.{AreTrueReports, not_both, replay_told}
+use Rattle.gallium_cli.proofs.Serial.{serial_done}
 use Rattle.gallium_cli.proofs.Exact.{exact_ends, complete_ends}
 use Rattle.gallium_cli.proofs.CauseTold.{cause_told}
 
@@ -603,6 +604,7 @@ pub promised : (status : Status) (call : Call) → Laws → AreTrueReports → E
 promised status call laws reports end =
     let request = request_of call.words in
     record {
+      serial = λ is replay tells. serial_done request call.work replay tells (done_ends request status call end is).0;
       ends = end;
       done = λ is. (done_ends request status call end is).0;
       silent = λ is. (done_ends request status call end is).1;

@@ -13,4 +13,5 @@ pub mod Answers
 pub mod Puts
 pub mod Call
 pub mod Causes
+pub mod Serial
 pub mod Promises

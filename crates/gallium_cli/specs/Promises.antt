@@ -1,7 +1,7 @@
 -- What the program promises of a whole call.
 use Rattle.std.specs.Prelude.{◌≡◌, ◌<◌, ◌≤◌, ◌⊎◌, ◌≢◌, ℕ, true, false, List, [], ◌∷◌, length, slice_get}
 use Rattle.std.specs.Prelude.{Option, Some, None, Ok}
-use Rattle.std.specs.Prelude.{IsSomeAnd, is_some}
+use Rattle.std.specs.Prelude.{IsSome, IsSomeAnd, is_some}
 use Rattle.std.specs.Io.KnownBytes.{append_known}
 use Rattle.gal_io.specs.Count.{Rose}
 use Rattle.packet_fields.specs.declared.packet.Packet.{Packet}
@@ -45,6 +45,7 @@ use Rattle.gallium_cli.specs.Chains.{AreNames, class_files, file_of, connected, 
 use Rattle.gallium_cli.specs.Answers.{IsReplayOf}
 use Rattle.run_text.specs.Trace.{trace_of}
 use Rattle.gallium_cli.specs.Causes.{IsDone, IsFailedReplay, CountsFaults, Ends, ReadsAll, ReadsSome}
+use Rattle.gallium_cli.specs.Serial.{IsSerial}
 
 -- an end that writing and memory may bring whatever the words are
 abbrev pub IsWriteFault : Status → Type 0
@@ -317,9 +318,12 @@ abbrev pub IsFailedOnSwitch : Option Request → Work → Type 0
 IsFailedOnSwitch None work = ⊥
 IsFailedOnSwitch (Some request) work = IsFailedReplay request work
 
--- What is promised of a call that ends in this status. The first part says the whole of it: why it ended so, and what
--- it left on both sinks. The others are read off it.
+-- What is promised of a call that ends in this status. The first part is what the project is for. The second says the whole:
+-- why the call ended so, and what it left on both sinks. All others, the first too, are read off the second.
 pub record Promises (status : Status) (call : Call) : Type 0 where
+  -- a replay that is done, over a switch that tells its tables, told a serial run of the source, whatever the schedule
+  pub serial : status ≡ Done → IsReplay (request_of call.words) → IsSome call.work.port.told
+      → IsSerial (request_of call.words) call.work
   pub ends : Ends status call
   -- the answer was written: of one run, which is a serial run of the source, whatever the schedule, over links that lose,
   -- repeat and reorder too; or one split, which is the chosen one, is legal and keeps the limits, or what a given one

@@ -1,38 +1,41 @@
 -- What the invariant says of the run that is told.
-use Rattle.std.proofs.Common.{◌≡◌, ℕ, ◌<◌, ◌≤◌, true, false, cond, List, [], ◌∷◌, Option, Some, None, inl, inr, refl, sym, ◌∙◌, ap, subst, arith, map, length}
+use Rattle.std.proofs.Common.{◌≡◌, ℕ, zero, suc, ◌<◌, ◌≤◌, Bool, true, false, cond, ◌⊎◌, List, [], ◌∷◌, Option, Some, None, inl, inr, refl, sym, ◌∙◌, ap, subst, arith, map, length}
 use Rattle.std.specs.Prelude.{slice_get, is_some, IsTrue}
 use Rattle.std.specs.Option.{option_map}
 use Rattle.std.proofs.lemmas.Bool.{cases_lt, cases_Bool, eqb-true, and_parts}
 use Rattle.std.proofs.lemmas.List.{length-map}
 use Rattle.std.proofs.lemmas.Option.{same_Some, none-some, slice_get-map}
 use Rattle.packet_fields.specs.declared.verdict.Verdict.{Verdict}
-use Rattle.state_store.specs.Store.{Store, start_store}
+use Rattle.state_store.specs.declared.object.ObjectDecl.{ObjectDecl}
+use Rattle.state_store.specs.Store.{Store, start_store, object_at, rows_of}
 use Rattle.run_model.specs.declared.event.Event.{Event}
 use Rattle.run_model.specs.declared.fate.Fate.{Fate}
+use Rattle.run_model.specs.declared.run.ObjectRows.{ObjectRows}
 use Rattle.run_model.specs.declared.serial.Decided.{Decided}
 use Rattle.run_model.specs.Meaning as meaning
 use Rattle.run_model.specs.Order.{order_of}
-use Rattle.run_model.specs.Parts.{parts_of}
+use Rattle.run_model.specs.Parts.{parts_of, parts_where}
 use Rattle.run_model.specs.Serialises as run
-use Rattle.run_model.specs.Serialises.{Serialises, AllReleased, IsDrained, IsEarlier, times, run_verdicts}
+use Rattle.run_model.specs.Serialises.{Serialises, AllReleased, IsDrained, ShowsWhatIsLeft, IsEarlier, times, run_store, run_verdicts}
 use Rattle.replay_state.specs.Answers.{Answers, Setup, meaning_of}
 use Rattle.output_commit.specs.Batches.{commands_in, visible}
 use Rattle.replay_state.specs.State.{State, Progress, Entered, Up, Held, Slow, Fast, fate_of, seen}
 use Rattle.replay_state.specs.Step.{state_of}
 use Rattle.replay_state.specs.Drain.{is_quiet}
-use Rattle.replay_state.specs.Run.{run_of, job_run}
+use Rattle.replay_state.specs.Run.{run_of, job_run, seen_store}
 use Rattle.replay_state.specs.Sound.{AreSound}
 use Rattle.run_model.proofs.Rising.{rising_places, times_none, times_once, Before, Rising, before_self, before_not_back}
 use Rattle.run_model.proofs.Members.{member_get, get_mapped, get_member}
 use Rattle.run_model.proofs.SerialSort.{order_unique}
-use Rattle.replay_state.proofs.Words.{version_at, entry_of, admitted_at, released_at, verdict_at, is_decided, serial_store, serial_verdicts}
+use Rattle.replay_state.proofs.Words.{version_at, entry_of, admitted_at, released_at, verdict_at, is_decided, serial_store, serial_verdicts, upto}
+use Rattle.replay_state.proofs.Order.{upto_all}
 use Rattle.replay_state.proofs.Lists.{weight, get_within, none_within}
 use Rattle.replay_state.proofs.Sorting.{IsOrder, entry_number, of_fates}
 use Rattle.replay_state.proofs.Visible.{visible_all}
 use Rattle.replay_state.proofs.Fates.{FateOk, Pair, pass_mark, up_mark, held_mark, in_first, in_last, in_up, in_held}
-use Rattle.replay_state.proofs.Serial.{numbers_of}
+use Rattle.replay_state.proofs.Serial.{left_by, numbers_of}
 use Rattle.replay_state.proofs.Effects.{Fine}
-use Rattle.replay_state.proofs.Runs.{Apart, what_at}
+use Rattle.replay_state.proofs.Runs.{Apart, entry_fact, what_at}
 use Rattle.replay_state.proofs.Keeping.{Kept, kept_of}
 
 pub entry_version : (n : ℕ) (f : Option Progress) (e : Decided) → entry_of n f ≡ Some e → version_at f ≡ Some e.version
@@ -219,6 +222,12 @@ module _ (setup : Setup) (a : Answers) (w : State) (k : Kept setup a (start_stor
       ap (λ l. slice_get (meaning.serial_verdicts (meaning_of setup a) start l) i) numbers_are
       ∙ ap (λ l. slice_get l i) (verdicts_are setup a start (numbers_of es)) ∙ found.1 ∙ found.2
 
+  -- what the serial run leaves is the server's store
+  left_is : run_store (meaning_of setup a) (run_of setup w) ≡ w.store
+  left_is =
+      ap (meaning.serial_store (meaning_of setup a) (start_store setup.objects)) numbers_are
+      ∙ store_is setup a (start_store setup.objects) (numbers_of k.in_order.entries) ∙ k.in_order.store
+
   pub serialises_from : Serialises (meaning_of setup a) (run_of setup w)
   serialises_from =
       let o = k.in_order in
@@ -235,8 +244,7 @@ module _ (setup : Setup) (a : Answers) (w : State) (k : Kept setup a (start_stor
               | inl early ↦ inl (omega arith)
               | inr same ↦ let first = same.0 in let then = same.1 in inr (omega arith, omega arith)
             ];
-        rows = ap (parts_of setup.objects) (sym (ap (meaning.serial_store (meaning_of setup a) (start_store setup.objects)) numbers_are
-            ∙ store_is setup a (start_store setup.objects) (numbers_of o.entries) ∙ o.store));
+        rows = ap (parts_of setup.objects) (sym left_is);
         verdicts = λ i p r y hi h.
             let c = at_place i p hi in
             let told = released_said a p (slice_get ps p) r y (sym (ap run.released_at (fates_at ps p)) ∙ h) in
@@ -325,6 +333,43 @@ newest_from w c quiet =
     let all : w.done ≡ length (commands_in w.batches) = omega arith in
     rw all (visible_all w.batches ∙ c.counts.versions)
 
+-- ---- what the switch shows then
+
+part_if : (there : Bool) (part : ObjectRows) (parts : List ObjectRows) (i : ℕ) (shown : ObjectRows)
+    → slice_get (cond there (part ∷ parts) parts) i ≡ Some shown
+    → ((there ≡ true) × (part ≡ shown)) ⊎ ((j : ℕ) × (slice_get parts j ≡ Some shown))
+part_if true part parts zero shown h = inl (refl, same_Some part shown h)
+part_if true part parts (suc i) shown h = inr (i, h)
+part_if false part parts i shown h = inr (i, h)
+
+-- each of the parts is that of an object whose number passes the test
+part_of : (test : ℕ → Bool) (n : ℕ) (objects : List ObjectDecl) (store : Store) (i : ℕ) (shown : ObjectRows)
+    → slice_get (parts_where test n objects store) i ≡ Some shown
+    → (test shown.object ≡ true) × (shown.rows ≡ rows_of (object_at store shown.object))
+part_of test n [] store i shown h = absurd (none-some shown h)
+part_of test n (object ∷ objects) store i shown h =
+    let part : ObjectRows = record { object = n; rows = rows_of (object_at store n) } in
+    elim (part_if (test n) part (parts_where test (suc n) objects store) i shown h) [
+      | inl here ↦ (
+        subst (λ (x : ObjectRows). test x.object ≡ true) here.1 here.0,
+        subst (λ (x : ObjectRows). x.rows ≡ rows_of (object_at store x.object)) here.1 refl,
+      )
+      | inr later ↦ part_of test (suc n) objects store later.0 shown later.1
+    ]
+
+shown_from : (setup : Setup) (a : Answers) (w : State) → Kept setup a (start_store setup.objects) w → is_quiet w ≡ true
+    → ShowsWhatIsLeft (meaning_of setup a) (run_of setup w)
+shown_from setup a w k quiet i shown here =
+    let o = k.in_order in
+    let newest = newest_from w k.fine quiet in
+    let part = part_of setup.replicated 0 setup.objects (seen_store w) i shown here in
+    let all : upto (seen w) o.entries ≡ o.entries =
+    upto_all (seen w) o.entries (λ e m. let low = entry_fact w o.entries e k.fine o.order m in omega arith) in
+    let begun : object_at (seen_store w) shown.object ≡ object_at (left_by a (start_store setup.objects) o.entries) shown.object =
+    o.begun (seen w) (omega arith) shown.object part.0
+    ∙ ap (λ es. object_at (left_by a (start_store setup.objects) es) shown.object) all in
+    part.1 ∙ ap rows_of (begun ∙ ap (λ s. object_at s shown.object) (o.store ∙ sym (left_is setup a w k)))
+
 -- ---- of every run
 
 module _ (setup : Setup) (a : Answers) (law : AreSound setup a) (events : List Event) where
@@ -341,7 +386,11 @@ module _ (setup : Setup) (a : Answers) (law : AreSound setup a) (events : List E
   done drained =
       let w = state_of setup a events in
       let parts = and_parts _ _ drained in
-      record { all = length-map w.progress fate_of ∙ eqb-true _ _ parts.0; complete = complete parts.1 }
+      record {
+        all = length-map w.progress fate_of ∙ eqb-true _ _ parts.0;
+        complete = complete parts.1;
+        shown = shown_from setup a w kept_then parts.1;
+      }
 
   pub newest : IsTrue (is_quiet (state_of setup a events)) → seen (state_of setup a events) ≡ (state_of setup a events).version
   newest quiet = newest_from (state_of setup a events) kept_then.fine quiet

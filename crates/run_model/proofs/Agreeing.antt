@@ -3,8 +3,9 @@ use Rattle.std.proofs.Common.{◌≡◌, ℕ, ◌<◌, true, cond, eqb, zero, su
 use Rattle.std.specs.Prelude.{slice_get, is_some, ⊤}
 use Rattle.std.proofs.lemmas.Bool.{cases_Bool, eq-eqb}
 use Rattle.state_store.specs.Kept.{IsKept}
-use Rattle.state_store.specs.Store.{Store, start_store}
+use Rattle.state_store.specs.Store.{Store, start_store, object_at, rows_of}
 use Rattle.run_model.specs.declared.fate.Fate.{Fate}
+use Rattle.run_model.specs.declared.run.ObjectRows.{ObjectRows}
 use Rattle.run_model.specs.declared.run.Run.{Run}
 use Rattle.run_model.specs.Meaning.{Meaning, AreAlike, serial_store, serial_verdicts}
 use Rattle.run_model.specs.Parts.{parts_of}
@@ -57,9 +58,12 @@ module _ (m n : Meaning) (run : Run) (alike : AreAlike m n run.total) (serial : 
       same_verdicts m n run.total run.order (start_store m.objects) alike alike.start order_below
       ∙ ap (λ objects. serial_verdicts n (start_store objects) run.order) alike.objects
 
+  left_same : run_store m run ≡ serial_store n (start_store m.objects) run.order
+  left_same = same_store m n run.total run.order (start_store m.objects) alike alike.start order_below
+
   rows_same : parts_of m.objects (run_store m run) ≡ parts_of n.objects (run_store n run)
   rows_same =
-      ap (parts_of m.objects) (same_store m n run.total run.order (start_store m.objects) alike alike.start order_below)
+      ap (parts_of m.objects) left_same
       ∙ ap (λ objects. parts_of objects (serial_store n (start_store objects) run.order)) alike.objects
 
   pub same_serialises : Serialises n run
@@ -80,4 +84,10 @@ module _ (m n : Meaning) (run : Run) (alike : AreAlike m n run.total) (serial : 
   }
 
   pub same_drained : IsDrained m run → IsDrained n run
-  same_drained h = record { all = h.all; complete = same_released h.complete }
+  same_drained h = record {
+    all = h.all;
+    complete = same_released h.complete;
+    shown = λ i shown here. h.shown i shown here
+        ∙ ap (λ left. rows_of (object_at left shown.object))
+        (left_same ∙ ap (λ objects. serial_store n (start_store objects) run.order) alike.objects);
+  }

@@ -2,9 +2,10 @@
 use Rattle.std.specs.Prelude.{◌≡◌, ◌<◌, ◌≤◌, ◌⊎◌, ℕ, suc, ◌==◌, Bool, true, false, if◌then◌else◌, Option, Some, None}
 use Rattle.std.specs.Prelude.{is_some, List, [], ◌∷◌, length, slice_get}
 use Rattle.packet_fields.specs.declared.verdict.Verdict.{Verdict}
-use Rattle.state_store.specs.Store.{Store, start_store}
+use Rattle.state_store.specs.Store.{Store, start_store, object_at, rows_of}
 use Rattle.run_model.specs.declared.fate.Fate.{Fate}
 use Rattle.run_model.specs.declared.fate.Fate.TheVariants.{Pass, Up, Held, Slow, Fast}
+use Rattle.run_model.specs.declared.run.ObjectRows.{ObjectRows}
 use Rattle.run_model.specs.declared.run.Run.{Run}
 use Rattle.run_model.specs.Meaning.{Meaning, serial_store, serial_verdicts}
 use Rattle.run_model.specs.Parts.{parts_of}
@@ -102,7 +103,14 @@ pub record AllReleased (m : Meaning) (run : Run) : Type 0 where
       → (i r : ℕ) × (y : Verdict) × (slice_get run.order i ≡ Some p)
       × (released_at (slice_get run.fates p) ≡ Some (r, y)) × (slice_get (run_verdicts m run) i ≡ Some y)
 
--- The trace is done: every packet of it was admitted, and released with its verdict in that serial run.
+-- The switch shows, of each object that it has, the rows that the serial run leaves.
+abbrev pub ShowsWhatIsLeft : Meaning → Run → Type 0
+ShowsWhatIsLeft m run = (i : ℕ) (shown : ObjectRows) → slice_get run.switch i ≡ Some shown
+    → shown.rows ≡ rows_of (object_at (run_store m run) shown.object)
+
+-- The trace is done: every packet of it was admitted, and released with its verdict in that serial run, and the switch
+-- has caught up.
 pub record IsDrained (m : Meaning) (run : Run) : Type 0 where
   pub all : length run.fates ≡ run.total
   pub complete : AllReleased m run
+  pub shown : ShowsWhatIsLeft m run
