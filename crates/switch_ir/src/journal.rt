@@ -1,14 +1,17 @@
 //! What a switch was called for.
-ghost use Rattle.std.specs.Prelude.{◌≡◌, ◌==◌, ◌<◌, ◌≤◌, ◌+◌, ◌-◌, ◌++◌, ◌∷◌, [], length, max, IfOk, OnOk, OnErr};
-ghost use Rattle.std.specs.Prelude.{vec_len, vec_capacity};
-ghost use Rattle.switch_ir.specs.Journal.{IsFilled, IsShort, IsShortChange};
-ghost use Rattle.switch_ir.specs.Journal.{change_count, change_of, command_in, count_in, entries_of, numbers_of, shape_of};
-ghost use Rattle.switch_ir.specs.Journal.{update_in, update_numbers};
+ghost use Rattle.std.specs.Prelude.{◌≡◌, ◌==◌, ◌<◌, ◌≤◌, ◌+◌, ◌-◌, ◌*◌, ◌++◌, ◌∷◌, [], length, max, take, drop};
+ghost use Rattle.std.specs.Prelude.{vec_len, vec_capacity, IfOk, OnOk, OnErr};
+ghost use Rattle.switch_ir.specs.Journal.{IsFilled, IsShort, IsShortCall, IsShortChange};
+ghost use Rattle.switch_ir.specs.Journal.{bytes_of, change_count, change_of, command_in, command_numbers};
+ghost use Rattle.switch_ir.specs.Journal.{down_bytes, down_in, down_mark, entries_of, entry_in, entry_of};
+ghost use Rattle.switch_ir.specs.Journal.{number_count, numbers_of, outline_of, shape_count, shape_of};
+ghost use Rattle.switch_ir.specs.Journal.{up_bytes, up_in, up_mark, update_in, update_numbers};
 ghost use Rattle.switch_ir.specs.declared.journal.Entry.TheVariants as entry;
 
 use crate::port::{CommandEnd, DownEnd, UpEnd};
 use gal_bits::Values;
 use gal_io::{Bytes, NoMemory};
+use packet_fields::Verdict;
 use std::alloc::Global;
 use std::marker::Model;
 use writeback_table::{Command, To, Update};
@@ -55,69 +58,174 @@ pub enum Entry {
     Visible(u32),
 }
 
+/// A call by references to what its entry holds, in the order of the entry.
+#[derive(Clone, Copy, Debug)]
+pub enum Call<'a> {
+    Load,
+    Room(usize),
+    Up(u32, u8, &'a [u8], &'a UpEnd),
+    Down(&'a [u8], &'a DownEnd),
+    BeginUp(u32, u8, &'a [u8], &'a UpEnd),
+    StageUp(u32, &'a UpEnd),
+    BeginDown(&'a [u8], &'a DownEnd),
+    StageDown(u32, &'a DownEnd),
+    Command(&'a Command, CommandEnd),
+    Visible(u32),
+}
+
 impl Entry {
-    /// The same again, in memory of its own.
-    pub fn copy(&self, alloc: Global) -> Result<Entry, NoMemory>
-        ensures { IfOk result (λ made. made ≡ self.now) }
+    /// The call that it is the entry of.
+    pub fn call(&self) -> Call<'_>
+        ensures { entry_of result ≡ self.now }
     {
-        Ok(match self {
-            Entry::Load => Entry::Load,
-            Entry::Room(commands) => Entry::Room(*commands),
+        match self {
+            Entry::Load => Call::Load,
+            Entry::Room(commands) => Call::Room(*commands),
             Entry::Up {
                 number,
                 port,
                 packet,
                 answer,
-            } => Entry::Up {
-                number: *number,
-                port: *port,
-                packet: packet.copy(alloc)?,
-                answer: answer.copy(alloc)?,
-            },
-            Entry::Down { frame, answer } => Entry::Down {
-                frame: frame.copy(alloc)?,
-                answer: answer.copy(alloc)?,
-            },
+            } => Call::Up(*number, *port, packet.as_slice(), answer),
+            Entry::Down { frame, answer } => Call::Down(frame.as_slice(), answer),
             Entry::BeginUp {
                 number,
                 port,
                 packet,
                 answer,
-            } => Entry::BeginUp {
-                number: *number,
-                port: *port,
-                packet: packet.copy(alloc)?,
-                answer: answer.copy(alloc)?,
-            },
-            Entry::StageUp { number, answer } => Entry::StageUp {
-                number: *number,
-                answer: answer.copy(alloc)?,
-            },
-            Entry::BeginDown { frame, answer } => Entry::BeginDown {
-                frame: frame.copy(alloc)?,
-                answer: answer.copy(alloc)?,
-            },
-            Entry::StageDown { number, answer } => Entry::StageDown {
-                number: *number,
-                answer: answer.copy(alloc)?,
-            },
-            Entry::Command(command, end) => Entry::Command(*command, *end),
-            Entry::Visible(object) => Entry::Visible(*object),
-        })
+            } => Call::BeginUp(*number, *port, packet.as_slice(), answer),
+            Entry::StageUp { number, answer } => Call::StageUp(*number, answer),
+            Entry::BeginDown { frame, answer } => Call::BeginDown(frame.as_slice(), answer),
+            Entry::StageDown { number, answer } => Call::StageDown(*number, answer),
+            Entry::Command(command, end) => Call::Command(command, *end),
+            Entry::Visible(object) => Call::Visible(*object),
+        }
     }
 }
 
-// A call, without what it was given.
+impl<'a> Call<'a> {
+    // The bytes that it was given, and those of its answer.
+    fn bytes(&self) -> (&'a [u8], &'a [u8])
+        ensures { result.0.now ++ result.1.now ≡ bytes_of (entry_of self.now) }
+    {
+        match *self {
+            Call::Up(_, _, packet, end) | Call::BeginUp(_, _, packet, end) => (
+                packet,
+                up_parts(end).1,
+            ),
+            Call::Down(frame, end) | Call::BeginDown(frame, end) => (frame, down_parts(end).1),
+            Call::StageUp(_, end) => (&[], up_parts(end).1),
+            Call::StageDown(_, end) => (&[], down_parts(end).1),
+            Call::Load | Call::Room(_) | Call::Command(..) | Call::Visible(_) => (&[], &[]),
+        }
+    }
+}
+
+// What is kept of a call beside its numbers and its bytes.
 #[derive(Clone, Copy, Debug)]
-enum Mark {
-    // The next of the calls that are kept whole.
-    Call,
-    // A command, whose numbers are the next ones.
-    Command(Shape, CommandEnd),
+struct Mark {
+    call: Outline,
+    // How many bytes it has.
+    bytes: usize,
 }
 
 // A mark takes little memory.
 const _: () = prove!(size_of::<Mark>() <= 24);
+
+// A call without its numbers and its bytes. Of a packet or a frame that it was given it has the length.
+#[derive(Clone, Copy, Debug)]
+enum Outline {
+    Load,
+    Room(usize),
+    Up(u8, UpMark, u32, usize),
+    Down(DownMark, usize),
+    BeginUp(u8, UpMark, u32, usize),
+    StageUp(UpMark, u32),
+    BeginDown(DownMark, usize),
+    StageDown(DownMark, u32),
+    // A command, whose numbers are those of its key and its values.
+    Command(CommandEnd, Shape),
+    Visible(u32),
+}
+
+// How the pass over a packet that arrives ends, without bytes.
+#[derive(Clone, Copy, Debug)]
+enum UpMark {
+    Drop,
+    Send(u8),
+    Up,
+    Going,
+    Failed,
+    NoMemory,
+}
+
+// How the pass over a packet that comes down ends, without bytes.
+#[derive(Clone, Copy, Debug)]
+enum DownMark {
+    Drop,
+    Send(u8),
+    Going,
+    Failed,
+    NoMemory,
+}
+
+// An end without its bytes, and these.
+fn up_parts(end: &UpEnd) -> (UpMark, &[u8])
+    ensures mark { result.0 ≡ up_mark end.now }
+    ensures bytes { result.1.now ≡ up_bytes end.now }
+{
+    match end {
+        UpEnd::Finished(Verdict::Drop) => (UpMark::Drop, &[]),
+        UpEnd::Finished(Verdict::Send(port, bytes)) => (UpMark::Send(*port), bytes.as_slice()),
+        UpEnd::Up(frame) => (UpMark::Up, frame.as_slice()),
+        UpEnd::Going => (UpMark::Going, &[]),
+        UpEnd::Failed => (UpMark::Failed, &[]),
+        UpEnd::NoMemory => (UpMark::NoMemory, &[]),
+    }
+}
+
+fn down_parts(end: &DownEnd) -> (DownMark, &[u8])
+    ensures mark { result.0 ≡ down_mark end.now }
+    ensures bytes { result.1.now ≡ down_bytes end.now }
+{
+    match end {
+        DownEnd::Verdict(Verdict::Drop) => (DownMark::Drop, &[]),
+        DownEnd::Verdict(Verdict::Send(port, bytes)) => (DownMark::Send(*port), bytes.as_slice()),
+        DownEnd::Going => (DownMark::Going, &[]),
+        DownEnd::Failed => (DownMark::Failed, &[]),
+        DownEnd::NoMemory => (DownMark::NoMemory, &[]),
+    }
+}
+
+// The end of a pass whose answer has these bytes.
+fn up_in(alloc: Global, mark: UpMark, bytes: &[u8]) -> Result<UpEnd, NoMemory>
+    ensures { IfOk result (λ made. made ≡ up_in mark bytes.now) }
+{
+    Ok(match mark {
+        UpMark::Drop => UpEnd::Finished(Verdict::Drop),
+        UpMark::Send(port) => {
+            UpEnd::Finished(Verdict::Send(port, Bytes::from_slice(alloc, bytes)?))
+        }
+        UpMark::Up => UpEnd::Up(Bytes::from_slice(alloc, bytes)?),
+        UpMark::Going => UpEnd::Going,
+        UpMark::Failed => UpEnd::Failed,
+        UpMark::NoMemory => UpEnd::NoMemory,
+    })
+}
+
+fn down_in(alloc: Global, mark: DownMark, bytes: &[u8]) -> Result<DownEnd, NoMemory>
+    ensures { IfOk result (λ made. made ≡ down_in mark bytes.now) }
+{
+    Ok(match mark {
+        DownMark::Drop => DownEnd::Verdict(Verdict::Drop),
+        DownMark::Send(port) => {
+            DownEnd::Verdict(Verdict::Send(port, Bytes::from_slice(alloc, bytes)?))
+        }
+        DownMark::Going => DownEnd::Going,
+        DownMark::Failed => DownEnd::Failed,
+        DownMark::NoMemory => DownEnd::NoMemory,
+    })
+}
 
 // A command without the numbers of its key and its values.
 #[derive(Clone, Copy, Debug)]
@@ -193,7 +301,7 @@ fn put_command(numbers: &mut Vec<u64>, command: &Command) -> Shape
     requires { vec_len numbers.old + 16 ≤ vec_capacity numbers.old }
     ensures shape { result ≡ shape_of command.now }
     ensures short { IsShort result }
-    ensures items { numbers.new.items ≡ numbers.old.items ++ numbers_of command.now }
+    ensures items { numbers.new.items ≡ numbers.old.items ++ command_numbers command.now }
     ensures few { vec_len numbers.new ≤ vec_len numbers.old + 16 }
     ensures capacity { vec_capacity numbers.new ≡ vec_capacity numbers.old }
 {
@@ -239,7 +347,7 @@ fn update_in(change: &Change, numbers: &[u64]) -> Update
 // The command whose numbers are the first ones.
 fn command_in(shape: &Shape, numbers: &[u64]) -> Command
     requires short { IsShort shape.now }
-    requires room { count_in shape.now ≤ length numbers.now }
+    requires room { shape_count shape.now ≤ length numbers.now }
     ensures { result ≡ command_in shape.now numbers.now }
 {
     match shape {
@@ -265,8 +373,8 @@ fn change_count(change: &Change) -> usize
 }
 
 // How many numbers a command has.
-fn count_in(shape: &Shape) -> usize
-    ensures { result ≡ count_in shape.now }
+fn shape_count(shape: &Shape) -> usize
+    ensures { result ≡ shape_count shape.now }
 {
     match shape {
         Shape::Stage(change) | Shape::Main(change) => change_count(change),
@@ -275,44 +383,164 @@ fn count_in(shape: &Shape) -> usize
     }
 }
 
-// The calls that marks stand for, with the numbers of their commands and the calls that are kept whole.
+// How many numbers a call has.
+fn number_count(call: &Outline) -> usize
+    ensures { result ≡ number_count call.now }
+{
+    match call {
+        Outline::Command(_, shape) => shape_count(shape),
+        _ => 0,
+    }
+}
+
+// The first of these bytes, so many or all, and those behind them.
+#[tactic(auto, using(std::proofs::lemmas::List::take_min, std::proofs::lemmas::List::drop_min))]
+fn cut(bytes: &[u8], count: usize) -> (&[u8], &[u8])
+    ensures front { result.0.now ≡ take count bytes.now }
+    ensures back { result.1.now ≡ drop count bytes.now }
+{
+    bytes.split_at(count.min(bytes.len()))
+}
+
+// The call of these numbers and bytes.
+fn entry_in(alloc: Global, call: &Outline, numbers: &[u64], bytes: &[u8]) -> Result<Entry, NoMemory>
+    requires short { IsShortCall call.now }
+    requires numbers { number_count call.now ≤ length numbers.now }
+    ensures { IfOk result (λ made. made ≡ entry_in call.now numbers.now bytes.now) }
+{
+    Ok(match *call {
+        Outline::Load => Entry::Load,
+        Outline::Room(commands) => Entry::Room(commands),
+        Outline::Up(port, end, number, length) => Entry::Up {
+            number,
+            port,
+            packet: Bytes::from_slice(alloc, cut(bytes, length).0)?,
+            answer: up_in(alloc, end, cut(bytes, length).1)?,
+        },
+        Outline::Down(end, length) => Entry::Down {
+            frame: Bytes::from_slice(alloc, cut(bytes, length).0)?,
+            answer: down_in(alloc, end, cut(bytes, length).1)?,
+        },
+        Outline::BeginUp(port, end, number, length) => Entry::BeginUp {
+            number,
+            port,
+            packet: Bytes::from_slice(alloc, cut(bytes, length).0)?,
+            answer: up_in(alloc, end, cut(bytes, length).1)?,
+        },
+        Outline::StageUp(end, number) => Entry::StageUp {
+            number,
+            answer: up_in(alloc, end, bytes)?,
+        },
+        Outline::BeginDown(end, length) => Entry::BeginDown {
+            frame: Bytes::from_slice(alloc, cut(bytes, length).0)?,
+            answer: down_in(alloc, end, cut(bytes, length).1)?,
+        },
+        Outline::StageDown(end, number) => Entry::StageDown {
+            number,
+            answer: down_in(alloc, end, bytes)?,
+        },
+        Outline::Command(end, shape) => Entry::Command(command_in(&shape, numbers), end),
+        Outline::Visible(object) => Entry::Visible(object),
+    })
+}
+
+// The calls that marks stand for, with their numbers and bytes.
 fn entries_of(
     alloc: Global,
     marks: &[Mark],
     numbers: &[u64],
-    calls: &[Entry],
+    bytes: &[u8],
 ) -> Result<Vec<Entry>, NoMemory>
-    requires { IsFilled marks.now numbers.now calls.now }
-    ensures { IfOk result (λ made. made.items ≡ entries_of marks.now numbers.now calls.now) }
+    requires { IsFilled marks.now numbers.now bytes.now }
+    ensures { IfOk result (λ made. made.items ≡ entries_of marks.now numbers.now bytes.now) }
 {
     let mut made = Vec::with_capacity(alloc, marks.len())?;
     let mut numbers_left = numbers;
-    let mut calls_left = calls;
+    let mut bytes_left = bytes;
     for mark in marks {
-        match mark {
-            Mark::Call => {
-                made.push(calls_left[0].copy(alloc)?)?;
-                calls_left = &calls_left[1..];
-            }
-            Mark::Command(shape, end) => {
-                made.push(Entry::Command(command_in(shape, numbers_left), *end))?;
-                numbers_left = &numbers_left[count_in(shape)..];
-            }
-        }
+        let (numbers, numbers_behind) = numbers_left.split_at(number_count(&mark.call));
+        let (bytes, bytes_behind) = bytes_left.split_at(mark.bytes);
+        made.push(entry_in(alloc, &mark.call, numbers, bytes)?)?;
+        numbers_left = numbers_behind;
+        bytes_left = bytes_behind;
     }
     Ok(made)
 }
 
-/// The calls since the code was loaded, in order, with memory for some more. A command takes the memory of its numbers and
-/// of a mark.
+// Takes the memory for so many marks more, and for their numbers.
+fn take_room(marks: &mut Vec<Mark>, numbers: &mut Vec<u64>, calls: usize) -> Result<(), NoMemory>
+    ensures marks { marks.new.items ≡ marks.old.items }
+    ensures marks_len { vec_len marks.new ≡ vec_len marks.old }
+    ensures marks_capacity { vec_capacity marks.old ≤ vec_capacity marks.new }
+    ensures marks_room { OnOk result (vec_len marks.new + calls ≤ vec_capacity marks.new) }
+    ensures numbers { numbers.new.items ≡ numbers.old.items }
+    ensures numbers_len { vec_len numbers.new ≡ vec_len numbers.old }
+    ensures numbers_capacity { vec_capacity numbers.old ≤ vec_capacity numbers.new }
+    ensures numbers_room { OnOk result (vec_len numbers.new + 16 * calls ≤ vec_capacity numbers.new) }
+{
+    let Some(most) = calls.checked_mul(MOST_NUMBERS) else {
+        return Err(NoMemory);
+    };
+    marks.reserve(calls)?;
+    numbers.reserve(most)?;
+    Ok(())
+}
+
+// Puts the bytes of a call last, and counts them.
+#[tactic(auto, using(crate::proofs::Journals::all_bytes, crate::proofs::Journals::count_bytes, std::proofs::lemmas::List::take_at))]
+fn put_bytes(bytes: &mut Vec<u8>, call: &Call<'_>) -> Result<usize, NoMemory>
+    ensures count { IfOk result (λ count. count ≡ length (bytes_of (entry_of call.now))) }
+    ensures ok { OnOk result (bytes.new.items ≡ bytes.old.items ++ bytes_of (entry_of call.now)) }
+    ensures err { OnErr result (bytes.new.items ≡ bytes.old.items) }
+{
+    let before = bytes.len();
+    let (given, answer) = call.bytes();
+    bytes.extend_from_slice(given)?;
+    if bytes.extend_from_slice(answer).is_err() {
+        bytes.truncate(before);
+        return Err(NoMemory);
+    }
+    Ok(bytes.len() - before)
+}
+
+// Puts the numbers of a call last, in memory that was taken before.
+#[inline]
+fn put_call(numbers: &mut Vec<u64>, call: &Call<'_>) -> Outline
+    requires { vec_len numbers.old + 16 ≤ vec_capacity numbers.old }
+    ensures outline { result ≡ outline_of (entry_of call.now) }
+    ensures short { IsShortCall result }
+    ensures items { numbers.new.items ≡ numbers.old.items ++ numbers_of (entry_of call.now) }
+    ensures few { vec_len numbers.new ≤ vec_len numbers.old + 16 }
+    ensures capacity { vec_capacity numbers.new ≡ vec_capacity numbers.old }
+{
+    match *call {
+        Call::Load => Outline::Load,
+        Call::Room(commands) => Outline::Room(commands),
+        Call::Up(number, port, packet, end) => {
+            Outline::Up(port, up_parts(end).0, number, packet.len())
+        }
+        Call::Down(frame, end) => Outline::Down(down_parts(end).0, frame.len()),
+        Call::BeginUp(number, port, packet, end) => {
+            Outline::BeginUp(port, up_parts(end).0, number, packet.len())
+        }
+        Call::StageUp(number, end) => Outline::StageUp(up_parts(end).0, number),
+        Call::BeginDown(frame, end) => Outline::BeginDown(down_parts(end).0, frame.len()),
+        Call::StageDown(number, end) => Outline::StageDown(down_parts(end).0, number),
+        Call::Command(command, end) => Outline::Command(end, put_command(numbers, command)),
+        Call::Visible(object) => Outline::Visible(object),
+    }
+}
+
+/// The calls since the code was loaded, in order, with memory for some more. A call takes the memory of a mark, and of
+/// its numbers and its bytes.
 #[derive(Debug, Drop)]
 pub struct Journal {
     // A mark for each call, in order.
     marks: Vec<Mark>,
     // The numbers of the commands, one behind the other.
     numbers: Vec<u64>,
-    // The calls that are no commands, in order.
-    calls: Vec<Entry>,
+    // The bytes of packets, frames and verdicts, one behind the other.
+    bytes: Vec<u8>,
     spare: usize,
 }
 
@@ -323,14 +551,13 @@ impl Model for Journal {
     ghost Value = { JournalState };
 
     ghost view = { λ journal. record {
-      entries = entries_of journal.marks.items journal.numbers.items journal.calls.items;
+      entries = entries_of journal.marks.items journal.numbers.items journal.bytes.items;
       spare = journal.spare;
     } };
 
-    ghost invariant = { λ journal. IsFilled journal.marks.items journal.numbers.items journal.calls.items
+    ghost invariant = { λ journal. IsFilled journal.marks.items journal.numbers.items journal.bytes.items
         × (vec_len journal.marks + journal.spare ≤ vec_capacity journal.marks)
-        × (vec_len journal.numbers + 16 * journal.spare ≤ vec_capacity journal.numbers)
-        × (vec_len journal.calls + journal.spare ≤ vec_capacity journal.calls) };
+        × (vec_len journal.numbers + 16 * journal.spare ≤ vec_capacity journal.numbers) };
 }
 
 impl Journal {
@@ -341,7 +568,7 @@ impl Journal {
         Journal {
             marks: Vec::new(alloc),
             numbers: Vec::new(alloc),
-            calls: Vec::new(alloc),
+            bytes: Vec::new(alloc),
             spare: 0,
         }
     }
@@ -350,7 +577,7 @@ impl Journal {
     pub fn entries(&self, alloc: Global) -> Result<Vec<Entry>, NoMemory>
         ensures { IfOk result (λ made. made.items ≡ self.now.entries) }
     {
-        entries_of(alloc, &self.marks, &self.numbers, &self.calls)
+        entries_of(alloc, &self.marks, &self.numbers, &self.bytes)
     }
 
     pub fn len(&self) -> usize
@@ -365,53 +592,52 @@ impl Journal {
         self.len() == 0
     }
 
-    /// For how many calls more there is memory.
+    /// For how many calls more there is memory that have no bytes.
     pub fn spare(&self) -> usize
         ensures { result ≡ self.now.spare }
     {
         self.spare
     }
 
-    /// Takes the memory for this many calls more, where there is less.
+    /// Takes the memory for this many calls more that have no bytes, where there is less.
     pub fn reserve(&mut self, calls: usize) -> Result<(), NoMemory>
         ensures ok { OnOk result (self.new ≡ record self.old { spare = max self.old.spare calls }) }
         ensures err { OnErr result (self.new ≡ self.old) }
     {
         let spare = self.spare.max(calls);
-        let Some(numbers) = spare.checked_mul(MOST_NUMBERS) else {
-            return Err(NoMemory);
-        };
-        self.marks.reserve(spare)?;
-        self.numbers.reserve(numbers)?;
-        self.calls.reserve(spare)?;
+        take_room(&mut self.marks, &mut self.numbers, spare)?;
         self.spare = spare;
         Ok(())
     }
 
     /// Puts a call last, and leaves the memory for others.
+    pub fn note(&mut self, call: Call<'_>) -> Result<(), NoMemory>
+        ensures ok { OnOk result
+            (self.new ≡ record self.old { entries = self.old.entries ++ entry_of call.entry ∷ [] }) }
+        ensures err { OnErr result (self.new ≡ self.old) }
+    {
+        take_room(&mut self.marks, &mut self.numbers, self.spare + 1)?;
+        let bytes = put_bytes(&mut self.bytes, &call)?;
+        let call = put_call(&mut self.numbers, &call);
+        self.marks.push_reserved(Mark { call, bytes });
+        Ok(())
+    }
+
+    /// Puts the call of an entry last, and leaves the memory for others.
     pub fn push(&mut self, entry: Entry) -> Result<(), NoMemory>
         ensures ok { OnOk result (self.new ≡ record self.old { entries = self.old.entries ++ entry ∷ [] }) }
         ensures err { OnErr result (self.new ≡ self.old) }
     {
-        self.reserve(self.spare + 1)?;
-        self.push_spare(entry);
-        Ok(())
+        self.note(entry.call())
     }
 
-    /// Puts a call last, in memory that was taken before.
-    #[inline]
+    /// Puts a call last that has no bytes, in memory that was taken before.
     pub fn push_spare(&mut self, entry: Entry)
-        requires { 0 < self.old.spare }
+        requires spare { 0 < self.old.spare }
+        requires bare { bytes_of entry ≡ [] }
         ensures { self.new ≡ record { entries = self.old.entries ++ entry ∷ []; spare = self.old.spare - 1 } }
     {
-        match entry {
-            Entry::Command(command, end) => self.push_command(&command, end),
-            call => {
-                self.spare -= 1;
-                self.marks.push_reserved(Mark::Call);
-                self.calls.push_reserved(call);
-            }
-        }
+        self.put(&entry.call());
     }
 
     /// Puts a command last, in memory that was taken before, without a copy of it.
@@ -423,8 +649,20 @@ impl Journal {
           spare = self.old.spare - 1;
         } }
     {
+        self.put(&Call::Command(command, end));
+    }
+
+    #[inline]
+    fn put(&mut self, call: &Call<'_>)
+        requires spare { 0 < self.old.spare }
+        requires bare { bytes_of (entry_of call.now) ≡ [] }
+        ensures { self.new ≡ record {
+          entries = self.old.entries ++ entry_of call.now ∷ [];
+          spare = self.old.spare - 1;
+        } }
+    {
         self.spare -= 1;
-        let shape = put_command(&mut self.numbers, command);
-        self.marks.push_reserved(Mark::Command(shape, end));
+        let call = put_call(&mut self.numbers, call);
+        self.marks.push_reserved(Mark { call, bytes: 0 });
     }
 }

@@ -14,6 +14,6 @@ mod steps;
 
 pub use code::{Pass, PassStep, Steps, SwitchCode, Table, Tables};
 pub use emitter::{PassSpans, emit, spans_of_passes};
-pub use journal::{Entry, Journal};
+pub use journal::{Call, Entry, Journal};
 pub use laws::{passes_have_spans, what_is_emitted_can_be_run, what_is_emitted_computes_the_split};
 pub use port::{CommandEnd, DownEnd, PortEnd, RowsEnd, SwitchPort, UpEnd};

@@ -2,13 +2,14 @@
 use crate::samples::{chain, split_of};
 use flat_ir::{Flat, Spans};
 use gal_bits::Values;
-use gal_io::NoMemory;
+use gal_io::{Bytes, NoMemory};
 use packet_fields::Verdict;
 use split_model::Layout;
 use std::alloc::Global;
 use std::test::Fail;
 use switch_ir::{
-    CommandEnd, DownEnd, Entry, Journal, Pass, Steps, SwitchCode, UpEnd, emit, spans_of_passes,
+    Call, CommandEnd, DownEnd, Entry, Journal, Pass, Steps, SwitchCode, UpEnd, emit,
+    spans_of_passes,
 };
 use writeback_table::{Command, To, Update};
 
@@ -219,6 +220,46 @@ fn are_commands_kept(alloc: Global) -> Result<bool, NoMemory> {
     })
 }
 
+// A pass that goes on and then sends a frame up, and one that ends at once.
+fn passed(alloc: Global) -> Result<Journal, NoMemory> {
+    let frame = UpEnd::Up(Bytes::from_slice(alloc, &[7, 8])?);
+    let sent = DownEnd::Verdict(Verdict::Send(4, Bytes::from_slice(alloc, &[9])?));
+    let mut journal = Journal::new(alloc);
+    journal.note(Call::BeginUp(3, 2, &[5, 6], &UpEnd::Going))?;
+    journal.note(Call::StageUp(3, &frame))?;
+    journal.note(Call::Down(&[1], &sent))?;
+    Ok(journal)
+}
+
+fn are_passes_kept(alloc: Global) -> Result<bool, NoMemory> {
+    let journal = passed(alloc)?;
+    let entries = journal.entries(alloc)?;
+    Ok(match entries.as_slice() {
+        [
+            Entry::BeginUp {
+                number: 3,
+                port: 2,
+                packet,
+                answer: UpEnd::Going,
+            },
+            Entry::StageUp {
+                number: 3,
+                answer: UpEnd::Up(up),
+            },
+            Entry::Down {
+                frame,
+                answer: DownEnd::Verdict(Verdict::Send(4, sent)),
+            },
+        ] => {
+            packet.as_slice() == [5, 6].as_slice()
+                && up.as_slice() == [7, 8].as_slice()
+                && frame.as_slice() == [1].as_slice()
+                && sent.as_slice() == [9].as_slice()
+        }
+        _ => false,
+    })
+}
+
 fn are_answers_copied(alloc: Global) -> Result<bool, NoMemory> {
     let up = UpEnd::Finished(Verdict::Drop).copy(alloc)?;
     let down = DownEnd::Verdict(Verdict::Drop).copy(alloc)?;
@@ -232,6 +273,7 @@ fn are_answers_copied(alloc: Global) -> Result<bool, NoMemory> {
 fn a_journal_keeps_its_calls(rt: HostRuntime) -> Result<(), Fail> {
     assert!(rt; is_journal_kept(rt.alloc())?);
     assert!(rt; are_commands_kept(rt.alloc())?);
+    assert!(rt; are_passes_kept(rt.alloc())?);
     assert!(rt; are_answers_copied(rt.alloc())?);
     Ok(())
 }

@@ -6,5 +6,5 @@ use Rattle.switch_ir.proofs.journal.Journal.len.Goals as goal
 pub returns : goal.returns
 returns c =
     let j = c.self.inside in
-    c.len.ensures ∙ j.marks.ok.0 ∙ sym (length-entries j.marks.items j.numbers.items j.calls.items c.self.invariant.0)
+    c.len.ensures ∙ j.marks.ok.0 ∙ sym (length-entries j.marks.items j.numbers.items j.bytes.items)
     ∙ ap (λ (state : JournalState). length state.entries) c.self.view_is
