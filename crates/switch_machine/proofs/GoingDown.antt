@@ -13,49 +13,37 @@ use Rattle.switch_ir.specs.Sound.{CanBeRun}
 use Rattle.switch_ir.specs.Spans.{post_spans, results_in, written_in, Written}
 use Rattle.switch_ir.specs.Spans.{steps_of as steps_by_values}
 use Rattle.switch_machine.specs.declared.numbering.ValueRange.{ValueRange}
-use Rattle.switch_machine.specs.Keeping.{begins_down, kept_down}
+use Rattle.switch_machine.specs.declared.sides.Side.TheVariants.{Behind}
+use Rattle.switch_machine.specs.Keeping.{begins}
 use Rattle.switch_machine.specs.Numbers.{stage_gives}
-use Rattle.switch_machine.specs.Planned.{BeginsWith, IsSetUp}
+use Rattle.switch_machine.specs.Planned.{BeginsWith}
 use Rattle.switch_machine.specs.Ranges.{entries, AreOrdered, AreRanges}
+use Rattle.switch_machine.specs.Sides.{staging}
 use Rattle.switch_machine.specs.Staged.{of_stage}
 use Rattle.switch_machine.proofs.Beginning.{begins_with}
 use Rattle.switch_machine.proofs.Fitting.{results_one}
-use Rattle.switch_machine.proofs.Members.{each_has, of_contains}
+use Rattle.switch_machine.proofs.OfSides.{small_of}
 use Rattle.switch_machine.proofs.PassValues.{apart, begin_apart, begin_register, given_once, handed_fresh, handed_known}
-use Rattle.switch_machine.proofs.SettingUp.{given_fit, last_left, set_up, steps_fit}
-
-pub small_down : (code : Code) → CanBeRun code → AreOrdered code → code.values < 2 ^ 32 → (ranges : List ValueRange)
-    → AreRanges (entries code.tables code.down code.post) ranges → (w : Written) → Contains (written_in code.tables code.down code.post) w → suc w.number < 2 ^ 32
-small_down code can ordered few ranges are w there =
-    let had = written_in code.tables code.down code.post in
-    omega (arith, each_has (λ (x : Written). x.number < code.values) had can.stages.post_numbers w (of_contains had w there), few)
+use Rattle.switch_machine.proofs.SettingUp.{given_fit}
 
 module _ (code : Code) (can : CanBeRun code) (ordered : AreOrdered code) (few : code.values < 2 ^ 32)
     (ranges : List ValueRange) (are : AreRanges (entries code.tables code.down code.post) ranges)
     (law : (number : ℕ → Contents → Contents) → AreSpansOf (steps_by_values code.tables code.down [] code.post number) (post_spans code))
     (registers : Registers) (kept_apart : AreKeptApart (post_spans code) registers) where
   small : (w : Written) → Contains (written_in code.tables code.down code.post) w → suc w.number < 2 ^ 32
-  small = small_down code can ordered few ranges are
-
-  pub down_set : (given : Reading) (seen : Store) (packet : Packet) → ArePlaced registers → BeginsWith ranges (begins_down ranges code) given registers
-      → ((reads : Reading) (s : Step) → length (results reads false seen packet s.work) ≤ results_in code.tables s.work)
-      → IsSetUp ranges code.post (kept_down code) given seen packet registers
-  down_set given seen packet placed begin long =
-      set_up code.tables code.down [] code.post ordered.post small can.stages.post ordered.others ranges are law registers kept_apart (kept_down code) (last_left [] code.post)
-      given seen packet placed begin
-      (steps_fit code.tables code.down [] code.post ordered.post small can.stages.post ordered.others ranges are law registers kept_apart seen packet long)
+  small = small_of Behind code can few
 
   no_number : ℕ → Contents → Contents
   no_number t contents n = 0
 
-  has_one : (n : ℕ) → is_among n (begins_down ranges code) ≡ true → HasRegister registers n
+  has_one : (n : ℕ) → is_among n (begins ranges (staging Behind code)) ≡ true → HasRegister registers n
   has_one n e =
       begin_register code.tables code.down [] code.post ordered.post small can.stages.post ordered.others ranges are [] tt no_number (post_spans code) (law no_number) registers kept_apart n e
 
   -- what postprocessing begins with once it is given
   pub given_begins : ((rs : Registers) (value to other : ℕ) → place_of rs value ≢ place_of rs other → content_of (written rs value to) other ≡ content_of rs other)
       → (packet : Packet) → ArePlaced registers
-      → BeginsWith ranges (begins_down ranges code) (down_given code (value_in registers) packet)
+      → BeginsWith ranges (begins ranges (staging Behind code)) (down_given code (value_in registers) packet)
       (pairs_written registers (stage_gives ranges (of_stage 0 code.post.given) nothing [] packet))
   given_begins keeps packet placed =
       begins_with ranges (apart code.tables code.down [] code.post ordered.post small can.stages.post ordered.others ranges are) code.down code.post.given packet registers

@@ -24,34 +24,21 @@ use Rattle.switch_ir.specs.Spans.{steps_of as steps_by_values}
 use Rattle.switch_ir.specs.Tables.{Told, seen_tables}
 use Rattle.switch_ir.specs.Staged.{EndsBy}
 use Rattle.switch_machine.specs.declared.numbering.ValueRange.{ValueRange}
-use Rattle.switch_machine.specs.Keeping.{kept_up, values_in}
+use Rattle.switch_machine.specs.declared.sides.Side.TheVariants.{Before}
+use Rattle.switch_machine.specs.Keeping.{values_in}
 use Rattle.switch_machine.specs.Numbers.{content_at, number_in, reads_by}
 use Rattle.switch_machine.specs.Planned.{IsSetUp}
 use Rattle.switch_machine.specs.Ranges.{entries, AreOrdered, AreRanges}
 use Rattle.switch_machine.proofs.Beginning.{value_same}
 use Rattle.switch_machine.proofs.Each.{each_at}
 use Rattle.switch_machine.proofs.Members.{any_has, each_has, has_each, has_made, made_has, of_contains, to_contains, Has}
+use Rattle.switch_machine.proofs.OfSides.{small_of}
 use Rattle.switch_machine.proofs.PassValues.{has_its_number}
-use Rattle.switch_machine.proofs.SettingUp.{last_up, set_up, steps_fit}
 
 module _ (code : Code) (can : CanBeRun code) (ordered : AreOrdered code) (few : code.values < 2 ^ 32)
     (ranges : List ValueRange) (are : AreRanges (entries code.tables [] code.pre) ranges) where
   abbrev had : List Written
   had = written_in code.tables [] code.pre
-
-  pub small_up : (w : Written) → Contains had w → suc w.number < 2 ^ 32
-  small_up w there = omega (arith, each_has (λ (x : Written). x.number < code.values) had can.stages.pre_numbers w (of_contains had w there), few)
-
-  module _ (law : (number : ℕ → Contents → Contents) → AreSpansOf (steps_by_values code.tables [] code.up code.pre number) (pre_spans code))
-      (registers : Registers) (kept_apart : AreKeptApart (pre_spans code) registers) where
-    pub up_set : (seen : Store) (packet : Packet) → ((n : ℕ) → content_of registers n ≡ 0) → ArePlaced registers
-        → ((reads : Reading) (s : Step) → length (results reads false seen packet s.work) ≤ results_in code.tables s.work)
-        → IsSetUp ranges code.pre (kept_up code) nothing seen packet registers
-    up_set seen packet zeros placed long =
-        set_up code.tables [] code.up code.pre ordered.pre small_up can.stages.pre tt ranges are law registers kept_apart (kept_up code) (last_up code.up code.pre)
-        nothing seen packet placed
-        (record { begun = λ v n is there. zeros n; others = λ v n is other. refl; unknown = λ v none. refl })
-        (steps_fit code.tables [] code.up code.pre ordered.pre small_up can.stages.pre tt ranges are law registers kept_apart seen packet long)
 
   span_made : (c : Crossing) (s : Span) → Has (pre_spans code) s → s.value ≡ c.number → Has code.up c → number_in ranges c.value ≡ Some c.number
   span_made c s there is h =
@@ -60,7 +47,7 @@ module _ (code : Code) (can : CanBeRun code) (ordered : AreOrdered code) (few : 
       let alike = each_has (λ (w : Written). w.number ≡ c.number → is_value w.value c.value ≡ true) had
       (each_has (λ (x : Crossing). Each (λ (w : Written). w.number ≡ x.number → is_value w.value x.value ≡ true) had) code.up ordered.up c h) m.from m.there number in
       ap (number_in ranges) (sym (value_same m.from.value c.value alike))
-      ∙ has_its_number code.tables [] code.up code.pre ordered.pre small_up can.stages.pre tt ranges are m.from m.there
+      ∙ has_its_number code.tables [] code.up code.pre ordered.pre (small_of Before code can few) can.stages.pre tt ranges are m.from m.there
       ∙ ap (λ n. Some n) number
 
   -- what goes up is had under its number

@@ -34,3 +34,13 @@ on_err P (Err e) p = p
 pub on_weaker : {X E : Type 0} (P Q : Type 0) (r : Result X E) → (P → Q) → OnOk r P → OnOk r Q
 on_weaker P Q (Ok x) go h = go h
 on_weaker P Q (Err e) go h = tt
+
+-- what holds where there was no memory
+pub err_on : {X E P : Type 0} (a b o : P) (r : Result X E) → b ≡ o → OnErr r (a ≡ b) → OnErr r (a ≡ o)
+err_on a b o (Ok x) same h = tt
+err_on a b o (Err e) same h = h ∙ same
+
+-- what holds either way
+pub either_way : {X E : Type 0} (P : X → Type 0) (Q R : Type 0) (r : Result X E) → IfOk r P → OnErr r Q → ((x : X) → P x → R) → (Q → R) → R
+either_way P Q R (Ok x) h k go come = go x h
+either_way P Q R (Err e) h k go come = come k

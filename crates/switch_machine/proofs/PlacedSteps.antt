@@ -1,5 +1,5 @@
 -- Instructions by place, one after the other.
-use Rattle.std.proofs.Common.{◌≡◌, ◌∙◌, ◌<◌, ◌+◌, ◌++◌, ℕ, false, List, [], ◌∷◌, length, map, drop, refl, sym, ap, subst, add-one, get_or}
+use Rattle.std.proofs.Common.{◌≡◌, ◌∙◌, ◌<◌, ◌+◌, ◌++◌, ℕ, zero, suc, false, List, [], ◌∷◌, length, map, drop, refl, sym, ap, subst, add-one, get_or}
 use Rattle.std.specs.List.{AllByRecursion as Each}
 use Rattle.std.specs.Prelude.{slice_index, slice_index_or}
 use Rattle.std.proofs.lemmas.List.{length-set}
@@ -88,3 +88,25 @@ plan_after before after pairs is = ap (λ (rs : Registers). rs.plan) is ∙ plan
 
 pub count_after : (before after : Registers) (pairs : List (ℕ × ℕ)) → after ≡ all_placed before pairs → length after.numbers ≡ length before.numbers
 count_after before after pairs is = ap (λ (rs : Registers). length rs.numbers) is ∙ count_placed before pairs
+
+pub plan_placed_at : (stages : List (List ReadyStep)) (tables : Store) (packet : Packet) (start : Registers) (t : ℕ)
+    → (placed_at stages tables packet start t).plan ≡ start.plan
+unfolding placed_at
+plan_placed_at stages tables packet start zero = refl
+plan_placed_at stages tables packet start (suc t) =
+    let before = placed_at stages tables packet start t in
+    plan_placed before (ready_gives (ready_at stages t) (reads_at before.numbers) tables packet) ∙ plan_placed_at stages tables packet start t
+
+pub count_placed_at : (stages : List (List ReadyStep)) (tables : Store) (packet : Packet) (start : Registers) (t : ℕ)
+    → length (placed_at stages tables packet start t).numbers ≡ length start.numbers
+unfolding placed_at
+count_placed_at stages tables packet start zero = refl
+count_placed_at stages tables packet start (suc t) =
+    let before = placed_at stages tables packet start t in
+    count_placed before (ready_gives (ready_at stages t) (reads_at before.numbers) tables packet) ∙ count_placed_at stages tables packet start t
+
+-- the numbers that are left hang on the numbers alone
+pub numbers_placed : (one other : Registers) (pairs : List (ℕ × ℕ)) → one.numbers ≡ other.numbers → (all_placed one pairs).numbers ≡ (all_placed other pairs).numbers
+numbers_placed one other [] same = same
+numbers_placed one other (p ∷ ps) same =
+    numbers_placed (placed one p.0 p.1) (placed other p.0 p.1) ps (ap (λ (ns : List ℕ). (placed (record { plan = one.plan; numbers = ns }) p.0 p.1).numbers) same)

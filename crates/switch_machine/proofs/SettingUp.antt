@@ -104,9 +104,6 @@ module _ (up : List Crossing) (pass : PassCode) where
       by_out v (or_right (is_among_values v (pass.send ∷ pass.port ∷ [])) (list_any (λ (w : FieldValue). is_value v w.value) pass.fields)
       (has_any (λ (w : FieldValue). is_value v w.value) pass.fields m.from m.there (same m.from.value v m.is)))
 
-  pub last_left : Each IsLast (left_with pass)
-  last_left = has_each IsLast (left_with pass) left_one
-
   crossing_one : (v : ValueId) → Has (values_in up) v → IsLast v
   crossing_one v h =
       let m = has_made (λ (c : Crossing). c.value) up v h in

@@ -1,11 +1,12 @@
--- What is kept of a pass until its end, and what postprocessing begins with.
+-- What is kept of a pass until its end, and what it begins with.
 use Rattle.std.specs.Prelude.{ℕ, zero, suc, List, [], ◌∷◌, ◌++◌, map}
 use Rattle.flat_ir.specs.declared.program.ValueId.{ValueId}
 use Rattle.flat_ir.specs.declared.program.Block.{Block}
 use Rattle.flat_ir.specs.declared.program.FieldValue.{FieldValue}
 use Rattle.flat_ir.specs.Blocks.{block_at, line}
 use Rattle.split_model.specs.declared.layout.Crossing.{Crossing}
-use Rattle.switch_ir.specs.Code.{PassCode, Code}
+use Rattle.switch_ir.specs.Code.{PassCode}
+use Rattle.switch_ir.specs.Staged.{Staging}
 use Rattle.switch_machine.specs.declared.numbering.ValueRange.{ValueRange}
 use Rattle.switch_machine.specs.Numbers.{stage_writes}
 use Rattle.switch_machine.specs.Staged.{of_stage}
@@ -28,17 +29,13 @@ left_with pass = pass.send ∷ pass.port ∷ map (λ (w : FieldValue). w.value) 
 abbrev pub values_in : List Crossing → List ValueId
 values_in layout = map (λ (c : Crossing). c.value) layout
 
--- of preprocessing: what goes up, what decides whether the packet does, and what decides on it if it doesn't
-abbrev pub kept_up : Code → List ValueId
-kept_up code = values_in code.up ++ (lines_of code.pre.blocks code.pre.rest ++ left_with code.pre)
+-- of a pass: what goes up, what decides whether the packet does, and what decides on it
+abbrev pub kept : Staging → List ValueId
+kept p = values_in p.layout ++ (lines_of p.code.blocks p.code.rest ++ left_with p.code)
 
--- of postprocessing
-abbrev pub kept_down : Code → List ValueId
-kept_down code = left_with code.post
-
--- what postprocessing begins with: what is handed down, and the consts and fields that it is given
 abbrev pub numbers_in : List Crossing → List ℕ
 numbers_in layout = map (λ (c : Crossing). c.number) layout
 
-abbrev pub begins_down : List ValueRange → Code → List ℕ
-begins_down ranges code = numbers_in code.down ++ stage_writes ranges (of_stage 0 code.post.given)
+-- what a pass begins with: what is handed to it, and the consts and fields that it is given
+abbrev pub begins : List ValueRange → Staging → List ℕ
+begins ranges p = numbers_in p.handed ++ stage_writes ranges (of_stage 0 p.code.given)

@@ -1,8 +1,8 @@
 pub mod Calls
 pub mod Codes
 pub mod Counts
-pub mod Ends
 pub mod Flights
+pub mod Giving
 pub mod Keeping
 pub mod Kept
 pub mod Live
@@ -12,7 +12,10 @@ pub mod Numbers
 pub mod Planned
 pub mod Ranges
 pub mod Ready
+pub mod Sides
 pub mod Staged
 pub mod Staging
+pub mod UnderWay
 pub mod Views
 pub mod Workplaces
+pub mod Written

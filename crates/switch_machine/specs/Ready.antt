@@ -1,7 +1,7 @@
 -- The instructions of a pass with the places of their operands and results among the registers.
-use Rattle.std.specs.Prelude.{◌≡◌, ◌≤◌, ◌-◌, ◌^◌, ℕ, zero, suc, false, List, [], ◌∷◌, ◌++◌, length, map, slice_index, slice_index_or}
+use Rattle.std.specs.Prelude.{◌≡◌, ◌≤◌, ◌-◌, ◌^◌, ℕ, zero, suc, Bool, true, false, List, [], ◌∷◌, ◌++◌, length, map, slice_index, slice_index_or}
 use Rattle.std.specs.Prelude.{unwrap_or, Option, Some, None}
-use Rattle.std.specs.Coded.{Coded-set, coded_ℕ, coded_list, coded×}
+use Rattle.std.specs.Coded.{Coded-set, coded_ℕ, coded_list, coded×, le_prop}
 use Rattle.std.specs.List.{AllByRecursion as Each, AllByRecursion-prop}
 use Rattle.packet_fields.specs.declared.packet.Packet.{Packet}
 use Rattle.state_store.specs.Store.{Store}
@@ -9,9 +9,10 @@ use Rattle.flat_ir.specs.declared.program.ValueId.{ValueId}
 use Rattle.flat_ir.specs.Blocks.{Reading}
 use Rattle.flat_ir.specs.Operands.{CanRun}
 use Rattle.flat_ir.specs.Plan.{RegisterPlan, register_of}
-use Rattle.flat_ir.specs.Program.{Work, work_of}
+use Rattle.flat_ir.specs.Program.{Work, operands, work_of}
 use Rattle.flat_ir.specs.Run.{results}
 use Rattle.transfer_header.specs.Registers.{Registers, placed}
+use Rattle.transfer_header.specs.Steps.{is_among}
 use Rattle.switch_ir.specs.Code.{Step}
 use Rattle.switch_ir.specs.Once.{can_step_prop}
 use Rattle.switch_ir.specs.Sound.{CanStep}
@@ -83,6 +84,31 @@ ready_gives [] reads tables packet = []
 ready_gives (r ∷ rs) reads tables packet =
     placed_gives r.places (results reads false tables packet r.work) ++ ready_gives rs reads tables packet
 
+-- the places of all results
+abbrev pub targets_of : List Ready → List ℕ
+targets_of [] = []
+targets_of (r ∷ rs) = r.places ++ targets_of rs
+
+-- numbers with their places
+abbrev pub paired : List ℕ → List ℕ → List (ℕ × ℕ)
+paired [] numbers = []
+paired (place ∷ places) [] = []
+paired (place ∷ places) (number ∷ numbers) = (place, number) ∷ paired places numbers
+
+abbrev pub only_numbers : List (ℕ × ℕ) → List ℕ
+only_numbers pairs = map (λ (p : ℕ × ℕ). p.1) pairs
+
+-- no instruction reads a place that one before it writes, or that is one of these
+abbrev pub IsDirect : List ℕ → List Ready → Type 0
+IsDirect written [] = Unit {0}
+IsDirect written (r ∷ rs) =
+    Each (λ (v : ValueId). is_among v.instruction written ≡ false) (operands r.work) × IsDirect (written ++ r.places) rs
+
+-- what is known of the instructions of a stage: the places of all results, and whether they may go there at once
+pub record IsPrepared (steps : List ReadyStep) (targets : List ℕ) (direct : Bool) : Type 0 where
+  pub all : targets ≡ targets_of (map ready_of steps)
+  pub alone : direct ≡ true → IsDirect [] (map ready_of steps)
+
 -- numbers of values, each with the value's place
 abbrev pub by_place : RegisterPlan → List (ℕ × ℕ) → List (ℕ × ℕ)
 by_place plan pairs = map (λ (p : ℕ × ℕ). (place_in plan p.0, p.1)) pairs
@@ -103,6 +129,10 @@ all_placed registers (p ∷ ps) = all_placed (placed registers p.0 p.1) ps
 abbrev pub ready_at : List (List ReadyStep) → ℕ → List Ready
 ready_at stages t = map ready_of (slice_index_or stages t [])
 
+-- no stage has more results
+abbrev pub HoldResults : List (List ReadyStep) → ℕ → Type 0
+HoldResults stages most = (t : ℕ) → length (targets_of (ready_at stages t)) ≤ most
+
 -- the registers before a stage: each stage reads all that it reads before it writes
 unfoldable pub placed_at : List (List ReadyStep) → Store → Packet → Registers → ℕ → Registers
 placed_at stages tables packet start zero = start
@@ -119,6 +149,10 @@ pub record AreReady
   pub gives : (t : ℕ) → t ≤ highest → (reads : Reading) (tables : Store) (packet : Packet)
       → ready_gives (ready_at stages t) reads tables packet
       ≡ by_place plan (stage_gives ranges (of_stage t steps) (λ v. reads (place_name ranges plan v)) tables packet)
+
+-- each stage can be computed
+abbrev pub CanAll : List (List ReadyStep) → Type 0
+CanAll stages = (t : ℕ) → Each CanReady (ready_at stages t)
 
 -- an instruction of this work
 abbrev pub lone : Work → Step
@@ -137,3 +171,9 @@ ready_prop ranges plan steps highest stages a b = λ i. record {
       Coded-set (coded_list (coded× coded_ℕ coded_ℕ)) _ _ (a.gives t le reads tables packet)
       (b.gives t le reads tables packet) i;
 }
+
+pub can_all_prop : (stages : List (List ReadyStep)) → IsProp (CanAll stages)
+can_all_prop stages a b = λ i t. AllByRecursion-prop CanReady can_ready_prop (ready_at stages t) (a t) (b t) i
+
+pub hold_prop : (stages : List (List ReadyStep)) (most : ℕ) → IsProp (HoldResults stages most)
+hold_prop stages most a b = λ i t. le_prop (a t) (b t) i

@@ -1,80 +1,39 @@
--- What the calls of a switch in memory leave by which passes go on stage by stage.
-use Rattle.std.specs.Prelude.{◌≡◌, ◌++◌, ◌∷◌, [], ℕ, Bool, true, false, List, Some, None}
-use Rattle.switch_ir.specs.Code.{Code}
-use Rattle.switch_ir.specs.Port.{IsHandedDown, IsNothing, IsUpFrame, OfItsParts}
-use Rattle.switch_ir.specs.Staged.{pre_staging, post_staging, EndsBy, EndsDownBy}
-use Rattle.switch_ir.specs.UnderWay.{EndsWith, HasEntered, HasGoneOn, PassState, UnderWay}
+-- What the calls of a switch in memory make of its passes, step by step.
+use Rattle.std.specs.Prelude.{◌≡◌, ◌++◌, ◌∷◌, [], ℕ, Bool, true, false, List, None}
+use Rattle.switch_ir.specs.UnderWay.{Passes, PassState}
 use Rattle.switch_ir.specs.declared.journal.Entry.{Entry}
-use Rattle.switch_ir.specs.declared.journal.Entry.TheVariants as entry
 use Rattle.switch_ir.specs.declared.port.UpEnd.{UpEnd}
 use Rattle.switch_ir.specs.declared.port.UpEnd.TheVariants as up
 use Rattle.switch_ir.specs.declared.port.DownEnd.{DownEnd}
 use Rattle.switch_ir.specs.declared.port.DownEnd.TheVariants as down
-use Rattle.switch_machine.specs.Ends.{DownPasses, UpPasses}
+use Rattle.switch_machine.specs.declared.sides.Side.{Side}
+use Rattle.switch_machine.specs.declared.sides.Side.TheVariants.{Before, Behind}
 use Rattle.switch_machine.specs.Flights.{with_pass}
 use Rattle.switch_machine.specs.Machine.{MachineState}
+use Rattle.switch_machine.specs.UnderWay.{Puts}
 
--- the state after a call that left these entries and passes
-abbrev pub went : MachineState → List Entry → UnderWay → MachineState
-went m entries passes = record m {
-  journal = record m.journal { entries = m.journal.entries ++ entries };
-  passes = passes;
-}
+-- the passes of a side, and the state with others in their place
+abbrev pub passes_at : Side → MachineState → Passes
+passes_at Before m = m.passes.pre
+passes_at Behind m = m.passes.post
+
+abbrev pub with_passes : Side → Passes → MachineState → MachineState
+with_passes Before passes m = record m { passes = record m.passes { pre = passes } }
+with_passes Behind passes m = record m { passes = record m.passes { post = passes } }
+
+-- the state with one entry more
+abbrev pub with_entry : Entry → MachineState → MachineState
+with_entry entry m = record m { journal = record m.journal { entries = m.journal.entries ++ entry ∷ [] } }
+
+-- a pass goes on, as this says, or is under way no longer
+abbrev pub Settles : Bool → ℕ → (PassState → Type 0) → Passes → Passes → Type 0
+Settles true number IsNew old new = Puts number IsNew old new
+Settles false number IsNew old new = new ≡ with_pass number None old
 
 -- calls and plans stay
 pub record IsLeft (old new : MachineState) : Type 0 where
   pub planned : new.planned ≡ old.planned
   pub calls : new.calls ≡ old.calls
-
--- ## Packets that arrive
-
-pub record EntersUp (number port : ℕ) (packet : List ℕ) (old new : MachineState) : Type 0 where
-  pub pass : PassState
-  pub has : (code : Code) → old.code ≡ Some code
-      → HasEntered (pre_staging code) IsNothing (record { port = port; bytes = packet }) (Some old.tables) pass
-  pub is : new ≡ went old (entry.BeginUp number port packet up.Going ∷ [])
-      (record old.passes { pre = with_pass number (Some pass) old.passes.pre })
-
-pub record GoesOnUp (number : ℕ) (old new : MachineState) : Type 0 where
-  pub pass : PassState
-  pub has : (code : Code) (before : PassState) → old.code ≡ Some code → old.passes.pre number ≡ Some before
-      → HasGoneOn (pre_staging code) (Some old.tables) before pass
-  pub is : new ≡ went old (entry.StageUp number up.Going ∷ [])
-      (record old.passes { pre = with_pass number (Some pass) old.passes.pre })
-
-pub record IsLastUp (number : ℕ) (old new : MachineState) (end : UpEnd) : Type 0 where
-  pub passes : UpPasses false end
-  pub frame : (code : Code) (before : PassState) → old.code ≡ Some code → old.passes.pre number ≡ Some before
-      → IsUpFrame code number before.packet.port before.packet.bytes end
-  pub told : (code : Code) (before : PassState) → old.code ≡ Some code → old.passes.pre number ≡ Some before
-      → EndsWith (pre_staging code) (Some old.tables) before (λ reads. EndsBy code reads number before.packet end)
-  pub is : new ≡ went old (entry.StageUp number end ∷ [])
-      (record old.passes { pre = with_pass number None old.passes.pre })
-
--- ## Packets that come down
-
-pub record EntersByFrame (frame : List ℕ) (old new : MachineState) : Type 0 where
-  pub number : ℕ
-  pub pass : PassState
-  pub has : (code : Code) → old.code ≡ Some code
-      → OfItsParts code frame (λ n packet values. (n ≡ number)
-      × HasEntered (post_staging code) (IsHandedDown code values packet) packet (Some old.tables) pass)
-  pub is : new ≡ went old (entry.BeginDown frame down.Going ∷ [])
-      (record old.passes { post = with_pass number (Some pass) old.passes.post })
-
-pub record GoesOnDown (number : ℕ) (old new : MachineState) : Type 0 where
-  pub pass : PassState
-  pub has : (code : Code) (before : PassState) → old.code ≡ Some code → old.passes.post number ≡ Some before
-      → HasGoneOn (post_staging code) (Some old.tables) before pass
-  pub is : new ≡ went old (entry.StageDown number down.Going ∷ [])
-      (record old.passes { post = with_pass number (Some pass) old.passes.post })
-
-pub record IsLastDown (number : ℕ) (old new : MachineState) (end : DownEnd) : Type 0 where
-  pub passes : DownPasses false end
-  pub told : (code : Code) (before : PassState) → old.code ≡ Some code → old.passes.post number ≡ Some before
-      → EndsWith (post_staging code) (Some old.tables) before (λ reads. EndsDownBy code reads before.packet end)
-  pub is : new ≡ went old (entry.StageDown number end ∷ [])
-      (record old.passes { post = with_pass number None old.passes.post })
 
 -- it fails or doesn't
 abbrev pub UpIsPlanned : Bool → UpEnd → Type 0
@@ -89,3 +48,16 @@ DownIsPlanned fails down.Failed = fails ≡ true
 DownIsPlanned fails (down.Verdict verdict) = fails ≡ false
 DownIsPlanned fails down.Going = fails ≡ false
 DownIsPlanned fails down.NoMemory = ⊥
+
+abbrev pub is_going_up : UpEnd → Bool
+is_going_up up.Going = true
+is_going_up (up.Finished verdict) = false
+is_going_up (up.Up frame) = false
+is_going_up up.Failed = false
+is_going_up up.NoMemory = false
+
+abbrev pub is_going_down : DownEnd → Bool
+is_going_down down.Going = true
+is_going_down (down.Verdict verdict) = false
+is_going_down down.Failed = false
+is_going_down down.NoMemory = false

@@ -2,20 +2,23 @@
 #![tactic(auto)]
 
 mod calls;
-mod down;
+mod crossing;
 mod flight;
+mod going;
 mod laws;
 mod live;
 mod loaded;
+mod loaded_pass;
 mod machine;
 mod numbering;
 mod passes;
 mod ready;
 mod run;
+mod sides;
 mod stages;
 mod staging;
 mod tables;
-mod up;
+mod written;
 
 pub use calls::CallKind;
 pub use machine::ModelSwitch;

@@ -21,23 +21,17 @@ ghost use Rattle.switch_machine.specs.declared.calls.CallKind.TheVariants as cal
 ghost use Rattle.switch_machine.specs.Calls.{called, ended, IsCountedAs, PortEndsAsPlanned, UpEndsAsPlanned};
 ghost use Rattle.switch_machine.specs.Calls.{DownEndsAsPlanned, CommandEndsAsPlanned, RowsEndAsPlanned};
 ghost use Rattle.switch_machine.specs.Counts.{counted};
-ghost use Rattle.switch_machine.specs.Ends.{DownPasses, UpPasses};
-ghost use Rattle.switch_machine.specs.Flights.{flights_in, post_kind, pre_kind, ready_prop, AreReadyIn};
 ghost use Rattle.switch_machine.specs.Kept.{safe_prop, AreSafe};
 ghost use Rattle.switch_machine.specs.Loading.{code_in};
 ghost use Rattle.switch_machine.specs.Machine.{fails_next, seen_of};
 ghost use Rattle.switch_machine.specs.Ranges.{AreOrdered};
 
 use crate::calls::{CallKind, Calls, count, is_planned};
-use crate::down::go_down;
-use crate::flight::Flight;
 use crate::loaded::Loaded;
 use crate::tables::SwitchTables;
-use crate::up::go_up;
-use gal_io::{Bytes, NoMemory};
+use gal_io::NoMemory;
 use state_store::Rows;
 use std::alloc::Global;
-use std::collections::BTreeMap;
 use switch_ir::{
     CommandEnd, DownEnd, Entry, Journal, PortEnd, RowsEnd, SwitchCode, SwitchPort, UpEnd,
     what_is_emitted_can_be_run,
@@ -55,13 +49,7 @@ pub struct ModelSwitch {
     pub(crate) calls: Calls,
     /// How many registers the last pass was computed in.
     pub(crate) registers: u32,
-    /// The passes under way over packets that arrived, by their numbers.
-    pub(crate) arriving: BTreeMap<u32, Flight>,
-    /// The passes under way over packets that came down, by their numbers.
-    pub(crate) leaving: BTreeMap<u32, Flight>,
     ghost safe: { AreSafe (code_in loaded) tables } by { safe_prop (code_in loaded) tables },
-    ghost up: { AreReadyIn pre_kind loaded (flights_in arriving) } by { ready_prop pre_kind loaded (flights_in arriving) },
-    ghost down: { AreReadyIn post_kind loaded (flights_in leaving) } by { ready_prop post_kind loaded (flights_in leaving) },
 }
 
 impl ModelSwitch {
@@ -98,8 +86,6 @@ impl ModelSwitch {
             planned: Vec::new(alloc),
             calls: Calls::none(),
             registers: 0,
-            arriving: BTreeMap::new(alloc),
-            leaving: BTreeMap::new(alloc),
         }
     }
 
@@ -191,27 +177,10 @@ impl ModelSwitch {
         let tables = SwitchTables::start(alloc, code)?;
         let mut journal = Journal::new(alloc);
         journal.push(Entry::Load)?;
-        let loaded = Loaded::new(alloc, code)?;
-        self.begin(loaded, tables, journal);
-        Ok(())
-    }
-
-    // Takes code that is loaded, with the tables and the journal that it starts with. It ends all passes.
-    fn begin(&mut self, loaded: Loaded, tables: SwitchTables, journal: Journal)
-        requires { IsStart (code_of loaded.code) tables }
-        ensures { let old = machine_of self.old in
-            machine_of self.new ≡ record old {
-              code = Some (code_of loaded.code);
-              tables = tables;
-              passes = none_under_way;
-              journal = journal;
-            } }
-    {
-        self.arriving.clear();
-        self.leaving.clear();
-        self.loaded = Some(loaded);
+        self.loaded = Some(Loaded::new(alloc, code)?);
         self.tables = tables;
         self.journal = journal;
+        Ok(())
     }
 
     fn try_room(&mut self, commands: usize) -> Result<(), NoMemory>
@@ -228,112 +197,6 @@ impl ModelSwitch {
     {
         self.journal.reserve(commands)?;
         self.note(Entry::Room(commands))
-    }
-
-    // How the pass over a packet that arrives ends, where it fails or doesn't.
-    pub(crate) fn up_end(
-        &mut self,
-        alloc: Global,
-        number: u32,
-        port: u8,
-        packet: &[u8],
-        fails: bool,
-    ) -> Result<UpEnd, NoMemory>
-        requires loaded { IsSome (machine_of self.old).code }
-        requires size { length packet.now ≤ largest_packet }
-        ensures kept { machine_of self.new ≡ machine_of self.old }
-        ensures passes { IfOk result (UpPasses fails) }
-        ensures frame { (code : Code) → (machine_of self.old).code ≡ Some code
-            → IfOk result (IsUpFrame code number port packet.now) }
-        ensures told { (code : Code) → (machine_of self.old).code ≡ Some code
-            → IfOk result (EndsUp code self.old.tables number (record { port = port; bytes = packet.now })) }
-    {
-        if fails {
-            return Ok(UpEnd::Failed);
-        }
-        let Some(loaded) = &mut self.loaded else {
-            unreachable!()
-        };
-        self.registers = loaded.up.registers.len();
-        go_up(alloc, loaded, &self.tables, number, port, packet)
-    }
-
-    fn try_up(
-        &mut self,
-        alloc: Global,
-        number: u32,
-        port: u8,
-        packet: &[u8],
-        fails: bool,
-    ) -> Result<UpEnd, NoMemory>
-        requires loaded { IsSome (machine_of self.old).code }
-        requires size { length packet.now ≤ largest_packet }
-        ensures passes { IfOk result (UpPasses fails) }
-        ensures frame { (code : Code) → (machine_of self.old).code ≡ Some code
-            → IfOk result (IsUpFrame code number port packet.now) }
-        ensures told { (code : Code) → (machine_of self.old).code ≡ Some code
-            → IfOk result (EndsUp code self.old.tables number (record { port = port; bytes = packet.now })) }
-        ensures ok { IfOk result (λ end. machine_of self.new
-            ≡ ended (machine_of self.old) (up_entry number port packet.now end) (up_failed end)) }
-        ensures rises { IfOk result (λ end.
-            IsCountedIf (up_failed end) (machine_of self.old).faults (machine_of self.new).faults) }
-        ensures err { OnErr result (machine_of self.new ≡ machine_of self.old) }
-    {
-        let end = self.up_end(alloc, number, port, packet, fails)?;
-        let packet = Bytes::from_slice(alloc, packet)?;
-        let answer = end.copy(alloc)?;
-        self.note(Entry::Up {
-            number,
-            port,
-            packet,
-            answer,
-        })?;
-        self.count_fault(fails);
-        Ok(end)
-    }
-
-    // How the pass over a packet that comes down ends, where it fails or doesn't.
-    pub(crate) fn down_end(
-        &mut self,
-        alloc: Global,
-        frame: &[u8],
-        fails: bool,
-    ) -> Result<DownEnd, NoMemory>
-        requires loaded { IsSome (machine_of self.old).code }
-        requires frame { IsDownFrame (seen_of (machine_of self.old)) frame.now }
-        ensures kept { machine_of self.new ≡ machine_of self.old }
-        ensures passes { IfOk result (DownPasses fails) }
-        ensures told { (code : Code) → (machine_of self.old).code ≡ Some code
-            → IfOk result (EndsDown code self.old.tables frame.now) }
-    {
-        if fails {
-            return Ok(DownEnd::Failed);
-        }
-        let Some(loaded) = &mut self.loaded else {
-            unreachable!()
-        };
-        self.registers = loaded.down.registers.len();
-        Ok(DownEnd::Verdict(go_down(alloc, loaded, &self.tables, frame)?))
-    }
-
-    fn try_down(&mut self, alloc: Global, frame: &[u8], fails: bool) -> Result<DownEnd, NoMemory>
-        requires loaded { IsSome (machine_of self.old).code }
-        requires frame { IsDownFrame (seen_of (machine_of self.old)) frame.now }
-        ensures passes { IfOk result (DownPasses fails) }
-        ensures told { (code : Code) → (machine_of self.old).code ≡ Some code
-            → IfOk result (EndsDown code self.old.tables frame.now) }
-        ensures ok { IfOk result (λ end. machine_of self.new
-            ≡ ended (machine_of self.old) (down_entry frame.now end) (down_failed end)) }
-        ensures rises { IfOk result (λ end.
-            IsCountedIf (down_failed end) (machine_of self.old).faults (machine_of self.new).faults) }
-        ensures err { OnErr result (machine_of self.new ≡ machine_of self.old) }
-    {
-        let end = self.down_end(alloc, frame, fails)?;
-        let frame = Bytes::from_slice(alloc, frame)?;
-        let answer = end.copy(alloc)?;
-        self.note(Entry::Down { frame, answer })?;
-        self.count_fault(fails);
-        Ok(end)
     }
 
     // Applies a command to the tables.
@@ -422,7 +285,7 @@ impl SwitchPort for ModelSwitch {
         ensures counted { IsCountedAs call.Up (up_failed result) (machine_of self.old) (machine_of self.new) }
     {
         let fails = self.is_to_fail(CallKind::Up);
-        match self.try_up(alloc, number, port, packet, fails) {
+        match self.try_up(alloc, number, port, packet, fails, true) {
             Ok(end) => end,
             Err(NoMemory) => UpEnd::NoMemory,
         }
@@ -436,7 +299,7 @@ impl SwitchPort for ModelSwitch {
         ensures counted { IsCountedAs call.Down (down_failed result) (machine_of self.old) (machine_of self.new) }
     {
         let fails = self.is_to_fail(CallKind::Down);
-        match self.try_down(alloc, frame, fails) {
+        match self.try_down(alloc, frame, fails, true) {
             Ok(end) => end,
             Err(NoMemory) => DownEnd::NoMemory,
         }
@@ -452,7 +315,7 @@ impl SwitchPort for ModelSwitch {
         ensures counted { IsCountedAs call.BeginUp (up_failed result) (machine_of self.old) (machine_of self.new) }
     {
         let fails = self.is_to_fail(CallKind::BeginUp);
-        match self.try_begin_up(alloc, number, port, packet, fails) {
+        match self.try_up(alloc, number, port, packet, fails, false) {
             Ok(end) => end,
             Err(NoMemory) => UpEnd::NoMemory,
         }
@@ -480,7 +343,7 @@ impl SwitchPort for ModelSwitch {
         ensures counted { IsCountedAs call.BeginDown (down_failed result) (machine_of self.old) (machine_of self.new) }
     {
         let fails = self.is_to_fail(CallKind::BeginDown);
-        match self.try_begin_down(alloc, frame, fails) {
+        match self.try_down(alloc, frame, fails, false) {
             Ok(end) => end,
             Err(NoMemory) => DownEnd::NoMemory,
         }

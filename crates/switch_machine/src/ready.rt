@@ -1,10 +1,12 @@
 //! The instructions of a pass with the places of their operands and results among the registers.
-ghost use Rattle.std.specs.Prelude.{◌≡◌, ◌+◌, ◌<◌, ◌^◌, [], length, map, slice_index_or, IfOk};
+ghost use Rattle.std.specs.Prelude.{◌≡◌, ◌+◌, ◌++◌, ◌<◌, ◌^◌, [], true, length, map, slice_index_or, IfOk, OnOk};
 ghost use Rattle.switch_ir.specs.Code.{pass_step_of};
-ghost use Rattle.switch_machine.specs.Ready.{place_in, place_name, places_in, places_of, ready_of, resolved, AreReady};
+ghost use Rattle.switch_machine.specs.Ready.{place_in, place_name, places_in, places_of, ready_of, resolved, targets_of};
+ghost use Rattle.switch_machine.specs.Ready.{AreReady, HoldResults, IsDirect};
 
 use crate::numbering::{Numbering, ValueRange};
 use crate::stages::Stages;
+use crate::written::Written;
 use flat_ir::{InstrKind, RegPlan, Renaming, ValueId};
 use gal_io::NoMemory;
 use std::alloc::Global;
@@ -18,6 +20,19 @@ pub(crate) enum Places {
     Many(Vec<u32>),
 }
 
+impl Places {
+    // Puts them behind others.
+    fn push_to(&self, places: &mut Vec<u32>) -> Result<(), NoMemory>
+        ensures { OnOk result (places.new.items ≡ places.old.items ++ places_of self.now) }
+    {
+        match self {
+            Places::One(place) => places.push(*place)?,
+            Places::Many(list) => places.extend_from_slice(list.as_slice())?,
+        }
+        Ok(())
+    }
+}
+
 /// An instruction whose operands are named by their places.
 #[derive(Debug, Drop)]
 pub(crate) struct ReadyStep {
@@ -29,15 +44,72 @@ pub(crate) struct ReadyStep {
 #[derive(Debug, Drop)]
 pub(crate) struct ReadyStage {
     items: Vec<ReadyStep>,
+    // The places of all their results, in order.
+    targets: Vec<u32>,
+    // No instruction reads a register that one before it writes.
+    direct: bool,
 }
 
 impl Model for ReadyStage {
     ghost use Rattle.std.specs.Prelude.{List};
     ghost use Rattle.switch_machine.specs.declared.ready.ReadyStep.{ReadyStep};
+    ghost use Rattle.switch_machine.specs.Ready.{IsPrepared};
 
     ghost Value = { List ReadyStep };
 
     ghost view = { λ stage. stage.items.items };
+
+    ghost invariant = { λ stage. IsPrepared stage.items.items stage.targets.items stage.direct };
+}
+
+impl ReadyStage {
+    // That of some instructions.
+    fn of(
+        alloc: Global,
+        items: Vec<ReadyStep>,
+        written: &mut Written,
+    ) -> Result<ReadyStage, NoMemory>
+        ensures { IfOk result (λ made. made ≡ items.items) }
+    {
+        let targets = targets(alloc, items.as_slice())?;
+        let direct = written.is_direct(items.as_slice());
+        Ok(ReadyStage {
+            items,
+            targets,
+            direct,
+        })
+    }
+
+    pub fn steps(&self) -> &[ReadyStep]
+        ensures { result.now ≡ self.now }
+    {
+        self.items.as_slice()
+    }
+
+    /// The places of all results, in order.
+    pub fn targets(&self) -> &[u32]
+        ensures { result.now ≡ targets_of (map ready_of self.now) }
+    {
+        self.targets.as_slice()
+    }
+
+    /// Whether no instruction reads a register that one before it writes. Where one may, this is false.
+    pub fn is_direct(&self) -> bool
+        ensures { result ≡ true → IsDirect [] (map ready_of self.now) }
+    {
+        self.direct
+    }
+}
+
+// The places of all results of some instructions, in order.
+fn targets(alloc: Global, steps: &[ReadyStep]) -> Result<Vec<u32>, NoMemory>
+    ensures { IfOk result (λ made. made.items ≡ targets_of (map ready_of steps.now)) }
+{
+    let mut targets = Vec::new(alloc);
+    for step in steps {
+        step.places.push_to(&mut targets)?;
+    }
+    Ok(targets)
 }
 
 /// The instructions of a pass, stage by stage.
@@ -79,11 +151,22 @@ impl ReadyStages {
     }
 
     /// The instructions of a stage.
-    pub fn stage(&self, stage: usize) -> &[ReadyStep]
+    pub fn stage(&self, stage: usize) -> &ReadyStage
         requires { stage < length self.now }
         ensures { result.now ≡ slice_index_or self.now stage [] }
     {
-        self.items[stage].items.as_slice()
+        &self.items[stage]
+    }
+
+    /// How many results the stage has that has most of them.
+    pub fn most(&self) -> usize
+        ensures { HoldResults self.now result }
+    {
+        let mut most = 0;
+        for stage in &self.items {
+            most = stage.targets().len().max(most);
+        }
+        most
     }
 }
 
@@ -154,7 +237,12 @@ impl Resolved<'_> {
     }
 
     // The instructions of a stage by place.
-    fn stage(&self, alloc: Global, steps: &[PassStep]) -> Result<ReadyStage, NoMemory>
+    fn stage(
+        &self,
+        alloc: Global,
+        steps: &[PassStep],
+        written: &mut Written,
+    ) -> Result<ReadyStage, NoMemory>
         ensures { IfOk result (λ made. map ready_of made
             ≡ map (resolved self.now.numbering.now self.now.plan.now) (map pass_step_of steps.now)) }
     {
@@ -162,7 +250,7 @@ impl Resolved<'_> {
         for step in steps {
             items.push(self.step(alloc, step)?)?;
         }
-        Ok(ReadyStage { items })
+        ReadyStage::of(alloc, items, written)
     }
 
     // Each stage by place.
@@ -171,9 +259,10 @@ impl Resolved<'_> {
             ≡ map (λ own. map (resolved self.now.numbering.now self.now.plan.now) (map pass_step_of own)) stages.now) }
     {
         let stages = stages.as_slice();
+        let mut written = Written::new(alloc, self.plan.count())?;
         let mut items = Vec::with_capacity(alloc, stages.len())?;
         for steps in stages {
-            items.push(self.stage(alloc, steps.as_slice())?)?;
+            items.push(self.stage(alloc, steps.as_slice(), &mut written)?)?;
         }
         Ok(ReadyStages { items })
     }

@@ -1,23 +1,22 @@
-//! The calls of a switch in memory by which passes go on stage by stage.
-ghost use Rattle.std.specs.Prelude.{◌≡◌, ◌≤◌, ◌<◌, ◌∷◌, ◌==◌, ◌||◌, [], ℕ, suc, false, true, None, Some};
-ghost use Rattle.std.specs.Prelude.{length, OnOk, OnErr, IfOk, IsSome};
-ghost use Rattle.gal_io.specs.Count.{IsCountedIf};
+//! The calls of a switch in memory for packets that arrive, and for those that come down.
+ghost use Rattle.std.specs.Prelude.{◌≡◌, ◌≤◌, ◌&&◌, ℕ, suc, not, nat_lt, length, true, false, if◌then◌else◌, Some, None, IfOk, IsSome, OnErr, OnOk};
 ghost use Rattle.packet_fields.specs.Sizes.{largest_packet};
 ghost use Rattle.switch_ir.specs.Code.{Code};
-ghost use Rattle.switch_ir.specs.Port.{up_failed, noted_up, down_failed, noted_down, EndsDown, EndsUp, IsUpFrame};
-ghost use Rattle.switch_ir.specs.Port.{IsDownFrame, HasNoUpPass, HasUpPass, HasNoDownPassOf, HasDownPass};
-ghost use Rattle.switch_ir.specs.Port.{BeginsUp, StagesUp, BeginsDown, StagesDown};
-ghost use Rattle.switch_ir.specs.UnderWay.{PassState};
+ghost use Rattle.switch_ir.specs.Port.{BeginsDown, BeginsUp, EndsDown, EndsUp, PassesDown, PassesUp, StagesDown, StagesUp};
+ghost use Rattle.switch_ir.specs.Port.{HasDownPass, HasNoDownPassOf, HasNoUpPass, HasUpPass, IsDownFrame, IsHandedDown};
+ghost use Rattle.switch_ir.specs.Port.{IsNothing, IsUpFrame, OfItsParts};
+ghost use Rattle.switch_ir.specs.UnderWay.{EndsWith, HasEntered, HasGoneOn, PassState};
 ghost use Rattle.switch_ir.specs.declared.journal.Entry.TheVariants as entry;
-ghost use Rattle.switch_machine.specs.Calls.{ended};
-ghost use Rattle.switch_machine.specs.Ends.{DownPasses, UpPasses};
+ghost use Rattle.switch_machine.specs.Flights.{with_pass};
 ghost use Rattle.switch_machine.specs.Machine.{seen_of};
-ghost use Rattle.switch_machine.specs.Staging.{went, EntersUp, EntersByFrame, DownIsPlanned, GoesOnUp, GoesOnDown, IsLastUp, IsLastDown, IsLeft, UpIsPlanned};
+ghost use Rattle.switch_machine.specs.Sides.{down_of, staging, up_of, EndsOn, IsOf};
+ghost use Rattle.switch_machine.specs.Staging.{is_going_down, is_going_up, passes_at, with_entry, with_passes};
+ghost use Rattle.switch_machine.specs.Staging.{DownIsPlanned, IsLeft, Settles, UpIsPlanned};
+ghost use Rattle.switch_machine.specs.UnderWay.{Begins, Goes};
+ghost use Rattle.switch_machine.specs.declared.sides.Side.TheVariants.{Before, Behind};
 
-use crate::down::{enter_down, finish_down, go_on_down};
-use crate::flight::{flight_of, put_noted, take_out};
 use crate::machine::ModelSwitch;
-use crate::up::{enter_up, finish_up, go_on_up};
+use crate::sides::{Outcome, Side};
 use gal_io::{Bytes, NoMemory};
 use std::alloc::Global;
 use switch_ir::{DownEnd, Entry, UpEnd};
@@ -25,178 +24,211 @@ use switch_ir::{DownEnd, Entry, UpEnd};
 impl ModelSwitch {
     ghost use Rattle.switch_machine.specs.Views.{machine_of};
 
-    // The highest stage of preprocessing.
-    fn highest_up(&self) -> u32
-        requires { IsSome (machine_of self.now).code }
-        ensures { (code : Code) → (machine_of self.now).code ≡ Some code → result ≡ code.pre.highest }
-    {
-        let Some(loaded) = &self.loaded else {
-            unreachable!()
-        };
-        loaded.code.pre.highest
-    }
-
-    // The highest stage of postprocessing.
-    fn highest_down(&self) -> u32
-        requires { IsSome (machine_of self.now).code }
-        ensures { (code : Code) → (machine_of self.now).code ≡ Some code → result ≡ code.post.highest }
-    {
-        let Some(loaded) = &self.loaded else {
-            unreachable!()
-        };
-        loaded.code.post.highest
-    }
-
-    // Whether the pass over a packet that arrives fails or ends at once.
-    fn is_whole_up(&self, fails: bool) -> bool
-        requires { IsSome (machine_of self.now).code }
-        ensures { (code : Code) → (machine_of self.now).code ≡ Some code → result ≡ (fails || code.pre.highest == 0) }
-    {
-        fails || self.highest_up() == 0
-    }
-
-    // The pass over a packet that arrives, where it fails or ends at once.
-    fn begin_whole_up(
+    /// A packet arrives, where the call fails or doesn't. Its pass begins, or goes to its end at once where it is to be
+    /// `whole`.
+    pub(crate) fn try_up(
         &mut self,
         alloc: Global,
         number: u32,
         port: u8,
         packet: &[u8],
         fails: bool,
+        whole: bool,
     ) -> Result<UpEnd, NoMemory>
         requires loaded { IsSome (machine_of self.old).code }
         requires size { length packet.now ≤ largest_packet }
-        ensures passes { IfOk result (UpPasses fails) }
-        ensures frame { (code : Code) → (machine_of self.old).code ≡ Some code
-            → IfOk result (IsUpFrame code number port packet.now) }
-        ensures told { (code : Code) → (machine_of self.old).code ≡ Some code
-            → IfOk result (EndsUp code self.old.tables number (record { port = port; bytes = packet.now })) }
-        ensures ok { IfOk result (λ end. machine_of self.new ≡ ended (machine_of self.old)
-            (noted_up (λ answer. entry.BeginUp number port packet.now answer) end) (up_failed end)) }
+        requires none { whole ≡ false → HasNoUpPass (seen_of (machine_of self.old)) number }
+        ensures passes { whole ≡ true → IfOk result (λ end. PassesUp end number port packet.now
+            (seen_of (machine_of self.old)) (seen_of (machine_of self.new))) }
+        ensures begins { whole ≡ false → IfOk result (λ end. BeginsUp end number port packet.now
+            (seen_of (machine_of self.old)) (seen_of (machine_of self.new))) }
+        ensures plan { IfOk result (UpIsPlanned fails) }
+        ensures stays { IfOk result (λ end. IsLeft (machine_of self.old) (machine_of self.new)) }
         ensures err { OnErr result (machine_of self.new ≡ machine_of self.old) }
     {
-        let end = self.up_end(alloc, number, port, packet, fails)?;
+        if fails {
+            self.note_up(alloc, number, port, packet, &UpEnd::Failed, whole)?;
+            self.count_fault(true);
+            return Ok(UpEnd::Failed);
+        }
+        let outcome = self.arrive(alloc, number, port, packet, whole)?;
+        let end = outcome.up();
+        match self.note_up(alloc, number, port, packet, &end, whole) {
+            Ok(()) => Ok(end),
+            Err(failed) => {
+                self.undo(Side::Before, number, is_going_up(&end));
+                Err(failed)
+            }
+        }
+    }
+
+    // What becomes of a packet that arrives.
+    fn arrive(
+        &mut self,
+        alloc: Global,
+        number: u32,
+        port: u8,
+        packet: &[u8],
+        whole: bool,
+    ) -> Result<Outcome, NoMemory>
+        requires loaded { IsSome (machine_of self.old).code }
+        requires size { length packet.now ≤ largest_packet }
+        ensures stays { machine_of self.new
+            ≡ with_passes Before (passes_at Before (machine_of self.new)) (machine_of self.old) }
+        ensures err { OnErr result (machine_of self.new ≡ machine_of self.old) }
+        ensures begins { (code : Code) → (machine_of self.old).code ≡ Some code → IfOk result (Begins number
+            (HasEntered (staging Before code) IsNothing (record { port = port; bytes = packet.now }) (Some self.old.tables))
+            (passes_at Before (machine_of self.old)) (passes_at Before (machine_of self.new))) }
+        ensures goes { (code : Code) → (machine_of self.old).code ≡ Some code
+            → IfOk result (Goes (not whole && nat_lt 0 code.pre.highest)) }
+        ensures frame { (code : Code) → (machine_of self.old).code ≡ Some code
+            → IfOk result (λ outcome. IsUpFrame code number port packet.now (up_of outcome)) }
+        ensures told { (code : Code) → (machine_of self.old).code ≡ Some code → IfOk result (λ outcome.
+            EndsUp code self.old.tables number (record { port = port; bytes = packet.now }) (up_of outcome)) }
+    {
+        let Some(loaded) = &mut self.loaded else {
+            unreachable!()
+        };
+        self.registers = loaded.before.registers.len();
+        loaded.up(alloc, &self.tables, number, port, packet, whole)
+    }
+
+    // Notes that a packet arrived, and what became of it.
+    fn note_up(
+        &mut self,
+        alloc: Global,
+        number: u32,
+        port: u8,
+        packet: &[u8],
+        end: &UpEnd,
+        whole: bool,
+    ) -> Result<(), NoMemory>
+        ensures ok { OnOk result (machine_of self.new ≡ with_entry (if whole then entry.Up number port packet.now end.now
+            else entry.BeginUp number port packet.now end.now) (machine_of self.old)) }
+        ensures err { OnErr result (machine_of self.new ≡ machine_of self.old) }
+    {
         let packet = Bytes::from_slice(alloc, packet)?;
         let answer = end.copy(alloc)?;
+        if whole {
+            return self.note(Entry::Up {
+                number,
+                port,
+                packet,
+                answer,
+            });
+        }
         self.note(Entry::BeginUp {
             number,
             port,
             packet,
             answer,
-        })?;
-        self.count_fault(fails);
-        Ok(end)
+        })
     }
 
-    // A packet arrives whose pass has a stage above 0.
-    fn enter_arriving(
+    /// A frame comes down, where the call fails or doesn't. The pass of its packet begins, or goes to its end at once
+    /// where it is to be `whole`.
+    pub(crate) fn try_down(
         &mut self,
         alloc: Global,
-        number: u32,
-        port: u8,
-        packet: &[u8],
-    ) -> Result<(), NoMemory>
-        requires loaded { IsSome (machine_of self.old).code }
-        requires size { length packet.now ≤ largest_packet }
-        requires none { HasNoUpPass (seen_of (machine_of self.old)) number }
-        requires left { (code : Code) → (machine_of self.old).code ≡ Some code → 0 < code.pre.highest }
-        ensures ok { OnOk result (EntersUp number port packet.now (machine_of self.old) (machine_of self.new)) }
-        ensures err { OnErr result (machine_of self.new ≡ machine_of self.old) }
-    {
-        let copy = Bytes::from_slice(alloc, packet)?;
-        let Some(loaded) = &mut self.loaded else {
-            unreachable!()
-        };
-        self.registers = loaded.up.registers.len();
-        let flight = enter_up(alloc, loaded, &self.tables, port, packet)?;
-        let entry = Entry::BeginUp {
-            number,
-            port,
-            packet: copy,
-            answer: UpEnd::Going,
-        };
-        put_noted(&mut self.arriving, &mut self.journal, number, flight, entry)?;
-        Ok(())
-    }
-
-    /// A packet arrives, and its pass enters, where it fails or doesn't.
-    pub(crate) fn try_begin_up(
-        &mut self,
-        alloc: Global,
-        number: u32,
-        port: u8,
-        packet: &[u8],
+        frame: &[u8],
         fails: bool,
-    ) -> Result<UpEnd, NoMemory>
+        whole: bool,
+    ) -> Result<DownEnd, NoMemory>
         requires loaded { IsSome (machine_of self.old).code }
-        requires size { length packet.now ≤ largest_packet }
-        requires none { HasNoUpPass (seen_of (machine_of self.old)) number }
-        ensures begins { IfOk result (λ end. BeginsUp end number port packet.now (seen_of (machine_of self.old))
-            (seen_of (machine_of self.new))) }
-        ensures plan { IfOk result (UpIsPlanned fails) }
+        requires frame { IsDownFrame (seen_of (machine_of self.old)) frame.now }
+        requires none { whole ≡ false → HasNoDownPassOf (seen_of (machine_of self.old)) frame.now }
+        ensures passes { whole ≡ true → IfOk result (λ end. PassesDown end frame.now
+            (seen_of (machine_of self.old)) (seen_of (machine_of self.new))) }
+        ensures begins { whole ≡ false → IfOk result (λ end. BeginsDown end frame.now
+            (seen_of (machine_of self.old)) (seen_of (machine_of self.new))) }
+        ensures plan { IfOk result (DownIsPlanned fails) }
         ensures stays { IfOk result (λ end. IsLeft (machine_of self.old) (machine_of self.new)) }
         ensures err { OnErr result (machine_of self.new ≡ machine_of self.old) }
     {
-        if self.is_whole_up(fails) {
-            self.begin_whole_up(alloc, number, port, packet, fails)
-        } else {
-            self.enter_arriving(alloc, number, port, packet)?;
-            Ok(UpEnd::Going)
+        if fails {
+            self.note_down(alloc, frame, &DownEnd::Failed, whole)?;
+            self.count_fault(true);
+            return Ok(DownEnd::Failed);
+        }
+        let made = self.come_down(alloc, frame, whole)?;
+        let (number, outcome) = made;
+        let end = outcome.down();
+        match self.note_down(alloc, frame, &end, whole) {
+            Ok(()) => Ok(end),
+            Err(failed) => {
+                self.undo(Side::Behind, number, is_going_down(&end));
+                Err(failed)
+            }
         }
     }
 
-    // The pass over the packet of this number takes a stage that isn't its last.
-    fn go_on_arriving(&mut self, number: u32) -> Result<(), NoMemory>
-        requires pass { HasUpPass (seen_of (machine_of self.old)) number }
-        requires left { (code : Code) (pass : PassState) → (machine_of self.old).code ≡ Some code
-            → (machine_of self.old).passes.pre number ≡ Some pass → suc pass.stage < code.pre.highest }
-        ensures ok { OnOk result (GoesOnUp number (machine_of self.old) (machine_of self.new)) }
+    // What becomes of the packet of a frame that comes down, and its number.
+    fn come_down(
+        &mut self,
+        alloc: Global,
+        frame: &[u8],
+        whole: bool,
+    ) -> Result<(u32, Outcome), NoMemory>
+        requires loaded { IsSome (machine_of self.old).code }
+        requires frame { IsDownFrame (seen_of (machine_of self.old)) frame.now }
+        ensures stays { machine_of self.new
+            ≡ with_passes Behind (passes_at Behind (machine_of self.new)) (machine_of self.old) }
         ensures err { OnErr result (machine_of self.new ≡ machine_of self.old) }
+        ensures number { (code : Code) → (machine_of self.old).code ≡ Some code
+            → OfItsParts code frame.now (λ number packet values. IfOk result (λ made. made.0 ≡ number)) }
+        ensures begins { (code : Code) → (machine_of self.old).code ≡ Some code → IfOk result (λ made. Begins made.0
+            (λ pass. OfItsParts code frame.now (λ number packet values.
+            HasEntered (staging Behind code) (IsHandedDown code values packet) packet (Some self.old.tables) pass))
+            (passes_at Behind (machine_of self.old)) (passes_at Behind (machine_of self.new)) made.1) }
+        ensures goes { (code : Code) → (machine_of self.old).code ≡ Some code
+            → IfOk result (λ made. Goes (not whole && nat_lt 0 code.post.highest) made.1) }
+        ensures side { IfOk result (λ made. IsOf Behind made.1) }
+        ensures told { (code : Code) → (machine_of self.old).code ≡ Some code
+            → IfOk result (λ made. EndsDown code self.old.tables frame.now (down_of made.1)) }
     {
-        self.journal.push(Entry::StageUp {
-            number,
-            answer: UpEnd::Going,
-        })?;
         let Some(loaded) = &mut self.loaded else {
             unreachable!()
         };
-        let Some(flight) = self.arriving.get_mut(&number) else {
-            unreachable!()
-        };
-        go_on_up(loaded, &self.tables, flight);
-        Ok(())
+        self.registers = loaded.behind.registers.len();
+        loaded.down(alloc, &self.tables, frame, whole)
     }
 
-    // It takes its last stage.
-    fn end_arriving(&mut self, alloc: Global, number: u32) -> Result<UpEnd, NoMemory>
-        requires pass { HasUpPass (seen_of (machine_of self.old)) number }
-        requires last { (code : Code) (pass : PassState) → (machine_of self.old).code ≡ Some code
-            → (machine_of self.old).passes.pre number ≡ Some pass → suc pass.stage ≡ code.pre.highest }
-        ensures ok { IfOk result (IsLastUp number (machine_of self.old) (machine_of self.new)) }
+    // Notes that a frame came down, and what became of its packet.
+    fn note_down(
+        &mut self,
+        alloc: Global,
+        frame: &[u8],
+        end: &DownEnd,
+        whole: bool,
+    ) -> Result<(), NoMemory>
+        ensures ok { OnOk result (machine_of self.new ≡ with_entry (if whole then entry.Down frame.now end.now
+            else entry.BeginDown frame.now end.now) (machine_of self.old)) }
         ensures err { OnErr result (machine_of self.new ≡ machine_of self.old) }
     {
-        let Some(loaded) = &mut self.loaded else {
-            unreachable!()
-        };
-        let flight = flight_of(&self.arriving, number);
-        let end = finish_up(alloc, loaded, &self.tables, number, flight)?;
+        let frame = Bytes::from_slice(alloc, frame)?;
         let answer = end.copy(alloc)?;
-        self.journal.push(Entry::StageUp { number, answer })?;
-        take_out(&mut self.arriving, number);
-        Ok(end)
+        if whole {
+            return self.note(Entry::Down { frame, answer });
+        }
+        self.note(Entry::BeginDown { frame, answer })
     }
 
-    // Notes a call that failed, and its fault.
-    fn note_failure(&mut self, entry: Entry) -> Result<(), NoMemory>
-        ensures ok { OnOk result (machine_of self.new ≡ ended (machine_of self.old) (entry ∷ []) true) }
-        ensures err { OnErr result (machine_of self.new ≡ machine_of self.old) }
+    // Ends the pass over the packet of this number at a side, where it has begun just now.
+    fn undo(&mut self, side: Side, number: u32, begun: bool)
+        requires { IsSome (machine_of self.old).code }
+        ensures { machine_of self.new ≡ (if begun
+            then with_passes side (with_pass number None (passes_at side (machine_of self.old))) (machine_of self.old)
+            else machine_of self.old) }
     {
-        self.note(entry)?;
-        self.count_fault(true);
-        Ok(())
+        let Some(loaded) = &mut self.loaded else {
+            unreachable!()
+        };
+        if begun {
+            loaded.remove(side, number);
+        }
     }
 
-    /// The pass over the packet of this number takes a stage, where it fails or doesn't.
+    /// The pass over the packet of this number that arrived takes a stage, where it fails or doesn't.
     pub(crate) fn try_stage_up(
         &mut self,
         alloc: Global,
@@ -211,139 +243,16 @@ impl ModelSwitch {
         ensures err { OnErr result (machine_of self.new ≡ machine_of self.old) }
     {
         if fails {
-            self.note_failure(Entry::StageUp {
-                number,
-                answer: UpEnd::Failed,
-            })?;
+            let answer = UpEnd::Failed;
+            self.note(Entry::StageUp { number, answer })?;
+            self.count_fault(true);
             return Ok(UpEnd::Failed);
         }
-        let done = flight_of(&self.arriving, number).stage;
-        if self.highest_up().saturating_sub(done) > 1 {
-            self.go_on_arriving(number)?;
-            Ok(UpEnd::Going)
-        } else {
-            self.end_arriving(alloc, number)
-        }
-    }
-
-    // Whether the pass over a packet that comes down fails or ends at once.
-    fn is_whole_down(&self, fails: bool) -> bool
-        requires { IsSome (machine_of self.now).code }
-        ensures { (code : Code) → (machine_of self.now).code ≡ Some code → result ≡ (fails || code.post.highest == 0) }
-    {
-        fails || self.highest_down() == 0
-    }
-
-    // The pass over a packet that comes down, where it fails or ends at once.
-    fn begin_whole_down(
-        &mut self,
-        alloc: Global,
-        frame: &[u8],
-        fails: bool,
-    ) -> Result<DownEnd, NoMemory>
-        requires loaded { IsSome (machine_of self.old).code }
-        requires frame { IsDownFrame (seen_of (machine_of self.old)) frame.now }
-        ensures passes { IfOk result (DownPasses fails) }
-        ensures told { (code : Code) → (machine_of self.old).code ≡ Some code
-            → IfOk result (EndsDown code self.old.tables frame.now) }
-        ensures ok { IfOk result (λ end. machine_of self.new ≡ ended (machine_of self.old)
-            (noted_down (λ answer. entry.BeginDown frame.now answer) end) (down_failed end)) }
-        ensures err { OnErr result (machine_of self.new ≡ machine_of self.old) }
-    {
-        let end = self.down_end(alloc, frame, fails)?;
-        let frame = Bytes::from_slice(alloc, frame)?;
+        let outcome = self.next(alloc, Side::Before, number)?;
+        let end = outcome.up();
         let answer = end.copy(alloc)?;
-        self.note(Entry::BeginDown { frame, answer })?;
-        self.count_fault(fails);
-        Ok(end)
-    }
-
-    // A frame comes down whose packet's pass has a stage above 0.
-    fn enter_leaving(&mut self, alloc: Global, frame: &[u8]) -> Result<(), NoMemory>
-        requires loaded { IsSome (machine_of self.old).code }
-        requires frame { IsDownFrame (seen_of (machine_of self.old)) frame.now }
-        requires none { HasNoDownPassOf (seen_of (machine_of self.old)) frame.now }
-        requires left { (code : Code) → (machine_of self.old).code ≡ Some code → 0 < code.post.highest }
-        ensures ok { OnOk result (EntersByFrame frame.now (machine_of self.old) (machine_of self.new)) }
-        ensures err { OnErr result (machine_of self.new ≡ machine_of self.old) }
-    {
-        let copy = Bytes::from_slice(alloc, frame)?;
-        let Some(loaded) = &mut self.loaded else {
-            unreachable!()
-        };
-        self.registers = loaded.down.registers.len();
-        let (number, flight) = enter_down(alloc, loaded, &self.tables, frame)?;
-        let entry = Entry::BeginDown {
-            frame: copy,
-            answer: DownEnd::Going,
-        };
-        put_noted(&mut self.leaving, &mut self.journal, number, flight, entry)?;
-        Ok(())
-    }
-
-    /// A frame comes down, and the pass of its packet enters, where it fails or doesn't.
-    pub(crate) fn try_begin_down(
-        &mut self,
-        alloc: Global,
-        frame: &[u8],
-        fails: bool,
-    ) -> Result<DownEnd, NoMemory>
-        requires loaded { IsSome (machine_of self.old).code }
-        requires frame { IsDownFrame (seen_of (machine_of self.old)) frame.now }
-        requires none { HasNoDownPassOf (seen_of (machine_of self.old)) frame.now }
-        ensures begins { IfOk result (λ end. BeginsDown end frame.now (seen_of (machine_of self.old))
-            (seen_of (machine_of self.new))) }
-        ensures plan { IfOk result (DownIsPlanned fails) }
-        ensures stays { IfOk result (λ end. IsLeft (machine_of self.old) (machine_of self.new)) }
-        ensures err { OnErr result (machine_of self.new ≡ machine_of self.old) }
-    {
-        if self.is_whole_down(fails) {
-            self.begin_whole_down(alloc, frame, fails)
-        } else {
-            self.enter_leaving(alloc, frame)?;
-            Ok(DownEnd::Going)
-        }
-    }
-
-    // The pass over the packet of this number takes a stage that isn't its last.
-    fn go_on_leaving(&mut self, number: u32) -> Result<(), NoMemory>
-        requires pass { HasDownPass (seen_of (machine_of self.old)) number }
-        requires left { (code : Code) (pass : PassState) → (machine_of self.old).code ≡ Some code
-            → (machine_of self.old).passes.post number ≡ Some pass → suc pass.stage < code.post.highest }
-        ensures ok { OnOk result (GoesOnDown number (machine_of self.old) (machine_of self.new)) }
-        ensures err { OnErr result (machine_of self.new ≡ machine_of self.old) }
-    {
-        self.journal.push(Entry::StageDown {
-            number,
-            answer: DownEnd::Going,
-        })?;
-        let Some(loaded) = &mut self.loaded else {
-            unreachable!()
-        };
-        let Some(flight) = self.leaving.get_mut(&number) else {
-            unreachable!()
-        };
-        go_on_down(loaded, &self.tables, flight);
-        Ok(())
-    }
-
-    // It takes its last stage.
-    fn end_leaving(&mut self, alloc: Global, number: u32) -> Result<DownEnd, NoMemory>
-        requires pass { HasDownPass (seen_of (machine_of self.old)) number }
-        requires last { (code : Code) (pass : PassState) → (machine_of self.old).code ≡ Some code
-            → (machine_of self.old).passes.post number ≡ Some pass → suc pass.stage ≡ code.post.highest }
-        ensures ok { IfOk result (IsLastDown number (machine_of self.old) (machine_of self.new)) }
-        ensures err { OnErr result (machine_of self.new ≡ machine_of self.old) }
-    {
-        let Some(loaded) = &mut self.loaded else {
-            unreachable!()
-        };
-        let flight = flight_of(&self.leaving, number);
-        let verdict = finish_down(alloc, loaded, &self.tables, flight)?;
-        let end = DownEnd::Verdict(verdict);
-        let answer = end.copy(alloc)?;
-        self.journal.push(Entry::StageDown { number, answer })?;
-        take_out(&mut self.leaving, number);
+        self.note(Entry::StageUp { number, answer })?;
+        self.settle(Side::Before, number, is_going_up(&end));
         Ok(end)
     }
 
@@ -362,18 +271,80 @@ impl ModelSwitch {
         ensures err { OnErr result (machine_of self.new ≡ machine_of self.old) }
     {
         if fails {
-            self.note_failure(Entry::StageDown {
-                number,
-                answer: DownEnd::Failed,
-            })?;
+            let answer = DownEnd::Failed;
+            self.note(Entry::StageDown { number, answer })?;
+            self.count_fault(true);
             return Ok(DownEnd::Failed);
         }
-        let done = flight_of(&self.leaving, number).stage;
-        if self.highest_down().saturating_sub(done) > 1 {
-            self.go_on_leaving(number)?;
-            Ok(DownEnd::Going)
+        let outcome = self.next(alloc, Side::Behind, number)?;
+        let end = outcome.down();
+        let answer = end.copy(alloc)?;
+        self.note(Entry::StageDown { number, answer })?;
+        self.settle(Side::Behind, number, is_going_down(&end));
+        Ok(end)
+    }
+
+    // What the next stage makes of the pass over the packet of this number at a side.
+    fn next(&mut self, alloc: Global, side: Side, number: u32) -> Result<Outcome, NoMemory>
+        requires { IsSome (passes_at side (machine_of self.old) number) }
+        ensures kept { machine_of self.new ≡ machine_of self.old }
+        ensures goes { (code : Code) (before : PassState) → (machine_of self.old).code ≡ Some code
+            → passes_at side (machine_of self.old) number ≡ Some before
+            → IfOk result (Goes (nat_lt (suc before.stage) (staging side code).code.highest)) }
+        ensures side { IfOk result (IsOf side) }
+        ensures frame { (code : Code) (before : PassState) → (machine_of self.old).code ≡ Some code
+            → passes_at side (machine_of self.old) number ≡ Some before → IfOk result (λ outcome.
+            IsUpFrame code number before.packet.port before.packet.bytes (up_of outcome)) }
+        ensures ends { (code : Code) (before : PassState) → (machine_of self.old).code ≡ Some code
+            → passes_at side (machine_of self.old) number ≡ Some before
+            → IfOk result (λ outcome. EndsWith (staging side code) (Some self.old.tables) before
+            (λ reads. EndsOn side code reads number before.packet outcome)) }
+    {
+        let Some(loaded) = &mut self.loaded else {
+            unreachable!()
+        };
+        loaded.next(alloc, side, &self.tables, number)
+    }
+
+    // The pass over the packet of this number at a side takes a stage that isn't its last, or is under way no longer.
+    fn settle(&mut self, side: Side, number: u32, goes_on: bool)
+        requires there { IsSome (passes_at side (machine_of self.old) number) }
+        requires left { goes_on ≡ true → (code : Code) (before : PassState) → (machine_of self.old).code ≡ Some code
+            → passes_at side (machine_of self.old) number ≡ Some before
+            → nat_lt (suc before.stage) (staging side code).code.highest ≡ true }
+        ensures stays { machine_of self.new
+            ≡ with_passes side (passes_at side (machine_of self.new)) (machine_of self.old) }
+        ensures settles { (code : Code) → (machine_of self.old).code ≡ Some code → Settles goes_on number
+            (λ pass. (before : PassState) → passes_at side (machine_of self.old) number ≡ Some before
+            → HasGoneOn (staging side code) (Some self.old.tables) before pass)
+            (passes_at side (machine_of self.old)) (passes_at side (machine_of self.new)) }
+    {
+        let Some(loaded) = &mut self.loaded else {
+            unreachable!()
+        };
+        if goes_on {
+            loaded.go_on(side, &self.tables, number);
         } else {
-            self.end_leaving(alloc, number)
+            loaded.remove(side, number);
         }
+    }
+}
+
+// Whether a pass has stages left.
+fn is_going_up(end: &UpEnd) -> bool
+    ensures { result ≡ is_going_up end.now }
+{
+    match end {
+        UpEnd::Going => true,
+        UpEnd::Finished(_) | UpEnd::Up(_) | UpEnd::Failed | UpEnd::NoMemory => false,
+    }
+}
+
+fn is_going_down(end: &DownEnd) -> bool
+    ensures { result ≡ is_going_down end.now }
+{
+    match end {
+        DownEnd::Going => true,
+        DownEnd::Verdict(_) | DownEnd::Failed | DownEnd::NoMemory => false,
     }
 }

@@ -14,6 +14,6 @@ loop-place-preserved c =
     let numbers = c.as_slice-numbers.result.now in
     let p = c.loop-place.place in
     let inside : p < length numbers = let e = ap length c.as_slice-numbers.ensures.numbers in let t = c.loop-place-test.true in let l = c.len-place-end.ensures.len in omega arith in
-    let same : length c.args.to.now.numbers ≡ length numbers = c.requires.count ∙ sym (ap length c.as_slice-numbers.ensures.numbers) in
+    let same : length c.args.to.now.numbers ≡ length numbers = c.requires ∙ sym (ap length c.as_slice-numbers.ensures.numbers) in
     c.set_at.ensures ∙ ap (λ (r : Registers). placed r p (slice_index numbers p)) c.loop-place.invariant
     ∙ ap (λ l. record { plan = c.args.to.now.plan; numbers = l }) (put_next numbers c.args.to.now.numbers p inside same)

@@ -13,6 +13,4 @@ invariant_of-self c =
     record {
       safe = subst (AreSafe loaded) (sym c.apply.ensures)
           (safe_after loaded tables command (command_of loaded command c.requires) c.args.self.now.safe);
-      up = c.args.self.now.up;
-      down = c.args.self.now.down;
     }

@@ -1,9 +1,10 @@
 use Rattle.std.proofs.Common.{ap, subst, sym}
 use Rattle.switch_ir.specs.Port.{StagesDown, HasDownPass, PortState}
 use Rattle.switch_ir.specs.declared.port.DownEnd.TheVariants.{NoMemory}
-use Rattle.switch_machine.specs.Machine.{seen_of}
+use Rattle.switch_machine.specs.Machine.{seen_of, MachineState}
 use Rattle.switch_machine.specs.Views.{machine_of}
-use Rattle.switch_machine.proofs.StagedCalls.{stages_none_down}
+use Rattle.switch_machine.proofs.Machines.{after_none}
+use Rattle.switch_machine.proofs.Telling.{stages_down_none}
 use Rattle.switch_machine.proofs.machine.ModelSwitchSwitchPort.stage_down.Goals as goal
 
 pub returns-in-Ok-clause-stages : goal.returns-in-Ok-clause-stages
@@ -21,4 +22,4 @@ returns-in-Err-clause-stages c =
     let old = machine_of c.is_to_fail-fails.new.self in
     let new = machine_of c.try_stage_down.new.self in
     subst (λ (state : PortState). StagesDown NoMemory c.args.number state (seen_of new)) (ap seen_of c.is_to_fail-fails.ensures.counted)
-    (stages_none_down c.args.number old new c.in-Err.ensures.err)
+    (stages_down_none c.args.number old new (after_none old new c.in-Err.ensures.err) (ap (λ (m : MachineState). m.passes) c.in-Err.ensures.err))

@@ -1,0 +1,105 @@
+-- What becomes of packets at both sides, once their passes are computed.
+use Rattle.std.proofs.Common.{◌≡◌, ◌∙◌, ◌++◌, ℕ, Bool, true, false, List, refl, sym, ap, subst}
+use Rattle.std.specs.List.{list_any, AllByRecursion as Each}
+use Rattle.std.proofs.lemmas.Bool.{true≢false}
+use Rattle.packet_fields.specs.declared.packet.Packet.{Packet}
+use Rattle.packet_fields.specs.declared.verdict.Verdict.{Verdict as Verdicts}
+use Rattle.flat_ir.specs.declared.program.Block.{Block}
+use Rattle.flat_ir.specs.declared.program.Out.{Out}
+use Rattle.flat_ir.specs.Blocks.{Reading, is_live, line}
+use Rattle.flat_ir.specs.Laws.{Same}
+use Rattle.flat_ir.specs.Program.{Program}
+use Rattle.flat_ir.specs.Run.{sent}
+use Rattle.flat_ir.specs.WellFormed.{EachCondition}
+use Rattle.flat_ir.specs.Writable.{IsWritable}
+use Rattle.transfer_header.specs.Frames.{up_frame}
+use Rattle.transfer_header.specs.Registers.{content_of, FitsLayout, Holds, Registers}
+use Rattle.switch_ir.specs.declared.code.SwitchCode.{SwitchCode}
+use Rattle.switch_ir.specs.Code.{code_of, Code}
+use Rattle.switch_ir.specs.Meaning.{leaves}
+use Rattle.switch_ir.specs.Sound.{CanBeRun}
+use Rattle.switch_machine.specs.declared.numbering.ValueRange.{ValueRange}
+use Rattle.switch_machine.specs.declared.sides.Outcome.{Outcome}
+use Rattle.switch_machine.specs.declared.sides.Outcome.TheVariants.{Going, Up, Verdict}
+use Rattle.switch_machine.specs.declared.sides.Side.{Side}
+use Rattle.switch_machine.specs.declared.sides.Side.TheVariants.{Before, Behind}
+use Rattle.switch_machine.specs.Keeping.{kept, left_with, lines_of, values_in}
+use Rattle.switch_machine.specs.Numbers.{reads_by, AreHeld}
+use Rattle.switch_machine.specs.Sides.{of_side, staging, EndsOn, HasEnded, IsOf}
+use Rattle.switch_machine.specs.UnderWay.{leaves_on, Goes}
+use Rattle.switch_machine.specs.Workplaces.{IsReadyFor}
+use Rattle.switch_machine.proofs.GoingUp.{up_holds}
+use Rattle.switch_machine.proofs.SettingUp.{alike_left, alike_right, sent_same, tested_same}
+
+-- only before the server work is left, and packets go up
+pub fits_on : (side : Side) (code : Code) (ranges : List ValueRange) (registers : Registers) (reads : Reading) → IsReadyFor code side ranges registers
+    → leaves_on side code reads ≡ true → (IsReadyFor code Before ranges registers → FitsLayout code.up registers) → FitsLayout code.up registers
+fits_on Before code ranges registers reads ready left fits = fits ready
+fits_on Behind code ranges registers reads ready left fits = absurd (true≢false (sym left))
+
+pub up_is_of : (side : Side) (code : Code) (reads : Reading) (frame : List ℕ) → leaves_on side code reads ≡ true → IsOf side (Up frame)
+up_is_of Before code reads frame left = tt
+up_is_of Behind code reads frame left = absurd (true≢false (sym left))
+
+pub verdict_is_of : (side : Side) (verdict : Verdicts) → IsOf side (Verdict verdict)
+verdict_is_of Before verdict = tt
+verdict_is_of Behind verdict = tt
+
+pub going_is_of : (side : Side) → IsOf side Going
+going_is_of Before = tt
+going_is_of Behind = tt
+
+pub going_ends : (side : Side) (code : Code) (reads : Reading) (number : ℕ) (packet : Packet) → EndsOn side code reads number packet Going
+going_ends Before code reads number packet = tt
+going_ends Behind code reads number packet = tt
+
+-- what decides on a packet
+pub writable_on : (side : Side) (c : SwitchCode) (out : Out) → out ≡ of_side side c.pre.out c.post.out → CanBeRun (code_of c) → Each IsWritable out.fields.items
+writable_on Before c out is can = subst (λ (o : Out). Each IsWritable o.fields.items) (sym is) can.pre_fields
+writable_on Behind c out is can = subst (λ (o : Out). Each IsWritable o.fields.items) (sym is) can.post_fields
+
+pub sent_on : (side : Side) (c : SwitchCode) (out : Out) → out ≡ of_side side c.pre.out c.post.out → (reads : Reading) (packet : Packet)
+    → sent out.send out.port out.fields.items reads packet ≡ leaves (staging side (code_of c)).code reads packet
+sent_on Before c out is reads packet = ap (λ (o : Out). sent o.send o.port o.fields.items reads packet) is
+sent_on Behind c out is reads packet = ap (λ (o : Out). sent o.send o.port o.fields.items reads packet) is
+
+module _ (live : (r r' : Reading) (f : Program) (k : ℕ) → Each (EachCondition f (Same r r')) (line f.blocks k) → is_live f.blocks r k ≡ is_live f.blocks r' k)
+    (code : Code) (ranges : List ValueRange) (registers : Registers) where
+  abbrev now : Reading
+  now = reads_by ranges (content_of registers)
+
+  tested : (reads : Reading) → AreHeld ranges registers reads (kept (staging Before code))
+      → list_any (is_live code.pre.blocks now) code.pre.rest ≡ list_any (is_live code.pre.blocks reads) code.pre.rest
+  tested reads same =
+      let lines = lines_of code.pre.blocks code.pre.rest in
+      tested_same now reads code.pre.blocks (live now reads) code.pre.rest
+      (alike_left now reads lines (left_with code.pre) (alike_right now reads (values_in code.up) (lines ++ left_with code.pre) same))
+
+  pub ends_up_on : (side : Side) → IsReadyFor code side ranges registers → leaves_on side code now ≡ true → (number : ℕ) (packet : Packet) (frame : List ℕ)
+      → ((reads : Reading) → Holds code.up registers reads → frame ≡ up_frame code.up number packet.port reads packet.bytes)
+      → (reads : Reading) → AreHeld ranges registers reads (kept (staging side code)) → EndsOn side code reads number packet (Up frame)
+  ends_up_on Behind ready left number packet frame packed reads same = absurd (true≢false (sym left))
+  ends_up_on Before ready left number packet frame packed reads same = (
+    sym (tested reads same) ∙ left,
+    packed reads (up_holds code ready.can ready.ordered ready.few ranges ready.are registers reads
+        (alike_left now reads (values_in code.up) (lines_of code.pre.blocks code.pre.rest ++ left_with code.pre) same)),
+  )
+
+  pub ends_on : (side : Side) → leaves_on side code now ≡ false → (number : ℕ) (packet : Packet) (verdict : Verdicts)
+      → verdict ≡ leaves (staging side code).code now packet
+      → (reads : Reading) → AreHeld ranges registers reads (kept (staging side code)) → EndsOn side code reads number packet (Verdict verdict)
+  ends_on Before left number packet verdict is reads same =
+      let lines = lines_of code.pre.blocks code.pre.rest in (
+        sym (tested reads same) ∙ left,
+        is ∙ sent_same now reads code.pre packet
+            (alike_right now reads lines (left_with code.pre) (alike_right now reads (values_in code.up) (lines ++ left_with code.pre) same)),
+      )
+  ends_on Behind left number packet verdict is reads same =
+      let lines = lines_of code.post.blocks code.post.rest in
+      is ∙ sent_same now reads code.post packet (alike_right now reads lines (left_with code.post) same)
+
+-- a pass that has ended has no stages left
+pub ended_goes : (outcome : Outcome) → HasEnded outcome → (left : Bool) → left ≡ false → Goes left outcome
+ended_goes Going h left none = absurd h
+ended_goes (Up frame) h left none = none
+ended_goes (Verdict verdict) h left none = none

@@ -1,0 +1,210 @@
+-- Results that wait until their stage is computed, and results that go into their registers at once.
+use Rattle.std.proofs.Common.{◌≡◌, ◌∙◌, ◌⊎◌, inl, inr, ◌<◌, ◌≤◌, ◌+◌, ◌++◌, ◌==◌, ◌||◌, ℕ, zero, suc, Bool, true, false, List, [], ◌∷◌, length, map, take, drop, refl, sym, ap, subst, add-one, arith, get_or, append_assoc, append-nil}
+use Rattle.std.specs.List.{list_any, AllByRecursion as Each}
+use Rattle.std.specs.Prelude.{slice_index, slice_index_or}
+use Rattle.std.proofs.lemmas.Bool.{cases_eq, eq-eqb, true≢false}
+use Rattle.std.proofs.lemmas.List.{get_or_past, get_or-set_other, length-append, length-map, map-append, take_all, take_more}
+use Rattle.std.proofs.lemmas.List.Folds.{list_any-append}
+use Rattle.packet_fields.specs.declared.packet.Packet.{Packet}
+use Rattle.state_store.specs.Store.{Store}
+use Rattle.flat_ir.specs.declared.program.ValueId.{ValueId}
+use Rattle.flat_ir.specs.Blocks.{Reading}
+use Rattle.flat_ir.specs.Laws.{Same}
+use Rattle.flat_ir.specs.Program.{Work, operands, work_of}
+use Rattle.flat_ir.specs.Run.{results}
+use Rattle.transfer_header.specs.Registers.{placed, Registers}
+use Rattle.transfer_header.specs.Steps.{is_among}
+use Rattle.switch_machine.specs.declared.ready.ReadyStep.{ReadyStep}
+use Rattle.switch_machine.specs.Ready.{all_placed, first_placed, only_numbers, paired, placed_gives, places_of, reads_at, ready_at, ready_gives, ready_of, targets_of, IsDirect, Ready}
+use Rattle.switch_machine.proofs.Each.{each_weaker}
+use Rattle.switch_machine.proofs.Lists.{ahead, none_ahead}
+use Rattle.switch_machine.proofs.PlacedSteps.{placed_behind}
+
+-- ## Results that wait
+
+paired_again : (ps : List (ℕ × ℕ)) → paired (map (λ (p : ℕ × ℕ). p.0) ps) (only_numbers ps) ≡ ps
+paired_again [] = refl
+paired_again (p ∷ ps) = ap (λ (rest : List (ℕ × ℕ)). p ∷ rest) (paired_again ps)
+
+places_first : (places given : List ℕ) (k : ℕ) → k ≤ length places → map (λ (p : ℕ × ℕ). p.0) (first_placed places given k) ≡ take k places
+places_first places given zero le = refl
+places_first places given (suc k) le =
+    map-append (λ (p : ℕ × ℕ). p.0) (first_placed places given k) ((slice_index places k, slice_index given k) ∷ [])
+    ∙ ap (λ (ps : List ℕ). ps ++ slice_index places k ∷ []) (places_first places given k (omega (arith, le)))
+    ∙ sym (take_more places k 0 (omega (arith, le))) ∙ ap (λ n. take n places) (add-one k)
+
+places_are : (places given : List ℕ) → map (λ (p : ℕ × ℕ). p.0) (placed_gives places given) ≡ places
+places_are places given = places_first places given (length places) (omega arith) ∙ take_all (length places) places (omega arith)
+
+-- what instructions give has their places
+targets_are : (rs : List Ready) (reads : Reading) (tables : Store) (packet : Packet)
+    → map (λ (p : ℕ × ℕ). p.0) (ready_gives rs reads tables packet) ≡ targets_of rs
+targets_are [] reads tables packet = refl
+targets_are (r ∷ rs) reads tables packet =
+    let given = results reads false tables packet r.work in
+    let rest = ready_gives rs reads tables packet in
+    map-append (λ (p : ℕ × ℕ). p.0) (placed_gives r.places given) rest
+    ∙ ap (λ (ps : List ℕ). ps ++ map (λ (p : ℕ × ℕ). p.0) rest) (places_are r.places given)
+    ∙ ap (λ (ps : List ℕ). r.places ++ ps) (targets_are rs reads tables packet)
+
+-- as many numbers wait as there are places
+pub numbers_count : (rs : List Ready) (reads : Reading) (tables : Store) (packet : Packet)
+    → length (only_numbers (ready_gives rs reads tables packet)) ≡ length (targets_of rs)
+numbers_count rs reads tables packet =
+    let gives = ready_gives rs reads tables packet in
+    length-map gives (λ (p : ℕ × ℕ). p.1) ∙ sym (length-map gives (λ (p : ℕ × ℕ). p.0)) ∙ ap length (targets_are rs reads tables packet)
+
+-- they go into their registers
+pub waiting_are : (rs : List Ready) (reads : Reading) (tables : Store) (packet : Packet) (places numbers : List ℕ) → places ≡ targets_of rs
+    → numbers ≡ only_numbers (ready_gives rs reads tables packet) → paired places numbers ≡ ready_gives rs reads tables packet
+waiting_are rs reads tables packet places numbers at is =
+    ap (λ (ps : List ℕ). paired ps numbers) (at ∙ sym (targets_are rs reads tables packet))
+    ∙ ap (paired (map (λ (p : ℕ × ℕ). p.0) (ready_gives rs reads tables packet))) is
+    ∙ paired_again (ready_gives rs reads tables packet)
+
+-- one result more waits
+pub push_more : (places given : List ℕ) (k : ℕ) (start before after : List ℕ) (number : ℕ) → before ≡ start ++ only_numbers (first_placed places given k)
+    → after ≡ before ++ number ∷ [] → number ≡ slice_index given k → after ≡ start ++ only_numbers (first_placed places given (k + 1))
+push_more places given k start before after number is more so =
+    more ∙ ap (λ (ns : List ℕ). ns ++ number ∷ []) is
+    ∙ ap (λ (n : ℕ). (start ++ only_numbers (first_placed places given k)) ++ n ∷ []) so
+    ∙ append_assoc start (only_numbers (first_placed places given k)) (slice_index given k ∷ [])
+    ∙ ap (λ (ns : List ℕ). start ++ ns) (sym (map-append (λ (p : ℕ × ℕ). p.1) (first_placed places given k) ((slice_index places k, slice_index given k) ∷ [])))
+    ∙ ap (λ (m : ℕ). start ++ only_numbers (first_placed places given m)) (sym (add-one k))
+
+-- those of one instruction more wait
+pub collect_more : (reads : Reading) (tables : Store) (packet : Packet) (steps : List ReadyStep) (i : ℕ) (s : ReadyStep) (before after total : List ℕ)
+    → i < length steps → s ≡ get_or steps i s
+    → after ≡ before ++ only_numbers (placed_gives (places_of s.places) (results reads false tables packet (work_of s.kind)))
+    → before ++ only_numbers (ready_gives (map ready_of (drop i steps)) reads tables packet) ≡ total
+    → after ++ only_numbers (ready_gives (map ready_of (drop (i + 1) steps)) reads tables packet) ≡ total
+collect_more reads tables packet steps i s before after total lt is more so =
+    let one = placed_gives (places_of s.places) (results reads false tables packet (work_of s.kind)) in
+    let rest = ready_gives (map ready_of (drop (i + 1) steps)) reads tables packet in
+    ap (λ (ns : List ℕ). ns ++ only_numbers rest) more
+    ∙ append_assoc before (only_numbers one) (only_numbers rest)
+    ∙ ap (λ (ns : List ℕ). before ++ ns) (sym (map-append (λ (p : ℕ × ℕ). p.1) one rest))
+    ∙ ap (λ (ss : List ReadyStep). before ++ only_numbers (ready_gives (map ready_of ss) reads tables packet)) (sym (ahead steps i s lt is))
+    ∙ so
+
+pub collect_all : (reads : Reading) (tables : Store) (packet : Packet) (steps : List ReadyStep) (i : ℕ) (now total : List ℕ) → length steps ≤ i
+    → now ++ only_numbers (ready_gives (map ready_of (drop i steps)) reads tables packet) ≡ total → now ≡ total
+collect_all reads tables packet steps i now total le so =
+    sym (append-nil now)
+    ∙ ap (λ (ss : List ReadyStep). now ++ only_numbers (ready_gives (map ready_of ss) reads tables packet)) (sym (none_ahead steps i le))
+    ∙ so
+
+-- there is room for those of the next
+pub room_more : (steps : List ReadyStep) (i : ℕ) (s : ReadyStep) → i < length steps → s ≡ get_or steps i s
+    → length (targets_of (map ready_of (drop i steps))) ≡ length (places_of s.places) + length (targets_of (map ready_of (drop (i + 1) steps)))
+room_more steps i s lt is =
+    ap (λ (ss : List ReadyStep). length (targets_of (map ready_of ss))) (ahead steps i s lt is)
+    ∙ length-append (places_of s.places) (targets_of (map ready_of (drop (i + 1) steps)))
+
+-- the places of one instruction more
+pub targets_more : (steps : List ReadyStep) (i : ℕ) (s : ReadyStep) (before after total : List ℕ) → i < length steps → s ≡ get_or steps i s
+    → after ≡ before ++ places_of s.places → before ++ targets_of (map ready_of (drop i steps)) ≡ total
+    → after ++ targets_of (map ready_of (drop (i + 1) steps)) ≡ total
+targets_more steps i s before after total lt is more so =
+    let rest = targets_of (map ready_of (drop (i + 1) steps)) in
+    ap (λ (ns : List ℕ). ns ++ rest) more ∙ append_assoc before (places_of s.places) rest
+    ∙ ap (λ (ss : List ReadyStep). before ++ targets_of (map ready_of ss)) (sym (ahead steps i s lt is)) ∙ so
+
+pub targets_all : (steps : List ReadyStep) (i : ℕ) (now total : List ℕ) → length steps ≤ i
+    → now ++ targets_of (map ready_of (drop i steps)) ≡ total → now ≡ total
+targets_all steps i now total le so =
+    sym (append-nil now) ∙ ap (λ (ss : List ReadyStep). now ++ targets_of (map ready_of ss)) (sym (none_ahead steps i le)) ∙ so
+
+-- no stage so far has more results
+pub most_more : (stages : List (List ReadyStep)) (i : ℕ) (own : List ReadyStep) (most more : ℕ) → own ≡ get_or stages i own → i < length stages
+    → ((t : ℕ) → t < i → length (targets_of (ready_at stages t)) ≤ most) → length (targets_of (map ready_of own)) ≤ more → most ≤ more
+    → (t : ℕ) → t < i + 1 → length (targets_of (ready_at stages t)) ≤ more
+most_more stages i own most more is lt before here grows t below = elim (cases_eq t i) [
+  | inl same ↦ subst (λ n. length (targets_of (ready_at stages n)) ≤ more) (sym same)
+      (subst (λ (ss : List ReadyStep). length (targets_of (map ready_of ss)) ≤ more) (own_is stages i lt is) here)
+  | inr other ↦ (let h = before t (omega (arith, below, other)) in omega (arith, h, grows))
+]
+  where
+    own_is : (all : List (List ReadyStep)) (j : ℕ) → j < length all → own ≡ get_or all j own → own ≡ slice_index_or all j []
+    own_is [] j under e = absurd (omega (arith, under))
+    own_is (x ∷ xs) zero under e = e
+    own_is (x ∷ xs) (suc j) under e = own_is xs j (omega (arith, under)) e
+
+pub most_all : (stages : List (List ReadyStep)) (most : ℕ) → ((t : ℕ) → t < length stages → length (targets_of (ready_at stages t)) ≤ most)
+    → (t : ℕ) → length (targets_of (ready_at stages t)) ≤ most
+most_all stages most below t = go (cases_below t (length stages))
+  where
+    cases_below : (m n : ℕ) → (m < n) ⊎ (n ≤ m)
+    cases_below m zero = inr (omega arith)
+    cases_below zero (suc n) = inl (omega arith)
+    cases_below (suc m) (suc n) = elim (cases_below m n) [
+      | inl lt ↦ inl (omega (arith, lt))
+      | inr le ↦ inr (omega (arith, le))
+    ]
+
+    go : (t < length stages) ⊎ (length stages ≤ t) → length (targets_of (ready_at stages t)) ≤ most
+    go (inl lt) = below t lt
+    go (inr le) = subst (λ (ss : List ReadyStep). length (targets_of (map ready_of ss)) ≤ most) (sym (get_or_past stages t [] le)) (omega arith)
+
+-- ## Results that go into their registers at once
+
+neither : (a b : Bool) → (a || b) ≡ false → (a ≡ false) × (b ≡ false)
+neither true b e = absurd (true≢false e)
+neither false b e = (refl, e)
+
+-- what is written elsewhere stays
+other_stays : (registers : Registers) (pairs : List (ℕ × ℕ)) (place : ℕ) → is_among place (map (λ (p : ℕ × ℕ). p.0) pairs) ≡ false
+    → slice_index (all_placed registers pairs).numbers place ≡ slice_index registers.numbers place
+other_stays registers [] place none = refl
+other_stays registers (p ∷ ps) place none =
+    let parts = neither (p.0 == place) (is_among place (map (λ (q : ℕ × ℕ). q.0) ps)) none in
+    other_stays (placed registers p.0 p.1) ps place parts.1
+    ∙ get_or-set_other registers.numbers p.0 place p.1 0 (λ same. true≢false (sym (eq-eqb p.0 place (sym same)) ∙ parts.0))
+
+module _ (tables : Store) (packet : Packet) where
+  -- the registers while a stage writes them at once: what none of its instructions wrote so far is as it was
+  pub record StandsDirectly (rest : List Ready) (start now total : Registers) : Type 0 where
+    pub written : List ℕ
+    pub direct : IsDirect written rest
+    pub others : (place : ℕ) → is_among place written ≡ false → slice_index now.numbers place ≡ slice_index start.numbers place
+    pub gives : all_placed now (ready_gives rest (reads_at start.numbers) tables packet) ≡ total
+
+  pub direct_first : (rest : List Ready) (start : Registers) → IsDirect [] rest
+      → StandsDirectly rest start start (all_placed start (ready_gives rest (reads_at start.numbers) tables packet))
+  direct_first rest start direct = record { written = []; direct = direct; others = λ place none. refl; gives = refl }
+
+  pub direct_more : ((r r' : Reading) (work : Work) → Each (Same r r') (operands work) → results r false tables packet work ≡ results r' false tables packet work)
+      → (steps : List ReadyStep) (i : ℕ) (s : ReadyStep) (start before after total : Registers) → i < length steps → s ≡ get_or steps i s
+      → StandsDirectly (map ready_of (drop i steps)) start before total
+      → after ≡ all_placed before (placed_gives (places_of s.places) (results (reads_at before.numbers) false tables packet (work_of s.kind)))
+      → StandsDirectly (map ready_of (drop (i + 1) steps)) start after total
+  direct_more agree steps i s start before after total lt is at more =
+      let later = map ready_of (drop (i + 1) steps) in
+      let ahead_is = ap (map ready_of) (ahead steps i s lt is) in
+      let direct = subst (IsDirect at.written) ahead_is at.direct in
+      let places = places_of s.places in
+      let own = results (reads_at before.numbers) false tables packet (work_of s.kind) in
+      let same = agree (reads_at before.numbers) (reads_at start.numbers) (work_of s.kind)
+      (each_weaker (λ (v : ValueId). is_among v.instruction at.written ≡ false) (Same (reads_at before.numbers) (reads_at start.numbers))
+      (λ v apart. at.others v.instruction apart) (operands (work_of s.kind)) direct.0) in
+      record {
+        written = at.written ++ places;
+        direct = direct.1;
+        others = λ place none.
+            let parts = neither (is_among place at.written) (is_among place places) (sym (list_any-append (λ v. v == place) at.written places) ∙ none) in
+            ap (λ (rs : Registers). slice_index rs.numbers place) more
+            ∙ other_stays before (placed_gives places own) place (ap (is_among place) (places_are places own) ∙ parts.1)
+            ∙ at.others place parts.0;
+        gives =
+            ap (λ (rs : Registers). all_placed rs (ready_gives later (reads_at start.numbers) tables packet)) more
+            ∙ ap (λ (ns : List ℕ). all_placed (all_placed before (placed_gives places ns)) (ready_gives later (reads_at start.numbers) tables packet)) same
+            ∙ sym (placed_behind before (placed_gives places (results (reads_at start.numbers) false tables packet (work_of s.kind)))
+            (ready_gives later (reads_at start.numbers) tables packet))
+            ∙ ap (λ (rs : List Ready). all_placed before (ready_gives rs (reads_at start.numbers) tables packet)) (sym ahead_is)
+            ∙ at.gives;
+      }
+
+  pub direct_all : (steps : List ReadyStep) (i : ℕ) (start now total : Registers) → length steps ≤ i
+      → StandsDirectly (map ready_of (drop i steps)) start now total → now ≡ total
+  direct_all steps i start now total le at =
+      ap (λ (ss : List ReadyStep). all_placed now (ready_gives (map ready_of ss) (reads_at start.numbers) tables packet)) (sym (none_ahead steps i le)) ∙ at.gives

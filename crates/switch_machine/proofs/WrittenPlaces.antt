@@ -1,0 +1,102 @@
+-- Places that a stage has written so far.
+use Rattle.std.proofs.Common.{◌≡◌, ◌∙◌, ◌⊎◌, inl, inr, ◌<◌, ◌≤◌, ◌+◌, ◌++◌, ◌==◌, ◌||◌, ℕ, zero, suc, Bool, true, false, List, [], ◌∷◌, length, map, drop, take, Some, refl, sym, ap, subst, arith, get_or, set, append_assoc, append-nil}
+use Rattle.std.specs.List.{list_any, AllByRecursion as Each}
+use Rattle.std.specs.Prelude.{slice_get, slice_index}
+use Rattle.std.proofs.lemmas.Bool.{cases_Bool, cases_eq, eq-eqb, eqb-true, true≢false}
+use Rattle.std.proofs.lemmas.List.{get_or-set_same, get_or-set_other, length-set, take_more}
+use Rattle.std.proofs.lemmas.List.Folds.{list_any-append}
+use Rattle.std.proofs.lemmas.Option.{same_Some}
+use Rattle.flat_ir.specs.declared.program.ValueId.{ValueId}
+use Rattle.flat_ir.specs.Program.{operands, work_of}
+use Rattle.transfer_header.specs.Steps.{is_among}
+use Rattle.switch_machine.specs.declared.ready.ReadyStep.{ReadyStep}
+use Rattle.switch_machine.specs.declared.written.Written.{Written}
+use Rattle.switch_machine.specs.Ready.{places_of, ready_of, IsDirect}
+use Rattle.switch_machine.specs.Written.{Marks}
+use Rattle.switch_machine.proofs.Lists.{ahead, none_ahead}
+
+-- none at first
+pub none_marked : (w : Written) → Marks [] w
+none_marked w p there lt = absurd (true≢false (sym there))
+
+-- a place without the stamp is not among them
+pub not_marked : (w : Written) (place : ℕ) → place < length w.stamps.items → (slice_index w.stamps.items place == w.stamp) ≡ false
+    → (places : List ℕ) → Marks places w → is_among place places ≡ false
+not_marked w place lt unstamped places marks = elim (cases_Bool (is_among place places)) [
+  | inr out ↦ out
+  | inl there ↦ absurd (true≢false (sym (eq-eqb (slice_index w.stamps.items place) w.stamp (marks place there lt)) ∙ unstamped))
+]
+
+-- one place more has it
+pub marked_more : (old new : Written) (place : ℕ) → new.stamp ≡ old.stamp → new.stamps.items ≡ set old.stamps.items place old.stamp
+    → (before : List ℕ) → Marks before old → Marks (before ++ place ∷ []) new
+marked_more old new place stamp items before marks p there lt =
+    let under : p < length old.stamps.items = omega (arith, lt, ap length items, length-set old.stamps.items place old.stamp) in
+    ap (λ (ns : List ℕ). slice_index ns p) items ∙ go (cases_eq p place) under ∙ sym stamp
+  where
+    or_false : (b : Bool) → (b || false) ≡ b
+    or_false true = refl
+    or_false false = refl
+
+    earlier : (p ≡ place → ⊥) → is_among p before ≡ true
+    earlier other = elim (cases_Bool (is_among p before)) [
+      | inl among ↦ among
+      | inr apart ↦ (
+          let e : (place == p) ≡ true =
+          sym (or_false (place == p)) ∙ sym (ap (λ b. b || ((place == p) || false)) apart) ∙ sym (list_any-append (λ v. v == p) before (place ∷ [])) ∙ there in
+          absurd (other (sym (eqb-true place p e)))
+          )
+    ]
+
+    go : (p ≡ place) ⊎ (p ≡ place → ⊥) → p < length old.stamps.items → slice_index (set old.stamps.items place old.stamp) p ≡ old.stamp
+    go (inl same) under =
+        ap (slice_index (set old.stamps.items place old.stamp)) same
+        ∙ get_or-set_same old.stamps.items place old.stamp 0 (subst (λ n. n < length old.stamps.items) same under)
+    go (inr other) under = get_or-set_other old.stamps.items place p old.stamp 0 other ∙ marks p (earlier other) under
+
+-- ## What an instruction reads
+
+pub read_more : (P : ValueId → Type 0) (xs : List ValueId) (i : ℕ) (v : ValueId) → ((k : ℕ) (u : ValueId) → k < i → slice_get xs k ≡ Some u → P u)
+    → slice_get xs i ≡ Some v → P v → (k : ℕ) (u : ValueId) → k < i + 1 → slice_get xs k ≡ Some u → P u
+read_more P xs i v before at here k u lt is = elim (cases_eq k i) [
+  | inl same ↦ subst P (same_Some v u (sym at ∙ ap (slice_get xs) (sym same) ∙ is)) here
+  | inr other ↦ before k u (omega (arith, lt, other)) is
+]
+
+pub read_all : (P : ValueId → Type 0) (xs : List ValueId) → ((k : ℕ) (u : ValueId) → k < length xs → slice_get xs k ≡ Some u → P u) → Each P xs
+read_all P [] all = tt
+read_all P (x ∷ xs) all = (all 0 x (omega arith) refl, read_all P xs (λ k u lt is. all (suc k) u (omega (arith, lt)) is))
+
+-- ## Instruction by instruction
+
+pub record IsSoFar (rest : List ReadyStep) (all : List ReadyStep) (w : Written) : Type 0 where
+  pub written : List ℕ
+  pub marks : Marks written w
+  pub direct : IsDirect written (map ready_of rest) → IsDirect [] (map ready_of all)
+
+pub so_far_first : (all : List ReadyStep) (w : Written) → IsSoFar all all w
+so_far_first all w = record { written = []; marks = none_marked w; direct = λ h. h }
+
+pub so_far_more : (steps : List ReadyStep) (i : ℕ) (s : ReadyStep) (before after : Written) → i < length steps → s ≡ get_or steps i s
+    → ((places : List ℕ) → Marks places before → Each (λ (v : ValueId). is_among v.instruction places ≡ false) (operands (work_of s.kind)))
+    → ((places : List ℕ) → Marks places before → Marks (places ++ places_of s.places) after)
+    → IsSoFar (drop i steps) steps before → IsSoFar (drop (i + 1) steps) steps after
+so_far_more steps i s before after lt is reads puts so = record {
+  written = so.written ++ places_of s.places;
+  marks = puts so.written so.marks;
+  direct = λ later. so.direct (subst (λ (ss : List ReadyStep). IsDirect so.written (map ready_of ss)) (sym (ahead steps i s lt is)) (reads so.written so.marks, later));
+}
+
+pub so_far_all : (steps : List ReadyStep) (i : ℕ) (w : Written) → length steps ≤ i → IsSoFar (drop i steps) steps w → IsDirect [] (map ready_of steps)
+so_far_all steps i w le so = so.direct (subst (λ (ss : List ReadyStep). IsDirect so.written (map ready_of ss)) (sym (none_ahead steps i le)) tt)
+
+pub list_more : (places : List ℕ) (i : ℕ) (place : ℕ) (start before after : Written) → i < length places → place ≡ slice_index places i
+    → ((given : List ℕ) → Marks given start → Marks (given ++ take i places) before)
+    → ((given : List ℕ) → Marks given before → Marks (given ++ place ∷ []) after)
+    → (given : List ℕ) → Marks given start → Marks (given ++ take (i + 1) places) after
+list_more places i place start before after lt is so more given marks =
+    subst (λ (ps : List ℕ). Marks ps after)
+    (append_assoc given (take i places) (place ∷ [])
+    ∙ ap (λ n. given ++ (take i places ++ n ∷ [])) is
+    ∙ ap (λ (ps : List ℕ). given ++ ps) (sym (take_more places i 0 lt)))
+    (more (given ++ take i places) (so given marks))

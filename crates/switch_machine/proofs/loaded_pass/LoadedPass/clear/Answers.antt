@@ -1,0 +1,17 @@
+use Rattle.std.proofs.Common.{◌∙◌, ap, length, refl, subst, sym}
+use Rattle.std.proofs.lemmas.List.{length-replicate}
+use Rattle.switch_machine.specs.Flights.{flights_in, AreFlights}
+use Rattle.switch_machine.proofs.loaded_pass.LoadedPass.clear.Goals as goal
+
+pub returns-clause-made : goal.returns-clause-made
+returns-clause-made c = record { side = refl; stages = refl; ranges = refl; plan = c.clear.ensures.plan; marks = refl }
+
+pub invariant_of-self : goal.invariant_of-self
+invariant_of-self c =
+    let l = c.args.self.now in
+    record {
+      can = l.can;
+      room = l.room;
+      flown = subst (λ n. AreFlights (length l.stages) n (flights_in l.flights))
+          (sym (ap length c.clear.ensures.numbers ∙ length-replicate (length l.registers.numbers) 0)) l.flown;
+    }

@@ -1,0 +1,71 @@
+use Rattle.std.proofs.Common.{◌≡◌, ◌∙◌, [], List, ap, arith, length, map, refl, subst, sym}
+use Rattle.std.specs.List.{AllByRecursion as Each}
+use Rattle.flat_ir.specs.Blocks.{nothing}
+use Rattle.flat_ir.specs.Registers.{packet_of}
+use Rattle.transfer_header.specs.Registers.{value_in, Registers}
+use Rattle.transfer_header.specs.Steps.{pairs_written}
+use Rattle.switch_ir.specs.Code.{code_of}
+use Rattle.switch_ir.specs.Meaning.{down_given}
+use Rattle.switch_ir.specs.Tables.{seen_tables}
+use Rattle.switch_machine.specs.declared.ready.ReadyStep.{ReadyStep}
+use Rattle.switch_machine.specs.declared.sides.Side.{Side}
+use Rattle.switch_machine.specs.declared.sides.Side.TheVariants.{Behind}
+use Rattle.switch_machine.specs.Flights.{flights_in, AreFlights}
+use Rattle.switch_machine.specs.Keeping.{begins}
+use Rattle.switch_machine.specs.Numbers.{stage_gives}
+use Rattle.switch_machine.specs.Planned.{BeginsWith}
+use Rattle.switch_machine.specs.Ready.{all_placed, ready_gives, ready_of}
+use Rattle.switch_machine.specs.Sides.{staging}
+use Rattle.switch_machine.specs.Staged.{of_stage}
+use Rattle.switch_machine.specs.Workplaces.{IsReadyFor}
+use Rattle.switch_machine.proofs.LoadedCode.{ready_for}
+use Rattle.switch_machine.proofs.PlacedSteps.{can_of_stage, count_after, plan_after}
+use Rattle.switch_machine.proofs.StageRegisters.{given_is}
+use Rattle.switch_machine.proofs.loaded_pass.LoadedPass.give.Goals as goal
+
+pub run_steps-requires-clause-can : goal.run_steps-requires-clause-can
+run_steps-requires-clause-can c =
+    let l = c.args.self.now in
+    let code = code_of c.args.code.now in
+    can_of_stage c.args.given.now 0 c.steps.result.now (c.steps.ensures ∙ c.stage.ensures)
+    (c.a_pass_by_place.ensures.can l.numbering c.args.code.now.post.plan code.post.given 0 c.args.given.now 0 c.requires.given c.requires.pass.can.given (omega (arith, c.requires.given.count)))
+
+pub returns-clause-made : goal.returns-clause-made
+returns-clause-made c = record {
+  side = refl;
+  stages = refl;
+  ranges = refl;
+  plan = plan_after c.args.self.now.registers c.run_steps.new.registers
+          (ready_gives (map ready_of c.steps.result.now) nothing (seen_tables c.none-none.result) (packet_of c.args.arrival.now)) c.run_steps.ensures.written;
+  marks = refl;
+}
+
+pub returns-clause-given : goal.returns-clause-given
+returns-clause-given c =
+    let l = c.args.self.now in
+    let code = code_of c.args.code.now in
+    let registers = l.registers in
+    let packet = packet_of c.args.arrival.now in
+    let given = code.post.given in
+    let gives = stage_gives l.numbering (of_stage 0 given) nothing [] packet in
+    let same : c.run_steps.new.registers ≡ pairs_written registers gives =
+    c.run_steps.ensures.written
+    ∙ ap (all_placed registers) (given_is c.args.given.now packet c.none-none.result c.none-none.ensures c.steps.result.now (c.steps.ensures ∙ c.stage.ensures))
+    ∙ c.a_pass_by_place.ensures.stage l.numbering c.args.code.now.post.plan given 0 c.args.given.now nothing [] packet registers 0 c.requires.given c.requires.planned
+    c.are_few.ensures.few (omega arith) in
+    let Begins : Side × Registers → Type 0 =
+    λ (s, rs). BeginsWith l.numbering (begins l.numbering (staging s code)) (down_given code (value_in registers) packet) rs in
+    subst Begins (λ i. (sym c.requires.side i, sym same i))
+    (c.what_crosses_fits.ensures.given code l.numbering registers packet
+    (subst (λ (s : Side). IsReadyFor code s l.numbering registers) c.requires.side (ready_for code l registers c.requires.pass refl)) c.are_few.ensures.placed)
+
+pub invariant_of-self : goal.invariant_of-self
+invariant_of-self c =
+    let l = c.args.self.now in
+    record {
+      can = l.can;
+      room = l.room;
+      flown = subst (λ n. AreFlights (length l.stages) n (flights_in l.flights))
+          (sym (count_after l.registers c.run_steps.new.registers
+          (ready_gives (map ready_of c.steps.result.now) nothing (seen_tables c.none-none.result) (packet_of c.args.arrival.now)) c.run_steps.ensures.written)) l.flown;
+    }

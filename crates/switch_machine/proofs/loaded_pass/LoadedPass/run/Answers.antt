@@ -1,0 +1,53 @@
+use Rattle.std.proofs.Common.{◌≡◌, ◌∙◌, ap, length, refl, subst, suc, sym}
+use Rattle.state_store.specs.Store.{Store}
+use Rattle.flat_ir.specs.Registers.{packet_of}
+use Rattle.transfer_header.specs.Registers.{Registers}
+use Rattle.switch_ir.specs.Meaning.{pass_values}
+use Rattle.switch_ir.specs.Tables.{seen_tables}
+use Rattle.switch_machine.specs.Flights.{flights_in, AreFlights}
+use Rattle.switch_machine.specs.Keeping.{kept}
+use Rattle.switch_machine.specs.Planned.{registers_at}
+use Rattle.switch_machine.specs.Ready.{placed_at, HoldResults}
+use Rattle.switch_machine.specs.Sides.{staging}
+use Rattle.switch_machine.proofs.LoadedCode.{ready_for}
+use Rattle.switch_machine.proofs.PlacedSteps.{count_placed_at, plan_placed_at}
+use Rattle.switch_machine.proofs.StageRegisters.{held_by}
+use Rattle.switch_machine.proofs.loaded_pass.LoadedPass.run.Goals as goal
+
+pub returns-clause-made : goal.returns-clause-made
+returns-clause-made c =
+    let l = c.args.self.now in
+    record {
+      side = refl;
+      stages = refl;
+      ranges = refl;
+      plan = ap (λ (rs : Registers). rs.plan) c.run_pass.ensures.written
+          ∙ plan_placed_at l.stages _ (packet_of c.args.arrival.now) l.registers (length l.stages);
+      marks = refl;
+    }
+
+pub returns-clause-values : goal.returns-clause-values
+returns-clause-values c code given is safe begin =
+    let l = c.args.self.now in
+    let p = staging l.side code in
+    let told = c.args.tables.now in
+    let packet = packet_of c.args.arrival.now in
+    let registers = l.registers in
+    held_by l.numbering (registers_at l.numbering p.code (seen_tables told) packet registers (suc p.code.highest)) c.run_pass.new.registers
+    (pass_values p.code given (seen_tables told) packet) (kept p)
+    (c.run_pass.ensures.written
+    ∙ ap (λ (seen : Store). placed_at l.stages seen packet registers (length l.stages)) c.as_seen.ensures
+    ∙ c.a_pass_by_place.ensures.pass l.numbering is.plan p.code l.stages (seen_tables told) packet registers is.ready is.planned_by c.are_few.ensures.few)
+    (c.a_pass_goes_by_stages.ensures.computed code l.side l.numbering registers told packet given (ready_for code l registers is refl)
+    safe c.are_few.ensures.placed begin)
+
+pub invariant_of-self : goal.invariant_of-self
+invariant_of-self c =
+    let l = c.args.self.now in
+    record {
+      can = l.can;
+      room = subst (HoldResults l.stages) (sym c.run_pass.ensures.capacity) l.room;
+      flown = subst (λ n. AreFlights (length l.stages) n (flights_in l.flights))
+          (sym (ap (λ (rs : Registers). length rs.numbers) c.run_pass.ensures.written
+          ∙ count_placed_at l.stages _ (packet_of c.args.arrival.now) l.registers (length l.stages))) l.flown;
+    }

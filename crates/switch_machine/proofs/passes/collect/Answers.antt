@@ -1,0 +1,52 @@
+use Rattle.std.proofs.Common.{◌≡◌, ◌∙◌, ◌++◌, [], List, ℕ, ap, arith, map}
+use Rattle.flat_ir.specs.Registers.{packet_of}
+use Rattle.switch_machine.specs.Ready.{only_numbers, placed_gives, places_of, ready_gives, ready_of}
+use Rattle.switch_machine.proofs.PlacedSteps.{ready_can}
+use Rattle.switch_machine.proofs.Waiting.{collect_all, collect_more, room_more}
+use Rattle.switch_machine.proofs.passes.collect.Goals as goal
+
+pub compute-given-requires-clause-can : goal.compute-given-requires-clause-can
+compute-given-requires-clause-can g c =
+    ready_can c.args.steps.now c.loop-step.step-index c.step-item.result c.requires.can c.loop-step-test.true c.step-item.is
+
+pub loop-step-init : goal.loop-step-init
+loop-step-init g c =
+    let all = only_numbers (ready_gives (map ready_of c.args.steps.now) (g.G.Numbers.reads c.args.numbers.now) (g.L.Lookup.seen c.args.tables.now) (packet_of c.args.arrival.now)) in
+    record {
+      items = ap (λ (ns : List ℕ). ns ++ all) c.clear.ensures.items;
+      room = omega (arith, c.clear.ensures.len, c.clear.ensures.capacity, c.requires.room);
+      capacity = c.clear.ensures.capacity;
+    }
+
+pub push-requires : goal.push-requires
+push-requires g c = omega (arith, c.loop-step.invariant.room, room_more c.args.steps.now c.loop-step.step-index c.step-item.result c.loop-step-test.true c.step-item.is)
+
+pub loop-step-preserved : goal.loop-step-preserved
+loop-step-preserved g c =
+    let reads = g.G.Numbers.reads c.args.numbers.now in
+    let tables = g.L.Lookup.seen c.args.tables.now in
+    let packet = packet_of c.args.arrival.now in
+    let before = c.loop-step.results.items in
+    let step = c.step-item.result in
+    record {
+      items = collect_more reads tables packet c.args.steps.now c.loop-step.step-index step before c.push.new.results.items
+          (only_numbers (ready_gives (map ready_of c.args.steps.now) reads tables packet)) c.loop-step-test.true c.step-item.is
+          (c.push.ensures.items ∙ ap (λ (ns : List ℕ). before ++ only_numbers (placed_gives (places_of step.places) ns)) c.compute-given.ensures)
+          c.loop-step.invariant.items;
+      room = omega (
+        arith,
+        c.loop-step.invariant.room,
+        c.push.ensures.len,
+        c.push.ensures.capacity,
+        room_more c.args.steps.now c.loop-step.step-index step c.loop-step-test.true c.step-item.is,
+      );
+      capacity = c.push.ensures.capacity ∙ c.loop-step.invariant.capacity;
+    }
+
+pub returns-clause-items : goal.returns-clause-items
+returns-clause-items g c =
+    let reads = g.G.Numbers.reads c.args.numbers.now in
+    let tables = g.L.Lookup.seen c.args.tables.now in
+    let packet = packet_of c.args.arrival.now in
+    collect_all reads tables packet c.args.steps.now c.loop-step.step-index c.loop-step.results.items
+    (only_numbers (ready_gives (map ready_of c.args.steps.now) reads tables packet)) c.loop-step-test.false c.loop-step.invariant.items

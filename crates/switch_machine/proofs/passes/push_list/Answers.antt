@@ -1,0 +1,15 @@
+use Rattle.std.proofs.Common.{◌∙◌, arith, append-nil, sym}
+use Rattle.switch_machine.specs.Giving.{given_of}
+use Rattle.switch_machine.proofs.Waiting.{push_more}
+use Rattle.switch_machine.proofs.passes.push_list.Goals as goal
+
+pub loop-index-init : goal.loop-index-init
+loop-index-init c = record { items = sym (append-nil c.args.results.now.items); len = omega arith; capacity = omega arith }
+
+pub loop-index-preserved : goal.loop-index-preserved
+loop-index-preserved c = record {
+  items = push_more c.args.places.now (given_of c.args.given.now) c.loop-index.index c.args.results.now.items c.loop-index.results.items c.push_reserved.new.self.items
+      c.at.result c.loop-index.invariant.items c.push_reserved.ensures.items c.at.ensures;
+  len = omega (arith, c.push_reserved.ensures.len, c.loop-index.invariant.len);
+  capacity = c.push_reserved.ensures.capacity ∙ c.loop-index.invariant.capacity;
+}

@@ -1,0 +1,313 @@
+//! How a pass is computed, whole or stage by stage.
+ghost use Rattle.std.specs.Prelude.{◌≡◌, ◌≤◌, ◌<◌, ◌&&◌, ℕ, suc, not, nat_lt, length, true, false, Some, None, IfOk, IsSome, OnErr, OnOk};
+ghost use Rattle.packet_fields.specs.Shape.{shape_of};
+ghost use Rattle.packet_fields.specs.Sizes.{largest_packet};
+ghost use Rattle.flat_ir.specs.Blocks.{Reading};
+ghost use Rattle.flat_ir.specs.Registers.{packet_of};
+ghost use Rattle.transfer_header.specs.Registers.{content_of, ArePlaced};
+ghost use Rattle.switch_ir.specs.Code.{code_of, Code};
+ghost use Rattle.switch_ir.specs.Meaning.{pass_values};
+ghost use Rattle.switch_ir.specs.Port.{IsUpFrame};
+ghost use Rattle.switch_ir.specs.Tables.{seen_tables};
+ghost use Rattle.switch_ir.specs.UnderWay.{EndsWith, PassState};
+ghost use Rattle.switch_machine.specs.declared.flight.Flight.{Flight as Flown};
+ghost use Rattle.switch_machine.specs.Flights.{flights_in, with_pass};
+ghost use Rattle.switch_machine.specs.Keeping.{kept};
+ghost use Rattle.switch_machine.specs.Kept.{KeepsTables};
+ghost use Rattle.switch_machine.specs.Numbers.{reads_by, AreHeld};
+ghost use Rattle.switch_machine.specs.Sides.{of_side, staging, up_of, EndsOn, HasEnded, IsOf};
+ghost use Rattle.switch_machine.specs.UnderWay.{leaves_on, numbers_at_last, passes_of, Begins, Entered, Goes, GoneOn};
+ghost use Rattle.switch_machine.specs.UnderWay.{HasStagesLeft, IsAtLast, IsGiven, Puts};
+ghost use Rattle.switch_machine.specs.Workplaces.{IsPassOf, StaysMade};
+
+use crate::flight::{Flight, copy_numbers, flight_of, put_in, take_out};
+use crate::laws::{a_pass_by_place, a_pass_goes_by_stages, what_crosses_fits};
+use crate::live::leaves_work;
+use crate::loaded_pass::LoadedPass;
+use crate::passes::{are_few, run_pass, run_stage};
+use crate::run::Run;
+use crate::sides::{Outcome, Side};
+use crate::tables::{SwitchTables, View};
+use flat_ir::{Arrival, Out, leave, readings_that_agree};
+use gal_io::NoMemory;
+use std::alloc::Global;
+use switch_ir::SwitchCode;
+use transfer_header::{frames_of_low_bits, pack_up};
+
+impl LoadedPass {
+    /// Forgets all numbers. This takes no memory.
+    pub fn clear(&mut self)
+        ensures made { StaysMade self.old self.new }
+        ensures flights { self.new.flights ≡ self.old.flights }
+        ensures contents { (n : ℕ) → content_of self.new.registers n ≡ 0 }
+        ensures placed { ArePlaced self.new.registers }
+    {
+        self.registers.clear();
+    }
+
+    /// A pass begins over a packet, with what it is given in its registers. Where it has a stage above 0, and isn't to go
+    /// on to its end at once, it is under way then, as that of this number.
+    pub fn begin(
+        &mut self,
+        alloc: Global,
+        code: &SwitchCode,
+        tables: &SwitchTables,
+        number: u32,
+        arrival: &Arrival<'_>,
+        whole: bool,
+    ) -> Result<Outcome, NoMemory>
+        requires size { length arrival.now.bytes.now ≤ largest_packet }
+        requires shape { arrival.now.shape ≡ shape_of arrival.now.bytes.now }
+        requires pass { IsPassOf (code_of code.now) self.old }
+        requires safe { KeepsTables (code_of code.now) tables.now }
+        ensures made { StaysMade self.old self.new }
+        ensures begins { IfOk result (Begins number (Entered (code_of code.now) (packet_of arrival.now) tables.now self.old)
+            (passes_of (code_of code.now) self.old) (passes_of (code_of code.now) self.new)) }
+        ensures err { OnErr result (passes_of (code_of code.now) self.new ≡ passes_of (code_of code.now) self.old) }
+        ensures goes { IfOk result (Goes (not whole && nat_lt 0 (staging self.old.side (code_of code.now)).code.highest)) }
+        ensures side { IfOk result (IsOf self.old.side) }
+        ensures frame { IfOk result (λ outcome.
+            IsUpFrame (code_of code.now) number arrival.now.port arrival.now.bytes.now (up_of outcome)) }
+        ensures ends { (given : Reading) → IsGiven (code_of code.now) self.old given
+            → IfOk result (EndsOn self.old.side (code_of code.now)
+            (pass_values (staging self.old.side (code_of code.now)).code given (seen_tables tables.now) (packet_of arrival.now))
+            number (packet_of arrival.now)) }
+    {
+        if whole || self.stages.len() == 1 {
+            self.run(tables, arrival);
+            let leaves = self.leaves_work(code);
+            return self.end(alloc, code, leaves, number, arrival);
+        }
+        self.enter(alloc, tables, number, arrival)?;
+        Ok(Outcome::Going)
+    }
+
+    // Computes all stages, over the tables as lookups see them.
+    fn run(&mut self, tables: &SwitchTables, arrival: &Arrival<'_>)
+        requires size { length arrival.now.bytes.now ≤ largest_packet }
+        requires shape { arrival.now.shape ≡ shape_of arrival.now.bytes.now }
+        ensures made { StaysMade self.old self.new }
+        ensures flights { self.new.flights ≡ self.old.flights }
+        ensures values { (code : Code) (given : Reading) → IsPassOf code self.old → KeepsTables code tables.now
+            → IsGiven code self.old given
+            → AreHeld self.new.numbering self.new.registers
+            (pass_values (staging self.old.side code).code given (seen_tables tables.now) (packet_of arrival.now))
+            (kept (staging self.old.side code)) }
+    {
+        a_pass_goes_by_stages();
+        a_pass_by_place();
+        are_few(&self.registers);
+        run_pass(
+            &self.stages,
+            &tables.as_seen(),
+            arrival,
+            &mut self.registers,
+            &mut self.results,
+        );
+    }
+
+    // Computes stage 0, over the tables as lookups see them, and keeps the pass as that of this number.
+    fn enter(
+        &mut self,
+        alloc: Global,
+        tables: &SwitchTables,
+        number: u32,
+        arrival: &Arrival<'_>,
+    ) -> Result<(), NoMemory>
+        requires size { length arrival.now.bytes.now ≤ largest_packet }
+        requires shape { arrival.now.shape ≡ shape_of arrival.now.bytes.now }
+        requires left { 1 < length self.old.stages }
+        ensures made { StaysMade self.old self.new }
+        ensures enters { (code : Code) → IsPassOf code self.old → KeepsTables code tables.now
+            → OnOk result (Puts number (Entered code (packet_of arrival.now) tables.now self.old)
+            (passes_of code self.old) (passes_of code self.new)) }
+        ensures err { OnErr result (flights_in self.new.flights ≡ flights_in self.old.flights) }
+    {
+        a_pass_goes_by_stages();
+        a_pass_by_place();
+        are_few(&self.registers);
+        run_stage(
+            self.stages.stage(0),
+            &tables.as_seen(),
+            arrival,
+            &mut self.registers,
+            &mut self.results,
+        );
+        let flight = Flight::new(alloc, &self.registers, arrival, tables.bit())?;
+        put_in(&mut self.flights, number, flight)
+    }
+
+    // Whether the pass over the packet of this number has more than one stage left, and else has one.
+    fn has_stages_left(&self, number: u32) -> bool
+        requires { IsSome (flights_in self.now.flights number) }
+        ensures left { result ≡ true → HasStagesLeft number self.now }
+        ensures last { result ≡ false → IsAtLast number self.now }
+    {
+        let done = flight_of(&self.flights, number).stage;
+        let left = self.stages.len().saturating_sub(done);
+        left > 2
+    }
+
+    /// The pass over the packet of this number takes a stage that isn't its last. This takes no memory.
+    pub fn go_on(&mut self, tables: &SwitchTables, number: u32)
+        requires there { IsSome (flights_in self.old.flights number) }
+        requires left { HasStagesLeft number self.old }
+        ensures made { StaysMade self.old self.new }
+        ensures goes_on { (code : Code) → IsPassOf code self.old → KeepsTables code tables.now
+            → Puts number (GoneOn code number tables.now self.old) (passes_of code self.old) (passes_of code self.new) }
+    {
+        a_pass_goes_by_stages();
+        a_pass_by_place();
+        are_few(&self.registers);
+        let Some(flight) = self.flights.get_mut(&number) else {
+            unreachable!()
+        };
+        flight.step(&self.stages, tables, &mut self.results);
+    }
+
+    // Computes the last stage of the pass over the packet of this number. The pass stays as it is.
+    fn compute_last(&mut self, tables: &SwitchTables, number: u32)
+        requires there { IsSome (flights_in self.old.flights number) }
+        requires last { IsAtLast number self.old }
+        ensures made { StaysMade self.old self.new }
+        ensures flights { self.new.flights ≡ self.old.flights }
+        ensures values { (code : Code) (f : Flown) → IsPassOf code self.old → KeepsTables code tables.now
+            → flights_in self.old.flights number ≡ Some f
+            → AreHeld self.new.numbering self.new.registers (numbers_at_last code tables.now self.old f)
+            (kept (staging self.old.side code)) }
+    {
+        a_pass_goes_by_stages();
+        a_pass_by_place();
+        are_few(&self.registers);
+        let flight = flight_of(&self.flights, number);
+        copy_numbers(&flight.registers, &mut self.registers);
+        let view = View {
+            tables,
+            bit: flight.bit,
+        };
+        let count = self.stages.len();
+        prove!(flight.stage < count);
+        run_stage(
+            self.stages.stage(flight.stage + 1),
+            &view,
+            &flight.arrival(),
+            &mut self.registers,
+            &mut self.results,
+        );
+    }
+
+    /// What the next stage makes of the pass over the packet of this number. The pass is under way as before.
+    pub fn next(
+        &mut self,
+        alloc: Global,
+        code: &SwitchCode,
+        tables: &SwitchTables,
+        number: u32,
+    ) -> Result<Outcome, NoMemory>
+        requires pass { IsPassOf (code_of code.now) self.old }
+        requires safe { KeepsTables (code_of code.now) tables.now }
+        requires there { IsSome (flights_in self.old.flights number) }
+        ensures made { StaysMade self.old self.new }
+        ensures flights { self.new.flights ≡ self.old.flights }
+        ensures goes { (before : PassState) → passes_of (code_of code.now) self.old number ≡ Some before
+            → IfOk result (Goes (nat_lt (suc before.stage) (staging self.old.side (code_of code.now)).code.highest)) }
+        ensures side { IfOk result (IsOf self.old.side) }
+        ensures frame { (before : PassState) → passes_of (code_of code.now) self.old number ≡ Some before
+            → IfOk result (λ outcome.
+            IsUpFrame (code_of code.now) number before.packet.port before.packet.bytes (up_of outcome)) }
+        ensures ends { (before : PassState) → passes_of (code_of code.now) self.old number ≡ Some before
+            → IfOk result (λ outcome. EndsWith (staging self.old.side (code_of code.now)) (Some tables.now) before
+            (λ reads. EndsOn self.old.side (code_of code.now) reads number before.packet outcome)) }
+    {
+        if self.has_stages_left(number) {
+            return Ok(Outcome::Going);
+        }
+        self.compute_last(tables, number);
+        let leaves = self.leaves_work(code);
+        let flight = flight_of(&self.flights, number);
+        self.end(alloc, code, leaves, number, &flight.arrival())
+    }
+
+    /// Ends the pass over the packet of this number. This takes no memory.
+    pub fn remove(&mut self, number: u32)
+        ensures made { StaysMade self.old self.new }
+        ensures passes { (code : Code) → passes_of code self.new ≡ with_pass number None (passes_of code self.old) }
+    {
+        take_out(&mut self.flights, number);
+    }
+
+    // Whether the pass leaves work to the server, by the numbers in its registers.
+    fn leaves_work(&mut self, code: &SwitchCode) -> bool
+        requires { IsPassOf (code_of code.now) self.old }
+        ensures leaves { result ≡ leaves_on self.old.side (code_of code.now)
+            (reads_by self.old.numbering (content_of self.old.registers)) }
+        ensures made { StaysMade self.old self.new }
+        ensures flights { self.new.flights ≡ self.old.flights }
+        ensures registers { self.new.registers ≡ self.old.registers }
+    {
+        let run = Run {
+            numbering: &self.numbering,
+            registers: &self.registers,
+        };
+        match self.side {
+            Side::Before => leaves_work(&code.pre, &run, &mut self.marks),
+            Side::Behind => false,
+        }
+    }
+
+    // What becomes of a packet once its pass is computed.
+    fn end(
+        &self,
+        alloc: Global,
+        code: &SwitchCode,
+        leaves: bool,
+        number: u32,
+        arrival: &Arrival<'_>,
+    ) -> Result<Outcome, NoMemory>
+        requires size { length arrival.now.bytes.now ≤ largest_packet }
+        requires shape { arrival.now.shape ≡ shape_of arrival.now.bytes.now }
+        requires pass { IsPassOf (code_of code.now) self.now }
+        requires leaves { leaves
+            ≡ leaves_on self.now.side (code_of code.now) (reads_by self.now.numbering (content_of self.now.registers)) }
+        ensures ended { IfOk result HasEnded }
+        ensures side { IfOk result (IsOf self.now.side) }
+        ensures frame { IfOk result (λ outcome.
+            IsUpFrame (code_of code.now) number arrival.now.port arrival.now.bytes.now (up_of outcome)) }
+        ensures ends { (reads : Reading)
+            → AreHeld self.now.numbering self.now.registers reads (kept (staging self.now.side (code_of code.now)))
+            → IfOk result (EndsOn self.now.side (code_of code.now) reads number (packet_of arrival.now)) }
+    {
+        readings_that_agree();
+        frames_of_low_bits();
+        what_crosses_fits();
+        if leaves {
+            let port = arrival.port;
+            fits(port);
+            let registers = &self.registers;
+            let frame = pack_up(alloc, &code.up, number, port, registers, arrival.bytes)?;
+            return Ok(Outcome::Up(frame));
+        }
+        let run = Run {
+            numbering: &self.numbering,
+            registers: &self.registers,
+        };
+        let copy = arrival.bytes.to_vec(alloc)?;
+        let out = out_of(code, self.side);
+        Ok(Outcome::Verdict(leave(out, arrival, &run, copy)))
+    }
+}
+
+// What decides on a packet at a side.
+fn out_of(code: &SwitchCode, side: Side) -> &Out
+    ensures { result.now ≡ of_side side code.now.pre.out code.now.post.out }
+{
+    match side {
+        Side::Before => &code.pre.out,
+        Side::Behind => &code.post.out,
+    }
+}
+
+// A port is below 256.
+fn fits(port: u8)
+    ensures { port < 256 }
+{}
