@@ -11,7 +11,7 @@ pub mod Needed
 pub mod Noted
 pub mod Numbers
 pub mod Outcomes
-pub mod Results
+pub mod ByPlaces
 pub mod Rows
 pub mod Seats
 pub mod Running

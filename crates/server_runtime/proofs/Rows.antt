@@ -1,11 +1,10 @@
 -- An instruction's results in registers.
-use Rattle.std.proofs.Common.{◌≡◌, ◌+◌, ◌-◌, ℕ, suc, List, [], ◌∷◌, ◌++◌, length, slice_index, refl, sym, ap, ◌∙◌, arith}
+use Rattle.std.proofs.Common.{◌≡◌, ◌+◌, ◌-◌, ℕ, suc, List, [], ◌∷◌, ◌++◌, length, slice_index, refl, ap, ◌∙◌, arith}
 use Rattle.std.proofs.lemmas.List.{map-append}
-use Rattle.flat_ir.specs.Program.{result_count, step_at, Program}
+use Rattle.flat_ir.specs.Program.{Program}
 use Rattle.split_model.specs.Layouts.{first_results, number_of, values_below}
 use Rattle.transfer_header.specs.Registers.{written, Registers}
 use Rattle.transfer_header.specs.Steps.{all_written, Contents}
-use Rattle.server_runtime.specs.Registers.{with_row}
 use Rattle.server_runtime.specs.Spans.{numbers_of}
 
 written_push : (registers : Registers) (xs : List ℕ) (x : ℕ) (numbers : Contents) → all_written registers (xs ++ x ∷ []) numbers ≡ written (all_written registers xs numbers) x (numbers x)
@@ -27,9 +26,3 @@ module _ (f : Program) (i : ℕ) (registers : Registers) where
       ap (λ (ns : List ℕ). all_written registers ns numbers) (map-append (number_of f) (first_results i k) (record { instruction = i; result = k } ∷ []))
       ∙ written_push registers (numbers_of f (first_results i k)) (first + k) numbers
       ∙ ap (λ p. written (row_part row k) (first + k) (slice_index row p)) place
-
-  -- a row of one number
-  pub row_of_one : (at number : ℕ) → at ≡ first → result_count f.objects (step_at f i).work ≡ 1 → written registers at number ≡ with_row f i (number ∷ []) registers
-  row_of_one at number is count =
-      let here : at ≡ first + 0 = omega (arith, is) in
-      ap (λ n. written registers n number) here ∙ sym (row_more (number ∷ []) 0) ∙ ap (row_part (number ∷ [])) (sym count)

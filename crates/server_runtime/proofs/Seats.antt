@@ -1,13 +1,11 @@
 -- Where the numbers of first values stand.
-use Rattle.std.proofs.Common.{◌≡◌, ◌+◌, ◌^◌, ◌<◌, ℕ, Bool, true, false, List, length, slice_index, Option, Some, None, IsSome, if◌then◌else◌, refl, sym, ap, ◌∙◌, arith}
+use Rattle.std.proofs.Common.{◌≡◌, ◌^◌, ◌<◌, ℕ, Bool, true, false, List, length, slice_index, Option, Some, None, IsSome, if◌then◌else◌, refl, sym, ap, ◌∙◌, arith}
 use Rattle.std.specs.Prelude.{unwrap_or, slice_set}
 use Rattle.std.proofs.lemmas.List.{get_or_past, length-set}
-use Rattle.flat_ir.specs.Plan.{RegisterPlan}
-use Rattle.flat_ir.specs.Program.{is_named, result_count, step_at, Program}
-use Rattle.split_model.specs.Layouts.{number_of, values_below}
+use Rattle.flat_ir.specs.Program.{is_named, Program}
+use Rattle.split_model.specs.Layouts.{number_of}
 use Rattle.transfer_header.specs.Registers.{number_by, place_by, place_of, placed, set_by, written, Registers}
-use Rattle.server_runtime.specs.Registers.{first_of, no_place, register_reads, seat_by, seat_in, AreSeats}
-use Rattle.server_runtime.proofs.Numbers.{is_named_by}
+use Rattle.server_runtime.specs.Registers.{first_of, no_place, register_reads, seat_in, AreSeats}
 
 -- registers in which values have the places that they had
 pub still_seats : (f : Program) (seats : List ℕ) (before after : Registers) → ((value : ℕ) → place_of after value ≡ place_of before value)
@@ -15,19 +13,6 @@ pub still_seats : (f : Program) (seats : List ℕ) (before after : Registers) �
 still_seats f seats before after same are = record {
   count = are.count;
   each = λ i lt. are.each i lt ∙ ap (λ (o : Option ℕ). unwrap_or (if is_named f (first_of i) then o else None) no_place) (sym (same (number_of f (first_of i))));
-}
-
--- by a plan and as many numbers as before
-pub planned_seats : (f : Program) (seats : List ℕ) (before after : Registers) → after.plan ≡ before.plan → length after.numbers ≡ length before.numbers
-    → AreSeats f seats before → AreSeats f seats after
-planned_seats f seats before after plan count = still_seats f seats before after (λ value p. place_by (plan p) (count p) value)
-
-pub seats_by_plan : (f : Program) (seats : List ℕ) (plan : RegisterPlan) (registers : Registers) → registers.plan ≡ Some plan → length seats ≡ length f.code
-    → ((i : ℕ) → i < length f.code → slice_index seats i ≡ seat_by f plan i) → AreSeats f seats registers
-seats_by_plan f seats plan registers planned count each = record {
-  count = count;
-  each = λ i lt. each i lt
-      ∙ ap (λ (p : Option RegisterPlan). unwrap_or (if is_named f (first_of i) then place_by p (length registers.numbers) (number_of f (first_of i)) else None) no_place) (sym planned);
 }
 
 -- ## The number at a seat
@@ -39,7 +24,7 @@ at_place : (numbers : List ℕ) (o : Option ℕ) → length numbers < 2 ^ 32 →
 at_place numbers (Some place) few = refl
 at_place numbers None few = past_all numbers few
 
-at_named : (numbers : List ℕ) (b : Bool) (o : Option ℕ) → length numbers < 2 ^ 32
+pub at_named : (numbers : List ℕ) (b : Bool) (o : Option ℕ) → length numbers < 2 ^ 32
     → slice_index numbers (unwrap_or (if b then o else None) no_place) ≡ (if b then number_by numbers o else 0)
 at_named numbers true o few = at_place numbers o few
 at_named numbers false o few = past_all numbers few
@@ -55,18 +40,16 @@ set_there : (numbers : List ℕ) (o : Option ℕ) (to : ℕ) → IsSome o → sl
 set_there numbers (Some place) to some = refl
 set_there numbers None to some = absurd (cc)
 
-named_place : (b : Bool) (o : Option ℕ) → b ≡ true → (if b then o else None) ≡ o
+pub named_place : (b : Bool) (o : Option ℕ) → b ≡ true → (if b then o else None) ≡ o
 named_place true o e = refl
 named_place false o e = absurd (cc)
 
 -- it is put into the value's register
-pub seat_written : (f : Program) (registers : Registers) (i first to : ℕ) → i < length f.code → result_count f.objects (step_at f i).work ≡ 1
-    → first ≡ length (values_below f i) + 0 → IsSome (place_of registers first) → placed registers (seat_in f registers i) to ≡ written registers first to
-seat_written f registers i first to lt one at has =
-    let named = is_named_by f (first_of i) lt (omega (arith, one)) in
-    ap (λ (o : Option ℕ). placed registers (unwrap_or o no_place) to)
-    (named_place (is_named f (first_of i)) (place_of registers (number_of f (first_of i))) named ∙ ap (place_of registers) (sym at))
-    ∙ ap (λ (ns : List ℕ). record { plan = registers.plan; numbers = ns }) (set_there registers.numbers (place_of registers first) to has)
+pub put_there : (registers : Registers) (place : Option ℕ) (value to : ℕ) → place ≡ place_of registers value → IsSome (place_of registers value)
+    → placed registers (unwrap_or place no_place) to ≡ written registers value to
+put_there registers place value to is has =
+    ap (λ (o : Option ℕ). placed registers (unwrap_or o no_place) to) is
+    ∙ ap (λ (ns : List ℕ). record { plan = registers.plan; numbers = ns }) (set_there registers.numbers (place_of registers value) to has)
 
 pub place_placed : (registers : Registers) (place to value : ℕ) → place_of (placed registers place to) value ≡ place_of registers value
 place_placed registers place to value = ap (λ n. place_by registers.plan n value) (length-set registers.numbers place to)

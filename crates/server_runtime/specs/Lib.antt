@@ -2,6 +2,7 @@ pub mod Plans
 pub mod Spans
 pub mod Walks
 pub mod Registers
+pub mod Resolved
 pub mod Running
 pub mod Serving
 pub mod Turns

@@ -2,7 +2,6 @@
 use Rattle.std.specs.Prelude.{◌≡◌, ℕ, suc, ◌+◌, ◌-◌, ◌^◌, ◌<◌, ◌≤◌, List, length, slice_get, slice_index, Option, Some, None, if◌then◌else◌, unwrap_or}
 use Rattle.flat_ir.specs.declared.program.ValueId.{ValueId}
 use Rattle.flat_ir.specs.Blocks.{Reading}
-use Rattle.flat_ir.specs.Plan.{RegisterPlan, register_of}
 use Rattle.flat_ir.specs.Program.{Program, is_named, result_count, step_at}
 use Rattle.split_model.specs.declared.split.Part.{Part}
 use Rattle.split_model.specs.Crossing.{crosses_up}
@@ -56,19 +55,17 @@ pub record AreFirsts (f : Program) (firsts : List ℕ) : Type 0 where
 abbrev pub no_place : ℕ
 no_place = 2 ^ 32 - 1
 
+-- where the number of a value stands among the registers, past all of them if nowhere
+abbrev pub place_in : Program → Registers → ValueId → ℕ
+place_in f registers v = unwrap_or (if is_named f v then place_of registers (number_of f v) else None) no_place
+
 -- an instruction's first value
 abbrev pub first_of : ℕ → ValueId
 first_of i = record { instruction = i; result = 0 }
 
--- where the number of an instruction's first value stands among the registers, past all of them if nowhere
+-- where the number of an instruction's first value stands
 abbrev pub seat_in : Program → Registers → ℕ → ℕ
-seat_in f registers i =
-    unwrap_or (if is_named f (first_of i) then place_of registers (number_of f (first_of i)) else None) no_place
-
--- the same by a plan
-abbrev pub seat_by : Program → RegisterPlan → ℕ → ℕ
-seat_by f plan i =
-    unwrap_or (if is_named f (first_of i) then register_of plan (number_of f (first_of i)) else None) no_place
+seat_in f registers i = place_in f registers (first_of i)
 
 -- for each instruction, where the number of its first value stands
 pub record AreSeats (f : Program) (seats : List ℕ) (registers : Registers) : Type 0 where

@@ -4,6 +4,7 @@
 mod laws;
 mod plan;
 mod registers;
+mod resolved;
 mod room;
 mod run;
 mod run_laws;

@@ -21,7 +21,15 @@ use gal_io::NoMemory;
 use split_model::{Layout, Split, down_layout, replicated, up_layout};
 use std::alloc::Global;
 use std::marker::Model;
-use transfer_header::Regs;
+use transfer_header::{ReadyStep, Regs};
+
+/// A turn that a run takes at an instruction, with the places of its operands and results among the registers.
+#[derive(Debug, Drop)]
+pub(crate) struct Turn {
+    /// The instruction's place in the code.
+    pub instruction: u32,
+    pub step: ReadyStep,
+}
 
 /// A split program, and what is looked up in it at each packet.
 #[derive(Debug, Drop)]
@@ -35,8 +43,8 @@ pub(crate) struct PreparedProgram {
     pub firsts: Vec<u32>,
     /// Where the number of each instruction's first value stands among the registers. Empty until these are planned.
     pub seats: Vec<u32>,
-    /// The instructions at which a run takes a turn, in order. Empty until registers are planned.
-    pub turns: Vec<u32>,
+    /// The turns that a run takes, in order. Empty until registers are planned.
+    pub turns: Vec<Turn>,
     /// The fields that the server sets.
     pub fields: Vec<FieldValue>,
     /// Whether the object is replicated, for each object.
@@ -58,7 +66,8 @@ impl Model for ServerPlan {
     ghost use Rattle.flat_ir.specs.Program.{program_of};
     ghost use Rattle.server_runtime.specs.Plans as plans;
     ghost use Rattle.server_runtime.specs.Plans.{IsPrepared};
-    ghost use Rattle.server_runtime.specs.Registers.{AreSeats, AreServing};
+    ghost use Rattle.server_runtime.specs.Registers.{AreServing};
+    ghost use Rattle.server_runtime.specs.Resolved.{turns_at, AreResolved};
     ghost use Rattle.server_runtime.specs.Walks.{AreTurns};
 
     ghost Value = { plans.ServerPlan };
@@ -67,8 +76,8 @@ impl Model for ServerPlan {
 
     ghost invariant = { λ plan. IsPrepared plan.whole
         × AreServing (program_of plan.whole.flat) plan.whole.split plan.values
-        × AreSeats (program_of plan.whole.flat) plan.whole.seats.items plan.values
-        × AreTurns (program_of plan.whole.flat) plan.whole.split plan.whole.turns.items };
+        × AreResolved (program_of plan.whole.flat) plan.whole.seats.items plan.whole.turns.items plan.values
+        × AreTurns (program_of plan.whole.flat) plan.whole.split (turns_at plan.whole.turns.items) };
 }
 
 impl ServerPlan {
@@ -260,7 +269,7 @@ impl PreparedProgram {
     }
 
     // Takes the places of the instructions' first values, and the turns of a run.
-    fn take_course(&mut self, seats: Vec<u32>, turns: Vec<u32>)
+    fn take_course(&mut self, seats: Vec<u32>, turns: Vec<Turn>)
         requires { IsPrepared self.old }
         ensures prepared { IsPrepared self.new }
         ensures seats { self.new.seats ≡ seats }

@@ -1,13 +1,11 @@
-//! Registers, as instructions read and set them.
-ghost use Rattle.std.specs.Prelude.{◌≡◌, ◌<◌, ◌≤◌, ◌∷◌, [], ℕ, suc, length, slice_index};
-ghost use Rattle.flat_ir.specs.Program.{program_of, result_count, step_at};
-ghost use Rattle.flat_ir.specs.Registers.{results_of};
+//! Registers, as values are read from them.
+ghost use Rattle.std.specs.Prelude.{◌≡◌, ◌<◌, ◌≤◌, ℕ, suc, length, slice_index};
+ghost use Rattle.flat_ir.specs.Program.{program_of};
 ghost use Rattle.split_model.specs.Layouts.{values_below};
-ghost use Rattle.server_runtime.specs.Plans.{IsPrepared};
-ghost use Rattle.server_runtime.specs.Registers.{first_of, register_reads, seat_in, with_row, AreSeats, HaveRegisters};
+ghost use Rattle.server_runtime.specs.Registers.{first_of, register_reads, seat_in};
 
 use crate::plan::PreparedProgram;
-use flat_ir::{Numbers, Results, ValueId};
+use flat_ir::{Numbers, ValueId};
 use transfer_header::Regs;
 
 /// The numbers that a server has so far.
@@ -60,47 +58,5 @@ impl Numbers for Registers<'_> {
         } else {
             self.any(value)
         }
-    }
-}
-
-/// Gives the register of an instruction with one result its number.
-pub(crate) fn set_number(
-    whole: &PreparedProgram,
-    values: &mut Regs,
-    instruction: usize,
-    number: u64,
-)
-    requires prepared { IsPrepared whole.now }
-    requires within { instruction < length whole.now.flat.code }
-    requires has { HaveRegisters (program_of whole.now.flat) instruction values.old }
-    requires seats { AreSeats (program_of whole.now.flat) whole.now.seats.items values.old }
-    requires count { let f = program_of whole.now.flat in
-        result_count f.objects (step_at f instruction).work ≡ 1 }
-    ensures row { values.new ≡ with_row (program_of whole.now.flat) instruction (number ∷ []) values.old }
-    ensures seats { AreSeats (program_of whole.now.flat) whole.now.seats.items values.new }
-{
-    values.set_at(whole.seats[instruction], number);
-}
-
-/// Gives the registers of an instruction its results.
-pub(crate) fn set_results(
-    whole: &PreparedProgram,
-    values: &mut Regs,
-    instruction: usize,
-    results: &Results,
-)
-    requires prepared { IsPrepared whole.now }
-    requires within { instruction < length whole.now.flat.code }
-    requires has { HaveRegisters (program_of whole.now.flat) instruction values.old }
-    requires seats { AreSeats (program_of whole.now.flat) whole.now.seats.items values.old }
-    requires count { let f = program_of whole.now.flat in
-        length (results_of results.now) ≡ result_count f.objects (step_at f instruction).work }
-    ensures row { values.new ≡ with_row (program_of whole.now.flat) instruction (results_of results.now) values.old }
-    ensures seats { AreSeats (program_of whole.now.flat) whole.now.seats.items values.new }
-{
-    let first = whole.first(instruction);
-    let count = whole.first(instruction + 1) - first;
-    for place in 0..count {
-        values.set(first + place, results.at(place));
     }
 }

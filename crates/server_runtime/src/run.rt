@@ -16,6 +16,7 @@ ghost use Rattle.transfer_header.specs.Steps.{IsReady};
 ghost use Rattle.transfer_header.specs.Told.{number_in, packet_in, reads_in};
 ghost use Rattle.server_runtime.specs.Plans.{IsPrepared};
 ghost use Rattle.server_runtime.specs.Registers.{contents_of, handed, register_reads, AreSeats, AreServing};
+ghost use Rattle.server_runtime.specs.Resolved.{turns_at, AreResolved};
 ghost use Rattle.server_runtime.specs.Serving.{followed_writes};
 ghost use Rattle.server_runtime.specs.Spans.{server_spans};
 ghost use Rattle.server_runtime.specs.Turns.{IsOutcome, IsRead, IsServing};
@@ -57,8 +58,8 @@ fn take_turns(
     updates: &mut Vec<Update>,
 )
     requires prepared { IsPrepared whole.now }
-    requires turns { AreTurns (program_of whole.now.flat) whole.now.split whole.now.turns.items }
-    requires seats { AreSeats (program_of whole.now.flat) whole.now.seats.items values.old }
+    requires turns { AreTurns (program_of whole.now.flat) whole.now.split (turns_at whole.now.turns.items) }
+    requires resolved { AreResolved (program_of whole.now.flat) whole.now.seats.items whole.now.turns.items values.old }
     requires kept { IsKept whole.now.flat.objects store.old }
     requires ready { let f = program_of whole.now.flat in
         IsReady (server_spans f whole.now.split) values.old (contents_of f (handed f whole.now.split values.old)) 1 }
@@ -70,19 +71,12 @@ fn take_turns(
     ensures run { let f = program_of whole.now.flat in
         IsServing f whole.now.split (handed f whole.now.split values.old) store.old (packet_of arrival.now)
         (length f.code) values.new store.new updates.new.items }
-    ensures seats { AreSeats (program_of whole.now.flat) whole.now.seats.items values.new }
+    ensures resolved { AreResolved (program_of whole.now.flat) whole.now.seats.items whole.now.turns.items values.new }
     ensures kept { IsKept whole.now.flat.objects store.new }
 {
     a_server_takes_turns();
-    for instruction in &whole.turns {
-        take_turn(
-            whole,
-            arrival,
-            *instruction as usize,
-            values,
-            store,
-            updates,
-        );
+    for turn in &whole.turns {
+        take_turn(whole, arrival, turn, values, store, updates);
     }
 }
 
@@ -126,8 +120,8 @@ fn run(
     room: Room,
 ) -> Ran
     requires prepared { IsPrepared whole.now }
-    requires turns { AreTurns (program_of whole.now.flat) whole.now.split whole.now.turns.items }
-    requires seats { AreSeats (program_of whole.now.flat) whole.now.seats.items values.old }
+    requires turns { AreTurns (program_of whole.now.flat) whole.now.split (turns_at whole.now.turns.items) }
+    requires resolved { AreResolved (program_of whole.now.flat) whole.now.seats.items whole.now.turns.items values.old }
     requires kept { IsKept whole.now.flat.objects store.old }
     requires ready { let f = program_of whole.now.flat in
         IsReady (server_spans f whole.now.split) values.old (contents_of f (handed f whole.now.split values.old)) 1 }
@@ -141,7 +135,7 @@ fn run(
         IsOutcome f whole.now.split store.old number (packet_of arrival.now) (handed f whole.now.split values.old)
         store.new result }
     ensures serving { AreServing (program_of whole.now.flat) whole.now.split values.new }
-    ensures seats { AreSeats (program_of whole.now.flat) whole.now.seats.items values.new }
+    ensures resolved { AreResolved (program_of whole.now.flat) whole.now.seats.items whole.now.turns.items values.new }
     ensures kept { IsKept whole.now.flat.objects store.new }
 {
     a_server_run_has_an_outcome();
@@ -168,11 +162,11 @@ fn run(
 fn read(whole: &PreparedProgram, frame: &[u8], values: &mut Regs) -> Result<Head, Malformed>
     requires prepared { IsPrepared whole.now }
     requires serving { AreServing (program_of whole.now.flat) whole.now.split values.old }
-    requires seats { AreSeats (program_of whole.now.flat) whole.now.seats.items values.old }
+    requires resolved { AreResolved (program_of whole.now.flat) whole.now.seats.items whole.now.turns.items values.old }
     ensures ok { IfOk result (λ head. IsRead (program_of whole.now.flat) whole.now.split frame.now values.new head) }
     ensures exact { (IsOk result) ↔ (IsFrame 1 (up_layout (program_of whole.now.flat) whole.now.split) frame.now) }
     ensures serving { AreServing (program_of whole.now.flat) whole.now.split values.new }
-    ensures seats { AreSeats (program_of whole.now.flat) whole.now.seats.items values.new }
+    ensures resolved { AreResolved (program_of whole.now.flat) whole.now.seats.items whole.now.turns.items values.new }
 {
     a_frame_is_read();
     values.clear();

@@ -10,14 +10,16 @@ ghost use Rattle.split_model.specs.Split.{is_server};
 ghost use Rattle.transfer_header.specs.BlockSteps.{greatest, step_if};
 ghost use Rattle.transfer_header.specs.Steps.{is_among};
 ghost use Rattle.server_runtime.specs.Plans.{IsPrepared};
-ghost use Rattle.server_runtime.specs.Registers.{seat_by, AreSeats, AreServing};
+ghost use Rattle.server_runtime.specs.Registers.{AreServing};
+ghost use Rattle.server_runtime.specs.Resolved.{turns_at, AreResolved, IsResolved};
 ghost use Rattle.server_runtime.specs.Noting.{is_condition_of, is_operand_at, is_written_at};
 ghost use Rattle.server_runtime.specs.Spans.{last_below, numbers_of, reads_at};
 ghost use Rattle.server_runtime.specs.Spans.{server_spans, values_at, values_kept, writes_at};
 ghost use Rattle.server_runtime.specs.Walks.{is_due, AreLastReads, AreTurns};
 
 use crate::laws::a_server_run_goes_by_steps;
-use crate::plan::PreparedProgram;
+use crate::plan::{PreparedProgram, Turn};
+use crate::resolved::{seats_of, turn_at};
 use flat_ir::{Instr, InstrKind, RegPlan, Span, Spans, ValueId};
 use gal_io::NoMemory;
 use split_model::Layout;
@@ -328,78 +330,54 @@ fn is_due(whole: &PreparedProgram, last: &[u32], i: usize) -> bool
     }
 }
 
-// The instructions at which a run takes a turn, in order.
-fn turns_of(alloc: Global, whole: &PreparedProgram, last: &[u32]) -> Result<Vec<u32>, NoMemory>
+// The turns of a run, in order, with the places of their operands and results among registers.
+fn turns_of(
+    alloc: Global,
+    whole: &PreparedProgram,
+    last: &[u32],
+    values: &Regs,
+) -> Result<Vec<Turn>, NoMemory>
     requires prepared { IsPrepared whole.now }
     requires last { AreLastReads (program_of whole.now.flat) whole.now.split last.now }
-    ensures { IfOk result (λ turns. AreTurns (program_of whole.now.flat) whole.now.split turns.items) }
+    ensures turns { IfOk result (λ turns.
+        AreTurns (program_of whole.now.flat) whole.now.split (turns_at turns.items)) }
+    ensures resolved { IfOk result (λ turns. Each (IsResolved (program_of whole.now.flat) values.now) turns.items) }
 {
     let mut turns = Vec::new(alloc);
     for i in 0..whole.flat.code.len() {
         if is_due(whole, last, i) {
-            turns.push(i as u32)?;
+            turns.push(turn_at(alloc, whole, values, i)?)?;
         }
     }
     Ok(turns)
 }
 
-// Where the number of an instruction's first value stands by a plan, past all registers if nowhere.
-fn seat_of(whole: &PreparedProgram, plan: &RegPlan, instruction: usize) -> u32
-    requires prepared { IsPrepared whole.now }
-    requires within { instruction < length whole.now.flat.code }
-    ensures { let f = program_of whole.now.flat in
-        result ≡ seat_by f plan.now instruction }
-{
-    let value = ValueId {
-        instruction: instruction as u32,
-        result: 0,
-    };
-    match whole.number(value) {
-        Some(number) => plan.register(number).unwrap_or(u32::MAX),
-        None => u32::MAX,
-    }
-}
-
-// Where each instruction's first value stands by a plan.
-fn seats_of(alloc: Global, whole: &PreparedProgram, plan: &RegPlan) -> Result<Vec<u32>, NoMemory>
-    requires { IsPrepared whole.now }
-    ensures count { IfOk result (λ seats. length seats.items ≡ length whole.now.flat.code) }
-    ensures each { let f = program_of whole.now.flat in
-        IfOk result (λ seats. (i : ℕ) → i < length whole.now.flat.code
-        → slice_index seats.items i ≡ seat_by f plan.now i) }
-{
-    let count = whole.flat.code.len();
-    let mut seats = Vec::with_capacity(alloc, count)?;
-    for instruction in 0..count {
-        seats.push(seat_of(whole, plan, instruction))?;
-    }
-    Ok(seats)
-}
-
 /// What a run goes by: registers in which its values are computed, where each instruction's first value has its own,
-/// and the instructions at which it takes a turn, in order.
+/// and the turns that it takes, in order.
 #[derive(Drop)]
 pub(crate) struct Course {
     pub values: Regs,
     pub seats: Vec<u32>,
-    pub turns: Vec<u32>,
+    pub turns: Vec<Turn>,
 }
 
 /// What a run goes by, with a zero in each register.
 pub(crate) fn course_of(alloc: Global, whole: &PreparedProgram) -> Result<Course, NoMemory>
     requires { IsPrepared whole.now }
     ensures serving { IfOk result (λ made. AreServing (program_of whole.now.flat) whole.now.split made.values) }
-    ensures seats { IfOk result (λ made. AreSeats (program_of whole.now.flat) made.seats.items made.values) }
-    ensures turns { IfOk result (λ made. AreTurns (program_of whole.now.flat) whole.now.split made.turns.items) }
+    ensures resolved { IfOk result (λ made.
+        AreResolved (program_of whole.now.flat) made.seats.items made.turns.items made.values) }
+    ensures turns { IfOk result (λ made.
+        AreTurns (program_of whole.now.flat) whole.now.split (turns_at made.turns.items)) }
 {
     a_plan_keeps_apart();
     a_server_run_goes_by_steps();
     let last = last_reads(alloc, whole)?;
     let spans = spans_of(alloc, whole, &last)?;
     let plan = RegPlan::of(alloc, &spans)?;
-    let seats = seats_of(alloc, whole, &plan)?;
-    let turns = turns_of(alloc, whole, &last)?;
     let values = Regs::planned(alloc, plan)?;
+    let seats = seats_of(alloc, whole, &values)?;
+    let turns = turns_of(alloc, whole, &last, &values)?;
     Ok(Course {
         values,
         seats,

@@ -1,22 +1,23 @@
 //! The server's turn at an instruction.
-ghost use Rattle.std.specs.Prelude.{◌≡◌, ◌+◌, ◌<◌, ◌≤◌, ◌++◌, ◌∷◌, [], true, false};
-ghost use Rattle.std.specs.Prelude.{length, map, vec_capacity, vec_len, IsTrue};
-ghost use Rattle.state_store.specs.Kept.{IsKept};
+ghost use Rattle.std.specs.Prelude.{◌≡◌, ◌+◌, ◌<◌, ◌≤◌, ◌++◌, ◌∷◌, [], ℕ, true, false};
+ghost use Rattle.std.specs.Prelude.{length, vec_capacity, vec_len, IsTrue, List};
 ghost use Rattle.flat_ir.specs.Fits.{fits};
-ghost use Rattle.flat_ir.specs.Kinds.{is_look};
-ghost use Rattle.flat_ir.specs.Program.{program_of, result_count, step_at, step_of, work_of};
+ghost use Rattle.flat_ir.specs.Kinds.{is_write};
+ghost use Rattle.flat_ir.specs.Program.{program_of, work_of};
 ghost use Rattle.flat_ir.specs.Registers.{packet_of};
-ghost use Rattle.flat_ir.specs.Run.{looked, made};
+ghost use Rattle.flat_ir.specs.Run.{made};
+ghost use Rattle.split_model.specs.declared.split.Part.{Part};
+ghost use Rattle.transfer_header.specs.Ready.{ready_work};
+ghost use Rattle.transfer_header.specs.Registers.{place_of};
 ghost use Rattle.server_runtime.specs.Plans.{IsPrepared};
-ghost use Rattle.server_runtime.specs.Registers.{register_reads, with_row, AreSeats, HaveRegisters};
+ghost use Rattle.server_runtime.specs.Registers.{register_reads, AreSeats, HaveRegisters};
+ghost use Rattle.server_runtime.specs.Resolved.{IsResolved};
 ghost use Rattle.server_runtime.specs.Serving.{updates_of};
 ghost use Rattle.server_runtime.specs.Turns.{changed_by, told_of, wanted, HasRoomFor, HasTurned, IsAtTurn};
 
-use crate::plan::PreparedProgram;
-use crate::registers::{Registers, set_number, set_results};
-use flat_ir::{
-    Arrival, Instr, InstrKind, ValueId, compute_number, key_of, look, row_of, what_fits_can_run,
-};
+use crate::plan::{PreparedProgram, Turn};
+use crate::registers::Registers;
+use flat_ir::{Arrival, InstrKind, compute_number, key_of, row_of};
 use state_store::Store;
 use transfer_header::Regs;
 use writeback_table::{To, Update};
@@ -105,112 +106,78 @@ fn tell(numbers: &Registers<'_>, kind: &InstrKind, number: u64, updates: &mut Ve
     }
 }
 
-// The turn of an instruction that gives one number.
-fn give_number(
+// The turn of a put or a del.
+fn write(
     whole: &PreparedProgram,
     arrival: &Arrival<'_>,
-    instruction: usize,
-    instr: &Instr,
+    turn: &Turn,
     values: &mut Regs,
     store: &mut Store,
     updates: &mut Vec<Update>,
 )
-    requires at { IsAtTurn whole.now arrival.now instruction }
-    requires instr { step_of instr.now ≡ step_at (program_of whole.now.flat) instruction }
-    requires number { is_look (work_of instr.now.kind) ≡ false }
-    requires has { HaveRegisters (program_of whole.now.flat) instruction values.old }
+    requires at { IsAtTurn whole.now arrival.now turn.now.instruction }
+    requires resolved { IsResolved (program_of whole.now.flat) values.old turn.now }
+    requires write { is_write (ready_work turn.now.step.kind) ≡ true }
+    requires has { HaveRegisters (program_of whole.now.flat) turn.now.instruction values.old }
     requires seats { AreSeats (program_of whole.now.flat) whole.now.seats.items values.old }
-    requires room { HasRoomFor (program_of whole.now.flat) whole.now.split (packet_of arrival.now) instruction
+    requires room { HasRoomFor (program_of whole.now.flat) whole.now.split (packet_of arrival.now) turn.now.instruction
         values.old store.old (vec_len updates.old) (vec_capacity updates.old) }
-    ensures turn { HasTurned (program_of whole.now.flat) whole.now.split (packet_of arrival.now) instruction
+    ensures turn { HasTurned (program_of whole.now.flat) whole.now.split (packet_of arrival.now) turn.now.instruction
         values.old store.old values.new store.new updates.old.items updates.new.items }
-    ensures seats { AreSeats (program_of whole.now.flat) whole.now.seats.items values.new }
+    ensures places { (value : ℕ) → place_of values.new value ≡ place_of values.old value }
     ensures room { vec_capacity updates.old ≤ vec_capacity updates.new }
 {
+    let instruction = turn.instruction as usize;
+    let instr = &whole.flat.code.as_slice()[instruction];
     let numbers = Registers { whole, values };
     let number = compute_number(&whole.flat, store, arrival, &numbers, instr);
     tell(&numbers, &instr.kind, number, updates);
-    set_number(whole, values, instruction, number);
+    turn.step.places.put_number(number, values);
 }
 
-// Looks a key up and gives the registers of an instruction what was found.
-fn look_up(
+// The turn of an instruction that stores and removes nothing.
+fn compute(
     whole: &PreparedProgram,
-    instruction: usize,
-    object: u32,
-    keys: &[ValueId],
+    arrival: &Arrival<'_>,
+    turn: &Turn,
     values: &mut Regs,
     store: &Store,
 )
-    requires prepared { IsPrepared whole.now }
-    requires within { instruction < length whole.now.flat.code }
-    requires few { length keys.now ≤ 8 }
-    requires has { HaveRegisters (program_of whole.now.flat) instruction values.old }
-    requires seats { AreSeats (program_of whole.now.flat) whole.now.seats.items values.old }
-    requires count { let f = program_of whole.now.flat in
-        length (looked store.now object (map (register_reads f values.old) keys.now))
-        ≡ result_count f.objects (step_at f instruction).work }
-    ensures row { let f = program_of whole.now.flat in
-        values.new
-        ≡ with_row f instruction (looked store.now object (map (register_reads f values.old) keys.now)) values.old }
-    ensures seats { AreSeats (program_of whole.now.flat) whole.now.seats.items values.new }
+    requires at { IsAtTurn whole.now arrival.now turn.now.instruction }
+    requires resolved { IsResolved (program_of whole.now.flat) values.old turn.now }
+    requires write { is_write (ready_work turn.now.step.kind) ≡ false }
+    requires has { HaveRegisters (program_of whole.now.flat) turn.now.instruction values.old }
+    ensures turn { (split : List Part) (updates : List Update) → HasTurned (program_of whole.now.flat) split
+        (packet_of arrival.now) turn.now.instruction values.old store.now values.new store.now updates updates }
+    ensures places { (value : ℕ) → place_of values.new value ≡ place_of values.old value }
 {
-    let results = look(store, &Registers { whole, values }, object, keys);
-    set_results(whole, values, instruction, &results);
+    turn.step.run(store, arrival, values);
 }
 
-// The turn of an instruction that the server evaluates.
-fn evaluate(
-    whole: &PreparedProgram,
-    arrival: &Arrival<'_>,
-    instruction: usize,
-    instr: &Instr,
-    values: &mut Regs,
-    store: &mut Store,
-    updates: &mut Vec<Update>,
-)
-    requires at { IsAtTurn whole.now arrival.now instruction }
-    requires instr { step_of instr.now ≡ step_at (program_of whole.now.flat) instruction }
-    requires has { HaveRegisters (program_of whole.now.flat) instruction values.old }
-    requires seats { AreSeats (program_of whole.now.flat) whole.now.seats.items values.old }
-    requires kept { IsKept whole.now.flat.objects store.old }
-    requires room { HasRoomFor (program_of whole.now.flat) whole.now.split (packet_of arrival.now) instruction
-        values.old store.old (vec_len updates.old) (vec_capacity updates.old) }
-    ensures turn { HasTurned (program_of whole.now.flat) whole.now.split (packet_of arrival.now) instruction
-        values.old store.old values.new store.new updates.old.items updates.new.items }
-    ensures seats { AreSeats (program_of whole.now.flat) whole.now.seats.items values.new }
-    ensures room { vec_capacity updates.old ≤ vec_capacity updates.new }
-{
-    match &instr.kind {
-        InstrKind::Look { object, keys } => {
-            what_fits_can_run(&whole.flat, &instr.kind);
-            look_up(whole, instruction, *object, keys, values, store);
-        }
-        _ => give_number(whole, arrival, instruction, instr, values, store, updates),
-    }
-}
-
-/// The server's turn at an instruction that it evaluates. What the switch is told of it goes into `updates`, which has
-/// room for it.
+/// A turn of the server at an instruction that it evaluates. What the switch is told of it goes into `updates`, which
+/// has room for it.
 pub(crate) fn take_turn(
     whole: &PreparedProgram,
     arrival: &Arrival<'_>,
-    instruction: usize,
+    turn: &Turn,
     values: &mut Regs,
     store: &mut Store,
     updates: &mut Vec<Update>,
 )
-    requires at { IsAtTurn whole.now arrival.now instruction }
-    requires has { HaveRegisters (program_of whole.now.flat) instruction values.old }
+    requires at { IsAtTurn whole.now arrival.now turn.now.instruction }
+    requires resolved { IsResolved (program_of whole.now.flat) values.old turn.now }
+    requires has { HaveRegisters (program_of whole.now.flat) turn.now.instruction values.old }
     requires seats { AreSeats (program_of whole.now.flat) whole.now.seats.items values.old }
-    requires kept { IsKept whole.now.flat.objects store.old }
-    requires room { HasRoomFor (program_of whole.now.flat) whole.now.split (packet_of arrival.now) instruction
+    requires room { HasRoomFor (program_of whole.now.flat) whole.now.split (packet_of arrival.now) turn.now.instruction
         values.old store.old (vec_len updates.old) (vec_capacity updates.old) }
-    ensures turn { HasTurned (program_of whole.now.flat) whole.now.split (packet_of arrival.now) instruction
+    ensures turn { HasTurned (program_of whole.now.flat) whole.now.split (packet_of arrival.now) turn.now.instruction
         values.old store.old values.new store.new updates.old.items updates.new.items }
-    ensures seats { AreSeats (program_of whole.now.flat) whole.now.seats.items values.new }
+    ensures places { (value : ℕ) → place_of values.new value ≡ place_of values.old value }
     ensures room { vec_capacity updates.old ≤ vec_capacity updates.new }
 {
-    let instr = &whole.flat.code.as_slice()[instruction];
-    evaluate(whole, arrival, instruction, instr, values, store, updates);
+    if turn.step.kind.is_write() {
+        write(whole, arrival, turn, values, store, updates);
+    } else {
+        compute(whole, arrival, turn, values, store);
+    }
 }

@@ -9,5 +9,6 @@ pub mod Members
 pub mod Numbers
 pub mod Parts
 pub mod Passing
+pub mod PlacedNumbers
 pub mod WholeFrames
 pub mod Writes

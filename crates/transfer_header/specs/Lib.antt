@@ -6,3 +6,4 @@ pub mod Plans
 pub mod Frames
 pub mod Told
 pub mod BlockSteps
+pub mod Ready

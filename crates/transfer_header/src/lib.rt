@@ -1,11 +1,12 @@
-//! Frames: what goes up to the server with a packet, and what comes down with it; and the registers that hold a
-//! program's values.
+//! Frames: what goes up to the server with a packet, and what comes down with it; the registers that hold a program's
+//! values; and instructions that are computed in them by place.
 #![tactic(auto)]
 
 mod bits;
 mod block_steps;
 mod frame;
 mod laws;
+mod ready;
 mod registers;
 mod room;
 
@@ -17,5 +18,6 @@ pub use laws::{
     frames_tell_their_parts, layouts_fit, needed_values_fit, plans_of_spans,
     values_have_their_numbers, what_crosses_is_held, what_crosses_is_narrow,
 };
+pub use ready::{PlacedOp, Places, ReadyKind, ReadyStep};
 pub use registers::Regs;
 pub use room::FrameRoom;

@@ -91,6 +91,17 @@ impl Regs {
         }
     }
 
+    /// Where the number of a value stands, if it has a register.
+    pub fn register(&self, value: u32) -> Option<u32>
+        ensures { result ≡ place_of self.now value }
+    {
+        match &self.plan {
+            None if (value as usize) < self.items.len() => Some(value),
+            None => None,
+            Some(plan) => plan.register(value),
+        }
+    }
+
     /// The number of a value.
     pub fn at(&self, value: u32) -> u64
         requires { HasRegister self.now value }

@@ -4,11 +4,12 @@ use Rattle.split_model.specs.Layouts.{up_layout}
 use Rattle.transfer_header.specs.declared.frame.Head.{Head}
 use Rattle.transfer_header.specs.Frames.{IsUnpacked}
 use Rattle.transfer_header.specs.Registers.{FitsLayout}
-use Rattle.server_runtime.specs.Registers.{AreSeats, AreServing}
+use Rattle.server_runtime.specs.Registers.{AreServing}
+use Rattle.server_runtime.specs.Resolved.{AreResolved}
 use Rattle.server_runtime.specs.Turns.{IsRead}
 use Rattle.server_runtime.proofs.Handed.{by_result, ok_more}
 use Rattle.server_runtime.proofs.Needed.{cleared_serving, still_serving}
-use Rattle.server_runtime.proofs.Seats.{planned_seats, still_seats}
+use Rattle.server_runtime.proofs.ByPlaces.{planned_resolved, still_resolved}
 use Rattle.server_runtime.proofs.run.read.Goals as goal
 
 pub unpack_up-requires : goal.unpack_up-requires
@@ -44,14 +45,15 @@ returns-clause-serving c =
     (λ head h. still_serving f split before after h.kept.plan h.kept.count cleared) (λ e. subst (AreServing f split) (sym e) cleared)
     c.unpack_up.result c.unpack_up.ensures.ok c.unpack_up.ensures.kept
 
-pub returns-clause-seats : goal.returns-clause-seats
-returns-clause-seats c =
+pub returns-clause-resolved : goal.returns-clause-resolved
+returns-clause-resolved c =
     let whole = c.args.whole.now in
     let f = program_of whole.flat in
     let seats = whole.seats.items in
+    let turns = whole.turns.items in
     let before = c.clear.new.self in
     let after = c.unpack_up.new.into in
-    let cleared = still_seats f seats c.args.values.now before c.clear.ensures.places c.requires.seats in
-    by_result (λ (head : Head). IsUnpacked 1 whole.up c.args.frame.now before after head) (after ≡ before) (AreSeats f seats after)
-    (λ head h. planned_seats f seats before after h.kept.plan h.kept.count cleared) (λ e. subst (AreSeats f seats) (sym e) cleared)
+    let cleared = still_resolved f c.args.values.now before c.clear.ensures.places seats turns c.requires.resolved in
+    by_result (λ (head : Head). IsUnpacked 1 whole.up c.args.frame.now before after head) (after ≡ before) (AreResolved f seats turns after)
+    (λ head h. planned_resolved f seats turns before after h.kept.plan h.kept.count cleared) (λ e. subst (AreResolved f seats turns) (sym e) cleared)
     c.unpack_up.result c.unpack_up.ensures.ok c.unpack_up.ensures.kept

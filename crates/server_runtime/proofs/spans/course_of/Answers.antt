@@ -1,4 +1,4 @@
-use Rattle.std.proofs.Common.{◌∙◌, ◌≡◌, ◌↔◌, ℕ, List, length, None, sym, ap, subst, arith, add-one}
+use Rattle.std.proofs.Common.{◌≡◌, ◌↔◌, ℕ, List, length, None, sym, ap, subst, arith, add-one}
 use Rattle.flat_ir.specs.declared.spans.Span.{Span}
 use Rattle.flat_ir.specs.Plan.{register_of, AreApart}
 use Rattle.flat_ir.specs.Program.{program_of}
@@ -6,8 +6,6 @@ use Rattle.flat_ir.specs.Spans.{spans_of, ValuesDiffer}
 use Rattle.server_runtime.specs.Spans.{server_spans, spans_below}
 use Rattle.server_runtime.specs.Walks.{AreLastReads}
 use Rattle.server_runtime.proofs.Few.{spans_few}
-use Rattle.server_runtime.proofs.Seats.{seats_by_plan}
-use Rattle.server_runtime.proofs.Steps.{code_length}
 use Rattle.server_runtime.proofs.spans.course_of.Goals as goal
 
 pub of-requires-clause-few : goal.of-requires-clause-few
@@ -40,11 +38,8 @@ returns-clause-serving c =
       placed = c.in_ok-values.ensures.placed;
     }
 
-pub returns-clause-seats : goal.returns-clause-seats
-returns-clause-seats c =
-    let flat = c.args.whole.now.flat in
-    seats_by_plan (program_of flat) c.in_ok-seats.seats.items c.in_ok-plan.plan c.in_ok-values.values c.in_ok-values.ensures.plan
-    (c.in_ok-seats.ensures.count ∙ sym (code_length flat)) (λ i lt. c.in_ok-seats.ensures.each i (omega (arith, lt, code_length flat)))
+pub returns-clause-resolved : goal.returns-clause-resolved
+returns-clause-resolved c = record { seats = c.in_ok-seats.ensures; turns = c.in_ok-turns.ensures.resolved }
 
 pub spans_of-requires-clause-last : goal.spans_of-requires-clause-last
 spans_of-requires-clause-last c =

@@ -1,0 +1,258 @@
+-- Turns whose operands and results are known by their places.
+use Rattle.std.proofs.Common.{◌≡◌, ◌+◌, ◌<◌, ◌≤◌, ◌^◌, ◌++◌, ℕ, zero, suc, Bool, true, false, List, [], ◌∷◌, length, get_or, slice_index, Option, None, refl}
+use Rattle.std.proofs.Common.{sym, ap, ◌∙◌, subst, arith, IsSome, append-nil, if◌then◌else◌, true≢false}
+use Rattle.std.proofs.lemmas.List.{get_or-map, length-map, map-append}
+use Rattle.std.specs.Prelude.{unwrap_or}
+use Rattle.std.specs.List.{AllByRecursion as Each}
+use Rattle.packet_fields.specs.declared.packet.Packet.{Packet}
+use Rattle.state_store.specs.Store.{Store}
+use Rattle.flat_ir.specs.declared.program.ValueId.{ValueId}
+use Rattle.flat_ir.specs.Blocks.{is_live, Reading}
+use Rattle.flat_ir.specs.Kinds.{is_look, is_write}
+use Rattle.flat_ir.specs.Program.{is_named, result_count, step_at, Program, Work}
+use Rattle.flat_ir.specs.Program.Work.{const, field, apply, shift, select, byte, look, put, del}
+use Rattle.flat_ir.specs.Renamed.{renamed_results}
+use Rattle.flat_ir.specs.Renaming.{renamed}
+use Rattle.flat_ir.specs.Run.{change_of, made, results, with_changes, Change}
+use Rattle.split_model.specs.declared.split.Part.{Part}
+use Rattle.split_model.specs.Layouts.{number_of, values_below}
+use Rattle.transfer_header.specs.Ready.{all_placed, first_placed, named, placed_gives, places_of, reads_at, ready_work}
+use Rattle.transfer_header.specs.Registers.{place_by, place_of, placed, Registers}
+use Rattle.writeback_table.specs.declared.command.Update.{Update}
+use Rattle.server_runtime.specs.declared.plan.Turn.{Turn}
+use Rattle.server_runtime.specs.Registers.{no_place, place_in, register_reads, with_row, HaveRegisters}
+use Rattle.server_runtime.specs.Resolved.{place_name, turns_at, ArePlaces, AreResolved, IsResolved}
+use Rattle.server_runtime.specs.Running.{row_of}
+use Rattle.server_runtime.specs.Serving.{updates_of}
+use Rattle.server_runtime.specs.Turns.{HasTurned}
+use Rattle.server_runtime.specs.Walks.{AreListed}
+use Rattle.server_runtime.proofs.Numbers.{is_named_by}
+use Rattle.server_runtime.proofs.Rows.{row_more, row_part}
+use Rattle.server_runtime.proofs.Seats.{at_named, named_place, place_placed, put_there, still_seats}
+use Rattle.server_runtime.proofs.Walked.{at_or, listed_more, next_at, IsNext}
+
+-- ## Registers in which values have the places that they had
+
+module _ (f : Program) (before after : Registers) (same : (value : ℕ) → place_of after value ≡ place_of before value) where
+  place_still : (v : ValueId) → place_in f after v ≡ place_in f before v
+  place_still v = ap (λ (o : Option ℕ). unwrap_or (if is_named f v then o else None) no_place) (same (number_of f v))
+
+  names_still : place_name f after ≡ place_name f before
+  names_still = λ k v. named (place_still v k)
+
+  still_turn : (t : Turn) → IsResolved f before t → IsResolved f after t
+  still_turn t h = record {
+    work = h.work ∙ ap (λ (names : ValueId → ValueId). renamed names (step_at f t.instruction).work) (sym names_still);
+    can = h.can;
+    places = record {
+      count = h.places.count;
+      each = λ k lt. h.places.each k lt ∙ sym (place_still (record { instruction = t.instruction; result = k }));
+    };
+  }
+
+  still_turns : (turns : List Turn) → Each (IsResolved f before) turns → Each (IsResolved f after) turns
+  still_turns [] h = tt
+  still_turns (t ∷ ts) h = (still_turn t h.0, still_turns ts h.1)
+
+  pub still_resolved : (seats : List ℕ) (turns : List Turn) → AreResolved f seats turns before → AreResolved f seats turns after
+  still_resolved seats turns h = record { seats = still_seats f seats before after same h.seats; turns = still_turns turns h.turns }
+
+-- with a plan and as many numbers as before
+pub planned_resolved : (f : Program) (seats : List ℕ) (turns : List Turn) (before after : Registers) → after.plan ≡ before.plan
+    → length after.numbers ≡ length before.numbers → AreResolved f seats turns before → AreResolved f seats turns after
+planned_resolved f seats turns before after plan count = still_resolved f before after (λ value p. place_by (plan p) (count p) value) seats turns
+
+-- ## Results at their places
+
+placed_behind : (registers : Registers) (ps qs : List (ℕ × ℕ)) → all_placed registers (ps ++ qs) ≡ all_placed (all_placed registers ps) qs
+placed_behind registers [] qs = refl
+placed_behind registers (p ∷ ps) qs = placed_behind (placed registers p.0 p.1) ps qs
+
+placed_places : (registers : Registers) (pairs : List (ℕ × ℕ)) (value : ℕ) → place_of (all_placed registers pairs) value ≡ place_of registers value
+placed_places registers [] value = refl
+placed_places registers (p ∷ ps) value = placed_places (placed registers p.0 p.1) ps value ∙ place_placed registers p.0 p.1 value
+
+pub still_places : (before after : Registers) (pairs : List (ℕ × ℕ)) → after ≡ all_placed before pairs
+    → (value : ℕ) → place_of after value ≡ place_of before value
+still_places before after pairs is value = ap (λ (rs : Registers). place_of rs value) is ∙ placed_places before pairs value
+
+module _ (f : Program) (i : ℕ) (registers : Registers) (within : i < length f.code) (has : HaveRegisters f i registers) where
+  abbrev count : ℕ
+  count = result_count f.objects (step_at f i).work
+
+  abbrev start : ℕ
+  start = length (values_below f i)
+
+  result_place : (k : ℕ) → k < count → place_in f registers (record { instruction = i; result = k }) ≡ unwrap_or (place_of registers (start + k)) no_place
+  result_place k lt =
+      let v : ValueId = record { instruction = i; result = k } in
+      ap (λ (o : Option ℕ). unwrap_or o no_place) (named_place (is_named f v) (place_of registers (number_of f v)) (is_named_by f v within lt))
+
+  part_placed : (places row : List ℕ) → ArePlaces f registers i places → (k : ℕ) → k ≤ count
+      → all_placed registers (first_placed places row k) ≡ row_part f i registers row k
+  part_placed places row are zero le = refl
+  part_placed places row are (suc k) le =
+      let lt : k < count = omega (arith, le) in
+      let before = first_placed places row k in
+      let so : Registers = row_part f i registers row k in
+      let now : all_placed registers before ≡ so = part_placed places row are k (omega (arith, le)) in
+      let still : place_of registers (start + k) ≡ place_of so (start + k) =
+      sym (ap (λ (rs : Registers). place_of rs (start + k)) (sym now) ∙ placed_places registers before (start + k)) in
+      placed_behind registers before ((slice_index places k, slice_index row k) ∷ [])
+      ∙ ap (λ (rs : Registers). placed rs (slice_index places k) (slice_index row k)) now
+      ∙ ap (λ (p : ℕ). placed so p (slice_index row k)) (are.each k lt ∙ result_place k lt)
+      ∙ put_there so (place_of registers (start + k)) (start + k) (slice_index row k) still (subst (λ (o : Option ℕ). IsSome o) still (has k lt))
+      ∙ sym (row_more f i registers row k)
+
+  -- by their places results are put as by their numbers
+  pub row_placed : (places row : List ℕ) → ArePlaces f registers i places → all_placed registers (placed_gives places row) ≡ with_row f i row registers
+  row_placed places row are =
+      ap (λ (n : ℕ). all_placed registers (first_placed places row n)) are.count ∙ part_placed places row are count (omega arith)
+
+-- the place of an only result
+pub one_place : (f : Program) (registers : Registers) (i place : ℕ) → place ≡ place_in f registers (record { instruction = i; result = 0 })
+    → 1 ≡ result_count f.objects (step_at f i).work → ArePlaces f registers i (place ∷ [])
+one_place f registers i place is one = record { count = one; each = λ k lt. at k (omega (arith, lt, one)) }
+  where
+    at : (k : ℕ) → k < 1 → slice_index (place ∷ []) k ≡ place_in f registers (record { instruction = i; result = k })
+    at zero lt = is
+    at (suc k) lt = absurd (omega (arith, lt))
+
+-- ## What a turn gives
+
+-- by its place each value is read as by its number
+reads_by_place : (f : Program) (registers : Registers) → length registers.numbers < 2 ^ 32
+    → (λ (v : ValueId). reads_at registers.numbers (place_name f registers v)) ≡ register_reads f registers
+reads_by_place f registers few = λ k v. at_named registers.numbers (is_named f v) (place_of registers (number_of f v)) few k
+
+-- only a put and a del ask whether their block is live
+live_or_not : (reads : Reading) (live : Bool) (st : Store) (packet : Packet) (work : Work) → is_write work ≡ false
+    → results reads false st packet work ≡ results reads live st packet work
+live_or_not reads live st packet (put object keys values) e = absurd (true≢false e)
+live_or_not reads live st packet (del object keys) e = absurd (true≢false e)
+live_or_not reads live st packet (const width number) e = refl
+live_or_not reads live st packet (field name) e = refl
+live_or_not reads live st packet (apply op width args) e = refl
+live_or_not reads live st packet (shift op width arg by) e = refl
+live_or_not reads live st packet (select width cond first second) e = refl
+live_or_not reads live st packet (byte index) e = refl
+live_or_not reads live st packet (look object keys) e = refl
+
+none_made : (live : Bool) → made live None ≡ []
+none_made true = refl
+none_made false = refl
+
+changes_nothing : (reads : Reading) (live : Bool) (st : Store) (work : Work) → is_write work ≡ false → made live (change_of reads st work) ≡ []
+changes_nothing reads live st (put object keys values) e = absurd (true≢false e)
+changes_nothing reads live st (del object keys) e = absurd (true≢false e)
+changes_nothing reads live st (const width number) e = none_made live
+changes_nothing reads live st (field name) e = none_made live
+changes_nothing reads live st (apply op width args) e = none_made live
+changes_nothing reads live st (shift op width arg by) e = none_made live
+changes_nothing reads live st (select width cond first second) e = none_made live
+changes_nothing reads live st (byte index) e = none_made live
+changes_nothing reads live st (look object keys) e = none_made live
+
+renamed_write : (names : ValueId → ValueId) (work : Work) → is_write (renamed names work) ≡ is_write work
+renamed_write names (put object keys values) = refl
+renamed_write names (del object keys) = refl
+renamed_write names (const width number) = refl
+renamed_write names (field name) = refl
+renamed_write names (apply op width args) = refl
+renamed_write names (shift op width arg by) = refl
+renamed_write names (select width cond first second) = refl
+renamed_write names (byte index) = refl
+renamed_write names (look object keys) = refl
+
+-- whether a turn writes is told by its instruction
+writes_alike : (f : Program) (registers : Registers) (t : Turn) → IsResolved f registers t
+    → is_write (step_at f t.instruction).work ≡ is_write (ready_work t.step.kind)
+writes_alike f registers t h = sym (renamed_write (place_name f registers) (step_at f t.instruction).work) ∙ sym (ap is_write h.work)
+
+no_look : (work : Work) → is_write work ≡ true → is_look work ≡ false
+no_look (put object keys values) e = refl
+no_look (del object keys) e = refl
+no_look (const width number) e = absurd (true≢false (sym e))
+no_look (field name) e = absurd (true≢false (sym e))
+no_look (apply op width args) e = absurd (true≢false (sym e))
+no_look (shift op width arg by) e = absurd (true≢false (sym e))
+no_look (select width cond first second) e = absurd (true≢false (sym e))
+no_look (byte index) e = absurd (true≢false (sym e))
+no_look (look object keys) e = absurd (true≢false (sym e))
+
+-- a turn that writes looks nothing up
+pub write_is_no_look : (f : Program) (registers : Registers) (t : Turn) → IsResolved f registers t → is_write (ready_work t.step.kind) ≡ true
+    → is_look (step_at f t.instruction).work ≡ false
+write_is_no_look f registers t h e = no_look (step_at f t.instruction).work (writes_alike f registers t h ∙ e)
+
+-- a turn that doesn't write is computed by place
+pub computed_turn : (f : Program) (split : List Part) (packet : Packet) (registers : Registers) (st : Store) (t : Turn) (after : Registers) (told : List Update)
+    → t.instruction < length f.code → HaveRegisters f t.instruction registers → IsResolved f registers t
+    → is_write (ready_work t.step.kind) ≡ false → length registers.numbers < 2 ^ 32
+    → after ≡ all_placed registers (placed_gives (places_of t.step.places) (results (reads_at registers.numbers) false st packet (ready_work t.step.kind)))
+    → HasTurned f split packet t.instruction registers st after st told told
+computed_turn f split packet registers st t after told within has h writes few is =
+    let i = t.instruction in
+    let work = (step_at f i).work in
+    let names : ValueId → ValueId = place_name f registers in
+    let reads : Reading = register_reads f registers in
+    let live = is_live f.blocks reads (step_at f i).block in
+    let quiet : is_write work ≡ false = writes_alike f registers t h ∙ writes in
+    let gives : results (reads_at registers.numbers) false st packet (ready_work t.step.kind) ≡ row_of f packet i reads st =
+    ap (λ (w : Work). results (reads_at registers.numbers) false st packet w) h.work
+    ∙ renamed_results names (reads_at registers.numbers) false st packet work
+    ∙ ap (λ (r : Reading). results r false st packet work) (reads_by_place f registers few)
+    ∙ live_or_not reads live st packet work quiet in
+    let nothing : made live (change_of reads st work) ≡ [] = changes_nothing reads live st work quiet in
+    record {
+      registers = is ∙ ap (λ (row : List ℕ). all_placed registers (placed_gives (places_of t.step.places) row)) gives
+          ∙ row_placed f i registers within has (places_of t.step.places) (row_of f packet i reads st) h.places;
+      store = sym (ap (λ (cs : List Change). with_changes st cs) nothing);
+      told = sym (append-nil told) ∙ sym (ap (λ (cs : List Change). told ++ updates_of f split cs) nothing);
+    }
+
+-- ## Lists of turns
+
+each_at : {X : Type 0} (P : X → Type 0) (xs : List X) (k : ℕ) (d : X) → Each P xs → k < length xs → P (get_or xs k d)
+each_at P [] k d h lt = absurd (omega (arith, lt))
+each_at P (x ∷ xs) zero d h lt = h.0
+each_at P (x ∷ xs) (suc k) d h lt = each_at P xs k d h.1 (omega (arith, lt))
+
+each_push : {X : Type 0} (P : X → Type 0) (xs : List X) (x : X) → Each P xs → P x → Each P (xs ++ x ∷ [])
+each_push P [] x h last = (last, tt)
+each_push P (y ∷ ys) x h last = (h.0, each_push P ys x h.1 last)
+
+-- one turn of a list
+pub turn_of_list : (f : Program) (registers : Registers) (items turns : List Turn) (k : ℕ) (t : Turn) → items ≡ turns → Each (IsResolved f registers) turns
+    → k < length items → t ≡ get_or items k t → IsResolved f registers t
+turn_of_list f registers items turns k t same each lt is =
+    let low : k < length turns = omega (arith, lt, ap (λ (l : List Turn). length l) same) in
+    subst (IsResolved f registers) (sym (is ∙ ap (λ (l : List Turn). get_or l k t) same)) (each_at (IsResolved f registers) turns k t each low)
+
+-- and the one behind it
+pub next_turn : (test : ℕ → Bool) (end : ℕ) (items turns : List Turn) (k : ℕ) (t : Turn) → items ≡ turns → AreListed test 0 end (turns_at turns)
+    → k < length items → t ≡ get_or items k t
+    → IsNext test end t.instruction (at_or (turns_at turns) (suc k) end) × (at_or (turns_at turns) k end ≡ t.instruction)
+next_turn test end items turns k t same h lt is =
+    let low : k < length turns = omega (arith, lt, ap (λ (l : List Turn). length l) same) in
+    let place : Turn → ℕ = λ u. u.instruction in
+    let here : get_or (turns_at turns) k 0 ≡ t.instruction =
+    get_or-map place turns k t 0 low ∙ ap (λ (l : List Turn). (get_or l k t).instruction) (sym same) ∙ ap place (sym is) in
+    let n = next_at test end (turns_at turns) (turns_at turns) k refl h (omega (arith, low, length-map turns place)) in
+    (subst (λ (i : ℕ). IsNext test end i (at_or (turns_at turns) (suc k) end)) here n.0, n.1 ∙ here)
+
+pub turns_count : (turns : List Turn) → length (turns_at turns) ≡ length turns
+turns_count turns = length-map turns (λ (u : Turn). u.instruction)
+
+-- one turn more
+pub more_turns : (test : ℕ → Bool) (f : Program) (registers : Registers) (i : ℕ) (turns after : List Turn) (t : Turn)
+    → after ≡ turns ++ t ∷ [] → t.instruction ≡ i → test i ≡ true → IsResolved f registers t
+    → AreListed test 0 i (turns_at turns) × Each (IsResolved f registers) turns
+    → AreListed test 0 (suc i) (turns_at after) × Each (IsResolved f registers) after
+more_turns test f registers i turns after t more at due resolved so =
+    let place : Turn → ℕ = λ u. u.instruction in
+    let list : turns_at turns ++ i ∷ [] ≡ turns_at after =
+    ap (λ (n : ℕ). turns_at turns ++ n ∷ []) (sym at) ∙ sym (map-append place turns (t ∷ [])) ∙ ap (λ (l : List Turn). turns_at l) (sym more) in (
+      subst (λ (ts : List ℕ). AreListed test 0 (suc i) ts) list (listed_more test 0 i (turns_at turns) so.0 (omega arith) due),
+      subst (Each (IsResolved f registers)) (sym more) (each_push (IsResolved f registers) turns t so.1 resolved),
+    )
