@@ -1,3 +1,4 @@
 pub mod Longest
+pub mod FirstByte
 pub mod Shorter
 pub mod FirstBroken

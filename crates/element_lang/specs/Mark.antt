@@ -1,6 +1,6 @@
 -- The keywords and symbols of a source.
-use Rattle.std.specs.Prelude.{ℕ, Bool, not, ◌&&◌, List, [], ◌∷◌, length, Option, nat_eq, nat_lt, codes}
-use Rattle.std.specs.List.{find, starts_with, list_any}
+use Rattle.std.specs.Prelude.{ℕ, Bool, not, ◌&&◌, List, [], ◌∷◌, length, Option, nat_eq, nat_lt, slice_index, codes}
+use Rattle.std.specs.List.{filter, find, starts_with, list_any}
 use Rattle.std.specs.Str.{bytes_eq}
 use Rattle.element_lang.specs.declared.mark.Mark.{Mark}
 use Rattle.element_lang.specs.declared.mark.Mark.TheVariants.{Table, Map, Vector, Int, Capacity, Length, Process, Let}
@@ -71,6 +71,17 @@ symbols =
     Arrow ∷ Equal ∷ NotEqual ∷ AtMost ∷ ShiftLeft ∷ ShiftRight ∷ LeftParen ∷ RightParen ∷ LeftBracket ∷ RightBracket
     ∷ LeftBrace ∷ RightBrace ∷ Comma ∷ Semicolon ∷ Colon ∷ Assign ∷ Plus ∷ Minus ∷ Star ∷ Slash ∷ Percent ∷ Ampersand
     ∷ Bar ∷ Caret ∷ Tilde ∷ Less ∷ []
+
+-- its spelling begins with the byte
+abbrev pub begins : ℕ → Mark → Bool
+begins byte m = nat_eq (slice_index (spelling m) 0) byte
+
+-- those that begin with the byte, in order
+unfoldable pub keywords_from : ℕ → List Mark
+keywords_from byte = filter (begins byte) keywords
+
+unfoldable pub symbols_from : ℕ → List Mark
+symbols_from byte = filter (begins byte) symbols
 
 -- the keyword that is written so
 abbrev pub keyword : List ℕ → Option Mark

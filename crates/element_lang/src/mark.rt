@@ -55,59 +55,61 @@ pub enum Mark {
     Less,
 }
 
-// The keywords. No name of an object or a local is one of these.
-const KEYWORDS: [Mark; 20] = [
-    Mark::Table,
-    Mark::Map,
-    Mark::Vector,
-    Mark::Int,
-    Mark::Capacity,
-    Mark::Length,
-    Mark::Process,
-    Mark::Let,
-    Mark::Look,
-    Mark::Put,
-    Mark::Del,
-    Mark::If,
-    Mark::Else,
-    Mark::Repeat,
-    Mark::Send,
-    Mark::Drop,
-    Mark::Byte,
-    Mark::Cast,
-    Mark::Select,
-    Mark::Adjust,
-];
+// The keywords that begin with this byte. No name of an object or a local is a keyword.
+#[tactic(auto, unfolding(crate::specs::Mark::keywords_from))]
+fn keywords_from(first: u8) -> &'static [Mark]
+    ensures { result.now ≡ marks.keywords_from first }
+{
+    match first {
+        b'a' => &[Mark::Adjust],
+        b'b' => &[Mark::Byte],
+        b'c' => &[Mark::Capacity, Mark::Cast],
+        b'd' => &[Mark::Del, Mark::Drop],
+        b'e' => &[Mark::Else],
+        b'i' => &[Mark::Int, Mark::If],
+        b'l' => &[Mark::Length, Mark::Let, Mark::Look],
+        b'm' => &[Mark::Map],
+        b'p' => &[Mark::Process, Mark::Put],
+        b'r' => &[Mark::Repeat],
+        b's' => &[Mark::Send, Mark::Select],
+        b't' => &[Mark::Table],
+        b'v' => &[Mark::Vector],
+        _ => &[],
+    }
+}
 
-// The symbols. The longer ones stand before the shorter ones, so that the first that fits is the longest.
-const SYMBOLS: [Mark; 26] = [
-    Mark::Arrow,
-    Mark::Equal,
-    Mark::NotEqual,
-    Mark::AtMost,
-    Mark::ShiftLeft,
-    Mark::ShiftRight,
-    Mark::LeftParen,
-    Mark::RightParen,
-    Mark::LeftBracket,
-    Mark::RightBracket,
-    Mark::LeftBrace,
-    Mark::RightBrace,
-    Mark::Comma,
-    Mark::Semicolon,
-    Mark::Colon,
-    Mark::Assign,
-    Mark::Plus,
-    Mark::Minus,
-    Mark::Star,
-    Mark::Slash,
-    Mark::Percent,
-    Mark::Ampersand,
-    Mark::Bar,
-    Mark::Caret,
-    Mark::Tilde,
-    Mark::Less,
-];
+// The symbols that begin with this byte. The longer ones stand before the shorter ones, so that the first that fits is
+// the longest.
+#[tactic(auto, unfolding(crate::specs::Mark::symbols_from))]
+fn symbols_from(first: u8) -> &'static [Mark]
+    ensures { result.now ≡ marks.symbols_from first }
+{
+    match first {
+        b'-' => &[Mark::Arrow, Mark::Minus],
+        b'=' => &[Mark::Equal, Mark::Assign],
+        b'!' => &[Mark::NotEqual],
+        b'<' => &[Mark::AtMost, Mark::ShiftLeft, Mark::Less],
+        b'>' => &[Mark::ShiftRight],
+        b'(' => &[Mark::LeftParen],
+        b')' => &[Mark::RightParen],
+        b'[' => &[Mark::LeftBracket],
+        b']' => &[Mark::RightBracket],
+        b'{' => &[Mark::LeftBrace],
+        b'}' => &[Mark::RightBrace],
+        b',' => &[Mark::Comma],
+        b';' => &[Mark::Semicolon],
+        b':' => &[Mark::Colon],
+        b'+' => &[Mark::Plus],
+        b'*' => &[Mark::Star],
+        b'/' => &[Mark::Slash],
+        b'%' => &[Mark::Percent],
+        b'&' => &[Mark::Ampersand],
+        b'|' => &[Mark::Bar],
+        b'^' => &[Mark::Caret],
+        b'~' => &[Mark::Tilde],
+        _ => &[],
+    }
+}
 
 // The first mark of a list that is written so.
 fn first_written(list: &[Mark], word: &[u8]) -> Option<Mark>
@@ -139,7 +141,10 @@ impl Mark {
     pub fn keyword(word: &[u8]) -> Option<Mark>
         ensures { result ≡ marks.keyword word.now }
     {
-        first_written(&KEYWORDS, word)
+        let Some(first) = word.first() else {
+            return None;
+        };
+        first_written(keywords_from(*first), word)
     }
 
     /// The longest symbol with which the bytes begin.
@@ -147,7 +152,10 @@ impl Mark {
         ensures found { result ≡ marks.symbol_in_front bytes.now }
         ensures within { IfSome result (λ mark. length (marks.spelling mark) ≤ length bytes.now) }
     {
-        first_in_front(&SYMBOLS, bytes)
+        let Some(first) = bytes.first() else {
+            return None;
+        };
+        first_in_front(symbols_from(*first), bytes)
     }
 
     /// How it is written.

@@ -27,7 +27,14 @@ const ORDERED: [&[u8]; 5] = [
     b"\0\0\0",
 ];
 
-const UNORDERED: [&[u8]; 4] = [b"\0\0\x01\0item", b"\0\0\0\0", b"\0\0\x01\0", b""];
+const UNORDERED: [&[u8]; 6] = [
+    b"\0\0\x01\0item",
+    b"\0\0\0\0",
+    b"\xff\xff\xff\xff",
+    b"\0\0\x01\0",
+    b"\xff\xff\xff\xff",
+    b"",
+];
 
 #[test]
 fn an_ordered_receiver_delivers_the_next_alone(rt: HostRuntime) {
@@ -46,7 +53,9 @@ fn an_unordered_receiver_delivers_in_any_order(rt: HostRuntime) {
     let wanted = [
         Took::New(256),
         Took::New(0),
+        Took::New(4_294_967_295),
         Took::Again(256),
+        Took::Again(4_294_967_295),
         Took::Malformed,
     ];
     assert_eq!(rt; answers(rt.alloc(), false, &UNORDERED, &wanted), Ok(true));

@@ -7,6 +7,7 @@ mod command;
 mod laws;
 mod marks;
 mod number;
+mod numbers;
 mod receiver;
 mod sender;
 

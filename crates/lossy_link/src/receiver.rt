@@ -1,12 +1,12 @@
 //! The end of a link that receives.
-ghost use Rattle.std.specs.Prelude.{◌≡◌, IfOk, OnOk, OnErr};
+ghost use Rattle.std.specs.Prelude.{◌≡◌, false, IfOk, OnOk, OnErr};
 ghost use Rattle.lossy_link.specs.Receiver as spec;
 
 use crate::answers::Took;
 use crate::number::number_in;
+use crate::numbers::Numbers;
 use gal_io::{Bytes, NoMemory};
 use std::alloc::Global;
-use std::collections::BTreeSet;
 use std::marker::Model;
 
 /// An item that a receiver delivered, with its number.
@@ -22,8 +22,8 @@ pub struct LinkReceiver {
     alloc: Global,
     ordered: bool,
     pairs: Vec<Delivered>,
-    // The numbers of the pairs.
-    numbers: BTreeSet<u32>,
+    // The numbers of the pairs. Those of an ordered link go up one by one, and aren't kept.
+    numbers: Numbers,
 }
 
 impl Model for LinkReceiver {
@@ -34,7 +34,7 @@ impl Model for LinkReceiver {
 
     ghost view = { λ r. record { ordered = r.ordered; pairs = r.pairs.items } };
 
-    ghost invariant = { λ r. AreNumbersOf r.pairs.items r.numbers };
+    ghost invariant = { λ r. AreNumbersOf r.ordered r.pairs.items r.numbers };
 }
 
 impl LinkReceiver {
@@ -47,7 +47,7 @@ impl LinkReceiver {
             alloc,
             ordered,
             pairs: Vec::new(alloc),
-            numbers: BTreeSet::new(alloc),
+            numbers: Numbers::new(alloc),
         }
     }
 
@@ -59,8 +59,9 @@ impl LinkReceiver {
     }
 
     /// Reads a datagram, which is a number in four bytes, the highest first, and an item behind it, and delivers the
-    /// item where it is new. After want of memory all is as before. The number is looked up in an ordered set, in time
-    /// that grows with the logarithm of how many items were delivered.
+    /// item where it is new. After want of memory all is as before. A look takes the same time however many items were
+    /// delivered, but where numbers are far above how many were: of those it takes the logarithm. Memory is taken for the
+    /// items that are delivered alone, whatever their numbers.
     #[tactic(auto, using(crate::proofs::Kept::takes_short, crate::proofs::Kept::takes_again, crate::proofs::Kept::takes_early, crate::proofs::Kept::takes_new))]
     pub fn take(&mut self, bytes: &[u8]) -> Result<Took, NoMemory>
         ensures answer { IfOk result (λ took. took ≡ spec.take_answer self.old bytes.now) }
@@ -85,7 +86,11 @@ impl LinkReceiver {
     fn has(&self, number: u32) -> bool
         ensures { result ≡ spec.is_delivered self.now.pairs number }
     {
-        self.numbers.contains(&number)
+        if self.ordered {
+            (number as usize) < self.pairs.len()
+        } else {
+            self.numbers.has(number)
+        }
     }
 
     // Whether items before the one of this number are still to come.
@@ -96,14 +101,15 @@ impl LinkReceiver {
     }
 
     // Delivers an item behind the others.
-    #[tactic(auto, using(crate::proofs::Kept::numbers_more))]
     fn deliver(&mut self, number: u32, item: &[u8]) -> Result<(), NoMemory>
+        requires new { spec.is_delivered self.old.pairs number ≡ false }
+        requires due { spec.is_early self.old number ≡ false }
         ensures ok { OnOk result (self.new ≡ spec.with_pair self.old number item.now) }
         ensures err { OnErr result (self.new ≡ self.old) }
     {
         let item = Bytes::from_slice(self.alloc, item)?;
         self.pairs.push(Delivered { number, item })?;
-        if self.numbers.insert(number).is_err() {
+        if !self.ordered && self.numbers.add(number, self.pairs.len()).is_err() {
             let _ = self.pairs.pop();
             return Err(NoMemory);
         }

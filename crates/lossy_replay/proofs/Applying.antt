@@ -40,7 +40,7 @@ none_next k within is =
     ] refl is
 
 pub some_applies : (s : SplitProgram) (setup : Setup) (calls : List Call) (st : State) (c : Course) (command : Command) (b : Bool)
-    → IsShown s calls st c → next c.commit ≡ Some command → b ≡ waits c.passes.items (Some command) → not b ≡ applies setup st Apply
+    → IsShown s calls st c → next c.commit ≡ Some command → b ≡ waits c.passes (Some command) → not b ≡ applies setup st Apply
 some_applies s setup calls st c command b shown is waits_is =
     let at = next_there c.commit command is in
     let more : nat_lt st.done st.sent ≡ true = sym (λ i. nat_lt (shown.done i) (shown.sent i)) ∙ at.0 in

@@ -3,7 +3,7 @@ ghost use Rattle.std.specs.Prelude.{◌≡◌, List, Some};
 ghost use Rattle.run_model.specs.declared.event.Event.TheVariants.{Apply};
 ghost use Rattle.replay_state.specs.Journal.{Call};
 ghost use Rattle.replay_state.specs.State.{State};
-ghost use Rattle.replay_state.specs.Step.{applies, waits};
+ghost use Rattle.replay_state.specs.Step.{applies};
 ghost use Rattle.replay_contracts.specs.Given.{setup_for, whole};
 ghost use Rattle.replay_contracts.specs.Replayer.{given_of};
 ghost use Rattle.replay_course.specs.Shown.{IsShown};
@@ -11,14 +11,6 @@ ghost use Rattle.replay_course.specs.Shown.{IsShown};
 use replay_contracts::Job;
 use replay_course::Course;
 use run_model::Event;
-use writeback_table::Command;
-
-// Whether a command has to wait for a pass under way.
-fn waits(course: &Course, command: &Command) -> bool
-    ensures { result ≡ waits course.now.passes.items (Some command.now) }
-{
-    course.passes.iter().any(|pass| command.disturbs(pass.bit))
-}
 
 // Whether the next command that was sent is there and need not wait for a pass under way.
 fn may_apply(course: &Course) -> bool
@@ -26,7 +18,7 @@ fn may_apply(course: &Course) -> bool
         → result ≡ applies (setup_for (given_of job)) st Apply }
 {
     match course.commit.peek() {
-        Some(command) => !waits(course, &command),
+        Some(command) => !course.passes.are_disturbed(&command),
         None => false,
     }
 }

@@ -1,6 +1,6 @@
 -- What the calls in each event come to.
-use Rattle.std.proofs.Common.{◌≡◌, ◌<◌, ◌≤◌, ◌+◌, ◌-◌, ℕ, zero, suc, Bool, true, false, eqb, leb, List, [], ◌∷◌, ◌++◌, Option, Some, None, inl, inr, refl, sym, ap, subst, ◌∙◌, arith, length, get_or, map}
-use Rattle.std.specs.Prelude.{slice_get, slice_set, remove, nat_lt, not, ◌&&◌, IfSome, IsSome, OnSome, if◌then◌else◌}
+use Rattle.std.proofs.Common.{◌≡◌, ◌<◌, ◌≤◌, ◌+◌, ◌-◌, ℕ, zero, suc, Bool, true, false, eqb, leb, List, [], ◌∷◌, ◌++◌, Some, None, inl, inr, refl, sym, ap, subst, ◌∙◌, arith, length, get_or, map}
+use Rattle.std.specs.Prelude.{slice_get, slice_set, remove, nat_lt, not, ◌&&◌, IfSome, IsSome, if◌then◌else◌}
 use Rattle.std.specs.List.{AllByRecursion as Each}
 use Rattle.std.proofs.lemmas.Bool.{cases_Bool, cases_lt, eqb-true, le-ltb, leb-false, leb-true, lt-ltb}
 use Rattle.std.proofs.lemmas.Bool.Decides.{nat_tests}
@@ -79,7 +79,7 @@ idles x ev stepped c after port going idle sound same counted shows never =
     idle_turned x ev stepped c after port going idle (sound x going.sound) same counted never
     (λ calls st off h. shows (whole x) (setup_for x) (answered x calls) calls st ev off h)
 
-pub stage_idles : (x : Given) (stepped : Stepped) (c after : Course) (port : PortState) (j : ℕ) → IsGoing x c port → length c.passes.items ≤ j → stepped ≡ Idle
+pub stage_idles : (x : Given) (stepped : Stepped) (c after : Course) (port : PortState) (j : ℕ) → IsGoing x c port → length c.passes ≤ j → stepped ≡ Idle
     → ((y : Given) → IsSound y c → IsSound y after) → unapplied after ≡ unapplied c → after.events ≡ c.events + 1 → ShowsIdle c after → HasTurned x (event.Stage j) stepped c port after port
 stage_idles x stepped c after port j going past idle sound same counted shows =
     idles x (event.Stage j) stepped c after port going idle sound same counted shows
@@ -339,7 +339,7 @@ all_stages : (fine : Bool) (highest stage left : ℕ) → stage + left ≡ (if f
 all_stages true highest stage left is some = is
 all_stages false highest stage left is some = absurd (omega arith)
 
-module _ (x : Given) (c : Course) (old new : PortState) (j : ℕ) (pass : Pass) (going : IsGoing x c old) (here : slice_get c.passes.items j ≡ Some pass)
+module _ (x : Given) (c : Course) (old new : PortState) (j : ℕ) (pass : Pass) (going : IsGoing x c old) (here : slice_get c.passes j ≡ Some pass)
     (on : IsOnSwitch (setup_for x) x.packets old.passes pass) where
   module _ (pre : pass.pre ≡ true) where
     pub up_there : old.passes.pre pass.number ≡ Some on.own
@@ -372,7 +372,7 @@ module _ (x : Given) (c : Course) (old new : PortState) (j : ℕ) (pass : Pass) 
     stage_down_ends answer stages =
         down_ends_by _ answer (stages.goes (code_for x) on.own going.loaded down_there) ∙ last_by on.own.stage pass.left (whole x).post_stages down_left on.some
 
-staged_at : (x : Given) (calls : List Call) (st : State) (c : Course) (j : ℕ) (pass : Pass) → IsShown (whole x) calls st c → slice_get c.passes.items j ≡ Some pass
+staged_at : (x : Given) (calls : List Call) (st : State) (c : Course) (j : ℕ) (pass : Pass) → IsShown (whole x) calls st c → slice_get c.passes j ≡ Some pass
     → slice_get st.passes j ≡ Some pass
 staged_at x calls st c j pass h here = ap (λ l. slice_get l j) (sym h.passes) ∙ here
 
@@ -402,18 +402,18 @@ one_left : (left : ℕ) → 1 < left → 0 < left - 1
 one_left left h = omega arith
 
 -- a course whose pass has a stage less
-module _ (x : Given) (c after : Course) (j : ℕ) (pass : Pass) (here : slice_get c.passes.items j ≡ Some pass)
+module _ (x : Given) (c after : Course) (j : ℕ) (pass : Pass) (here : slice_get c.passes j ≡ Some pass)
     (is : HasStage (record c { events = c.events + 1 }) j pass after) where
   abbrev less : Pass
   less = less_one pass
 
-  with_less : after.passes.items ≡ slice_set c.passes.items j less
+  with_less : after.passes ≡ slice_set c.passes j less
   with_less = is.passes
 
   with_less_sound : IsSound x c → 1 < pass.left → IsSound x after
   with_less_sound h more =
-      taken_sound x c after h (subst (Each HasLeft) (sym with_less) (each_set HasLeft c.passes.items j less h.left (one_left pass.left more)))
-      (let same : before_server after.passes.items ≡ before_server c.passes.items = ap before_server with_less ∙ set_count c.passes.items j pass less here refl in omega arith)
+      taken_sound x c after h (subst (Each HasLeft) (sym with_less) (each_set HasLeft c.passes j less h.left (one_left pass.left more)))
+      (let same : before_server after.passes ≡ before_server c.passes = ap before_server with_less ∙ set_count (λ (p : Pass). p.pre) c.passes j pass less here refl in omega arith)
       is.pre_stages is.post_stages (ap (λ q. q.items) is.up) is.server is.commit
       (subst (Each (FramedDown x)) (sym (ap (λ q. q.items) is.down)) h.down) (ap (λ q. q.items) is.fates)
       (let i = h.within.idle in let e = is.events in let f = is.idle in omega arith)
@@ -426,7 +426,7 @@ module _ (x : Given) (c after : Course) (j : ℕ) (pass : Pass) (here : slice_ge
 
 -- the pass goes on
 pub stage_goes_on : GoneLaw → (x : Given) (c after : Course) (old new : PortState) (j : ℕ) (pass : Pass) (call : Call)
-    → IsGoing x c old → slice_get c.passes.items j ≡ Some pass → IsGiven (code_for x) call → WasMade call old new → old.spare ≤ new.spare → leb pass.left 1 ≡ false
+    → IsGoing x c old → slice_get c.passes j ≡ Some pass → IsGiven (code_for x) call → WasMade call old new → old.spare ≤ new.spare → leb pass.left 1 ≡ false
     → ((calls : List Call) (st : State) → slice_get st.passes j ≡ Some pass → question_of call ∷ [] ≡ asks (setup_for x) (whole x) x.packets (calls ++ call ∷ []) st (event.Stage j))
     → HasStage (record c { events = c.events + 1 }) j pass after → HasTurned x (event.Stage j) Did c old after new
 stage_goes_on gone x c after old new j pass call going here given was more some asks_so is =
@@ -446,7 +446,7 @@ stage_goes_on gone x c after old new j pass call going here given was more some 
     })
 
 pub stage_up_goes_on : GoneLaw → (x : Given) (c after : Course) (old new : PortState) (j : ℕ) (pass : Pass) → IsGoing x c old
-    → slice_get c.passes.items j ≡ Some pass → IsOnSwitch (setup_for x) x.packets old.passes pass → pass.pre ≡ true → StagesUp up.Going pass.number old new
+    → slice_get c.passes j ≡ Some pass → IsOnSwitch (setup_for x) x.packets old.passes pass → pass.pre ≡ true → StagesUp up.Going pass.number old new
     → HasStage (record c { events = c.events + 1 }) j pass after → HasTurned x (event.Stage j) Did c old after new
 stage_up_goes_on gone x c after old new j pass going here on pre stages is =
     let call = CalledStageUp pass.number GoingUp in
@@ -454,16 +454,16 @@ stage_up_goes_on gone x c after old new j pass going here on pre stages is =
     stage_goes_on gone x c after old new j pass call going here tt (has_up_pass x c old new j pass going here on pre, stages) stages.kept.spare (sym more)
     (λ calls st at. asks_up x (calls ++ call ∷ []) st j pass false at pre more) is
 
-pub more_stages_up : (x : Given) (c : Course) (old new : PortState) (j : ℕ) (pass : Pass) → IsGoing x c old → slice_get c.passes.items j ≡ Some pass
+pub more_stages_up : (x : Given) (c : Course) (old new : PortState) (j : ℕ) (pass : Pass) → IsGoing x c old → slice_get c.passes j ≡ Some pass
     → IsOnSwitch (setup_for x) x.packets old.passes pass → pass.pre ≡ true → StagesUp up.Going pass.number old new → 1 < pass.left
 more_stages_up x c old new j pass going here on pre stages = leb-false pass.left 1 (sym (stage_ends x c old new j pass going here on pre GoingUp stages))
 
-pub more_stages_down : (x : Given) (c : Course) (old new : PortState) (j : ℕ) (pass : Pass) → IsGoing x c old → slice_get c.passes.items j ≡ Some pass
+pub more_stages_down : (x : Given) (c : Course) (old new : PortState) (j : ℕ) (pass : Pass) → IsGoing x c old → slice_get c.passes j ≡ Some pass
     → IsOnSwitch (setup_for x) x.packets old.passes pass → pass.pre ≡ false → StagesDown down.Going pass.number old new → 1 < pass.left
 more_stages_down x c old new j pass going here on post stages = leb-false pass.left 1 (sym (stage_down_ends x c old new j pass going here on post GoingDown stages))
 
 pub stage_down_goes_on : GoneLaw → (x : Given) (c after : Course) (old new : PortState) (j : ℕ) (pass : Pass) → IsGoing x c old
-    → slice_get c.passes.items j ≡ Some pass → IsOnSwitch (setup_for x) x.packets old.passes pass → pass.pre ≡ false → StagesDown down.Going pass.number old new
+    → slice_get c.passes j ≡ Some pass → IsOnSwitch (setup_for x) x.packets old.passes pass → pass.pre ≡ false → StagesDown down.Going pass.number old new
     → HasStage (record c { events = c.events + 1 }) j pass after → HasTurned x (event.Stage j) Did c old after new
 stage_down_goes_on gone x c after old new j pass going here on post stages is =
     let call = CalledStageDown pass.number GoingDown in
@@ -481,10 +481,6 @@ pub ends_down_here : (end : DownEnd) (answer : DownAnswer) → end ≡ down_end_
 ends_down_here end (Released verdict) is not_going = refl
 ends_down_here end GoingDown is not_going = absurd (not_going is)
 
-pub was_there : {X : Type 0} (o : Option X) (P : Type 0) → OnSome o P → IsSome o → P
-was_there None P h s = cc
-was_there (Some x) P h s = h
-
 -- its last stage has ended it
 ended_is : (a : Answers) (st : State) (j : ℕ) (pass : Pass) → slice_get st.passes j ≡ Some pass → leb pass.left 1 ≡ true
     → came_to a (record (tick st) { passes = remove st.passes j }) pass true ≡ staged a (tick st) j (slice_get st.passes j)
@@ -493,21 +489,21 @@ ended_is a st j pass at last =
     ∙ ap (λ (b : Bool). if b then ended a (record (tick st) { passes = remove st.passes j }) pass else record (tick st) { passes = slice_set st.passes j (record pass { left = pass.left - 1 }) }) last)
 
 without_shown : (x : Given) (calls : List Call) (st : State) (c mid : Course) (j : ℕ) → IsShown (whole x) calls st c
-    → mid.passes.items ≡ remove c.passes.items j → mid.up ≡ c.up → mid.server ≡ c.server → mid.commit ≡ c.commit → mid.down ≡ c.down → mid.fates ≡ c.fates
+    → mid.passes ≡ remove c.passes j → mid.up ≡ c.up → mid.server ≡ c.server → mid.commit ≡ c.commit → mid.down ≡ c.down → mid.fates ≡ c.fates
     → mid.events ≡ c.events + 1 → mid.idle ≡ c.idle → IsShown (whole x) calls (record (tick st) { passes = remove st.passes j }) mid
 without_shown x calls st c mid j h passes up server commit down fates events idle =
     taken_out (whole x) calls st c mid (remove st.passes j) st.down h (passes ∙ ap (λ l. remove l j) h.passes) (ap (λ q. q.items) up) server commit
     (ap (λ q. map number_of q.items) down ∙ h.down) (λ k item e. (k, sym (ap (λ q. slice_get q.items k) down) ∙ e)) (ap (λ q. q.items) fates) events idle
 
-module _ (x : Given) (c mid after : Course) (old new : PortState) (j : ℕ) (pass : Pass) (going : IsGoing x c old) (here : slice_get c.passes.items j ≡ Some pass)
+module _ (x : Given) (c mid after : Course) (old new : PortState) (j : ℕ) (pass : Pass) (going : IsGoing x c old) (here : slice_get c.passes j ≡ Some pass)
     (on : IsOnSwitch (setup_for x) x.packets old.passes pass) (pre_stages : mid.pre_stages ≡ c.pre_stages) (post_stages : mid.post_stages ≡ c.post_stages)
-    (passes : mid.passes.items ≡ remove c.passes.items j) (up : mid.up ≡ c.up) (server : mid.server ≡ c.server) (commit : mid.commit ≡ c.commit) (down : mid.down ≡ c.down)
+    (passes : mid.passes ≡ remove c.passes j) (up : mid.up ≡ c.up) (server : mid.server ≡ c.server) (commit : mid.commit ≡ c.commit) (down : mid.down ≡ c.down)
     (fates : mid.fates ≡ c.fates) (events_are : mid.events ≡ c.events + 1) (idle : mid.idle ≡ c.idle)
     (same : unapplied after ≡ unapplied mid) (counted : after.events ≡ mid.events) where
   mid_sound : IsSound x mid
   mid_sound =
-      let less = remove_at_most c.passes.items j pass here in
-      taken_sound x c mid going.sound (subst (Each HasLeft) (sym passes) (each_remove HasLeft c.passes.items j going.sound.left))
+      let less = remove_at_most c.passes j pass here in
+      taken_sound x c mid going.sound (subst (Each HasLeft) (sym passes) (each_remove HasLeft c.passes j going.sound.left))
       (let p = ap before_server passes in omega arith) pre_stages post_stages (ap (λ q. q.items) up) server commit
       (subst (Each (FramedDown x)) (sym (ap (λ q. q.items) down)) going.sound.down) (ap (λ q. q.items) fates)
       (let i = going.sound.within.idle in omega arith)
@@ -527,7 +523,7 @@ module _ (x : Given) (c mid after : Course) (old new : PortState) (j : ℕ) (pas
       let call = CalledStageUp pass.number answer in
       let last : is_up_end answer ≡ leb pass.left 1 = stage_ends x c old new j pass going here on pre answer stages in
       let fits = up_fits x pass pass.number on.own.packet.port on.own.packet.bytes answer (stage_frame x c old new j pass going here on pre answer stages) (λ off. let bad = sym ends ∙ off in cc) in
-      let room : TakesOneMore x mid = taken_room x c mid going.sound (let p = ap before_server passes in let r = remove_before c.passes.items j pass here pre in omega arith) (ap (λ q. q.items) up) server commit (ap (λ q. q.items) fates) in
+      let room : TakesOneMore x mid = taken_room x c mid going.sound (let p = ap before_server passes in let r = remove_before c.passes j pass here pre in omega arith) (ap (λ q. q.items) up) server commit (ap (λ q. q.items) fates) in
       call_turned x (event.Stage j) c after old new call going tt (has_up_pass x c old new j pass going here on pre, stages)
       (sound x mid_sound room (subst (FitsUp x pass) (sym end_is) fits)) (enough_spare stages.kept.spare) (counted ∙ events_are)
       (λ events calls st replay h.
@@ -610,8 +606,8 @@ down_turned places once steps fresh gone x c mid after old new j n frame pass en
     let ends : is_down_end answer ≡ eqb setup.post_stages 0 = down_ends_so x answer n frame old new going.loaded fine takes in
     let fits : FitsDown pass (down_end_of answer) = down_fits pass answer (λ off. subst (λ k. 0 < k) (sym left) (has_some setup.post_stages (is_down_end answer) ends off)) in
     let framed = each_at (FramedDown x) c.down.items j (n, frame) going.sound.down here in
-    let mid_sound : IsSound x mid = taken_sound x c mid going.sound (subst (Each HasLeft) (sym (ap (λ q. q.items) passes)) going.sound.left)
-    (let p = ap (λ q. before_server q.items) passes in omega arith) pre_stages post_stages (ap (λ q. q.items) up) server commit
+    let mid_sound : IsSound x mid = taken_sound x c mid going.sound (subst (Each HasLeft) (sym passes) going.sound.left)
+    (let p = ap before_server passes in omega arith) pre_stages post_stages (ap (λ q. q.items) up) server commit
     (subst (Each (FramedDown x)) (sym down) (each_remove (FramedDown x) c.down.items j going.sound.down)) (ap (λ q. q.items) fates)
     (let i = going.sound.within.idle in omega arith) in
     let same_left : unapplied after ≡ unapplied c = same ∙ ap (λ (k : Commit). length (commands k) - k.done) commit in
@@ -629,7 +625,7 @@ down_turned places once steps fresh gone x c mid after old new j n frame pass en
     let held = stand.down j n at in
     let carried = gone setup s x.packets events calls st replay.answered in
     let out : State = record (tick st) { down = remove st.down j } in
-    let mid_shown : IsShown s calls out mid = taken_out s calls st c mid st.passes (remove st.down j) h (ap (λ q. q.items) passes ∙ h.passes) (ap (λ q. q.items) up) server commit
+    let mid_shown : IsShown s calls out mid = taken_out s calls st c mid st.passes (remove st.down j) h (passes ∙ h.passes) (ap (λ q. q.items) up) server commit
     (ap (map number_of) down ∙ map_remove number_of c.down.items j ∙ ap (λ l. remove l j) h.down)
     (λ k item e. get_removed c.down.items j k item (sym (ap (λ l. slice_get l k) down) ∙ e)) (ap (λ q. q.items) fates) events_are idle in
     let now : pass ≡ pass_of (tick st) false n setup.post_stages = pass_so ∙ pass_is s calls out mid false n mid_shown ∙ ap (pass_of (tick st) false n) stages in

@@ -66,7 +66,7 @@ module _ (s : SplitProgram) (calls more : List Call) (st : State) (c after : Cou
         (send_up_shown s calls more st c after pass h may.gone may.entered.0 may.entered.1 frame may.pre (told ∙ ap up_end is) passes up server commit down fates events idle)
 
     pub comes_going : up.Going ≡ end_of answer
-        → after.passes.items ≡ c.passes.items ++ pass ∷ [] → after.up ≡ c.up → after.server ≡ c.server → after.commit ≡ c.commit → after.down ≡ c.down
+        → after.passes ≡ c.passes ++ pass ∷ [] → after.up ≡ c.up → after.server ≡ c.server → after.commit ≡ c.commit → after.down ≡ c.down
         → after.fates ≡ c.fates → after.events ≡ c.events → after.idle ≡ c.idle
         → IsShown s (calls ++ more) (came_to (journal s (calls ++ more)) st pass (is_up_end answer)) after
     comes_going ends passes up server commit down fates events idle =
@@ -86,7 +86,7 @@ module _ (s : SplitProgram) (calls more : List Call) (st : State) (c after : Cou
         (release_shown s calls more st c after pass h now.gone verdict now.post now.held now.places (told ∙ ap down_end is) passes up server commit down fates events idle)
 
     pub goes_on_behind : down.Going ≡ down_end_of answer
-        → after.passes.items ≡ c.passes.items ++ pass ∷ [] → after.up ≡ c.up → after.server ≡ c.server → after.commit ≡ c.commit → after.down ≡ c.down
+        → after.passes ≡ c.passes ++ pass ∷ [] → after.up ≡ c.up → after.server ≡ c.server → after.commit ≡ c.commit → after.down ≡ c.down
         → after.fates ≡ c.fates → after.events ≡ c.events → after.idle ≡ c.idle
         → IsShown s (calls ++ more) (came_to (journal s (calls ++ more)) st pass (is_down_end answer)) after
     goes_on_behind ends passes up server commit down fates events idle =

@@ -10,6 +10,19 @@ each_at P [] j x e h = absurd (none-some x h)
 each_at P (y ∷ xs) zero x e h = subst P (same_Some _ _ h) e.0
 each_at P (y ∷ xs) (suc j) x e h = each_at P xs j x e.1 h
 
+-- where none stands, the list has ended
+pub past_all : {X : Type 0} (xs : List X) (j : ℕ) → slice_get xs j ≡ None → length xs ≤ j
+past_all [] j e = omega arith
+past_all (x ∷ xs) zero e = absurd (none-some x (sym e))
+past_all (x ∷ xs) (suc j) e = let past = past_all xs j e in omega arith
+
+-- nothing goes from behind the end
+pub remove_past : {X : Type 0} (xs : List X) (j : ℕ) → slice_get xs j ≡ None → remove xs j ≡ xs
+remove_past [] zero e = refl
+remove_past [] (suc j) e = refl
+remove_past (x ∷ xs) zero e = absurd (none-some x (sym e))
+remove_past (x ∷ xs) (suc j) e = ap (λ l. x ∷ l) (remove_past xs j e)
+
 pub each_remove : {X : Type 0} (P : X → Type 0) (xs : List X) (j : ℕ) → Each P xs → Each P (remove xs j)
 each_remove P [] zero e = tt
 each_remove P [] (suc j) e = tt

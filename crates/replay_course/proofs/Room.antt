@@ -102,7 +102,7 @@ module _ (x : Given) (events : List Event) (calls : List Call) (st : State) (c :
   finds_room split sound seen room command ready = by_told port.told refl
     where
       here : next_command c.commit ≡ Some command
-      here = (is_ready c.passes.items (next_command c.commit) command ready).0
+      here = (is_ready c.passes (next_command c.commit) command ready).0
 
       by_told : (o : Option Told) → port.told ≡ o → IfSome o (λ told. has_room_in told.pairs command ≡ true)
       by_told None is = tt
@@ -124,9 +124,9 @@ module _ (x : Given) (events : List Event) (calls : List Call) (st : State) (c :
       let at : passes_of p.pre port.passes p.number ≡ passes_of pre port.passes n = ap (λ b. passes_of b port.passes p.number) found.3 ∙ ap (passes_of pre port.passes) found.4 in
       let same : on.own ≡ own = same_Some _ _ (sym on.there ∙ at ∙ there) in
       let bit = on.bit told (ap (λ (s : PassState). s.told) same ∙ is) in
-      let none = (is_ready c.passes.items (next_command c.commit) command ready).1 in
+      let none = (is_ready c.passes (next_command c.commit) command ready).1 in
       ap (λ b. disturbs b command) bit
-      ∙ none_at (λ (q : Pass). disturbs q.bit command) c.passes.items found.0 p none (ap (λ l. slice_get l found.0) shown.passes ∙ found.2)
+      ∙ none_at (λ (q : Pass). disturbs q.bit command) c.passes found.0 p none (ap (λ l. slice_get l found.0) shown.passes ∙ found.2)
 
   module _ (places : HavePlaces st) where
     arrives : HasNoUpPass port (length c.fates.items)

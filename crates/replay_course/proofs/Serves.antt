@@ -72,7 +72,7 @@ served_by x c server frame s sound is = of_program x (server_of c.server) (serve
 
 serve_sound : (x : Given) (c after : Course) (j n : ℕ) (frame : List ℕ) (s : Served) (server : Runtime) (fate : Fate) → ToldOf x → IsSound x c
     → slice_get c.up.items j ≡ Some (n, frame) → IsServed (server_of c.server) frame s (server_of server)
-    → after.pre_stages ≡ c.pre_stages → after.post_stages ≡ c.post_stages → after.passes.items ≡ c.passes.items
+    → after.pre_stages ≡ c.pre_stages → after.post_stages ≡ c.post_stages → after.passes ≡ c.passes
     → after.up.items ≡ remove c.up.items j → after.server ≡ server
     → after.commit ≡ with_output c.commit (record { number = n; need = s.version; frame = s.down }) s.updates
     → after.down.items ≡ c.down.items → after.fates.items ≡ slice_set c.fates.items n fate → after.idle ≤ after.events → IsSound x after
@@ -119,7 +119,7 @@ serve_sound x c after j n frame s server fate told h here is pre post passes up 
 pub serve_turned : PlaceLaw → (x : Given) (c after : Course) (old new : PortState) (j n : ℕ) (frame : List ℕ) (s : Served) (server : Runtime) → ToldOf x → IsGoing x c old
     → slice_get c.up.items j ≡ Some (n, frame) → IsServed (server_of c.server) frame s (server_of server)
     → MadeRoom (unapplied c + length (commands_in (batch_of s.updates))) old new
-    → after.pre_stages ≡ c.pre_stages → after.post_stages ≡ c.post_stages → after.passes.items ≡ c.passes.items
+    → after.pre_stages ≡ c.pre_stages → after.post_stages ≡ c.post_stages → after.passes ≡ c.passes
     → after.up.items ≡ remove c.up.items j → after.server ≡ server
     → after.commit ≡ with_output c.commit (record { number = n; need = s.version; frame = s.down }) s.updates
     → after.down.items ≡ c.down.items

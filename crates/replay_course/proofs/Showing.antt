@@ -56,7 +56,7 @@ moved st passes up down progress events idle = record st {
 pub moved_shown : (s : SplitProgram) (calls all : List Call) (st : State) (c after : Course) (passes : List Pass) (up down : List ℕ) (progress : List Progress) (events idle : ℕ)
     → (let now = moved st passes up down progress events idle in
     IsShown s calls st c → after.server ≡ c.server → after.commit ≡ c.commit
-    → after.passes.items ≡ passes → map number_of after.up.items ≡ up
+    → after.passes ≡ passes → map number_of after.up.items ≡ up
     → ((k : ℕ) (item : ℕ × List ℕ) → slice_get after.up.items k ≡ Some item → up_answer all item.0 ≡ Some (SentUp item.1))
     → ((j n need : ℕ) → slice_get st.held j ≡ Some (n, need) → down_frame s calls st n ≡ down_frame s all now n)
     → map number_of after.down.items ≡ down
@@ -159,7 +159,7 @@ hold_goes s setup a calls st c after j n f passes up server commit ans down fate
     let next = first ∙ ap (let_go (tick st) j) st_there in (
       may,
       subst (λ w. IsShown s calls w after) (sym next) (record {
-        passes = ap (λ q. q.items) passes ∙ h.passes;
+        passes = passes ∙ h.passes;
         up = ap (λ q. map (λ (item : ℕ × List ℕ). item.0) q.items) up ∙ h.up;
         up_frames = λ k item e. h.up_frames k item (sym (ap (λ q. slice_get q.items k) up) ∙ e);
         store = ap (λ z. z.store) server ∙ h.store;
@@ -212,7 +212,7 @@ hold_stays s setup a calls st c after j passes up server commit never down fates
     let next : step setup a st (event.Hold j) ≡ idled (tick st) = rw may refl in (
       may,
       subst (λ w. IsShown s calls w after) (sym next) (record {
-        passes = ap (λ q. q.items) passes ∙ h.passes;
+        passes = passes ∙ h.passes;
         up = ap (λ q. map (λ (item : ℕ × List ℕ). item.0) q.items) up ∙ h.up;
         up_frames = λ k item e. h.up_frames k item (sym (ap (λ q. slice_get q.items k) up) ∙ e);
         store = ap (λ z. z.store) server ∙ h.store;
@@ -276,9 +276,9 @@ ready_is passes k o within is = elim (cases_Bool (ltb k.done k.sent)) [
     ]
 
 module _ (s : SplitProgram) (setup : Setup) (calls : List Call) (st : State) (c : Course) (o : Option Command) (h : IsShown s calls st c) (is : o ≡ ready_next c) where
-  ready : (is_some o ≡ (ltb c.commit.done c.commit.sent && not (waits c.passes.items (slice_get (commands c.commit) c.commit.done))))
+  ready : (is_some o ≡ (ltb c.commit.done c.commit.sent && not (waits c.passes (slice_get (commands c.commit) c.commit.done))))
       × (o ≡ (if is_some o then slice_get (commands c.commit) c.commit.done else None))
-  ready = ready_is c.passes.items c.commit o h.sent_within is
+  ready = ready_is c.passes c.commit o h.sent_within is
 
   pub ready_applies : is_some o ≡ applies setup st event.Apply
   ready_applies = ready.0 ∙ (λ i. ltb (h.done i) (h.sent i) && not (waits (h.passes i) (slice_get (commands_in (h.batches i)) (h.done i))))
@@ -316,12 +316,12 @@ pub command_goes : (s : SplitProgram) (setup : Setup) (a : Answers) (calls : Lis
     → after.down ≡ c.down → after.fates ≡ c.fates → after.events ≡ c.events + 1 → after.idle ≡ c.idle
     → IsShown s calls st c → IsShown s (calls ++ called (Some command)) (step setup a st event.Apply) after
 command_goes s setup a calls st c after command passes up server is commit down fates events idle h =
-    let g = next_goes c.passes.items c.commit command is in
+    let g = next_goes c.passes c.commit command is in
     let now : after.commit ≡ record c.commit { done = c.commit.done + 1 } = commit ∙ g.2 in
     let may : applies setup st event.Apply ≡ true = sym (ready_applies s setup calls st c (Some command) h is) in
     let next : step setup a st event.Apply ≡ record (tick st) { done = st.done + 1 } = stepped may in
     subst (λ w. IsShown s (calls ++ called (Some command)) w after) (sym next) (record {
-      passes = ap (λ q. q.items) passes ∙ h.passes;
+      passes = passes ∙ h.passes;
       up = ap (λ q. map number_of q.items) up ∙ h.up;
       up_frames = λ k item e. up_behind calls (Some command) item.0 ∙ h.up_frames k item (sym (ap (λ q. slice_get q.items k) up) ∙ e);
       store = ap (λ z. z.store) server ∙ h.store;
@@ -352,7 +352,7 @@ no_command s setup a calls st c after passes up server is commit down fates even
     let next : step setup a st event.Apply ≡ idled (tick st) = ap (λ (b : Bool). if b then happens setup a (tick st) event.Apply else idled (tick st)) may in
     subst (λ w. IsShown s (calls ++ called None) w after) (sym next)
     (moved_shown s calls (calls ++ called None) st c after st.passes st.up st.down st.progress (st.events + 1) (st.idle + 1) h server commit
-    (ap (λ q. q.items) passes ∙ h.passes) (ap (λ q. map number_of q.items) up ∙ h.up)
+    (passes ∙ h.passes) (ap (λ q. map number_of q.items) up ∙ h.up)
     (λ k item e. up_behind calls None item.0 ∙ h.up_frames k item (sym (ap (λ q. slice_get q.items k) up) ∙ e))
     (λ j n need at. sym (frame_behind s calls None st n)) (ap (λ q. map number_of q.items) down ∙ h.down)
     (λ k item e. h.down_frames k item (sym (ap (λ q. slice_get q.items k) down) ∙ e) ∙ sym (frame_behind s calls None st item.0))

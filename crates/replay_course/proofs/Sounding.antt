@@ -51,7 +51,7 @@ fewer_within x c after h admitted less version fewer idle = record {
   commands = commands_fall _ _ _ _ fewer (commands_after _ _ _ _ _ less h.commands);
 }
 
-pub same_within : (x : Given) (c after : Course) → IsWithin x c → before_server after.passes.items ≤ before_server c.passes.items
+pub same_within : (x : Given) (c after : Course) → IsWithin x c → before_server after.passes ≤ before_server c.passes
     → length after.up.items ≡ length c.up.items → length after.fates.items ≡ length c.fates.items → after.server.version ≡ c.server.version
     → length (commands after.commit) ≤ length (commands c.commit) → after.idle ≤ after.events → IsWithin x after
 same_within x c after h passes up fates version fewer idle =
@@ -80,7 +80,7 @@ makes_room x c after h less version fewer = record {
 -- ## Before any event
 
 pub first_sound : (x : Given) (c : Course) → (server_of c.server).program ≡ x.program → (server_of c.server).split ≡ x.split
-    → c.pre_stages ≡ (setup_for x).pre_stages → c.post_stages ≡ (setup_for x).post_stages → c.passes.items ≡ []
+    → c.pre_stages ≡ (setup_for x).pre_stages → c.post_stages ≡ (setup_for x).post_stages → c.passes ≡ []
     → c.up.items ≡ [] → c.server.version ≡ 0 → c.commit ≡ first x.writeback → c.down.items ≡ [] → c.fates.items ≡ [] → c.events ≡ 0 → c.idle ≡ 0 → IsSound x c
 first_sound x c program split pre post passes up version commit down fates events idle = record {
   program = program;
@@ -120,7 +120,7 @@ pub record GoesOn (k k' : Commit) : Type 0 where
 
 -- where the server stays, and the outputs that wait
 pub moved_sound : (x : Given) (c after : Course) → IsSound x c → after.pre_stages ≡ c.pre_stages → after.post_stages ≡ c.post_stages
-    → after.server ≡ c.server → GoesOn c.commit after.commit → Each HasLeft after.passes.items → Each (FramedUp x) after.up.items
+    → after.server ≡ c.server → GoesOn c.commit after.commit → Each HasLeft after.passes → Each (FramedUp x) after.up.items
     → Each (FramedDown x) after.down.items → IsWithin x after → IsSound x after
 moved_sound x c after h pre post server on left up down within = record {
   program = ap (λ s. (server_of s).program) server ∙ h.program;
@@ -140,13 +140,13 @@ moved_sound x c after h pre post server on left up down within = record {
 }
 
 pub stays_sound : (x : Given) (c after : Course) → IsSound x c → after.pre_stages ≡ c.pre_stages → after.post_stages ≡ c.post_stages
-    → after.passes.items ≡ c.passes.items → after.up.items ≡ c.up.items → after.server ≡ c.server → GoesOn c.commit after.commit
+    → after.passes ≡ c.passes → after.up.items ≡ c.up.items → after.server ≡ c.server → GoesOn c.commit after.commit
     → after.down.items ≡ c.down.items → after.fates.items ≡ c.fates.items → after.idle ≤ after.events → IsSound x after
 stays_sound x c after h pre post passes up server on down fates idle =
     moved_sound x c after h pre post server on (subst (Each HasLeft) (sym passes) h.left) (subst (Each (FramedUp x)) (sym up) h.up) (subst (Each (FramedDown x)) (sym down) h.down)
     (same_within x c after h.within (same_count passes) (ap length up) (ap length fates) (ap (λ s. s.version) server) on.fewer idle)
   where
-    same_count : after.passes.items ≡ c.passes.items → before_server after.passes.items ≤ before_server c.passes.items
+    same_count : after.passes ≡ c.passes → before_server after.passes ≤ before_server c.passes
     same_count e = let f = ap before_server e in omega arith
 
 same_on : (k k' : Commit) → k'.batches ≡ k.batches → k'.writeback ≡ k.writeback → k'.held ≡ k.held → IsInOrder k' → GoesOn k k'
@@ -206,25 +206,25 @@ next_on k h = elim (cases_Bool (ltb k.done k.sent)) [
 
 -- a call of the commands alone
 by_order : (x : Given) (c after : Course) (k : Commit) → IsSound x c → GoesOn c.commit k
-    → after.pre_stages ≡ c.pre_stages → after.post_stages ≡ c.post_stages → after.passes.items ≡ c.passes.items
+    → after.pre_stages ≡ c.pre_stages → after.post_stages ≡ c.post_stages → after.passes ≡ c.passes
     → after.up.items ≡ c.up.items → after.server ≡ c.server → after.commit ≡ k → after.down.items ≡ c.down.items → after.fates.items ≡ c.fates.items
     → after.idle ≤ after.events → IsSound x after
 by_order x c after k h on pre post passes up server commit down fates idle =
     stays_sound x c after h pre post passes up server (subst (GoesOn c.commit) (sym commit) on) down fates idle
 
-pub send_sound : MergeLaw → (x : Given) (c after : Course) → IsSound x c → after.pre_stages ≡ c.pre_stages → after.post_stages ≡ c.post_stages → after.passes.items ≡ c.passes.items → after.up.items ≡ c.up.items → after.server ≡ c.server → after.commit ≡ after_send c.commit
+pub send_sound : MergeLaw → (x : Given) (c after : Course) → IsSound x c → after.pre_stages ≡ c.pre_stages → after.post_stages ≡ c.post_stages → after.passes ≡ c.passes → after.up.items ≡ c.up.items → after.server ≡ c.server → after.commit ≡ after_send c.commit
     → after.down.items ≡ c.down.items → after.fates.items ≡ c.fates.items → after.idle ≤ after.events → IsSound x after
 send_sound law x c after h pre post passes up server commit down fates idle = by_order x c after _ h (sent_on law c.commit h.order) pre post passes up server commit down fates idle
 
-pub acknowledge_sound : (x : Given) (c after : Course) → IsSound x c → after.pre_stages ≡ c.pre_stages → after.post_stages ≡ c.post_stages → after.passes.items ≡ c.passes.items → after.up.items ≡ c.up.items → after.server ≡ c.server → after.commit ≡ after_acknowledge c.commit
+pub acknowledge_sound : (x : Given) (c after : Course) → IsSound x c → after.pre_stages ≡ c.pre_stages → after.post_stages ≡ c.post_stages → after.passes ≡ c.passes → after.up.items ≡ c.up.items → after.server ≡ c.server → after.commit ≡ after_acknowledge c.commit
     → after.down.items ≡ c.down.items → after.fates.items ≡ c.fates.items → after.idle ≤ after.events → IsSound x after
 acknowledge_sound x c after h pre post passes up server commit down fates idle = by_order x c after _ h (acked_on c.commit h.order) pre post passes up server commit down fates idle
 
-pub apply_sound : (x : Given) (c after : Course) → IsSound x c → after.pre_stages ≡ c.pre_stages → after.post_stages ≡ c.post_stages → after.passes.items ≡ c.passes.items → after.up.items ≡ c.up.items → after.server ≡ c.server → after.commit ≡ after_next c.commit
+pub apply_sound : (x : Given) (c after : Course) → IsSound x c → after.pre_stages ≡ c.pre_stages → after.post_stages ≡ c.post_stages → after.passes ≡ c.passes → after.up.items ≡ c.up.items → after.server ≡ c.server → after.commit ≡ after_next c.commit
     → after.down.items ≡ c.down.items → after.fates.items ≡ c.fates.items → after.idle ≤ after.events → IsSound x after
 apply_sound x c after h pre post passes up server commit down fates idle = by_order x c after _ h (next_on c.commit h.order) pre post passes up server commit down fates idle
 
-pub idle_sound : (x : Given) (c after : Course) → IsSound x c → after.pre_stages ≡ c.pre_stages → after.post_stages ≡ c.post_stages → after.passes.items ≡ c.passes.items → after.up.items ≡ c.up.items → after.server ≡ c.server → after.commit ≡ c.commit
+pub idle_sound : (x : Given) (c after : Course) → IsSound x c → after.pre_stages ≡ c.pre_stages → after.post_stages ≡ c.post_stages → after.passes ≡ c.passes → after.up.items ≡ c.up.items → after.server ≡ c.server → after.commit ≡ c.commit
     → after.down.items ≡ c.down.items → after.fates.items ≡ c.fates.items → after.idle ≤ after.events → IsSound x after
 idle_sound x c after h pre post passes up server commit down fates idle = by_order x c after c.commit h (same_on c.commit c.commit refl refl refl h.order) pre post passes up server commit down fates idle
 
@@ -234,7 +234,7 @@ no_more : {k k' : Commit} → k' ≡ k → length (commands k') ≤ length (comm
 no_more e = let f = ap (λ (z : Commit). length (commands z)) e in omega arith
 
 pub hold_sound : (x : Given) (c after : Course) (j : ℕ) (output : Output) → IsSound x c → slice_get c.commit.held j ≡ Some output
-    → after.pre_stages ≡ c.pre_stages → after.post_stages ≡ c.post_stages → after.passes.items ≡ c.passes.items
+    → after.pre_stages ≡ c.pre_stages → after.post_stages ≡ c.post_stages → after.passes ≡ c.passes
     → after.up.items ≡ c.up.items → after.server ≡ c.server → after.commit ≡ record c.commit { held = remove c.commit.held j }
     → after.down.items ≡ c.down.items ++ (output.number, output.frame) ∷ [] → after.fates.items ≡ c.fates.items → after.idle ≤ after.events → IsSound x after
 hold_sound x c after j output h here pre post passes up server commit down fates idle = record {
@@ -263,12 +263,12 @@ stays_on c after order commit = subst (GoesOn c.commit) (sym commit) (same_on c.
 
 -- one is admitted, and is among no others yet
 pub admit_sound : (x : Given) (c after : Course) (fate : Fate) → IsSound x c → length c.fates.items < length x.packets
-    → after.pre_stages ≡ c.pre_stages → after.post_stages ≡ c.post_stages → after.passes.items ≡ c.passes.items
+    → after.pre_stages ≡ c.pre_stages → after.post_stages ≡ c.post_stages → after.passes ≡ c.passes
     → after.up.items ≡ c.up.items → after.server ≡ c.server → after.commit ≡ c.commit → after.down.items ≡ c.down.items
     → after.fates.items ≡ c.fates.items ++ fate ∷ [] → after.idle ≤ after.events → IsSound x after × TakesOneMore x after
 admit_sound x c after fate h less pre post passes up server commit down fates idle =
     let count : length after.fates.items ≡ length c.fates.items + 1 = ap length fates ∙ length_push c.fates.items fate in
-    let p : before_server after.passes.items ≡ before_server c.passes.items = ap before_server passes in
+    let p : before_server after.passes ≡ before_server c.passes = ap before_server passes in
     let u : length after.up.items ≡ length c.up.items = ap length up in
     let version : after.server.version ≡ c.server.version = ap (λ s. s.version) server in
     let one : suc (undecided x after) ≤ undecided x c = admitted_undecided _ _ _ _ _ _ _ p u count less in (
@@ -280,7 +280,7 @@ admit_sound x c after fate h less pre post passes up server commit down fates id
 
 -- the switch finishes it, or it is released
 pub fate_sound : (x : Given) (c after : Course) (n : ℕ) (fate : Fate) → IsSound x c
-    → after.pre_stages ≡ c.pre_stages → after.post_stages ≡ c.post_stages → after.passes.items ≡ c.passes.items
+    → after.pre_stages ≡ c.pre_stages → after.post_stages ≡ c.post_stages → after.passes ≡ c.passes
     → after.up.items ≡ c.up.items → after.server ≡ c.server → after.commit ≡ c.commit → after.down.items ≡ c.down.items
     → after.fates.items ≡ slice_set c.fates.items n fate → after.idle ≤ after.events → IsSound x after
 fate_sound x c after n fate h pre post passes up server commit down fates idle =
@@ -292,12 +292,12 @@ fate_sound x c after n fate h pre post passes up server commit down fates idle =
 -- it goes up
 pub send_up_sound : (x : Given) (c after : Course) (n : ℕ) (frame : List ℕ) (fate : Fate) → IsSound x c → TakesOneMore x c
     → IsFrame 1 (up_layout x.program x.split) frame
-    → after.pre_stages ≡ c.pre_stages → after.post_stages ≡ c.post_stages → after.passes.items ≡ c.passes.items
+    → after.pre_stages ≡ c.pre_stages → after.post_stages ≡ c.post_stages → after.passes ≡ c.passes
     → after.up.items ≡ c.up.items ++ (n, frame) ∷ [] → after.server ≡ c.server → after.commit ≡ c.commit → after.down.items ≡ c.down.items
     → after.fates.items ≡ slice_set c.fates.items n fate → after.idle ≤ after.events → IsSound x after
 send_up_sound x c after n frame fate h room framed pre post passes up server commit down fates idle =
     let count : length after.up.items ≡ length c.up.items + 1 = ap length up ∙ length_push c.up.items (n, frame) in
-    let p : before_server after.passes.items ≡ before_server c.passes.items = ap before_server passes in
+    let p : before_server after.passes ≡ before_server c.passes = ap before_server passes in
     let f : length after.fates.items ≡ length c.fates.items = ap length fates ∙ length_set c.fates.items n fate in
     moved_sound x c after h pre post server (stays_on c after h.order commit) (subst (Each HasLeft) (sym passes) h.left)
     (subst (Each (FramedUp x)) (sym up) (each_push (FramedUp x) c.up.items (n, frame) h.up framed)) (subst (Each (FramedDown x)) (sym down) h.down)
@@ -305,32 +305,32 @@ send_up_sound x c after n frame fate h room framed pre post passes up server com
 
 -- its pass goes last among those under way
 pub going_sound : (x : Given) (c after : Course) (pass : Pass) → IsSound x c → TakesOneMore x c → 0 < pass.left
-    → after.pre_stages ≡ c.pre_stages → after.post_stages ≡ c.post_stages → after.passes.items ≡ c.passes.items ++ pass ∷ []
+    → after.pre_stages ≡ c.pre_stages → after.post_stages ≡ c.post_stages → after.passes ≡ c.passes ++ pass ∷ []
     → after.up.items ≡ c.up.items → after.server ≡ c.server → after.commit ≡ c.commit → after.down.items ≡ c.down.items
     → after.fates.items ≡ c.fates.items → after.idle ≤ after.events → IsSound x after
 going_sound x c after pass h room left pre post passes up server commit down fates idle =
-    let more = push_at_most c.passes.items pass in
-    let p : before_server after.passes.items ≡ before_server (c.passes.items ++ pass ∷ []) = ap before_server passes in
+    let more = push_at_most c.passes pass in
+    let p : before_server after.passes ≡ before_server (c.passes ++ pass ∷ []) = ap before_server passes in
     let u : length after.up.items ≡ length c.up.items = ap length up in
-    moved_sound x c after h pre post server (stays_on c after h.order commit) (subst (Each HasLeft) (sym passes) (each_push HasLeft c.passes.items pass h.left left))
+    moved_sound x c after h pre post server (stays_on c after h.order commit) (subst (Each HasLeft) (sym passes) (each_push HasLeft c.passes pass h.left left))
     (subst (Each (FramedUp x)) (sym up) h.up) (subst (Each (FramedDown x)) (sym down) h.down)
     (more_within x c after h.within room (ap length fates) (one_more_undecided _ _ _ _ _ _ _ (omega arith) (ap length fates)) (ap (λ s. s.version) server) (no_more commit) idle)
 
 -- ## Packets that come down
 
 pub behind_sound : (x : Given) (c after : Course) (pass : Pass) → IsSound x c → pass.pre ≡ false → 0 < pass.left
-    → after.pre_stages ≡ c.pre_stages → after.post_stages ≡ c.post_stages → after.passes.items ≡ c.passes.items ++ pass ∷ []
+    → after.pre_stages ≡ c.pre_stages → after.post_stages ≡ c.post_stages → after.passes ≡ c.passes ++ pass ∷ []
     → after.up.items ≡ c.up.items → after.server ≡ c.server → after.commit ≡ c.commit → after.down.items ≡ c.down.items
     → after.fates.items ≡ c.fates.items → after.idle ≤ after.events → IsSound x after
 behind_sound x c after pass h kind left pre post passes up server commit down fates idle =
-    let p : before_server after.passes.items ≡ before_server c.passes.items = ap before_server passes ∙ push_behind c.passes.items pass kind in
-    moved_sound x c after h pre post server (stays_on c after h.order commit) (subst (Each HasLeft) (sym passes) (each_push HasLeft c.passes.items pass h.left left))
+    let p : before_server after.passes ≡ before_server c.passes = ap before_server passes ∙ push_behind c.passes pass kind in
+    moved_sound x c after h pre post server (stays_on c after h.order commit) (subst (Each HasLeft) (sym passes) (each_push HasLeft c.passes pass h.left left))
     (subst (Each (FramedUp x)) (sym up) h.up) (subst (Each (FramedDown x)) (sym down) h.down)
     (same_within x c after h.within (omega arith) (ap length up) (ap length fates) (ap (λ s. s.version) server) (no_more commit) idle)
 
 -- ## A pass or a frame is taken out of its list
 
-pub taken_sound : (x : Given) (c after : Course) → IsSound x c → Each HasLeft after.passes.items → before_server after.passes.items ≤ before_server c.passes.items
+pub taken_sound : (x : Given) (c after : Course) → IsSound x c → Each HasLeft after.passes → before_server after.passes ≤ before_server c.passes
     → after.pre_stages ≡ c.pre_stages → after.post_stages ≡ c.post_stages
     → after.up.items ≡ c.up.items → after.server ≡ c.server → after.commit ≡ c.commit → Each (FramedDown x) after.down.items
     → after.fates.items ≡ c.fates.items → after.idle ≤ after.events → IsSound x after
@@ -338,7 +338,7 @@ taken_sound x c after h left count pre post up server commit down fates idle =
     moved_sound x c after h pre post server (stays_on c after h.order commit) left (subst (Each (FramedUp x)) (sym up) h.up) down
     (same_within x c after h.within count (ap length up) (ap length fates) (ap (λ s. s.version) server) (no_more commit) idle)
 
-pub taken_room : (x : Given) (c after : Course) → IsSound x c → suc (before_server after.passes.items) ≤ before_server c.passes.items
+pub taken_room : (x : Given) (c after : Course) → IsSound x c → suc (before_server after.passes) ≤ before_server c.passes
     → after.up.items ≡ c.up.items → after.server ≡ c.server → after.commit ≡ c.commit → after.fates.items ≡ c.fates.items → TakesOneMore x after
 taken_room x c after h count up server commit fates =
     makes_room x c after h.within (one_less_undecided _ _ _ _ _ _ _ count (ap length up) (ap length fates)) (ap (λ s. s.version) server) (no_more commit)

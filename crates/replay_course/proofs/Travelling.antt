@@ -34,7 +34,7 @@ use Rattle.replay_course.proofs.Versions.{length_more}
 -- ---- an event that can't apply
 
 pub idle_shown : (s : SplitProgram) (setup : Setup) (a : Answers) (calls : List Call) (st : State) (ev : Event) (c after : Course) → applies setup st ev ≡ false
-    → after.passes.items ≡ c.passes.items → after.up.items ≡ c.up.items → after.server ≡ c.server → after.commit ≡ c.commit → after.down.items ≡ c.down.items
+    → after.passes ≡ c.passes → after.up.items ≡ c.up.items → after.server ≡ c.server → after.commit ≡ c.commit → after.down.items ≡ c.down.items
     → after.fates.items ≡ c.fates.items → after.events ≡ c.events + 1 → after.idle ≡ c.idle + 1 → IsShown s calls st c → IsShown s calls (step setup a st ev) after
 idle_shown s setup a calls st ev c after may passes up server commit down fates events idle h =
     let next : step setup a st ev ≡ idled (tick st) = ap (λ (b : Bool). if b then happens setup a (tick st) ev else idled (tick st)) may in
@@ -47,7 +47,7 @@ idle_shown s setup a calls st ev c after may passes up server commit down fates 
 -- ---- an event begins that takes a pass or a packet out of its list
 
 pub taken_out : (s : SplitProgram) (calls : List Call) (st : State) (c after : Course) (passes : List Pass) (down : List ℕ)
-    → IsShown s calls st c → after.passes.items ≡ passes → after.up.items ≡ c.up.items → after.server ≡ c.server → after.commit ≡ c.commit
+    → IsShown s calls st c → after.passes ≡ passes → after.up.items ≡ c.up.items → after.server ≡ c.server → after.commit ≡ c.commit
     → map number_of after.down.items ≡ down
     → ((k : ℕ) (item : ℕ × List ℕ) → slice_get after.down.items k ≡ Some item → (i : ℕ) × (slice_get c.down.items i ≡ Some item))
     → after.fates.items ≡ c.fates.items → after.events ≡ c.events + 1 → after.idle ≡ c.idle
@@ -65,7 +65,7 @@ not_held st m n p held at other same =
 -- ---- a packet is served
 
 module _ (s : SplitProgram) (calls : List Call) (st : State) (c after : Course) (j n : ℕ) (frame : List ℕ) (updates : List Update)
-    (h : IsShown s calls st c) (places : HavePlaces st) (here : slice_get c.up.items j ≡ Some (n, frame)) (passes : after.passes.items ≡ c.passes.items)
+    (h : IsShown s calls st c) (places : HavePlaces st) (here : slice_get c.up.items j ≡ Some (n, frame)) (passes : after.passes ≡ c.passes)
     (up : after.up.items ≡ remove c.up.items j)
     (store : after.server.store ≡ s.serve_after c.server.store frame)
     (commit : after.commit ≡ with_output c.commit (record { number = n; need = after.server.version; frame = s.serve_down c.server.store frame }) updates)
@@ -153,7 +153,7 @@ module _ (s : SplitProgram) (calls : List Call) (st : State) (c after : Course) 
 
 -- a batch for the changes, if there are any
 changes_shown : (s : SplitProgram) (calls : List Call) (st : State) (c after : Course) (j n : ℕ) (frame : List ℕ) (updates : List Update)
-    → IsShown s calls st c → HavePlaces st → slice_get c.up.items j ≡ Some (n, frame) → after.passes.items ≡ c.passes.items → after.up.items ≡ remove c.up.items j
+    → IsShown s calls st c → HavePlaces st → slice_get c.up.items j ≡ Some (n, frame) → after.passes ≡ c.passes → after.up.items ≡ remove c.up.items j
     → after.server.store ≡ s.serve_after c.server.store frame → after.server.version ≡ version_after c.server.version updates
     → after.commit ≡ with_output c.commit (record { number = n; need = after.server.version; frame = s.serve_down c.server.store frame }) updates
     → after.down.items ≡ c.down.items
@@ -170,7 +170,7 @@ changes_shown s calls st c after j n frame (u ∷ us) h places here passes up st
     (version ∙ ap (λ v. v + 1) h.version) base
 
 pub serve_shown : (s : SplitProgram) (setup : Setup) (calls : List Call) (st : State) (c after : Course) (j n : ℕ) (frame : List ℕ) (updates : List Update)
-    → IsShown s calls st c → HavePlaces st → slice_get c.up.items j ≡ Some (n, frame) → after.passes.items ≡ c.passes.items → after.up.items ≡ remove c.up.items j
+    → IsShown s calls st c → HavePlaces st → slice_get c.up.items j ≡ Some (n, frame) → after.passes ≡ c.passes → after.up.items ≡ remove c.up.items j
     → after.server.store ≡ s.serve_after c.server.store frame → after.server.version ≡ version_after c.server.version updates
     → s.serve_changes c.server.store frame ≡ updates
     → after.commit ≡ with_output c.commit (record { number = n; need = after.server.version; frame = s.serve_down c.server.store frame }) updates
@@ -219,7 +219,7 @@ admit_shown s calls st c after passes up server commit down fates events idle h 
     let frames : (m : ℕ) → down_frame s calls st m ≡ down_frame s calls (came (tick st)) m =
     λ m i. s.serve_down (sym (over_pushed st.progress new m refl) i) (frame_in (up_answer calls m)) in
     moved_shown s calls calls st c after st.passes st.up st.down (st.progress ++ new ∷ []) (st.events + 1) st.idle h server commit
-    (ap (λ q. q.items) passes ∙ h.passes) (ap (λ q. map number_of q.items) up ∙ h.up)
+    (passes ∙ h.passes) (ap (λ q. map number_of q.items) up ∙ h.up)
     (λ k item e. h.up_frames k item (sym (ap (λ q. slice_get q.items k) up) ∙ e)) (λ j n need at. frames n)
     (ap (λ q. map number_of q.items) down ∙ h.down)
     (λ k item e. h.down_frames k item (sym (ap (λ q. slice_get q.items k) down) ∙ e) ∙ frames item.0)
@@ -248,7 +248,7 @@ module _ (s : SplitProgram) (calls more : List Call) (st : State) (c after : Cou
   down_gone j n at = gone.down n (get_member st.down j n at)
 
   -- a pass with stages left goes last among those under way
-  pub going_shown : after.passes.items ≡ c.passes.items ++ pass ∷ [] → after.up ≡ c.up → after.server ≡ c.server → after.commit ≡ c.commit
+  pub going_shown : after.passes ≡ c.passes ++ pass ∷ [] → after.up ≡ c.up → after.server ≡ c.server → after.commit ≡ c.commit
       → after.down ≡ c.down → after.fates ≡ c.fates → after.events ≡ c.events → after.idle ≡ c.idle
       → IsShown s (calls ++ more) (record st { passes = st.passes ++ pass ∷ [] }) after
   going_shown passes up server commit down fates events idle =
@@ -263,7 +263,7 @@ module _ (s : SplitProgram) (calls more : List Call) (st : State) (c after : Cou
       (ap (λ z. z.items) fates ∙ h.fates) (events ∙ h.events) (idle ∙ h.idle)
 
   -- one that takes a stage and has more of them left
-  pub staged_shown : (passes : List Pass) → after.passes.items ≡ passes → after.up ≡ c.up → after.server ≡ c.server → after.commit ≡ c.commit
+  pub staged_shown : (passes : List Pass) → after.passes ≡ passes → after.up ≡ c.up → after.server ≡ c.server → after.commit ≡ c.commit
       → after.down ≡ c.down → after.fates ≡ c.fates → after.events ≡ c.events + 1 → after.idle ≡ c.idle
       → IsShown s (calls ++ more) (record (tick st) { passes = passes }) after
   staged_shown passes passes_are up server commit down fates events idle =
@@ -293,7 +293,7 @@ module _ (s : SplitProgram) (calls more : List Call) (st : State) (c after : Cou
         let frames : (m : ℕ) → HasGoneUp calls m → down_frame s calls st m ≡ s.serve_down (over_in (slice_get set m)) (frame_in (up_answer (calls ++ more) m)) =
         λ m went i. s.serve_down (over_set st.progress pass.number (Entered admitted pass.version) new m entered refl over i) (kept_frame calls more m went i) in
         moved_shown s calls (calls ++ more) st c after st.passes up st.down set st.events st.idle h server commit
-        (ap (λ q. q.items) passes ∙ h.passes) up_is up_frames
+        (passes ∙ h.passes) up_is up_frames
         (λ j n need at. frames n (held_gone j n need at)) (ap (λ q. map number_of q.items) down ∙ h.down)
         (λ k item e.
         let was = sym (ap (λ q. slice_get q.items k) down) ∙ e in
@@ -375,7 +375,7 @@ module _ (s : SplitProgram) (calls more : List Call) (st : State) (c after : Cou
       ap (fates_of.released c.events verdict) was ∙ ap (λ e. fate.Slow held.0 held.1 held.2 e verdict) h.events in
       subst (λ w. IsShown s all w after) (sym next)
       (moved_shown s calls all st c after st.passes st.up st.down set st.events st.idle h server commit
-      (ap (λ q. q.items) passes ∙ h.passes) (ap (λ q. map number_of q.items) up ∙ h.up)
+      (passes ∙ h.passes) (ap (λ q. map number_of q.items) up ∙ h.up)
       (λ k item e. still_up calls more item.0 (SentUp item.1) (h.up_frames k item (sym (ap (λ q. slice_get q.items k) up) ∙ e)))
       (λ j m need at. frames m (held_gone j m need at) (now.held j m need at)) (ap (λ q. map number_of q.items) down ∙ h.down)
       (λ k item e.

@@ -44,7 +44,7 @@ none_left k = omega arith
 
 -- ## Outputs that go, or wait
 
-pub goes_sound : (x : Given) (c after : Course) (j n : ℕ) (f : List ℕ) → IsSound x c → after.pre_stages ≡ c.pre_stages → after.post_stages ≡ c.post_stages → after.passes.items ≡ c.passes.items → after.up.items ≡ c.up.items → after.server ≡ c.server
+pub goes_sound : (x : Given) (c after : Course) (j n : ℕ) (f : List ℕ) → IsSound x c → after.pre_stages ≡ c.pre_stages → after.post_stages ≡ c.post_stages → after.passes ≡ c.passes → after.up.items ≡ c.up.items → after.server ≡ c.server
     → after.commit ≡ after_release c.commit j (slice_get c.commit.held j) → release.Frame n f ≡ answer c.commit (slice_get c.commit.held j)
     → after.down.items ≡ c.down.items ++ (n, f) ∷ [] → after.fates.items ≡ c.fates.items → after.idle ≤ after.events → IsSound x after
 goes_sound x c after j n f h pre post passes up server commit ans down fates idle =
@@ -52,7 +52,7 @@ goes_sound x c after j n f h pre post passes up server commit ans down fates idl
     let now : after.commit ≡ record c.commit { held = remove c.commit.held j } = commit ∙ ap (after_release c.commit j) g.1 ∙ (rw g.2 refl) in
     hold_sound x c after j g.0 h g.1 pre post passes up server now (down ∙ (λ i. c.down.items ++ (sym g.3 i, sym g.4 i) ∷ [])) fates idle
 
-pub waits_sound : (x : Given) (c after : Course) (j : ℕ) → IsSound x c → after.pre_stages ≡ c.pre_stages → after.post_stages ≡ c.post_stages → after.passes.items ≡ c.passes.items → after.up.items ≡ c.up.items → after.server ≡ c.server
+pub waits_sound : (x : Given) (c after : Course) (j : ℕ) → IsSound x c → after.pre_stages ≡ c.pre_stages → after.post_stages ≡ c.post_stages → after.passes ≡ c.passes → after.up.items ≡ c.up.items → after.server ≡ c.server
     → after.commit ≡ after_release c.commit j (slice_get c.commit.held j)
     → ((n : ℕ) (f : List ℕ) → release.Frame n f ≡ answer c.commit (slice_get c.commit.held j) → ⊥)
     → after.down.items ≡ c.down.items → after.fates.items ≡ c.fates.items → after.idle ≤ after.events → IsSound x after

@@ -47,7 +47,7 @@ most_commands x = 3 * (whole x).writes + 2
 -- the packets that aren't decided: those of passes before the server, those that went up, and those that are to come
 abbrev pub undecided : Given → Course → ℕ
 undecided x c =
-    count_by (λ (pass : Pass). pass.pre) c.passes.items + length c.up.items + (length x.packets - length c.fates.items)
+    count_by (λ (pass : Pass). pass.pre) c.passes + length c.up.items + (length x.packets - length c.fates.items)
 
 -- the commands that aren't applied
 abbrev pub unapplied : Course → ℕ
@@ -76,7 +76,7 @@ pub record IsSound (x : Given) (c : Course) : Type 0 where
   -- passes enter with all stages left above 0, and those under way have some left
   pub pre_stages : c.pre_stages ≡ (setup_for x).pre_stages
   pub post_stages : c.post_stages ≡ (setup_for x).post_stages
-  pub left : Each (λ (pass : Pass). 0 < pass.left) c.passes.items
+  pub left : Each (λ (pass : Pass). 0 < pass.left) c.passes
   -- frames have the layouts of their ways
   pub up : Each (λ item. IsFrame 1 (up_layout x.program x.split) item.1) c.up.items
   pub held : Each (λ (o : Output). IsFrame 2 (down_layout x.program x.split) o.frame) c.commit.held
@@ -103,7 +103,7 @@ unless_waits passes None = None
 unless_waits passes (Some command) = if waits passes (Some command) then None else Some command
 
 abbrev pub ready_next : Course → Option Command
-ready_next c = unless_waits c.passes.items (next_command c.commit)
+ready_next c = unless_waits c.passes (next_command c.commit)
 
 -- What the next calls of the port ask for.
 pub record MayCall (x : Given) (c : Course) (port : PortState) : Type 0 where
@@ -115,7 +115,7 @@ pub record MayCall (x : Given) (c : Course) (port : PortState) : Type 0 where
   pub comes_down : (j : ℕ) (item : ℕ × List ℕ) → slice_get c.down.items j ≡ Some item
       → HasNoDownPassOf port item.1 × (number_in item.1 ≡ item.0)
   -- the passes of the course are under way there
-  pub under_way : (j : ℕ) (pass : Pass) → slice_get c.passes.items j ≡ Some pass
+  pub under_way : (j : ℕ) (pass : Pass) → slice_get c.passes j ≡ Some pass
       → IsOnSwitch (setup_for x) x.packets port.passes pass
 
 -- the port made room for so many commands, and was called for nothing else
@@ -203,7 +203,7 @@ less_one pass = record pass { left = pass.left - 1 }
 
 -- the pass at place j is so, and all else stays
 pub record HasStage (c : Course) (j : ℕ) (pass : Pass) (after : Course) : Type 0 where
-  pub passes : after.passes.items ≡ slice_set c.passes.items j (less_one pass)
+  pub passes : after.passes ≡ slice_set c.passes j (less_one pass)
   pub pre_stages : after.pre_stages ≡ c.pre_stages
   pub post_stages : after.post_stages ≡ c.post_stages
   pub up : after.up ≡ c.up

@@ -8,7 +8,7 @@ use Rattle.replay_course.specs.declared.course.Course.{Course}
 -- whether an event finds nothing in a run over so many packets: no packet, pass, frame, output or command
 abbrev pub finds_nothing : ℕ → Course → Event → Bool
 finds_nothing packets c Admit = nat_le packets (length c.fates.items)
-finds_nothing packets c (Stage j) = nat_le (length c.passes.items) j
+finds_nothing packets c (Stage j) = nat_le (length c.passes) j
 finds_nothing packets c (Serve j) = nat_le (length c.up.items) j
 finds_nothing packets c Send = c.commit.sent == length (commands c.commit)
 finds_nothing packets c Apply = c.commit.done == c.commit.sent

@@ -10,7 +10,7 @@ use Rattle.replay_state.specs.State.{State, fate_of}
 use Rattle.replay_course.specs.declared.course.Course.{Course}
 
 pub record IsShown (s : SplitProgram) (calls : List Call) (st : State) (c : Course) : Type 0 where
-  pub passes : c.passes.items ≡ st.passes
+  pub passes : c.passes ≡ st.passes
   -- the packets on their way up, each in the frame which its pass answered
   pub up : map (λ item. item.0) c.up.items ≡ st.up
   pub up_frames : (j : ℕ) (item : ℕ × List ℕ) → slice_get c.up.items j ≡ Some item

@@ -23,7 +23,7 @@ pub record ShowsParts (x : Given) (old new : PortState) (parts : List ObjectRows
 -- every packet of a trace of so many was admitted, nothing is on its way, and every command is acknowledged
 abbrev pub is_done : ℕ → Course → Bool
 is_done packets c =
-    length c.fates.items == packets && (length c.passes.items == 0 && (length c.up.items == 0 && (length c.commit.held == 0 && (length c.down.items == 0
+    length c.fates.items == packets && (length c.passes == 0 && (length c.up.items == 0 && (length c.commit.held == 0 && (length c.down.items == 0
     && c.commit.acked == length (commands c.commit)))))
 
 -- the run so far, with these rows of the switch

@@ -41,7 +41,7 @@ pub record IsOnItsWay (x : Given) (c : Course) (port : PortState) : Type 0 where
 abbrev pub course_left : Given → Course → ℕ
 course_left x c =
     (length x.packets - length c.fates.items) * packet_events (setup_for x)
-    + weight (pass_events (setup_for x)) c.passes.items + length c.up.items * up_events (setup_for x)
+    + weight (pass_events (setup_for x)) c.passes + length c.up.items * up_events (setup_for x)
     + length c.commit.held * (2 + (setup_for x).post_stages) + length c.down.items * (1 + (setup_for x).post_stages)
     + 3 * (length (commands c.commit) - c.commit.sent) + 2 * (c.commit.sent - c.commit.done)
     + (c.commit.done - c.commit.acked)
@@ -49,7 +49,7 @@ course_left x c =
 -- the event that comes next, of a trace with so many packets
 abbrev pub picked_by : ℕ → Course → Option Event
 picked_by packets c =
-    if nat_lt 0 (length c.passes.items) then Some (Stage 0)
+    if nat_lt 0 (length c.passes) then Some (Stage 0)
     else (if nat_lt c.commit.acked c.commit.done then Some Ack
     else (if nat_lt c.commit.done c.commit.sent then Some Apply
     else (if nat_lt c.commit.sent (length (commands c.commit)) then Some Send

@@ -10,7 +10,7 @@ ghost use Rattle.replay_state.specs.Journal.{down_end as down_ended, is_down_end
 ghost use Rattle.replay_state.specs.Journal.{up_end as up_ended};
 ghost use Rattle.replay_state.specs.Program.{SplitProgram};
 ghost use Rattle.replay_state.specs.State.{State, first_state};
-ghost use Rattle.replay_state.specs.Step.{applies, came, step, tick, waits};
+ghost use Rattle.replay_state.specs.Step.{applies, came, step, tick};
 ghost use Rattle.replay_contracts.specs.Given.{Given, setup_for};
 ghost use Rattle.replay_contracts.specs.Replayer.{stepped_by};
 ghost use Rattle.output_commit.specs.Batches.{fits};
@@ -22,6 +22,7 @@ ghost use Rattle.replay_course.specs.Going.{MayComeIn, MayComeOut, TakesOneMore,
 ghost use Rattle.replay_course.specs.Shown.{IsShown, called};
 
 use crate::fates::{finish_at, release_at, send_up_at};
+use crate::pass_queue::PassQueue;
 use gal_io::{Bytes, NoMemory};
 use output_commit::{Commit, Release, a_batch_takes_up_others};
 use replay_contracts::{ReplayError, Stepped};
@@ -41,7 +42,7 @@ pub struct Course {
     pub pre_stages: u32,
     pub post_stages: u32,
     /// The passes under way on the switch, in the order in which they entered.
-    pub passes: VecDeque<Pass>,
+    pub passes: PassQueue,
     /// The frames on their way up to the server, each with the number of its packet.
     pub up: VecDeque<(u32, Bytes)>,
     pub server: Server,
@@ -75,7 +76,7 @@ impl Course {
         Course {
             pre_stages,
             post_stages,
-            passes: VecDeque::new(alloc),
+            passes: PassQueue::new(alloc),
             up: VecDeque::new(alloc),
             server,
             commit: Commit::new(alloc, writeback),
@@ -170,7 +171,7 @@ impl Course {
                 Ok(())
             }
             UpEnd::Going => {
-                self.passes.push_back(pass)?;
+                self.passes.push(pass)?;
                 Ok(())
             }
             UpEnd::Failed => Err(ReplayError::PortFault),
@@ -198,7 +199,7 @@ impl Course {
                 Ok(())
             }
             DownEnd::Going => {
-                self.passes.push_back(pass)?;
+                self.passes.push(pass)?;
                 Ok(())
             }
             DownEnd::Failed => Err(ReplayError::PortFault),
@@ -250,13 +251,6 @@ impl Course {
         }
     }
 
-    // Whether a command has to wait for a pass under way.
-    fn waits(&self, command: &Command) -> bool
-        ensures { result ≡ waits self.now.passes.items (Some command.now) }
-    {
-        self.passes.iter().any(|pass| command.disturbs(pass.bit))
-    }
-
     // Whether the next command that was sent has to wait for a pass under way. Where none is under way, it isn't looked at.
     fn has_to_wait(&self) -> bool
         ensures { ready_next self.now ≡ (if result then None else next self.now.commit) }
@@ -265,7 +259,7 @@ impl Course {
             return false;
         }
         match self.commit.peek() {
-            Some(command) => self.waits(&command),
+            Some(command) => self.passes.are_disturbed(&command),
             None => false,
         }
     }

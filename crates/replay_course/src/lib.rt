@@ -5,6 +5,7 @@ mod course;
 mod driving;
 mod fates;
 mod laws;
+mod pass_queue;
 mod passes;
 mod report;
 mod serving;
@@ -13,3 +14,4 @@ mod step;
 
 pub use course::Course;
 pub use laws::{few_events_are_left, the_next_calls_may_be_made};
+pub use pass_queue::PassQueue;

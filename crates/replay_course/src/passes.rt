@@ -76,13 +76,11 @@ impl Course {
 
     // The pass at place `j` of those under way has one stage less left.
     fn take_stage(&mut self, j: usize, pass: Pass)
-        requires there { slice_get self.old.passes.items j ≡ Some pass }
+        requires there { slice_get self.old.passes j ≡ Some pass }
         requires some { 1 < pass.left }
         ensures { HasStage self.old j pass self.new }
     {
-        let mut less = pass;
-        less.left -= 1;
-        self.passes[j] = less;
+        self.passes.take_stage(j, pass);
     }
 
     // The pass at place `j`, of a packet that arrived, takes a stage.
@@ -94,7 +92,7 @@ impl Course {
         j: u32,
         pass: Pass,
     ) -> Result<Stepped, ReplayError>
-        requires there { slice_get self.old.passes.items j ≡ Some pass }
+        requires there { slice_get self.old.passes j ≡ Some pass }
         requires kind { pass.pre ≡ true }
         requires going { IsGoing (given_of job.now) self.old (S.seen port.old) }
         requires events { self.old.events < 2 ^ 32 - 1 }
@@ -129,7 +127,7 @@ impl Course {
         j: u32,
         pass: Pass,
     ) -> Result<Stepped, ReplayError>
-        requires there { slice_get self.old.passes.items j ≡ Some pass }
+        requires there { slice_get self.old.passes j ≡ Some pass }
         requires kind { pass.pre ≡ false }
         requires going { IsGoing (given_of job.now) self.old (S.seen port.old) }
         requires events { self.old.events < 2 ^ 32 - 1 }
@@ -171,7 +169,7 @@ impl Course {
             (S.seen port.new)) }
         ensures fails { IfErr result (λ e. Fails e (S.seen port.old) (S.seen port.new)) }
     {
-        let Some(&pass) = self.passes.get(j as usize) else {
+        let Some(pass) = self.passes.get(j as usize) else {
             return Ok(self.idled());
         };
         if pass.pre {

@@ -6,8 +6,8 @@ use Rattle.lossy_replay.proofs.allowing.may_apply.Goals as goal
 
 pub returns-in-Some : goal.returns-in-Some
 returns-in-Some c = λ job calls st shown.
-    some_applies (whole (given_of job)) (setup_for (given_of job)) calls st c.args.course.now c.in-Some.command c.waits.result shown
-    (sym c.peek.ensures ∙ c.in-Some.is) c.waits.ensures
+    some_applies (whole (given_of job)) (setup_for (given_of job)) calls st c.args.course.now c.in-Some.command c.are_disturbed.result shown
+    (sym c.peek.ensures ∙ c.in-Some.is) c.are_disturbed.ensures
 
 pub returns-in-None : goal.returns-in-None
 returns-in-None c = λ job calls st shown.

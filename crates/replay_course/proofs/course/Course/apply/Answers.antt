@@ -10,7 +10,7 @@ use Rattle.replay_course.proofs.course.Course.apply.Goals as goal
 pub command-requires-clause-named : goal.command-requires-clause-named
 command-requires-clause-named g c =
     let me = c.args.self.now in
-    let here = (is_ready me.passes.items (next_command me.commit) c.in-Some.command (sym c.in-Some.ensures.next)).0 in
+    let here = (is_ready me.passes (next_command me.commit) c.in-Some.command (sym c.in-Some.ensures.next)).0 in
     subst (λ o. IfSome o (λ code. IsCommandOf code c.in-Some.command)) (sym c.requires.going.loaded)
     (next_named _ me c.in-Some.command c.requires.going.sound (sym here))
 
@@ -29,7 +29,7 @@ pub returns-in-Done-clause-turned : goal.returns-in-Done-clause-turned
 returns-in-Done-clause-turned g c =
     let some = c.in-Some.ensures in
     let me = c.args.self.now in
-    let here = (is_ready me.passes.items (next_command me.commit) c.in-Some.command (sym some.next)).0 in
+    let here = (is_ready me.passes (next_command me.commit) c.in-Some.command (sym some.next)).0 in
     apply_turned _ me _ _ _ c.in-Some.command c.requires.going (next_named _ me c.in-Some.command c.requires.going.sound (sym here)) c.in-Done.ensures
     c.in-Done.ensures.spare (some.sound _ c.requires.going.sound) (some.unapplied _ c.requires.going.sound) some.counted some.stepped some.asked some.shown
 

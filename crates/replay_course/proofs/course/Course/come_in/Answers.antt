@@ -27,13 +27,13 @@ pub returns-in_ok-push_back-in-Up-clause-sound : goal.returns-in_ok-push_back-in
 returns-in_ok-push_back-in-Up-clause-sound c = λ x h room fits.
     send_up_sound x c.args.self.now _ _ c.in-Up.frame _ h room (subst (FitsUp x c.args.pass) c.in-Up.is fits) refl refl refl c.in_ok-push_back-in-Up.ensures.items refl refl refl c.send_up_at.ensures h.within.idle
 
-pub returns-in_ok-push_back-in-Going-clause-answers : goal.returns-in_ok-push_back-in-Going-clause-answers
-returns-in_ok-push_back-in-Going-clause-answers c = (GoingUp, c.in-Going.is)
+pub returns-in_ok-push-in-Going-clause-answers : goal.returns-in_ok-push-in-Going-clause-answers
+returns-in_ok-push-in-Going-clause-answers c = (GoingUp, c.in-Going.is)
 
-pub returns-in_ok-push_back-in-Going-clause-shown : goal.returns-in_ok-push_back-in-Going-clause-shown
-returns-in_ok-push_back-in-Going-clause-shown c = λ s calls more st answer h may is told.
-    comes_going s calls more st c.args.self.now _ c.args.pass h answer may told (sym c.in-Going.is ∙ is) c.in_ok-push_back-in-Going.ensures.items refl refl refl refl refl refl refl
+pub returns-in_ok-push-in-Going-clause-shown : goal.returns-in_ok-push-in-Going-clause-shown
+returns-in_ok-push-in-Going-clause-shown c = λ s calls more st answer h may is told.
+    comes_going s calls more st c.args.self.now _ c.args.pass h answer may told (sym c.in-Going.is ∙ is) c.in_ok-push-in-Going.ensures.ok refl refl refl refl refl refl refl
 
-pub returns-in_ok-push_back-in-Going-clause-sound : goal.returns-in_ok-push_back-in-Going-clause-sound
-returns-in_ok-push_back-in-Going-clause-sound c = λ x h room fits.
-    going_sound x c.args.self.now _ c.args.pass h room (subst (FitsUp x c.args.pass) c.in-Going.is fits) refl refl c.in_ok-push_back-in-Going.ensures.items refl refl refl refl refl h.within.idle
+pub returns-in_ok-push-in-Going-clause-sound : goal.returns-in_ok-push-in-Going-clause-sound
+returns-in_ok-push-in-Going-clause-sound c = λ x h room fits.
+    going_sound x c.args.self.now _ c.args.pass h room (subst (FitsUp x c.args.pass) c.in-Going.is fits) refl refl c.in_ok-push-in-Going.ensures.ok refl refl refl refl refl h.within.idle

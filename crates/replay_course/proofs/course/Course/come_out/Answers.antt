@@ -16,13 +16,13 @@ pub returns-in-Verdict-clause-sound : goal.returns-in-Verdict-clause-sound
 returns-in-Verdict-clause-sound c = λ x h post fits.
     fate_sound x c.args.self.now _ _ _ h refl refl refl refl refl refl refl c.release_at.ensures h.within.idle
 
-pub returns-in_ok-push_back-in-Going-clause-answers : goal.returns-in_ok-push_back-in-Going-clause-answers
-returns-in_ok-push_back-in-Going-clause-answers c = (GoingDown, c.in-Going.is)
+pub returns-in_ok-push-in-Going-clause-answers : goal.returns-in_ok-push-in-Going-clause-answers
+returns-in_ok-push-in-Going-clause-answers c = (GoingDown, c.in-Going.is)
 
-pub returns-in_ok-push_back-in-Going-clause-shown : goal.returns-in_ok-push_back-in-Going-clause-shown
-returns-in_ok-push_back-in-Going-clause-shown c = λ s calls more st answer h may is told.
-    goes_on_behind s calls more st c.args.self.now _ c.args.pass h answer may told (sym c.in-Going.is ∙ is) c.in_ok-push_back-in-Going.ensures.items refl refl refl refl refl refl refl
+pub returns-in_ok-push-in-Going-clause-shown : goal.returns-in_ok-push-in-Going-clause-shown
+returns-in_ok-push-in-Going-clause-shown c = λ s calls more st answer h may is told.
+    goes_on_behind s calls more st c.args.self.now _ c.args.pass h answer may told (sym c.in-Going.is ∙ is) c.in_ok-push-in-Going.ensures.ok refl refl refl refl refl refl refl
 
-pub returns-in_ok-push_back-in-Going-clause-sound : goal.returns-in_ok-push_back-in-Going-clause-sound
-returns-in_ok-push_back-in-Going-clause-sound c = λ x h post fits.
-    behind_sound x c.args.self.now _ c.args.pass h post (subst (FitsDown c.args.pass) c.in-Going.is fits) refl refl c.in_ok-push_back-in-Going.ensures.items refl refl refl refl refl h.within.idle
+pub returns-in_ok-push-in-Going-clause-sound : goal.returns-in_ok-push-in-Going-clause-sound
+returns-in_ok-push-in-Going-clause-sound c = λ x h post fits.
+    behind_sound x c.args.self.now _ c.args.pass h post (subst (FitsDown c.args.pass) c.in-Going.is fits) refl refl c.in_ok-push-in-Going.ensures.ok refl refl refl refl refl h.within.idle

@@ -41,7 +41,7 @@ returns-clause-sound c = λ x h.
 pub returns-clause-unapplied : goal.returns-clause-unapplied
 returns-clause-unapplied c = λ x h.
     let me = c.args.self.now in
-    next_left me.commit c.in-Some.command me.passes.items h.order (free me _ _ c.has_to_wait.ensures c.if-has_to_wait.false c.in-Some.ensures.did)
+    next_left me.commit c.in-Some.command me.passes h.order (free me _ _ c.has_to_wait.ensures c.if-has_to_wait.false c.in-Some.ensures.did)
     ∙ ap (λ k. 1 + left_of k) (sym c.in-Some.ensures.after)
 
 pub returns-in_default-clause-stepped : goal.returns-in_default-clause-stepped
