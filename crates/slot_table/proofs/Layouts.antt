@@ -1,9 +1,8 @@
 -- Rows that are listed, and laid out again.
-use Rattle.std.proofs.Common.{◌≡◌, ℕ, suc, ◌+◌, ◌<◌, ◌≤◌, List, [], ◌∷◌, ◌++◌, length, set, replicate, Option, Some, None, refl, sym, ap, subst, ◌∙◌, arith, append_assoc, length-append, length-set}
+use Rattle.std.proofs.Common.{◌≡◌, ℕ, ◌+◌, ◌<◌, ◌≤◌, List, [], ◌∷◌, ◌++◌, length, set, replicate, Option, Some, None, refl, sym, ap, subst, ◌∙◌, arith, append_assoc, length-append, length-set}
 use Rattle.std.specs.FinMap.{get, len, insert, len-insert, len-empty}
 use Rattle.std.proofs.lemmas.Cmp.{nat_list_cmp_total}
 use Rattle.std.proofs.lemmas.List.{append-nil}
-use Rattle.slot_table.specs.Place.{home, steps}
 use Rattle.slot_table.specs.Table.{key_cmp, Entry, Slots, rows_in}
 use Rattle.slot_table.specs.Probing.{count_rows, HasGap, IsTable}
 use Rattle.slot_table.specs.Layout.{slot_rows, map_of, CanLayOut, IsLaidAnew, IsSettled, IsLaying}

@@ -1,4 +1,4 @@
-use Rattle.std.proofs.Common.{◌≡◌, ◌≤◌, length}
+use Rattle.std.proofs.Common.{◌≤◌, length}
 use Rattle.std.specs.Prelude.{vec_capacity}
 use Rattle.slot_table.specs.Layout.{IsLaying}
 use Rattle.slot_table.proofs.layout.lay_out.Given as goal

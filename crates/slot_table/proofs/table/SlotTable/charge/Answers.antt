@@ -5,8 +5,7 @@ use Rattle.slot_table.proofs.table.SlotTable.charge.Goals as goal
 pub lay_out-reach-requires : goal.lay_out-reach-requires
 lay_out-reach-requires g c =
     let a = c.self.inside in
-    let kept = c.self.invariant in
-    (
+    let kept = c.self.invariant in (
       omega (arith, c.requires.keys),
       (
         omega (arith, c.requires.values),
