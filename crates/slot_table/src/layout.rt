@@ -1,6 +1,6 @@
 //! Rows that are laid out anew.
-ghost use Rattle.std.specs.Prelude.{◌≡◌, ◌<◌, ◌≤◌, [], ◌++◌, None, IfSome, length, option_to_list, replicate, vec_capacity};
-ghost use Rattle.std.specs.Prelude.{vec_len};
+ghost use Rattle.std.specs.Prelude.{◌≡◌, ◌<◌, ◌≤◌, [], ◌++◌, None, IfSome, length, option_to_list, replicate};
+ghost use Rattle.std.specs.Prelude.{vec_capacity, vec_len};
 ghost use Rattle.slot_table.specs.Table.{IsWords};
 ghost use Rattle.slot_table.specs.Probing.{HasGap};
 ghost use Rattle.slot_table.specs.Layout.{slot_rows, CanLayOut, IsLaidAnew, IsSettled};

@@ -20,14 +20,14 @@ pub enum Slot {
     Full,
 }
 
-// The longest walk to an empty slot that isn't counted as a debt. Among keys that aren't chosen, one in a thousand walks
-// further in a full table.
+// The longest walk to an empty slot that isn't counted as a debt. Of keys that nobody chose, about one in a thousand
+// walks further in a full table.
 const FREE_STEPS: usize = 32;
 
 /// A finite map with a capacity: rows of K words in a key and V words in a value. K and V are 1 or 2.
 /// Rows lie in a circle of slots, more than twice as many as the capacity. A search begins at the home of its key and
-/// goes from slot to slot, as far as the longest way of a row; a removal moves rows back, so that no search is cut short.
-/// Where too many steps were walked to store rows, all are laid out anew, from homes by the next seed.
+/// goes from slot to slot, at most as far as the furthest row lies from its home; a removal moves rows back, so that no
+/// search is cut short. Where too many steps were walked to store rows, all are laid out anew, by the next seed.
 #[derive(Drop)]
 pub struct SlotTable<const K: usize, const V: usize> {
     slots: Vec<Option<([u64; K], [u64; V])>>,
@@ -54,7 +54,8 @@ impl<const K: usize, const V: usize> Model for SlotTable<K, V> {
 
     ghost view = { λ a. record { rows = rows_in a.slots.items; capacity = a.capacity; slots = a.slots.items } };
 
-    ghost invariant = { λ a. IsKept a.seed a.reach a.slots.items a.len a.capacity a.spare.items (vec_capacity a.spare) };
+    ghost invariant = { λ a.
+        IsKept a.seed a.reach a.slots.items a.len a.capacity a.spare.items (vec_capacity a.spare) };
 }
 
 // The same slots again, in memory of their own.
