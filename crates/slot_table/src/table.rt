@@ -4,7 +4,9 @@ ghost use Rattle.std.specs.FinMap as map;
 ghost use Rattle.slot_table.specs.Table.{Table, held, is_table_full, IsWords, IsLaidOut};
 ghost use Rattle.slot_table.specs.declared.table.Slot.TheVariants.{Stored, Full};
 
-use crate::probing::{close, probe};
+use crate::layout::lay_out;
+use crate::place::{FIRST_SEED, home, next_seed, steps};
+use crate::probing::{close, free, probe};
 use gal_io::NoMemory;
 use std::alloc::Global;
 use std::marker::Model;
@@ -18,19 +20,33 @@ pub enum Slot {
     Full,
 }
 
+// The longest walk to an empty slot that isn't counted as a debt. Of keys that nobody chose, about one in a thousand
+// walks further in a full table.
+const FREE_STEPS: usize = 32;
+
 /// A finite map with a capacity: rows of K words in a key and V words in a value. K and V are 1 or 2.
 /// Rows lie in a circle of slots, more than twice as many as the capacity. A search begins at the home of its key and
-/// goes from slot to slot; a removal moves rows back, so that no search is cut short.
+/// goes from slot to slot, at most as far as the furthest row lies from its home; a removal moves rows back, so that no
+/// search is cut short. Where too many steps were walked to store rows, all are laid out anew, by the next seed.
 #[derive(Drop)]
 pub struct SlotTable<const K: usize, const V: usize> {
     slots: Vec<Option<([u64; K], [u64; V])>>,
+    // Memory for the rows while they are laid out anew.
+    spare: Vec<([u64; K], [u64; V])>,
+    // What homes are chosen by.
+    seed: u64,
+    // No row lies further from its home than so many steps.
+    reach: usize,
+    // The steps of long walks, since rows were laid out.
+    debt: usize,
     len: usize,
     capacity: usize,
 }
 
 impl<const K: usize, const V: usize> Model for SlotTable<K, V> {
     ghost use Rattle.slot_table.specs.Table.{Table, table_code, rows_in};
-    ghost use Rattle.slot_table.specs.Probing.{IsTable};
+    ghost use Rattle.slot_table.specs.Layout.{IsKept};
+    ghost use Rattle.std.specs.Prelude.{vec_capacity};
 
     ghost Value = { Table };
 
@@ -38,7 +54,8 @@ impl<const K: usize, const V: usize> Model for SlotTable<K, V> {
 
     ghost view = { λ a. record { rows = rows_in a.slots.items; capacity = a.capacity; slots = a.slots.items } };
 
-    ghost invariant = { λ a. IsTable a.slots.items a.len a.capacity };
+    ghost invariant = { λ a.
+        IsKept a.seed a.reach a.slots.items a.len a.capacity a.spare.items (vec_capacity a.spare) };
 }
 
 // The same slots again, in memory of their own.
@@ -70,8 +87,13 @@ impl<const K: usize, const V: usize> SlotTable<K, V> {
         let count = 2 * capacity + 1;
         let mut slots = Vec::new(alloc);
         slots.resize(count, None)?;
+        let spare = Vec::with_capacity(alloc, capacity)?;
         Ok(SlotTable {
             slots,
+            spare,
+            seed: FIRST_SEED,
+            reach: 0,
+            debt: 0,
             len: 0,
             capacity,
         })
@@ -84,8 +106,13 @@ impl<const K: usize, const V: usize> SlotTable<K, V> {
         ensures { IfOk result (λ table. table ≡ self.now) }
     {
         let slots = copied(alloc, &self.slots)?;
+        let spare = Vec::with_capacity(alloc, self.capacity)?;
         Ok(SlotTable {
             slots,
+            spare,
+            seed: self.seed,
+            reach: self.reach,
+            debt: self.debt,
             len: self.len,
             capacity: self.capacity,
         })
@@ -102,20 +129,49 @@ impl<const K: usize, const V: usize> SlotTable<K, V> {
         ensures capacity { self.new.capacity ≡ self.old.capacity }
         ensures slots { length self.new.slots ≡ length self.old.slots }
     {
-        match probe(&self.slots, &key) {
+        let start = home(self.seed, self.slots.len(), &key);
+        match probe(&self.slots, &key, start, self.reach) {
             Ok(place) => {
                 self.slots[place] = Some((key, value));
                 Slot::Stored
             }
-            Err(gap) => {
+            Err(at) => {
                 if self.len >= self.capacity {
                     return Slot::Full;
                 }
+                let gap = free(&self.slots, at);
+                let walked = steps(self.slots.len(), start, gap);
                 self.slots[gap] = Some((key, value));
                 self.len += 1;
+                self.reach = self.reach.max(walked);
+                self.charge(walked);
                 Slot::Stored
             }
         }
+    }
+
+    // Counts the steps that led to where a row was stored as a debt, where they were many. Where the debt is more than
+    // the slots, or the square of these steps more than twice as much, the rows are laid out anew.
+    fn charge(&mut self, walked: usize)
+        requires keys { IsWords K }
+        requires values { IsWords V }
+        ensures rows { self.new.rows ≡ self.old.rows }
+        ensures capacity { self.new.capacity ≡ self.old.capacity }
+        ensures slots { length self.new.slots ≡ length self.old.slots }
+    {
+        if walked <= FREE_STEPS {
+            return;
+        }
+        let count = self.slots.len();
+        self.debt = self.debt.saturating_add(walked);
+        if self.debt <= count && walked / 2 <= count / walked {
+            return;
+        }
+        let seed = next_seed(self.seed);
+        let reach = lay_out(&mut self.slots, &mut self.spare, seed);
+        self.seed = seed;
+        self.reach = reach;
+        self.debt = 0;
     }
 
     /// Removes the row of a key. It answers whether there was one.
@@ -128,10 +184,11 @@ impl<const K: usize, const V: usize> SlotTable<K, V> {
         ensures capacity { self.new.capacity ≡ self.old.capacity }
         ensures slots { length self.new.slots ≡ length self.old.slots }
     {
-        match probe(&self.slots, key) {
+        let start = home(self.seed, self.slots.len(), key);
+        match probe(&self.slots, key, start, self.reach) {
             Ok(place) => {
                 self.slots[place] = None;
-                close(&mut self.slots, place);
+                close(&mut self.slots, self.seed, self.reach, place);
                 self.len -= 1;
                 true
             }
@@ -145,7 +202,8 @@ impl<const K: usize, const V: usize> SlotTable<K, V> {
         requires values { IsWords V }
         ensures { result ≡ map.get self.now.rows key.now }
     {
-        match probe(&self.slots, key) {
+        let start = home(self.seed, self.slots.len(), key);
+        match probe(&self.slots, key, start, self.reach) {
             Ok(place) => match &self.slots[place] {
                 Some(row) => {
                     let value = row.1;
