@@ -13,11 +13,12 @@ use Rattle.packet_fields.specs.declared.verdict.Verdict.{Verdict}
 use Rattle.packet_fields.specs.declared.verdict.Verdict.TheVariants.{Drop, Send}
 use Rattle.run_model.specs.declared.fate.Fate.{Fate}
 use Rattle.run_model.specs.declared.fate.Fate.TheVariants.{Pass, Up, Held, Slow, Fast}
+use Rattle.run_text.specs.Body.{body_with, spelled_by}
 use Rattle.run_text.specs.Report.{body_text}
 use Rattle.run_text.specs.Trace.{largest}
 use Rattle.report_text.specs.declared.fate.Stamps.{Stamps}
 use Rattle.report_text.specs.Form.{IsFate, IsVerdict}
-use Rattle.report_text.specs.Parse.{◌>>=◌, admitted_at, after, body_at, encoded_by, fast_at, fate_of, labelled, or_else, pass_at, path_at, released_at, send_at, slow_at, stamps_at, up_at, verdict_at, slow_by}
+use Rattle.report_text.specs.Parse.{◌>>=◌, admitted_at, after, as_printed, body_at, fast_at, fate_of, labelled, or_else, pass_at, path_at, released_at, send_at, slow_at, stamps_at, up_at, verdict_at, slow_by}
 use Rattle.report_text.proofs.Pieces.{after_back, after_is, after_other, are_same, bound, is_cut, labelled_back, labelled_is, same_bytes, whole_is}
 
 -- ---- bytes
@@ -42,7 +43,7 @@ unfolding encode_with
 body_of_some [] b bs h = cc
 body_of_some (x ∷ bytes) b bs h = sym h
 
-encoded_is : (d : Result (List ℕ) FromHexError) (b : ℕ) (bs bytes : List ℕ) → decode_of (b ∷ bs) ≡ d → encoded_by (b ∷ bs) d ≡ Some bytes → HasBytes (b ∷ bs) bytes
+encoded_is : (d : Result (List ℕ) FromHexError) (b : ℕ) (bs bytes : List ℕ) → decode_of (b ∷ bs) ≡ d → as_printed (spelled_by (b ∷ bs) d) ≡ Some bytes → HasBytes (b ∷ bs) bytes
 encoded_is (Err e) b bs bytes d h = cc
 encoded_is (Ok found) b bs bytes d h =
     elim (bytes_eq (encode_lower found) (b ∷ bs)) as (λ t. bytes_eq (encode_lower found) (b ∷ bs) ≡ t → cond t (Some found) None ≡ Some bytes → HasBytes (b ∷ bs) bytes) [
@@ -59,7 +60,7 @@ no_bytes i = omega arith
 pub body_is : (body bytes : List ℕ) → body_at body ≡ Some bytes → HasBytes body bytes
 body_is [] bytes h = cc
 body_is (b ∷ bs) bytes h =
-    elim (bytes_eq (b ∷ bs) (codes "-")) as (λ t. bytes_eq (b ∷ bs) (codes "-") ≡ t → cond t (Some []) (encoded_by (b ∷ bs) (decode_of (b ∷ bs))) ≡ Some bytes → HasBytes (b ∷ bs) bytes) [
+    elim (bytes_eq (b ∷ bs) (codes "-")) as (λ t. bytes_eq (b ∷ bs) (codes "-") ≡ t → as_printed (cond t (Some (body_with [] true)) (spelled_by (b ∷ bs) (decode_of (b ∷ bs)))) ≡ Some bytes → HasBytes (b ∷ bs) bytes) [
       | true ↦ λ t e. subst (HasBytes (b ∷ bs)) (same_Some [] bytes e) (record { are = no_bytes; is = are_same (b ∷ bs) (codes "-") t })
       | false ↦ λ t e. encoded_is (decode_of (b ∷ bs)) b bs bytes refl e
     ] refl h

@@ -1,17 +1,17 @@
 -- What the lines of a report spell, one by one.
 use Rattle.std.specs.Prelude.{ℕ, zero, suc, ◌-◌, ◌^◌, List, [], ◌∷◌, ◌++◌, length, take, drop, nat_lt, ◌==◌}
 use Rattle.std.specs.Prelude.{codes}
-use Rattle.std.specs.Prelude.{if◌then◌else◌, Option, Some, None, Result, Ok, Err}
+use Rattle.std.specs.Prelude.{if◌then◌else◌, Option, Some, None}
 use Rattle.std.specs.Str.{bytes_eq}
 use Rattle.std.specs.List.{position_or_len}
-use Rattle.hex.specs.Hex.{decode_of, encode_lower}
-use Rattle.hex.specs.declared.error.FromHexError.{FromHexError}
 use Rattle.gal_io.specs.Number.{number_up_to}
 use Rattle.packet_fields.specs.declared.verdict.Verdict.{Verdict}
 use Rattle.packet_fields.specs.declared.verdict.Verdict.TheVariants.{Drop, Send}
 use Rattle.state_store.specs.declared.object.Row.{Row}
 use Rattle.run_model.specs.declared.fate.Fate.{Fate}
 use Rattle.run_model.specs.declared.fate.Fate.TheVariants.{Pass, Up, Held, Slow, Fast}
+use Rattle.run_text.specs.declared.body.Body.{Body}
+use Rattle.run_text.specs.Body.{spelled}
 use Rattle.run_text.specs.Trace.{is_space, largest}
 use Rattle.report_text.specs.declared.head.PacketCounts.{PacketCounts}
 use Rattle.report_text.specs.declared.head.EventCounts.{EventCounts}
@@ -67,15 +67,14 @@ versions_of line = do
   visible ← labelled largest (codes " visible ") version.1
   whole (record { version = version.0; visible = visible.0 }) visible.1
 
--- the bytes of a packet in lower-case digits, or `-` for none
-abbrev pub encoded_by : List ℕ → Result (List ℕ) FromHexError → Option (List ℕ)
-encoded_by body (Ok bytes) = if bytes_eq (encode_lower bytes) body then Some bytes else None
-encoded_by body (Err e) = None
+-- its bytes, where they are printed so
+abbrev pub as_printed : Option Body → Option (List ℕ)
+as_printed (Some body) = if body.printed then Some body.bytes else None
+as_printed None = None
 
+-- the bytes of a packet in lower-case digits, or `-` for none
 abbrev pub body_at : List ℕ → Option (List ℕ)
-body_at [] = None
-body_at (b ∷ bs) =
-    if bytes_eq (b ∷ bs) (codes "-") then Some [] else encoded_by (b ∷ bs) (decode_of (b ∷ bs))
+body_at body = as_printed (spelled body)
 
 abbrev pub send_at : List ℕ → Option Verdict
 send_at line = do

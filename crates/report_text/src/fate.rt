@@ -5,9 +5,9 @@ ghost use Rattle.report_text.specs.Parse.{slow_at, stamps_at, up_at, verdict_at}
 
 use crate::piece::{after, labelled, labelled_up_to, whole};
 use gal_io::{Bytes, NoMemory};
-use hex::FromHexError;
 use packet_fields::Verdict;
 use run_model::Fate;
+use run_text::read_body;
 use std::alloc::Global;
 
 /// The events that admitted and decided a packet, and the version that it was decided at.
@@ -19,26 +19,12 @@ pub(crate) struct Stamps {
 }
 
 // The bytes of a packet: lower-case hexadecimal digits, or `-` for none.
-fn read_body(alloc: Global, body: &[u8]) -> Result<Option<Bytes>, NoMemory>
+fn read_bytes(alloc: Global, body: &[u8]) -> Result<Option<Bytes>, NoMemory>
     ensures { IfOk result (λ bytes. bytes ≡ body_at body.now) }
 {
-    if body.is_empty() {
-        return Ok(None);
-    }
-    if body == b"-".as_slice() {
-        return Ok(Some(Bytes::new(alloc)));
-    }
-    match hex::decode(alloc, body) {
-        Ok(bytes) => {
-            let again = hex::encode(alloc, &bytes)?;
-            if again.as_bytes() == body {
-                Ok(Some(Bytes::from_slice(alloc, &bytes)?))
-            } else {
-                Ok(None)
-            }
-        }
-        Err(FromHexError::OutOfMemory) => Err(NoMemory),
-        Err(_) => Ok(None),
+    match read_body(alloc, body)? {
+        Some(body) if body.printed => Ok(Some(body.bytes)),
+        _ => Ok(None),
     }
 }
 
@@ -55,7 +41,7 @@ fn read_verdict(alloc: Global, line: &[u8]) -> Result<Option<Verdict>, NoMemory>
     let Some(body) = after(b" ", rest) else {
         return Ok(None);
     };
-    match read_body(alloc, body)? {
+    match read_bytes(alloc, body)? {
         None => Ok(None),
         Some(bytes) => Ok(Some(Verdict::Send(port as u8, bytes))),
     }

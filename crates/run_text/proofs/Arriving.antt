@@ -12,7 +12,8 @@ use Rattle.gal_io.specs.Lines.{lines}
 use Rattle.gal_io.specs.Number.{number_up_to}
 use Rattle.packet_fields.specs.Arrivals.{AreArrivals, IsArrival}
 use Rattle.packet_fields.specs.Sizes.{largest_packet}
-use Rattle.run_text.specs.Trace.{at_most, body_bytes, body_of, is_space, line_values, packet_by, packet_line, packet_with, trace_of, values_until}
+use Rattle.run_text.specs.Body.{body_with, spelled_by}
+use Rattle.run_text.specs.Trace.{at_most, body_of, is_space, line_values, packet_by, packet_line, packet_with, short_bytes, trace_of, values_until}
 use Rattle.run_text.specs.declared.refusal.LineKind.{LineKind}
 use Rattle.run_text.specs.declared.refusal.LineKind.TheVariants.{Form}
 use Rattle.run_text.proofs.LineSteps.{none_ends}
@@ -30,18 +31,18 @@ decoded : (body : List ℕ) (given : Result (List ℕ) FromHexError) → decode_
 decoded body (Ok bytes) h = (decode_of-ok body bytes h).3
 decoded body (Err e) h = tt
 
-short_bytes : (given : Result (List ℕ) FromHexError) → IfOk given IsBytes → IfOk (body_bytes given) IsBody
-short_bytes (Err e) h = tt
-short_bytes (Ok bytes) h = elim (cases_Bool (nat_le (length bytes) largest_packet)) [
+few_bytes : (body : List ℕ) (given : Result (List ℕ) FromHexError) → IfOk given IsBytes → IfOk (short_bytes (spelled_by body given)) IsBody
+few_bytes body (Err e) h = tt
+few_bytes body (Ok bytes) h = elim (cases_Bool (nat_le (length bytes) largest_packet)) [
   | inl short ↦ rw short (record { bytes = h; size = grind (arith, nat_tests) })
   | inr long ↦ rw long tt
 ]
 
 is_body : (body : List ℕ) → IfOk (body_of body) IsBody
 is_body [] = tt
-is_body (b ∷ bs) = elim (bytes_eq (b ∷ bs) (codes "-")) as (λ dash. IfOk (if dash then Ok [] else body_bytes (decode_of (b ∷ bs))) IsBody) [
+is_body (b ∷ bs) = elim (bytes_eq (b ∷ bs) (codes "-")) as (λ dash. IfOk (short_bytes (if dash then Some (body_with [] true) else spelled_by (b ∷ bs) (decode_of (b ∷ bs)))) IsBody) [
   | true ↦ record { bytes = λ i. omega arith; size = omega arith }
-  | false ↦ short_bytes (decode_of (b ∷ bs)) (decoded (b ∷ bs) (decode_of (b ∷ bs)) refl)
+  | false ↦ few_bytes (b ∷ bs) (decode_of (b ∷ bs)) (decoded (b ∷ bs) (decode_of (b ∷ bs)) refl)
 ]
 
 arrives_with : (port : ℕ) (given : Result (List ℕ) LineKind) → port ≤ 255 → IfOk given IsBody → IfOk (packet_with port given) IsArrival

@@ -1,3 +1,4 @@
+pub mod Bodies
 pub mod LineSteps
 pub mod AllValues
 pub mod Numbers

@@ -1,3 +1,4 @@
+pub mod Body
 pub mod Trace
 pub mod Report
 pub mod Answer

@@ -3,19 +3,19 @@ use Rattle.std.specs.Prelude.{ℕ, suc, ◌+◌, ◌-◌, ◌^◌, Bool, true, f
 use Rattle.std.specs.Prelude.{if◌then◌else◌, Option, Some, None, Result, Ok, Err, codes}
 use Rattle.std.specs.Str.{bytes_eq}
 use Rattle.std.specs.List.{before_first, after_first, list_any}
-use Rattle.hex.specs.Hex.{decode_of}
-use Rattle.hex.specs.declared.error.FromHexError.{FromHexError}
 use Rattle.gal_io.specs.Lines.{lines, is_skipped}
 use Rattle.gal_io.specs.Number.{number_up_to}
 use Rattle.packet_fields.specs.declared.packet.Packet.{Packet}
 use Rattle.run_model.specs.declared.event.Event.{Event}
 use Rattle.run_model.specs.declared.event.Event.TheVariants.{Admit, Stage, Serve, Send, Apply, Ack, Hold, Down}
+use Rattle.run_text.specs.declared.body.Body.{Body}
 use Rattle.run_text.specs.declared.plan.Plan.{Plan}
 use Rattle.run_text.specs.declared.refusal.LineKind.{LineKind}
 use Rattle.run_text.specs.declared.refusal.LineKind.TheVariants.{Form, Number, Hex, Long, AfterDrain}
 use Rattle.run_text.specs.declared.refusal.LinesError.{LinesError}
 use Rattle.run_text.specs.declared.refusal.LinesError.TheVariants.{Line, TooMany}
 use Rattle.packet_fields.specs.Sizes.{largest_packet}
+use Rattle.run_text.specs.Body.{spelled}
 use Rattle.run_model.specs.Sizes.{most_packets, most_events}
 
 -- a value in front of those of the lines behind
@@ -58,14 +58,14 @@ abbrev pub at_most : {X : Type 0} → ℕ → Result (List X) LinesError → Res
 at_most most (Ok xs) = if nat_le (length xs) most then Ok xs else Err (TooMany (length xs) most)
 at_most most (Err e) = Err e
 
--- the bytes that the body of a line spells: `-` for none, or pairs of hexadecimal digits
-abbrev pub body_bytes : Result (List ℕ) FromHexError → Result (List ℕ) LineKind
-body_bytes (Ok bytes) = if nat_le (length bytes) largest_packet then Ok bytes else Err Long
-body_bytes (Err e) = Err Hex
+-- its bytes, where a packet may have so many
+abbrev pub short_bytes : Option Body → Result (List ℕ) LineKind
+short_bytes (Some body) = if nat_le (length body.bytes) largest_packet then Ok body.bytes else Err Long
+short_bytes None = Err Hex
 
+-- the bytes that the body of a line spells
 abbrev pub body_of : List ℕ → Result (List ℕ) LineKind
-body_of [] = Err Hex
-body_of (b ∷ bs) = if bytes_eq (b ∷ bs) (codes "-") then Ok [] else body_bytes (decode_of (b ∷ bs))
+body_of body = short_bytes (spelled body)
 
 abbrev pub packet_with : ℕ → Result (List ℕ) LineKind → Result Packet LineKind
 packet_with port (Ok bytes) = Ok (record { port = port; bytes = bytes })

@@ -2,6 +2,7 @@
 #![tactic(auto)]
 
 mod answer;
+mod body;
 mod line_value;
 mod link_schedule;
 mod parts;
@@ -12,6 +13,7 @@ mod schedule;
 mod trace;
 
 pub use answer::print_answer;
+pub use body::{Body, read_body};
 pub use link_schedule::{print_link_schedule, read_link_schedule};
 pub use plan::Plan;
 pub use refusal::{LineKind, LinesError, MAX_EVENTS, MAX_PACKETS};

@@ -1,28 +1,17 @@
 //! The text of a report.
 ghost use Rattle.std.specs.Prelude.{◌≡◌, ◌++◌, codes, decimal, IfOk, OnOk, string_bytes};
-ghost use Rattle.hex.specs.Hex.{IsBytes};
-ghost use Rattle.run_text.specs.Report.{body_text, decided_text, drained_line, events_line, fate_line};
+ghost use Rattle.run_text.specs.Report.{decided_text, drained_line, events_line, fate_line};
 ghost use Rattle.run_text.specs.Report.{fate_lines, fate_text, order_line, packets_line, released_text, report_of};
 ghost use Rattle.run_text.specs.Report.{tables_text, verdict_text, version_line};
 ghost use Rattle.gal_io.specs.Number.{spaced_numbers};
 
+use crate::body::put_body;
 use crate::parts::put_parts;
 use gal_io::{NoMemory, Text};
 use packet_fields::Verdict;
 use run_model::{Fate, Run};
 use state_store::{ObjectDecl, Objects};
 use std::alloc::Global;
-
-/// Puts the bytes of a packet behind a text: in lower-case hexadecimal digits, or `-` for none.
-pub(crate) fn put_body(alloc: Global, bytes: &[u8], text: &mut Text) -> Result<(), NoMemory>
-    ensures text { OnOk result (text.new ≡ text.old ++ body_text bytes.now) }
-    ensures fits { IsBytes bytes.now }
-{
-    match bytes {
-        [] => text.push(b'-'),
-        _ => text.extend(hex::encode(alloc, bytes)?.as_bytes()),
-    }
-}
 
 /// Puts a verdict behind a text.
 pub(crate) fn put_verdict(alloc: Global, verdict: &Verdict, text: &mut Text) -> Result<(), NoMemory>

@@ -7,29 +7,21 @@ ghost use Rattle.run_text.specs.Report.{line_end};
 ghost use Rattle.run_model.specs.Sizes.{most_packets};
 ghost use Rattle.run_text.specs.Trace.{body_of, packet_line, trace_of};
 
+use crate::body::{put_body, read_body};
 use crate::line_value::{LineValue, read_values, split_at_space};
 use crate::refusal::{LineKind, LinesError, MAX_PACKETS};
-use crate::report::put_body;
 use gal_io::{Bytes, NoMemory, Text, number_up_to};
-use hex::FromHexError;
 use packet_fields::{Packet, Packets, is_short};
 use std::alloc::Global;
 
-// The bytes of a body: `-` for none, or pairs of hexadecimal digits of either case.
-fn read_body(alloc: Global, body: &[u8]) -> Result<Result<Bytes, LineKind>, NoMemory>
+// The bytes of a body, where a packet may have so many.
+fn read_bytes(alloc: Global, body: &[u8]) -> Result<Result<Bytes, LineKind>, NoMemory>
     ensures { IfOk result (λ given. given ≡ body_of body.now) }
 {
-    if body.is_empty() {
-        return Ok(Err(LineKind::Hex));
-    }
-    if body == b"-".as_slice() {
-        return Ok(Ok(Bytes::new(alloc)));
-    }
-    match hex::decode(alloc, body) {
-        Ok(bytes) if is_short(&bytes) => Ok(Ok(Bytes::from(bytes))),
-        Ok(_) => Ok(Err(LineKind::Long)),
-        Err(FromHexError::OutOfMemory) => Err(NoMemory),
-        Err(_) => Ok(Err(LineKind::Hex)),
+    match read_body(alloc, body)? {
+        Some(body) if is_short(body.bytes.as_slice()) => Ok(Ok(body.bytes)),
+        Some(_) => Ok(Err(LineKind::Long)),
+        None => Ok(Err(LineKind::Hex)),
     }
 }
 
@@ -45,7 +37,7 @@ impl LineValue for Packet {
         let Some(port) = number_up_to(port, 255) else {
             return Ok(Err(LineKind::Number));
         };
-        match read_body(alloc, body)? {
+        match read_bytes(alloc, body)? {
             Ok(bytes) => Ok(Ok(Packet {
                 port: port as u8,
                 bytes,
