@@ -135,7 +135,7 @@ fn is_answered(alloc: Global, store: &mut Store, call: &Call) -> Result<bool, No
     }
 }
 
-const CALLS: [Call; 33] = [
+const CALLS: [Call; 38] = [
     // a table has its declared rows
     Lists(TABLE, &[(&[22], &[3, 4]), (&[80], &[1, 2])]),
     Finds(TABLE, &[80], &[1, 2]),
@@ -160,6 +160,12 @@ const CALLS: [Call; 33] = [
     Puts(VECTOR, &[2], &[5], Put::Stored),
     Puts(VECTOR, &[3], &[6], Put::OutOfRange),
     Lists(VECTOR, &[(&[0], &[0]), (&[1], &[0]), (&[2], &[5])]),
+    // a row of it may go, and a row of other numbers may come
+    Dels(VECTOR, &[1], true),
+    Lacks(VECTOR, &[1], &[0]),
+    Puts(VECTOR, &[1], &[4_294_967_296], Put::Stored),
+    Puts(VECTOR, &[0], &[7, 8], Put::Stored),
+    Lists(VECTOR, &[(&[0], &[7, 8]), (&[1], &[4_294_967_296]), (&[2], &[5])]),
     // an integer has one row
     Finds(INT, &[], &[7]),
     Puts(INT, &[], &[8], Put::Stored),
@@ -195,7 +201,7 @@ fn first_missed_of_a_store(alloc: Global) -> Result<usize, NoMemory> {
 
 #[test]
 fn calls_answer(rt: HostRuntime) -> Result<(), Fail> {
-    assert_eq!(rt; first_missed_of_a_store(rt.alloc())?, 33);
+    assert_eq!(rt; first_missed_of_a_store(rt.alloc())?, 38);
     Ok(())
 }
 

@@ -1,12 +1,12 @@
 -- An object whose contents are given as sorted entries.
-use Rattle.std.proofs.Common.{◌≡◌, ℕ, suc, ◌+◌, ◌-◌, ◌<◌, ◌≤◌, Bool, true, false, cond, not, ◌&&◌, nat_le, List, [], ◌∷◌, length, get_or, replicate, Some, None, is_some, unwrap_or, Result, Ok, Err, is_ok, IfOk, IfErr, refl, sym, ap, ◌∙◌, subst, arith}
+use Rattle.std.proofs.Common.{◌≡◌, ℕ, ◌<◌, ◌≤◌, Bool, true, false, cond, not, ◌&&◌, nat_le, List, [], length, get_or, Some, None, is_some, unwrap_or, Result, Ok, Err, is_ok, IfOk, IfErr, refl, sym, ap, ◌∙◌, subst, arith}
 use Rattle.std.proofs.lemmas.Option.{slice_get_past}
 use Rattle.std.proofs.lemmas.Bool.Decides.{nat_tests}
 use Rattle.std.specs.List.{remove as remove_at}
 use Rattle.std.specs.FinMap.{insert, from_sorted, len, entries, get-empty, len-empty, entries-from_sorted}
 use Rattle.state_store.specs.declared.object.Kind.{Kind}
 use Rattle.state_store.specs.declared.store.Put.TheVariants.{Stored, Full}
-use Rattle.state_store.specs.Store.{key_cmp, Contents, Object, look, looked_up, is_out, is_full, put_answer, put_row, del_row, rows_of, rows_from, zeros_from, Store, object_at, no_object}
+use Rattle.state_store.specs.Store.{key_cmp, Contents, Object, look, looked_up, is_out, is_full, put_answer, put_row, del_row, rows_of, rows_from, Store, object_at, no_object}
 use Rattle.state_store.specs.Places.{Entries, IsSorted, IsPlaceOf, IsGapFor, with_entry}
 use Rattle.state_store.proofs.Entries.{find_here, find_gap, sorted_with, remove_here, map_empty, map_get, map_len, map_with, map_without, map_absent}
 
@@ -50,22 +50,6 @@ sorted_either es fs k v false sorted e = subst IsSorted (sym e) sorted
 pub set_gives : {X E : Type 0} (r : Result X E) (kind : Kind) (size count : ℕ) (es fs : Entries) (k v : List ℕ) → IsSorted es → fs ≡ cond (is_ok r) (with_entry es k v) es → IfOk r (λ x. object_of kind size count fs ≡ record { kind = kind; size = size; count = count; contents = insert (from_sorted es) k v })
 set_gives (Ok x) kind size count es fs k v sorted e = ap (object_of kind size count) e ∙ ap (λ (m : Contents). record { kind = kind; size = size; count = count; contents = m }) (map_with es k v sorted)
 set_gives (Err x) kind size count es fs k v sorted e = tt
-
--- the row of one more index
-zeros_more : (n i m w : ℕ) (contents : Contents) → i + suc m ≡ n → zeros_from (n - (i + 1)) (i + 1) w (insert contents (i ∷ []) (replicate w 0)) ≡ zeros_from (n - i) i w contents
-zeros_more n i m w contents e =
-    let here : n - i ≡ suc m = omega arith in
-    let next : n - (i + 1) ≡ m = omega arith in
-    let one : i + 1 ≡ suc i = omega arith in
-    rw (here, next, one) refl
-
-pub zeros_next : (n i : ℕ) (key row : List ℕ) (old new : Object) → i < n → key ≡ i ∷ [] → row ≡ replicate old.count 0 → new ≡ record old { contents = insert old.contents key row }
-    → ◌≡◌ {A = Object} (record new { contents = zeros_from (n - (i + 1)) (i + 1) new.count new.contents }) (record old { contents = zeros_from (n - i) i old.count old.contents })
-zeros_next n i key row old new lt one zeros e =
-    ap (λ (o : Object). record o { contents = zeros_from (n - (i + 1)) (i + 1) o.count o.contents }) e
-    ∙ ap (λ (k : List ℕ). record old { contents = zeros_from (n - (i + 1)) (i + 1) old.count (insert old.contents k row) }) one
-    ∙ ap (λ (r : List ℕ). record old { contents = zeros_from (n - (i + 1)) (i + 1) old.count (insert old.contents (i ∷ []) r) }) zeros
-    ∙ ap (λ (m : Contents). record old { contents = m }) (zeros_more n i (n - (i + 1)) old.count old.contents (omega arith))
 
 -- where there is no lack of room, an entry is stored in the memory that is there
 pub in_memory : {P : Type 0} (has_place : Bool) (size rows len capacity : ℕ) → (has_place ≡ true → P) → (len < capacity → P) → (not has_place && nat_le size rows) ≡ false → size ≤ capacity → rows ≡ len → P

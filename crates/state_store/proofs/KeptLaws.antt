@@ -1,7 +1,7 @@
 -- Rows that are packed or lie in order: what is done to them is done to their contents.
-use Rattle.std.proofs.Common.{◌≡◌, ◌⊎◌, inl, inr, ℕ, ◌≤◌, Bool, true, false, cond, not, List, [], Option, Some, None, IfSome, refl, sym, ap, ap₂, subst, ◌∙◌, Result, Ok, Err, IfOk, is_ok}
-use Rattle.std.specs.FinMap.{empty, insert, remove, entries, from_sorted, entries_sorted, same_entries_map, entries-from_sorted}
-use Rattle.state_store.specs.Bounded.{Bounded, IsKeptIn, HasSize, contents_in, unpacked_entries, packed_answer, packed_after, is_full_in, stored_row}
+use Rattle.std.proofs.Common.{◌≡◌, ◌⊎◌, inl, inr, ℕ, ◌≤◌, Bool, true, false, cond, not, List, [], Option, Some, None, IfSome, IsSome, refl, sym, ap, ap₂, subst, ◌∙◌, Result, Ok, Err, IfOk, is_ok, true≢false}
+use Rattle.std.specs.FinMap.{empty, contains_key, insert, remove, entries, from_sorted, entries_sorted, same_entries_map, entries-from_sorted}
+use Rattle.state_store.specs.Bounded.{Bounded, IsKeptIn, HasSize, contents_in, unpacked_entries, packed_answer, packed_after, packed_without, is_full_in, stored_row}
 use Rattle.state_store.specs.Fitted.{Fitted, fits_row, is_full_at, kept_row}
 use Rattle.state_store.specs.Places.{Entries, IsSorted, with_entry, without_entry}
 use Rattle.state_store.specs.Store.{key_cmp, Contents}
@@ -142,13 +142,25 @@ late_set (Err x) m fs gs size k v sorted same e = tt
 pub none_kept : (es : Entries) (size capacity : ℕ) → IsSorted es → size ≤ capacity → IsKeptIn None es size capacity
 none_kept es size capacity sorted room = record { sorted = sorted; room = room; reserve = tt; bound = tt }
 
-pub del_packed : (f f' : Fitted) (es : Entries) (size capacity : ℕ) (m : Contents) → IsKeptIn (Some f) es size capacity → f' ≡ record f { contents = m } → IsKeptIn (Some f') es size capacity
-del_packed f f' es size capacity m kept e =
-    subst (λ g. IsKeptIn (Some g) es size capacity) (sym e) (record { sorted = kept.sorted; room = kept.room; reserve = kept.reserve; bound = kept.bound })
+-- ---- a row that goes
+pub gone_kept : (o o' : Option Fitted) (es : Entries) (size capacity : ℕ) (k : List ℕ) → IsKeptIn o es size capacity → o' ≡ packed_without o k → IsKeptIn o' es size capacity
+gone_kept None o' es size capacity k kept e = subst (λ q. IsKeptIn q es size capacity) (sym e) kept
+gone_kept (Some f) o' es size capacity k kept e =
+    subst (λ q. IsKeptIn q es size capacity) (sym e) (record { sorted = kept.sorted; room = kept.room; reserve = kept.reserve; bound = kept.bound })
 
-pub del_order : (es gs : Entries) (size : ℕ) (k : List ℕ) → IsSorted es → gs ≡ without_entry es k
-    → ◌≡◌ {A = Bounded} (record { size = size; contents = from_sorted gs }) (record { size = size; contents = remove (from_sorted es) k })
-del_order es gs size k sorted e = ap (λ (z : Contents). record { size = size; contents = z }) (ap (λ l. from_sorted l) e ∙ map_without es k sorted)
+pub gone_was : (o : Option Fitted) (es : Entries) (k : List ℕ) (was : Bool) → IsSome o → IfSome o (λ f. was ≡ contains_key f.contents k) → was ≡ contains_key (contents_in o es) k
+gone_was None es k was some is = absurd (true≢false (sym some))
+gone_was (Some f) es k was some is = is
+
+pub gone_after : (o o' : Option Fitted) (es : Entries) (size : ℕ) (k : List ℕ) → IsSome o → o' ≡ packed_without o k
+    → ◌≡◌ {A = Bounded} (bounded_of size o' es) (record { size = size; contents = remove (contents_in o es) k })
+gone_after None o' es size k some e = absurd (true≢false (sym some))
+gone_after (Some f) o' es size k some e = ap (λ q. bounded_of size q es) e
+
+pub late_gone : (m : Contents) (fs gs : Entries) (size : ℕ) (k : List ℕ) → IsSorted fs → from_sorted fs ≡ m → gs ≡ without_entry fs k
+    → ◌≡◌ {A = Bounded} (record { size = size; contents = from_sorted gs }) (record { size = size; contents = remove m k })
+late_gone m fs gs size k sorted same e =
+    ap (λ (z : Contents). record { size = size; contents = z }) (ap (λ l. from_sorted l) e ∙ map_without fs k sorted ∙ ap (λ z. remove z k) same)
 
 -- ---- further calls
 pub new_contents : (keys values : List ℕ) (size : ℕ) (o : Option Fitted) (es : Entries) → IfSome o (λ f. f ≡ record { keys = keys; values = values; capacity = size; contents = empty }) → es ≡ [] → contents_in o es ≡ empty

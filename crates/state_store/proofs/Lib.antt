@@ -1,6 +1,7 @@
 mod AtWork
 mod Constants
 mod Entries
+mod EvenLaws
 mod FittedLaws
 mod Halves
 mod KeptLaws
@@ -8,6 +9,7 @@ mod LawLemmas
 mod NumberLaws
 mod PackLaws
 mod PackSteps
+mod PlacedLaws
 mod PourLaws
 mod RowLaws
 mod SlotRows

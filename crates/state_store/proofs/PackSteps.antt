@@ -35,6 +35,13 @@ same_count [] (n ∷ ns) h = absurd (cc)
 same_count (w ∷ ws) [] h = absurd (cc)
 same_count (w ∷ ws) (n ∷ ns) h = ap suc (same_count ws ns (with_width w n ws ns h).rest)
 
+pub other_count : (ws ns : List ℕ) → length ws ≢ length ns → have_widths ws ns ≡ false
+other_count ws ns h = go (have_widths ws ns) refl
+  where
+    go : (b : Bool) → have_widths ws ns ≡ b → have_widths ws ns ≡ false
+    go true e = absurd (h (same_count ws ns e))
+    go false e = e
+
 -- an answer by a test that fails, and by one that holds
 pub by_false : {A : Type 0} (b : Bool) (x : A) → b ≢ true → None ≡ cond b (Some x) None
 by_false true x h = absurd (h refl)

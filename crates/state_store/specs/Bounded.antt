@@ -55,6 +55,11 @@ abbrev pub packed_answer : Option Fitted → List ℕ → List ℕ → Kept
 packed_answer None key values = Misfit
 packed_answer (Some f) key values = keep_answer f key values
 
+-- packed rows without that of a key
+abbrev pub packed_without : Option Fitted → List ℕ → Option Fitted
+packed_without None key = None
+packed_without (Some f) key = Some (record f { contents = map.remove f.contents key })
+
 abbrev pub packed_after : Option Fitted → List ℕ → List ℕ → Option Fitted
 packed_after None key values = None
 packed_after (Some f) key values = Some (kept_row f key values)

@@ -1,6 +1,8 @@
 pub mod Bounded
 pub mod Codes
+pub mod Even
 pub mod Fitted
+pub mod Forms
 pub mod Kinds
 pub mod Kept
 pub mod Keeping
@@ -9,6 +11,7 @@ pub mod Laws
 pub mod Listing
 pub mod Listed
 pub mod Packing
+pub mod Placed
 pub mod Places
 pub mod Sizes
 pub mod Store

@@ -1,25 +1,28 @@
-//! The rows of an object: packed into a slot table while they fit in one, and else in the order of their keys.
-ghost use Rattle.std.specs.Prelude.{◌≡◌, ◌≤◌, not, None, vec_capacity, IfOk, IfSome, if◌then◌else◌};
+//! The rows of an object: by place or packed into a slot table while they fit there, and else in the order of their keys.
+ghost use Rattle.std.specs.Prelude.{◌≡◌, ◌≤◌, not, length, None, vec_capacity, IfOk, IfSome, IsSome, if◌then◌else◌};
 ghost use Rattle.std.specs.FinMap as map;
 ghost use Rattle.state_store.specs.Bounded.{CanUnpack, HasSize, is_full_in, packed_answer, packed_after, stored_row};
-ghost use Rattle.state_store.specs.Bounded.{unpacked_entries};
-ghost use Rattle.state_store.specs.Store.{rows_from};
+ghost use Rattle.state_store.specs.Bounded.{packed_without, unpacked_entries};
+ghost use Rattle.state_store.specs.Store.{rows_from, zeros_from};
 
+use crate::fitted_rows::FittedRows;
 use crate::listing::Listing;
 use crate::object::Rows;
 use crate::packed_rows::{Kept, PackedRows};
+use crate::placed_rows::PlacedRows;
 use crate::sorted_rows::{del_sorted, get_sorted, list_rows, place, put_sorted, store_at};
 use gal_bits::{Values, Widths};
 use gal_io::NoMemory;
 use std::alloc::Global;
 use std::marker::Model;
 
-/// Rows, and how many there may be. They lie in a slot table. Where the declared widths have no room there, and from
-/// the first row on that hasn't these widths, they lie in the order of their keys instead, for which memory is kept.
+/// Rows, and how many there may be. Those of a vector lie by place, others in a slot table. Where the declared widths have
+/// no room there, from the first row on that hasn't these widths, and once a vector's row goes, they lie in the order of
+/// their keys instead, for which memory is kept.
 #[derive(Debug, Drop)]
 pub struct KeptRows {
     size: usize,
-    packed: Option<PackedRows>,
+    packed: Option<FittedRows>,
     sorted: Vec<(Values, Values)>,
 }
 
@@ -52,6 +55,25 @@ impl KeptRows {
         Ok(KeptRows {
             size,
             packed,
+            sorted,
+        })
+    }
+
+    /// A row of zeros for each number below a length, by place.
+    pub fn zeros(
+        alloc: Global,
+        keys: &Widths,
+        values: &Widths,
+        size: u32,
+    ) -> Result<KeptRows, NoMemory>
+        ensures { IfOk result (λ made.
+            made ≡ record { size = size; contents = zeros_from size 0 (length values.now) map.empty }) }
+    {
+        let rows = PlacedRows::new(alloc, keys, values, size)?;
+        let sorted = Vec::with_capacity(alloc, size as usize)?;
+        Ok(KeptRows {
+            size: size as usize,
+            packed: Some(FittedRows::placed(rows)),
             sorted,
         })
     }
@@ -102,9 +124,12 @@ impl KeptRows {
         ensures was { result ≡ map.contains_key self.old.contents key.now }
         ensures after { self.new ≡ record self.old { contents = map.remove self.old.contents key.now } }
     {
-        match &mut self.packed {
-            Some(rows) => rows.del(key),
-            None => del_sorted(&mut self.sorted, key),
+        match del_packed(&mut self.packed, key) {
+            Some(was) => was,
+            None => {
+                unpack(&mut self.packed, &mut self.sorted);
+                del_sorted(&mut self.sorted, key)
+            }
         }
     }
 
@@ -113,7 +138,7 @@ impl KeptRows {
         ensures { IfOk result (λ made. made ≡ rows_from (map.entries self.now.contents)) }
     {
         match &self.packed {
-            Some(rows) => Ok(Listing::packed(rows.list(alloc)?)),
+            Some(rows) => rows.list(alloc),
             None => Ok(Listing::plain(list_rows(alloc, &self.sorted)?)),
         }
     }
@@ -123,7 +148,7 @@ impl KeptRows {
         ensures { IfOk result (λ rows. rows ≡ rows_from (map.entries self.now.contents)) }
     {
         match &self.packed {
-            Some(rows) => rows.list(alloc)?.to_rows(alloc),
+            Some(rows) => rows.rows(alloc),
             None => list_rows(alloc, &self.sorted),
         }
     }
@@ -149,20 +174,22 @@ fn new_packed(
     values: &Widths,
     size: usize,
     in_slots: bool,
-) -> Result<Option<PackedRows>, NoMemory>
+) -> Result<Option<FittedRows>, NoMemory>
     ensures { IfOk result (λ made.
         IfSome made (λ rows. rows
         ≡ record { keys = keys.now; values = values.now; capacity = size; contents = map.empty })) }
 {
-    if in_slots {
-        PackedRows::new(alloc, keys, values, size)
-    } else {
-        Ok(None)
+    if !in_slots {
+        return Ok(None);
+    }
+    match PackedRows::new(alloc, keys, values, size)? {
+        Some(rows) => Ok(Some(FittedRows::packed(rows))),
+        None => Ok(None),
     }
 }
 
 // Puts a row among the packed ones, where there are any.
-fn put_packed(packed: &mut Option<PackedRows>, key: &Values, values: &Values) -> Kept
+fn put_packed(packed: &mut Option<FittedRows>, key: &Values, values: &Values) -> Kept
     ensures answer { result ≡ packed_answer packed.old key.now values.now }
     ensures after { packed.new ≡ packed_after packed.old key.now values.now }
 {
@@ -172,12 +199,25 @@ fn put_packed(packed: &mut Option<PackedRows>, key: &Values, values: &Values) ->
     }
 }
 
+// Removes a row of the packed ones, where there are any and they may go.
+fn del_packed(packed: &mut Option<FittedRows>, key: &Values) -> Option<bool>
+    ensures was { IfSome result (λ was. IfSome packed.old (λ rows. was ≡ map.contains_key rows.contents key.now)) }
+    ensures after { IsSome result → packed.new ≡ packed_without packed.old key.now }
+    ensures stays { result ≡ None → packed.new ≡ packed.old }
+    ensures some { IsSome result → IsSome packed.old }
+{
+    match packed {
+        Some(rows) => rows.del(key),
+        None => None,
+    }
+}
+
 // The same packed rows again.
 fn copy_packed(
     alloc: Global,
-    packed: &Option<PackedRows>,
+    packed: &Option<FittedRows>,
     size: usize,
-) -> Result<Option<PackedRows>, NoMemory>
+) -> Result<Option<FittedRows>, NoMemory>
     requires { HasSize packed.now size }
     ensures { IfOk result (λ made. made ≡ packed.now) }
 {
@@ -188,7 +228,7 @@ fn copy_packed(
 }
 
 // Moves packed rows among the sorted ones, in the memory that is there.
-fn unpack(packed: &mut Option<PackedRows>, sorted: &mut Vec<(Values, Values)>)
+fn unpack(packed: &mut Option<FittedRows>, sorted: &mut Vec<(Values, Values)>)
     requires { CanUnpack packed.old sorted.old.items (vec_capacity sorted.old) }
     ensures none { packed.new ≡ None }
     ensures rows { sorted.new.items ≡ unpacked_entries packed.old sorted.old.items }

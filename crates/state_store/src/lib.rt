@@ -2,6 +2,8 @@
 #![tactic(auto)]
 
 mod any_table;
+mod even_lists;
+mod fitted_rows;
 mod kept_rows;
 mod laws;
 mod listing;
@@ -9,6 +11,8 @@ mod object;
 mod packed_list;
 mod packed_rows;
 mod packing;
+mod placed_rows;
+mod short_lists;
 mod sorted_rows;
 mod store;
 mod stored;

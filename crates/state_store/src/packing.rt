@@ -28,6 +28,21 @@ pub fn have_room(bits: u64, widths: &[u64]) -> bool
     true
 }
 
+/// Whether there are as many numbers as widths, and each has no more bits than the width at its place.
+pub fn have_widths(widths: &[u64], numbers: &[u64]) -> bool
+    ensures { result ≡ have_widths widths.now numbers.now }
+{
+    if widths.len() != numbers.len() {
+        return false;
+    }
+    for i in 0..widths.len() {
+        if !fits(numbers[i], widths[i]) {
+            return false;
+        }
+    }
+    true
+}
+
 /// The numbers one behind the other, where they have these widths.
 pub fn packed(bits: u64, widths: &[u64], numbers: &[u64]) -> Option<u128>
     requires bits { bits ≤ 128 }

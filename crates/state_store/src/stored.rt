@@ -1,5 +1,5 @@
 //! One object at work.
-ghost use Rattle.std.specs.Prelude.{◌≡◌, ◌≤◌, [], ◌∷◌, slice_index, is_some, false, length, replicate, IfOk};
+ghost use Rattle.std.specs.Prelude.{◌≡◌, [], slice_index, is_some, false, length, IfOk};
 ghost use Rattle.std.specs.FinMap as map;
 ghost use Rattle.state_store.specs.Store.{Object, start_object, look, looked_up, put_answer, put_row, del_row, rows_of};
 ghost use Rattle.state_store.specs.Store.{with_rows, zeros_from, is_out};
@@ -7,6 +7,7 @@ ghost use Rattle.state_store.specs.Store.{with_rows, zeros_from, is_out};
 use crate::kept_rows::KeptRows;
 use crate::listing::Listing;
 use crate::object::{Kind, ObjectDecl, Row, Rows};
+use crate::short_lists::{single, zeros};
 use crate::store::{Found, Put};
 use gal_bits::Values;
 use gal_io::NoMemory;
@@ -68,18 +69,43 @@ impl StoredObject {
         })
     }
 
+    // A vector, with zeros at each index.
+    fn zeros(alloc: Global, object: &ObjectDecl) -> Result<StoredObject, NoMemory>
+        ensures { IfOk result (λ made.
+            made ≡ record {
+              kind = object.now.kind;
+              size = object.now.size;
+              count = length object.now.values;
+              contents = zeros_from object.now.size 0 (length object.now.values) map.empty;
+            }) }
+    {
+        let rows = KeptRows::zeros(alloc, &object.keys, &object.values, object.size)?;
+        Ok(StoredObject {
+            kind: object.kind,
+            size: object.size,
+            count: object.values.len(),
+            rows,
+        })
+    }
+
     /// The object as a run starts with it.
     pub fn start(alloc: Global, object: &ObjectDecl) -> Result<StoredObject, NoMemory>
         ensures { IfOk result (λ made. made ≡ start_object object.now) }
     {
-        let mut made = StoredObject::new(alloc, object)?;
         match object.kind {
-            Kind::Table => made.set_rows(object.rows.as_slice())?,
-            Kind::Map => {}
-            Kind::Vector => made.set_zeros()?,
-            Kind::Int => made.set(&Values::new(), &single(object.start))?,
+            Kind::Vector => StoredObject::zeros(alloc, object),
+            Kind::Map => StoredObject::new(alloc, object),
+            Kind::Table => {
+                let mut made = StoredObject::new(alloc, object)?;
+                made.set_rows(object.rows.as_slice())?;
+                Ok(made)
+            }
+            Kind::Int => {
+                let mut made = StoredObject::new(alloc, object)?;
+                made.set(&Values::new(), &single(object.start))?;
+                Ok(made)
+            }
         }
-        Ok(made)
     }
 
     /// The values under a key, or zeros.
@@ -159,18 +185,6 @@ impl StoredObject {
         Ok(())
     }
 
-    // Stores a row of zeros for each index below the size.
-    fn set_zeros(&mut self) -> Result<(), NoMemory>
-        ensures { IfOk result (λ _.
-            self.new ≡ record self.old { contents = zeros_from self.old.size 0 self.old.count self.old.contents }) }
-    {
-        let row = zeros(self.count);
-        for i in 0..self.size {
-            self.set(&single(u64::from(i)), &row)?;
-        }
-        Ok(())
-    }
-
     // Stores a row, also beyond the object's size.
     fn set(&mut self, key: &Values, values: &Values) -> Result<(), NoMemory>
         ensures { IfOk result (λ _.
@@ -203,25 +217,4 @@ fn first(key: &Values) -> u64
     ensures { result ≡ slice_index key.now 0 }
 {
     if key.is_empty() { 0 } else { key.at(0) }
-}
-
-// The list of one number.
-fn single(number: u64) -> Values
-    ensures { result ≡ number ∷ [] }
-{
-    let mut values = Values::new();
-    values.push(number);
-    values
-}
-
-// As many zeros.
-fn zeros(count: usize) -> Values
-    requires { count ≤ 8 }
-    ensures { result ≡ replicate count 0 }
-{
-    let mut values = Values::new();
-    for _ in 0..count {
-        values.push(0);
-    }
-    values
 }
