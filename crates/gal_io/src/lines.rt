@@ -3,12 +3,14 @@ ghost use Rattle.std.specs.Prelude.{◌≡◌, ◌<◌, ◌≤◌, ◌==◌, [],
 ghost use Rattle.std.specs.List.{position_or_len};
 ghost use Rattle.gal_io.specs.Lines.{lines, without_return, is_skipped};
 
+use memchr::memchr;
+
 // Where the first LF stands, or the text ends.
 fn line_end(text: &[u8]) -> usize
     ensures end { result ≡ position_or_len (λ byte. byte == 10) text.now }
     ensures within { result ≤ length text.now }
 {
-    text.iter().take_while(|byte| **byte != b'\n').count()
+    memchr(b'\n', text).unwrap_or(text.len())
 }
 
 fn without_first(bytes: &[u8]) -> &[u8]
