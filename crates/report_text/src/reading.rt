@@ -113,13 +113,13 @@ fn has_keys(count: u32, widths: &Widths) -> bool
 }
 
 // Whether a key may follow these rows.
-fn follows(rows: &[Row], key: &Values) -> bool
+fn follows(rows: &Rows, key: &Values) -> bool
     ensures { result ≡ is_after rows.now key.now }
 {
-    match rows.last() {
-        None => true,
-        Some(last) => last.keys < *key,
+    if rows.is_empty() {
+        return true;
     }
+    rows.at(rows.len() - 1).keys < *key
 }
 
 impl Reading {
@@ -366,7 +366,7 @@ impl Reading {
             (row_put place.0 place.1 place.2 self.old object.now (Some row))) }
     {
         let (side, number, behind) = place;
-        if !follows(self.rows.as_slice(), &row.keys) || !leaves(behind, &object.keys, &row.keys) {
+        if !follows(&self.rows, &row.keys) || !leaves(behind, &object.keys, &row.keys) {
             return Ok(false);
         }
         self.rows.push(row)?;

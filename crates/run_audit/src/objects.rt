@@ -6,7 +6,7 @@ ghost use Rattle.run_audit.specs.Told.{IsFirstUnlike};
 use element_lang::Middlebox;
 use gal_io::NoMemory;
 use run_model::{ObjectRows, Run, StoreRows};
-use state_store::{Row, Store};
+use state_store::{Row, Rows, Store};
 use std::alloc::Global;
 
 fn is_same_row(one: Row, other: Row) -> bool
@@ -16,14 +16,14 @@ fn is_same_row(one: Row, other: Row) -> bool
 }
 
 // Whether two lists have the same rows.
-fn are_same_rows(some: &[Row], others: &[Row]) -> bool
+fn are_same_rows(some: &Rows, others: &Rows) -> bool
     ensures { IsTrue result ↔ (some.now ≡ others.now) }
 {
     if some.len() != others.len() {
         return false;
     }
     for place in 0..some.len() {
-        if !is_same_row(some[place], others[place]) {
+        if !is_same_row(some.at(place), others.at(place)) {
             return false;
         }
     }
@@ -33,7 +33,7 @@ fn are_same_rows(some: &[Row], others: &[Row]) -> bool
 fn is_same_part(one: &ObjectRows, other: &ObjectRows) -> bool
     ensures { IsTrue result ↔ (one.now ≡ other.now) }
 {
-    one.object == other.object && are_same_rows(one.rows.as_slice(), other.rows.as_slice())
+    one.object == other.object && are_same_rows(&one.rows, &other.rows)
 }
 
 // The object of the wanted part at the first place at which the part that is told isn't the wanted one, or of the told

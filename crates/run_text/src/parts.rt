@@ -4,7 +4,7 @@ ghost use Rattle.run_text.specs.Report.{key_text, part_line, part_lines, row_lin
 
 use gal_io::{NoMemory, Text};
 use run_model::ObjectRows;
-use state_store::{ObjectDecl, Row};
+use state_store::{ObjectDecl, Row, Rows};
 
 fn put_key(numbers: &[u64], text: &mut Text) -> Result<(), NoMemory>
     ensures { OnOk result (text.new ≡ text.old ++ key_text numbers.now) }
@@ -25,11 +25,11 @@ fn put_row(row: &Row, text: &mut Text) -> Result<(), NoMemory>
     text.push(b'\n')
 }
 
-fn put_rows(rows: &[Row], text: &mut Text) -> Result<(), NoMemory>
+fn put_rows(rows: &Rows, text: &mut Text) -> Result<(), NoMemory>
     ensures { OnOk result (text.new ≡ text.old ++ row_lines rows.now) }
 {
-    for row in rows {
-        put_row(row, text)?;
+    for place in 0..rows.len() {
+        put_row(&rows.at(place), text)?;
     }
     Ok(())
 }
@@ -71,7 +71,7 @@ pub(crate) fn put_parts(
 {
     for part in parts {
         put_part_line(word, objects, part, text)?;
-        put_rows(part.rows.as_slice(), text)?;
+        put_rows(&part.rows, text)?;
     }
     Ok(())
 }
