@@ -119,7 +119,8 @@ fn follows(rows: &Rows, key: &Values) -> bool
     if rows.is_empty() {
         return true;
     }
-    rows.at(rows.len() - 1).keys < *key
+    let (last, _) = rows.parts_at(rows.len() - 1);
+    last < key.as_slice()
 }
 
 impl Reading {
@@ -360,16 +361,16 @@ impl Reading {
         alloc: Global,
         object: &ObjectDecl,
         place: (Side, u32, u32),
-        row: Row,
+        row: &Row,
     ) -> Result<bool, NoMemory>
         ensures { IfOk result (λ ok. taken ok self.new
-            (row_put place.0 place.1 place.2 self.old object.now (Some row))) }
+            (row_put place.0 place.1 place.2 self.old object.now (Some row.now))) }
     {
         let (side, number, behind) = place;
         if !follows(&self.rows, &row.keys) || !leaves(behind, &object.keys, &row.keys) {
             return Ok(false);
         }
-        self.rows.push(row)?;
+        self.rows.push_values(&row.keys, &row.values)?;
         self.await_rows(alloc, side, number, behind)?;
         Ok(true)
     }
@@ -388,7 +389,7 @@ impl Reading {
             return Ok(false);
         };
         match read_row(&object.keys, &object.values, line) {
-            Some(row) => self.put_row(alloc, object, place, row),
+            Some(row) => self.put_row(alloc, object, place, &row),
             None => Ok(false),
         }
     }

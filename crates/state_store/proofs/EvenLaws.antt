@@ -1,7 +1,7 @@
 -- Lists that all have one length.
-use Rattle.std.proofs.Common.{◌≡◌, ℕ, zero, suc, ◌+◌, ◌-◌, ◌*◌, ◌<◌, ◌≤◌, List, [], ◌∷◌, ◌++◌, length, take, drop, set, replicate, Option, Some, None, slice_get, refl, sym, ap, ap₂, subst, ◌∙◌, arith}
+use Rattle.std.proofs.Common.{◌≡◌, ℕ, zero, suc, ◌+◌, ◌-◌, ◌*◌, ◌<◌, ◌≤◌, List, [], ◌∷◌, ◌++◌, length, take, drop, set, replicate, Some, None, slice_get, refl, sym, ap, ap₂, subst, ◌∙◌, arith}
 use Rattle.std.proofs.Math.Nat.{mul-le-mul_left}
-use Rattle.std.proofs.lemmas.List.{take-take, drop-take, length-take-le, length-drop, length-append, length-replicate, drop-drop, take_at, drop_at, take-append-le, drop-append-le, take_all, take-replicate, drop-replicate, append_assoc}
+use Rattle.std.proofs.lemmas.List.{take-take, drop-take, length-take-le, length-drop, length-append, drop-drop, take_at, drop_at, take-append-le, drop-append-le, take_all, take-replicate, drop-replicate}
 use Rattle.state_store.specs.Even.{Even, cut}
 
 pub cut_length : (w n : ℕ) (ns : List ℕ) → length (cut w n ns) ≡ n

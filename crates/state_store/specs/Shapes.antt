@@ -1,5 +1,5 @@
 -- How rows lie in memory.
-use Rattle.std.specs.Prelude.{◌≡◌, ⊤, ℕ, ◌+◌, ◌≤◌, List, length, map, take, drop}
+use Rattle.std.specs.Prelude.{◌≡◌, ⊤, ℕ, ◌+◌, ◌≤◌, List, map, take, drop}
 use Rattle.state_store.specs.declared.object.Row.{Row}
 use Rattle.state_store.specs.declared.rows.Form.{Form}
 use Rattle.state_store.specs.declared.rows.Form.TheVariants.{Even, Mixed}
@@ -30,7 +30,7 @@ pub record IsShaped (form : Form) : Type 0 where
   pub values : values_in form ≤ 8
   pub width : width_in form ≡ keys_in form + values_in form
 
--- the row has as many numbers as the others, where that matters
-abbrev pub HasRoomFor : Form → Row → Type 0
-HasRoomFor (Even keys values lists) row = (length row.keys ≡ keys) × (length row.values ≡ values)
-HasRoomFor (Mixed rows) row = ⊤
+-- a row of so many numbers has as many as the others, where that matters
+abbrev pub HasRoomFor : Form → ℕ → ℕ → Type 0
+HasRoomFor (Even keys values lists) key_count value_count = (key_count ≡ keys) × (value_count ≡ values)
+HasRoomFor (Mixed rows) key_count value_count = ⊤

@@ -1,5 +1,5 @@
 //! Lists of numbers that all have one length, in one list of numbers.
-ghost use Rattle.std.specs.Prelude.{◌≡◌, ◌<◌, ◌≤◌, ◌^◌, ◌*◌, IfOk, Some, length, replicate, slice_get, slice_set};
+ghost use Rattle.std.specs.Prelude.{◌≡◌, ◌<◌, ◌≤◌, ◌^◌, ◌*◌, IfOk, IsTrue, Some, length, replicate, slice_get, slice_set};
 ghost use Rattle.std.specs.Prelude.{◌++◌, ◌∷◌, [], take, drop, ◌+◌, OnOk, OnErr};
 
 use gal_io::NoMemory;
@@ -106,6 +106,15 @@ impl EvenLists {
         append(&mut self.numbers, front, back)?;
         self.count += 1;
         Ok(())
+    }
+
+    /// Whether the others have the same length and the same numbers.
+    pub fn is_same(&self, other: &EvenLists) -> bool
+        ensures { IsTrue result → self.now ≡ other.now }
+    {
+        self.width == other.width
+            && self.count == other.count
+            && self.numbers.as_slice() == other.numbers.as_slice()
     }
 
     /// The same lists again, in memory of their own.

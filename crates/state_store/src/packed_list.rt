@@ -122,7 +122,8 @@ fn unpacked(
 {
     let mut rows = Rows::with_capacity(alloc, keys.len(), values.len(), numbers.len())?;
     for pair in numbers {
-        rows.push(row(key_bits, value_bits, keys, values, *pair))?;
+        let row = row(key_bits, value_bits, keys, values, *pair);
+        rows.push_values(&row.keys, &row.values)?;
     }
     Ok(rows)
 }

@@ -105,7 +105,7 @@ impl PlacedRows {
         let count = self.len();
         let mut rows = Rows::with_capacity(alloc, 1, self.values.len(), count)?;
         for place in 0..count {
-            rows.push(self.row(place))?;
+            rows.push_parts(&[place as u64], self.rows.at(place))?;
         }
         Ok(rows)
     }

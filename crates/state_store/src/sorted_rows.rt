@@ -6,7 +6,6 @@ ghost use Rattle.state_store.specs.Fitted.{is_full_at};
 ghost use Rattle.state_store.specs.Places.{IsPlaceOf, IsGapFor, IsSorted, map_of, with_entry, without_entry};
 ghost use Rattle.state_store.specs.Store.{rows_from};
 
-use crate::object::Row;
 use crate::rows::Rows;
 use gal_bits::Values;
 use gal_io::NoMemory;
@@ -111,10 +110,7 @@ pub fn list_rows(alloc: Global, entries: &[(Values, Values)]) -> Result<Rows, No
         }
     };
     for (keys, values) in entries {
-        rows.push(Row {
-            keys: *keys,
-            values: *values,
-        })?;
+        rows.push_values(keys, values)?;
     }
     Ok(rows)
 }

@@ -1,4 +1,4 @@
-use Rattle.std.proofs.Common.{◌≡◌, ◌<◌, length, map, slice_get, Some, sym, ap, ◌∙◌, arith}
+use Rattle.std.proofs.Common.{slice_get, Some, sym, ap, ◌∙◌, arith}
 use Rattle.std.proofs.lemmas.List.{length-map}
 use Rattle.state_store.specs.Shapes.{row_of_list, rows_in}
 use Rattle.state_store.proofs.ShapeLaws.{got_map, rest_from}
