@@ -54,12 +54,14 @@ fn in_order(alloc: Global, spans: &Spans) -> Result<Vec<Span>, NoMemory>
     Ok(sorted)
 }
 
-// How many values are found by index: all of them up to the greatest, but 65,536 at most.
+// How many values are found by index: all of them up to the greatest, but no more than 16 for each span, and 65,536 at
+// most.
 fn first_values(spans: &[Span]) -> u32
     ensures { result ≤ 65536 }
 {
+    let most = 16 * spans.len().min(4_096) as u32;
     match spans.iter().map(|span| span.value).max() {
-        Some(greatest) => greatest.min(65_535) + 1,
+        Some(greatest) => greatest.saturating_add(1).min(most),
         None => 0,
     }
 }
