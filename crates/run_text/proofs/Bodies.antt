@@ -1,14 +1,18 @@
 -- What pairs of hexadecimal digits spell.
-use Rattle.std.proofs.Common.{◌≡◌, ℕ, zero, suc, ◌+◌, ◌*◌, ◌/◌, ◌<◌, ◌≤◌, ◌≢◌, List, [], ◌∷◌, ◌++◌, append-nil, take, drop, length, get_or, set, true, false, Some, Result, Ok, Err, refl, sym, ap, ◌∙◌, subst, arith, below_more, length-set, get_or-set_other, get_or-set_same}
-use Rattle.std.proofs.lemmas.List.{drop_all, take_all}
+use Rattle.std.proofs.Common.{◌≡◌, ℕ, zero, suc, ◌+◌, ◌*◌, ◌/◌, ◌%◌, ◌<◌, ◌≤◌, ◌≢◌, ◌==◌, ◌&&◌, Bool, List, [], ◌∷◌, ◌++◌, append-nil, take, drop, length, get_or, slice_index, set, true, false, Result, Ok, Err, refl, sym, ap, ◌∙◌, subst, arith, true≢false, below_more, length-set, get_or-set_other, get_or-set_same}
+use Rattle.std.specs.Prelude.{MatchResult}
+use Rattle.std.specs.List.{list_all}
+use Rattle.std.proofs.lemmas.Bool.{and_from, and_parts, eqb-true, eq-eqb}
+use Rattle.std.proofs.lemmas.List.Folds.{Any-from_list_any, list_any_at}
+use Rattle.std.proofs.lemmas.List.{drop_all, get_or_default, take_all}
 use Rattle.std.proofs.lemmas.Grind.{same_number_lists}
 use Rattle.std.proofs.lemmas.Slice.Eq.{bytes_eq-Decides}
 use Rattle.std.specs.Result.{result_unwrap_or}
 use Rattle.std.specs.Str.{bytes_eq}
-use Rattle.hex.specs.Hex.{IsBytes, decode_of, decode_pairs, encode_lower, pair_value, ◌>>=◌}
+use Rattle.hex.specs.Hex.{IsBytes, decode_of, decode_pairs, encode_lower, encode_with, lower_digits, pair_value, ◌>>=◌}
 use Rattle.hex.specs.declared.error.FromHexError.{FromHexError}
-use Rattle.hex.proofs.HexLemmas.{decode_of-encode_lower, decode_of-even, decode_of-ok}
-use Rattle.run_text.specs.Body.{body_with, spelled_by}
+use Rattle.hex.proofs.HexLemmas.{decode_of-encode_lower, decode_of-even, decode_of-ok, length-encode_with}
+use Rattle.run_text.specs.Body.{is_printed_digit}
 
 same_Ok : {A : Type 0} (x y : A) (r : Result A FromHexError) → r ≡ Ok x → r ≡ Ok y → x ≡ y
 same_Ok x y r hx hy = ap (λ s. result_unwrap_or s x) (sym hx ∙ hy)
@@ -79,16 +83,88 @@ whole_written bytes others n size same =
     let none = drop_all (length bytes) others (omega arith) in
     rw (none, append-nil) (take_all n bytes (omega arith))
 
--- ---- what is printed again
+-- ---- what is printed
 
--- digits that are printed of these bytes spell them
-pub printed_spells : (digits bytes : List ℕ) → IsBytes bytes → bytes_eq (encode_lower bytes) digits ≡ true → Some (body_with bytes true) ≡ spelled_by digits (decode_of digits)
-printed_spells digits bytes h is =
-    let reads : decode_of digits ≡ Ok bytes = ap decode_of (sym ((bytes_eq-Decides (encode_lower bytes) digits).0 is)) ∙ decode_of-encode_lower bytes h in
-    rw (reads, is) refl
+-- where a digit that is printed stands among the sixteen
+place_of : (digit : ℕ) → is_printed_digit digit ≡ true → (place : ℕ) × (place < 16) × (slice_index lower_digits place ≡ digit)
+place_of digit is =
+    let found = Any-from_list_any (λ d. d == digit) lower_digits is in
+    let small : found.0 < 16 = found.2 in
+    (found.0, small, get_or_default lower_digits found.0 0 found.1 found.2 ∙ found.3 ∙ eqb-true found.1 digit found.4)
 
--- digits that spell bytes and aren't printed of them
-pub other_spells : (digits likely bytes : List ℕ) → ((found : List ℕ) → decode_of digits ≡ Ok found → likely ≡ found) → bytes_eq (encode_lower likely) digits ≡ false → decode_of digits ≡ Ok bytes → Some (body_with bytes false) ≡ spelled_by digits (decode_of digits)
-other_spells digits likely bytes is other reads =
-    let not_printed : bytes_eq (encode_lower bytes) digits ≡ false = ap (λ l. bytes_eq (encode_lower l) digits) (sym (is bytes reads)) ∙ other in
-    rw (reads, not_printed) refl
+bytes_front : (byte : ℕ) (bytes : List ℕ) → byte < 256 → IsBytes bytes → IsBytes (byte ∷ bytes)
+bytes_front byte bytes room fits zero = room
+bytes_front byte bytes room fits (suc k) = fits k
+
+-- the byte of two digits that are printed, in front of others
+front_printed : (a b : ℕ) (rest bytes : List ℕ) → is_printed_digit a ≡ true → is_printed_digit b ≡ true → IsBytes bytes
+    → encode_lower bytes ≡ rest → (all : List ℕ) × IsBytes all × (encode_lower all ≡ a ∷ b ∷ rest)
+unfolding encode_with
+front_printed a b rest bytes first second fits same =
+    let high = place_of a first in
+    let low = place_of b second in
+    let byte = high.0 * 16 + low.0 in
+    let above : byte / 16 ≡ high.0 = omega (arith, high.1, low.1) in
+    let below : byte % 16 ≡ low.0 = omega (arith, high.1, low.1) in
+    let room : byte < 256 = omega (arith, high.1, low.1) in
+    (byte ∷ bytes, bytes_front byte bytes room fits, rw (above, below, high.2, low.2, same) refl)
+
+-- pairs of digits that are printed are what is printed of some bytes
+printed_pairs : (text : List ℕ) → length text % 2 ≡ 0 → list_all is_printed_digit text ≡ true
+    → (bytes : List ℕ) × IsBytes bytes × (encode_lower bytes ≡ text)
+unfolding encode_with
+printed_pairs [] even all = ([], (λ k. omega arith), refl)
+printed_pairs (a ∷ []) even all = absurd (omega arith)
+printed_pairs (a ∷ b ∷ rest) even all =
+    let first = and_parts (is_printed_digit a) _ all in
+    let second = and_parts (is_printed_digit b) _ first.1 in
+    let behind = printed_pairs rest (omega arith) second.1 in
+    front_printed a b rest behind.0 first.0 second.0 behind.1 behind.2
+
+-- each digit of the sixteen is printed
+place_is_printed : (place : ℕ) → place < 16 → is_printed_digit (slice_index lower_digits place) ≡ true
+place_is_printed place small = list_any_at (λ d. d == slice_index lower_digits place) lower_digits place 0 small (eq-eqb _ _ refl)
+
+-- what is printed holds no other digits
+all_printed : (bytes : List ℕ) → IsBytes bytes → list_all is_printed_digit (encode_lower bytes) ≡ true
+unfolding encode_with
+all_printed [] fits = refl
+all_printed (b ∷ rest) fits =
+    let room : b < 256 = fits 0 in
+    and_from _ _ (place_is_printed (b / 16) (omega arith)) (and_from _ _ (place_is_printed (b % 16) (omega arith)) (all_printed rest (λ k. fits (suc k))))
+
+-- whether a text is pairs of digits that are printed tells whether it is what is printed of the bytes that it spells
+abbrev pub Tells : List ℕ → Bool → Type 0
+Tells text is = MatchResult (decode_of text) (λ bytes. is ≡ bytes_eq (encode_lower bytes) text) (λ e. is ≡ false)
+
+printed_tells : (text bytes : List ℕ) → IsBytes bytes → encode_lower bytes ≡ text → Tells text true
+printed_tells text bytes fits same =
+    let reads : decode_of text ≡ Ok bytes = ap decode_of (sym same) ∙ decode_of-encode_lower bytes fits in
+    rw reads (sym ((bytes_eq-Decides (encode_lower bytes) text).1 same))
+
+other_tells : (text : List ℕ) → ((bytes : List ℕ) → IsBytes bytes → encode_lower bytes ≡ text → ⊥) → (r : Result (List ℕ) FromHexError) → decode_of text ≡ r → Tells text false
+other_tells text other (Ok bytes) reads =
+    let fits = (decode_of-ok text bytes reads).3 in
+    rw reads (by (bytes_eq (encode_lower bytes) text) refl (λ is. other bytes fits ((bytes_eq-Decides (encode_lower bytes) text).0 is)))
+  where
+    by : (b : Bool) → bytes_eq (encode_lower bytes) text ≡ b → (bytes_eq (encode_lower bytes) text ≡ true → ⊥) → false ≡ bytes_eq (encode_lower bytes) text
+    by true is never = absurd (never is)
+    by false is never = sym is
+other_tells text other (Err e) reads = rw reads refl
+
+printed_passes : (text bytes : List ℕ) → IsBytes bytes → encode_lower bytes ≡ text → (length text % 2 == 0 && list_all is_printed_digit text) ≡ true
+printed_passes text bytes fits same =
+    let twice = length-encode_with lower_digits bytes in
+    let size : length text ≡ 2 * length bytes = ap length (sym same) ∙ twice in
+    let even : length text % 2 ≡ 0 = omega (arith, size) in
+    and_from _ _ (eq-eqb _ _ even) (ap (list_all is_printed_digit) (sym same) ∙ all_printed bytes fits)
+
+pub printed_or_not : (text : List ℕ) → Tells text (length text % 2 == 0 && list_all is_printed_digit text)
+printed_or_not text = by (length text % 2 == 0 && list_all is_printed_digit text) refl
+  where
+    by : (b : Bool) → (length text % 2 == 0 && list_all is_printed_digit text) ≡ b → Tells text b
+    by true is =
+        let parts = and_parts (length text % 2 == 0) (list_all is_printed_digit text) is in
+        let found = printed_pairs text (eqb-true _ _ parts.0) parts.1 in
+        printed_tells text found.0 found.1 found.2
+    by false is = other_tells text (λ bytes fits same. true≢false (sym (printed_passes text bytes fits same) ∙ is)) (decode_of text) refl

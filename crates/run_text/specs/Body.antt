@@ -1,9 +1,14 @@
 -- What the body of a line spells.
-use Rattle.std.specs.Prelude.{ℕ, Bool, true, List, [], ◌∷◌, if◌then◌else◌, Option, Some, None, Result, Ok, Err, codes}
+use Rattle.std.specs.Prelude.{ℕ, Bool, true, ◌==◌, List, [], ◌∷◌, if◌then◌else◌, Option, Some, None, Result, Ok, Err, codes}
 use Rattle.std.specs.Str.{bytes_eq}
-use Rattle.hex.specs.Hex.{decode_of, encode_lower}
+use Rattle.std.specs.List.{list_any}
+use Rattle.hex.specs.Hex.{decode_of, encode_lower, lower_digits}
 use Rattle.hex.specs.declared.error.FromHexError.{FromHexError}
 use Rattle.run_text.specs.declared.body.Body.{Body}
+
+-- one of the digits that `hex` prints
+abbrev pub is_printed_digit : ℕ → Bool
+is_printed_digit byte = list_any (λ digit. digit == byte) lower_digits
 
 abbrev pub body_with : List ℕ → Bool → Body
 body_with bytes printed = record { bytes = bytes; printed = printed }

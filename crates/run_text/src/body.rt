@@ -1,8 +1,9 @@
 //! The bytes of a packet in a text: pairs of hexadecimal digits, or `-` for none.
-ghost use Rattle.std.specs.Prelude.{◌≡◌, ◌<◌, ◌≤◌, ◌*◌, ◌++◌, ℕ, List, Ok, IfOk, IfSome, OnOk, length};
+ghost use Rattle.std.specs.Prelude.{◌≡◌, ◌<◌, ◌≤◌, ◌*◌, ◌++◌, ℕ, List, Ok, IfOk, IfSome, MatchResult, OnOk, false, length};
+ghost use Rattle.std.specs.List.{list_all};
 ghost use Rattle.std.specs.Str.{bytes_eq};
 ghost use Rattle.hex.specs.Hex.{IsBytes, decode_of, encode_lower, hex_digit_value, pair_value};
-ghost use Rattle.run_text.specs.Body.{spelled, spelled_by};
+ghost use Rattle.run_text.specs.Body.{is_printed_digit, spelled, spelled_by};
 ghost use Rattle.run_text.specs.Report.{body_text};
 
 use gal_io::{Bytes, NoMemory, Text};
@@ -32,6 +33,25 @@ fn byte_of(high: u8, low: u8) -> u8
     16 * digit_value(high) + digit_value(low)
 }
 
+// Whether a byte is one of the digits that `hex` prints.
+fn is_printed_digit(byte: u8) -> bool
+    ensures { result ≡ is_printed_digit byte }
+{
+    matches!(byte, b'0'..=b'9' | b'a'..=b'f')
+}
+
+// Whether a text holds no other bytes than the digits that `hex` prints. The loop has no early exit, so that it may be
+// compiled to vector code.
+fn are_printed_digits(text: &[u8]) -> bool
+    ensures { result ≡ list_all is_printed_digit text.now }
+{
+    let mut all = true;
+    for byte in text {
+        all &= is_printed_digit(*byte);
+    }
+    all
+}
+
 // Fills in the bytes that pairs of digits spell. This has no branch, and asks of no byte whether it is a digit.
 fn fill(digits: &[u8], bytes: &mut [u8])
     requires { 2 * length bytes.old ≤ length digits.now }
@@ -43,7 +63,7 @@ fn fill(digits: &[u8], bytes: &mut [u8])
 }
 
 // The bytes that pairs of digits spell. Of another text, some bytes.
-fn likely_bytes(alloc: Global, digits: &[u8]) -> Result<Vec<u8>, NoMemory>
+fn bytes_of(alloc: Global, digits: &[u8]) -> Result<Vec<u8>, NoMemory>
     ensures { IfOk result (λ bytes. (found : List ℕ) → decode_of digits.now ≡ Ok found → bytes.items ≡ found) }
 {
     let mut bytes = vec![in alloc; 0; digits.len() / 2]?;
@@ -51,26 +71,24 @@ fn likely_bytes(alloc: Global, digits: &[u8]) -> Result<Vec<u8>, NoMemory>
     Ok(bytes)
 }
 
-// Whether a text is what `hex` prints of these bytes.
-fn is_printed(alloc: Global, bytes: &[u8], text: &[u8]) -> Result<bool, NoMemory>
-    ensures is { IfOk result (λ is. is ≡ bytes_eq (encode_lower bytes.now) text.now) }
-    ensures fits { IsBytes bytes.now }
+// Whether `hex` prints a text, which then is what it prints of the bytes that the text spells.
+#[tactic(auto, using(crate::proofs::Bodies::printed_or_not))]
+fn is_printed(text: &[u8]) -> bool
+    ensures { MatchResult (decode_of text.now)
+        (λ bytes. result ≡ bytes_eq (encode_lower bytes) text.now)
+        (λ e. result ≡ false) }
 {
-    let printed = hex::encode(alloc, bytes)?;
-    Ok(printed.as_bytes() == text)
+    text.len() % 2 == 0 && are_printed_digits(text)
 }
 
-// What pairs of digits spell. `hex` prints without a branch and reads with several at each digit, so lower-case digits
-// are known by printing the bytes that they may spell.
-#[tactic(auto, using(crate::proofs::Bodies::other_spells))]
+// What pairs of digits spell. `hex` reads with several branches at each digit, so the digits that it prints are known by
+// one look at all, and read without any.
 fn read_digits(alloc: Global, digits: &[u8]) -> Result<Option<Body>, NoMemory>
     ensures { IfOk result (λ body. body ≡ spelled_by digits.now (decode_of digits.now)) }
 {
-    let likely = likely_bytes(alloc, digits)?;
-    let printed = is_printed(alloc, likely.as_slice(), digits)?;
-    if printed {
+    if is_printed(digits) {
         return Ok(Some(Body {
-            bytes: Bytes::from(likely),
+            bytes: Bytes::from(bytes_of(alloc, digits)?),
             printed: true,
         }));
     }

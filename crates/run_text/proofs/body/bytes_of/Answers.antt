@@ -1,6 +1,6 @@
 use Rattle.std.proofs.Common.{ap, ◌∙◌, length, arith}
 use Rattle.run_text.proofs.Bodies.{half, whole_written}
-use Rattle.run_text.proofs.body.likely_bytes.Goals as goal
+use Rattle.run_text.proofs.body.bytes_of.Goals as goal
 
 pub returns : goal.returns
 returns c = λ found h.
