@@ -54,14 +54,12 @@ fn in_order(alloc: Global, spans: &Spans) -> Result<Vec<Span>, NoMemory>
     Ok(sorted)
 }
 
-// How many values are found by index: all of them up to the greatest, but no more than 16 for each span, and 65,536 at
-// most.
+// How many values are found by index: all of them up to the greatest, but 65,536 at most.
 fn first_values(spans: &[Span]) -> u32
     ensures { result ≤ 65536 }
 {
-    let most = 16 * spans.len().min(4_096) as u32;
     match spans.iter().map(|span| span.value).max() {
-        Some(greatest) => greatest.saturating_add(1).min(most),
+        Some(greatest) => greatest.min(65_535) + 1,
         None => 0,
     }
 }
@@ -93,7 +91,8 @@ fn first_registers(
 }
 
 impl RegPlan {
-    /// A plan with as few registers as spans allow, in n log n steps for n spans.
+    /// A plan with as few registers as spans allow. This takes n log n steps for n spans, and one step for each value
+    /// up to the greatest that has a span, at most 65,536.
     pub fn of(alloc: Global, spans: &Spans) -> Result<RegPlan, NoMemory>
         requires few { length spans.now < 2 ^ 32 }
         requires differ { ValuesDiffer spans.now }
