@@ -165,7 +165,10 @@ const CALLS: [Call; 38] = [
     Lacks(VECTOR, &[1], &[0]),
     Puts(VECTOR, &[1], &[4_294_967_296], Put::Stored),
     Puts(VECTOR, &[0], &[7, 8], Put::Stored),
-    Lists(VECTOR, &[(&[0], &[7, 8]), (&[1], &[4_294_967_296]), (&[2], &[5])]),
+    Lists(
+        VECTOR,
+        &[(&[0], &[7, 8]), (&[1], &[4_294_967_296]), (&[2], &[5])],
+    ),
     // an integer has one row
     Finds(INT, &[], &[7]),
     Puts(INT, &[], &[8], Put::Stored),
