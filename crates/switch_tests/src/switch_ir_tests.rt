@@ -184,9 +184,13 @@ fn is_journal_kept(alloc: Global) -> Result<bool, NoMemory> {
     let mut journal = Journal::new(alloc);
     journal.reserve(1)?;
     journal.push(Entry::Load)?;
-    journal.push_spare(Entry::Room(1));
+    journal.push_command(&Command::Off, CommandEnd::Done);
     let entries = journal.entries(alloc)?;
-    Ok(matches!(entries.as_slice(), [Entry::Load, Entry::Room(1)]) && journal.spare() == 0)
+    let are_there = matches!(
+        entries.as_slice(),
+        [Entry::Load, Entry::Command(Command::Off, CommandEnd::Done)],
+    );
+    Ok(are_there && journal.spare() == 0)
 }
 
 fn two_values(first: u64, second: u64) -> Values {
