@@ -1,5 +1,4 @@
 -- What the code of a switch stands for as plain data.
-use Rattle.flat_ir.specs.Plan.{RegisterPlan}
 use Rattle.switch_ir.specs.declared.code.SwitchCode.{SwitchCode}
 pub use Rattle.switch_ir.specs.Passes.{Step, PassCode, Code, pass_step_of, pass_of}
 
@@ -13,12 +12,3 @@ code_of c = record {
   writeback = c.writeback;
   values = c.values;
 }
-
--- the code of a switch, with the registers of the values of its passes
-pub record PlannedCode : Type 0 where
-  pub code : Code
-  pub pre_plan : RegisterPlan
-  pub post_plan : RegisterPlan
-
-abbrev pub planned_code_of : SwitchCode → PlannedCode
-planned_code_of c = record { code = code_of c; pre_plan = c.pre.plan; post_plan = c.post.plan }

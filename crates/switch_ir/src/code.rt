@@ -243,11 +243,13 @@ pub struct SwitchCode {
 }
 
 impl SwitchCode {
-    ghost use Rattle.switch_ir.specs.Code.{planned_code_of};
+    ghost use Rattle.switch_ir.specs.Code.{code_of};
 
     /// Code that does the same in the same registers, in memory of its own.
     pub fn copy(&self, alloc: Global) -> Result<Self, NoMemory>
-        ensures { IfOk result (λ made. planned_code_of made ≡ planned_code_of self.now) }
+        ensures same { IfOk result (λ made. code_of made ≡ code_of self.now) }
+        ensures pre_plan { IfOk result (λ made. made.pre.plan ≡ self.now.pre.plan) }
+        ensures post_plan { IfOk result (λ made. made.post.plan ≡ self.now.post.plan) }
     {
         let pre = self.pre.copy(alloc)?;
         let post = self.post.copy(alloc)?;

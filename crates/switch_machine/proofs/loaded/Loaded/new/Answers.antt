@@ -5,10 +5,10 @@ use Rattle.switch_machine.specs.Ranges.{AreOrdered}
 use Rattle.switch_machine.proofs.loaded.Loaded.new.Goals as goal
 
 pub invariant_of-result-clause-can : goal.invariant_of-result-clause-can
-invariant_of-result-clause-can c = subst CanBeRun (sym c.in_ok-copy.ensures) c.requires.can
+invariant_of-result-clause-can c = subst CanBeRun (sym c.in_ok-copy.ensures.same) c.requires.can
 
 pub invariant_of-result-clause-ordered : goal.invariant_of-result-clause-ordered
-invariant_of-result-clause-ordered c = subst AreOrdered (sym c.in_ok-copy.ensures) c.requires.ordered
+invariant_of-result-clause-ordered c = subst AreOrdered (sym c.in_ok-copy.ensures.same) c.requires.ordered
 
 pub invariant_of-result-clause-pre : goal.invariant_of-result-clause-pre
 invariant_of-result-clause-pre c = c.in_ok-before.ensures.made (code_of c.in_ok-copy.copy) (sym c.as_slice-tables.ensures) refl refl
