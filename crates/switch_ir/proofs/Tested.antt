@@ -1,5 +1,7 @@
 -- The blocks in which work is left, and the conditions of them and of those above them.
-use Rattle.std.proofs.Common.{◌≡◌, ℕ, suc, List, max, get_or, length, ap, ◌∙◌, arith}
+use Rattle.std.proofs.Common.{◌≡◌, ℕ, suc, ◌+◌, ◌<◌, Bool, true, false, ◌||◌, List, max, get_or, length, take, sym, ap, ◌∙◌, arith}
+use Rattle.std.specs.List.{list_any}
+use Rattle.std.proofs.lemmas.List.Folds.{list_any_more}
 use Rattle.flat_ir.specs.declared.program.Block.{Block}
 use Rattle.flat_ir.specs.declared.program.ValueId.{ValueId}
 use Rattle.flat_ir.specs.Blocks.{block_at}
@@ -8,6 +10,20 @@ use Rattle.transfer_header.specs.BlockSteps.{greatest, greatest_below, step_if}
 use Rattle.switch_ir.specs.LastReads.{AreNoted}
 use Rattle.switch_ir.specs.Spans.{is_condition}
 use Rattle.switch_ir.proofs.Noting.{same_last}
+
+either : (a b : Bool) (step : ℕ) → max (step_if a step) (step_if b step) ≡ step_if (a || b) step
+either true true step = omega arith
+either true false step = omega arith
+either false true step = omega arith
+either false false step = omega arith
+
+-- one block more has the step
+pub tested_more : (test : ℕ → Bool) (items : List ℕ) (i d step before after : ℕ) → i < length items → before ≡ step_if (list_any test (take i items)) step
+    → after ≡ max before (step_if (test (get_or items i d)) step) → after ≡ step_if (list_any test (take (i + 1) items)) step
+tested_more test items i d step before after within so_far more =
+    more ∙ ap (λ g. max g (step_if (test (get_or items i d)) step)) so_far
+    ∙ either (list_any test (take i items)) (test (get_or items i d)) step
+    ∙ ap (λ b. step_if b step) (sym (list_any_more test items i d within))
 
 -- ## The conditions of so many blocks
 
