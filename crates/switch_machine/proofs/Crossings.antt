@@ -1,5 +1,5 @@
 -- What becomes of packets at loaded code.
-use Rattle.std.proofs.Common.{◌≡◌, ◌∙◌, ◌-◌, ◌&&◌, ℕ, Bool, true, false, List, length, Option, Some, None, drop, take, refl, sym, ap, subst}
+use Rattle.std.proofs.Common.{◌≡◌, ◌∙◌, ◌-◌, ℕ, List, length, Some, drop, take, refl, ap, subst}
 use Rattle.packet_fields.specs.declared.packet.Packet.{Packet}
 use Rattle.packet_fields.specs.declared.verdict.Verdict.{Verdict as Verdicts}
 use Rattle.flat_ir.specs.Blocks.{nothing, Reading}
@@ -9,7 +9,7 @@ use Rattle.transfer_header.specs.Registers.{content_of, value_in, Registers}
 use Rattle.transfer_header.specs.declared.frame.Head.{Head}
 use Rattle.switch_ir.specs.Code.{Code}
 use Rattle.switch_ir.specs.Meaning.{down_end, down_given, pass_values}
-use Rattle.switch_ir.specs.Port.{EndsDown, EndsUp, IsHandedDown, IsNothing, OfItsParts}
+use Rattle.switch_ir.specs.Port.{EndsDown, EndsUp, IsHandedDown, IsNothing}
 use Rattle.switch_ir.specs.Tables.{seen_tables, Told}
 use Rattle.switch_ir.specs.UnderWay.{HasEntered, Passes, PassState}
 use Rattle.switch_machine.specs.declared.loaded_pass.LoadedPass.{LoadedPass}

@@ -1,10 +1,9 @@
 -- What becomes of packets at both sides, once their passes are computed.
-use Rattle.std.proofs.Common.{◌≡◌, ◌∙◌, ◌++◌, ℕ, Bool, true, false, List, refl, sym, ap, subst}
+use Rattle.std.proofs.Common.{◌≡◌, ◌∙◌, ◌++◌, ℕ, Bool, true, false, List, sym, ap, subst}
 use Rattle.std.specs.List.{list_any, AllByRecursion as Each}
 use Rattle.std.proofs.lemmas.Bool.{true≢false}
 use Rattle.packet_fields.specs.declared.packet.Packet.{Packet}
 use Rattle.packet_fields.specs.declared.verdict.Verdict.{Verdict as Verdicts}
-use Rattle.flat_ir.specs.declared.program.Block.{Block}
 use Rattle.flat_ir.specs.declared.program.Out.{Out}
 use Rattle.flat_ir.specs.Blocks.{Reading, is_live, line}
 use Rattle.flat_ir.specs.Laws.{Same}

@@ -1,5 +1,5 @@
 -- Passes under way, by their numbers.
-use Rattle.std.proofs.Common.{◌≡◌, ◌∙◌, ◌<◌, ℕ, zero, suc, ◌==◌, Bool, true, false, cond, List, [], length, Option, Some, None, Result, Ok, Err, refl, sym, ap, subst, arith, inl, inr}
+use Rattle.std.proofs.Common.{◌≡◌, ◌∙◌, ◌<◌, ℕ, suc, ◌==◌, Bool, true, false, cond, List, [], length, Option, Some, None, Result, Ok, Err, refl, sym, ap, subst, arith, inl, inr}
 use Rattle.std.specs.Prelude.{nat_lt, IsSome, OnErr, OnOk}
 use Rattle.std.specs.BTreeMap.{BTreeMap, get, is_at}
 use Rattle.std.specs.Map.{lookup}
@@ -65,14 +65,6 @@ map_chosen : {X Y : Type 0} (f : X → Y) (b : Bool) (o p : Option X) → option
 map_chosen f true o p = refl
 map_chosen f false o p = refl
 
-map_none : {X Y : Type 0} (f : X → Y) (o : Option X) → option_map f o ≡ None → o ≡ None
-map_none f None e = refl
-map_none f (Some x) e = absurd (none-some (f x) (sym e))
-
-map_some : {X Y : Type 0} (f : X → Y) (o : Option X) → IsSome (option_map f o) → IsSome o
-map_some f None h = h
-map_some f (Some x) h = refl
-
 -- ## What holds of passes after a change
 
 pub changed_flights : (stages count : ℕ) (fs gs : NumberedFlights) (n : ℕ) (o : Option Flight) → gs ≡ with_pass n o fs
@@ -103,12 +95,6 @@ module _ (p : Staging) (ranges : List ValueRange) (plan : Option RegisterPlan) w
     where
       one : (m : ℕ) → passes_by p ranges plan gs m ≡ with_pass n (option_map (shown p ranges plan) o) (passes_by p ranges plan fs) m
       one m = ap (λ (g : NumberedFlights). option_map (shown p ranges plan) (g m)) is ∙ map_chosen (shown p ranges plan) (n == m) o (fs m)
-
-  pub flight_there : (fs : NumberedFlights) (n : ℕ) → IsSome (passes_by p ranges plan fs n) → IsSome (fs n)
-  flight_there fs n some = map_some (shown p ranges plan) (fs n) some
-
-  pub flight_missing : (fs : NumberedFlights) (n : ℕ) → passes_by p ranges plan fs n ≡ None → fs n ≡ None
-  flight_missing fs n none = map_none (shown p ranges plan) (fs n) none
 
   pub shown_as : (fs : NumberedFlights) (n : ℕ) (f : Flight) (pass : PassState) → fs n ≡ Some f → passes_by p ranges plan fs n ≡ Some pass
       → shown p ranges plan f ≡ pass

@@ -1,16 +1,14 @@
 -- Postprocessing in its registers.
-use Rattle.std.proofs.Common.{◌≡◌, ◌≢◌, ◌≤◌, ◌<◌, ◌^◌, ℕ, suc, true, false, List, [], length, arith}
+use Rattle.std.proofs.Common.{◌≡◌, ◌≢◌, ◌<◌, ◌^◌, ℕ, suc, true, List, []}
 use Rattle.std.specs.Prelude.{Contains}
 use Rattle.packet_fields.specs.declared.packet.Packet.{Packet}
-use Rattle.state_store.specs.Store.{Store}
-use Rattle.flat_ir.specs.Blocks.{Reading, nothing}
-use Rattle.flat_ir.specs.Run.{results}
+use Rattle.flat_ir.specs.Blocks.{nothing}
 use Rattle.transfer_header.specs.Registers.{Registers, content_of, place_of, value_in, written, ArePlaced, HasRegister}
 use Rattle.transfer_header.specs.Steps.{Contents, is_among, pairs_written, AreKeptApart, AreSpansOf}
 use Rattle.switch_ir.specs.Meaning.{down_given}
-use Rattle.switch_ir.specs.Passes.{Code, Step}
+use Rattle.switch_ir.specs.Passes.{Code}
 use Rattle.switch_ir.specs.Sound.{CanBeRun}
-use Rattle.switch_ir.specs.Spans.{post_spans, results_in, written_in, Written}
+use Rattle.switch_ir.specs.Spans.{post_spans, written_in, Written}
 use Rattle.switch_ir.specs.Spans.{steps_of as steps_by_values}
 use Rattle.switch_machine.specs.declared.numbering.ValueRange.{ValueRange}
 use Rattle.switch_machine.specs.declared.sides.Side.TheVariants.{Behind}

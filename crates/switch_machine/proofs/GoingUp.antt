@@ -1,37 +1,31 @@
 -- Preprocessing in its registers.
-use Rattle.std.proofs.Common.{◌≡◌, ◌≤◌, ◌<◌, ◌^◌, ◌==◌, ◌&&◌, ℕ, suc, true, false, List, [], length, Some, None, if◌then◌else◌, refl, sym, ap, ◌∙◌, subst, arith}
-use Rattle.std.specs.Prelude.{Contains}
+use Rattle.std.proofs.Common.{◌≡◌, ◌<◌, ◌^◌, ◌==◌, ◌&&◌, ℕ, true, List, [], Some, None, if◌then◌else◌, sym, ap, ◌∙◌, subst}
 use Rattle.std.specs.List.{list_any, AllByRecursion as Each}
 use Rattle.std.proofs.lemmas.Bool.{and_parts, eqb-true}
 use Rattle.packet_fields.specs.declared.packet.Packet.{Packet}
-use Rattle.state_store.specs.Store.{Store}
 use Rattle.flat_ir.specs.declared.spans.Span.{Span}
-use Rattle.flat_ir.specs.Blocks.{Reading, nothing}
-use Rattle.flat_ir.specs.Run.{results}
+use Rattle.flat_ir.specs.Blocks.{Reading}
 use Rattle.flat_ir.specs.Spans.{covers}
 use Rattle.split_model.specs.declared.layout.Crossing.{Crossing}
 use Rattle.split_model.specs.Crossing.{is_value}
-use Rattle.transfer_header.specs.Registers.{Registers, content_of, ArePlaced, Holds}
-use Rattle.transfer_header.specs.Steps.{Contents, AreKeptApart, AreSpansOf}
+use Rattle.transfer_header.specs.Registers.{Registers, content_of, Holds}
 use Rattle.switch_ir.specs.declared.port.UpEnd.{UpEnd}
 use Rattle.switch_ir.specs.declared.port.UpEnd.TheVariants.{Failed, Finished, Going, NoMemory, Up}
 use Rattle.switch_ir.specs.Meaning.{leaves, up_values}
-use Rattle.switch_ir.specs.Passes.{Code, Step}
+use Rattle.switch_ir.specs.Passes.{Code}
 use Rattle.switch_ir.specs.Port.{EndsUp}
 use Rattle.switch_ir.specs.Sound.{CanBeRun}
-use Rattle.switch_ir.specs.Spans.{last_read, pre_spans, results_in, span_of, written_in, Written}
-use Rattle.switch_ir.specs.Spans.{steps_of as steps_by_values}
+use Rattle.switch_ir.specs.Spans.{last_read, pre_spans, span_of, written_in, Written}
 use Rattle.switch_ir.specs.Tables.{Told, seen_tables}
 use Rattle.switch_ir.specs.Staged.{EndsBy}
 use Rattle.switch_machine.specs.declared.numbering.ValueRange.{ValueRange}
 use Rattle.switch_machine.specs.declared.sides.Side.TheVariants.{Before}
 use Rattle.switch_machine.specs.Keeping.{values_in}
 use Rattle.switch_machine.specs.Numbers.{content_at, number_in, reads_by}
-use Rattle.switch_machine.specs.Planned.{IsSetUp}
 use Rattle.switch_machine.specs.Ranges.{entries, AreOrdered, AreRanges}
 use Rattle.switch_machine.proofs.Beginning.{value_same}
 use Rattle.switch_machine.proofs.Each.{each_at}
-use Rattle.switch_machine.proofs.Members.{any_has, each_has, has_each, has_made, made_has, of_contains, to_contains, Has}
+use Rattle.switch_machine.proofs.Members.{any_has, each_has, has_each, has_made, made_has, to_contains, Has}
 use Rattle.switch_machine.proofs.OfSides.{small_of}
 use Rattle.switch_machine.proofs.PassValues.{has_its_number}
 

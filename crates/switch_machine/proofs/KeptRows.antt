@@ -67,9 +67,6 @@ both : (a b : Bool) → a ≡ true → b ≡ true → (a && b) ≡ true
 both true b e f = f
 both false b e f = e
 
-abbrev IsRow : ObjectDecl → List ℕ → List ℕ → Type 0
-IsRow d key values = (have_widths d.keys key && have_widths d.values values) ≡ true
-
 change_keeps : (d : ObjectDecl) (o : Object) (key : List ℕ) (to : To) → is_table d.kind ≡ false → have_widths d.keys key ≡ true
     → has_value_widths d to ≡ true → IsKeptObject d o → IsKeptObject d (change_to o key to)
 change_keeps d o key (Value values) free key_fits values_fit kept =

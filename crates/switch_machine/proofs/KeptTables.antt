@@ -72,9 +72,6 @@ start_safe code told can start =
       none = λ o here. start.pairs o ∙ ap (start_pair code.writeback) here;
     })
 
-pub nothing_safe : (told : Told) → AreSafe None told
-nothing_safe told code is = absurd (none-some code is)
-
 -- after a command of the code that is loaded
 pub safe_after : (loaded : Option Code) (told : Told) (c : Command) → ((code : Code) → loaded ≡ Some code → IsCommandOf code c)
     → AreSafe loaded told → AreSafe loaded (told_after c told)

@@ -21,11 +21,6 @@ pub ok_weaker : {X E : Type 0} (P Q : X → Type 0) (r : Result X E) → ((x : X
 ok_weaker P Q (Ok x) go h = go x h
 ok_weaker P Q (Err e) go h = tt
 
--- what holds anyway
-pub on_ok : {X E : Type 0} (P : Type 0) (r : Result X E) → P → OnOk r P
-on_ok P (Ok x) p = p
-on_ok P (Err e) p = tt
-
 pub on_err : {X E : Type 0} (P : Type 0) (r : Result X E) → P → OnErr r P
 on_err P (Ok x) p = tt
 on_err P (Err e) p = p

@@ -14,8 +14,7 @@ use Rattle.switch_machine.specs.declared.calls.CallKind.{CallKind}
 use Rattle.switch_machine.specs.declared.loaded.Loaded.{Loaded}
 use Rattle.switch_machine.specs.declared.sides.Side.{Side}
 use Rattle.switch_machine.specs.declared.sides.Side.TheVariants.{Before, Behind}
-use Rattle.switch_machine.specs.Calls.{IsCountedAs}
-use Rattle.switch_machine.specs.Counts.{counted, CallCounts}
+use Rattle.switch_machine.specs.Counts.{CallCounts}
 use Rattle.switch_machine.specs.Flights.{with_pass}
 use Rattle.switch_machine.specs.Kept.{AreSafe}
 use Rattle.switch_machine.specs.Loading.{code_in}
@@ -189,15 +188,6 @@ after_none old new is = record {
   faults = ap (λ (m : MachineState). m.faults) is;
   planned = ap (λ (m : MachineState). m.planned) is;
   calls = ap (λ (m : MachineState). m.calls) is;
-}
-
--- the count of a call, and what it left besides
-pub counted_as : (old counted_state new : MachineState) (kind : CallKind) (failed : Bool) → counted_state ≡ record old { calls = counted old.calls kind }
-    → IsLeft counted_state new → IsCountedIf failed counted_state.faults new.faults → IsCountedAs kind failed old new
-counted_as old counted_state new kind failed is left faults = record {
-  planned = left.planned ∙ ap (λ (m : MachineState). m.planned) is;
-  calls = left.calls ∙ ap (λ (m : MachineState). m.calls) is;
-  faults = subst (λ n. IsCountedIf failed n new.faults) (ap (λ (m : MachineState). m.faults) is) faults;
 }
 
 -- ## Passes

@@ -147,10 +147,6 @@ pairs_between P (z ∷ xs) ys all x y (inl same) there =
     subst (λ u. P u y) same (each_has (P z) (xs ++ ys) all.0 y (has_right xs ys y there))
 pairs_between P (z ∷ xs) ys all x y (inr later) there = pairs_between P xs ys all.1 x y later there
 
-pub pairs_left : {X : Type 0} (P : X → X → Type 0) (xs ys : List X) → Pairs P (xs ++ ys) → Pairs P xs
-pairs_left P [] ys all = tt
-pairs_left P (x ∷ xs) ys all = (has_each (P x) xs (λ y h. each_has (P x) (xs ++ ys) all.0 y (has_left xs ys y h)), pairs_left P xs ys all.1)
-
 pub pairs_right : {X : Type 0} (P : X → X → Type 0) (xs ys : List X) → Pairs P (xs ++ ys) → Pairs P ys
 pairs_right P [] ys all = all
 pairs_right P (x ∷ xs) ys all = pairs_right P xs ys all.1

@@ -1,5 +1,5 @@
 -- What holds of the passes of both sides of code.
-use Rattle.std.proofs.Common.{◌≡◌, ◌∙◌, ◌≤◌, ◌<◌, ◌^◌, ◌++◌, ℕ, suc, Bool, true, false, List, [], length, map, refl, sym, ap, arith}
+use Rattle.std.proofs.Common.{◌≡◌, ◌≤◌, ◌<◌, ◌^◌, ◌++◌, ℕ, suc, Bool, false, List, length, map, arith}
 use Rattle.std.specs.Prelude.{All, Contains}
 use Rattle.std.specs.List.{AllByRecursion as Each}
 use Rattle.packet_fields.specs.declared.packet.Packet.{Packet}
@@ -12,8 +12,8 @@ use Rattle.flat_ir.specs.Run.{results}
 use Rattle.transfer_header.specs.Registers.{Registers, ArePlaced}
 use Rattle.transfer_header.specs.Steps.{all_written, pairs_written, AreKeptApart, AreSpansOf, Contents, IsDoneAlike, IsReady, LooksAtReadsAlone, Steps}
 use Rattle.switch_ir.specs.Meaning.{pass_values}
-use Rattle.switch_ir.specs.Passes.{Code, PassCode, Step}
-use Rattle.switch_ir.specs.Sound.{CanBeRun, CanStep}
+use Rattle.switch_ir.specs.Passes.{Code}
+use Rattle.switch_ir.specs.Sound.{CanBeRun}
 use Rattle.switch_ir.specs.Spans.{pass_spans, results_in, written_in, GoesByStages, Written}
 use Rattle.switch_ir.specs.Spans.{steps_of as steps_by_values}
 use Rattle.switch_ir.specs.Staged.{last_numbers, IsEntered, IsStaged}
@@ -56,10 +56,6 @@ stages_of Behind code can = can.stages.post
 pub others_of : (side : Side) (code : Code) → AreOrdered code → AreOthers (staging side code).handed ((staging side code).code.given ++ (staging side code).code.steps)
 others_of Before code ordered = tt
 others_of Behind code ordered = ordered.others
-
-pub can_of : (side : Side) (code : Code) → CanBeRun code → Each CanStep (staging side code).code.steps
-can_of Before code can = can.pre
-can_of Behind code can = can.post
 
 -- the spans of the values of the pass of a side
 abbrev pub spans_on : Side → Code → List Span

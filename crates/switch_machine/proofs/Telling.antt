@@ -1,11 +1,10 @@
 -- What the calls of a switch in memory leave, as a port tells it.
-use Rattle.std.proofs.Common.{◌≡◌, ◌≢◌, ◌∙◌, ◌++◌, ◌&&◌, if◌then◌else◌, ℕ, suc, Bool, true, false, List, [], ◌∷◌, Option, Some, None, refl, sym, ap, subst}
+use Rattle.std.proofs.Common.{◌≡◌, ◌≢◌, ◌∙◌, ◌++◌, ◌&&◌, if◌then◌else◌, ℕ, suc, Bool, true, false, List, [], ◌∷◌, Some, None, refl, sym, ap, subst}
 use Rattle.std.specs.Prelude.{nat_lt, not}
 use Rattle.std.proofs.lemmas.Bool.{true≢false}
 use Rattle.std.proofs.lemmas.Option.{same_Some}
 use Rattle.gal_io.specs.Count.{IsCountedIf}
 use Rattle.packet_fields.specs.declared.packet.Packet.{Packet}
-use Rattle.flat_ir.specs.Blocks.{Reading}
 use Rattle.switch_ir.specs.Code.{Code}
 use Rattle.switch_ir.specs.declared.journal.Entry.{Entry}
 use Rattle.switch_ir.specs.declared.journal.Entry.TheVariants as entry
@@ -23,7 +22,7 @@ use Rattle.switch_machine.specs.declared.sides.Side.{Side}
 use Rattle.switch_machine.specs.declared.sides.Side.TheVariants.{Before, Behind}
 use Rattle.switch_machine.specs.Flights.{with_pass}
 use Rattle.switch_machine.specs.Machine.{seen_of, MachineState}
-use Rattle.switch_machine.specs.Sides.{down_of, staging, up_of, IsOf}
+use Rattle.switch_machine.specs.Sides.{down_of, up_of, IsOf}
 use Rattle.switch_machine.specs.Staging.{is_going_down, is_going_up, passes_at, with_passes, DownIsPlanned, Settles, UpIsPlanned}
 use Rattle.switch_machine.specs.UnderWay.{Begins, Goes}
 use Rattle.switch_machine.proofs.Flying.{put_and_taken}

@@ -1,9 +1,9 @@
 -- Results that wait until their stage is computed, and results that go into their registers at once.
-use Rattle.std.proofs.Common.{◌≡◌, ◌∙◌, ◌⊎◌, inl, inr, ◌<◌, ◌≤◌, ◌+◌, ◌++◌, ◌==◌, ◌||◌, ℕ, zero, suc, Bool, true, false, List, [], ◌∷◌, length, map, take, drop, refl, sym, ap, subst, add-one, arith, get_or, append_assoc, append-nil}
-use Rattle.std.specs.List.{list_any, AllByRecursion as Each}
-use Rattle.std.specs.Prelude.{slice_index, slice_index_or}
-use Rattle.std.proofs.lemmas.Bool.{cases_eq, eq-eqb, true≢false}
-use Rattle.std.proofs.lemmas.List.{get_or_past, get_or-set_other, length-append, length-map, map-append, take_all, take_more}
+use Rattle.std.proofs.Common.{◌≡◌, ◌∙◌, ◌<◌, ◌≤◌, ◌+◌, ◌++◌, ◌==◌, ◌||◌, ℕ, zero, suc, Bool, true, false, List, [], ◌∷◌, length, map, take, drop, refl, sym, ap, subst, add-one, arith, get_or, append_assoc, append-nil}
+use Rattle.std.specs.List.{AllByRecursion as Each}
+use Rattle.std.specs.Prelude.{slice_index}
+use Rattle.std.proofs.lemmas.Bool.{eq-eqb, true≢false}
+use Rattle.std.proofs.lemmas.List.{get_or-set_other, length-append, length-map, map-append, take_all, take_more}
 use Rattle.std.proofs.lemmas.List.Folds.{list_any-append}
 use Rattle.packet_fields.specs.declared.packet.Packet.{Packet}
 use Rattle.state_store.specs.Store.{Store}
@@ -15,7 +15,7 @@ use Rattle.flat_ir.specs.Run.{results}
 use Rattle.transfer_header.specs.Registers.{placed, Registers}
 use Rattle.transfer_header.specs.Steps.{is_among}
 use Rattle.switch_machine.specs.declared.ready.ReadyStep.{ReadyStep}
-use Rattle.switch_machine.specs.Ready.{all_placed, first_placed, only_numbers, paired, placed_gives, places_of, reads_at, ready_at, ready_gives, ready_of, targets_of, IsDirect, Ready}
+use Rattle.switch_machine.specs.Ready.{all_placed, first_placed, only_numbers, paired, placed_gives, places_of, reads_at, ready_gives, ready_of, targets_of, IsDirect, Ready}
 use Rattle.switch_machine.proofs.Each.{each_weaker}
 use Rattle.switch_machine.proofs.Lists.{ahead, none_ahead}
 use Rattle.switch_machine.proofs.PlacedSteps.{placed_behind}
@@ -114,37 +114,6 @@ pub targets_all : (steps : List ReadyStep) (i : ℕ) (now total : List ℕ) → 
     → now ++ targets_of (map ready_of (drop i steps)) ≡ total → now ≡ total
 targets_all steps i now total le so =
     sym (append-nil now) ∙ ap (λ (ss : List ReadyStep). now ++ targets_of (map ready_of ss)) (sym (none_ahead steps i le)) ∙ so
-
--- no stage so far has more results
-pub most_more : (stages : List (List ReadyStep)) (i : ℕ) (own : List ReadyStep) (most more : ℕ) → own ≡ get_or stages i own → i < length stages
-    → ((t : ℕ) → t < i → length (targets_of (ready_at stages t)) ≤ most) → length (targets_of (map ready_of own)) ≤ more → most ≤ more
-    → (t : ℕ) → t < i + 1 → length (targets_of (ready_at stages t)) ≤ more
-most_more stages i own most more is lt before here grows t below = elim (cases_eq t i) [
-  | inl same ↦ subst (λ n. length (targets_of (ready_at stages n)) ≤ more) (sym same)
-      (subst (λ (ss : List ReadyStep). length (targets_of (map ready_of ss)) ≤ more) (own_is stages i lt is) here)
-  | inr other ↦ (let h = before t (omega (arith, below, other)) in omega (arith, h, grows))
-]
-  where
-    own_is : (all : List (List ReadyStep)) (j : ℕ) → j < length all → own ≡ get_or all j own → own ≡ slice_index_or all j []
-    own_is [] j under e = absurd (omega (arith, under))
-    own_is (x ∷ xs) zero under e = e
-    own_is (x ∷ xs) (suc j) under e = own_is xs j (omega (arith, under)) e
-
-pub most_all : (stages : List (List ReadyStep)) (most : ℕ) → ((t : ℕ) → t < length stages → length (targets_of (ready_at stages t)) ≤ most)
-    → (t : ℕ) → length (targets_of (ready_at stages t)) ≤ most
-most_all stages most below t = go (cases_below t (length stages))
-  where
-    cases_below : (m n : ℕ) → (m < n) ⊎ (n ≤ m)
-    cases_below m zero = inr (omega arith)
-    cases_below zero (suc n) = inl (omega arith)
-    cases_below (suc m) (suc n) = elim (cases_below m n) [
-      | inl lt ↦ inl (omega (arith, lt))
-      | inr le ↦ inr (omega (arith, le))
-    ]
-
-    go : (t < length stages) ⊎ (length stages ≤ t) → length (targets_of (ready_at stages t)) ≤ most
-    go (inl lt) = below t lt
-    go (inr le) = subst (λ (ss : List ReadyStep). length (targets_of (map ready_of ss)) ≤ most) (sym (get_or_past stages t [] le)) (omega arith)
 
 -- ## Results that go into their registers at once
 

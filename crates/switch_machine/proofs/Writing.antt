@@ -19,10 +19,6 @@ placed_written : (registers : Registers) (value to : ℕ) → ArePlaced register
 placed_written registers value to placed v p e =
     omega (arith, placed v p (sym (places_written registers value to v) ∙ e), size_by registers.numbers (place_of registers value) to)
 
-pub placed_pairs : (registers : Registers) (pairs : List (ℕ × ℕ)) → ArePlaced registers → ArePlaced (pairs_written registers pairs)
-placed_pairs registers [] placed = placed
-placed_pairs registers (p ∷ ps) placed = placed_pairs (written registers p.0 p.1) ps (placed_written registers p.0 p.1 placed)
-
 pub place_pairs : (registers : Registers) (pairs : List (ℕ × ℕ)) (n : ℕ) → place_of (pairs_written registers pairs) n ≡ place_of registers n
 place_pairs registers [] n = refl
 place_pairs registers (p ∷ ps) n = place_pairs (written registers p.0 p.1) ps n ∙ places_written registers p.0 p.1 n
@@ -34,11 +30,6 @@ plan_pairs registers (p ∷ ps) = plan_pairs (written registers p.0 p.1) ps
 pub size_pairs : (registers : Registers) (pairs : List (ℕ × ℕ)) → length (pairs_written registers pairs).numbers ≡ length registers.numbers
 size_pairs registers [] = refl
 size_pairs registers (p ∷ ps) = size_pairs (written registers p.0 p.1) ps ∙ size_by registers.numbers (place_of registers p.0) p.1
-
-pub same_places : (before after : Registers) → after.plan ≡ before.plan → length after.numbers ≡ length before.numbers
-    → (value : ℕ) → place_of after value ≡ place_of before value
-same_places before after plan count value =
-    ap (λ n. place_by after.plan n value) count ∙ ap (λ p. place_by p (length before.numbers) value) plan
 
 -- ## What a value has then
 

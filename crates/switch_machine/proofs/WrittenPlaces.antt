@@ -1,10 +1,9 @@
 -- Places that a stage has written so far.
-use Rattle.std.proofs.Common.{◌≡◌, ◌∙◌, ◌⊎◌, inl, inr, ◌<◌, ◌≤◌, ◌+◌, ◌++◌, ◌==◌, ◌||◌, ℕ, zero, suc, Bool, true, false, List, [], ◌∷◌, length, map, drop, take, Some, refl, sym, ap, subst, arith, get_or, set, append_assoc, append-nil}
-use Rattle.std.specs.List.{list_any, AllByRecursion as Each}
+use Rattle.std.proofs.Common.{◌≡◌, ◌∙◌, inl, inr, ◌<◌, ◌≤◌, ◌+◌, ◌++◌, ℕ, suc, false, List, [], ◌∷◌, length, map, drop, take, Some, refl, sym, ap, subst, arith, get_or, append_assoc}
+use Rattle.std.specs.List.{AllByRecursion as Each}
 use Rattle.std.specs.Prelude.{slice_get, slice_index}
-use Rattle.std.proofs.lemmas.Bool.{cases_Bool, cases_eq, eq-eqb, eqb-true, true≢false}
-use Rattle.std.proofs.lemmas.List.{get_or-set_same, get_or-set_other, length-set, take_more}
-use Rattle.std.proofs.lemmas.List.Folds.{list_any-append}
+use Rattle.std.proofs.lemmas.Bool.{cases_eq, true≢false}
+use Rattle.std.proofs.lemmas.List.{take_more}
 use Rattle.std.proofs.lemmas.Option.{same_Some}
 use Rattle.flat_ir.specs.declared.program.ValueId.{ValueId}
 use Rattle.flat_ir.specs.Program.{operands, work_of}
@@ -18,41 +17,6 @@ use Rattle.switch_machine.proofs.Lists.{ahead, none_ahead}
 -- none at first
 pub none_marked : (w : Written) → Marks [] w
 none_marked w p there lt = absurd (true≢false (sym there))
-
--- a place without the stamp is not among them
-pub not_marked : (w : Written) (place : ℕ) → place < length w.stamps.items → (slice_index w.stamps.items place == w.stamp) ≡ false
-    → (places : List ℕ) → Marks places w → is_among place places ≡ false
-not_marked w place lt unstamped places marks = elim (cases_Bool (is_among place places)) [
-  | inr out ↦ out
-  | inl there ↦ absurd (true≢false (sym (eq-eqb (slice_index w.stamps.items place) w.stamp (marks place there lt)) ∙ unstamped))
-]
-
--- one place more has it
-pub marked_more : (old new : Written) (place : ℕ) → new.stamp ≡ old.stamp → new.stamps.items ≡ set old.stamps.items place old.stamp
-    → (before : List ℕ) → Marks before old → Marks (before ++ place ∷ []) new
-marked_more old new place stamp items before marks p there lt =
-    let under : p < length old.stamps.items = omega (arith, lt, ap length items, length-set old.stamps.items place old.stamp) in
-    ap (λ (ns : List ℕ). slice_index ns p) items ∙ go (cases_eq p place) under ∙ sym stamp
-  where
-    or_false : (b : Bool) → (b || false) ≡ b
-    or_false true = refl
-    or_false false = refl
-
-    earlier : (p ≡ place → ⊥) → is_among p before ≡ true
-    earlier other = elim (cases_Bool (is_among p before)) [
-      | inl among ↦ among
-      | inr apart ↦ (
-          let e : (place == p) ≡ true =
-          sym (or_false (place == p)) ∙ sym (ap (λ b. b || ((place == p) || false)) apart) ∙ sym (list_any-append (λ v. v == p) before (place ∷ [])) ∙ there in
-          absurd (other (sym (eqb-true place p e)))
-          )
-    ]
-
-    go : (p ≡ place) ⊎ (p ≡ place → ⊥) → p < length old.stamps.items → slice_index (set old.stamps.items place old.stamp) p ≡ old.stamp
-    go (inl same) under =
-        ap (slice_index (set old.stamps.items place old.stamp)) same
-        ∙ get_or-set_same old.stamps.items place old.stamp 0 (subst (λ n. n < length old.stamps.items) same under)
-    go (inr other) under = get_or-set_other old.stamps.items place p old.stamp 0 other ∙ marks p (earlier other) under
 
 -- ## What an instruction reads
 

@@ -1,13 +1,11 @@
 -- The instructions of a pass, stage by stage.
 use Rattle.std.specs.Prelude.{◌≡◌, ◌==◌, ◌≤◌, ◌++◌, ℕ, suc, List, [], ◌∷◌, length, map, if◌then◌else◌, slice_index_or}
-use Rattle.std.specs.Coded.{Coded-set, coded_ℕ, coded_list, coded×}
 use Rattle.std.specs.List.{AllByRecursion as Each}
 use Rattle.packet_fields.specs.declared.packet.Packet.{Packet}
 use Rattle.state_store.specs.Store.{Store}
 use Rattle.flat_ir.specs.Blocks.{Reading}
 use Rattle.switch_ir.specs.declared.code.PassStep.{PassStep}
 use Rattle.switch_ir.specs.Code.{Step, pass_step_of}
-use Rattle.switch_ir.specs.Once.{can_step_prop}
 use Rattle.switch_ir.specs.Sound.{CanStep}
 use Rattle.switch_machine.specs.declared.numbering.ValueRange.{ValueRange}
 use Rattle.switch_machine.specs.Numbers.{stage_gives}
@@ -28,14 +26,3 @@ pub record AreStages (steps : List Step) (highest : ℕ) (stages : List (List Pa
   pub gives : (t : ℕ) → t ≤ highest → (ranges : List ValueRange) (reads : Reading) (tables : Store) (packet : Packet)
       → stage_gives ranges (stage_at stages t) reads tables packet
       ≡ stage_gives ranges (of_stage t steps) reads tables packet
-
--- this has at most one proof
-pub stages_prop : (steps : List Step) (highest : ℕ) (stages : List (List PassStep))
-    → IsProp (AreStages steps highest stages)
-stages_prop steps highest stages a b = λ i. record {
-  count = Coded-set coded_ℕ _ _ a.count b.count i;
-  can = λ all t le. can_step_prop (stage_at stages t) (a.can all t le) (b.can all t le) i;
-  gives = λ t le ranges reads tables packet.
-      Coded-set (coded_list (coded× coded_ℕ coded_ℕ)) _ _ (a.gives t le ranges reads tables packet)
-      (b.gives t le ranges reads tables packet) i;
-}

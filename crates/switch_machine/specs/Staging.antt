@@ -1,5 +1,5 @@
 -- What the calls of a switch in memory make of its passes, step by step.
-use Rattle.std.specs.Prelude.{◌≡◌, ◌++◌, ◌∷◌, [], ℕ, Bool, true, false, List, None}
+use Rattle.std.specs.Prelude.{◌≡◌, ◌++◌, ◌∷◌, [], ℕ, Bool, true, false, None}
 use Rattle.switch_ir.specs.UnderWay.{Passes, PassState}
 use Rattle.switch_ir.specs.declared.journal.Entry.{Entry}
 use Rattle.switch_ir.specs.declared.port.UpEnd.{UpEnd}

@@ -20,7 +20,6 @@ use Rattle.switch_machine.specs.declared.sides.Outcome.{Outcome}
 use Rattle.switch_machine.specs.declared.sides.Outcome.TheVariants.{Going, Up, Verdict}
 use Rattle.switch_machine.specs.Flights.{flights_in, numbers_in, packet_in, with_pass, NumberedFlights}
 use Rattle.switch_machine.specs.Keeping.{begins}
-use Rattle.switch_machine.specs.Kept.{KeepsTables}
 use Rattle.switch_machine.specs.Planned.{BeginsWith}
 use Rattle.switch_machine.specs.Sides.{of_side, staging}
 

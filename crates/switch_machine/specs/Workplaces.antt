@@ -7,7 +7,6 @@ use Rattle.transfer_header.specs.Registers.{Registers}
 use Rattle.switch_ir.specs.Passes.{Code}
 use Rattle.switch_ir.specs.Sound.{CanBeRun}
 use Rattle.switch_ir.specs.Spans.{pass_spans}
-use Rattle.switch_ir.specs.Staged.{Staging}
 use Rattle.switch_machine.specs.declared.loaded_pass.LoadedPass.{LoadedPass}
 use Rattle.switch_machine.specs.declared.numbering.ValueRange.{ValueRange}
 use Rattle.switch_machine.specs.declared.ready.ReadyStep.{ReadyStep}

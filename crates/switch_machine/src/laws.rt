@@ -3,7 +3,6 @@ ghost use Rattle.std.specs.Prelude.{◌≡◌, ◌<◌, ◌≤◌, ◌^◌, Bool
 ghost use Rattle.std.specs.List.{AllByRecursion as Each};
 ghost use Rattle.packet_fields.specs.declared.packet.Packet.{Packet};
 ghost use Rattle.state_store.specs.Store.{Store};
-ghost use Rattle.flat_ir.specs.declared.program.ValueId.{ValueId as Value};
 ghost use Rattle.flat_ir.specs.Blocks.{nothing, Reading};
 ghost use Rattle.flat_ir.specs.Plan.{RegisterPlan};
 ghost use Rattle.transfer_header.specs.Registers.{value_in, ArePlaced, FitsLayout, Registers};
@@ -21,7 +20,7 @@ ghost use Rattle.switch_machine.specs.Flights.{numbers_in};
 ghost use Rattle.switch_machine.specs.Keeping.{begins, kept};
 ghost use Rattle.switch_machine.specs.Kept.{KeepsTables};
 ghost use Rattle.switch_machine.specs.Numbers.{stage_gives, AreHeld};
-ghost use Rattle.switch_machine.specs.Planned.{registers_at, stage_done, BeginsWith, IsSetUp};
+ghost use Rattle.switch_machine.specs.Planned.{registers_at, stage_done, BeginsWith};
 ghost use Rattle.switch_machine.specs.Ready.{all_placed, place_name, placed_at, reads_at, ready_at, ready_gives, AreReady, CanReady};
 ghost use Rattle.switch_machine.specs.Sides.{staging};
 ghost use Rattle.switch_machine.specs.Staged.{of_stage};
@@ -33,18 +32,6 @@ use transfer_header::{
     a_list_is_written, a_step_in_registers, a_write_keeps_others, needed_values_fit, plans_of_spans,
 };
 use writeback_table::what_a_lookup_sees;
-
-/// In registers that are set up for it, a pass leaves the number of each value that is kept.
-fn a_pass_is_computed()
-    ensures { (ranges : List ValueRange) (pass : PassCode) (kept : List Value) (given : Reading) (tables : Store)
-        (packet : Packet) (start : Registers) → IsSetUp ranges pass kept given tables packet start
-        → AreHeld ranges (registers_at ranges pass tables packet start (suc pass.highest))
-        (pass_values pass given tables packet) kept }
-{
-    readings_that_agree();
-    a_step_in_registers();
-    a_list_is_written();
-}
 
 /// Computed by place, a pass leaves what it leaves by the numbers of its values.
 pub(crate) fn a_pass_by_place()
@@ -117,7 +104,6 @@ pub(crate) fn a_pass_goes_by_stages()
         (last_numbers (staging side code) (suc t) (numbers_in (staging side code) ranges t registers)
         (view_of bit told.pairs) packet) (kept (staging side code)) }
 {
-    a_pass_is_computed();
     readings_that_agree();
     a_step_in_registers();
     a_list_is_written();

@@ -1,4 +1,4 @@
-use Rattle.std.proofs.Common.{◌≡◌, ◌∙◌, ◌++◌, [], List, ℕ, ap, arith, map}
+use Rattle.std.proofs.Common.{◌∙◌, ◌++◌, List, ℕ, ap, arith, map}
 use Rattle.flat_ir.specs.Registers.{packet_of}
 use Rattle.switch_machine.specs.Ready.{only_numbers, ready_gives, ready_of}
 use Rattle.switch_machine.proofs.PlacedSteps.{ready_can}

@@ -1,4 +1,4 @@
-use Rattle.std.proofs.Common.{◌≡◌, ◌∙◌, ◌<◌, ◌≤◌, ◌+◌, ℕ, List, [], ◌∷◌, length, drop, slice_index, sym, ap, arith, add-one, drop-cons}
+use Rattle.std.proofs.Common.{◌≡◌, ◌∙◌, ◌<◌, ◌+◌, ℕ, List, ◌∷◌, length, drop, slice_index, sym, ap, arith, add-one, drop-cons}
 use Rattle.transfer_header.specs.Registers.{placed, Registers}
 use Rattle.switch_machine.specs.Ready.{all_placed, paired}
 use Rattle.switch_machine.proofs.Lists.{none_ahead}

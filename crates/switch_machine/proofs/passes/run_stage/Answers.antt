@@ -1,8 +1,8 @@
-use Rattle.std.proofs.Common.{◌≡◌, ◌∙◌, ◌≤◌, [], ℕ, List, ap, arith, length, map, subst, sym, vec_capacity}
+use Rattle.std.proofs.Common.{◌∙◌, ◌≤◌, [], ℕ, List, ap, length, map, subst, sym, vec_capacity}
 use Rattle.std.specs.List.{AllByRecursion as Each}
 use Rattle.flat_ir.specs.Registers.{packet_of}
 use Rattle.switch_machine.specs.declared.ready.ReadyStep.{ReadyStep}
-use Rattle.switch_machine.specs.Ready.{all_placed, only_numbers, paired, reads_at, ready_gives, ready_of, targets_of, CanReady, IsDirect}
+use Rattle.switch_machine.specs.Ready.{all_placed, only_numbers, reads_at, ready_gives, ready_of, targets_of, CanReady, IsDirect}
 use Rattle.switch_machine.proofs.Waiting.{numbers_count, waiting_are}
 use Rattle.switch_machine.proofs.passes.run_stage.Goals as goal
 

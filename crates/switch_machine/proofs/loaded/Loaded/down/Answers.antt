@@ -1,19 +1,14 @@
-use Rattle.std.proofs.Common.{◌≡◌, ◌∙◌, ◌&&◌, ◌-◌, IfOk, List, None, Some, ap, drop, length, refl, subst, sym, take}
+use Rattle.std.proofs.Common.{◌∙◌, ◌&&◌, ◌-◌, List, Some, refl, subst, sym}
 use Rattle.std.specs.Prelude.{nat_lt, not}
-use Rattle.packet_fields.specs.declared.packet.Packet.{Packet}
 use Rattle.switch_ir.specs.Code.{code_of}
-use Rattle.switch_ir.specs.Meaning.{pass_values}
-use Rattle.switch_ir.specs.Port.{EndsDown, IsHandedDown, OfItsParts}
-use Rattle.switch_ir.specs.Tables.{seen_tables}
+use Rattle.switch_ir.specs.Port.{IsHandedDown, OfItsParts}
 use Rattle.switch_ir.specs.UnderWay.{HasEntered, PassState}
 use Rattle.switch_machine.specs.declared.numbering.ValueRange.{ValueRange}
-use Rattle.switch_machine.specs.declared.sides.Outcome.{Outcome}
 use Rattle.switch_machine.specs.declared.sides.Side.{Side}
 use Rattle.switch_machine.specs.declared.sides.Side.TheVariants.{Behind}
-use Rattle.switch_machine.specs.Flights.{flights_in}
 use Rattle.switch_machine.specs.Ready.{AreReady}
-use Rattle.switch_machine.specs.Sides.{down_of, staging, EndsOn, IsOf}
-use Rattle.switch_machine.specs.UnderWay.{passes_of, Begins, Entered, Goes}
+use Rattle.switch_machine.specs.Sides.{staging, IsOf}
+use Rattle.switch_machine.specs.UnderWay.{passes_of, Entered, Goes}
 use Rattle.switch_machine.proofs.Crossings.{arrived, begins_as, both_stay, entered_down, given, passes_stay, told_down}
 use Rattle.switch_machine.proofs.Lists.{on_err}
 use Rattle.switch_machine.proofs.LoadedCode.{made_stays, pass_is, pass_stays}

@@ -1,4 +1,4 @@
-use Rattle.std.proofs.Common.{refl, subst}
+use Rattle.std.proofs.Common.{subst}
 use Rattle.switch_ir.specs.Code.{code_of}
 use Rattle.switch_machine.specs.declared.sides.Side.{Side}
 use Rattle.switch_machine.specs.declared.sides.Side.TheVariants.{Before, Behind}

@@ -1,4 +1,4 @@
-use Rattle.std.proofs.Common.{◌≡◌, ◌∙◌, ◌&&◌, None, ap, refl, subst, sym}
+use Rattle.std.proofs.Common.{◌∙◌, ◌&&◌, refl, subst}
 use Rattle.std.specs.Prelude.{nat_lt, not}
 use Rattle.packet_fields.specs.declared.packet.Packet.{Packet}
 use Rattle.flat_ir.specs.Blocks.{nothing}
@@ -10,7 +10,6 @@ use Rattle.switch_ir.specs.UnderWay.{HasEntered}
 use Rattle.std.proofs.Common.{Some}
 use Rattle.switch_machine.specs.declared.sides.Side.{Side}
 use Rattle.switch_machine.specs.declared.sides.Side.TheVariants.{Before}
-use Rattle.switch_machine.specs.Flights.{flights_in}
 use Rattle.switch_machine.specs.Sides.{staging, up_of, EndsOn}
 use Rattle.switch_machine.specs.UnderWay.{passes_of, Begins, Entered, Goes}
 use Rattle.switch_machine.proofs.Crossings.{begins_as, both_stay, entered_up, nothing_given, passes_stay, told_up}

@@ -1,7 +1,6 @@
 use Rattle.std.proofs.Common.{◌≡◌, ◌∙◌, ◌≤◌, ◌+◌, List, add-one, ap, arith, length, map, refl, subst, suc, sym, vec_capacity}
 use Rattle.packet_fields.specs.declared.packet.Packet.{Packet}
 use Rattle.packet_fields.specs.Shape.{shape_of}
-use Rattle.packet_fields.specs.Sizes.{largest_packet}
 use Rattle.flat_ir.specs.Registers.{packet_of}
 use Rattle.transfer_header.specs.Registers.{Registers}
 use Rattle.switch_ir.specs.Tables.{view_of}

@@ -1,4 +1,4 @@
-use Rattle.std.proofs.Common.{◌≡◌, ◌∙◌, ◌≤◌, Bool, IfOk, List, Option, Some, ap, arith, length, map, refl, subst, sym, vec_capacity}
+use Rattle.std.proofs.Common.{◌≡◌, ◌∙◌, ◌≤◌, Bool, List, Option, Some, ap, arith, length, map, refl, subst, sym, vec_capacity}
 use Rattle.packet_fields.specs.declared.packet.Packet.{Packet}
 use Rattle.state_store.specs.Store.{Store}
 use Rattle.flat_ir.specs.Plan.{RegisterPlan}
@@ -7,11 +7,11 @@ use Rattle.transfer_header.specs.Registers.{Registers}
 use Rattle.switch_ir.specs.Staged.{IsEntered}
 use Rattle.switch_ir.specs.Tables.{seen_tables, view_of}
 use Rattle.switch_machine.specs.declared.ready.ReadyStep.{ReadyStep}
-use Rattle.switch_machine.specs.Flights.{flights_in, numbers_in, packet_in, with_pass, AreFlights, IsBegun}
+use Rattle.switch_machine.specs.Flights.{flights_in, numbers_in, with_pass, AreFlights, IsBegun}
 use Rattle.switch_machine.specs.Planned.{stage_done}
 use Rattle.switch_machine.specs.Ready.{all_placed, reads_at, ready_gives, ready_of, targets_of, HoldResults}
 use Rattle.switch_machine.specs.Sides.{staging}
-use Rattle.switch_machine.specs.UnderWay.{held, passes_by, shown, Entered}
+use Rattle.switch_machine.specs.UnderWay.{held, passes_by, shown}
 use Rattle.switch_machine.proofs.Flying.{entered_as, passes_changed, tried_flights}
 use Rattle.switch_machine.proofs.LoadedCode.{ready_for}
 use Rattle.switch_machine.proofs.Lists.{on_weaker}

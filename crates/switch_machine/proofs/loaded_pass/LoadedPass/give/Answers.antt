@@ -1,5 +1,4 @@
-use Rattle.std.proofs.Common.{◌≡◌, ◌∙◌, [], List, ap, arith, length, map, refl, subst, sym}
-use Rattle.std.specs.List.{AllByRecursion as Each}
+use Rattle.std.proofs.Common.{◌≡◌, ◌∙◌, [], ap, arith, length, map, refl, subst, sym}
 use Rattle.flat_ir.specs.Blocks.{nothing}
 use Rattle.flat_ir.specs.Registers.{packet_of}
 use Rattle.transfer_header.specs.Registers.{value_in, Registers}
@@ -7,9 +6,7 @@ use Rattle.transfer_header.specs.Steps.{pairs_written}
 use Rattle.switch_ir.specs.Code.{code_of}
 use Rattle.switch_ir.specs.Meaning.{down_given}
 use Rattle.switch_ir.specs.Tables.{seen_tables}
-use Rattle.switch_machine.specs.declared.ready.ReadyStep.{ReadyStep}
 use Rattle.switch_machine.specs.declared.sides.Side.{Side}
-use Rattle.switch_machine.specs.declared.sides.Side.TheVariants.{Behind}
 use Rattle.switch_machine.specs.Flights.{flights_in, AreFlights}
 use Rattle.switch_machine.specs.Keeping.{begins}
 use Rattle.switch_machine.specs.Numbers.{stage_gives}

@@ -1,21 +1,18 @@
-use Rattle.std.proofs.Common.{◌≡◌, ◌∙◌, ◌<◌, IfOk, List, Some, ap, arith, length, subst, suc, sym}
-use Rattle.std.specs.Prelude.{nat_lt, IsSome}
+use Rattle.std.proofs.Common.{◌∙◌, IfOk, List, Some, ap, arith, subst, suc, sym}
+use Rattle.std.specs.Prelude.{nat_lt}
 use Rattle.std.proofs.lemmas.Bool.{le-ltb, lt-ltb}
 use Rattle.packet_fields.specs.declared.packet.Packet.{Packet}
-use Rattle.packet_fields.specs.Shape.{shape_of}
-use Rattle.flat_ir.specs.Blocks.{Reading}
-use Rattle.transfer_header.specs.Registers.{content_of, Registers}
+use Rattle.transfer_header.specs.Registers.{Registers}
 use Rattle.switch_ir.specs.Code.{code_of}
 use Rattle.switch_ir.specs.Port.{IsUpFrame}
 use Rattle.switch_ir.specs.UnderWay.{EndsWith, PassState}
 use Rattle.switch_machine.specs.declared.numbering.ValueRange.{ValueRange}
-use Rattle.switch_machine.specs.declared.sides.Outcome.{Outcome}
 use Rattle.switch_machine.specs.declared.sides.Side.{Side}
 use Rattle.switch_machine.specs.Flights.{flights_in, packet_in}
 use Rattle.switch_machine.specs.Keeping.{kept}
-use Rattle.switch_machine.specs.Numbers.{reads_by, AreHeld}
-use Rattle.switch_machine.specs.Sides.{staging, up_of, EndsOn, HasEnded, IsOf}
-use Rattle.switch_machine.specs.UnderWay.{leaves_on, numbers_at_last, shown, Goes}
+use Rattle.switch_machine.specs.Numbers.{AreHeld}
+use Rattle.switch_machine.specs.Sides.{staging, up_of, EndsOn, HasEnded}
+use Rattle.switch_machine.specs.UnderWay.{numbers_at_last, Goes}
 use Rattle.switch_machine.proofs.Crossings.{both_stay}
 use Rattle.switch_machine.proofs.Ending.{ended_goes, going_ends, going_is_of}
 use Rattle.switch_machine.proofs.Flying.{ended_as, flight_at, shown_as}

@@ -1,4 +1,4 @@
-use Rattle.std.proofs.Common.{◌≡◌, ◌∙◌, ap, length, refl, subst, suc, sym}
+use Rattle.std.proofs.Common.{◌∙◌, ap, length, refl, subst, suc, sym}
 use Rattle.state_store.specs.Store.{Store}
 use Rattle.flat_ir.specs.Registers.{packet_of}
 use Rattle.transfer_header.specs.Registers.{Registers}

@@ -1,15 +1,13 @@
-use Rattle.std.proofs.Common.{◌≡◌, ◌∙◌, ◌&&◌, IfOk, None, Option, Some, ap, refl, sym}
+use Rattle.std.proofs.Common.{◌≡◌, ◌&&◌, IfOk, Some}
 use Rattle.std.specs.Prelude.{nat_lt, not}
 use Rattle.packet_fields.specs.declared.packet.Packet.{Packet}
-use Rattle.switch_ir.specs.Code.{code_of, Code}
+use Rattle.switch_ir.specs.Code.{Code}
 use Rattle.switch_ir.specs.Port.{EndsUp, IsNothing, IsUpFrame}
 use Rattle.switch_ir.specs.UnderWay.{HasEntered, Passes}
 use Rattle.switch_machine.specs.Counts.{counts_of}
-use Rattle.switch_machine.specs.declared.loaded.Loaded.{Loaded}
 use Rattle.switch_machine.specs.declared.sides.Side.TheVariants.{Before}
 use Rattle.switch_machine.specs.Sides.{staging, up_of}
-use Rattle.switch_machine.specs.Views.{machine_of}
-use Rattle.switch_machine.specs.UnderWay.{passes_on, under_way, Begins, Goes}
+use Rattle.switch_machine.specs.UnderWay.{passes_on, Begins, Goes}
 use Rattle.switch_machine.proofs.Machines.{err_weaker, of_code, same_made, stays_made, stays_safe}
 use Rattle.switch_machine.proofs.machine.ModelSwitch.arrive.Goals as goal
 

@@ -1,16 +1,15 @@
-use Rattle.std.proofs.Common.{◌≡◌, ◌∙◌, ◌&&◌, IfOk, None, Some, ap, subst, sym}
+use Rattle.std.proofs.Common.{◌≡◌, ◌&&◌, IfOk, Some, ap}
 use Rattle.std.specs.Prelude.{nat_lt, not}
 use Rattle.transfer_header.specs.Frames.{IsFrame}
 use Rattle.switch_ir.specs.Code.{code_of, Code}
 use Rattle.switch_ir.specs.Port.{EndsDown, IsHandedDown, OfItsParts}
 use Rattle.switch_ir.specs.UnderWay.{HasEntered, Passes, PassState}
 use Rattle.switch_machine.specs.Counts.{counts_of}
-use Rattle.switch_machine.specs.declared.sides.Outcome.{Outcome}
 use Rattle.switch_machine.specs.declared.sides.Side.TheVariants.{Behind}
 use Rattle.switch_machine.specs.Loading.{code_in}
 use Rattle.switch_machine.specs.Sides.{down_of, staging}
-use Rattle.switch_machine.specs.UnderWay.{passes_on, under_way, Begins, Goes}
-use Rattle.switch_machine.proofs.Machines.{err_weaker, if_some, of_code, passes_were, same_made, stays_made, stays_safe}
+use Rattle.switch_machine.specs.UnderWay.{passes_on, Begins, Goes}
+use Rattle.switch_machine.proofs.Machines.{err_weaker, if_some, of_code, same_made, stays_made, stays_safe}
 use Rattle.switch_machine.proofs.machine.ModelSwitch.come_down.Goals as goal
 
 pub down-requires-clause-frame : goal.down-requires-clause-frame

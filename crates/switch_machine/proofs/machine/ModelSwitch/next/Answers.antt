@@ -1,4 +1,4 @@
-use Rattle.std.proofs.Common.{◌≡◌, ◌∙◌, ℕ, IfOk, Option, Some, ap, subst, suc, sym}
+use Rattle.std.proofs.Common.{◌≡◌, IfOk, Some, subst, suc}
 use Rattle.std.specs.Prelude.{nat_lt, IsSome}
 use Rattle.switch_ir.specs.Code.{Code}
 use Rattle.switch_ir.specs.Port.{IsUpFrame}

@@ -1,4 +1,4 @@
-use Rattle.std.proofs.Common.{◌≡◌, ◌∙◌, ◌∷◌, [], Bool, Some, ap, false, inl, subst, suc, sym, true}
+use Rattle.std.proofs.Common.{◌≡◌, ◌∙◌, ◌∷◌, [], Bool, Some, ap, false, inl, subst, suc, sym}
 use Rattle.std.specs.Prelude.{nat_lt, IsSome}
 use Rattle.switch_ir.specs.Code.{Code}
 use Rattle.switch_ir.specs.Port.{StagesUp}

@@ -1,4 +1,4 @@
-use Rattle.std.proofs.Common.{◌≡◌, ◌∙◌, ◌&&◌, ◌∷◌, [], if◌then◌else◌, Bool, None, Some, ap, false, refl, subst, sym, true}
+use Rattle.std.proofs.Common.{◌≡◌, ◌∙◌, ◌&&◌, if◌then◌else◌, Bool, None, Some, ap, false, subst, sym}
 use Rattle.std.specs.Prelude.{nat_lt, not}
 use Rattle.std.proofs.lemmas.Bool.{cond-false, cond-true}
 use Rattle.packet_fields.specs.declared.packet.Packet.{Packet}

@@ -1,4 +1,4 @@
-use Rattle.std.proofs.Common.{◌++◌, List, ℕ, append-nil, arith, ap, refl, subst, sym}
+use Rattle.std.proofs.Common.{◌++◌, List, ℕ, append-nil, arith, refl, subst, sym}
 use Rattle.std.proofs.lemmas.List.{take_all}
 use Rattle.switch_machine.specs.Written.{Marks}
 use Rattle.switch_machine.proofs.WrittenPlaces.{list_more}
