@@ -10,7 +10,7 @@ use crate::tokens::Tokens;
 use element_lang::Mark;
 use gal_bits::Widths;
 use gal_io::NoMemory;
-use state_store::{Kind, ObjectDecl, Row};
+use state_store::{Kind, ObjectDecl, Row, Rows};
 
 // Adds widths, with commas between them.
 #[tactic(auto, using(crate::proofs::Spaces::spaces, crate::proofs::Spaces::listed_more, std::proofs::lemmas::Grind::common_steps))]
@@ -88,11 +88,11 @@ fn put_row(keys: &Widths, values: &Widths, row: &Row, out: &mut Tokens) -> Resul
 }
 
 #[tactic(auto, using(crate::proofs::Spaces::spaces, std::proofs::lemmas::Grind::common_steps))]
-fn put_rows(keys: &Widths, values: &Widths, rows: &[Row], out: &mut Tokens) -> Result<(), NoMemory>
+fn put_rows(keys: &Widths, values: &Widths, rows: &Rows, out: &mut Tokens) -> Result<(), NoMemory>
     ensures { OnOk result (out.new ≡ out.old ++ spaced (rows_tokens (map (named_row keys.now values.now) rows.now))) }
 {
-    for row in rows {
-        put_row(keys, values, row, out)?;
+    for place in 0..rows.len() {
+        put_row(keys, values, &rows.at(place), out)?;
     }
     Ok(())
 }
@@ -118,7 +118,7 @@ fn put_table(o: &ObjectDecl, out: &mut Tokens) -> Result<(), NoMemory>
     out.mark(Mark::Table)?;
     put_widths_of(o, out)?;
     out.mark(Mark::LeftBrace)?;
-    put_rows(&o.keys, &o.values, o.rows.as_slice(), out)?;
+    put_rows(&o.keys, &o.values, &o.rows, out)?;
     out.mark(Mark::RightBrace)?;
     Ok(())
 }

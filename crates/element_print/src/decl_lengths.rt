@@ -10,7 +10,7 @@ use crate::token_lengths::{
 };
 use element_lang::Mark;
 use gal_bits::Widths;
-use state_store::{Kind, ObjectDecl, Row};
+use state_store::{Kind, ObjectDecl, Row, Rows};
 
 // Widths, without what stands between two of them.
 fn widths_sum(widths: &[u64]) -> u64
@@ -68,12 +68,12 @@ fn row_length(keys: &Widths, values: &Widths, row: &Row) -> u64
     ])
 }
 
-fn rows_length(keys: &Widths, values: &Widths, rows: &[Row]) -> u64
+fn rows_length(keys: &Widths, values: &Widths, rows: &Rows) -> u64
     ensures { result ≡ capped (lengths.rows_length keys.now values.now rows.now) }
 {
     let mut bytes: u64 = 0;
-    for row in rows {
-        bytes = bytes.saturating_add(row_length(keys, values, row));
+    for place in 0..rows.len() {
+        bytes = bytes.saturating_add(row_length(keys, values, &rows.at(place)));
     }
     bytes
 }
@@ -87,7 +87,7 @@ fn table_length(o: &ObjectDecl) -> u64
         mark_length(Mark::Arrow),
         widths_length(&o.values),
         braces_length(),
-        rows_length(&o.keys, &o.values, o.rows.as_slice()),
+        rows_length(&o.keys, &o.values, &o.rows),
     ])
 }
 

@@ -97,7 +97,7 @@ fn decl_depth(o: &ObjectDecl) -> u64
     ensures { result ≡ depths.depth_as o.now.kind o.now }
 {
     match o.kind {
-        Kind::Table => { if o.rows.as_slice().is_empty() { 1 } else { 2 } }
+        Kind::Table => { if o.rows.is_empty() { 1 } else { 2 } }
         Kind::Map => 1,
         Kind::Vector => 1,
         Kind::Int => 0,

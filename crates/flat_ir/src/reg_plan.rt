@@ -91,7 +91,8 @@ fn first_registers(
 }
 
 impl RegPlan {
-    /// A plan with as few registers as spans allow, in n log n steps for n spans.
+    /// A plan with as few registers as spans allow. This takes n log n steps for n spans, and one step for each value
+    /// up to the greatest that has a span, at most 65,536.
     pub fn of(alloc: Global, spans: &Spans) -> Result<RegPlan, NoMemory>
         requires few { length spans.now < 2 ^ 32 }
         requires differ { ValuesDiffer spans.now }

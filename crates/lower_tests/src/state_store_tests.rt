@@ -1,7 +1,7 @@
 //! What no clause can say: that calls succeed with ample memory.
 use crate::samples::{declared, values, widths};
 use gal_io::NoMemory;
-use state_store::{Kind, Listing, ObjectDecl, Objects, Put, Row, Store};
+use state_store::{Kind, Listing, ObjectDecl, Objects, Put, Row, Rows, Store};
 use std::alloc::Global;
 use std::test::Fail;
 
@@ -86,10 +86,10 @@ fn is_row(row: &Row, wanted: &(&[u64], &[u64])) -> bool {
     row.keys == values(wanted.0) && row.values == values(wanted.1)
 }
 
-fn are_rows(rows: &[Row], wanted: Wanted) -> bool {
+fn are_rows(rows: &Rows, wanted: Wanted) -> bool {
     let mut all = rows.len() == wanted.len();
-    for (row, other) in rows.iter().zip(wanted) {
-        all = all && is_row(row, other);
+    for (place, other) in wanted.iter().enumerate() {
+        all = all && place < rows.len() && is_row(&rows.at(place), other);
     }
     all
 }
@@ -113,7 +113,7 @@ fn are_listed(listing: &Listing, wanted: Wanted) -> bool {
 fn has(alloc: Global, store: &Store, object: u32, wanted: Wanted) -> Result<bool, NoMemory> {
     let rows = store.rows(alloc, object)?;
     let listing = store.list(alloc, object)?;
-    Ok(are_rows(rows.as_slice(), wanted) && are_listed(&listing, wanted))
+    Ok(are_rows(&rows, wanted) && are_listed(&listing, wanted))
 }
 
 fn answers(store: &mut Store, call: &Call) -> bool {
@@ -165,7 +165,10 @@ const CALLS: [Call; 38] = [
     Lacks(VECTOR, &[1], &[0]),
     Puts(VECTOR, &[1], &[4_294_967_296], Put::Stored),
     Puts(VECTOR, &[0], &[7, 8], Put::Stored),
-    Lists(VECTOR, &[(&[0], &[7, 8]), (&[1], &[4_294_967_296]), (&[2], &[5])]),
+    Lists(
+        VECTOR,
+        &[(&[0], &[7, 8]), (&[1], &[4_294_967_296]), (&[2], &[5])],
+    ),
     // an integer has one row
     Finds(INT, &[], &[7]),
     Puts(INT, &[], &[8], Put::Stored),

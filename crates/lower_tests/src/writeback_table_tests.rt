@@ -1,7 +1,7 @@
 //! What no clause can say: that calls succeed with ample memory.
 use crate::samples::{declared, values, widths};
 use gal_io::NoMemory;
-use state_store::{Kind, ObjectDecl, Row};
+use state_store::{Kind, ObjectDecl, Row, Rows};
 use std::alloc::Global;
 use std::test::Fail;
 use writeback_table::{Applied, Command, Pair, To, Update, Updates};
@@ -43,10 +43,14 @@ fn finds(pair: &Pair, bit: bool, row: &Row, key: &[u64], numbers: &[u64]) -> boo
     row.keys == values(key) && found.found && found.values == values(numbers)
 }
 
-fn are_found(pair: &Pair, bit: bool, rows: &[Row], wanted: Wanted) -> bool {
+fn is_found(pair: &Pair, bit: bool, row: &Row, key: &[u64], numbers: &[u64]) -> bool {
+    finds(pair, bit, row, key, numbers) && row.values == values(numbers)
+}
+
+fn are_found(pair: &Pair, bit: bool, rows: &Rows, wanted: Wanted) -> bool {
     let mut all = rows.len() == wanted.len();
-    for (row, (key, numbers)) in rows.iter().zip(wanted) {
-        all = all && finds(pair, bit, row, key, numbers) && row.values == values(numbers);
+    for (place, (key, numbers)) in wanted.iter().enumerate() {
+        all = all && place < rows.len() && is_found(pair, bit, &rows.at(place), key, numbers);
     }
     all
 }
@@ -54,7 +58,7 @@ fn are_found(pair: &Pair, bit: bool, rows: &[Row], wanted: Wanted) -> bool {
 // Whether lookups see these rows and no others where the bit is this.
 fn sees(alloc: Global, pair: &Pair, bit: bool, wanted: Wanted) -> Result<bool, NoMemory> {
     let rows = pair.rows(alloc, bit)?;
-    Ok(are_found(pair, bit, rows.as_slice(), wanted))
+    Ok(are_found(pair, bit, &rows, wanted))
 }
 
 fn lacks(pair: &Pair, bit: bool, key: &[u64]) -> bool {

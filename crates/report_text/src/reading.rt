@@ -113,13 +113,14 @@ fn has_keys(count: u32, widths: &Widths) -> bool
 }
 
 // Whether a key may follow these rows.
-fn follows(rows: &[Row], key: &Values) -> bool
+fn follows(rows: &Rows, key: &Values) -> bool
     ensures { result ≡ is_after rows.now key.now }
 {
-    match rows.last() {
-        None => true,
-        Some(last) => last.keys < *key,
+    if rows.is_empty() {
+        return true;
     }
+    let (last, _) = rows.parts_at(rows.len() - 1);
+    last < key.as_slice()
 }
 
 impl Reading {
@@ -360,16 +361,16 @@ impl Reading {
         alloc: Global,
         object: &ObjectDecl,
         place: (Side, u32, u32),
-        row: Row,
+        row: &Row,
     ) -> Result<bool, NoMemory>
         ensures { IfOk result (λ ok. taken ok self.new
-            (row_put place.0 place.1 place.2 self.old object.now (Some row))) }
+            (row_put place.0 place.1 place.2 self.old object.now (Some row.now))) }
     {
         let (side, number, behind) = place;
-        if !follows(self.rows.as_slice(), &row.keys) || !leaves(behind, &object.keys, &row.keys) {
+        if !follows(&self.rows, &row.keys) || !leaves(behind, &object.keys, &row.keys) {
             return Ok(false);
         }
-        self.rows.push(row)?;
+        self.rows.push_values(&row.keys, &row.values)?;
         self.await_rows(alloc, side, number, behind)?;
         Ok(true)
     }
@@ -388,7 +389,7 @@ impl Reading {
             return Ok(false);
         };
         match read_row(&object.keys, &object.values, line) {
-            Some(row) => self.put_row(alloc, object, place, row),
+            Some(row) => self.put_row(alloc, object, place, &row),
             None => Ok(false),
         }
     }

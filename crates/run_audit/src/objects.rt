@@ -6,34 +6,13 @@ ghost use Rattle.run_audit.specs.Told.{IsFirstUnlike};
 use element_lang::Middlebox;
 use gal_io::NoMemory;
 use run_model::{ObjectRows, Run, StoreRows};
-use state_store::{Row, Store};
+use state_store::Store;
 use std::alloc::Global;
-
-fn is_same_row(one: Row, other: Row) -> bool
-    ensures { IsTrue result ↔ (one ≡ other) }
-{
-    one.keys == other.keys && one.values == other.values
-}
-
-// Whether two lists have the same rows.
-fn are_same_rows(some: &[Row], others: &[Row]) -> bool
-    ensures { IsTrue result ↔ (some.now ≡ others.now) }
-{
-    if some.len() != others.len() {
-        return false;
-    }
-    for place in 0..some.len() {
-        if !is_same_row(some[place], others[place]) {
-            return false;
-        }
-    }
-    true
-}
 
 fn is_same_part(one: &ObjectRows, other: &ObjectRows) -> bool
     ensures { IsTrue result ↔ (one.now ≡ other.now) }
 {
-    one.object == other.object && are_same_rows(one.rows.as_slice(), other.rows.as_slice())
+    one.object == other.object && one.rows.is_same(&other.rows)
 }
 
 // The object of the wanted part at the first place at which the part that is told isn't the wanted one, or of the told

@@ -3,3 +3,4 @@ pub mod SerialOrder
 pub mod Members
 pub mod Rising
 pub mod SerialSort
+mod PartLaws

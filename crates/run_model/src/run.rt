@@ -4,7 +4,7 @@ ghost use Rattle.run_model.specs.Parts.{parts_of};
 
 use crate::fate::Fates;
 use gal_io::NoMemory;
-use state_store::{Kind, ObjectDecl, Rows, Store};
+use state_store::{ObjectDecl, Rows, Store};
 use std::alloc::Global;
 use std::marker::Model;
 
@@ -68,7 +68,7 @@ impl StoreRows {
     {
         let mut items = Vec::new(alloc);
         for number in 0..objects.len() {
-            if objects[number].kind != Kind::Table {
+            if !objects[number].kind.is_table() {
                 let object = number as u32;
                 let rows = store.rows(alloc, object)?;
                 items.push(ObjectRows { object, rows })?;

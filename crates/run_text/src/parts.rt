@@ -1,10 +1,11 @@
 //! The lines of the rows of objects.
 ghost use Rattle.std.specs.Prelude.{◌≡◌, ◌++◌, OnOk, slice_get};
 ghost use Rattle.run_text.specs.Report.{key_text, part_line, part_lines, row_line, row_lines, name_in};
+ghost use Rattle.state_store.specs.Store.{row_of};
 
 use gal_io::{NoMemory, Text};
 use run_model::ObjectRows;
-use state_store::{ObjectDecl, Row};
+use state_store::{ObjectDecl, Rows};
 
 fn put_key(numbers: &[u64], text: &mut Text) -> Result<(), NoMemory>
     ensures { OnOk result (text.new ≡ text.old ++ key_text numbers.now) }
@@ -16,20 +17,21 @@ fn put_key(numbers: &[u64], text: &mut Text) -> Result<(), NoMemory>
     Ok(())
 }
 
-fn put_row(row: &Row, text: &mut Text) -> Result<(), NoMemory>
-    ensures { OnOk result (text.new ≡ text.old ++ row_line row.now) }
+fn put_row(keys: &[u64], values: &[u64], text: &mut Text) -> Result<(), NoMemory>
+    ensures { OnOk result (text.new ≡ text.old ++ row_line (row_of (keys.now, values.now))) }
 {
-    put_key(row.keys.as_slice(), text)?;
+    put_key(keys, text)?;
     text.extend(b"->")?;
-    text.push_spaced(row.values.as_slice())?;
+    text.push_spaced(values)?;
     text.push(b'\n')
 }
 
-fn put_rows(rows: &[Row], text: &mut Text) -> Result<(), NoMemory>
+fn put_rows(rows: &Rows, text: &mut Text) -> Result<(), NoMemory>
     ensures { OnOk result (text.new ≡ text.old ++ row_lines rows.now) }
 {
-    for row in rows {
-        put_row(row, text)?;
+    for place in 0..rows.len() {
+        let (keys, values) = rows.parts_at(place);
+        put_row(keys, values, text)?;
     }
     Ok(())
 }
@@ -71,7 +73,7 @@ pub(crate) fn put_parts(
 {
     for part in parts {
         put_part_line(word, objects, part, text)?;
-        put_rows(part.rows.as_slice(), text)?;
+        put_rows(&part.rows, text)?;
     }
     Ok(())
 }

@@ -14,7 +14,7 @@ use flat_ir::{Flat, eval_flat};
 use flatten::flatten;
 use gal_io::NoMemory;
 use packet_fields::Verdict;
-use state_store::{Row, Store};
+use state_store::{Row, Rows, Store};
 use std::alloc::Global;
 use std::test::Fail;
 
@@ -106,10 +106,17 @@ fn all_are_sent(
     Ok(first && second && third && fourth)
 }
 
-fn are_same(rows: &[Row], others: &[Row]) -> bool {
-    let mut all = rows.len() == others.len();
-    for (row, other) in rows.iter().zip(others) {
-        all = all && row.keys == other.keys && row.values == other.values;
+fn is_same(row: &Row, other: &Row) -> bool {
+    row.keys == other.keys && row.values == other.values
+}
+
+fn are_same(rows: &Rows, others: &Rows) -> bool {
+    if rows.len() != others.len() {
+        return false;
+    }
+    let mut all = true;
+    for place in 0..rows.len() {
+        all = all && is_same(&rows.at(place), &others.at(place));
     }
     all
 }
@@ -124,7 +131,7 @@ fn both_have(
 ) -> Result<bool, NoMemory> {
     let rows = store.rows(alloc, object)?;
     let others = flat_store.rows(alloc, object)?;
-    Ok(rows.len() == count && are_same(rows.as_slice(), others.as_slice()))
+    Ok(rows.len() == count && are_same(&rows, &others))
 }
 
 // Each flow has a row in both maps.

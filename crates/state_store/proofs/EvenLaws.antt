@@ -1,7 +1,7 @@
 -- Lists that all have one length.
 use Rattle.std.proofs.Common.{◌≡◌, ℕ, zero, suc, ◌+◌, ◌-◌, ◌*◌, ◌<◌, ◌≤◌, List, [], ◌∷◌, ◌++◌, length, take, drop, set, replicate, Some, None, slice_get, refl, sym, ap, ap₂, subst, ◌∙◌, arith}
 use Rattle.std.proofs.Math.Nat.{mul-le-mul_left}
-use Rattle.std.proofs.lemmas.List.{take-take, drop-take, length-take-le, length-drop, drop-drop, take_at, drop_at, take-append-le, drop-append-le, take_all, take-replicate, drop-replicate}
+use Rattle.std.proofs.lemmas.List.{take-take, drop-take, length-take-le, length-drop, length-append, drop-drop, take_at, drop_at, take-append-le, drop-append-le, take_all, take-replicate, drop-replicate}
 use Rattle.state_store.specs.Even.{Even, cut}
 
 pub cut_length : (w n : ℕ) (ns : List ℕ) → length (cut w n ns) ≡ n
@@ -113,3 +113,19 @@ pub set_room : (w n p : ℕ) (ns l : List ℕ) (e : Even) → ◌≡◌ {A = Eve
     → p * length l + length l ≤ length ns
 set_room w n p ns l e view lt long wide =
     subst (λ k. p * k + k ≤ length ns) (sym (wide ∙ sym (ap (λ x. x.width) view))) (at_room w n p ns e view lt long)
+
+-- a list more
+pub push_list : (w n m : ℕ) (ns ms l : List ℕ) (e : Even) → ◌≡◌ {A = Even} (record { width = w; lists = cut w n ns }) e → m ≡ n + 1 → length ns ≡ n * w → length l ≡ e.width → ms ≡ ns ++ l
+    → ◌≡◌ {A = Even} (record { width = w; lists = cut w m ms }) (record e { lists = e.lists ++ l ∷ [] })
+push_list w n m ns ms l e view next long wide is =
+    let same : length l ≡ w = wide ∙ sym (ap (λ x. x.width) view) in
+    let one : m ≡ suc n = omega arith in
+    ap₂ (λ (k : ℕ) (x : List ℕ). record { width = w; lists = cut w k x }) one is
+    ∙ ap (λ x. record { width = w; lists = x }) (cut_push w n ns l long same)
+    ∙ ap (λ (x : Even). record x { lists = x.lists ++ l ∷ [] }) view
+
+pub push_length : (w n m : ℕ) (ns ms l : List ℕ) (e : Even) → ◌≡◌ {A = Even} (record { width = w; lists = cut w n ns }) e → m ≡ n + 1 → length ns ≡ n * w → length l ≡ e.width → ms ≡ ns ++ l → length ms ≡ m * w
+push_length w n m ns ms l e view next long wide is =
+    let same : length l ≡ w = wide ∙ sym (ap (λ x. x.width) view) in
+    let one : m ≡ suc n = omega arith in
+    ap length is ∙ length-append ns l ∙ (let all : length ns + length l ≡ suc n * w = omega arith in all) ∙ ap (λ k. k * w) (sym one)

@@ -12,5 +12,6 @@ mod PackSteps
 mod PlacedLaws
 mod PourLaws
 mod RowLaws
+mod ShapeLaws
 mod SlotRows
 mod SortLaws

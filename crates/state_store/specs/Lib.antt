@@ -13,6 +13,7 @@ pub mod Listed
 pub mod Packing
 pub mod Placed
 pub mod Places
+pub mod Shapes
 pub mod Sizes
 pub mod Store
 pub mod Fitting

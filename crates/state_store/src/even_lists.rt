@@ -1,6 +1,6 @@
 //! Lists of numbers that all have one length, in one list of numbers.
-ghost use Rattle.std.specs.Prelude.{◌≡◌, ◌<◌, ◌≤◌, ◌^◌, ◌*◌, IfOk, Some, length, replicate, slice_get, slice_set};
-ghost use Rattle.std.specs.Prelude.{◌++◌, take, drop, ◌+◌};
+ghost use Rattle.std.specs.Prelude.{◌≡◌, ◌<◌, ◌≤◌, ◌^◌, ◌*◌, IfOk, IsTrue, Some, length, replicate, slice_get, slice_set};
+ghost use Rattle.std.specs.Prelude.{◌++◌, ◌∷◌, [], take, drop, ◌+◌, OnOk, OnErr};
 
 use gal_io::NoMemory;
 use std::alloc::Global;
@@ -28,6 +28,33 @@ impl Model for EvenLists {
 }
 
 impl EvenLists {
+    /// No lists yet, of this length.
+    #[tactic(auto, unfolding(crate::specs::Even::cut))]
+    pub fn new(alloc: Global, width: usize) -> EvenLists
+        ensures { result ≡ record { width = width; lists = [] } }
+    {
+        EvenLists {
+            width,
+            count: 0,
+            numbers: Vec::new(alloc),
+        }
+    }
+
+    /// The same, with the memory for so many.
+    #[tactic(auto, unfolding(crate::specs::Even::cut))]
+    pub fn with_capacity(alloc: Global, width: usize, count: usize) -> Result<EvenLists, NoMemory>
+        ensures { IfOk result (λ made. made ≡ record { width = width; lists = [] }) }
+    {
+        let Some(numbers) = count.checked_mul(width) else {
+            return Err(NoMemory);
+        };
+        Ok(EvenLists {
+            width,
+            count: 0,
+            numbers: Vec::with_capacity(alloc, numbers)?,
+        })
+    }
+
     /// So many lists of zeros.
     pub fn zeros(alloc: Global, width: usize, count: u32) -> Result<EvenLists, NoMemory>
         requires { width ≤ 8 }
@@ -66,6 +93,30 @@ impl EvenLists {
         write_at(&mut self.numbers, place, list);
     }
 
+    /// Puts a list last, which begins with these numbers and ends with those.
+    pub fn push(&mut self, front: &[u64], back: &[u64]) -> Result<(), NoMemory>
+        requires { length front.now + length back.now ≡ self.old.width }
+        ensures ok { OnOk result (self.new
+            ≡ record self.old { lists = self.old.lists ++ (front.now ++ back.now) ∷ [] }) }
+        ensures err { OnErr result (self.new ≡ self.old) }
+    {
+        if self.count == usize::MAX {
+            return Err(NoMemory);
+        }
+        append(&mut self.numbers, front, back)?;
+        self.count += 1;
+        Ok(())
+    }
+
+    /// Whether the others have the same length and the same numbers.
+    pub fn is_same(&self, other: &EvenLists) -> bool
+        ensures { IsTrue result → self.now ≡ other.now }
+    {
+        self.width == other.width
+            && self.count == other.count
+            && self.numbers.as_slice() == other.numbers.as_slice()
+    }
+
     /// The same lists again, in memory of their own.
     pub fn copy(&self, alloc: Global) -> Result<EvenLists, NoMemory>
         ensures { IfOk result (λ made. made ≡ self.now) }
@@ -76,6 +127,20 @@ impl EvenLists {
             numbers: self.numbers.as_slice().to_vec(alloc)?,
         })
     }
+}
+
+// Puts both lists last, or neither.
+fn append(numbers: &mut Vec<u64>, front: &[u64], back: &[u64]) -> Result<(), NoMemory>
+    ensures ok { OnOk result (numbers.new.items ≡ numbers.old.items ++ (front.now ++ back.now)) }
+    ensures err { OnErr result (numbers.new.items ≡ numbers.old.items) }
+{
+    let count = numbers.len();
+    numbers.extend_from_slice(front)?;
+    if numbers.extend_from_slice(back).is_err() {
+        numbers.truncate(count);
+        return Err(NoMemory);
+    }
+    Ok(())
 }
 
 // The list at a place, where each has so many numbers.

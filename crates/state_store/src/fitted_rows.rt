@@ -5,9 +5,9 @@ ghost use Rattle.state_store.specs.Fitted.{keep_answer, kept_row};
 ghost use Rattle.state_store.specs.Store.{rows_from};
 
 use crate::listing::Listing;
-use crate::object::Rows;
 use crate::packed_rows::{Kept, PackedRows};
 use crate::placed_rows::PlacedRows;
+use crate::rows::Rows;
 use gal_bits::Values;
 use gal_io::NoMemory;
 use std::alloc::Global;

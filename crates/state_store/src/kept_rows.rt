@@ -7,9 +7,9 @@ ghost use Rattle.state_store.specs.Store.{rows_from, zeros_from};
 
 use crate::fitted_rows::FittedRows;
 use crate::listing::Listing;
-use crate::object::Rows;
 use crate::packed_rows::{Kept, PackedRows};
 use crate::placed_rows::PlacedRows;
+use crate::rows::Rows;
 use crate::sorted_rows::{del_sorted, get_sorted, list_rows, place, put_sorted, store_at};
 use gal_bits::{Values, Widths};
 use gal_io::NoMemory;

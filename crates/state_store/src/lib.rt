@@ -12,6 +12,7 @@ mod packed_list;
 mod packed_rows;
 mod packing;
 mod placed_rows;
+mod rows;
 mod short_lists;
 mod sorted_rows;
 mod store;
@@ -19,5 +20,6 @@ mod stored;
 
 pub use laws::{rows_change_alone, rows_that_stay_are_never_full};
 pub use listing::Listing;
-pub use object::{Kind, ObjectDecl, Objects, Row, Rows};
+pub use object::{Kind, ObjectDecl, Objects, Row};
+pub use rows::Rows;
 pub use store::{Found, Put, Store};

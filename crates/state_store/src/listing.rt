@@ -1,8 +1,9 @@
 //! Rows in the order of their keys.
 ghost use Rattle.std.specs.Prelude.{◌≡◌, ◌==◌, length, slice_get};
 
-use crate::object::{Row, Rows};
+use crate::object::Row;
 use crate::packed_list::PackedList;
+use crate::rows::Rows;
 use std::marker::Model;
 
 /// The rows of an object as they were when it was listed, in rising order of their keys. A row of a map or of a table
@@ -68,10 +69,13 @@ impl Listing {
     {
         match &self.rows {
             Listed::Packed(rows) => rows.get(place),
-            Listed::Plain(rows) => match rows.as_slice().get(place) {
-                Some(row) => Some(*row),
-                None => None,
-            },
+            Listed::Plain(rows) => {
+                if place < rows.len() {
+                    Some(rows.at(place))
+                } else {
+                    None
+                }
+            }
         }
     }
 }

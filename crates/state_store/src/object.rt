@@ -2,6 +2,7 @@
 ghost use Rattle.std.specs.Prelude.{◌≡◌, ◌==◌, ◌++◌, ◌∷◌, [], length, IfOk, OnOk, OnErr};
 ghost use Rattle.state_store.specs.Kinds.{is_table, is_constant};
 
+use crate::rows::Rows;
 use gal_bits::{Values, Widths};
 use gal_io::{Bytes, NoMemory};
 use std::alloc::Global;
@@ -37,75 +38,6 @@ impl Kind {
 pub struct Row {
     pub keys: Values,
     pub values: Values,
-}
-
-/// A list of rows.
-#[derive(Debug, Drop)]
-pub struct Rows {
-    items: Vec<Row>,
-}
-
-impl Model for Rows {
-    ghost use Rattle.std.specs.Prelude.{List};
-    ghost use Rattle.state_store.specs.declared.object.Row.{Row};
-
-    ghost Value = { List Row };
-
-    ghost view = { λ rows. rows.items.items };
-}
-
-impl Rows {
-    pub fn new(alloc: Global) -> Rows
-        ensures { result ≡ [] }
-    {
-        Rows {
-            items: Vec::new(alloc),
-        }
-    }
-
-    /// No rows yet, with the memory for so many.
-    pub fn with_capacity(alloc: Global, rows: usize) -> Result<Rows, NoMemory>
-        ensures { IfOk result (λ made. made ≡ []) }
-    {
-        Ok(Rows {
-            items: Vec::with_capacity(alloc, rows)?,
-        })
-    }
-
-    pub fn as_slice(&self) -> &[Row]
-        ensures { result.now ≡ self.now }
-    {
-        self.items.as_slice()
-    }
-
-    pub fn len(&self) -> usize
-        ensures { result ≡ length self.now }
-    {
-        self.items.len()
-    }
-
-    pub fn is_empty(&self) -> bool
-        ensures { result ≡ (length self.now == 0) }
-    {
-        self.items.is_empty()
-    }
-
-    /// Puts a row last.
-    pub fn push(&mut self, row: Row) -> Result<(), NoMemory>
-        ensures ok { OnOk result (self.new ≡ self.old ++ row ∷ []) }
-        ensures err { OnErr result (self.new ≡ self.old) }
-    {
-        self.items.push(row)?;
-        Ok(())
-    }
-
-    /// The same rows again, in memory of their own.
-    pub fn copy(&self, alloc: Global) -> Result<Rows, NoMemory>
-        ensures { IfOk result (λ made. made ≡ self.now) }
-    {
-        let items = self.items.to_vec(alloc)?;
-        Ok(Rows { items })
-    }
 }
 
 /// A declared object.

@@ -3,8 +3,9 @@ ghost use Rattle.std.specs.Prelude.{◌≡◌, ◌≤◌, ◌<◌, ◌^◌, IfOk
 ghost use Rattle.state_store.specs.Listing.{HoldsRows, row_of_numbers, rows_of_numbers};
 ghost use Rattle.state_store.specs.Packing.{have_room};
 
-use crate::object::{Row, Rows};
+use crate::object::Row;
 use crate::packing::parts;
+use crate::rows::Rows;
 use gal_bits::Widths;
 use gal_io::NoMemory;
 use std::alloc::Global;
@@ -119,9 +120,10 @@ fn unpacked(
     requires { HoldsRows key_bits value_bits keys.now values.now numbers.now }
     ensures { IfOk result (λ made. made ≡ rows_of_numbers key_bits value_bits keys.now values.now numbers.now) }
 {
-    let mut rows = Rows::with_capacity(alloc, numbers.len())?;
+    let mut rows = Rows::with_capacity(alloc, keys.len(), values.len(), numbers.len())?;
     for pair in numbers {
-        rows.push(row(key_bits, value_bits, keys, values, *pair))?;
+        let row = row(key_bits, value_bits, keys, values, *pair);
+        rows.push_values(&row.keys, &row.values)?;
     }
     Ok(rows)
 }

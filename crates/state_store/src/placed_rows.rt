@@ -6,9 +6,10 @@ ghost use Rattle.state_store.specs.Fitted.{fits_row, keep_answer, kept_row};
 ghost use Rattle.state_store.specs.Store.{row_of, rows_from, zeros_from};
 
 use crate::even_lists::EvenLists;
-use crate::object::{Row, Rows};
+use crate::object::Row;
 use crate::packed_rows::Kept;
 use crate::packing::have_widths;
+use crate::rows::Rows;
 use crate::short_lists::{single, values_of};
 use gal_bits::{Values, Widths};
 use gal_io::NoMemory;
@@ -102,9 +103,9 @@ impl PlacedRows {
         ensures { IfOk result (λ made. made ≡ rows_from (map.entries self.now.contents)) }
     {
         let count = self.len();
-        let mut rows = Rows::with_capacity(alloc, count)?;
+        let mut rows = Rows::with_capacity(alloc, 1, self.values.len(), count)?;
         for place in 0..count {
-            rows.push(self.row(place))?;
+            rows.push_parts(&[place as u64], self.rows.at(place))?;
         }
         Ok(rows)
     }

@@ -6,7 +6,7 @@ ghost use Rattle.state_store.specs.Fitted.{is_full_at};
 ghost use Rattle.state_store.specs.Places.{IsPlaceOf, IsGapFor, IsSorted, map_of, with_entry, without_entry};
 ghost use Rattle.state_store.specs.Store.{rows_from};
 
-use crate::object::{Row, Rows};
+use crate::rows::Rows;
 use gal_bits::Values;
 use gal_io::NoMemory;
 use std::alloc::Global;
@@ -103,12 +103,14 @@ fn has_no_room(place: Result<usize, usize>, size: usize, rows: usize) -> bool
 pub fn list_rows(alloc: Global, entries: &[(Values, Values)]) -> Result<Rows, NoMemory>
     ensures { IfOk result (λ rows. rows ≡ rows_from entries.now) }
 {
-    let mut rows = Rows::with_capacity(alloc, entries.len())?;
+    let mut rows = match entries {
+        [] => Rows::new(alloc),
+        [(keys, values), ..] => {
+            Rows::with_capacity(alloc, keys.len(), values.len(), entries.len())?
+        }
+    };
     for (keys, values) in entries {
-        rows.push(Row {
-            keys: *keys,
-            values: *values,
-        })?;
+        rows.push_values(keys, values)?;
     }
     Ok(rows)
 }

@@ -5,7 +5,8 @@ ghost use Rattle.state_store.specs.Store.{object_at, with_object, start_store, l
 ghost use Rattle.state_store.specs.Store.{del_row, rows_of};
 
 use crate::listing::Listing;
-use crate::object::{Objects, Rows};
+use crate::object::Objects;
+use crate::rows::Rows;
 use crate::stored::StoredObject;
 use gal_bits::Values;
 use gal_io::NoMemory;

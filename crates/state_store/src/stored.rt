@@ -6,7 +6,8 @@ ghost use Rattle.state_store.specs.Store.{with_rows, zeros_from, is_out};
 
 use crate::kept_rows::KeptRows;
 use crate::listing::Listing;
-use crate::object::{Kind, ObjectDecl, Row, Rows};
+use crate::object::{Kind, ObjectDecl};
+use crate::rows::Rows;
 use crate::short_lists::{single, zeros};
 use crate::store::{Found, Put};
 use gal_bits::Values;
@@ -97,7 +98,7 @@ impl StoredObject {
             Kind::Map => StoredObject::new(alloc, object),
             Kind::Table => {
                 let mut made = StoredObject::new(alloc, object)?;
-                made.set_rows(object.rows.as_slice())?;
+                made.set_rows(&object.rows)?;
                 Ok(made)
             }
             Kind::Int => {
@@ -176,10 +177,11 @@ impl StoredObject {
     }
 
     // Stores each row, also beyond the object's size.
-    fn set_rows(&mut self, rows: &[Row]) -> Result<(), NoMemory>
+    fn set_rows(&mut self, rows: &Rows) -> Result<(), NoMemory>
         ensures { IfOk result (λ _. self.new ≡ record self.old { contents = with_rows rows.now self.old.contents }) }
     {
-        for row in rows {
+        for place in 0..rows.len() {
+            let row = rows.at(place);
             self.set(&row.keys, &row.values)?;
         }
         Ok(())

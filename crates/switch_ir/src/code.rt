@@ -121,7 +121,7 @@ pub struct Pass {
 }
 
 impl Pass {
-    /// Another one that does the same.
+    /// Another one that does the same in the same registers.
     pub fn copy(&self, alloc: Global) -> Result<Self, NoMemory>
         ensures same { IfOk result (λ made. pass_of made ≡ pass_of self.now) }
         ensures plan { IfOk result (λ made. made.plan ≡ self.now.plan) }
@@ -245,16 +245,23 @@ pub struct SwitchCode {
 impl SwitchCode {
     ghost use Rattle.switch_ir.specs.Code.{code_of};
 
-    /// Code that does the same, in memory of its own.
+    /// Code that does the same in the same registers, in memory of its own.
     pub fn copy(&self, alloc: Global) -> Result<Self, NoMemory>
-        ensures { IfOk result (λ made. code_of made ≡ code_of self.now) }
+        ensures same { IfOk result (λ made. code_of made ≡ code_of self.now) }
+        ensures pre_plan { IfOk result (λ made. made.pre.plan ≡ self.now.pre.plan) }
+        ensures post_plan { IfOk result (λ made. made.post.plan ≡ self.now.post.plan) }
     {
+        let pre = self.pre.copy(alloc)?;
+        let post = self.post.copy(alloc)?;
+        let up = self.up.copy(alloc)?;
+        let down = self.down.copy(alloc)?;
+        let tables = self.tables.copy(alloc)?;
         Ok(SwitchCode {
-            pre: self.pre.copy(alloc)?,
-            post: self.post.copy(alloc)?,
-            up: self.up.copy(alloc)?,
-            down: self.down.copy(alloc)?,
-            tables: self.tables.copy(alloc)?,
+            pre,
+            post,
+            up,
+            down,
+            tables,
             writeback: self.writeback,
             values: self.values,
         })

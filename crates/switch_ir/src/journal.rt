@@ -631,15 +631,6 @@ impl Journal {
         self.note(entry.call())
     }
 
-    /// Puts a call last that has no bytes, in memory that was taken before.
-    pub fn push_spare(&mut self, entry: Entry)
-        requires spare { 0 < self.old.spare }
-        requires bare { bytes_of entry ≡ [] }
-        ensures { self.new ≡ record { entries = self.old.entries ++ entry ∷ []; spare = self.old.spare - 1 } }
-    {
-        self.put(&entry.call());
-    }
-
     /// Puts a command last, in memory that was taken before, without a copy of it.
     #[inline]
     pub fn push_command(&mut self, command: &Command, end: CommandEnd)

@@ -2,8 +2,8 @@
 use Rattle.std.proofs.Common.{◌≡◌, ◌∙◌, ◌<◌, ◌+◌, ◌++◌, inl, inr, ℕ, zero, suc, false, List, [], ◌∷◌, length, map, get_or, refl, sym, ap, subst, arith}
 use Rattle.std.proofs.Math.ListN.{get_or-append}
 use Rattle.std.proofs.Math.Seq.{get_or-append_seam}
-use Rattle.std.proofs.lemmas.Bool.{cases_eq}
-use Rattle.std.proofs.lemmas.List.{length-append, length-map, map-append}
+use Rattle.std.proofs.lemmas.Bool.{cases_eq, cases_lt}
+use Rattle.std.proofs.lemmas.List.{get_or_past, length-append, length-map, map-append}
 use Rattle.std.specs.List.{AllByRecursion as Each}
 use Rattle.std.specs.Prelude.{slice_index}
 use Rattle.packet_fields.specs.declared.packet.Packet.{Packet}
@@ -17,7 +17,7 @@ use Rattle.switch_ir.specs.Sound.{CanStep}
 use Rattle.switch_machine.specs.declared.numbering.ValueRange.{ValueRange}
 use Rattle.switch_machine.specs.declared.ready.ReadyStep.{ReadyStep}
 use Rattle.switch_machine.specs.Numbers.{first_gives, first_values, gives, range_at, stage_gives}
-use Rattle.switch_machine.specs.Ready.{by_place, first_placed, place_in, place_name, placed_gives, places_in, ready_at, ready_gives, ready_of, resolved, AreReady, CanReady}
+use Rattle.switch_machine.specs.Ready.{by_place, first_placed, place_in, place_name, placed_gives, places_in, ready_at, ready_gives, ready_of, resolved, AreReady, CanAll, CanReady}
 use Rattle.switch_machine.specs.Staged.{stage_at, AreStages}
 use Rattle.flat_ir.specs.Renamed.{renamed_can, renamed_results}
 
@@ -112,3 +112,11 @@ module _ (ranges : List ValueRange) (plan : RegisterPlan) where
             ap (λ rs. ready_gives rs reads tables packet) (at t) ∙ resolved_gives (stage_at lists t) reads tables packet
             ∙ ap (by_place plan) (are.gives t le ranges (λ v. reads (place_name ranges plan v)) tables packet);
       }
+
+  -- each of them can be computed: past the last one there is nothing to compute
+  pub can_all : (steps : List Step) (highest : ℕ) (stages : List (List ReadyStep)) → AreReady ranges plan steps highest stages → Each CanStep steps
+      → CanAll stages
+  can_all steps highest stages ready can t = elim (cases_lt t (length stages)) [
+    | inl below ↦ ready.can can t (omega (arith, ready.count))
+    | inr past ↦ subst (λ (own : List ReadyStep). Each CanReady (map ready_of own)) (sym (get_or_past stages t [] past)) tt
+  ]

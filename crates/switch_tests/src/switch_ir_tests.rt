@@ -1,6 +1,6 @@
 //! Code of a switch, and for how long its values are needed, worked out by hand.
 use crate::samples::{chain, split_of};
-use flat_ir::{Flat, Spans};
+use flat_ir::{Flat, RegPlan, Spans};
 use gal_bits::Values;
 use gal_io::{Bytes, NoMemory};
 use packet_fields::Verdict;
@@ -158,13 +158,39 @@ fn all_but_the_last_cut_is_done_before_the_server(rt: HostRuntime) -> Result<(),
     Ok(())
 }
 
+// Whether so many values have the same registers by both plans.
+fn are_same_plans(one: &RegPlan, other: &RegPlan, values: u32) -> bool {
+    let mut all = one.count() == other.count();
+    for value in 0..values {
+        all = all && one.register(value) == other.register(value);
+    }
+    all
+}
+
+fn is_plan_copied(alloc: Global) -> Result<bool, Fail> {
+    let code = chain_code(alloc)?;
+    let plan = &code.post.plan;
+    let copy = plan.copy(alloc)?;
+    Ok(are_same_plans(&copy, plan, code.values))
+}
+
+#[test]
+fn a_copied_plan_gives_the_same_registers(rt: HostRuntime) -> Result<(), Fail> {
+    assert!(rt; is_plan_copied(rt.alloc())?, "of the pass after the server");
+    Ok(())
+}
+
 fn is_journal_kept(alloc: Global) -> Result<bool, NoMemory> {
     let mut journal = Journal::new(alloc);
     journal.reserve(1)?;
     journal.push(Entry::Load)?;
-    journal.push_spare(Entry::Room(1));
+    journal.push_command(&Command::Off, CommandEnd::Done);
     let entries = journal.entries(alloc)?;
-    Ok(matches!(entries.as_slice(), [Entry::Load, Entry::Room(1)]) && journal.spare() == 0)
+    let are_there = matches!(
+        entries.as_slice(),
+        [Entry::Load, Entry::Command(Command::Off, CommandEnd::Done)],
+    );
+    Ok(are_there && journal.spare() == 0)
 }
 
 fn two_values(first: u64, second: u64) -> Values {

@@ -82,10 +82,14 @@ Holds layout registers reads = Agree layout (value_in registers) (value_by reads
 abbrev pub IsRising : List Crossing → Type 0
 IsRising layout = AllPairs (λ a b. a.number < b.number) layout
 
+-- each value of a layout has a register
+abbrev pub AllHaveRegisters : List Crossing → Registers → Type 0
+AllHaveRegisters layout registers = All (λ c. HasRegister registers c.number) layout
+
 -- each value of a layout has a register, and no two have the same
 pub record FitsLayout (layout : List Crossing) (registers : Registers) : Type 0 where
   pub rising : IsRising layout
-  pub among : All (λ c. HasRegister registers c.number) layout
+  pub among : AllHaveRegisters layout registers
   pub apart : AllPairs (λ a b. place_of registers a.number ≢ place_of registers b.number) layout
 
 -- only the registers of a layout's values may have changed

@@ -7,7 +7,7 @@ ghost use Rattle.flat_ir.specs.Blocks.{Reading};
 ghost use Rattle.split_model.specs.declared.layout.Crossing.{Crossing};
 ghost use Rattle.transfer_header.specs.Bits.{bits_in, bytes_for, packed};
 ghost use Rattle.transfer_header.specs.Values.{total, value_bits, AreNarrow};
-ghost use Rattle.transfer_header.specs.Registers.{value_in, ChangesOnly, FitsLayout, Holds};
+ghost use Rattle.transfer_header.specs.Registers.{value_in, AllHaveRegisters, ChangesOnly, FitsLayout, Holds};
 ghost use Rattle.transfer_header.specs.Frames.{frame_of, up_frame, down_frame, HasRoom, IsFrame, IsFrameOf};
 ghost use Rattle.transfer_header.specs.Frames.{IsUnpacked, IsReadBack};
 
@@ -48,7 +48,7 @@ pub fn pack_up(
     values: &Regs,
     packet: &[u8],
 ) -> Result<Bytes, NoMemory>
-    requires fits { FitsLayout layout.now values.now }
+    requires fits { AllHaveRegisters layout.now values.now }
     requires short { length packet.now ≤ largest_packet }
     ensures bytes { IfOk result (λ made. made ≡ frame_of 1 layout.now number port (value_in values.now) packet.now) }
     ensures frame { AreNarrow layout.now (value_in values.now)
@@ -70,7 +70,7 @@ pub fn pack_down(
     values: &Regs,
     packet: &[u8],
 ) -> Result<Bytes, NoMemory>
-    requires fits { FitsLayout layout.now values.now }
+    requires fits { AllHaveRegisters layout.now values.now }
     requires short { length packet.now ≤ largest_packet }
     ensures bytes { IfOk result (λ made. made ≡ frame_of 2 layout.now number port (value_in values.now) packet.now) }
     ensures frame { AreNarrow layout.now (value_in values.now)
@@ -93,7 +93,7 @@ pub fn pack_down_in(
     values: &Regs,
     packet: &[u8],
 ) -> Vec<u8>
-    requires fits { FitsLayout layout.now values.now }
+    requires fits { AllHaveRegisters layout.now values.now }
     requires enough { HasRoom layout.now (length packet.now) room }
     requires short { length packet.now ≤ largest_packet }
     ensures bytes { result.items ≡ frame_of 2 layout.now number port (value_in values.now) packet.now }
@@ -141,7 +141,7 @@ fn pack(
     values: &Regs,
     packet: &[u8],
 ) -> Vec<u8>
-    requires fits { FitsLayout layout.now values.now }
+    requires fits { AllHaveRegisters layout.now values.now }
     requires enough { HasRoom layout.now (length packet.now) room }
     ensures { result.items ≡ frame_of kind layout.now number port (value_in values.now) packet.now }
 {
@@ -165,7 +165,7 @@ fn append(bytes: &mut Vec<u8>, more: &[u8])
 
 // The bytes that hold the values of a layout, behind others.
 fn pack_values(bytes: Vec<u8>, layout: &Layout, values: &Regs) -> Vec<u8>
-    requires fits { FitsLayout layout.now values.now }
+    requires fits { AllHaveRegisters layout.now values.now }
     requires enough { vec_len bytes + bytes_for (total layout.now) ≤ vec_capacity bytes }
     ensures items { result.items ≡ bytes.items ++ packed (value_bits layout.now (value_in values.now)) }
     ensures capacity { vec_capacity result ≡ vec_capacity bytes }

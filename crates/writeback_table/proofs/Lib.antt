@@ -5,4 +5,4 @@ pub mod Batches
 pub mod Histories
 pub mod Joins
 pub mod Rooms
-pub mod Trees
+pub mod Overlays

@@ -1,15 +1,32 @@
 //! A store of one object.
-ghost use Rattle.std.specs.Prelude.{◌≡◌, ◌∷◌, [], is_some, IfOk};
+ghost use Rattle.std.specs.Prelude.{◌≡◌, ◌∷◌, [], is_some, length, IfOk};
+ghost use Rattle.std.specs.FinMap as map;
 ghost use Rattle.state_store.specs.Store.{look, looked_up, put_answer, put_row, del_row, start_object, rows_of};
 
-use gal_bits::Values;
-use gal_io::NoMemory;
-use state_store::{Found, ObjectDecl, Objects, Put, Rows, Store};
+use gal_bits::{Values, Widths};
+use gal_io::{Bytes, NoMemory};
+use state_store::{Found, Kind, ObjectDecl, Objects, Put, Rows, Store};
 use std::alloc::Global;
 use std::marker::Model;
 
 // The number of the only object.
 const ONLY: u32 = 0;
+
+/// A map with room for so many rows, whose keys and values have these widths.
+pub fn map_of_widths(alloc: Global, keys: &Widths, values: &Widths, size: u32) -> ObjectDecl
+    ensures { start_object result
+        ≡ record { kind = Kind.Map; size = size; count = length values.now; contents = map.empty } }
+{
+    ObjectDecl {
+        name: Bytes::new(alloc),
+        kind: Kind::Map,
+        keys: *keys,
+        values: *values,
+        size,
+        start: 0,
+        rows: Rows::new(alloc),
+    }
+}
 
 /// One object with the memory for its size.
 #[derive(Debug, Drop)]

@@ -8,7 +8,7 @@ use crate::command::{Applied, Command, To, Update};
 use crate::one_object::OneObject;
 use crate::seen_rows::SeenRows;
 use crate::write_back::WriteBack;
-use gal_bits::Values;
+use gal_bits::{Values, Widths};
 use gal_io::NoMemory;
 use state_store::{Found, ObjectDecl, Put, Rows};
 use std::alloc::Global;
@@ -20,6 +20,8 @@ use std::marker::Model;
 pub struct Pair {
     main: OneObject,
     staged: WriteBack,
+    keys: Widths,
+    values: Widths,
     zeros: Values,
 }
 
@@ -49,6 +51,8 @@ impl Pair {
         Ok(Pair {
             main,
             staged,
+            keys: object.keys,
+            values: object.values,
             zeros: zeros(object.values.len()),
         })
     }
@@ -122,13 +126,15 @@ impl Pair {
         }
     }
 
-    #[tactic(auto, using(crate::proofs::Trees::all_again))]
+    #[tactic(auto, using(crate::proofs::Overlays::all_again))]
     fn rows_with_staged(&self, alloc: Global) -> Result<Rows, NoMemory>
         ensures { IfOk result (λ rows. rows ≡ spec.visible_rows true self.now) }
     {
         let main = self.main.rows(alloc)?;
-        let mut seen = SeenRows::new(alloc);
-        seen.put_all(main.as_slice())?;
+        let count = main.len().min(u32::MAX as usize) as u32;
+        let size = count.saturating_add(self.staged.room());
+        let mut seen = SeenRows::new(alloc, &self.keys, &self.values, size)?;
+        seen.put_all(&main)?;
         self.staged.write_over(alloc, &mut seen)?;
         let rows = seen.list(alloc)?;
         Ok(rows)

@@ -4,21 +4,20 @@ ghost use Rattle.std.specs.FinMap as map;
 ghost use Rattle.state_store.specs.Store.{rows_from, with_rows};
 ghost use Rattle.writeback_table.specs.Seen.{without_rows};
 
-use gal_bits::Values;
+use crate::one_object::{OneObject, map_of_widths};
+use gal_bits::{Values, Widths};
 use gal_io::NoMemory;
-use state_store::{Row, Rows};
+use state_store::{Put, Row, Rows};
 use std::alloc::Global;
-use std::collections::BTreeMap;
 use std::marker::Model;
 
-/// Rows by their keys.
+/// Rows by their keys, in a map with room for so many.
 #[derive(Drop)]
 pub struct SeenRows {
-    rows: BTreeMap<Values, Values>,
+    rows: OneObject,
 }
 
 impl Model for SeenRows {
-    ghost use Rattle.std.specs.FinMap as map;
     ghost use Rattle.state_store.specs.Codes.{contents_code};
     ghost use Rattle.state_store.specs.Store.{Contents};
 
@@ -26,61 +25,65 @@ impl Model for SeenRows {
 
     ghost coded = { contents_code };
 
-    ghost view = { λ seen. map.from_entries seen.rows.entries };
+    ghost view = { λ seen. seen.rows.contents };
 }
 
 impl SeenRows {
-    pub fn new(alloc: Global) -> SeenRows
-        ensures { result ≡ map.empty }
+    /// No rows, with the memory for so many whose keys and values have these widths.
+    pub fn new(
+        alloc: Global,
+        keys: &Widths,
+        values: &Widths,
+        size: u32,
+    ) -> Result<SeenRows, NoMemory>
+        ensures { IfOk result (λ made. made ≡ map.empty) }
     {
-        SeenRows {
-            rows: BTreeMap::new(alloc),
-        }
+        let declared = map_of_widths(alloc, keys, values, size);
+        Ok(SeenRows {
+            rows: OneObject::new(alloc, &declared)?,
+        })
     }
 
-    /// Puts each of these rows in, in the place of one with its key.
-    pub fn put_all(&mut self, rows: &[Row]) -> Result<(), NoMemory>
+    /// Puts each of these rows in, in the place of one with its key. Where there are more than the map has room for,
+    /// memory is lacking.
+    pub fn put_all(&mut self, rows: &Rows) -> Result<(), NoMemory>
         ensures { OnOk result (self.new ≡ with_rows rows.now self.old) }
     {
-        for row in rows {
-            self.put(row)?;
+        for place in 0..rows.len() {
+            self.put(&rows.at(place))?;
         }
         Ok(())
     }
 
     /// Removes the keys of these rows.
-    pub fn remove_all(&mut self, rows: &[Row])
+    pub fn remove_all(&mut self, rows: &Rows)
         ensures { self.new ≡ without_rows rows.now self.old }
     {
-        for row in rows {
-            self.remove(&row.keys);
+        for place in 0..rows.len() {
+            self.remove(&rows.at(place).keys);
         }
     }
 
+    #[tactic(auto, using(crate::proofs::Overlays::stored_put))]
     fn put(&mut self, row: &Row) -> Result<(), NoMemory>
         ensures { OnOk result (self.new ≡ map.insert self.old row.now.keys row.now.values) }
     {
-        self.rows.insert(row.keys, row.values)?;
-        Ok(())
+        match self.rows.put(&row.keys, &row.values) {
+            Put::Stored => Ok(()),
+            Put::Full | Put::OutOfRange => Err(NoMemory),
+        }
     }
 
     fn remove(&mut self, key: &Values)
         ensures { self.new ≡ map.remove self.old key.now }
     {
-        let _ = self.rows.remove(key);
+        self.rows.del(key);
     }
 
     /// The rows in rising order of their keys.
     pub fn list(&self, alloc: Global) -> Result<Rows, NoMemory>
         ensures { IfOk result (λ rows. rows ≡ rows_from (map.entries self.now)) }
     {
-        let mut rows = Rows::new(alloc);
-        for (keys, values) in self.rows.iter() {
-            rows.push(Row {
-                keys: *keys,
-                values: *values,
-            })?;
-        }
-        Ok(rows)
+        self.rows.rows(alloc)
     }
 }

@@ -1,17 +1,16 @@
 //! The write-back table of one object.
-ghost use Rattle.std.specs.Prelude.{◌≡◌, ◌<◌, ◌-◌, ◌^◌, false, length, IfOk, OnOk, if◌then◌else◌};
+ghost use Rattle.std.specs.Prelude.{◌≡◌, ◌<◌, ◌-◌, ◌^◌, false, IfOk, OnOk, if◌then◌else◌};
 ghost use Rattle.std.specs.FinMap as map;
-ghost use Rattle.state_store.specs.Store.{start_object};
 ghost use Rattle.writeback_table.specs.Pair.{can_stage, values_of, with_change, with_staged};
 ghost use Rattle.writeback_table.specs.Staging.{joined, IsCounted, values_then, gone_then};
 ghost use Rattle.writeback_table.specs.Staging as rows;
 
 use crate::command::{Applied, To, Update};
-use crate::one_object::OneObject;
+use crate::one_object::{OneObject, map_of_widths};
 use crate::seen_rows::SeenRows;
 use gal_bits::Values;
-use gal_io::{Bytes, NoMemory};
-use state_store::{Kind, ObjectDecl, Rows};
+use gal_io::NoMemory;
+use state_store::ObjectDecl;
 use std::alloc::Global;
 use std::marker::Model;
 
@@ -39,28 +38,12 @@ impl Model for WriteBack {
     ghost invariant = { λ t. IsCounted t.values t.gone t.count t.room };
 }
 
-// A map of this size for rows like those of an object.
-fn staging(object: &ObjectDecl, alloc: Global, size: u32) -> ObjectDecl
-    ensures { start_object result
-        ≡ record { kind = Kind.Map; size = size; count = length object.now.values; contents = map.empty } }
-{
-    ObjectDecl {
-        name: Bytes::new(alloc),
-        kind: Kind::Map,
-        keys: object.keys,
-        values: object.values,
-        size,
-        start: 0,
-        rows: Rows::new(alloc),
-    }
-}
-
 impl WriteBack {
     /// No rows, with the memory for so many.
     pub fn new(alloc: Global, object: &ObjectDecl, room: u32) -> Result<WriteBack, NoMemory>
         ensures { IfOk result (λ made. made ≡ record { rows = map.empty; room = room }) }
     {
-        let rows = staging(object, alloc, room);
+        let rows = map_of_widths(alloc, &object.keys, &object.values, room);
         let values = OneObject::new(alloc, &rows)?;
         let gone = OneObject::new(alloc, &rows)?;
         Ok(WriteBack {
@@ -69,6 +52,13 @@ impl WriteBack {
             count: 0,
             room,
         })
+    }
+
+    /// How many rows may be staged.
+    pub fn room(&self) -> u32
+        ensures { result ≡ self.now.room }
+    {
+        self.room
     }
 
     /// What is staged under a key, if anything is.
@@ -108,14 +98,14 @@ impl WriteBack {
     }
 
     /// Writes what is staged over the rows of a table.
-    #[tactic(auto, using(crate::proofs::Trees::written_over))]
+    #[tactic(auto, using(crate::proofs::Overlays::written_over))]
     pub fn write_over(&self, alloc: Global, rows: &mut SeenRows) -> Result<(), NoMemory>
         ensures { OnOk result (rows.new ≡ with_staged (map.entries self.now.rows) rows.old) }
     {
         let gone = self.gone.rows(alloc)?;
-        rows.remove_all(gone.as_slice());
+        rows.remove_all(&gone);
         let values = self.values.rows(alloc)?;
-        rows.put_all(values.as_slice())?;
+        rows.put_all(&values)?;
         Ok(())
     }
 

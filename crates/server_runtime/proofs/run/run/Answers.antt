@@ -2,7 +2,7 @@ use Rattle.std.proofs.Common.{refl, sym, ap, ◌∙◌, subst, arith}
 use Rattle.flat_ir.specs.Program.{program_of}
 use Rattle.flat_ir.specs.Registers.{packet_of}
 use Rattle.transfer_header.specs.Frames.{down_frame, frame_of}
-use Rattle.transfer_header.specs.Registers.{value_in, FitsLayout, Holds}
+use Rattle.transfer_header.specs.Registers.{value_in, AllHaveRegisters, Holds}
 use Rattle.transfer_header.specs.Values.{value_by}
 use Rattle.server_runtime.specs.Registers.{handed}
 use Rattle.server_runtime.specs.Turns.{sent_by}
@@ -17,10 +17,10 @@ pack_down_in-frame-requires-clause-fits c =
     let packet = packet_of c.args.arrival.now in
     let up = handed f whole.split c.args.values.now in
     let registers = c.take_turns.new.values in
-    subst (λ l. FitsLayout l registers) (sym c.requires.prepared.down)
-    (c.a_server_run_has_an_outcome.ensures.fits f whole.split up c.args.store.now packet registers c.take_turns.new.store
+    let fits = c.a_server_run_has_an_outcome.ensures.fits f whole.split up c.args.store.now packet registers c.take_turns.new.store
     c.take_turns.new.updates.items (begun_of whole up c.args.store.now packet c.requires.prepared c.requires.kept c.requires.fit c.requires.arrives)
-    c.take_turns.ensures.run)
+    c.take_turns.ensures.run in
+    subst (λ l. AllHaveRegisters l registers) (sym c.requires.prepared.down) fits.among
 
 pub set_fields-down-requires-clause-within : goal.set_fields-down-requires-clause-within
 set_fields-down-requires-clause-within c =

@@ -14,8 +14,9 @@ pub pack_up-requires-clause-fits : goal.pack_up-requires-clause-fits
 pack_up-requires-clause-fits c =
     let l = c.args.self.now in
     let code = code_of c.args.code.now in
-    fits_on l.side code l.numbering l.registers (reads_by l.numbering (content_of l.registers)) (ready_for code l l.registers c.requires.pass refl)
-    (sym c.requires.leaves ∙ c.if-leaves.true) (λ ready. c.what_crosses_fits.ensures.up code l.numbering l.registers ready)
+    let fits = fits_on l.side code l.numbering l.registers (reads_by l.numbering (content_of l.registers)) (ready_for code l l.registers c.requires.pass refl)
+    (sym c.requires.leaves ∙ c.if-leaves.true) (λ ready. c.what_crosses_fits.ensures.up code l.numbering l.registers ready) in
+    fits.among
 
 pub returns-then-leaves-clause-side : goal.returns-then-leaves-clause-side
 returns-then-leaves-clause-side c =

@@ -1,19 +1,15 @@
--- Rows in a tree, and the rows of several tables over one another.
+-- The rows of several tables over one another.
 use Rattle.std.proofs.Common.{◌≡◌, ℕ, Bool, true, false, cond, List, [], ◌∷◌, Option, Some, None, is_some, refl, sym, ap, subst, ◌∙◌}
 use Rattle.std.specs.Prelude.{T, ◌&&◌}
 use Rattle.std.specs.Ordering.{is_eq, is_lt, eq_by_cmp}
-use Rattle.std.specs.Cmp.{IsTotalOrder, eq_by_cmp_equiv}
 use Rattle.std.specs.declared.cmp.Ordering.{Ordering}
 use Rattle.std.specs.declared.cmp.Ordering.TheVariants.{Less, Equal, Greater}
-use Rattle.std.specs.BTreeMap.{is_at}
-use Rattle.std.specs.Map.{lookup, keys_of}
-use Rattle.std.specs.List.{AllByRecursion}
-use Rattle.std.specs.List.Sorted.{IsStrictlySortedBy}
 use Rattle.std.specs.FinMap.{find, is_sorted, get, insert, remove, empty, entries, entries_sorted, from_entries, from_sorted, get-empty, get-entries, get-from_entries, get-from_sorted, get-insert, get-remove, entries-from_sorted, same_map}
 use Rattle.std.specs.FinMap.Entries.{below_all}
 use Rattle.std.proofs.lemmas.Cmp.{nat_list_cmp_total}
 use Rattle.std.proofs.lemmas.Map.Lookups.{exact_bytes}
-use Rattle.state_store.specs.Store.{Contents, key_cmp, rows_from, with_rows}
+use Rattle.state_store.specs.Store.{Contents, Object, key_cmp, is_full, is_out, put_answer, put_row, rows_from, with_rows}
+use Rattle.state_store.specs.declared.store.Put.TheVariants.{Stored, Full, OutOfRange}
 use Rattle.state_store.specs.declared.object.Row.{Row}
 use Rattle.writeback_table.specs.Pair.{Staged, with_staged}
 use Rattle.writeback_table.specs.Seen.{without_rows}
@@ -21,50 +17,18 @@ use Rattle.writeback_table.specs.Staging.{joined}
 use Rattle.writeback_table.proofs.Slots.{over, get_with_staged}
 use Rattle.writeback_table.proofs.Joins.{both, get_joined}
 
-abbrev pub Entries : Type 0
+abbrev Entries : Type 0
 Entries = List (List ℕ × List ℕ)
 
--- ---- the tree as a finite map
--- the row at a key
-abbrev pub row_at : Entries → List ℕ → Option (List ℕ)
-row_at es q = lookup (is_at (key_cmp q)) es
-
-find_row : (es : Entries) (q : List ℕ) → find key_cmp q es ≡ row_at es q
-find_row [] q = refl
-find_row (e ∷ es) q = ap (cond (is_at (key_cmp q) e.0) (Some e.1)) (find_row es q)
-
-get_row : (es : Entries) (q : List ℕ) → get (from_entries {R = key_cmp} es) q ≡ row_at es q
-get_row es q = get-from_entries nat_list_cmp_total es q ∙ find_row es q
-
-pub one_put : (es fs : Entries) (k v : List ℕ) → ((q : List ℕ) → row_at fs q ≡ cond (is_at (key_cmp k) q) (Some v) (row_at es q)) → from_entries {R = key_cmp} fs ≡ insert (from_entries es) k v
-one_put es fs k v h = same_map nat_list_cmp_total exact_bytes _ _ (λ q.
-    get_row fs q ∙ h q ∙ ap (λ b. cond b (Some v) (row_at es q)) ((eq_by_cmp_equiv nat_list_cmp_total).symm k q)
-    ∙ sym (get-insert nat_list_cmp_total (from_entries es) k v q ∙ ap (cond (is_at (key_cmp q) k) (Some v)) (get_row es q)))
-
-pub one_gone : (es fs : Entries) (k : List ℕ) → ((q : List ℕ) → row_at fs q ≡ cond (is_at (key_cmp k) q) None (row_at es q)) → from_entries {R = key_cmp} fs ≡ remove (from_entries es) k
-one_gone es fs k h = same_map nat_list_cmp_total exact_bytes _ _ (λ q.
-    get_row fs q ∙ h q ∙ ap (λ b. cond b None (row_at es q)) ((eq_by_cmp_equiv nat_list_cmp_total).symm k q)
-    ∙ sym (get-remove nat_list_cmp_total (from_entries es) k q ∙ ap (cond (is_at (key_cmp q) k) None) (get_row es q)))
-
--- what a tree lists is in order already
-below_by : (k : List ℕ) (es : Entries) → AllByRecursion (λ y. key_cmp k y ≡ Less) (keys_of es) → T (below_all key_cmp k es)
-below_by k [] h = tt
-below_by k (e ∷ es) h = subst (λ r. T (is_lt r && below_all key_cmp k es)) (sym h.0) (below_by k es h.1)
-
-rising : (es : Entries) → IsStrictlySortedBy key_cmp (keys_of es) → T (is_sorted key_cmp es)
-unfolding IsStrictlySortedBy
-rising [] h = tt
-rising (e ∷ es) h = both_hold _ _ (below_by e.0 es h.0) (rising es h.1)
+-- ---- one row put in
+pub stored_put : (o : Object) (k v : List ℕ) → put_answer o k ≡ Stored → (put_row o k v).contents ≡ insert o.contents k v
+stored_put o k v e = go (is_out o.kind o.size k) (is_full o k) e
   where
-    both_hold : (a b : Bool) → T a → T b → T (a && b)
-    both_hold true b p q = q
-    both_hold false b p q = p
-
-pub listed : (es : Entries) → IsStrictlySortedBy key_cmp (keys_of es) → entries (from_entries {R = key_cmp} es) ≡ es
-listed es h =
-    let up = rising es h in
-    let same : from_entries {R = key_cmp} es ≡ from_sorted es = same_map nat_list_cmp_total exact_bytes _ _ (λ q. get-from_entries nat_list_cmp_total es q ∙ sym (get-from_sorted key_cmp es q up)) in
-    ap entries same ∙ entries-from_sorted key_cmp es up
+    go : (a b : Bool) → cond a OutOfRange (cond b Full Stored) ≡ Stored
+        → (cond a o (cond b o (record o { contents = insert o.contents k v }))).contents ≡ insert o.contents k v
+    go true b h = absurd (cc)
+    go false true h = absurd (cc)
+    go false false h = refl
 
 -- ---- rows put over a table, and taken out of it
 abbrev first_of_two : Option (List ℕ) → Option (List ℕ) → Option (List ℕ)
