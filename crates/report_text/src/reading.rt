@@ -120,7 +120,7 @@ fn follows(rows: &Rows, key: &Values) -> bool
         return true;
     }
     let (last, _) = rows.parts_at(rows.len() - 1);
-    last < key.as_slice()
+    last.cmp(key.as_slice()).is_lt()
 }
 
 impl Reading {

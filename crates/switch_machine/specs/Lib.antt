@@ -2,7 +2,6 @@ pub mod Calls
 pub mod Codes
 pub mod Counts
 pub mod Flights
-pub mod Giving
 pub mod Keeping
 pub mod Kept
 pub mod Live

@@ -62,7 +62,8 @@ impl Loaded {
             shape: Shape::of(packet),
         };
         let code = &self.code;
-        self.before.begin(alloc, code, tables, number, &arrival, whole)
+        self.before
+            .begin(alloc, code, tables, number, &arrival, whole)
     }
 
     /// A frame comes down, and the pass over its packet begins, or goes to its end at once where it is to be `whole`. This
@@ -98,7 +99,9 @@ impl Loaded {
         };
         self.behind.give(alloc, code, &self.given, &arrival);
         let number = head.number;
-        let outcome = self.behind.begin(alloc, code, tables, number, &arrival, whole)?;
+        let outcome = self
+            .behind
+            .begin(alloc, code, tables, number, &arrival, whole)?;
         Ok((number, outcome))
     }
 
@@ -180,13 +183,7 @@ impl LoadedPass {
     }
 
     // Puts the consts and fields that postprocessing is given into their registers.
-    fn give(
-        &mut self,
-        alloc: Global,
-        code: &SwitchCode,
-        given: &ReadyStages,
-        arrival: &Arrival<'_>,
-    )
+    fn give(&mut self, alloc: Global, code: &SwitchCode, given: &ReadyStages, arrival: &Arrival<'_>)
         requires size { length arrival.now.bytes.now ≤ largest_packet }
         requires shape { arrival.now.shape ≡ shape_of arrival.now.bytes.now }
         requires pass { IsPassOf (code_of code.now) self.old }

@@ -75,11 +75,11 @@ impl Flight {
         requires shape { self.old.shape ≡ shape_of self.old.packet }
         requires room { HoldResults stages.now (vec_capacity results.old) }
         ensures steps { self.new ≡ record self.old {
-              stage = suc self.old.stage;
-              registers = all_placed self.old.registers
-                  (ready_gives (ready_at stages.now (suc self.old.stage)) (reads_at self.old.registers.numbers)
-                  (view_of self.old.bit tables.now.pairs) (packet_in self.old));
-            } }
+          stage = suc self.old.stage;
+          registers = all_placed self.old.registers
+              (ready_gives (ready_at stages.now (suc self.old.stage)) (reads_at self.old.registers.numbers)
+              (view_of self.old.bit tables.now.pairs) (packet_in self.old));
+        } }
         ensures capacity { vec_capacity results.new ≡ vec_capacity results.old }
     {
         let view = View {

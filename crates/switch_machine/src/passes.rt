@@ -1,15 +1,14 @@
 //! How a pass is computed in registers that are read and written by place.
-ghost use Rattle.std.specs.Prelude.{◌≡◌, ℕ, ◌+◌, ◌≤◌, ◌<◌, ◌^◌, ◌++◌, [], false, length, map, slice_index};
+ghost use Rattle.std.specs.Prelude.{◌≡◌, ℕ, ◌+◌, ◌≤◌, ◌<◌, ◌^◌, ◌++◌, ◌∷◌, [], false, length, map, slice_index};
 ghost use Rattle.std.specs.Prelude.{vec_capacity, vec_len};
 ghost use Rattle.std.specs.List.{AllByRecursion as Each};
 ghost use Rattle.packet_fields.specs.Shape.{shape_of};
 ghost use Rattle.packet_fields.specs.Sizes.{largest_packet};
 ghost use Rattle.flat_ir.specs.Operands.{CanRun};
 ghost use Rattle.flat_ir.specs.Program.{work_of};
-ghost use Rattle.flat_ir.specs.Registers.{packet_of};
+ghost use Rattle.flat_ir.specs.Registers.{packet_of, results_of};
 ghost use Rattle.flat_ir.specs.Run.{results};
 ghost use Rattle.transfer_header.specs.Registers.{ArePlaced};
-ghost use Rattle.switch_machine.specs.Giving.{given_of};
 ghost use Rattle.switch_machine.specs.Ready.{all_placed, only_numbers, paired, placed_at, placed_gives, places_of, reads_at, ready_at, ready_gives};
 ghost use Rattle.switch_machine.specs.Ready.{ready_of, targets_of, CanReady, HoldResults, IsDirect};
 
@@ -38,6 +37,22 @@ impl Numbers for Placed<'_> {
     }
 }
 
+// The numbers that stand in registers, read by place.
+#[derive(Clone, Copy)]
+struct Standing<'a> {
+    registers: &'a Regs,
+}
+
+impl Numbers for Standing<'_> {
+    ghost reads = { λ numbers. reads_at numbers.registers.now.numbers };
+
+    fn number(&self, value: ValueId) -> u64 {
+        let place = value.instruction as usize;
+        let items = self.registers.as_slice();
+        if place < items.len() { items[place] } else { 0 }
+    }
+}
+
 /// There are fewer than 2^32 registers, and each value that has one has a number.
 pub(crate) fn are_few(registers: &Regs)
     ensures few { length registers.now.numbers < 2 ^ 32 }
@@ -47,88 +62,175 @@ pub(crate) fn are_few(registers: &Regs)
     let _ = registers.len();
 }
 
-// What an instruction gives: a number, or what a look found.
-#[derive(Clone, Copy)]
-enum Given {
-    Number(u64),
-    Row(Results),
-}
-
-impl Given {
-    // The result at a place, 0 past the end.
-    fn at(&self, place: usize) -> u64
-        ensures { result ≡ slice_index (given_of self.now) place }
-    {
-        match self {
-            Given::Number(number) if place == 0 => *number,
-            Given::Number(_) => 0,
-            Given::Row(row) if place == 0 => row.first,
-            Given::Row(row) if place <= row.others.len() => row.others.at(place - 1),
-            Given::Row(_) => 0,
-        }
-    }
-}
-
-// Computes an instruction from numbers that are given.
-fn compute<L: Lookup, G: Numbers>(
-    step: &ReadyStep,
-    numbers: &G,
-    tables: &L,
-    arrival: &Arrival<'_>,
-) -> Given
-    requires can { CanRun (work_of step.now.kind) }
-    requires size { length arrival.now.bytes.now ≤ largest_packet }
-    requires shape { arrival.now.shape ≡ shape_of arrival.now.bytes.now }
-    ensures { given_of result
-        ≡ results (G.reads numbers.now) false (L.seen tables.now) (packet_of arrival.now) (work_of step.now.kind) }
+// The result at a place, 0 past the end.
+fn result_at(row: &Results, place: usize) -> u64
+    ensures { result ≡ slice_index (results_of row.now) place }
 {
-    match &step.kind {
-        InstrKind::Look { object, keys } => Given::Row(look(tables, numbers, *object, keys)),
-        kind => Given::Number(given_number(arrival, numbers, kind)),
+    if place == 0 {
+        row.first
+    } else if place <= row.others.len() {
+        row.others.at(place - 1)
+    } else {
+        0
     }
 }
 
-// Puts what an instruction gave into the registers of its results.
-fn put(places: &Places, given: &Given, registers: &mut Regs)
-    ensures { registers.new ≡ all_placed registers.old (placed_gives (places_of places.now) (given_of given.now)) }
-{
-    match places {
-        Places::One(place) => registers.set_at(*place, given.at(0)),
-        Places::Many(list) => put_list(list.as_slice(), given, registers),
-    }
-}
-
-fn put_list(places: &[u32], given: &Given, registers: &mut Regs)
-    ensures { registers.new ≡ all_placed registers.old (placed_gives places.now (given_of given.now)) }
+// Puts a row of results into the register at each of some places.
+fn put_list(places: &[u32], row: &Results, registers: &mut Regs)
+    ensures { registers.new ≡ all_placed registers.old (placed_gives places.now (results_of row.now)) }
 {
     for index in 0..places.len() {
-        registers.set_at(places[index], given.at(index));
+        registers.set_at(places[index], result_at(row, index));
     }
 }
 
-// Puts what an instruction gave behind other results, in memory that was taken before.
-fn push(places: &Places, given: &Given, results: &mut Vec<u64>)
-    requires { vec_len results.old + length (places_of places.now) ≤ vec_capacity results.old }
-    ensures items { results.new.items
-        ≡ results.old.items ++ only_numbers (placed_gives (places_of places.now) (given_of given.now)) }
-    ensures len { vec_len results.new ≡ vec_len results.old + length (places_of places.now) }
-    ensures capacity { vec_capacity results.new ≡ vec_capacity results.old }
-{
-    match places {
-        Places::One(_) => results.push_reserved(given.at(0)),
-        Places::Many(list) => push_list(list.as_slice(), given, results),
-    }
-}
-
-fn push_list(places: &[u32], given: &Given, results: &mut Vec<u64>)
+// Puts a row of results behind other results, in memory that was taken before.
+fn push_list(places: &[u32], row: &Results, results: &mut Vec<u64>)
     requires { vec_len results.old + length places.now ≤ vec_capacity results.old }
     ensures items { results.new.items
-        ≡ results.old.items ++ only_numbers (placed_gives places.now (given_of given.now)) }
+        ≡ results.old.items ++ only_numbers (placed_gives places.now (results_of row.now)) }
     ensures len { vec_len results.new ≡ vec_len results.old + length places.now }
     ensures capacity { vec_capacity results.new ≡ vec_capacity results.old }
 {
     for index in 0..places.len() {
-        results.push_reserved(given.at(index));
+        results.push_reserved(result_at(row, index));
+    }
+}
+
+impl Places {
+    // Puts the only result of an instruction into its register.
+    #[inline]
+    fn put_number(&self, number: u64, registers: &mut Regs)
+        ensures { registers.new ≡ all_placed registers.old (placed_gives (places_of self.now) (number ∷ [])) }
+    {
+        match self {
+            Places::One(place) => registers.set_at(*place, number),
+            Places::Many(list) => put_list(list.as_slice(), &Results::one(number), registers),
+        }
+    }
+
+    // Puts what a look gave into registers.
+    fn put_row(&self, row: &Results, registers: &mut Regs)
+        ensures { registers.new
+            ≡ all_placed registers.old (placed_gives (places_of self.now) (results_of row.now)) }
+    {
+        match self {
+            Places::One(place) => registers.set_at(*place, row.first),
+            Places::Many(list) => put_list(list.as_slice(), row, registers),
+        }
+    }
+
+    // Puts the only result of an instruction behind other results, in memory that was taken before.
+    #[inline]
+    fn push_number(&self, number: u64, results: &mut Vec<u64>)
+        requires { vec_len results.old + length (places_of self.now) ≤ vec_capacity results.old }
+        ensures items { results.new.items
+            ≡ results.old.items ++ only_numbers (placed_gives (places_of self.now) (number ∷ [])) }
+        ensures len { vec_len results.new ≡ vec_len results.old + length (places_of self.now) }
+        ensures capacity { vec_capacity results.new ≡ vec_capacity results.old }
+    {
+        match self {
+            Places::One(_) => results.push_reserved(number),
+            Places::Many(list) => push_list(list.as_slice(), &Results::one(number), results),
+        }
+    }
+
+    // Puts what a look gave behind other results, in memory that was taken before.
+    fn push_row(&self, row: &Results, results: &mut Vec<u64>)
+        requires { vec_len results.old + length (places_of self.now) ≤ vec_capacity results.old }
+        ensures items { results.new.items
+            ≡ results.old.items ++ only_numbers (placed_gives (places_of self.now) (results_of row.now)) }
+        ensures len { vec_len results.new ≡ vec_len results.old + length (places_of self.now) }
+        ensures capacity { vec_capacity results.new ≡ vec_capacity results.old }
+    {
+        match self {
+            Places::One(_) => results.push_reserved(row.first),
+            Places::Many(list) => push_list(list.as_slice(), row, results),
+        }
+    }
+}
+
+impl ReadyStep {
+    // Computes the instruction from numbers that are given, and puts its results into registers.
+    fn run<L: Lookup, G: Numbers>(
+        &self,
+        numbers: &G,
+        tables: &L,
+        arrival: &Arrival<'_>,
+        registers: &mut Regs,
+    )
+        requires can { CanRun (work_of self.now.kind) }
+        requires size { length arrival.now.bytes.now ≤ largest_packet }
+        requires shape { arrival.now.shape ≡ shape_of arrival.now.bytes.now }
+        ensures { registers.new ≡ all_placed registers.old (placed_gives (places_of self.now.places)
+            (results (G.reads numbers.now) false (L.seen tables.now) (packet_of arrival.now)
+            (work_of self.now.kind))) }
+    {
+        match &self.kind {
+            InstrKind::Look { object, keys } => {
+                let row = look(tables, numbers, *object, keys);
+                self.places.put_row(&row, registers);
+            }
+            kind => {
+                let number = given_number(arrival, numbers, kind);
+                self.places.put_number(number, registers);
+            }
+        }
+    }
+
+    // Computes the instruction from the numbers in registers, and puts its results there.
+    #[inline]
+    fn run_directly<L: Lookup>(&self, tables: &L, arrival: &Arrival<'_>, registers: &mut Regs)
+        requires can { CanRun (work_of self.now.kind) }
+        requires size { length arrival.now.bytes.now ≤ largest_packet }
+        requires shape { arrival.now.shape ≡ shape_of arrival.now.bytes.now }
+        ensures { registers.new ≡ all_placed registers.old (placed_gives (places_of self.now.places)
+            (results (reads_at registers.old.numbers) false (L.seen tables.now) (packet_of arrival.now)
+            (work_of self.now.kind))) }
+    {
+        let numbers = Standing { registers };
+        match &self.kind {
+            InstrKind::Look { object, keys } => {
+                let row = look(tables, &numbers, *object, keys);
+                self.places.put_row(&row, registers);
+            }
+            kind => {
+                let number = given_number(arrival, &numbers, kind);
+                self.places.put_number(number, registers);
+            }
+        }
+    }
+
+    // Computes the instruction from numbers that are given, and puts its results behind others, in memory that was
+    // taken before.
+    #[inline]
+    fn collect<L: Lookup, G: Numbers>(
+        &self,
+        numbers: &G,
+        tables: &L,
+        arrival: &Arrival<'_>,
+        waiting: &mut Vec<u64>,
+    )
+        requires can { CanRun (work_of self.now.kind) }
+        requires size { length arrival.now.bytes.now ≤ largest_packet }
+        requires shape { arrival.now.shape ≡ shape_of arrival.now.bytes.now }
+        requires room { vec_len waiting.old + length (places_of self.now.places) ≤ vec_capacity waiting.old }
+        ensures items { waiting.new.items ≡ waiting.old.items ++ only_numbers (placed_gives (places_of self.now.places)
+            (results (G.reads numbers.now) false (L.seen tables.now) (packet_of arrival.now)
+            (work_of self.now.kind))) }
+        ensures len { vec_len waiting.new ≡ vec_len waiting.old + length (places_of self.now.places) }
+        ensures capacity { vec_capacity waiting.new ≡ vec_capacity waiting.old }
+    {
+        match &self.kind {
+            InstrKind::Look { object, keys } => {
+                let row = look(tables, numbers, *object, keys);
+                self.places.push_row(&row, waiting);
+            }
+            kind => {
+                let number = given_number(arrival, numbers, kind);
+                self.places.push_number(number, waiting);
+            }
+        }
     }
 }
 
@@ -147,8 +249,7 @@ pub(crate) fn run_steps<L: Lookup, G: Numbers>(
         (G.reads numbers.now) (L.seen tables.now) (packet_of arrival.now)) }
 {
     for step in steps {
-        let given = compute(step, numbers, tables, arrival);
-        put(&step.places, &given, registers);
+        step.run(numbers, tables, arrival, registers);
     }
 }
 
@@ -169,11 +270,7 @@ fn run_directly<L: Lookup>(
 {
     readings_that_agree();
     for step in steps {
-        let numbers = Placed {
-            items: registers.as_slice(),
-        };
-        let given = compute(step, &numbers, tables, arrival);
-        put(&step.places, &given, registers);
+        step.run_directly(tables, arrival, registers);
     }
 }
 
@@ -196,8 +293,7 @@ fn collect<L: Lookup, G: Numbers>(
 {
     results.clear();
     for step in steps {
-        let given = compute(step, numbers, tables, arrival);
-        push(&step.places, &given, results);
+        step.collect(numbers, tables, arrival, results);
     }
 }
 

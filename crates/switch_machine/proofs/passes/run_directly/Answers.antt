@@ -1,14 +1,12 @@
-use Rattle.std.proofs.Common.{◌∙◌, ap, false, map, List, ℕ}
-use Rattle.flat_ir.specs.Program.{work_of}
+use Rattle.std.proofs.Common.{false, map}
 use Rattle.flat_ir.specs.Registers.{packet_of}
-use Rattle.flat_ir.specs.Run.{results}
-use Rattle.switch_machine.specs.Ready.{all_placed, placed_gives, places_of, reads_at, ready_gives, ready_of}
+use Rattle.switch_machine.specs.Ready.{all_placed, reads_at, ready_gives, ready_of}
 use Rattle.switch_machine.proofs.PlacedSteps.{ready_can}
 use Rattle.switch_machine.proofs.Waiting.{direct_all, direct_first, direct_more}
 use Rattle.switch_machine.proofs.passes.run_directly.Goals as goal
 
-pub compute-given-requires-clause-can : goal.compute-given-requires-clause-can
-compute-given-requires-clause-can g c =
+pub run_directly-requires-clause-can : goal.run_directly-requires-clause-can
+run_directly-requires-clause-can g c =
     ready_can c.args.steps.now c.loop-step.step-index c.step-item.result c.requires.can c.loop-step-test.true c.step-item.is
 
 pub loop-step-init : goal.loop-step-init
@@ -24,12 +22,9 @@ loop-step-preserved g c =
     let step = c.step-item.result in
     direct_more tables packet
     (λ r r' work each. c.readings_that_agree.ensures.results r r' false tables packet work (c.readings_that_agree.ensures.operands r r' work each))
-    c.args.steps.now c.loop-step.step-index step start before c.put.new.registers
+    c.args.steps.now c.loop-step.step-index step start before c.run_directly.new.registers
     (all_placed start (ready_gives (map ready_of c.args.steps.now) (reads_at start.numbers) tables packet)) c.loop-step-test.true c.step-item.is
-    c.loop-step.invariant
-    (c.put.ensures
-    ∙ ap (λ ns. all_placed before (placed_gives (places_of step.places) ns))
-    (c.compute-given.ensures ∙ ap (λ (ns : List ℕ). results (reads_at ns) false tables packet (work_of step.kind)) c.as_slice.ensures.numbers))
+    c.loop-step.invariant c.run_directly.ensures
 
 pub returns : goal.returns
 returns g c =

@@ -15,7 +15,6 @@ use Rattle.switch_machine.specs.Ready.{AreReady}
 use Rattle.switch_machine.specs.Sides.{down_of, staging, EndsOn, IsOf}
 use Rattle.switch_machine.specs.UnderWay.{passes_of, Begins, Entered, Goes}
 use Rattle.switch_machine.proofs.Crossings.{arrived, begins_as, both_stay, entered_down, given, passes_stay, told_down}
-
 use Rattle.switch_machine.proofs.Lists.{on_err}
 use Rattle.switch_machine.proofs.LoadedCode.{made_stays, pass_is, pass_stays}
 use Rattle.switch_machine.proofs.loaded.Loaded.down.Goals as goal

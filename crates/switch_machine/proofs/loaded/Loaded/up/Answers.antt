@@ -14,7 +14,6 @@ use Rattle.switch_machine.specs.Flights.{flights_in}
 use Rattle.switch_machine.specs.Sides.{staging, up_of, EndsOn}
 use Rattle.switch_machine.specs.UnderWay.{passes_of, Begins, Entered, Goes}
 use Rattle.switch_machine.proofs.Crossings.{begins_as, both_stay, entered_up, nothing_given, passes_stay, told_up}
-
 use Rattle.switch_machine.proofs.Lists.{err_on, ok_weaker}
 use Rattle.switch_machine.proofs.LoadedCode.{made_stays, pass_is, pass_stays}
 use Rattle.switch_machine.proofs.loaded.Loaded.up.Goals as goal

@@ -94,8 +94,8 @@ invariant_of-self c =
       room = subst (HoldResults l.stages) (sym c.run_stage.ensures.capacity) l.room;
       flown = subst (λ n. AreFlights (length l.stages) n (flights_in l.flights))
           (sym (count_after c.copy_numbers.new.to c.run_stage.new.registers
-      (ready_gives (map ready_of c.stage.result.now) (reads_at c.copy_numbers.new.to.numbers) (view_of c.flight_of-flight.result.now.bit c.args.tables.now.pairs) (packet_of c.arrival.result))
-      c.run_stage.ensures.written
+          (ready_gives (map ready_of c.stage.result.now) (reads_at c.copy_numbers.new.to.numbers) (view_of c.flight_of-flight.result.now.bit c.args.tables.now.pairs) (packet_of c.arrival.result))
+          c.run_stage.ensures.written
           ∙ ap (λ (rs : Registers). length rs.numbers) c.copy_numbers.ensures
           ∙ (l.flown c.args.number c.flight_of-flight.result.now c.flight_of-flight.ensures).numbers)) l.flown;
     }

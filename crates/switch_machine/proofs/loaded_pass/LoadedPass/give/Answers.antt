@@ -36,7 +36,7 @@ returns-clause-made c = record {
   stages = refl;
   ranges = refl;
   plan = plan_after c.args.self.now.registers c.run_steps.new.registers
-          (ready_gives (map ready_of c.steps.result.now) nothing (seen_tables c.none-none.result) (packet_of c.args.arrival.now)) c.run_steps.ensures.written;
+      (ready_gives (map ready_of c.steps.result.now) nothing (seen_tables c.none-none.result) (packet_of c.args.arrival.now)) c.run_steps.ensures.written;
   marks = refl;
 }
 
