@@ -1,9 +1,9 @@
 -- What pairs of hexadecimal digits spell.
 use Rattle.std.proofs.Common.{◌≡◌, ℕ, zero, suc, ◌+◌, ◌*◌, ◌/◌, ◌%◌, ◌<◌, ◌≤◌, ◌≢◌, ◌==◌, ◌&&◌, Bool, List, [], ◌∷◌, ◌++◌, append-nil, take, drop, length, get_or, slice_index, set, true, false, Result, Ok, Err, refl, sym, ap, ◌∙◌, subst, arith, true≢false, below_more, length-set, get_or-set_other, get_or-set_same}
 use Rattle.std.specs.Prelude.{MatchResult}
-use Rattle.std.specs.List.{list_all}
-use Rattle.std.proofs.lemmas.Bool.{and_from, and_parts, eqb-true, eq-eqb}
-use Rattle.std.proofs.lemmas.List.Folds.{Any-from_list_any, list_any_at}
+use Rattle.std.specs.List.{list_all, list_any}
+use Rattle.std.proofs.lemmas.Bool.{agree_below_at, and_from, and_parts, eqb-true, eq-eqb, false_from_ne_true}
+use Rattle.std.proofs.lemmas.List.Folds.{Any-from_list_any, list_all_at, list_any_at}
 use Rattle.std.proofs.lemmas.List.{drop_all, get_or_default, take_all}
 use Rattle.std.proofs.lemmas.Grind.{same_number_lists}
 use Rattle.std.proofs.lemmas.Slice.Eq.{bytes_eq-Decides}
@@ -12,7 +12,7 @@ use Rattle.std.specs.Str.{bytes_eq}
 use Rattle.hex.specs.Hex.{IsBytes, decode_of, decode_pairs, encode_lower, encode_with, lower_digits, pair_value, ◌>>=◌}
 use Rattle.hex.specs.declared.error.FromHexError.{FromHexError}
 use Rattle.hex.proofs.HexLemmas.{decode_of-encode_lower, decode_of-even, decode_of-ok, length-encode_with}
-use Rattle.run_text.specs.Body.{is_printed_digit}
+use Rattle.run_text.specs.Body.{is_by_capitals, is_printed_digit}
 
 same_Ok : {A : Type 0} (x y : A) (r : Result A FromHexError) → r ≡ Ok x → r ≡ Ok y → x ≡ y
 same_Ok x y r hx hy = ap (λ s. result_unwrap_or s x) (sym hx ∙ hy)
@@ -145,11 +145,7 @@ printed_tells text bytes fits same =
 other_tells : (text : List ℕ) → ((bytes : List ℕ) → IsBytes bytes → encode_lower bytes ≡ text → ⊥) → (r : Result (List ℕ) FromHexError) → decode_of text ≡ r → Tells text false
 other_tells text other (Ok bytes) reads =
     let fits = (decode_of-ok text bytes reads).3 in
-    rw reads (by (bytes_eq (encode_lower bytes) text) refl (λ is. other bytes fits ((bytes_eq-Decides (encode_lower bytes) text).0 is)))
-  where
-    by : (b : Bool) → bytes_eq (encode_lower bytes) text ≡ b → (bytes_eq (encode_lower bytes) text ≡ true → ⊥) → false ≡ bytes_eq (encode_lower bytes) text
-    by true is never = absurd (never is)
-    by false is never = sym is
+    rw reads (sym (false_from_ne_true _ (λ is. other bytes fits ((bytes_eq-Decides (encode_lower bytes) text).0 is))))
 other_tells text other (Err e) reads = rw reads refl
 
 printed_passes : (text bytes : List ℕ) → IsBytes bytes → encode_lower bytes ≡ text → (length text % 2 == 0 && list_all is_printed_digit text) ≡ true
@@ -158,6 +154,20 @@ printed_passes text bytes fits same =
     let size : length text ≡ 2 * length bytes = ap length (sym same) ∙ twice in
     let even : length text % 2 ≡ 0 = omega (arith, size) in
     and_from _ _ (eq-eqb _ _ even) (ap (list_all is_printed_digit) (sym same) ∙ all_printed bytes fits)
+
+-- none of the sixteen is a capital
+printed_no_capital : (digit : ℕ) → is_printed_digit digit ≡ true → is_by_capitals digit ≡ false
+printed_no_capital digit is =
+    let place = place_of digit is in
+    ap is_by_capitals (sym place.2) ∙ agree_below_at (λ k. is_by_capitals (slice_index lower_digits k)) (λ k. false) 16 place.0 refl place.1
+
+-- a text with capitals isn't printed
+pub capitals_tell : (text : List ℕ) → list_any is_by_capitals text ≡ true → Tells text false
+capitals_tell text capitals =
+    let found = Any-from_list_any is_by_capitals text capitals in
+    let other = false_from_ne_true (is_printed_digit found.1) (λ is. true≢false (sym found.4 ∙ printed_no_capital found.1 is)) in
+    let none = list_all_at is_printed_digit text found.0 found.1 found.2 (ap is_printed_digit found.3 ∙ other) in
+    other_tells text (λ bytes fits same. true≢false (sym (ap (list_all is_printed_digit) (sym same) ∙ all_printed bytes fits) ∙ none)) (decode_of text) refl
 
 pub printed_or_not : (text : List ℕ) → Tells text (length text % 2 == 0 && list_all is_printed_digit text)
 printed_or_not text = by (length text % 2 == 0 && list_all is_printed_digit text) refl

@@ -1,5 +1,5 @@
 -- What the body of a line spells.
-use Rattle.std.specs.Prelude.{ℕ, Bool, true, ◌==◌, List, [], ◌∷◌, if◌then◌else◌, Option, Some, None, Result, Ok, Err, codes}
+use Rattle.std.specs.Prelude.{ℕ, Bool, true, ◌==◌, ◌/◌, List, [], ◌∷◌, if◌then◌else◌, Option, Some, None, Result, Ok, Err, codes}
 use Rattle.std.specs.Str.{bytes_eq}
 use Rattle.std.specs.List.{list_any}
 use Rattle.hex.specs.Hex.{decode_of, encode_lower, lower_digits}
@@ -9,6 +9,10 @@ use Rattle.run_text.specs.declared.body.Body.{Body}
 -- one of the digits that `hex` prints
 abbrev pub is_printed_digit : ℕ → Bool
 is_printed_digit byte = list_any (λ digit. digit == byte) lower_digits
+
+-- a capital letter, or one of the six bytes beside them
+abbrev pub is_by_capitals : ℕ → Bool
+is_by_capitals byte = byte / 32 == 2
 
 abbrev pub body_with : List ℕ → Bool → Body
 body_with bytes printed = record { bytes = bytes; printed = printed }

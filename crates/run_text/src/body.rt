@@ -1,9 +1,9 @@
 //! The bytes of a packet in a text: pairs of hexadecimal digits, or `-` for none.
 ghost use Rattle.std.specs.Prelude.{◌≡◌, ◌<◌, ◌≤◌, ◌*◌, ◌++◌, ℕ, List, Ok, IfOk, IfSome, MatchResult, OnOk, false, length};
-ghost use Rattle.std.specs.List.{list_all};
+ghost use Rattle.std.specs.List.{list_all, list_any};
 ghost use Rattle.std.specs.Str.{bytes_eq};
 ghost use Rattle.hex.specs.Hex.{IsBytes, decode_of, encode_lower, hex_digit_value, pair_value};
-ghost use Rattle.run_text.specs.Body.{is_printed_digit, spelled, spelled_by};
+ghost use Rattle.run_text.specs.Body.{is_by_capitals, is_printed_digit, spelled, spelled_by};
 ghost use Rattle.run_text.specs.Report.{body_text};
 
 use gal_io::{Bytes, NoMemory, Text};
@@ -37,11 +37,22 @@ fn byte_of(high: u8, low: u8) -> u8
 fn is_printed_digit(byte: u8) -> bool
     ensures { result ≡ is_printed_digit byte }
 {
-    matches!(byte, b'0'..=b'9' | b'a'..=b'f')
+    (byte >= b'0') & (byte <= b'9') | (byte >= b'a') & (byte <= b'f')
 }
 
-// Whether a text holds no other bytes than the digits that `hex` prints. The loop has no early exit, so that it may be
-// compiled to vector code.
+// Whether a text holds capital letters, or bytes beside them. Loops without branches may be compiled to vector code, and
+// this one is the shorter one.
+fn has_capitals(text: &[u8]) -> bool
+    ensures { result ≡ list_any is_by_capitals text.now }
+{
+    let mut any = false;
+    for byte in text {
+        any |= *byte / 32 == 2;
+    }
+    any
+}
+
+// Whether a text holds no other bytes than the digits that `hex` prints.
 fn are_printed_digits(text: &[u8]) -> bool
     ensures { result ≡ list_all is_printed_digit text.now }
 {
@@ -71,13 +82,17 @@ fn bytes_of(alloc: Global, digits: &[u8]) -> Result<Vec<u8>, NoMemory>
     Ok(bytes)
 }
 
-// Whether `hex` prints a text, which then is what it prints of the bytes that the text spells.
+// Whether `hex` prints a text, which then is what it prints of the bytes that the text spells. Capitals are looked for
+// first, since a text that has some is read by `hex`, which takes its time.
 #[tactic(auto, using(crate::proofs::Bodies::printed_or_not))]
 fn is_printed(text: &[u8]) -> bool
     ensures { MatchResult (decode_of text.now)
         (λ bytes. result ≡ bytes_eq (encode_lower bytes) text.now)
         (λ e. result ≡ false) }
 {
+    if has_capitals(text) {
+        return false;
+    }
     text.len() % 2 == 0 && are_printed_digits(text)
 }
 
