@@ -58,7 +58,13 @@ module _ (f : Program) (limits : Limits) (k : ℕ)
 -- where none on more than these keeps the limits, what is first of the splits on these or fewer is first of all
 pub first_of_more : (f : Program) (limits : Limits) (k left : ℕ) → ((n : ℕ) → left < n → n ≤ k → (all : Bool) (other : List Part) → IsKept f limits n all other → ⊥)
     → (more : ℕ) → more + left ≤ k → (split : List Part) → IsFirstKept f limits (shrinking left) split → IsFirstKept f limits (shrinking (more + left)) split
-first_of_more f limits k left none zero le split first = first
+first_of_more f limits k left none zero le split first =
+    let same : left ≡ zero + left = omega arith in
+    subst (λ n. IsFirstKept f limits (shrinking n) split) same first
 first_of_more f limits k left none (suc more) le split first =
-    let none_here = none (suc (more + left)) (omega arith) (omega (arith, le)) in
-    inr (none_here true, inr (none_here false, first_of_more f limits k left none more (omega (arith, le)) split first))
+    let n : ℕ = more + left in
+    let same : suc n ≡ suc more + left = omega arith in
+    let none_here = none (suc n) (omega arith) (omega (arith, le)) in
+    let rest : IsFirstKept f limits (shrinking n) split = first_of_more f limits k left none more (omega (arith, le)) split first in
+    let here : IsFirstKept f limits (shrinking (suc n)) split = inr (none_here true, inr (none_here false, rest)) in
+    subst (λ m. IsFirstKept f limits (shrinking m) split) same here

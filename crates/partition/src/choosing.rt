@@ -127,7 +127,6 @@ fn left_after(
 ) -> Result<usize, NoMemory>
     requires bounded { IsBounded (program_of f.now) }
     requires basis { IsBasis f.now basis.now }
-    requires in_range { AreInRange limits.now }
     requires some { 0 < count }
     requires neither { (all : Bool) (other : List Part) → IsKept (program_of f.now) limits.now count all other → ⊥ }
     requires exceeded { IsExceeded (program_of f.now) limits.now count false over }

@@ -20,7 +20,7 @@ returns-then-is_of_preprocessing c =
     IfOk-weaker c.most_left.result (λ left. IsMostLeft f l c.args.count left) (λ left. IsLeft f l c.args.count left)
     (λ left most. left_of f l c.args.count left most.fewer
     (λ n more few all other kept. none_kept c.depths_are_least.ensures.least c.depths_are_least.ensures.staged c.kept_limits_are_not_exceeded.ensures f c.requires.bounded.formed
-    l (suc left) most.much n more all other kept))
+    l (suc left) most.much n (omega (arith, more)) all other kept))
     c.most_left.ensures
 
 pub returns-else-is_of_preprocessing : goal.returns-else-is_of_preprocessing
