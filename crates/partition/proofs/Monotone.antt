@@ -1,6 +1,6 @@
 -- What preprocessing takes by itself, it also takes among more instructions.
-use Rattle.std.proofs.Common.{◌≡◌, ℕ, zero, suc, ◌+◌, ◌*◌, ◌≤◌, Bool, true, false, ◌&&◌, ◌||◌, not, List, [], ◌∷◌, ◌++◌, Option, Some, None, inl, inr, refl, sym, ap, ◌∙◌, subst, arith, length, replicate}
-use Rattle.std.specs.Prelude.{slice_index, slice_index_or, All, max, if◌then◌else◌}
+use Rattle.std.proofs.Common.{◌≡◌, ℕ, zero, suc, ◌+◌, ◌*◌, ◌≤◌, Bool, true, false, ◌&&◌, ◌||◌, not, List, [], ◌∷◌, ◌++◌, Some, None, inl, inr, refl, sym, ap, ◌∙◌, subst, arith, length, replicate}
+use Rattle.std.specs.Prelude.{slice_index, All, if◌then◌else◌}
 use Rattle.std.specs.List.{find}
 use Rattle.std.proofs.lemmas.Bool.{cases_Bool, or_cases, or_left, or_right}
 use Rattle.std.proofs.lemmas.List.Elements.{All-nil, All-cons, All-head, All-tail, All-append}
@@ -9,13 +9,13 @@ use Rattle.state_store.specs.declared.object.ObjectDecl.{ObjectDecl}
 use Rattle.state_store.specs.Kinds.{is_table, is_constant}
 use Rattle.flat_ir.specs.Program.{Program, any_below, step_at}
 use Rattle.flat_ir.specs.WellFormed.{IsWellFormed}
-use Rattle.flat_ir.specs.Sets.{IsMarked, IsWithin, IsPreClosed}
+use Rattle.flat_ir.specs.Sets.{IsMarked, IsWithin}
 use Rattle.flat_ir.specs.Stages.{IsDepths, IsStaged}
 use Rattle.split_model.specs.declared.split.Part.{Part}
 use Rattle.split_model.specs.Split.{is_pre, is_post, pre_stage, post_stage}
 use Rattle.split_model.specs.Shown.{looks_at, writes_to, is_shown, is_replicated}
 use Rattle.split_model.specs.Counts.{count_below, accesses, writes, stage_or_zero, highest_below, is_post_shown, object_bits, bits_from}
-use Rattle.split_model.specs.Greatest.{pre_marks, post_marks, pre_stages, post_stages, IsGreatestSplit}
+use Rattle.split_model.specs.Greatest.{pre_marks, pre_stages, IsGreatestSplit}
 use Rattle.resource_limits.specs.declared.limits.Limits.{Limits}
 use Rattle.resource_limits.specs.declared.counting.Counts.{Counts}
 use Rattle.resource_limits.specs.declared.exceeding.Over.{Over}

@@ -1,5 +1,5 @@
 -- Only proofs need this. What a try gives, and a step down the list.
-use Rattle.std.specs.Prelude.{◌≡◌, ℕ, suc, ◌<◌, Bool, true, false, List, Option, Some, None}
+use Rattle.std.specs.Prelude.{◌≡◌, ℕ, suc, ◌<◌, Bool, false, List, Option, Some, None}
 use Rattle.flat_ir.specs.Program.{Program}
 use Rattle.split_model.specs.declared.split.Part.{Part}
 use Rattle.resource_limits.specs.declared.limits.Limits.{Limits}

@@ -1,4 +1,4 @@
-use Rattle.std.proofs.Common.{◌≡◌, ◌<◌, ◌≤◌, ℕ, List, true, false, None, sym, subst, arith}
+use Rattle.std.proofs.Common.{◌≡◌, ℕ, List, true, false, None, sym, subst, arith}
 use Rattle.std.specs.Prelude.{Option}
 use Rattle.std.proofs.lemmas.Result.{IfOk-weaker}
 use Rattle.flat_ir.specs.Program.{program_of}

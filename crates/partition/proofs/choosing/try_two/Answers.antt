@@ -1,4 +1,4 @@
-use Rattle.std.proofs.Common.{◌≡◌, true, false, List, None, Some, subst}
+use Rattle.std.proofs.Common.{true, false, List, None, Some, subst}
 use Rattle.std.specs.Prelude.{Option}
 use Rattle.flat_ir.specs.Program.{program_of}
 use Rattle.split_model.specs.declared.split.Part.{Part}

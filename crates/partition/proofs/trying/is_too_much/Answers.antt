@@ -6,12 +6,12 @@ use Rattle.partition.specs.Choice.{IsExceeded}
 use Rattle.partition.specs.Tried.{IsTried}
 use Rattle.partition.proofs.trying.is_too_much.Goals as goal
 
-pub returns-in-Exceeding : goal.returns-in-Exceeding
-returns-in-Exceeding c = λ much.
+pub returns : goal.returns
+returns c = λ much.
     let f = program_of c.args.f.now in
     let l = c.args.limits.now in
     let n = c.in_ok-front.front.count in
-    let tried : IsTried f l n false (Exceeding c.in-Exceeding.over) = subst (λ (t : Tried). IsTried f l n false t) c.in-Exceeding.is c.in_ok-split.ensures in
+    let tried : IsTried f l n false (Exceeding c.in-Exceeding.over) = subst (λ (t : Tried). IsTried f l n false t) c.in-Exceeding.is c.in_ok-try_split.ensures in
     record {
       over = c.in-Exceeding.over;
       exceeded = subst (λ n. IsExceeded f l n false c.in-Exceeding.over) c.in_ok-front.ensures.count tried.exceeded;

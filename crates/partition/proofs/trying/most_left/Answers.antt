@@ -1,4 +1,4 @@
-use Rattle.std.proofs.Common.{◌≡◌, suc, sym, subst, arith}
+use Rattle.std.proofs.Common.{◌≡◌, suc, subst, arith}
 use Rattle.flat_ir.specs.Program.{program_of}
 use Rattle.partition.specs.Tried.{IsTooMuch}
 use Rattle.partition.proofs.trying.most_left.Goals as goal

@@ -1,5 +1,4 @@
 use Rattle.std.proofs.Common.{◌≡◌, Some, None, sym, subst, ◌∙◌}
-use Rattle.flat_ir.specs.Program.{program_of}
 use Rattle.resource_limits.specs.declared.counting.Counts.{Counts}
 use Rattle.resource_limits.specs.Kept.{first_over, Keeps}
 use Rattle.partition.proofs.trying.try_split.Goals as goal
@@ -13,8 +12,8 @@ returns-in-None c = record {
   none = subst (λ (n : Counts). first_over n c.args.limits.now ≡ None) c.in_ok-counts.ensures (sym c.first_exceeded.ensures.first ∙ c.in-None.is);
 }
 
-pub returns : goal.returns
-returns c = record {
+pub returns-in-Some : goal.returns-in-Some
+returns-in-Some c = record {
   exceeded = record {
     split = c.in_ok-split.split;
     greatest = c.in_ok-split.ensures;
