@@ -7,5 +7,5 @@ pub mod Shrunk
 pub mod Steps
 pub mod Chosen
 pub mod Deeper
-pub mod Twice
+pub mod Monotone
 pub mod Lowest

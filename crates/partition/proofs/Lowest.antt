@@ -1,13 +1,13 @@
 -- The chosen split needs no more stages than any legal one that computes the same in a pass.
-use Rattle.std.proofs.Common.{◌≡◌, ℕ, zero, suc, ◌<◌, ◌≤◌, ◌==◌, Bool, true, false, ◌&&◌, ◌||◌, List, [], ◌∷◌, Option, Some, None, inl, inr, refl, sym, ap, ◌∙◌, subst, arith, length, is_some}
-use Rattle.std.specs.Prelude.{slice_index, slice_index_or, max}
+use Rattle.std.proofs.Common.{◌≡◌, ℕ, zero, suc, ◌≤◌, Bool, true, false, List, [], ◌∷◌, Option, Some, None, inl, inr, refl, sym, ap, ◌∙◌, subst, arith, is_some}
+use Rattle.std.specs.Prelude.{slice_index, slice_index_or}
 use Rattle.std.proofs.lemmas.Bool.{or_left, or_right, eq-eqb, false≢true}
 use Rattle.std.proofs.lemmas.Option.{slice_get_within}
 use Rattle.flat_ir.specs.declared.program.ValueId.{ValueId}
 use Rattle.flat_ir.specs.Program.{Program, Step, step_at, operands}
 use Rattle.flat_ir.specs.Kinds.{is_input}
 use Rattle.flat_ir.specs.WellFormed.{IsWellFormed}
-use Rattle.flat_ir.specs.Sets.{IsMarked, IsAt, Reads}
+use Rattle.flat_ir.specs.Sets.{IsMarked, Reads}
 use Rattle.flat_ir.specs.Stages.{IsDepths, IsStaged}
 use Rattle.split_model.specs.declared.split.Part.{Part}
 use Rattle.split_model.specs.Split.{pre_stage, post_stage}

@@ -1,24 +1,21 @@
 -- The shrinking list, one step on and at its end.
-use Rattle.std.proofs.Common.{◌≡◌, ℕ, zero, suc, ◌-◌, ◌<◌, Bool, true, false, List, [], ◌∷◌, Some, None, inl, inr, refl, sym, subst, arith}
+use Rattle.std.proofs.Common.{◌≡◌, ℕ, zero, suc, ◌+◌, ◌-◌, ◌<◌, ◌≤◌, Bool, true, false, List, [], ◌∷◌, inl, inr, refl, sym, subst, arith}
 use Rattle.flat_ir.specs.Program.{Program}
 use Rattle.split_model.specs.declared.split.Part.{Part}
 use Rattle.split_model.specs.Greatest.{IsGreatestSplit}
 use Rattle.resource_limits.specs.declared.limits.Limits.{Limits}
 use Rattle.partition.specs.Choice.{IsKept, IsFirstKept, shrinking}
-use Rattle.partition.specs.Tried.{IsFoundOfTwo}
 
 pub shrinking_at : (k : ℕ) → 0 < k → shrinking k ≡ (k, true) ∷ ((k, false) ∷ shrinking (k - 1))
 shrinking_at zero l = absurd (omega (arith, l))
 shrinking_at (suc k) l = let e : suc k - 1 ≡ k = omega arith in rw e refl
 
-pub found_some : (f : Program) (limits : Limits) (k : ℕ) (split : List Part) → 0 < k → IsFoundOfTwo f limits k (Some split) → IsFirstKept f limits (shrinking k) split
-found_some f limits k split l h =
-    subst (λ cs. IsFirstKept f limits cs split) (sym (shrinking_at k l)) (elim h [ inl p ↦ inl p | inr q ↦ inr (q.0, inl q.1) ])
+pub first_with : (f : Program) (limits : Limits) (k : ℕ) (split : List Part) → 0 < k → IsKept f limits k true split → IsFirstKept f limits (shrinking k) split
+first_with f limits k split l h = subst (λ cs. IsFirstKept f limits cs split) (sym (shrinking_at k l)) (inl h)
 
-pub found_none : (f : Program) (limits : Limits) (k : ℕ) (split : List Part) → 0 < k → IsFoundOfTwo f limits k None
-    → IsFirstKept f limits (shrinking (k - 1)) split → IsFirstKept f limits (shrinking k) split
-found_none f limits k split l h rest =
-    subst (λ cs. IsFirstKept f limits cs split) (sym (shrinking_at k l)) (inr (h.0, inr (h.1, rest)))
+pub first_without : (f : Program) (limits : Limits) (k : ℕ) (split : List Part) → 0 < k → ((other : List Part) → IsKept f limits k true other → ⊥)
+    → IsKept f limits k false split → IsFirstKept f limits (shrinking k) split
+first_without f limits k split l none h = subst (λ cs. IsFirstKept f limits cs split) (sym (shrinking_at k l)) (inr (none, inl h))
 
 pub found_last : (f : Program) (limits : Limits) (split : List Part) → ((other : List Part) → IsKept f limits 0 true other → ⊥) → IsKept f limits 0 false split
     → IsFirstKept f limits (shrinking 0) split
@@ -57,3 +54,17 @@ module _ (f : Program) (limits : Limits) (k : ℕ)
       begins : (n : ℕ) → (rest : List (ℕ × Bool)) × (shrinking n ≡ (n, true) ∷ ((n, false) ∷ rest))
       begins zero = ([], refl)
       begins (suc n) = (shrinking n, refl)
+
+-- where none on more than these keeps the limits, what is first of the splits on these or fewer is first of all
+pub first_of_more : (f : Program) (limits : Limits) (k left : ℕ) → ((n : ℕ) → left < n → n ≤ k → (all : Bool) (other : List Part) → IsKept f limits n all other → ⊥)
+    → (more : ℕ) → more + left ≤ k → (split : List Part) → IsFirstKept f limits (shrinking left) split → IsFirstKept f limits (shrinking (more + left)) split
+first_of_more f limits k left none zero le split first =
+    let same : left ≡ zero + left = omega arith in
+    subst (λ n. IsFirstKept f limits (shrinking n) split) same first
+first_of_more f limits k left none (suc more) le split first =
+    let n : ℕ = more + left in
+    let same : suc n ≡ suc more + left = omega arith in
+    let none_here = none (suc n) (omega arith) (omega (arith, le)) in
+    let rest : IsFirstKept f limits (shrinking n) split = first_of_more f limits k left none more (omega (arith, le)) split first in
+    let here : IsFirstKept f limits (shrinking (suc n)) split = inr (none_here true, inr (none_here false, rest)) in
+    subst (λ m. IsFirstKept f limits (shrinking m) split) same here

@@ -1,5 +1,5 @@
 -- A step of the search along the shrinking list.
-use Rattle.std.proofs.Common.{◌≡◌, ℕ, suc, ◌-◌, ◌<◌, false, List, Option, Some, None, sym, subst, arith}
+use Rattle.std.proofs.Common.{◌≡◌, ℕ, suc, ◌+◌, ◌-◌, ◌<◌, ◌≤◌, true, false, List, sym, subst, arith}
 use Rattle.std.specs.Prelude.{slice_index_or, slice_set, Bool}
 use Rattle.flat_ir.specs.Program.{Program}
 use Rattle.flat_ir.specs.WellFormed.{IsWellFormed}
@@ -9,10 +9,10 @@ use Rattle.split_model.specs.declared.split.Part.{Part}
 use Rattle.resource_limits.specs.declared.limits.Limits.{Limits}
 use Rattle.partition.specs.declared.front.Front.{Front}
 use Rattle.partition.specs.Front.{IsFront}
-use Rattle.partition.specs.Choice.{IsFirstKept, shrinking}
-use Rattle.partition.specs.Tried.{IsFoundOfTwo, IsStep}
+use Rattle.partition.specs.Choice.{IsKept, IsFirstKept, shrinking}
+use Rattle.partition.specs.Tried.{IsLeft}
 use Rattle.partition.proofs.Narrow.{pre_left, carried_left, depths_left, as_with, as_without}
-use Rattle.partition.proofs.Shrunk.{found_some, found_none, same_first}
+use Rattle.partition.proofs.Shrunk.{first_of_more, same_first}
 
 pub one_more : (k : ℕ) → 0 < k → suc (k - 1) ≡ k
 one_more k l = omega (arith, l)
@@ -37,21 +37,37 @@ narrowed f old new well is some count pre carried depths =
     }
 
 pub skipped : (f : Program) (limits : Limits) (front : Front) → IsWellFormed f → IsFront f front → 0 < front.count
-    → slice_index_or front.pre (front.count - 1) false ≡ false → (split : List Part) → IsFirstKept f limits (shrinking (front.count - 1)) split
-    → IsFirstKept f limits (shrinking front.count) split
-skipped f limits front well is some out split first =
+    → slice_index_or front.pre (front.count - 1) false ≡ false → IsLeft f limits front.count (front.count - 1)
+skipped f limits front well is some out =
     let k : ℕ = front.count - 1 in
     let greatest : IsGreatest f (IsPreClosed f (suc k)) front.pre = subst (λ n. IsGreatest f (IsPreClosed f n) front.pre) (sym (one_more front.count some)) is.pre in
-    subst (λ n. IsFirstKept f limits (shrinking n) split) (one_more front.count some)
-    (same_first f limits k (as_with f well k front.pre front.carried front.depths greatest is.carried is.depths out)
-    (as_without f well k front.pre front.carried front.depths greatest is.carried is.depths out) split first)
+    record {
+      fewer = omega (arith, some);
+      first = λ split first. subst (λ n. IsFirstKept f limits (shrinking n) split) (one_more front.count some)
+          (same_first f limits k (as_with f well k front.pre front.carried front.depths greatest is.carried is.depths out)
+          (as_without f well k front.pre front.carried front.depths greatest is.carried is.depths out) split first);
+    }
 
-pub step_of_two : (f : Program) (limits : Limits) (k : ℕ) → 0 < k → (found : Option (List Part)) → IsFoundOfTwo f limits k found → IsStep f limits k found
-step_of_two f limits k some (Some split) h = found_some f limits k split some h
-step_of_two f limits k some None h = λ split rest. found_none f limits k split some h rest
+adds : (k left : ℕ) → left < k → (k - left) + left ≡ k
+adds k left less = omega (arith, less)
 
-pub stepped : (f : Program) (limits : Limits) (k n : ℕ) (found : Option (List Part)) → found ≡ None → IsStep f limits k found → n ≡ k - 1
-    → (split : List Part) → IsFirstKept f limits (shrinking n) split → IsFirstKept f limits (shrinking k) split
-stepped f limits k n found none step same split first =
-    let go : IsStep f limits k None = subst (λ (o : Option (List Part)). IsStep f limits k o) none step in
-    go split (subst (λ m. IsFirstKept f limits (shrinking m) split) same first)
+-- where no split on more than these keeps the limits, these are left
+pub left_of : (f : Program) (limits : Limits) (k left : ℕ) → left < k → ((n : ℕ) → left < n → n ≤ k → (all : Bool) (other : List Part) → IsKept f limits n all other → ⊥)
+    → IsLeft f limits k left
+left_of f limits k left less none = record {
+  fewer = less;
+  first = λ split first. subst (λ n. IsFirstKept f limits (shrinking n) split) (adds k left less)
+      (first_of_more f limits k left none (k - left) (let e = adds k left less in omega (arith, e)) split first);
+}
+
+-- where neither split on k instructions keeps the limits, one less is left
+pub left_of_one : (f : Program) (limits : Limits) (k : ℕ) → 0 < k → ((all : Bool) (other : List Part) → IsKept f limits k all other → ⊥) → IsLeft f limits k (k - 1)
+left_of_one f limits k some none = left_of f limits k (k - 1) (omega (arith, some))
+    (λ n more few all other kept.
+    let e : n ≡ k = omega (arith, more, few) in
+    none all other (subst (λ m. IsKept f limits m all other) e kept))
+
+pub neither : (f : Program) (limits : Limits) (k : ℕ) → ((other : List Part) → IsKept f limits k true other → ⊥) → ((other : List Part) → IsKept f limits k false other → ⊥)
+    → (all : Bool) (other : List Part) → IsKept f limits k all other → ⊥
+neither f limits k with' without true other kept = with' other kept
+neither f limits k with' without false other kept = without other kept

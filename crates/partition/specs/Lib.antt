@@ -4,6 +4,5 @@ pub mod Causes
 pub mod Front
 pub mod Tried
 pub mod Deeper
-pub mod Looks
 pub mod Basis
 pub mod Lowest

@@ -1,5 +1,5 @@
 //! The choice of a split.
-ghost use Rattle.std.specs.Prelude.{◌≡◌, ◌↔◌, ℕ, ◌<◌, ◌-◌, length, IfOk, IfErr, true, false, List};
+ghost use Rattle.std.specs.Prelude.{◌≡◌, ◌↔◌, ◌<◌, length, IfOk, IfErr, Bool, true, false, List};
 ghost use Rattle.flat_ir.specs.Program.{program_of};
 ghost use Rattle.split_model.specs.declared.split.Part.{Part};
 ghost use Rattle.split_model.specs.Bounds.{IsBounded, HasFewStages};
@@ -7,10 +7,10 @@ ghost use Rattle.split_model.specs.Legal.{IsLegal};
 ghost use Rattle.resource_limits.specs.Limits.{AreInRange};
 ghost use Rattle.resource_limits.specs.Kept.{KeepsLimits};
 ghost use Rattle.resource_limits.specs.declared.exceeding.Over.{Over};
-ghost use Rattle.partition.specs.Choice.{IsChosen, IsRefused};
+ghost use Rattle.partition.specs.Choice.{IsChosen, IsRefused, IsKept, IsExceeded};
 ghost use Rattle.partition.specs.declared.choosing.PartError.TheVariants.{NoMemory as without_memory};
 ghost use Rattle.partition.specs.Causes.{IsCause};
-ghost use Rattle.partition.specs.Tried.{IsTried, IsFound, IsFoundOfTwo, IsStep};
+ghost use Rattle.partition.specs.Tried.{IsFound, IsLeft, IsStep};
 ghost use Rattle.partition.specs.Front.{IsFront};
 ghost use Rattle.partition.specs.Basis.{IsBasis};
 ghost use Rattle.std.specs.List.{list_any};
@@ -20,11 +20,13 @@ use crate::basis::Basis;
 use crate::front::Front;
 use crate::greatest::all_on_server;
 use crate::laws::greatest_split_is_one;
-use crate::looks::looks_twice;
+use crate::trying::{Tried, is_of_preprocessing, most_left, try_split};
 use dependence::depths_are_least;
 use flat_ir::Flat;
 use gal_io::NoMemory;
-use resource_limits::{Limits, Over, count_by_guards, first_exceeded};
+use resource_limits::{
+    Limits, Over, count_by_guards, first_exceeded, kept_limits_are_not_exceeded,
+};
 use split_model::{Part, Split, stage_or_zero};
 use std::alloc::Global;
 use thiserror::Error;
@@ -47,34 +49,11 @@ impl From<NoMemory> for PartError {
     }
 }
 
-// A split that keeps the limits, or the first limit that it exceeds.
+// What a try tells: the split that is chosen, or how many of the first instructions are left to try.
 #[derive(Drop)]
-enum Tried {
-    Kept(Split),
-    Exceeding(Over),
-}
-
-// The greatest split on the first `k` instructions, where it keeps the limits.
-fn try_split(
-    alloc: Global,
-    f: &Flat,
-    basis: &Basis,
-    limits: &Limits,
-    k: usize,
-    all: bool,
-) -> Result<Tried, NoMemory>
-    requires bounded { IsBounded (program_of f.now) }
-    requires basis { IsBasis f.now basis.now }
-    requires in_range { AreInRange limits.now }
-    ensures { IfOk result (λ tried. IsTried (program_of f.now) limits.now k all tried) }
-{
-    let front = Front::new(alloc, f, k)?;
-    let split = front.split(alloc, f, basis, all)?;
-    let counts = count_by_guards(alloc, f, &split, &basis.guard_values, limits.writeback)?;
-    match first_exceeded(&counts, limits) {
-        None => Ok(Tried::Kept(split)),
-        Some(over) => Ok(Tried::Exceeding(over)),
-    }
+enum Outcome {
+    Found(Split),
+    Left(usize),
 }
 
 // Whether a pass has an instruction at a stage above this one.
@@ -136,54 +115,80 @@ fn find(
     }
 }
 
-// The same with postprocessing and else without it. Neither keeps the limits where preprocessing alone is
-// too deep, or looks one object up twice.
-fn find_of_two(
+// What is left where neither split with these sets keeps the limits, and the one without postprocessing exceeds this one
+// first. Where preprocessing exceeds it by itself, so it does on more instructions, which are passed over.
+fn left_after(
+    alloc: Global,
+    f: &Flat,
+    basis: &Basis,
+    limits: &Limits,
+    count: usize,
+    over: Over,
+) -> Result<usize, NoMemory>
+    requires bounded { IsBounded (program_of f.now) }
+    requires basis { IsBasis f.now basis.now }
+    requires some { 0 < count }
+    requires neither { (all : Bool) (other : List Part) → IsKept (program_of f.now) limits.now count all other → ⊥ }
+    requires exceeded { IsExceeded (program_of f.now) limits.now count false over }
+    ensures { IfOk result (λ left. IsLeft (program_of f.now) limits.now count left) }
+{
+    depths_are_least();
+    kept_limits_are_not_exceeded();
+    if is_of_preprocessing(&over) {
+        most_left(alloc, f, basis, limits, count)
+    } else {
+        Ok(count - 1)
+    }
+}
+
+// The same with postprocessing and else without it, or how many of the first instructions are left.
+fn try_two(
     alloc: Global,
     f: &Flat,
     basis: &Basis,
     limits: &Limits,
     front: &Front,
-) -> Result<Option<Split>, NoMemory>
+) -> Result<Outcome, NoMemory>
     requires bounded { IsBounded (program_of f.now) }
     requires basis { IsBasis f.now basis.now }
     requires in_range { AreInRange limits.now }
     requires front { IsFront (program_of f.now) front.now }
-    ensures { IfOk result (λ found. IsFoundOfTwo (program_of f.now) limits.now front.now.count found) }
+    requires some { 0 < front.now.count }
+    ensures { IfOk result (λ outcome. IsStep (program_of f.now) limits.now front.now.count outcome) }
 {
-    depths_are_least();
-    if front.is_deeper_than(limits.stages) {
-        return Ok(None);
-    }
-    if looks_twice(alloc, f, &front.pre)? {
-        return Ok(None);
-    }
+    greatest_split_is_one();
     if let Some(split) = find(alloc, f, basis, limits, front, true)? {
-        return Ok(Some(split));
+        return Ok(Outcome::Found(split));
     }
-    find(alloc, f, basis, limits, front, false)
+    match try_split(alloc, f, basis, limits, front, false)? {
+        Tried::Kept(split) => Ok(Outcome::Found(split)),
+        Tried::Exceeding(over) => {
+            let left = left_after(alloc, f, basis, limits, front.count, over)?;
+            Ok(Outcome::Left(left))
+        }
+    }
 }
 
-// The first split of those on so many instructions or fewer, where it is one on so many. Where preprocessing hasn't the
-// last of them, these are the splits on one less.
+// The first split of those on so many instructions or fewer, where it is one on so many, or how many are left. Where
+// preprocessing hasn't the last of them, these are the splits on one less.
 fn step(
     alloc: Global,
     f: &Flat,
     basis: &Basis,
     limits: &Limits,
     front: &Front,
-) -> Result<Option<Split>, NoMemory>
+) -> Result<Outcome, NoMemory>
     requires bounded { IsBounded (program_of f.now) }
     requires basis { IsBasis f.now basis.now }
     requires in_range { AreInRange limits.now }
     requires front { IsFront (program_of f.now) front.now }
     requires some { 0 < front.now.count }
-    ensures { IfOk result (λ found. IsStep (program_of f.now) limits.now front.now.count found) }
+    ensures { IfOk result (λ outcome. IsStep (program_of f.now) limits.now front.now.count outcome) }
 {
     if front.has_last() {
-        find_of_two(alloc, f, basis, limits, front)
+        try_two(alloc, f, basis, limits, front)
     } else {
-        Ok(None)
+        Ok(Outcome::Left(front.count - 1))
     }
 }
 
@@ -196,10 +201,10 @@ fn shrunk(alloc: Global, f: &Flat, basis: &Basis, limits: &Limits) -> Result<Spl
 {
     let mut front = Front::new(alloc, f, f.code.len())?;
     while front.count > 0 {
-        if let Some(split) = step(alloc, f, basis, limits, &front)? {
-            return Ok(split);
+        match step(alloc, f, basis, limits, &front)? {
+            Outcome::Found(split) => return Ok(split),
+            Outcome::Left(count) => front.narrow_to(f, count),
         }
-        front.narrow();
     }
     match find(alloc, f, basis, limits, &front, true)? {
         Some(split) => Ok(split),
@@ -229,7 +234,8 @@ pub fn partition(alloc: Global, f: &Flat, limits: &Limits, shrink: bool) -> Resu
         let split = shrunk(alloc, f, &basis, limits)?;
         return Ok(split);
     }
-    match try_split(alloc, f, &basis, limits, f.code.len(), true)? {
+    let front = Front::new(alloc, f, f.code.len())?;
+    match try_split(alloc, f, &basis, limits, &front, true)? {
         Tried::Kept(split) => Ok(split),
         Tried::Exceeding(over) => Err(PartError::Exceeds(over)),
     }

@@ -1,7 +1,7 @@
 //! What preprocessing computes and hands up, of the first instructions of a program.
-ghost use Rattle.std.specs.Prelude.{◌≡◌, ◌<◌, ◌-◌, length, IfOk, slice_set, slice_index_or, false, nat_lt};
-ghost use Rattle.std.specs.List.{list_any};
+ghost use Rattle.std.specs.Prelude.{◌≡◌, ◌<◌, ◌≤◌, ◌-◌, length, IfOk, slice_set, slice_index_or, false};
 ghost use Rattle.flat_ir.specs.Program.{program_of};
+ghost use Rattle.flat_ir.specs.WellFormed.{IsWellFormed};
 ghost use Rattle.split_model.specs.Bounds.{IsBounded};
 ghost use Rattle.split_model.specs.Greatest.{IsGreatestSplit};
 ghost use Rattle.partition.specs.Front.{IsFront};
@@ -50,13 +50,6 @@ impl Front {
         self.pre.at(self.count - 1)
     }
 
-    /// Whether preprocessing needs a stage above this one.
-    pub(crate) fn is_deeper_than(&self, stage: u32) -> bool
-        ensures { result ≡ list_any (λ depth. nat_lt stage depth) self.now.depths }
-    {
-        self.depths.as_slice().iter().any(|depth| stage < *depth)
-    }
-
     /// Leaves out the last of the first instructions: what is left of the sets are the sets among the others.
     pub(crate) fn narrow(&mut self)
         requires some { 0 < self.old.count }
@@ -72,6 +65,20 @@ impl Front {
         self.pre.set(self.count, false);
         self.carried.set(self.count, false);
         self.depths.set(self.count, 0);
+    }
+
+    /// Leaves out all but the first `count` instructions.
+    pub(crate) fn narrow_to(&mut self, f: &Flat, count: usize)
+        requires formed { IsWellFormed (program_of f.now) }
+        requires front { IsFront (program_of f.now) self.old }
+        requires fewer { count ≤ self.old.count }
+        requires inside { self.old.count ≤ length f.now.code }
+        ensures front { IsFront (program_of f.now) self.new }
+        ensures count { self.new.count ≡ count }
+    {
+        while self.count > count {
+            self.narrow();
+        }
     }
 
     /// The greatest split with these sets, with all of postprocessing or none of it.

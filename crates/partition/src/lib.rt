@@ -6,7 +6,7 @@ mod choosing;
 mod front;
 mod greatest;
 mod laws;
-mod looks;
+mod trying;
 
 pub use choosing::{PartError, partition};
 pub use greatest::{all_on_server, greatest_split};

@@ -1,28 +1,32 @@
-use Rattle.std.proofs.Common.{◌≡◌, ◌<◌, ℕ, List, true, false, None, sym, subst, arith}
+use Rattle.std.proofs.Common.{◌≡◌, ℕ, List, true, false, None, sym, subst, arith}
 use Rattle.std.specs.Prelude.{Option}
 use Rattle.std.proofs.lemmas.Result.{IfOk-weaker}
 use Rattle.flat_ir.specs.Program.{program_of}
 use Rattle.split_model.specs.declared.split.Part.{Part}
 use Rattle.split_model.specs.Greatest.{IsGreatestSplit}
 use Rattle.partition.specs.Choice.{IsChosen, IsFirstKept, shrinking}
-use Rattle.partition.specs.Tried.{IsFound}
-use Rattle.partition.proofs.Steps.{narrowed, stepped}
+use Rattle.partition.specs.declared.choosing.Outcome.{Outcome}
+use Rattle.partition.specs.Tried.{IsFound, IsLeft, IsStep}
 use Rattle.partition.proofs.Shrunk.{found_last}
 use Rattle.partition.proofs.Last.{last_keeps}
 use Rattle.partition.proofs.choosing.shrunk.Goals as goal
+
+pub narrow_to-requires-clause-fewer : goal.narrow_to-requires-clause-fewer
+narrow_to-requires-clause-fewer c =
+    let left : IsLeft (program_of c.args.f.now) c.args.limits.now c.loop-front.front.count c.in-Left.count =
+    subst (λ (o : Outcome). IsStep (program_of c.args.f.now) c.args.limits.now c.loop-front.front.count o) c.in-Left.is c.in_ok-split.ensures in
+    omega (arith, left.fewer)
 
 pub loop-front-preserved : goal.loop-front-preserved
 loop-front-preserved c =
     let f = program_of c.args.f.now in
     let l = c.args.limits.now in
-    let old = c.loop-front.front in
-    let new = c.narrow.new.self in
-    let some : 0 < old.count = c.loop-front-test.true in
+    let left : IsLeft f l c.loop-front.front.count c.in-Left.count = subst (λ (o : Outcome). IsStep f l c.loop-front.front.count o) c.in-Left.is c.in_ok-split.ensures in
     record {
-      front = narrowed f old new c.requires.bounded.formed c.loop-front.invariant.front some c.narrow.ensures.count c.narrow.ensures.pre c.narrow.ensures.carried c.narrow.ensures.depths;
-      few = omega (arith, c.loop-front.invariant.few, c.narrow.ensures.count);
+      front = c.narrow_to.ensures.front;
+      few = omega (arith, left.fewer, c.loop-front.invariant.few, c.narrow_to.ensures.count);
       first = λ split first. c.loop-front.invariant.first split
-          (stepped f l old.count new.count c.in_ok-split.field-0 c.in_default.is c.in_ok-split.ensures c.narrow.ensures.count split first);
+          (left.first split (subst (λ k. IsFirstKept f l (shrinking k) split) c.narrow_to.ensures.count first));
     }
 
 pub returns : goal.returns

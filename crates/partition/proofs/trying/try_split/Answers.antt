@@ -1,24 +1,22 @@
 use Rattle.std.proofs.Common.{◌≡◌, Some, None, sym, subst, ◌∙◌}
-use Rattle.flat_ir.specs.Program.{program_of}
-use Rattle.split_model.specs.Greatest.{IsGreatestSplit}
 use Rattle.resource_limits.specs.declared.counting.Counts.{Counts}
 use Rattle.resource_limits.specs.Kept.{first_over, Keeps}
-use Rattle.partition.proofs.choosing.try_split.Goals as goal
+use Rattle.partition.proofs.trying.try_split.Goals as goal
 
 pub returns-in-None : goal.returns-in-None
 returns-in-None c = record {
   kept = record {
-    greatest = subst (λ n. IsGreatestSplit (program_of c.args.f.now) n c.args.all c.in_ok-split.split) c.in_ok-front.ensures.count c.in_ok-split.ensures;
+    greatest = c.in_ok-split.ensures;
     keeps = subst (λ (n : Counts). Keeps n c.args.limits.now) c.in_ok-counts.ensures (c.first_exceeded.ensures.none.0 c.in-None.is);
   };
   none = subst (λ (n : Counts). first_over n c.args.limits.now ≡ None) c.in_ok-counts.ensures (sym c.first_exceeded.ensures.first ∙ c.in-None.is);
 }
 
-pub returns : goal.returns
-returns c = record {
+pub returns-in-Some : goal.returns-in-Some
+returns-in-Some c = record {
   exceeded = record {
     split = c.in_ok-split.split;
-    greatest = subst (λ n. IsGreatestSplit (program_of c.args.f.now) n c.args.all c.in_ok-split.split) c.in_ok-front.ensures.count c.in_ok-split.ensures;
+    greatest = c.in_ok-split.ensures;
     exceeds = subst (λ (n : Counts). first_over n c.args.limits.now ≡ Some c.in-Some.over) c.in_ok-counts.ensures (sym c.first_exceeded.ensures.first ∙ c.in-Some.is);
   };
   broken = λ keeps.
