@@ -90,12 +90,12 @@ fn selected<R: Numbers>(
     ensures { let reads = R.reads numbers.now in
         result ≡ operator_value Select width (reads cond ∷ reads first ∷ reads second ∷ []) }
 {
-    let taken = if numbers.number(cond) == 1 {
-        first
+    let number = if numbers.number(cond) == 1 {
+        numbers.number(first)
     } else {
-        second
+        numbers.number(second)
     };
-    eval(Op::Cast, width, &[numbers.number(taken)])
+    eval(Op::Cast, width, &[number])
 }
 
 /// The number that an instruction other than a look gives where nothing is stored or removed.

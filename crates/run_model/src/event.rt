@@ -22,7 +22,8 @@ pub enum Event {
     Ack,
     /// The server lets go of this item of the outputs that it holds.
     Hold(u32),
-    /// The switch releases this item of the packets that come down.
+    /// This item of the packets that come down reaches the switch: it is released or, where passes go stage by stage,
+    /// its pass begins.
     Down(u32),
 }
 

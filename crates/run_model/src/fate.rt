@@ -4,8 +4,9 @@ ghost use Rattle.std.specs.Prelude.{◌≡◌};
 use packet_fields::Verdict;
 use std::marker::Model;
 
-/// How far an admitted packet has come. `admitted`, `decided` and `released` are the numbers of events, counted from 1,
-/// and `version` is the version of the switch's tables that the decision belongs to.
+/// How far an admitted packet has come. `admitted`, `decided` and `released` are the numbers of events, counted from 1.
+/// `version` counts the turns of the server that changed objects which the switch looks up: for a packet that the server
+/// ran those up to its own, and for one that the switch finished those whose changes its lookups saw.
 #[derive(Debug, Drop)]
 pub enum Fate {
     /// Its preprocessing is under way.

@@ -8,7 +8,7 @@ use state_store::{ObjectDecl, Rows, Store};
 use std::alloc::Global;
 use std::marker::Model;
 
-/// Numbers of packets, each once at most, in the serial order of a run.
+/// The numbers of packets in the serial order of a run.
 #[derive(Debug, Drop)]
 pub struct Order {
     items: Vec<u32>,

@@ -95,9 +95,9 @@ impl LineValue for LinkEvent {
     }
 }
 
-/// The events of a schedule over links. A line is one of a schedule without stages, but for `drain`; or `x`, `y` or `z`
-/// for a datagram that is sent, a datagram that arrives or a confirmation that arrives, a space, the name of a link,
-/// which is `up`, `down`, `ctl` or `ack`, a space and a place in decimal.
+/// The events of a schedule over links. A line is one of a schedule, but neither `fine` nor `drain` nor one for a stage;
+/// or `x`, `y` or `z` for a datagram that is sent, a datagram that arrives or a confirmation that arrives, a space, the
+/// name of a link, which is `up`, `down`, `ctl` or `ack`, a space and a place in decimal.
 pub fn read_link_schedule(alloc: Global, text: &[u8]) -> Result<LinkEvents, LinesError>
     ensures ok { IfOk result (λ events. link_schedule_of text.now ≡ Ok events) }
     ensures err { IfErr result (λ e. (e ≡ LinesError.NoMemory) ⊎ (link_schedule_of text.now ≡ Err e)) }
