@@ -1,4 +1,4 @@
-//! What a replay keeps from event to event: a first part of its calls.
+//! The state of a replay between two events, and how packets, commands and passes change it.
 ghost use Rattle.std.specs.Prelude.{◌≡◌, ◌<◌, ◌≤◌, ◌-◌, ◌^◌, ◌++◌, List, true, false, length, Some, None, is_some};
 ghost use Rattle.std.specs.Prelude.{IfErr, IfOk, OnOk, ◌+◌, if◌then◌else◌};
 ghost use Rattle.packet_fields.specs.declared.packet.Packet.{Packet};
@@ -141,7 +141,7 @@ impl Course {
         Ok(pass)
     }
 
-    /// The call over a packet that arrived ended so: its pass has ended, or goes last among those under way.
+    /// Takes up the end of a call over a packet that arrived: its pass has ended, or goes last among those under way.
     pub fn come_in(&mut self, pass: Pass, end: UpEnd) -> Result<(), ReplayError>
         ensures answers { OnOk result (IsUpAnswer end) }
         ensures shown { OnOk result ((s : SplitProgram) (calls more : List Call) (st : State) (answer : UpAnswer)
@@ -179,7 +179,8 @@ impl Course {
         }
     }
 
-    /// The call over a packet that came down ended so: it is released, or its pass goes last among those under way.
+    /// Takes up the end of a call over a packet that came down: the packet is released, or its pass goes last among those
+    /// under way.
     pub fn come_out(&mut self, pass: Pass, end: DownEnd) -> Result<(), ReplayError>
         ensures answers { OnOk result (IsDownAnswer end) }
         ensures shown { OnOk result ((s : SplitProgram) (calls more : List Call) (st : State) (answer : DownAnswer)

@@ -1,5 +1,5 @@
--- A job with which a replayer can begin.
-use Rattle.std.specs.Prelude.{◌≤◌, length}
+-- A job with which a replayer can begin, and which can be replayed over links.
+use Rattle.std.specs.Prelude.{◌≡◌, ◌≤◌, [], false, length}
 use Rattle.flat_ir.specs.Program.{program_of}
 use Rattle.run_model.specs.Sizes.{most_packets}
 use Rattle.split_answers.specs.Whole.{IsSplit}
@@ -11,3 +11,6 @@ pub record IsReady (job : Job) : Type 0 where
   pub stages : HasFewStages job.split
   pub writeback : job.writeback ≤ 65536
   pub few : length job.packets ≤ most_packets
+  pub none : job.events ≡ []
+  pub plain : job.fine ≡ false
+  pub ends : job.drain ≡ false

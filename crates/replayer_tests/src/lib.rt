@@ -1,6 +1,11 @@
-//! Tests of replays call by call, on runs whose reports are known from outside.
+//! Tests of replays: call by call, on runs whose reports are known from outside, and over links, on schedules whose ends
+//! are.
 #![tactic(auto)]
 
+#[cfg(test)]
+mod frame_tests;
+#[cfg(test)]
+mod link_tests;
 #[cfg(test)]
 mod samples;
 #[cfg(test)]

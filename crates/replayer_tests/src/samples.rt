@@ -1,9 +1,8 @@
-//! An address translator that is split, and packets of its flows.
+//! Middleboxes that are split, and packets for them: an address translator and packets of its flows, a program that leaves
+//! every packet to the server, and one whose packets change a table of the switch too.
 ghost use Rattle.std.specs.Prelude.{◌≡◌, ◌≤◌, ◌<◌, length, IfOk};
-ghost use Rattle.flat_ir.specs.Kinds.{is_write};
-ghost use Rattle.flat_ir.specs.Program.{program_of, step_at};
+ghost use Rattle.flat_ir.specs.Program.{program_of};
 ghost use Rattle.run_model.specs.Sizes.{most_packets};
-ghost use Rattle.split_model.specs.Counts.{count_steps};
 ghost use Rattle.state_store.specs.Kept.{IsKept};
 ghost use Rattle.state_store.specs.Store.{start_store};
 ghost use Rattle.replayer_tests.specs.Ready.{IsReady};
@@ -15,15 +14,22 @@ use flatten::flatten;
 use gal_io::Bytes;
 use packet_fields::{Packet, Packets};
 use partition::partition;
+use replay_contracts::Job;
 use resource_limits::Limits;
 use run_model::Events;
-use schedule_replay::Job;
 use split_model::is_bounded;
 use std::alloc::Global;
 use std::test::Fail;
 
-// Port 0 is the inside, port 1 the outside, 192.0.2.1 the public address.
-const TRANSLATOR: &str = "map out (32, 16) -> (16) capacity 60000;
+/// A packet leaves by the port of its first byte.
+pub(crate) const FORWARDS: &str = "process { send byte(0:16); }";
+
+/// So it does, and the switch hears of it.
+pub(crate) const TELLS: &str =
+    "map seen (8) -> (8) capacity 256; process { look f, n = seen[0:8]; put a = seen[byte(0:16)] -> 1:8; send byte(0:16); }";
+
+/// An address translator. Port 0 is the inside, port 1 the outside, 192.0.2.1 the public address.
+pub(crate) const TRANSLATOR: &str = "map out (32, 16) -> (16) capacity 60000;
 map back (16) -> (32, 16) capacity 60000;
 int next : 16 = 1024;
 process {
@@ -135,22 +141,19 @@ pub(crate) fn eight_flows(alloc: Global) -> Result<Packets, Fail> {
     Ok(packets)
 }
 
-// How many instructions change an object.
-fn changes(flat: &Flat) -> u32
-    requires { length (program_of flat.now).code ≤ 4096 }
-    ensures { result ≡ count_steps (program_of flat.now) (λ i. is_write (step_at (program_of flat.now) i).work) }
-{
-    let code = flat.code.as_slice();
-    let mut count = 0;
-    for number in 0..code.len() {
-        if code[number].kind.is_write() {
-            count += 1;
-        }
+/// Packets of one byte each, from port 0.
+pub(crate) fn of_bytes(alloc: Global, bytes: &[u8]) -> Result<Packets, Fail> {
+    let mut packets = Packets::new(alloc);
+    for byte in bytes {
+        packets.push(Packet {
+            port: 0,
+            bytes: Bytes::from_slice(alloc, &[*byte])?,
+        })?;
     }
-    count
+    Ok(packets)
 }
 
-// A split that a replayer can begin with: with so few changes, a write-back table has a row for each.
+// A split that may be replayed: a write-back table has a row for each instruction that a program may have.
 fn job_of(alloc: Global, flat: Flat, packets: Packets) -> Result<Job, Fail>
     requires kept { IsKept (program_of flat).objects (start_store (program_of flat).objects) }
     requires few { length packets ≤ most_packets }
@@ -159,14 +162,11 @@ fn job_of(alloc: Global, flat: Flat, packets: Packets) -> Result<Job, Fail>
     if !is_bounded(&flat) {
         return Err(Fail::from("not bounded"));
     }
-    if changes(&flat) > LIMITS.writeback {
-        return Err(Fail::from("too many changes"));
-    }
     let split = partition(alloc, &flat, &LIMITS, false)?;
     Ok(Job {
         flat,
         split,
-        writeback: LIMITS.writeback,
+        writeback: 4096,
         packets,
         fine: false,
         events: Events::new(alloc),
@@ -174,15 +174,15 @@ fn job_of(alloc: Global, flat: Flat, packets: Packets) -> Result<Job, Fail>
     })
 }
 
-/// The translator, with these packets, which are at most 64.
-pub(crate) fn job(alloc: Global, packets: Packets) -> Result<Job, Fail>
+/// A source with these packets, which are at most 64.
+pub(crate) fn job(alloc: Global, source: &str, packets: Packets) -> Result<Job, Fail>
     ensures { IfOk result IsReady }
 {
     if packets.len() > 64 {
         return Err(Fail::from("too many packets"));
     }
     stores_are_kept();
-    let middlebox = read(alloc, TRANSLATOR.as_bytes())?;
+    let middlebox = read(alloc, source.as_bytes())?;
     let flat = flatten(alloc, &middlebox)?;
     job_of(alloc, flat, packets)
 }

@@ -4,7 +4,7 @@ ghost use Rattle.run_model.specs.Sizes.{most_events};
 ghost use Rattle.schedule_replay.specs.Replayer.{IsStanding, seen_as};
 ghost use Rattle.replayer_tests.specs.Ready.{IsReady};
 
-use crate::samples::{eight_flows, job, one_flow};
+use crate::samples::{TRANSLATOR, eight_flows, job, one_flow};
 use gal_io::{NoMemory, Text};
 use packet_fields::Packets;
 use run_model::Event;
@@ -133,7 +133,7 @@ fn performed(
 ) -> Result<Told, Fail>
     requires { length events.now ≤ 64 }
 {
-    let job = job(alloc, packets)?;
+    let job = job(alloc, TRANSLATOR, packets)?;
     let port = switch(alloc, failing)?;
     performed_over(alloc, &job, port, events, drains)
 }

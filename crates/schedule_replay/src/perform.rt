@@ -38,9 +38,9 @@ fn conclude<S: SwitchPort>(
     Ok(())
 }
 
-/// Loads a switch with the code of a job, performs the job's events, and then, where it is asked for, those that end
-/// the run. No call of the switch failed then. After an error it is told of the switch only that just one call of it
-/// failed, or that none did and there was no memory; it tells its tables where it told them before.
+/// Replays a job over a switch: loads its code, performs the job's events and, where the job asks for it, the events that
+/// drain the run. After Ok no call of the switch failed. After an error exactly one call failed, or none where memory ran
+/// out, and the switch tells its tables where it told them before; the clauses say nothing else of it.
 pub fn replay<S: SwitchPort>(
     alloc: Global,
     job: &Job,
