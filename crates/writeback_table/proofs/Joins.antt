@@ -119,7 +119,7 @@ moves true false m n count room s w new one = record { full = refl; rows = omega
 moves false true m n count room s w new one = let l = one refl in record { full = grind (arith, nat_tests); rows = omega (arith, s, l); within = w }
 moves false false m n count room s w new one = let l = new refl in record { full = grind (arith, nat_tests); rows = omega (arith, s); within = omega (arith, l) }
 
-swap : (a b : Bool) → (a || b) ≡ (b || a)
+pub swap : (a b : Bool) → (a || b) ≡ (b || a)
 swap true true = refl
 swap true false = refl
 swap false true = refl

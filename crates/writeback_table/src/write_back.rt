@@ -1,6 +1,7 @@
 //! The write-back table of one object.
-ghost use Rattle.std.specs.Prelude.{◌≡◌, ◌<◌, ◌-◌, ◌^◌, false, IfOk, OnOk, if◌then◌else◌};
+ghost use Rattle.std.specs.Prelude.{◌≡◌, ◌<◌, ◌-◌, ◌^◌, ◌||◌, false, IfOk, OnOk, if◌then◌else◌};
 ghost use Rattle.std.specs.FinMap as map;
+ghost use Rattle.state_store.specs.Store.{put_row, del_row};
 ghost use Rattle.writeback_table.specs.Pair.{can_stage, values_of, with_change, with_staged};
 ghost use Rattle.writeback_table.specs.Staging.{joined, IsCounted, values_then, gone_then};
 ghost use Rattle.writeback_table.specs.Staging as rows;
@@ -82,8 +83,7 @@ impl WriteBack {
             result ≡ (if fits then Applied.Done else Applied.NoRoom) }
         ensures after { self.new ≡ record self.old { rows = with_change self.old.rows self.old.room update.now } }
     {
-        let known = self.row(&update.key).is_some();
-        if !known && self.count >= self.room {
+        if self.count >= self.room && self.row(&update.key).is_none() {
             return Applied::NoRoom;
         }
         self.count = stage_row(
@@ -91,7 +91,6 @@ impl WriteBack {
             &mut self.gone,
             self.count,
             self.room,
-            known,
             update,
         );
         Applied::Done
@@ -113,15 +112,7 @@ impl WriteBack {
     pub fn clear(&mut self, key: &Values)
         ensures { self.new ≡ record self.old { rows = map.remove self.old.rows key.now } }
     {
-        let known = self.row(key).is_some();
-        self.count = clear_row(
-            &mut self.values,
-            &mut self.gone,
-            self.count,
-            self.room,
-            known,
-            key,
-        );
+        self.count = clear_row(&mut self.values, &mut self.gone, self.count, self.room, key);
     }
 }
 
@@ -131,35 +122,41 @@ fn stage_row(
     gone: &mut OneObject,
     count: u32,
     room: u32,
-    known: bool,
     update: &Update,
 ) -> u32
     requires counted { IsCounted values.old gone.old count room }
-    requires known { known ≡ map.contains_key (joined values.old.contents gone.old.contents) update.now.key }
-    requires few { known ≡ false → count < room }
+    requires few { map.contains_key (joined values.old.contents gone.old.contents) update.now.key ≡ false
+        → count < room }
     ensures rows { joined values.new.contents gone.new.contents
         ≡ map.insert (joined values.old.contents gone.old.contents) update.now.key (values_of update.now.to) }
     ensures counted { IsCounted values.new gone.new result room }
 {
-    write_row(values, gone, update);
+    let known = write_row(values, gone, update);
     count_in(known, count)
 }
 
-// Writes a row into one of two maps, and takes its key out of the other.
-fn write_row(values: &mut OneObject, gone: &mut OneObject, update: &Update)
+// Writes a row into one of two maps, and takes its key out of the other. It answers whether one of them had the key.
+fn write_row(values: &mut OneObject, gone: &mut OneObject, update: &Update) -> bool
     ensures values { values.new ≡ values_then values.old update.now.key update.now.to }
     ensures gone { gone.new ≡ gone_then gone.old update.now.key update.now.to }
+    ensures known { result ≡ map.contains_key (joined values.old.contents gone.old.contents) update.now.key }
 {
     match update.to {
-        To::Value(row) => {
-            let _ = values.put(&update.key, &row);
-            gone.del(&update.key);
-        }
-        To::Gone => {
-            values.del(&update.key);
-            let _ = gone.put(&update.key, &Values::new());
-        }
+        To::Value(row) => move_row(gone, values, &update.key, &row),
+        To::Gone => move_row(values, gone, &update.key, &Values::new()),
     }
+}
+
+// Takes a key out of one map, and puts a row under it into the other. It answers whether one of them had the key.
+fn move_row(from: &mut OneObject, to: &mut OneObject, key: &Values, row: &Values) -> bool
+    ensures from { from.new ≡ del_row from.old key.now }
+    ensures to { to.new ≡ put_row to.old key.now row.now }
+    ensures known { result
+        ≡ (map.contains_key from.old.contents key.now || map.contains_key to.old.contents key.now) }
+{
+    let known = from.del(key) || to.get(key).found;
+    let _ = to.put(key, row);
+    known
 }
 
 fn count_in(known: bool, count: u32) -> u32
@@ -185,16 +182,24 @@ fn clear_row(
     gone: &mut OneObject,
     count: u32,
     room: u32,
-    known: bool,
     key: &Values,
 ) -> u32
     requires counted { IsCounted values.old gone.old count room }
-    requires known { known ≡ map.contains_key (joined values.old.contents gone.old.contents) key.now }
     ensures rows { joined values.new.contents gone.new.contents
         ≡ map.remove (joined values.old.contents gone.old.contents) key.now }
     ensures counted { IsCounted values.new gone.new result room }
 {
-    values.del(key);
-    gone.del(key);
+    let known = remove_row(values, gone, key);
     count_out(known, count)
+}
+
+// Takes a key out of both maps. It answers whether one of them had the key.
+fn remove_row(values: &mut OneObject, gone: &mut OneObject, key: &Values) -> bool
+    ensures values { values.new ≡ del_row values.old key.now }
+    ensures gone { gone.new ≡ del_row gone.old key.now }
+    ensures known { result
+        ≡ (map.contains_key values.old.contents key.now || map.contains_key gone.old.contents key.now) }
+{
+    let was_gone = gone.del(key);
+    values.del(key) || was_gone
 }
