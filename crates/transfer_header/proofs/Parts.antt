@@ -36,9 +36,6 @@ pub length-shown : (bytes : List ℕ) (count held : ℕ) (view : List ℕ) → S
 length-shown bytes count held view s =
     sym (ap (λ (x : List ℕ). length x) s.is) ∙ length-append (bits_in bytes) (bits_of count held) ∙ omega (arith, length-bits_in bytes, length-bits_of count held)
 
-pub room_shown : (bytes : List ℕ) (count held : ℕ) (view : List ℕ) → Shows bytes count held view → length view % 8 ≡ count
-room_shown bytes count held view s = omega (arith, length-shown bytes count held view s, s.short)
-
 pub are_shown : (bytes : List ℕ) (count held : ℕ) (view : List ℕ) → Shows bytes count held view → AreBits view
 are_shown bytes count held view s = subst AreBits s.is (All-append (λ bit. bit < 2) (bits_in bytes) (bits_of count held) (are_bits_in bytes) (are_bits_of count held))
 
@@ -49,52 +46,54 @@ none_held bytes = ap (λ x. bits_in bytes ++ x) (bits_of-zero 0) ∙ append-nil 
 pub has_room : (bytes : List ℕ) (count held width capacity : ℕ) (view : List ℕ) → Shows bytes count held view → length view + width ≤ 8 * capacity → 8 * length bytes + (count + width) ≤ 8 * capacity
 has_room bytes count held width capacity view s within = omega (arith, length-shown bytes count held view s)
 
--- the bits of the part, as they are computed
-pub part_held : (count held width number : ℕ) → held < 2 ^ count → count + width ≤ 8
-    → let next = held * 2 ^ width % 2 ^ 64 + number % (1 * 2 ^ width % 2 ^ 64) in (next ≡ held * 2 ^ width + number % 2 ^ width) × (next < 2 ^ (count + width)) × (next < 256)
-part_held count held width number small room =
-    let cut : number % (1 * 2 ^ width % 2 ^ 64) ≡ number % 2 ^ width = ap (λ x. number % x) (one_shl width 64 (omega arith)) in
+-- the bits of a part behind those that are held, as they are computed
+pub part_held : (count held width number : ℕ) → held < 2 ^ count → width < 64 → count + width ≤ 64
+    → let next = held * 2 ^ width % 2 ^ 64 + number % (1 * 2 ^ width % 2 ^ 64) in (next ≡ held * 2 ^ width + number % 2 ^ width) × (next < 2 ^ 64)
+part_held count held width number small short room =
+    let cut : number % (1 * 2 ^ width % 2 ^ 64) ≡ number % 2 ^ width = ap (λ x. number % x) (one_shl width 64 short) in
     let low : number % 2 ^ width < 2 ^ width = mod_below number (2 ^ width) (pow_pos width) in
-    let joined = side_by_side count width held (number % 2 ^ width) small low (omega arith) in
-    let most : 2 ^ (count + width) ≤ 2 ^ 8 = pow-le-pow_right (lit< tt) {j = 8} room in
-    (omega (arith, cut, joined.0), omega (arith, cut, joined.1), omega (arith, cut, joined.1, most))
+    let joined = side_by_side count width held (number % 2 ^ width) small low room in
+    (omega (arith, cut, joined.0), omega (arith, cut, joined.2))
 
-pub part_put : (bytes : List ℕ) (count held width number : ℕ) (view : List ℕ) → Shows bytes count held view → count + width ≤ 8
-    → bits_in bytes ++ bits_of (count + width) (held * 2 ^ width % 2 ^ 64 + number % (1 * 2 ^ width % 2 ^ 64)) ≡ view ++ bits_of width number
-part_put bytes count held width number view s room =
+-- and bytes that they were pushed into, with those that are left
+pub part_put : (bytes next : List ℕ) (count held width number left : ℕ) (view : List ℕ) → Shows bytes count held view → width < 64 → count + width ≤ 64 → left < 8
+    → let all = held * 2 ^ width % 2 ^ 64 + number % (1 * 2 ^ width % 2 ^ 64) in bits_in next ++ bits_of left all ≡ bits_in bytes ++ bits_of (count + width) all
+    → bits_in next ++ bits_of left (all % (1 * 2 ^ left % 2 ^ 64)) ≡ view ++ bits_of width number
+part_put bytes next count held width number left view s short room few pushed =
+    let all : ℕ = held * 2 ^ width % 2 ^ 64 + number % (1 * 2 ^ width % 2 ^ 64) in
     let low : number % 2 ^ width < 2 ^ width = mod_below number (2 ^ width) (pow_pos width) in
-    ap (λ x. bits_in bytes ++ bits_of (count + width) x) (part_held count held width number s.small room).0
+    ap (λ x. bits_in next ++ bits_of left (all % x)) (one_shl left 64 (omega arith))
+    ∙ ap (λ x. bits_in next ++ x) (bits_of-low left all)
+    ∙ pushed
+    ∙ ap (λ x. bits_in bytes ++ bits_of (count + width) x) (part_held count held width number s.small short room).0
     ∙ ap (λ x. bits_in bytes ++ x) (bits_of-cat count width held (number % 2 ^ width) low ∙ ap (λ x. bits_of count held ++ x) (bits_of-low width number))
     ∙ sym (append_assoc (bits_in bytes) (bits_of count held) (bits_of width number))
     ∙ ap (λ x. x ++ bits_of width number) s.is
 
--- a byte that is full moves behind the others
-pub byte_put : (bytes next : List ℕ) (count held width number : ℕ) (view : List ℕ) → Shows bytes count held view → width ≤ 8 - length view % 8 → 8 ≤ count + width
-    → next ≡ bytes ++ (held * 2 ^ width % 2 ^ 64 + number % (1 * 2 ^ width % 2 ^ 64)) ∷ []
-    → (bits_in next ++ bits_of 0 0 ≡ view ++ bits_of width number) × AreBytes next
-byte_put bytes next count held width number view s room full is =
-    let byte : ℕ = held * 2 ^ width % 2 ^ 64 + number % (1 * 2 ^ width % 2 ^ 64) in
-    let eight : count + width ≡ 8 = omega (arith, room_shown bytes count held view s, s.short) in (
-      ap (λ x. bits_in next ++ x) (bits_of-zero 0) ∙ append-nil (bits_in next) ∙ ap bits_in is ∙ bits_in-push bytes byte
-          ∙ ap (λ x. bits_in bytes ++ bits_of x byte) (sym eight) ∙ part_put bytes count held width number view s (omega arith),
-      subst AreBytes (sym is) (All-push (λ byte. byte < 256) bytes byte s.are (part_held count held width number s.small (omega arith)).2),
-    )
+pub low_bits : (left all : ℕ) → left < 8 → all % (1 * 2 ^ left % 2 ^ 64) < 2 ^ left
+low_bits left all few = subst (λ x. all % x < 2 ^ left) (sym (one_shl left 64 (omega arith))) (mod_below all (2 ^ left) (pow_pos left))
 
-pub more_put : (before now after : List ℕ) (part left width number : ℕ) → part ≤ left → now ++ bits_of left number ≡ before ++ bits_of width number → after ≡ now ++ bits_of part (number / 2 ^ (left - part))
-    → after ++ bits_of (left - part) number ≡ before ++ bits_of width number
-more_put before now after part left width number within all put =
-    let whole : part + (left - part) ≡ left = omega arith in
-    ap (λ x. x ++ bits_of (left - part) number) put ∙ append_assoc now (bits_of part (number / 2 ^ (left - part))) (bits_of (left - part) number)
-    ∙ ap (λ x. now ++ x) (sym (bits_of-add part (left - part) number) ∙ ap (λ k. bits_of k number) whole) ∙ all
+-- the next byte of a number goes behind other bytes
+pub byte_pushed : (bytes next all : List ℕ) (left number : ℕ) → 8 ≤ left → next ≡ bytes ++ (number / 2 ^ (left - 8) % 256) ∷ [] → bits_in bytes ++ bits_of left number ≡ all
+    → bits_in next ++ bits_of (left - 8) number ≡ all
+byte_pushed bytes next all left number some is so_far =
+    let rest : ℕ = left - 8 in
+    let whole : 8 + rest ≡ left = omega arith in
+    ap (λ x. bits_in x ++ bits_of rest number) is
+    ∙ ap (λ x. x ++ bits_of rest number) (bits_in-push bytes (number / 2 ^ rest % 256) ∙ ap (λ x. bits_in bytes ++ x) (bits_of-low 8 (number / 2 ^ rest)))
+    ∙ append_assoc (bits_in bytes) (bits_of 8 (number / 2 ^ rest)) (bits_of rest number)
+    ∙ ap (λ x. bits_in bytes ++ x) (sym (bits_of-add 8 rest number) ∙ ap (λ k. bits_of k number) whole)
+    ∙ so_far
 
-pub as_many : (before now : List ℕ) (left width number : ℕ) → now ++ bits_of left number ≡ before ++ bits_of width number → length now + left ≡ length before + width
-as_many before now left width number all =
-    omega (arith, ap (λ (x : List ℕ). length x) all, length-append now (bits_of left number), length-append before (bits_of width number), length-bits_of left number, length-bits_of width number)
+-- a number that is put in two parts
+pub parts_put : (before between after : List ℕ) (high low width number : ℕ) → high + low ≡ width → between ≡ before ++ bits_of high (number / 2 ^ low) → after ≡ between ++ bits_of low number
+    → after ≡ before ++ bits_of width number
+parts_put before between after high low width number whole first second =
+    second ∙ ap (λ x. x ++ bits_of low number) first ∙ append_assoc before (bits_of high (number / 2 ^ low)) (bits_of low number)
+    ∙ ap (λ x. before ++ x) (sym (bits_of-add high low number) ∙ ap (λ k. bits_of k number) whole)
 
-pub all_put : (before now : List ℕ) (left width number : ℕ) → left ≤ 0 → now ++ bits_of left number ≡ before ++ bits_of width number → now ≡ before ++ bits_of width number
-all_put before now left width number none all =
-    let zero : left ≡ 0 = omega arith in
-    sym (append-nil now) ∙ sym (ap (λ x. now ++ x) (ap (λ k. bits_of k number) zero ∙ bits_of-zero number)) ∙ all
+pub length-put : (before after : List ℕ) (width number : ℕ) → after ≡ before ++ bits_of width number → length after ≡ length before + width
+length-put before after width number is = ap (λ (x : List ℕ). length x) is ∙ length-append before (bits_of width number) ∙ omega (arith, length-bits_of width number)
 
 -- the last byte, filled with zeros
 pub last_byte : (count held : ℕ) → 0 < count → count < 8 → held < 2 ^ count → (held * 2 ^ (8 - count) % 2 ^ 64 ≡ held * 2 ^ (8 - count)) × (held * 2 ^ (8 - count) % 2 ^ 64 < 256)
@@ -124,21 +123,43 @@ finished_even bytes count held view s none =
     is_packed bytes view 0 s.are (are_shown bytes count held view s) (lit< tt) bits
 
 -- ---- reading
-pub part_read : (bytes : List ℕ) (start width : ℕ) → start % 8 + width ≤ 8 → start + width ≤ 8 * length bytes
-    → bits_of width (get_or bytes (start / 8) 0 / 2 ^ (8 - start % 8 - width) % (1 * 2 ^ width % 2 ^ 64)) ≡ take width (drop start (bits_in bytes))
-part_read bytes start width inside within =
-    let behind : ℕ = 8 - start % 8 - width in
-    let byte : ℕ = get_or bytes (start / 8) 0 in
+-- a byte more of a number
+pub byte_read : (bytes : List ℕ) (index number byte : ℕ) → index < 8 → byte < 2 ^ 8 → number < 2 ^ (8 * index) → bits_of (8 * index) number ≡ bits_in bytes
+    → bits_of (8 * (index + 1)) (number * 2 ^ 8 % 2 ^ 64 + byte) ≡ bits_in (bytes ++ byte ∷ [])
+byte_read bytes index number byte short is_byte fits is =
+    let more : 8 * (index + 1) ≡ 8 * index + 8 = omega arith in
+    ap (λ k. bits_of k (number * 2 ^ 8 % 2 ^ 64 + byte)) more
+    ∙ ap (bits_of (8 * index + 8)) (side_by_side (8 * index) 8 number byte fits is_byte (omega arith)).0
+    ∙ bits_of-cat (8 * index) 8 number byte is_byte
+    ∙ ap (λ x. x ++ bits_of 8 byte) is
+    ∙ sym (bits_in-push bytes byte)
+
+-- the bits of a range, from the number of the bytes that they touch
+pub part_read : (bytes : List ℕ) (start width number : ℕ) → width < 64 → start + width ≤ 8 * length bytes
+    → let touched = take ((start + width + 7) / 8 - start / 8) (drop (start / 8) bytes) in bits_of (8 * length touched) number ≡ bits_in touched
+    → bits_of width (number / 2 ^ (8 * ((start + width + 7) / 8) - start - width) % (1 * 2 ^ width % 2 ^ 64)) ≡ take width (drop start (bits_in bytes))
+part_read bytes start width number short within is =
+    let count : ℕ = (start + width + 7) / 8 - start / 8 in
+    let touched : List ℕ = take count (drop (start / 8) bytes) in
+    let behind : ℕ = 8 * ((start + width + 7) / 8) - start - width in
     let range : List ℕ = take width (drop start (bits_in bytes)) in
     let len : length range ≡ width = length-take width (drop start (bits_in bytes)) ∙ min-eq_left (omega (arith, length-drop start (bits_in bytes), length-bits_in bytes)) in
-    ap (λ x. bits_of width (byte / 2 ^ behind % x)) (one_shl width 64 (omega arith))
-    ∙ bits_of-low width (byte / 2 ^ behind)
-    ∙ ext_get_or 0 (bits_of width (byte / 2 ^ behind)) range (length-bits_of width (byte / 2 ^ behind) ∙ sym len)
-    (λ i below. let early : i < width = omega (arith, length-bits_of width (byte / 2 ^ behind)) in
-    let place : start / 8 ≡ (start + i) / 8 = omega arith in
-    let bit : behind + (width - 1 - i) ≡ 7 - (start + i) % 8 = omega arith in
-    get_or-bits_of width (byte / 2 ^ behind) i early ∙ bit_at-shr byte behind (width - 1 - i)
-    ∙ ap (λ x. bit_at (get_or bytes x 0) (behind + (width - 1 - i))) place ∙ ap (bit_at (get_or bytes ((start + i) / 8) 0)) bit
+    let all : length touched ≡ count = length-take count (drop (start / 8) bytes) ∙ min-eq_left (omega (arith, length-drop (start / 8) bytes)) in
+    ap (λ x. bits_of width (number / 2 ^ behind % x)) (one_shl width 64 short)
+    ∙ bits_of-low width (number / 2 ^ behind)
+    ∙ ext_get_or 0 (bits_of width (number / 2 ^ behind)) range (length-bits_of width (number / 2 ^ behind) ∙ sym len)
+    (λ i below. let early : i < width = omega (arith, length-bits_of width (number / 2 ^ behind)) in
+    let at : ℕ = start % 8 + i in
+    let near : at < 8 * length touched = omega (arith, all) in
+    let near_byte : at / 8 < count = omega arith in
+    let bit : behind + (width - 1 - i) ≡ 8 * length touched - 1 - at = omega (arith, all) in
+    let place : start / 8 + at / 8 ≡ (start + i) / 8 = omega arith in
+    let same : 7 - at % 8 ≡ 7 - (start + i) % 8 = omega arith in
+    get_or-bits_of width (number / 2 ^ behind) i early ∙ bit_at-shr number behind (width - 1 - i)
+    ∙ ap (bit_at number) bit ∙ sym (get_or-bits_of (8 * length touched) number at near)
+    ∙ ap (λ x. get_or x at 0) is ∙ get_or-bits_in touched at near
+    ∙ ap (λ x. bit_at x (7 - at % 8)) (get_or-take count (drop (start / 8) bytes) (at / 8) 0 near_byte ∙ get_or-drop (start / 8) bytes (at / 8) 0)
+    ∙ ap (λ x. bit_at (get_or bytes x 0) (7 - at % 8)) place ∙ ap (bit_at (get_or bytes ((start + i) / 8) 0)) same
     ∙ sym (get_or-bits_in bytes (start + i) (omega arith))
     ∙ sym (get_or-drop start (bits_in bytes) i 0) ∙ sym (get_or-take width (drop start (bits_in bytes)) i 0 early))
 

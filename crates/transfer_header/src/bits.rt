@@ -1,9 +1,13 @@
 //! Numbers packed into bytes bit by bit.
 ghost use Rattle.std.specs.Prelude.{◌≡◌, ◌+◌, ◌-◌, ◌*◌, ◌%◌, ◌^◌, ◌<◌, ◌≤◌};
-ghost use Rattle.std.specs.Prelude.{◌++◌, length, take, drop, vec_capacity};
+ghost use Rattle.std.specs.Prelude.{◌++◌, length, take, drop, vec_len, vec_capacity};
+ghost use Rattle.std.specs.List.{All};
 ghost use Rattle.transfer_header.specs.Bits.{bits_of, bits_in, packed};
 
 use std::marker::Model;
+
+// How many bits are put or read at once: with those that lie beside them in their bytes, a number of 64 bits takes them.
+const PART: u32 = 56;
 
 // Bits that are put one behind the other into memory that was taken before. Contracts see the list of them, and how
 // many bytes the memory holds. Bits that don't fill a byte are held back.
@@ -43,30 +47,16 @@ impl BitWriter {
         }
     }
 
-    // How many bits the last byte still takes.
-    fn room(&self) -> u32
-        ensures { result ≡ 8 - length self.now.bits % 8 }
-    {
-        8 - self.count
-    }
-
-    // Puts the lowest bits of a number, so many of them, into the last byte.
+    // Puts the lowest bits of a number, so many of them, at most `PART`.
     fn put_part(&mut self, number: u64, width: u32)
-        requires inside { width ≤ 8 - length self.old.bits % 8 }
+        requires narrow { width ≤ 56 }
         requires within { length self.old.bits + width ≤ 8 * self.old.capacity }
         ensures bits { self.new.bits ≡ self.old.bits ++ bits_of width number }
         ensures capacity { self.new.capacity ≡ self.old.capacity }
     {
         let held = (self.held << width) + number % (1 << width);
-        let count = self.count + width;
-        if count < 8 {
-            self.held = held;
-            self.count = count;
-        } else {
-            self.bytes.push_reserved(held as u8);
-            self.held = 0;
-            self.count = 0;
-        }
+        self.count = push_bytes(&mut self.bytes, held, self.count + width);
+        self.held = held % (1 << self.count);
     }
 
     // Puts the lowest bits of a number, so many of them.
@@ -76,11 +66,11 @@ impl BitWriter {
         ensures bits { self.new.bits ≡ self.old.bits ++ bits_of width number }
         ensures capacity { self.new.capacity ≡ self.old.capacity }
     {
-        let mut left = width;
-        while left > 0 {
-            let part = left.min(self.room());
-            left -= part;
-            self.put_part(number >> left, part);
+        if width > PART {
+            self.put_part(number >> PART, width - PART);
+            self.put_part(number, PART);
+        } else {
+            self.put_part(number, width);
         }
     }
 
@@ -101,17 +91,49 @@ impl BitWriter {
     }
 }
 
-// The number in a range of bits that lies in one byte.
+// Puts the lowest bits of a number, so many of them, behind bytes into memory that was taken before, as far as they fill
+// bytes. It answers how many are left.
+fn push_bytes(bytes: &mut Vec<u8>, number: u64, count: u32) -> u32
+    requires are { All (λ byte. byte < 256) bytes.old.items }
+    requires narrow { count ≤ 64 }
+    requires within { 8 * vec_len bytes.old + count ≤ 8 * vec_capacity bytes.old }
+    ensures are { All (λ byte. byte < 256) bytes.new.items }
+    ensures left { result < 8 }
+    ensures within { 8 * vec_len bytes.new + result ≤ 8 * vec_capacity bytes.new }
+    ensures bits { bits_in bytes.new.items ++ bits_of result number ≡ bits_in bytes.old.items ++ bits_of count number }
+    ensures capacity { vec_capacity bytes.new ≡ vec_capacity bytes.old }
+{
+    let mut left = count;
+    while left >= 8 {
+        left -= 8;
+        bytes.push_reserved(((number >> left) % 256) as u8);
+    }
+    left
+}
+
+// The number that bytes are, the highest first.
+fn number_in(bytes: &[u8]) -> u64
+    requires few { length bytes.now ≤ 8 }
+    ensures { bits_of (8 * length bytes.now) result ≡ bits_in bytes.now }
+{
+    let mut number = 0;
+    for byte in bytes {
+        number = (number << 8) + u64::from(*byte);
+    }
+    number
+}
+
+// The number in a range of bits, of at most `PART`: that of the bytes that they touch, without the bits on both sides.
 fn read_part(bytes: &[u8], start: usize, width: usize) -> u64
     requires near { start ≤ 2 ^ 41 }
-    requires inside { start % 8 + width ≤ 8 }
-    requires some { 0 < width }
+    requires narrow { width ≤ 56 }
     requires within { start + width ≤ 8 * length bytes.now }
     ensures bits { bits_of width result ≡ take width (drop start (bits_in bytes.now)) }
     ensures fits { result < 2 ^ width }
 {
-    let byte = u64::from(bytes[start / 8]);
-    (byte >> (8 - start % 8 - width)) % (1 << width)
+    let end = (start + width + 7) / 8;
+    let number = number_in(&bytes[start / 8..end]);
+    (number >> (8 * end - start - width)) % (1 << width)
 }
 
 // The number in a range of bits.
@@ -122,13 +144,10 @@ pub(crate) fn read_bits(bytes: &[u8], start: usize, width: usize) -> u64
     ensures bits { bits_of width result ≡ take width (drop start (bits_in bytes.now)) }
     ensures fits { result < 2 ^ width }
 {
-    let mut number: u64 = 0;
-    let mut done = 0;
-    while done < width {
-        let at = start + done;
-        let part = (8 - at % 8).min(width - done);
-        number = (number << part) + read_part(bytes, at, part);
-        done += part;
+    let part = PART as usize;
+    if width <= part {
+        return read_part(bytes, start, width);
     }
-    number
+    let high = read_part(bytes, start, width - part);
+    (high << part) + read_part(bytes, start + (width - part), part)
 }

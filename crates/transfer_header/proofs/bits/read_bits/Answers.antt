@@ -1,22 +1,20 @@
-use Rattle.std.proofs.Common.{arith, lit<, ◌+◌, ◌≤◌}
-use Rattle.transfer_header.specs.Bits.{bits_in}
-use Rattle.transfer_header.proofs.BitLists.{bits_of-zero}
+use Rattle.std.proofs.Common.{◌≡◌, ◌+◌, ◌-◌, ◌*◌, ◌%◌, ◌^◌, ◌<◌, arith, subst, take, drop}
+use Rattle.transfer_header.specs.Bits.{bits_of, bits_in}
 use Rattle.transfer_header.proofs.Parts.{side_by_side, more_read}
 use Rattle.transfer_header.proofs.bits.read_bits.Goals as goal
 
-pub loop-done-init : goal.loop-done-init
-loop-done-init c = record { within = omega arith; fits = lit< tt; bits = bits_of-zero 0 }
+pub returns-clause-bits : goal.returns-clause-bits
+returns-clause-bits c =
+    let first = c.read_part-high in
+    let second = c.read_part-2 in
+    let whole : c.args.width - 56 + 56 ≡ c.args.width = omega (arith, c.if-width-part.false) in
+    subst (λ w. bits_of w (first.result * 2 ^ 56 % 2 ^ 64 + second.result) ≡ take w (drop c.args.start (bits_in c.args.bytes.now))) whole
+    (more_read (bits_in c.args.bytes.now) c.args.start (c.args.width - 56) 56 first.result second.result first.ensures.fits second.ensures.fits (omega (arith, c.requires.narrow)) first.ensures.bits second.ensures.bits)
 
-pub overflow_add-number : goal.overflow_add-number
-overflow_add-number c =
-    let room : c.loop-done.done + c.min-part.result ≤ 64 = omega arith in
-    omega (arith, (side_by_side c.loop-done.done c.min-part.result c.loop-done.number c.read_part.result c.loop-done.invariant.fits c.read_part.ensures.fits room).2)
-
-pub loop-done-preserved : goal.loop-done-preserved
-loop-done-preserved c =
-    let room : c.loop-done.done + c.min-part.result ≤ 64 = omega arith in
-    record {
-      within = omega arith;
-      fits = (side_by_side c.loop-done.done c.min-part.result c.loop-done.number c.read_part.result c.loop-done.invariant.fits c.read_part.ensures.fits room).1;
-      bits = more_read (bits_in c.args.bytes.now) c.args.start c.loop-done.done c.min-part.result c.loop-done.number c.read_part.result c.loop-done.invariant.fits c.read_part.ensures.fits room c.loop-done.invariant.bits c.read_part.ensures.bits;
-    }
+pub returns-clause-fits : goal.returns-clause-fits
+returns-clause-fits c =
+    let first = c.read_part-high in
+    let second = c.read_part-2 in
+    let whole : c.args.width - 56 + 56 ≡ c.args.width = omega (arith, c.if-width-part.false) in
+    subst (λ w. first.result * 2 ^ 56 % 2 ^ 64 + second.result < 2 ^ w) whole
+    (side_by_side (c.args.width - 56) 56 first.result second.result first.ensures.fits second.ensures.fits (omega (arith, c.requires.narrow))).1

@@ -1,17 +1,11 @@
-use Rattle.std.proofs.Common.{arith}
-use Rattle.transfer_header.proofs.Parts.{more_put, all_put, as_many}
+use Rattle.std.proofs.Common.{◌-◌, arith}
+use Rattle.transfer_header.proofs.Parts.{parts_put, length-put}
 use Rattle.transfer_header.proofs.bits.BitWriter.put.Goals as goal
 
-pub put_part-requires-clause-within : goal.put_part-requires-clause-within
-put_part-requires-clause-within c =
-    omega (arith, as_many c.args.self.now.bits c.loop-left.self.bits c.loop-left.left c.args.width c.args.number c.loop-left.invariant.all, c.requires.within, c.loop-left.invariant.capacity)
+pub put_part-requires-then-width-gt-PART-clause-within : goal.put_part-requires-then-width-gt-PART-clause-within
+put_part-requires-then-width-gt-PART-clause-within c =
+    omega (arith, length-put c.args.self.now.bits c.put_part.new.self.bits (c.args.width - 56) _ c.put_part.ensures.bits, c.requires.within, c.if-width-gt-PART.true, c.put_part.ensures.capacity)
 
-pub loop-left-preserved : goal.loop-left-preserved
-loop-left-preserved c = record {
-  narrow = omega arith;
-  all = more_put c.args.self.now.bits c.loop-left.self.bits c.put_part.new.self.bits c.min-part.result c.loop-left.left c.args.width c.args.number (omega arith) c.loop-left.invariant.all c.put_part.ensures.bits;
-  capacity = omega (arith, c.put_part.ensures.capacity, c.loop-left.invariant.capacity);
-}
-
-pub returns-clause-bits : goal.returns-clause-bits
-returns-clause-bits c = all_put c.args.self.now.bits c.loop-left.self.bits c.loop-left.left c.args.width c.args.number c.loop-left-test.false c.loop-left.invariant.all
+pub returns-then-width-gt-PART-clause-bits : goal.returns-then-width-gt-PART-clause-bits
+returns-then-width-gt-PART-clause-bits c =
+    parts_put c.args.self.now.bits c.put_part.new.self.bits c.put_part-then-width-gt-PART.new.self.bits (c.args.width - 56) 56 c.args.width c.args.number (omega (arith, c.if-width-gt-PART.true)) c.put_part.ensures.bits c.put_part-then-width-gt-PART.ensures.bits
