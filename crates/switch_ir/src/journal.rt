@@ -1,11 +1,8 @@
 //! What a switch was called for.
 ghost use Rattle.std.specs.Prelude.{◌≡◌, ◌==◌, ◌<◌, ◌≤◌, ◌+◌, ◌-◌, ◌*◌, ◌++◌, ◌∷◌, [], length, max, take, drop};
 ghost use Rattle.std.specs.Prelude.{vec_len, vec_capacity, IfOk, OnOk, OnErr};
-ghost use Rattle.switch_ir.specs.Journal.{IsFilled, IsShort, IsShortCall, IsShortChange};
-ghost use Rattle.switch_ir.specs.Journal.{bytes_of, change_count, change_of, command_in, command_numbers};
-ghost use Rattle.switch_ir.specs.Journal.{down_bytes, down_in, down_mark, entries_of, entry_in, entry_of};
-ghost use Rattle.switch_ir.specs.Journal.{number_count, numbers_of, outline_of, shape_count, shape_of};
-ghost use Rattle.switch_ir.specs.Journal.{up_bytes, up_in, up_mark, update_in, update_numbers};
+ghost use Rattle.switch_ir.specs.Journal.{command_in, down_in, entries_of, entry_in, entry_of, number_count, up_in};
+ghost use Rattle.switch_ir.specs.Journal.{IsFilled, IsShort};
 ghost use Rattle.switch_ir.specs.declared.journal.Entry.TheVariants as entry;
 
 use crate::port::{CommandEnd, DownEnd, UpEnd};
@@ -104,19 +101,51 @@ impl Entry {
 }
 
 impl<'a> Call<'a> {
-    // The bytes that it was given, and those of its answer.
-    fn bytes(&self) -> (&'a [u8], &'a [u8])
-        ensures { result.0.now ++ result.1.now ≡ bytes_of (entry_of self.now) }
+    // Its outline, the numbers of its key and of its values, the bytes that it was given, and those of its answer.
+    #[tactic(auto, using(std::proofs::lemmas::List::take_at, std::proofs::lemmas::List::drop_at))]
+    fn parts(&self) -> (Outline, &'a [u64], &'a [u64], &'a [u8], &'a [u8])
+        ensures entry { entry_in result.0 (result.1.now ++ result.2.now) (result.3.now ++ result.4.now)
+            ≡ entry_of self.now }
+        ensures count { number_count result.0 ≡ length result.1.now + length result.2.now }
+        ensures few { length result.1.now + length result.2.now ≤ 16 }
+        ensures short { IsShort result.0 }
     {
         match *self {
-            Call::Up(_, _, packet, end) | Call::BeginUp(_, _, packet, end) => (
-                packet,
-                up_parts(end).1,
-            ),
-            Call::Down(frame, end) | Call::BeginDown(frame, end) => (frame, down_parts(end).1),
-            Call::StageUp(_, end) => (&[], up_parts(end).1),
-            Call::StageDown(_, end) => (&[], down_parts(end).1),
-            Call::Load | Call::Room(_) | Call::Command(..) | Call::Visible(_) => (&[], &[]),
+            Call::Load => (Outline::Load, &[], &[], &[], &[]),
+            Call::Room(commands) => (Outline::Room(commands), &[], &[], &[], &[]),
+            Call::Up(number, port, packet, end) => {
+                let (end, answer) = up_parts(end);
+                let call = Outline::Up(port, end, number, packet.len());
+                (call, &[], &[], packet, answer)
+            }
+            Call::Down(frame, end) => {
+                let (end, answer) = down_parts(end);
+                let call = Outline::Down(end, frame.len());
+                (call, &[], &[], frame, answer)
+            }
+            Call::BeginUp(number, port, packet, end) => {
+                let (end, answer) = up_parts(end);
+                let call = Outline::BeginUp(port, end, number, packet.len());
+                (call, &[], &[], packet, answer)
+            }
+            Call::StageUp(number, end) => {
+                let (end, answer) = up_parts(end);
+                (Outline::StageUp(end, number), &[], &[], &[], answer)
+            }
+            Call::BeginDown(frame, end) => {
+                let (end, answer) = down_parts(end);
+                let call = Outline::BeginDown(end, frame.len());
+                (call, &[], &[], frame, answer)
+            }
+            Call::StageDown(number, end) => {
+                let (end, answer) = down_parts(end);
+                (Outline::StageDown(end, number), &[], &[], &[], answer)
+            }
+            Call::Command(command, end) => {
+                let (call, key, values) = command_parts(command, end);
+                (call, key, values, &[], &[])
+            }
+            Call::Visible(object) => (Outline::Visible(object), &[], &[], &[], &[]),
         }
     }
 }
@@ -137,20 +166,20 @@ const _: () = prove!(size_of::<Mark>() <= 24);
 enum Outline {
     Load,
     Room(usize),
-    Up(u8, UpMark, u32, usize),
-    Down(DownMark, usize),
-    BeginUp(u8, UpMark, u32, usize),
-    StageUp(UpMark, u32),
-    BeginDown(DownMark, usize),
-    StageDown(DownMark, u32),
-    // A command, whose numbers are those of its key and its values.
-    Command(CommandEnd, Shape),
+    Up(u8, End, u32, usize),
+    Down(End, usize),
+    BeginUp(u8, End, u32, usize),
+    StageUp(End, u32),
+    BeginDown(End, usize),
+    StageDown(End, u32),
+    // A command with the number of its object, and with how many numbers its key and its values have.
+    Command(CommandEnd, Form, u32, u8, u8),
     Visible(u32),
 }
 
-// How the pass over a packet that arrives ends, without bytes.
+// How a pass ends, without bytes. Only a packet that arrives goes up.
 #[derive(Clone, Copy, Debug)]
-enum UpMark {
+enum End {
     Drop,
     Send(u8),
     Up,
@@ -159,158 +188,132 @@ enum UpMark {
     NoMemory,
 }
 
-// How the pass over a packet that comes down ends, without bytes.
+// A command without its object and its numbers. What is staged, or changed, leaves values or no row.
 #[derive(Clone, Copy, Debug)]
-enum DownMark {
-    Drop,
-    Send(u8),
-    Going,
-    Failed,
-    NoMemory,
+enum Form {
+    Stage,
+    StageGone,
+    On,
+    Main,
+    MainGone,
+    Off,
+    Clear,
 }
 
 // An end without its bytes, and these.
-fn up_parts(end: &UpEnd) -> (UpMark, &[u8])
-    ensures mark { result.0 ≡ up_mark end.now }
-    ensures bytes { result.1.now ≡ up_bytes end.now }
+fn up_parts(end: &UpEnd) -> (End, &[u8])
+    ensures { up_in result.0 result.1.now ≡ end.now }
 {
     match end {
-        UpEnd::Finished(Verdict::Drop) => (UpMark::Drop, &[]),
-        UpEnd::Finished(Verdict::Send(port, bytes)) => (UpMark::Send(*port), bytes.as_slice()),
-        UpEnd::Up(frame) => (UpMark::Up, frame.as_slice()),
-        UpEnd::Going => (UpMark::Going, &[]),
-        UpEnd::Failed => (UpMark::Failed, &[]),
-        UpEnd::NoMemory => (UpMark::NoMemory, &[]),
+        UpEnd::Finished(Verdict::Drop) => (End::Drop, &[]),
+        UpEnd::Finished(Verdict::Send(port, bytes)) => (End::Send(*port), bytes.as_slice()),
+        UpEnd::Up(frame) => (End::Up, frame.as_slice()),
+        UpEnd::Going => (End::Going, &[]),
+        UpEnd::Failed => (End::Failed, &[]),
+        UpEnd::NoMemory => (End::NoMemory, &[]),
     }
 }
 
-fn down_parts(end: &DownEnd) -> (DownMark, &[u8])
-    ensures mark { result.0 ≡ down_mark end.now }
-    ensures bytes { result.1.now ≡ down_bytes end.now }
+fn down_parts(end: &DownEnd) -> (End, &[u8])
+    ensures { down_in result.0 result.1.now ≡ end.now }
 {
     match end {
-        DownEnd::Verdict(Verdict::Drop) => (DownMark::Drop, &[]),
-        DownEnd::Verdict(Verdict::Send(port, bytes)) => (DownMark::Send(*port), bytes.as_slice()),
-        DownEnd::Going => (DownMark::Going, &[]),
-        DownEnd::Failed => (DownMark::Failed, &[]),
-        DownEnd::NoMemory => (DownMark::NoMemory, &[]),
+        DownEnd::Verdict(Verdict::Drop) => (End::Drop, &[]),
+        DownEnd::Verdict(Verdict::Send(port, bytes)) => (End::Send(*port), bytes.as_slice()),
+        DownEnd::Going => (End::Going, &[]),
+        DownEnd::Failed => (End::Failed, &[]),
+        DownEnd::NoMemory => (End::NoMemory, &[]),
     }
 }
 
 // The end of a pass whose answer has these bytes.
-fn up_in(alloc: Global, mark: UpMark, bytes: &[u8]) -> Result<UpEnd, NoMemory>
-    ensures { IfOk result (λ made. made ≡ up_in mark bytes.now) }
+fn up_in(alloc: Global, end: End, bytes: &[u8]) -> Result<UpEnd, NoMemory>
+    ensures { IfOk result (λ made. made ≡ up_in end bytes.now) }
 {
-    Ok(match mark {
-        UpMark::Drop => UpEnd::Finished(Verdict::Drop),
-        UpMark::Send(port) => {
+    Ok(match end {
+        End::Drop => UpEnd::Finished(Verdict::Drop),
+        End::Send(port) => {
             UpEnd::Finished(Verdict::Send(port, Bytes::from_slice(alloc, bytes)?))
         }
-        UpMark::Up => UpEnd::Up(Bytes::from_slice(alloc, bytes)?),
-        UpMark::Going => UpEnd::Going,
-        UpMark::Failed => UpEnd::Failed,
-        UpMark::NoMemory => UpEnd::NoMemory,
+        End::Up => UpEnd::Up(Bytes::from_slice(alloc, bytes)?),
+        End::Going => UpEnd::Going,
+        End::Failed => UpEnd::Failed,
+        End::NoMemory => UpEnd::NoMemory,
     })
 }
 
-fn down_in(alloc: Global, mark: DownMark, bytes: &[u8]) -> Result<DownEnd, NoMemory>
-    ensures { IfOk result (λ made. made ≡ down_in mark bytes.now) }
+fn down_in(alloc: Global, end: End, bytes: &[u8]) -> Result<DownEnd, NoMemory>
+    ensures { IfOk result (λ made. made ≡ down_in end bytes.now) }
 {
-    Ok(match mark {
-        DownMark::Drop => DownEnd::Verdict(Verdict::Drop),
-        DownMark::Send(port) => {
+    Ok(match end {
+        End::Drop => DownEnd::Verdict(Verdict::Drop),
+        End::Send(port) => {
             DownEnd::Verdict(Verdict::Send(port, Bytes::from_slice(alloc, bytes)?))
         }
-        DownMark::Going => DownEnd::Going,
-        DownMark::Failed => DownEnd::Failed,
-        DownMark::NoMemory => DownEnd::NoMemory,
+        End::Up | End::Going => DownEnd::Going,
+        End::Failed => DownEnd::Failed,
+        End::NoMemory => DownEnd::NoMemory,
     })
-}
-
-// A command without the numbers of its key and its values.
-#[derive(Clone, Copy, Debug)]
-enum Shape {
-    Stage(Change),
-    On,
-    Main(Change),
-    Off,
-    // The number of the object, and how many numbers the key has.
-    Clear(u32, u8),
-}
-
-// A change without its numbers, and how many of them its key has.
-#[derive(Clone, Copy, Debug)]
-struct Change {
-    object: u32,
-    key: u8,
-    to: Left,
-}
-
-// How many values a change leaves under its key, if it leaves any row.
-#[derive(Clone, Copy, Debug)]
-enum Left {
-    Values(u8),
-    Gone,
 }
 
 // How many numbers a command has at most: a key and its values.
 const MOST_NUMBERS: usize = 16;
 
-// Puts the numbers of a list last, in memory that was taken before, and counts them.
-#[inline]
-fn put_values(numbers: &mut Vec<u64>, values: &Values) -> u8
-    requires { vec_len numbers.old + 8 ≤ vec_capacity numbers.old }
-    ensures count { result ≡ length values.now }
-    ensures short { result ≤ 8 }
-    ensures items { numbers.new.items ≡ numbers.old.items ++ values.now }
-    ensures few { vec_len numbers.new ≤ vec_len numbers.old + 8 }
-    ensures capacity { vec_capacity numbers.new ≡ vec_capacity numbers.old }
+// The numbers of a list.
+fn few(values: &Values) -> &[u64]
+    ensures numbers { result.now ≡ values.now }
+    ensures few { length result.now ≤ 8 }
 {
-    let count = values.len() as u8;
-    for number in values.as_slice() {
-        numbers.push_reserved(*number);
-    }
-    count
+    let _count = values.len();
+    values.as_slice()
 }
 
-// Puts the numbers of a change last, in memory that was taken before. What is left is the change without them.
+// A command without its object and its numbers, its object, and the numbers of its key and of its values.
 #[inline]
-fn put_update(numbers: &mut Vec<u64>, update: &Update) -> Change
-    requires { vec_len numbers.old + 16 ≤ vec_capacity numbers.old }
-    ensures change { result ≡ change_of update.now }
-    ensures short { IsShortChange result }
-    ensures items { numbers.new.items ≡ numbers.old.items ++ update_numbers update.now }
-    ensures few { vec_len numbers.new ≤ vec_len numbers.old + 16 }
-    ensures capacity { vec_capacity numbers.new ≡ vec_capacity numbers.old }
-{
-    let key = put_values(numbers, &update.key);
-    let to = match &update.to {
-        To::Value(values) => Left::Values(put_values(numbers, values)),
-        To::Gone => Left::Gone,
-    };
-    Change {
-        object: update.object,
-        key,
-        to,
-    }
-}
-
-// Puts the numbers of a command last, in memory that was taken before. What is left is the command without them.
-#[inline]
-fn put_command(numbers: &mut Vec<u64>, command: &Command) -> Shape
-    requires { vec_len numbers.old + 16 ≤ vec_capacity numbers.old }
-    ensures shape { result ≡ shape_of command.now }
-    ensures short { IsShort result }
-    ensures items { numbers.new.items ≡ numbers.old.items ++ command_numbers command.now }
-    ensures few { vec_len numbers.new ≤ vec_len numbers.old + 16 }
-    ensures capacity { vec_capacity numbers.new ≡ vec_capacity numbers.old }
+fn form_parts(command: &Command) -> (Form, u32, &[u64], &[u64])
+    ensures command { command_in result.0 result.1 result.2.now result.3.now ≡ command.now }
+    ensures key { length result.2.now ≤ 8 }
+    ensures values { length result.3.now ≤ 8 }
 {
     match command {
-        Command::Stage(update) => Shape::Stage(put_update(numbers, update)),
-        Command::On => Shape::On,
-        Command::Main(update) => Shape::Main(put_update(numbers, update)),
-        Command::Off => Shape::Off,
-        Command::Clear(object, key) => Shape::Clear(*object, put_values(numbers, key)),
+        Command::Stage(update) => match &update.to {
+            To::Value(values) => (Form::Stage, update.object, few(&update.key), few(values)),
+            To::Gone => (Form::StageGone, update.object, few(&update.key), &[]),
+        },
+        Command::On => (Form::On, 0, &[], &[]),
+        Command::Main(update) => match &update.to {
+            To::Value(values) => (Form::Main, update.object, few(&update.key), few(values)),
+            To::Gone => (Form::MainGone, update.object, few(&update.key), &[]),
+        },
+        Command::Off => (Form::Off, 0, &[], &[]),
+        Command::Clear(object, key) => (Form::Clear, *object, few(key), &[]),
+    }
+}
+
+// The outline of a command, and the numbers of its key and of its values.
+#[inline]
+#[tactic(auto, using(std::proofs::lemmas::List::take_at, std::proofs::lemmas::List::drop_at))]
+fn command_parts(command: &Command, end: CommandEnd) -> (Outline, &[u64], &[u64])
+    ensures entry { entry_in result.0 (result.1.now ++ result.2.now) [] ≡ entry.Command command.now end }
+    ensures count { number_count result.0 ≡ length result.1.now + length result.2.now }
+    ensures few { length result.1.now + length result.2.now ≤ 16 }
+    ensures short { IsShort result.0 }
+{
+    let (form, object, key, values) = form_parts(command);
+    let call = Outline::Command(end, form, object, key.len() as u8, values.len() as u8);
+    (call, key, values)
+}
+
+// Puts numbers last, in memory that was taken before.
+#[inline]
+fn put_numbers(numbers: &mut Vec<u64>, more: &[u64])
+    requires { vec_len numbers.old + length more.now ≤ vec_capacity numbers.old }
+    ensures items { numbers.new.items ≡ numbers.old.items ++ more.now }
+    ensures count { vec_len numbers.new ≡ vec_len numbers.old + length more.now }
+    ensures capacity { vec_capacity numbers.new ≡ vec_capacity numbers.old }
+{
+    for number in more {
+        numbers.push_reserved(*number);
     }
 }
 
@@ -326,60 +329,32 @@ fn values_of(numbers: &[u64]) -> Values
     values
 }
 
-// The change whose numbers are the first ones.
-fn update_in(change: &Change, numbers: &[u64]) -> Update
-    requires short { IsShortChange change.now }
-    requires room { change_count change.now ≤ length numbers.now }
-    ensures { result ≡ update_in change.now numbers.now }
+// A change of the row that has a key of these numbers.
+fn change(object: u32, key: &[u64], to: To) -> Update
+    requires { length key.now ≤ 8 }
+    ensures { result ≡ record { object = object; key = key.now; to = to } }
 {
-    let (key, behind) = numbers.split_at(usize::from(change.key));
-    let to = match change.to {
-        Left::Values(count) => To::Value(values_of(&behind[..usize::from(count)])),
-        Left::Gone => To::Gone,
-    };
     Update {
-        object: change.object,
+        object,
         key: values_of(key),
         to,
     }
 }
 
-// The command whose numbers are the first ones.
-fn command_in(shape: &Shape, numbers: &[u64]) -> Command
-    requires short { IsShort shape.now }
-    requires room { shape_count shape.now ≤ length numbers.now }
-    ensures { result ≡ command_in shape.now numbers.now }
+// The command of an object, with the numbers of its key and of its values.
+fn command_in(form: Form, object: u32, key: &[u64], values: &[u64]) -> Command
+    requires key { length key.now ≤ 8 }
+    requires values { length values.now ≤ 8 }
+    ensures { result ≡ command_in form object key.now values.now }
 {
-    match shape {
-        Shape::Stage(change) => Command::Stage(update_in(change, numbers)),
-        Shape::On => Command::On,
-        Shape::Main(change) => Command::Main(update_in(change, numbers)),
-        Shape::Off => Command::Off,
-        Shape::Clear(object, key) => {
-            Command::Clear(*object, values_of(&numbers[..usize::from(*key)]))
-        }
-    }
-}
-
-// How many numbers a change has.
-fn change_count(change: &Change) -> usize
-    ensures { result ≡ change_count change.now }
-{
-    let left = match change.to {
-        Left::Values(count) => usize::from(count),
-        Left::Gone => 0,
-    };
-    usize::from(change.key) + left
-}
-
-// How many numbers a command has.
-fn shape_count(shape: &Shape) -> usize
-    ensures { result ≡ shape_count shape.now }
-{
-    match shape {
-        Shape::Stage(change) | Shape::Main(change) => change_count(change),
-        Shape::On | Shape::Off => 0,
-        Shape::Clear(_, key) => usize::from(*key),
+    match form {
+        Form::Stage => Command::Stage(change(object, key, To::Value(values_of(values)))),
+        Form::StageGone => Command::Stage(change(object, key, To::Gone)),
+        Form::On => Command::On,
+        Form::Main => Command::Main(change(object, key, To::Value(values_of(values)))),
+        Form::MainGone => Command::Main(change(object, key, To::Gone)),
+        Form::Off => Command::Off,
+        Form::Clear => Command::Clear(object, values_of(key)),
     }
 }
 
@@ -388,7 +363,7 @@ fn number_count(call: &Outline) -> usize
     ensures { result ≡ number_count call.now }
 {
     match call {
-        Outline::Command(_, shape) => shape_count(shape),
+        Outline::Command(_, _, _, key, values) => usize::from(*key) + usize::from(*values),
         _ => 0,
     }
 }
@@ -404,8 +379,8 @@ fn cut(bytes: &[u8], count: usize) -> (&[u8], &[u8])
 
 // The call of these numbers and bytes.
 fn entry_in(alloc: Global, call: &Outline, numbers: &[u64], bytes: &[u8]) -> Result<Entry, NoMemory>
-    requires short { IsShortCall call.now }
-    requires numbers { number_count call.now ≤ length numbers.now }
+    requires short { IsShort call.now }
+    requires numbers { number_count call.now ≡ length numbers.now }
     ensures { IfOk result (λ made. made ≡ entry_in call.now numbers.now bytes.now) }
 {
     Ok(match *call {
@@ -439,7 +414,10 @@ fn entry_in(alloc: Global, call: &Outline, numbers: &[u64], bytes: &[u8]) -> Res
             number,
             answer: down_in(alloc, end, bytes)?,
         },
-        Outline::Command(end, shape) => Entry::Command(command_in(&shape, numbers), end),
+        Outline::Command(end, form, object, key, _) => {
+            let (key, values) = numbers.split_at(usize::from(key));
+            Entry::Command(command_in(form, object, key, values), end)
+        }
         Outline::Visible(object) => Entry::Visible(object),
     })
 }
@@ -487,48 +465,19 @@ fn take_room(marks: &mut Vec<Mark>, numbers: &mut Vec<u64>, calls: usize) -> Res
 }
 
 // Puts the bytes of a call last, and counts them.
-#[tactic(auto, using(crate::proofs::Journals::all_bytes, crate::proofs::Journals::count_bytes, std::proofs::lemmas::List::take_at))]
-fn put_bytes(bytes: &mut Vec<u8>, call: &Call<'_>) -> Result<usize, NoMemory>
-    ensures count { IfOk result (λ count. count ≡ length (bytes_of (entry_of call.now))) }
-    ensures ok { OnOk result (bytes.new.items ≡ bytes.old.items ++ bytes_of (entry_of call.now)) }
+#[tactic(auto, using(crate::proofs::Journals::all_bytes, std::proofs::lemmas::List::take_at))]
+fn put_bytes(bytes: &mut Vec<u8>, given: &[u8], answer: &[u8]) -> Result<usize, NoMemory>
+    ensures count { IfOk result (λ count. count ≡ length (given.now ++ answer.now)) }
+    ensures ok { OnOk result (bytes.new.items ≡ bytes.old.items ++ (given.now ++ answer.now)) }
     ensures err { OnErr result (bytes.new.items ≡ bytes.old.items) }
 {
     let before = bytes.len();
-    let (given, answer) = call.bytes();
     bytes.extend_from_slice(given)?;
     if bytes.extend_from_slice(answer).is_err() {
         bytes.truncate(before);
         return Err(NoMemory);
     }
     Ok(bytes.len() - before)
-}
-
-// Puts the numbers of a call last, in memory that was taken before.
-#[inline]
-fn put_call(numbers: &mut Vec<u64>, call: &Call<'_>) -> Outline
-    requires { vec_len numbers.old + 16 ≤ vec_capacity numbers.old }
-    ensures outline { result ≡ outline_of (entry_of call.now) }
-    ensures short { IsShortCall result }
-    ensures items { numbers.new.items ≡ numbers.old.items ++ numbers_of (entry_of call.now) }
-    ensures few { vec_len numbers.new ≤ vec_len numbers.old + 16 }
-    ensures capacity { vec_capacity numbers.new ≡ vec_capacity numbers.old }
-{
-    match *call {
-        Call::Load => Outline::Load,
-        Call::Room(commands) => Outline::Room(commands),
-        Call::Up(number, port, packet, end) => {
-            Outline::Up(port, up_parts(end).0, number, packet.len())
-        }
-        Call::Down(frame, end) => Outline::Down(down_parts(end).0, frame.len()),
-        Call::BeginUp(number, port, packet, end) => {
-            Outline::BeginUp(port, up_parts(end).0, number, packet.len())
-        }
-        Call::StageUp(number, end) => Outline::StageUp(up_parts(end).0, number),
-        Call::BeginDown(frame, end) => Outline::BeginDown(down_parts(end).0, frame.len()),
-        Call::StageDown(number, end) => Outline::StageDown(down_parts(end).0, number),
-        Call::Command(command, end) => Outline::Command(end, put_command(numbers, command)),
-        Call::Visible(object) => Outline::Visible(object),
-    }
 }
 
 /// The calls since the code was loaded, in order, with memory for some more. A call takes the memory of a mark, and of
@@ -580,6 +529,7 @@ impl Journal {
         entries_of(alloc, &self.marks, &self.numbers, &self.bytes)
     }
 
+    #[tactic(auto, using(crate::proofs::Journals::entries_count))]
     pub fn len(&self) -> usize
         ensures { result ≡ length self.now.entries }
     {
@@ -617,8 +567,10 @@ impl Journal {
         ensures err { OnErr result (self.new ≡ self.old) }
     {
         take_room(&mut self.marks, &mut self.numbers, self.spare + 1)?;
-        let bytes = put_bytes(&mut self.bytes, &call)?;
-        let call = put_call(&mut self.numbers, &call);
+        let (call, key, values, given, answer) = call.parts();
+        let bytes = put_bytes(&mut self.bytes, given, answer)?;
+        put_numbers(&mut self.numbers, key);
+        put_numbers(&mut self.numbers, values);
         self.marks.push_reserved(Mark { call, bytes });
         Ok(())
     }
@@ -640,20 +592,10 @@ impl Journal {
           spare = self.old.spare - 1;
         } }
     {
-        self.put(&Call::Command(command, end));
-    }
-
-    #[inline]
-    fn put(&mut self, call: &Call<'_>)
-        requires spare { 0 < self.old.spare }
-        requires bare { bytes_of (entry_of call.now) ≡ [] }
-        ensures { self.new ≡ record {
-          entries = self.old.entries ++ entry_of call.now ∷ [];
-          spare = self.old.spare - 1;
-        } }
-    {
+        let (call, key, values) = command_parts(command, end);
         self.spare -= 1;
-        let call = put_call(&mut self.numbers, call);
+        put_numbers(&mut self.numbers, key);
+        put_numbers(&mut self.numbers, values);
         self.marks.push_reserved(Mark { call, bytes: 0 });
     }
 }
